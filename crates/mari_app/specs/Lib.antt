@@ -4,3 +4,6 @@ pub mod Words
 pub mod Files
 pub mod Status
 pub mod Fetching
+pub mod Printing
+pub mod Form
+pub mod FormViews

@@ -3,9 +3,12 @@
 
 mod block;
 mod files;
+mod form;
 mod pages;
+mod records;
 mod status;
 mod text;
 mod words;
+mod writing;
 
 pub use status::Status;

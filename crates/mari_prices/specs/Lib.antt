@@ -1,2 +1,3 @@
 pub mod Along
 pub mod Spread
+pub mod Tightest

@@ -3,4 +3,5 @@
 #![tactic(auto)]
 
 mod along;
+mod bounds;
 mod spread;

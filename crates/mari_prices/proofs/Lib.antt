@@ -1,3 +1,6 @@
 pub mod Steps
 pub mod Lists
 pub mod Tight
+pub mod Spreads
+pub mod Extremes
+pub mod Agree

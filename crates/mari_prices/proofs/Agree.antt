@@ -59,9 +59,9 @@ keeps_consistent m a ps v f k = record {
   prices = record {
     one_each = k.one_each;
     capped = λ z d l.
-      let low = k.lower z (neg_ℤ cap) (omega (arith, k.one_each)) (inl refl) in
-      let high = k.upper z cap (omega (arith, k.one_each)) (inl refl) in
-      subst (λ (c : Cents). IsPrice c.0) (get_or_default ps z (record { 0 = pos 0 }) d l) (record { low = low; high = high });
+        let low = k.lower z (neg_ℤ cap) (omega (arith, k.one_each)) (inl refl) in
+        let high = k.upper z cap (omega (arith, k.one_each)) (inl refl) in
+        subst (λ (c : Cents). IsPrice c.0) (get_or_default ps z (record { 0 = pos 0 }) d l) (record { low = low; high = high });
   };
   orders = each_pair (IsValidOrder m.zones (length m.gates)) (IsConsistentOrder (is_open m a) ps) m.orders a.mw (AllZip-long _ m.orders a.mw f.orders) v.orders (λ o q h s. order_agrees m a ps o q k h s);
   borders = each_pair (IsValidBorder m.zones) (IsConsistentBorder ps) m.borders a.flow (AllZip-long _ m.borders a.flow f.borders) v.borders (λ b g h s. border_agrees m a ps b g k h s);

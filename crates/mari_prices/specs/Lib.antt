@@ -1,3 +1,4 @@
 pub mod Along
 pub mod Spread
 pub mod Tightest
+pub mod Ends

@@ -4,4 +4,5 @@
 
 mod along;
 mod bounds;
+mod ends;
 mod spread;

@@ -4,3 +4,4 @@ pub mod Tight
 pub mod Spreads
 pub mod Extremes
 pub mod Agree
+pub mod EndLaws

@@ -117,7 +117,7 @@ set_price : (end : End) (c d : ℤ) → IsPrice c → signed end c ≡ d → IsP
 set_price Least c d p e = subst IsPrice e p
 set_price Greatest c d p e = record { low = omega (arith, ints, p.low, p.high); high = omega (arith, ints, p.low, p.high) }
 
-AnyZip-of : {X Y : Type 0} (P : X → Type 0) (Q : X → Y → Type 0) (R : Type 0) → ((x : X) (y : Y) → P x → Q x y → R) → (xs : List X) (ys : List Y) → All P xs → AnyZip Q xs ys → R
+pub AnyZip-of : {X Y : Type 0} (P : X → Type 0) (Q : X → Y → Type 0) (R : Type 0) → ((x : X) (y : Y) → P x → Q x y → R) → (xs : List X) (ys : List Y) → All P xs → AnyZip Q xs ys → R
 AnyZip-of P Q R h [] ys p e = absurd e
 AnyZip-of P Q R h (x ∷ xs) [] p e = absurd e
 AnyZip-of P Q R h (x ∷ xs) (y ∷ ys) p (inl e) = h x y (All-head P x xs p) e

@@ -2,3 +2,4 @@ pub mod Along
 pub mod Spread
 pub mod Tightest
 pub mod Ends
+pub mod Answers

@@ -5,4 +5,9 @@
 mod along;
 mod bounds;
 mod ends;
+mod intervals;
+mod published;
 mod spread;
+
+pub use intervals::{Intervals, PriceFault, price_test};
+pub use published::{nearest, published_prices, same_gates_same_prices};

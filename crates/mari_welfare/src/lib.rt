@@ -11,3 +11,6 @@ mod money;
 pub use consistency::is_consistent;
 pub use feasibility::is_feasible;
 pub use money::welfare;
+
+#[cfg(test)]
+mod tests;

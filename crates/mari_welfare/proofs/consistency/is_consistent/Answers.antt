@@ -15,8 +15,7 @@ lengths m a ps f = record { orders = AllZip-long _ m.orders a.mw f.orders; borde
 
 pub returns-else-are_prices : goal.returns-else-are_prices
 returns-else-are_prices c =
-    let ps : c.as_slice-prices.result.now ≡ c.args.prices.now.cents = c.as_slice-prices.ensures in
-    (
+    let ps : c.as_slice-prices.result.now ≡ c.args.prices.now.cents = c.as_slice-prices.ensures in (
       λ t. absurd (both_ways c.if-has_lengths.value c.if-are_prices.false t),
       λ f. elim c.if-has_lengths.branch [
         | then-has_lengths w ↦ w.value-is ∙ w.are_prices.ensures.1 (rw ps f.prices)

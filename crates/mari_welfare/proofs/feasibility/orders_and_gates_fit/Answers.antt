@@ -6,8 +6,7 @@ pub returns-then-orders_fit : goal.returns-then-orders_fit
 returns-then-orders_fit c =
     let os : c.as_slice-orders.result.now ≡ c.args.market.now.orders = c.as_slice-orders.ensures in
     let qs : c.as_slice-mw.result.now ≡ c.args.activation.now.mw = c.as_slice-mw.ensures in
-    let gs : c.as_slice.result.now ≡ c.args.market.now.gates = c.as_slice.ensures in
-    (
+    let gs : c.as_slice.result.now ≡ c.args.market.now.gates = c.as_slice.ensures in (
       λ t. record { orders = rw (os, qs) at (c.orders_fit.ensures.0 c.if-orders_fit.true); gates = rw (os, qs, gs) at (c.keep_gate_rules.ensures.0 t) },
       λ h. c.keep_gate_rules.ensures.1 (rw (os, qs, gs) h.gates),
     )

@@ -5,6 +5,7 @@
 //! memory. Their promise: they answer exactly whether the certificate holds, and what holds bounds every admissible welfare.
 #![tactic(auto)]
 
+mod cuts;
 mod dual;
 
 pub use dual::dual_value;

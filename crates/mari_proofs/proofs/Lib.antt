@@ -1,3 +1,4 @@
-pub mod Products
 pub mod DualSums
 pub mod CutTests
+pub mod Pairs
+pub mod PriceBounds

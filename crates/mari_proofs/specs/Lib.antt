@@ -1,2 +1,3 @@
 pub mod Potentials
 pub mod NetInjections
+pub mod Conflicts

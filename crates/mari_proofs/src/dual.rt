@@ -80,7 +80,7 @@ fn best_order(order: &Order, states: &GateStates, potentials: &[Cents]) -> i128
 }
 
 /// A zone's potential.
-fn potential_at(potentials: &[Cents], zone: u32) -> Cents
+pub(crate) fn potential_at(potentials: &[Cents], zone: u32) -> Cents
     requires zone { zone < length potentials.now }
     requires potentials { All IsPotential potentials.now }
     ensures value { result.0 ≡ price_at potentials.now zone }

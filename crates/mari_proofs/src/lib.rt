@@ -5,7 +5,9 @@
 //! memory. Their promise: they answer exactly whether the certificate holds, and what holds bounds every admissible welfare.
 #![tactic(auto)]
 
+mod conflicts;
 mod cuts;
 mod dual;
+mod tightness;
 
 pub use dual::dual_value;

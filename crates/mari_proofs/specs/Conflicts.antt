@@ -1,5 +1,5 @@
 -- The parts of a conflict, as the test goes through them.
-use Rattle.std.specs.Prelude.{◌≡◌, ◌⊎◌, ⊤, Bool, ℕ, ◌<◌, ◌≤◌, nat_lt, ℤ, neg_ℤ, ◌≤ℤ◌, List, [], ◌∷◌, length, Option, Some, None}
+use Rattle.std.specs.Prelude.{◌≡◌, ◌⊎◌, ⊤, Bool, ℕ, ◌<◌, ◌≤◌, nat_lt, ℤ, neg_ℤ, ◌≤ℤ◌, List, [], ◌∷◌, length, Option, Some, None, IfSome}
 use Rattle.std.specs.List.{All}
 use Rattle.mari_units.specs.declared.Cents.{Cents}
 use Rattle.mari_market.specs.declared.market.Order.{Order}
@@ -20,6 +20,10 @@ use Rattle.mari_market.specs.Sums.{AnyZip}
 -- whether the prefix decides the gate as open
 abbrev pub decides : Prefix → ℕ → Bool
 decides x g = opens_in (word_of x) g
+
+-- the order's gate, if it has one, is one of the first n
+abbrev pub HasDecidedGate : ℕ → Order → Type 0
+HasDecidedGate n o = IfSome o.gate (λ g. g < n)
 
 -- an order runs exactly where its gate is open
 abbrev pub RunsAsDecided : (ℕ → Bool) → Option ℕ → ℕ → Type 0

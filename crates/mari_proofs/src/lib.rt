@@ -8,6 +8,10 @@
 mod conflicts;
 mod cuts;
 mod dual;
+mod leaves;
 mod tightness;
+mod trees;
 
 pub use dual::dual_value;
+pub use leaves::check_leaf;
+pub use trees::TreeVerdict;

@@ -1,0 +1,9 @@
+pub mod Chains
+pub mod Levels
+pub mod Lists
+pub mod Marginal
+pub mod Marks
+pub mod Spread
+pub mod Transfers
+pub mod Worths
+pub mod Zones

@@ -7,6 +7,8 @@
 pub mod bounds;
 pub mod prefixes;
 pub mod states;
+#[cfg(test)]
+mod tests;
 
 pub use bounds::{bound_of, bounds_of};
 pub use prefixes::{child_of, may_branch_up, opens, prefix_feasible, without_last};

@@ -1,6 +1,6 @@
 //! Which prefixes keep the rules of parents and groups, and the prefixes one gate longer or shorter.
 
-ghost use Rattle.std.specs.Prelude.{◌≡◌, ◌≢◌, ℕ, ◌<◌, ◌≤◌, ◌-◌, ◌↔◌, IsTrue, Bool, true, false, not, [], ◌∷◌, ◌++◌, length, if◌then◌else◌};
+ghost use Rattle.std.specs.Prelude.{◌≡◌, ◌≢◌, ℕ, ◌<◌, ◌≤◌, ◌+◌, ◌-◌, ◌↔◌, IsTrue, Bool, true, false, not, [], ◌∷◌, ◌++◌, length, if◌then◌else◌};
 ghost use Rattle.std.specs.Int.{bit_at};
 ghost use Rattle.mari_market.specs.Market.{IsValid};
 ghost use Rattle.mari_market.specs.Prefix.{bit_of, word_of, may_open, group_taken, is_taken, parent_opens, children, IsFeasibleWord, IsFeasiblePrefix};
@@ -148,6 +148,7 @@ fn set_bit(prefix: &mut Prefix, gate: u32, opened: bool)
 pub fn child_of(prefix: &Prefix, opened: bool) -> Prefix
     requires room { prefix.now.length < 512 }
     requires cleared { IsCleared prefix.now }
+    ensures length { result.length ≡ prefix.now.length + 1 }
     ensures word { word_of result ≡ word_of prefix.now ++ opened ∷ [] }
     ensures cleared { IsCleared result }
 {
@@ -162,6 +163,7 @@ pub fn without_last(prefix: &Prefix) -> Prefix
     requires decided { 0 < prefix.now.length }
     requires few { prefix.now.length ≤ 512 }
     requires cleared { IsCleared prefix.now }
+    ensures length { result.length + 1 ≡ prefix.now.length }
     ensures word { word_of prefix.now ≡ word_of result ++ bit_of prefix.now result.length ∷ [] }
     ensures cleared { IsCleared result }
 {

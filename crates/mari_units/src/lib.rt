@@ -1,12 +1,20 @@
-//! Numbers, prices and names: how files write them and how the program prints them.
+//! Whole MW, prices, money and names: how the market files write them and how the program prints them; and the list type that
+//! all public structs of the project use.
+//!
+//! The crate stands on std alone. Its promise: a reader answers exactly the number or the name that a text writes, or
+//! exactly why it writes none, for texts of any length; a printer writes the one printed form.
 #![tactic(auto)]
 
 mod faults;
 mod items;
 mod name;
 mod numbers;
+mod printing;
+mod reading;
 
 pub use faults::{Memory, NameFault, NumberFault, Refusal};
 pub use items::Items;
 pub use name::{Name, is_name_text, read_name};
-pub use numbers::{CAP, Cents, Mw, Quarters, cents_text, read_cents, read_mw, whole_text};
+pub use numbers::{CAP, Cents, Mw, Quarters};
+pub use printing::{cents_text, euros_text, whole_text};
+pub use reading::{read_cents, read_mw};

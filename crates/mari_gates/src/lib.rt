@@ -1,0 +1,15 @@
+//! Prefixes of gate decisions, and the bounds that they leave to orders.
+//!
+//! A search decides gates in their order. These calls tell which decisions keep the rules of parents and groups, and how
+//! much each order may run below them. All but `bounds_of` take no memory.
+#![tactic(auto)]
+
+pub mod bounds;
+pub mod prefixes;
+pub mod states;
+#[cfg(test)]
+mod tests;
+
+pub use bounds::{bound_of, bounds_of};
+pub use prefixes::{child_of, may_branch_up, opens, prefix_feasible, without_last};
+pub use states::{GateState, GateStates, states_at};

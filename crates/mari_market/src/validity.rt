@@ -1,0 +1,187 @@
+//! The test of a market: its limits, and that each of its parts fits the others.
+
+ghost use Rattle.std.specs.Prelude.{◌≡◌, ◌↔◌, ◌<◌, ◌≤◌, ℕ, IsTrue, Some, length, Any};
+ghost use Rattle.std.specs.List.{All};
+ghost use Rattle.mari_market.specs.declared.market.Order.{Order};
+ghost use Rattle.mari_market.specs.Gates.{parent_of};
+ghost use Rattle.mari_market.specs.Market.{IsValid, IsValidOrder, IsValidBorder, IsValidGate, GateFits};
+ghost use Rattle.mari_market.specs.Price.{IsPrice};
+
+use crate::market::{Border, GateInfo, Market, Order};
+use mari_units::{CAP, Cents};
+
+/// Whether a price lies from the negative of the cap to the cap.
+fn is_price(price: Cents) -> bool
+    ensures { IsTrue result ↔ IsPrice price.0 }
+{
+    -CAP <= price.0 && price.0 <= CAP
+}
+
+/// Whether a plain order has the least quantity 0, and a gated one a gate that is there and a least of at least 1.
+fn has_its_gate(order: &Order, gates: usize) -> bool
+    ensures { IsTrue result ↔ GateFits gates order.now }
+{
+    match order.gate {
+        None => order.least == 0,
+        Some(gate) => (gate as usize) < gates && order.least >= 1,
+    }
+}
+
+/// Whether an order is of a zone that is there, with a price, and with quantities in order and within the limit.
+fn order_fits(order: &Order, zones: u32, gates: usize) -> bool
+    ensures { IsTrue result ↔ IsValidOrder zones gates order.now }
+{
+    order.zone < zones
+        && is_price(order.price)
+        && order.least <= order.greatest
+        && order.greatest <= 99_999
+        && has_its_gate(order, gates)
+}
+
+/// Whether a border lies between two zones that are there, with limits within those of a run.
+fn border_fits(border: &Border, zones: u32) -> bool
+    ensures { IsTrue result ↔ IsValidBorder zones border.now }
+{
+    border.from < zones
+        && border.to < zones
+        && border.from != border.to
+        && border.limit <= 199_998
+        && border.back <= 199_998
+}
+
+fn orders_fit(orders: &[Order], zones: u32, gates: usize) -> bool
+    ensures { IsTrue result ↔ All (IsValidOrder zones gates) orders.now }
+{
+    orders.iter().all(|order| order_fits(order, zones, gates))
+}
+
+fn borders_fit(borders: &[Border], zones: u32) -> bool
+    ensures { IsTrue result ↔ All (IsValidBorder zones) borders.now }
+{
+    borders.iter().all(|border| border_fits(border, zones))
+}
+
+/// Whether some order is of the gate.
+fn is_used(gate: u32, orders: &[Order]) -> bool
+    ensures { IsTrue result ↔ Any (λ (o : Order). o.gate ≡ Some gate) orders.now }
+{
+    orders.iter().any(|order| order.gate == Some(gate))
+}
+
+/// Whether the gate's parent, if it has one, stands before it.
+fn parent_stands_before(gates: &[GateInfo], gate: usize) -> bool
+    requires { gate < length gates.now }
+    ensures { IsTrue result ↔ ((h : ℕ) → parent_of gates.now gate ≡ Some h → h < gate) }
+{
+    match gates[gate].parent {
+        None => true,
+        Some(parent) => (parent as usize) < gate,
+    }
+}
+
+impl Market {
+    fn gate_fits(&self, gate: usize) -> bool
+        requires there { gate < length self.now.gates }
+        requires few { length self.now.gates ≤ 512 }
+        ensures { IsTrue result ↔ IsValidGate self.now gate }
+    {
+        parent_stands_before(self.gates.as_slice(), gate)
+            && is_used(gate as u32, self.orders.as_slice())
+    }
+
+    fn gates_fit(&self) -> bool
+        requires { length self.now.gates ≤ 512 }
+        ensures { IsTrue result ↔ ((g : ℕ) → g < length self.now.gates → IsValidGate self.now g) }
+    {
+        for gate in 0..self.gates.as_slice().len() {
+            if !self.gate_fits(gate) {
+                return false;
+            }
+        }
+        true
+    }
+
+    fn is_within_limits(&self) -> bool
+        ensures { IsTrue result ↔ ((1 ≤ self.now.zones) × (self.now.zones ≤ 64) × (length self.now.borders ≤ 256)
+            × (length self.now.orders ≤ 4608) × (length self.now.gates ≤ 512)) }
+    {
+        (1..=64).contains(&self.zones)
+            && self.borders.as_slice().len() <= 256
+            && self.orders.as_slice().len() <= 4_608
+            && self.gates.as_slice().len() <= 512
+    }
+
+    fn parts_fit(&self) -> bool
+        ensures { IsTrue result ↔ (IsPrice self.now.reference.0 × All (IsValidBorder self.now.zones) self.now.borders
+            × All (IsValidOrder self.now.zones (length self.now.gates)) self.now.orders) }
+    {
+        let gates = self.gates.as_slice().len();
+        is_price(self.reference)
+            && borders_fit(self.borders.as_slice(), self.zones)
+            && orders_fit(self.orders.as_slice(), self.zones, gates)
+    }
+
+    /// Whether the market is valid: within the limits of zones, borders, orders and gates, and each part fits the others.
+    ///
+    /// It takes no memory, and time of gates times orders at most.
+    pub fn valid(&self) -> bool
+        ensures { IsTrue result ↔ IsValid self.now }
+    {
+        if !self.is_within_limits() {
+            return false;
+        }
+        self.parts_fit() && self.gates_fit()
+    }
+}
+
+#[cfg(test)]
+mod tests {
+    use super::*;
+    use crate::market::Side;
+    use mari_units::Items;
+    use std::alloc::Global;
+    use std::test::Fail;
+
+    /// One zone, and one order that runs from its least to 40 MW.
+    fn market(alloc: Global, least: u32, gate: Option<u32>) -> Result<Market, Fail> {
+        let order = Order {
+            zone: 0,
+            side: Side::Inject,
+            price: Cents(3000),
+            least,
+            greatest: 40,
+            gate,
+        };
+        let info = GateInfo {
+            group: None,
+            parent: None,
+        };
+        Ok(Market {
+            zones: 1,
+            borders: Items::of(Vec::new(alloc)),
+            orders: Items::of(vec![in alloc; order]?),
+            gates: Items::of(if gate.is_some() {
+                vec![in alloc; info]?
+            } else {
+                Vec::new(alloc)
+            }),
+            reference: Cents(4000),
+        })
+    }
+
+    #[test]
+    fn a_gated_order_has_a_least_and_a_plain_one_has_none(rt: HostRuntime) -> Result<(), Fail> {
+        for (least, gate, valid) in [
+            (0, None, true),
+            (1, None, false),
+            (40, Some(0), true),
+            (0, Some(0), false),
+            (41, Some(0), false),
+            (40, Some(1), false),
+        ] {
+            let market = market(rt.alloc(), least, gate)?;
+            assert_eq!(rt; market.valid(), valid, "{least}");
+        }
+        Ok(())
+    }
+}

@@ -1,0 +1,175 @@
+//! The dual value: what all orders gain and all borders earn at most, at one potential for each zone.
+
+ghost use Rattle.std.specs.Prelude.{◌≡◌, ℕ, ℤ, pos, ◌+ℤ◌, ◌-ℤ◌, ◌*ℤ◌, ◌≤ℤ◌, neg_ℤ, ◌≤◌, ◌<◌, length, IfSome};
+ghost use Rattle.std.specs.Int.{int_max};
+ghost use Rattle.std.specs.List.{All};
+ghost use Rattle.mari_market.specs.declared.activation.Activation.{Activation};
+ghost use Rattle.mari_market.specs.Activation.{welfare_of};
+ghost use Rattle.mari_market.specs.Bounds.{span_in};
+ghost use Rattle.mari_market.specs.Dual.{gap_of, dual_value_of, IsTight, best_trade, best_border, best_order};
+ghost use Rattle.mari_market.specs.Market.{IsValid, IsValidOrder, IsValidBorder};
+ghost use Rattle.mari_market.specs.Prefix.{bounds_at, IsFeasiblePrefix};
+ghost use Rattle.mari_market.specs.Price.{IsPrice, ArePrices, price_at};
+ghost use Rattle.mari_market.specs.Relaxation.{IsWithinBounds};
+ghost use Rattle.mari_market.specs.Sums.{int_sum};
+ghost use Rattle.mari_gates.specs.GateTable.{state_in};
+ghost use Rattle.mari_proofs.specs.Potentials.{IsPotential};
+
+use mari_gates::{GateStates, states_at};
+use mari_market::{Border, Market, Order, Prefix, Prices, Side};
+use mari_units::{Cents, Quarters};
+
+/// The product of two numbers, which always fits.
+fn product(a: i64, b: i64) -> i128
+    ensures { result ≡ a *ℤ b }
+{
+    i128::from(a) * i128::from(b)
+}
+
+/// What so many MW gain, in quarter-cents, at a gain for each.
+fn amount(gap: i64, mw: u32) -> i128
+    requires low { neg_ℤ (pos 20000000) ≤ℤ gap }
+    requires high { gap ≤ℤ pos 20000000 }
+    requires mw { mw ≤ 200000 }
+    ensures value { result ≡ gap *ℤ pos mw }
+    ensures low { neg_ℤ (pos 4000000000000) ≤ℤ result }
+    ensures high { result ≤ℤ pos 4000000000000 }
+{
+    product(gap, i64::from(mw))
+}
+
+/// How much an order gains for each MW at a potential.
+fn gap(order: &Order, potential: Cents) -> i64
+    requires order { IsPrice order.now.price.0 }
+    requires potential { IsPrice potential.0 }
+    ensures gap { result ≡ gap_of order.now.side order.now.price.0 potential.0 }
+    ensures low { neg_ℤ (pos 20000000) ≤ℤ result }
+    ensures high { result ≤ℤ pos 20000000 }
+{
+    match order.side {
+        Side::Inject => potential.0 - order.price.0,
+        Side::Withdraw => order.price.0 - potential.0,
+    }
+}
+
+/// The most that an order gains at a potential, from its least to its greatest quantity.
+fn best_trade(order: &Order, span: (u32, u32), potential: Cents) -> i128
+    requires order { IsPrice order.now.price.0 }
+    requires potential { IsPrice potential.0 }
+    requires least { span.0 ≤ 99999 }
+    requires greatest { span.1 ≤ 99999 }
+    ensures value { result ≡ best_trade order.now.side order.now.price.0 potential.0 (record { lo = span.0; hi = span.1 }) }
+    ensures low { neg_ℤ (pos 4000000000000) ≤ℤ result }
+    ensures high { result ≤ℤ pos 4000000000000 }
+{
+    let gap = gap(order, potential);
+    let (least, greatest) = span;
+    amount(gap, least).max(amount(gap, greatest))
+}
+
+/// The most that an order gains at its zone's potential.
+fn best_order(order: &Order, states: &GateStates, potentials: &[Cents]) -> i128
+    requires order { IsValidOrder (length potentials.now) 512 order.now }
+    requires potentials { All IsPotential potentials.now }
+    ensures value { result ≡ best_order (span_in (state_in states.now)) potentials.now order.now }
+    ensures low { neg_ℤ (pos 4000000000000) ≤ℤ result }
+    ensures high { result ≤ℤ pos 4000000000000 }
+{
+    let potential = potential_at(potentials, order.zone);
+    best_trade(order, states.span(order), potential)
+}
+
+/// A zone's potential.
+fn potential_at(potentials: &[Cents], zone: u32) -> Cents
+    requires zone { zone < length potentials.now }
+    requires potentials { All IsPotential potentials.now }
+    ensures value { result.0 ≡ price_at potentials.now zone }
+    ensures price { IsPrice result.0 }
+{
+    potentials[zone as usize]
+}
+
+/// How much dearer one potential is than another.
+fn excess(dear: Cents, cheap: Cents) -> i64
+    requires dear { IsPrice dear.0 }
+    requires cheap { IsPrice cheap.0 }
+    ensures value { result ≡ dear.0 -ℤ cheap.0 }
+    ensures low { neg_ℤ (pos 20000000) ≤ℤ result }
+    ensures high { result ≤ℤ pos 20000000 }
+{
+    dear.0 - cheap.0
+}
+
+/// The most that a border earns.
+fn best_border(border: &Border, potentials: &[Cents]) -> i128
+    requires border { IsValidBorder (length potentials.now) border.now }
+    requires potentials { All IsPotential potentials.now }
+    ensures value { result ≡ best_border potentials.now border.now }
+    ensures low { neg_ℤ (pos 4000000000000) ≤ℤ result }
+    ensures high { result ≤ℤ pos 4000000000000 }
+{
+    let from = potential_at(potentials, border.from);
+    let to = potential_at(potentials, border.to);
+    amount(excess(to, from), border.limit).max(amount(excess(from, to), border.back))
+}
+
+/// The most that all orders gain.
+fn orders_value(orders: &[Order], states: &GateStates, potentials: &[Cents]) -> i128
+    requires few { length orders.now ≤ 4608 }
+    requires orders { All (IsValidOrder (length potentials.now) 512) orders.now }
+    requires potentials { All IsPotential potentials.now }
+    ensures value { result ≡ int_sum (best_order (span_in (state_in states.now)) potentials.now) orders.now }
+    ensures low { neg_ℤ (pos 18432000000000000) ≤ℤ result }
+    ensures high { result ≤ℤ pos 18432000000000000 }
+{
+    let mut total = 0;
+    for order in orders {
+        total += best_order(order, states, potentials);
+    }
+    total
+}
+
+/// The most that all borders earn.
+fn borders_value(borders: &[Border], potentials: &[Cents]) -> i128
+    requires few { length borders.now ≤ 256 }
+    requires borders { All (IsValidBorder (length potentials.now)) borders.now }
+    requires potentials { All IsPotential potentials.now }
+    ensures value { result ≡ int_sum (best_border potentials.now) borders.now }
+    ensures low { neg_ℤ (pos 1024000000000000) ≤ℤ result }
+    ensures high { result ≤ℤ pos 1024000000000000 }
+{
+    let mut total = 0;
+    for border in borders {
+        total += best_border(border, potentials);
+    }
+    total
+}
+
+/// The most that all orders gain and all borders earn.
+fn total_value(market: &Market, states: &GateStates, potentials: &[Cents]) -> i128
+    requires market { IsValid market.now }
+    requires one_each { length potentials.now ≡ market.now.zones }
+    requires potentials { All IsPotential potentials.now }
+    ensures { result ≡ dual_value_of (span_in (state_in states.now)) market.now potentials.now }
+{
+    orders_value(market.orders.as_slice(), states, potentials)
+        + borders_value(market.borders.as_slice(), potentials)
+}
+
+/// The dual value of potentials at a prefix, in quarter-cents.
+///
+/// There is one potential for each zone, in cents per MWh. Whatever the potentials, no activation within the prefix's
+/// bounds has a greater welfare; one has as great a welfare exactly where each of its orders and borders is tight.
+pub fn dual_value(market: &Market, prefix: &Prefix, potentials: &Prices) -> Quarters
+    requires market { IsValid market.now }
+    requires prefix { IsFeasiblePrefix market.now prefix.now }
+    requires potentials { ArePrices market.now potentials.now.cents }
+    ensures value { result.0 ≡ dual_value_of (bounds_at market.now prefix.now) market.now potentials.now.cents }
+
+    ensures weak_duality { (a : Activation) → IsWithinBounds (bounds_at market.now prefix.now) market.now a → welfare_of market.now a ≤ℤ result.0 }
+    ensures equal_where_tight { (a : Activation) → IsWithinBounds (bounds_at market.now prefix.now) market.now a → IsTight (bounds_at market.now prefix.now) market.now a potentials.now.cents → welfare_of market.now a ≡ result.0 }
+    ensures tight_where_equal { (a : Activation) → IsWithinBounds (bounds_at market.now prefix.now) market.now a → welfare_of market.now a ≡ result.0 → IsTight (bounds_at market.now prefix.now) market.now a potentials.now.cents }
+{
+    let states = states_at(market, prefix);
+    Quarters(total_value(market, &states, potentials.cents.as_slice()))
+}

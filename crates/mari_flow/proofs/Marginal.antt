@@ -1,12 +1,12 @@
 -- The marginal slots with one slot more, and what they say of all slots.
-use Rattle.std.proofs.Common.{◌≡◌, ◌≢◌, ◌⊎◌, ℕ, ◌+◌, ◌<◌, ℤ, ◌≤ℤ◌, List, length, set, arith, refl, sym, ap, subst, ◌∙◌, inl, inr, Bool, true, false, Option, Some, None, length-set, get_or-set_other, ◌<ℤ◌}
+use Rattle.std.proofs.Common.{◌≡◌, ℕ, ◌+◌, ◌<◌, ℤ, ◌≤ℤ◌, List, length, set, arith, refl, sym, ap, subst, ◌∙◌, inl, inr, Bool, true, false, Option, Some, None, length-set, get_or-set_other, ◌<ℤ◌}
 use Rattle.std.specs.Prelude.{IfSome}
 use Rattle.std.proofs.lemmas.Int.{ints}
 use Rattle.std.proofs.lemmas.List.{get_or-set_same}
 use Rattle.std.proofs.lemmas.Bool.{cases_lt, cases_eq}
 use Rattle.mari_flow.specs.declared.slots.Slot.{Slot}
 use Rattle.mari_flow.specs.declared.margins.Margin.{Margin}
-use Rattle.mari_flow.specs.Slots.{zone_of, price_of, CanLess, CanMore}
+use Rattle.mari_flow.specs.Slots.{zone_of, price_of}
 use Rattle.mari_flow.specs.Spread.{is_marked}
 use Rattle.mari_flow.specs.Margins.{no_margin, dearest_at, cheapest_at, IsAbove, IsBelow, IsDearestIn, IsCheapestIn, AreMargins, IsDearest, NoneLess, IsCheaper, NoneCheaper, IsDearestOf}
 

@@ -1,15 +1,15 @@
 -- One zone more that is reached.
-use Rattle.std.proofs.Common.{◌≡◌, ◌≢◌, ◌⊎◌, Bool, true, false, ℕ, zero, suc, ◌+◌, ◌<◌, ℤ, pos, ◌≤ℤ◌, List, [], ◌∷◌, ◌++◌, length, set, get_or, arith, refl, sym, ap, subst, ◌∙◌, inl, inr, length-set, ◌<ℤ◌}
+use Rattle.std.proofs.Common.{◌≡◌, ◌≢◌, ◌⊎◌, Bool, true, false, ℕ, ◌+◌, ◌<◌, ℤ, pos, ◌≤ℤ◌, List, [], ◌∷◌, ◌++◌, length, set, arith, refl, sym, ap, subst, ◌∙◌, inl, inr, length-set}
 use Rattle.std.proofs.lemmas.List.{get_or_append_left, get_or_push, length_push}
 use Rattle.std.proofs.lemmas.Bool.{cases_lt}
 use Rattle.std.specs.List.{All, AllZip}
 use Rattle.std.proofs.lemmas.List.Elements.{All-contains}
 use Rattle.mari_market.specs.declared.market.Border.{Border}
 use Rattle.mari_flow.specs.declared.chain.Hop.{Hop}
-use Rattle.mari_flow.specs.Network.{no_border, border_at, IsBetween, Meets, AreMeeting}
+use Rattle.mari_flow.specs.Network.{no_border, border_at, Meets, AreMeeting}
 use Rattle.mari_flow.specs.Slots.{amount_at}
 use Rattle.mari_flow.proofs.Lists.{zip_of}
-use Rattle.mari_flow.specs.Chain.{no_hop, hop_at, room_of, tail_of, head_of, hop_room, IsHop, HasRoom}
+use Rattle.mari_flow.specs.Chain.{no_hop, hop_at, tail_of, head_of, hop_room, IsHop, HasRoom}
 use Rattle.mari_flow.specs.Chain.HasRoom.{begins, goes_on}
 use Rattle.mari_flow.specs.Spread.{is_marked, AreClosed, MarkedInto, Keeps, IsSpread}
 use Rattle.mari_flow.proofs.Marks.{marked_set, keep_mark, set_mark, count_mark, not_both, is_false}

@@ -1,5 +1,5 @@
 -- What is tight for the slots is tight for the orders.
-use Rattle.std.proofs.Common.{◌≡◌, ◌==◌, if◌then◌else◌, ℕ, ◌<◌, ℤ, pos, neg_ℤ, ◌≤ℤ◌, ◌<ℤ◌, List, [], ◌∷◌, length, arith, refl, sym, ap, ◌∙◌, subst, take, get_or, ◌++◌, ◌+◌, zero, suc}
+use Rattle.std.proofs.Common.{◌≡◌, ◌==◌, if◌then◌else◌, ℕ, ◌<◌, ℤ, pos, neg_ℤ, ◌≤ℤ◌, ◌<ℤ◌, List, [], ◌∷◌, length, arith, refl, sym, ap, ◌∙◌, subst, take, get_or, ◌++◌, ◌+◌, zero, suc, map}
 use Rattle.std.proofs.lemmas.Int.{ints, clamps}
 use Rattle.std.specs.List.{All, AllZip}
 use Rattle.std.proofs.lemmas.List.Elements.{All-head, All-tail}
@@ -14,16 +14,19 @@ use Rattle.mari_market.specs.Sums.{sum_along}
 use Rattle.mari_market.specs.Activation.{put_in, put_into, carried_out, IsWithinLimits, welfare_of}
 use Rattle.mari_market.specs.Bounds.{Span, IsWithin}
 use Rattle.mari_market.specs.Consistent.{IsConsistentBorder}
-use Rattle.mari_market.specs.Dual.{IsTightTrade, IsTightOrder, IsTight}
+use Rattle.mari_market.specs.Dual.{dual_value_of, IsTightTrade, IsTightOrder, IsTight}
 use Rattle.mari_market.specs.Market.{IsValid, IsValidOrder, IsValidBorder}
 use Rattle.mari_market.specs.Price.{price_at, IsPrice}
 use Rattle.mari_market.specs.Relaxation.{IsWithinBounds}
 use Rattle.mari_market.specs.Cut.{least_put, most_put}
+use Rattle.std.proofs.lemmas.List.{length-map}
+use Rattle.mari_flow.proofs.Lists.{map_at}
 use Rattle.mari_market.proofs.Duality.{weak_duality}
 use Rattle.mari_market.proofs.Tight.{tight_is_equal}
 use Rattle.mari_flow.specs.Slots.{slot_into, IsWithinSlot, IsTightSlot}
 use Rattle.mari_flow.specs.Levels.{IsTightFlow}
-use Rattle.mari_flow.specs.Orders.{slots_of, ArePuts, capped}
+use Rattle.mari_flow.specs.Solving.{IsRelaxed}
+use Rattle.mari_flow.specs.Orders.{slots_of, ArePuts, capped, capped_cents}
 
 trade_within : (side : Side) (s : Span) (q : ℕ) → least_put side s ≤ℤ put_in side q → put_in side q ≤ℤ most_put side s → IsWithin s q
 trade_within Inject s q l h = record { least = omega (arith, ints, l, h); most = omega (arith, ints, l, h) }
@@ -74,6 +77,31 @@ flows_tight n p ps (b ∷ bs) (f ∷ fs) e v t =
 flows_tight n p ps [] (f ∷ fs) e v t = absurd t
 flows_tight n p ps (b ∷ bs) [] e v t = absurd t
 
+-- an activation that is the relaxed optimum, with potentials that are tight for it
+pub record IsOptimum (bounds : Order → Span) (m : Market) (a : Activation) (ps : List Cents) : Type 0 where
+  pub within : IsWithinBounds bounds m a
+  pub relaxed : IsRelaxed bounds m (welfare_of m a)
+  pub dual : dual_value_of bounds m ps ≡ welfare_of m a
+  pub tight : IsTight bounds m a ps
+
+-- the orders' part of slots in balance
+pub optimum_from : (bounds : Order → Span) (m : Market) (a : Activation) (ps : List Cents) (p : ℕ → ℤ) (xs : List ℤ) → IsValid m
+    → ArePuts m.orders xs a.mw → ((z : ℕ) → z < m.zones → price_at ps z ≡ capped (p z))
+    → AllZip IsWithinSlot (slots_of bounds m.orders) xs → AllZip IsWithinLimits m.borders a.flow
+    → ((z : ℕ) → z < m.zones → sum_along (slot_into z) (slots_of bounds m.orders) xs ≡ sum_along (carried_out z) m.borders a.flow)
+    → AllZip (IsTightSlot p) (slots_of bounds m.orders) xs → AllZip (IsTightFlow p) m.borders a.flow
+    → IsOptimum bounds m a ps
+optimum_from bounds m a ps p xs v puts prices within limits balance slots flows =
+    let in_bounds : IsWithinBounds bounds m a = record { orders = orders_within bounds m.orders xs a.mw puts within; borders = limits; balance = λ z l. orders_into z bounds m.orders xs a.mw puts ∙ balance z l } in
+    let all_tight : IsTight bounds m a ps = record { orders = orders_tight bounds m.zones (length m.gates) p ps m.orders xs a.mw prices v.orders puts slots; borders = flows_tight m.zones p ps m.borders a.flow prices v.borders flows } in
+    let equal = tight_is_equal bounds m a ps v in_bounds all_tight in
+    record {
+      within = in_bounds;
+      relaxed = record { reached = (a, in_bounds, refl); greatest = λ b w. subst (λ (x : ℤ). welfare_of m b ≤ℤ x) (sym equal) (weak_duality bounds m b ps v w) };
+      dual = sym equal;
+      tight = all_tight;
+    }
+
 pub puts_more : (os : List Order) (xs : List ℤ) (qs : List ℕ) (i : ℕ) (d : Order) (q : ℕ) → i < length os → i < length xs → ArePuts (take i os) (take i xs) qs → get_or xs i (pos 0) ≡ put_in (get_or os i d).side q → ArePuts (take (i + 1) os) (take (i + 1) xs) (qs ++ q ∷ [])
 puts_more [] xs qs i d q h l a e = absurd (omega arith)
 puts_more (o ∷ os) [] qs i d q h l a e = absurd (omega arith)
@@ -83,3 +111,9 @@ puts_more (o ∷ os) (x ∷ xs) [] (suc i) d q h l a e = absurd a
 puts_more (o ∷ os) (x ∷ xs) (p ∷ qs) (suc i) d q h l a e =
     let k : suc (i + 1) ≡ suc i + 1 = omega arith in
     subst (λ (n : ℕ). ArePuts (take n (o ∷ os)) (take n (x ∷ xs)) (p ∷ (qs ++ q ∷ []))) k (a.0, puts_more os xs qs i d q (omega arith) (omega arith) a.1 e)
+
+-- prices within the cap
+pub capped_prices : (prices : List ℤ) → All (λ (c : Cents). IsPrice c.0) (map capped_cents prices)
+capped_prices prices = λ k d l.
+    let there : k < length prices = omega (arith, length-map prices capped_cents, l) in
+    subst (λ (c : Cents). IsPrice c.0) (sym (map_at capped_cents prices k (pos 0) d there)) (record { low = omega (arith, ints, clamps); high = omega (arith, ints, clamps) })

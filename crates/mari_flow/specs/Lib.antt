@@ -6,3 +6,4 @@ pub mod Margins
 pub mod Levels
 pub mod Orders
 pub mod Searching
+pub mod Solving

@@ -1,5 +1,6 @@
 -- Orders as slots, and what stands in for what they must run at least.
-use Rattle.std.specs.Prelude.{◌≡◌, Bool, true, false, not, ℕ, ◌∷◌, [], List, ℤ, pos, neg_ℤ, ◌≤ℤ◌, map}
+use Rattle.std.specs.Prelude.{◌≡◌, Bool, true, false, not, ℕ, ◌∷◌, [], List, ℤ, pos, neg_ℤ, ◌≤ℤ◌, ◌<◌, length, map, None}
+use Rattle.std.specs.List.{All, AllZip}
 use Rattle.std.specs.Int.{int_max, int_min}
 use lib.Signed.{lt_z}
 use Rattle.mari_units.specs.declared.Cents.{Cents}
@@ -13,6 +14,9 @@ use Rattle.mari_market.specs.Bounds.{Span}
 use Rattle.mari_market.specs.Cut.{least_put, most_put}
 use Rattle.mari_flow.specs.declared.slots.Slot.{Slot}
 use Rattle.mari_flow.specs.Slots.{beyond}
+
+abbrev pub no_order : Order
+no_order = record { zone = 0; side = Inject; price = record { 0 = pos 0 }; least = 0; greatest = 0; gate = None }
 
 -- what an order may put in within its span
 abbrev pub slot_of : Span → Order → Slot
@@ -70,3 +74,18 @@ is_inside In p = not (lt_z p beyond)
 abbrev pub CanPut : Side → ℤ → Type 0
 CanPut Inject x = (pos 0 ≤ℤ x) × (x ≤ℤ pos 99999)
 CanPut Withdraw x = (neg_ℤ (pos 99999) ≤ℤ x) × (x ≤ℤ pos 0)
+
+-- a slot of an order of one of so many zones
+pub record IsOrderSlot (zones : ℕ) (s : Slot) : Type 0 where
+  pub zone : s.zone < zones
+  pub low : neg_ℤ (pos 99999) ≤ℤ s.low
+  pub in_order : s.low ≤ℤ s.high
+  pub high : s.high ≤ℤ pos 99999
+  pub cheap : neg_ℤ (pos 9999900) ≤ℤ s.price
+  pub dear : s.price ≤ℤ pos 9999900
+
+-- the slots of orders, of which each can put in the least and the greatest of its slot
+pub record AreOrderSlots (zones : ℕ) (orders : List Order) (slots : List Slot) : Type 0 where
+  pub long : length slots ≡ length orders
+  pub fine : All (IsOrderSlot zones) slots
+  pub sides : AllZip (λ (o : Order) (s : Slot). CanPut o.side s.low × CanPut o.side s.high) orders slots

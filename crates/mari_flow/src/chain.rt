@@ -8,10 +8,9 @@ ghost use Rattle.mari_flow.specs.Slots.{slot_at, amount_at, at_zone, worth};
 ghost use Rattle.mari_flow.specs.Network.{border_at, IsNetwork, Runs};
 ghost use Rattle.mari_flow.specs.Chain.{hop_at, hop_room, room_of, head_of, tail_of, more_flow, HasRoom, IsTrace, IsImproving};
 
-use mari_market::Border;
-
 use crate::network::Network;
 use crate::slots::{move_amount, room_above, room_below};
+use mari_market::Border;
 
 /// A border over which energy can move from a zone to that of an earlier hop.
 #[derive(Clone, Copy, Debug, Drop, PartialEq, Eq)]
@@ -134,7 +133,13 @@ fn most_along(network: &Network, amounts: &[i64], flows: &[i64], chain: &Chain) 
 {
     let below = room_below(network.slots[chain.sink], amounts[chain.sink]);
     let above = room_above(network.slots[chain.source], amounts[chain.source]);
-    room(network.borders, flows, &chain.hops, chain.at, below.min(above))
+    room(
+        network.borders,
+        flows,
+        &chain.hops,
+        chain.at,
+        below.min(above),
+    )
 }
 
 /// Moves as much as can be from a chain's source to its sink.

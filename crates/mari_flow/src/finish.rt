@@ -10,11 +10,10 @@ ghost use Rattle.mari_market.specs.Cut.{is_in, IsRising};
 ghost use Rattle.mari_flow.specs.Slots.{amount_at};
 ghost use Rattle.mari_flow.specs.Orders.{capped_cents, is_inside, CanPut, ArePuts};
 
+use crate::slots::BEYOND;
 use mari_market::{CutSide, Order, Side};
 use mari_units::{CAP, Cents};
 use std::alloc::{AllocError, Global};
-
-use crate::slots::BEYOND;
 
 /// The first amount from a place on that is not 0.
 pub fn first_short(amounts: &[i64], from: usize) -> Option<usize>

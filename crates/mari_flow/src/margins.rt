@@ -7,10 +7,9 @@ ghost use Rattle.mari_flow.specs.Network.{IsNetwork};
 ghost use Rattle.mari_flow.specs.Spread.{is_marked};
 ghost use Rattle.mari_flow.specs.Margins.{no_margin, dearest_at, cheapest_at, IsAbove, IsBelow, IsDearestIn, IsCheapestIn, AreMargins, IsDearestOf, IsCheapestOf};
 
-use std::alloc::{AllocError, Global};
-
 use crate::network::Network;
 use crate::slots::Slot;
+use std::alloc::{AllocError, Global};
 
 /// A zone's dearest slot that may put in less, and its cheapest that may put in more.
 #[derive(Clone, Copy, Debug, Drop, PartialEq, Eq)]
@@ -94,7 +93,11 @@ fn no_margins(alloc: Global, zones: usize) -> Result<Vec<Margin>, AllocError>
 }
 
 /// The marginal slots of each zone.
-pub fn margins_of(alloc: Global, network: &Network, amounts: &[i64]) -> Result<Vec<Margin>, AllocError>
+pub fn margins_of(
+    alloc: Global,
+    network: &Network,
+    amounts: &[i64],
+) -> Result<Vec<Margin>, AllocError>
     requires network { IsNetwork network.now }
     requires amounts { length amounts.now ≡ length network.now.slots.now }
     ensures { IfOk result (λ v. AreMargins network.now.slots.now amounts.now (length network.now.meeting.now) (length network.now.slots.now) v.items) }
@@ -113,7 +116,13 @@ pub fn margins_of(alloc: Global, network: &Network, amounts: &[i64]) -> Result<V
 }
 
 /// The dearer of a slot and a zone's dearest, if the zone is not marked.
-fn dearest_yet(slots: &[Slot], margins: &[Margin], marked: &[bool], best: Option<usize>, zone: usize) -> Option<usize>
+fn dearest_yet(
+    slots: &[Slot],
+    margins: &[Margin],
+    marked: &[bool],
+    best: Option<usize>,
+    zone: usize,
+) -> Option<usize>
     requires zone { zone < length margins.now }
     requires marks { length marked.now ≡ length margins.now }
     requires there { (z i : ℕ) → z < length margins.now → dearest_at margins.now z ≡ Some i → i < length slots.now }
@@ -144,7 +153,13 @@ pub fn dearest(slots: &[Slot], margins: &[Margin], marked: &[bool]) -> Option<us
 }
 
 /// The cheaper of a slot and a zone's cheapest, if the zone is marked.
-fn cheapest_yet(slots: &[Slot], margins: &[Margin], marked: &[bool], best: Option<usize>, zone: usize) -> Option<usize>
+fn cheapest_yet(
+    slots: &[Slot],
+    margins: &[Margin],
+    marked: &[bool],
+    best: Option<usize>,
+    zone: usize,
+) -> Option<usize>
     requires zone { zone < length margins.now }
     requires marks { length marked.now ≡ length margins.now }
     requires there { (z i : ℕ) → z < length margins.now → cheapest_at margins.now z ≡ Some i → i < length slots.now }

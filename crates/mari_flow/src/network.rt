@@ -4,10 +4,9 @@ ghost use Rattle.std.specs.Prelude.{◌≡◌, ◌⊎◌, ◌≤◌, ◌<◌, �
 ghost use Rattle.std.specs.List.{All};
 ghost use Rattle.mari_flow.specs.Network.{Meets, AreMeeting, IsNetwork};
 
+use crate::slots::Slot;
 use mari_market::Border;
 use std::alloc::{AllocError, Global};
-
-use crate::slots::Slot;
 
 /// Slots and borders between zones, and for each zone the places of the borders that meet it, lent.
 #[derive(Drop)]
@@ -38,7 +37,11 @@ fn borders_at(alloc: Global, borders: &[Border], zone: u32) -> Result<Vec<usize>
 }
 
 /// For each zone the places of the borders that meet it.
-pub fn meeting_borders(alloc: Global, borders: &[Border], zones: u32) -> Result<Vec<Vec<usize>>, AllocError>
+pub fn meeting_borders(
+    alloc: Global,
+    borders: &[Border],
+    zones: u32,
+) -> Result<Vec<Vec<usize>>, AllocError>
     ensures long { IfOk result (λ v. length v.items ≡ zones) }
     ensures meeting { IfOk result (λ v. (z : ℕ) (d : _) → z < zones → AreMeeting borders.now z (slice_index_or v.items z d).items) }
 {

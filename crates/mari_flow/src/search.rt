@@ -9,13 +9,12 @@ ghost use Rattle.mari_flow.specs.Chain.{hop_at, hop_of, head_of, tail_of, room_o
 ghost use Rattle.mari_flow.specs.Spread.{is_marked, IsSpread, AreClosed, MarkedInto, Keeps};
 ghost use Rattle.mari_flow.specs.Searching.{AreTightPrices, IsFound};
 
-use mari_market::Border;
-use std::alloc::{AllocError, Global};
-
 use crate::chain::{Chain, Hop, room_over};
 use crate::margins::{cheapest, dearest, margins_of};
 use crate::network::{Network, meeting_at};
 use crate::slots::BEYOND;
+use mari_market::Border;
+use std::alloc::{AllocError, Global};
 
 /// What a search finds: an improving chain, or tight prices, one for each zone.
 #[derive(Drop)]
@@ -75,7 +74,13 @@ fn reach_over(
     ensures into { OnOk result (pos 0 <ℤ room_of hop.forth (border_at borders.now hop.border) (amount_at flows.now hop.border) → head_of hop.forth (border_at borders.now hop.border) ≡ (hop_at hops.old.items hop.before).zone → is_marked marked.new hop.zone ≡ true) }
 {
     let zone = hops[hop.before].zone;
-    if !is_new(&borders[hop.border], flows[hop.border], marked, zone, hop.forth) {
+    if !is_new(
+        &borders[hop.border],
+        flows[hop.border],
+        marked,
+        zone,
+        hop.forth,
+    ) {
         return Ok(());
     }
     marked[hop.zone as usize] = true;
@@ -119,8 +124,20 @@ fn look(
     let places = meeting_at(network, hops[at].zone);
     let borders = network.borders;
     for border in places {
-        reach_over(borders, flows, marked, hops, hop_over(borders, *border, true, at))?;
-        reach_over(borders, flows, marked, hops, hop_over(borders, *border, false, at))?;
+        reach_over(
+            borders,
+            flows,
+            marked,
+            hops,
+            hop_over(borders, *border, true, at),
+        )?;
+        reach_over(
+            borders,
+            flows,
+            marked,
+            hops,
+            hop_over(borders, *border, false, at),
+        )?;
     }
     Ok(())
 }
@@ -215,7 +232,12 @@ fn chain_by_levels(
         let hops = spread(alloc, network, flows, marked, slot.zone)?;
         if let Some(source) = cheapest(slots, margins, marked, slot.price) {
             let at = place_of(&hops, slots[source].zone);
-            return Ok(Some(Chain { sink, source, at, hops }));
+            return Ok(Some(Chain {
+                sink,
+                source,
+                at,
+                hops,
+            }));
         }
     }
     level(prices, marked, -BEYOND);
@@ -223,7 +245,12 @@ fn chain_by_levels(
 }
 
 /// An improving chain, or else prices that leave none.
-pub fn find_chain(alloc: Global, network: &Network, amounts: &[i64], flows: &[i64]) -> Result<Found, AllocError>
+pub fn find_chain(
+    alloc: Global,
+    network: &Network,
+    amounts: &[i64],
+    flows: &[i64],
+) -> Result<Found, AllocError>
     requires network { IsNetwork network.now }
     requires runs { Runs network.now amounts.now flows.now }
     ensures { IfOk result (IsFound network.now amounts.now flows.now) }

@@ -100,7 +100,12 @@ fn extra(slot: Slot) -> Slot
 }
 
 /// The slots of orders within their bounds.
-pub fn order_slots(alloc: Global, orders: &[Order], least: &[u32], greatest: &[u32]) -> Result<Vec<Slot>, AllocError>
+pub fn order_slots(
+    alloc: Global,
+    orders: &[Order],
+    least: &[u32],
+    greatest: &[u32],
+) -> Result<Vec<Slot>, AllocError>
     requires least { length least.now ≡ length orders.now }
     requires greatest { length greatest.now ≡ length orders.now }
     ensures { IfOk result (λ v. (spans : Order → Span) → AreSpans spans orders.now least.now greatest.now → v.items ≡ slots_of spans orders.now) }

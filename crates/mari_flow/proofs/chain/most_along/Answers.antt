@@ -1,4 +1,4 @@
-use Rattle.std.proofs.Common.{◌≡◌, ℤ, pos, ◌-ℤ◌, ◌≤ℤ◌, to_z, of_z, to_z-of_z, rules, FitsSigned, w64, arith}
+use Rattle.std.proofs.Common.{◌≡◌, pos, ◌-ℤ◌, to_z-of_z, rules, FitsSigned, w64, arith}
 use Rattle.std.proofs.lemmas.Int.{ints, clamps}
 use Rattle.mari_flow.specs.Slots.{no_slot, slot_at, amount_at, IsWithinSlot}
 use Rattle.mari_flow.proofs.Lists.{zip_at}

@@ -1,18 +1,14 @@
-use Rattle.std.proofs.Common.{◌<◌, ◌≤◌, ap, ℕ, ℤ, pos, ◌+◌, List, to_z-of_z, sym, ◌∙◌, rules, FitsSigned, w64, subst, arith, take, get_or, length, None}
+use Rattle.std.proofs.Common.{◌<◌, ◌≤◌, ap, ℕ, ℤ, pos, ◌+◌, List, to_z-of_z, sym, ◌∙◌, rules, FitsSigned, w64, subst, arith, take, get_or, length}
 use Rattle.std.specs.List.{All}
 use Rattle.std.proofs.lemmas.List.{length_push}
 use Rattle.std.proofs.lemmas.List.Elements.{All-push}
-use Rattle.mari_market.specs.declared.market.Side.TheVariants.{Inject}
 use Rattle.mari_market.specs.declared.market.Order.{Order}
 use Rattle.mari_flow.specs.Slots.{amount_at}
-use Rattle.mari_flow.specs.Orders.{CanPut, ArePuts}
+use Rattle.mari_flow.specs.Orders.{no_order, CanPut, ArePuts}
 use Rattle.mari_flow.proofs.Lists.{at_take}
 use Rattle.mari_flow.proofs.Lists.{zip_at}
 use Rattle.mari_flow.proofs.Transfers.{puts_more}
 use Rattle.mari_flow.proofs.finish.quantities.Goals as goal
-
-abbrev no_order : Order
-no_order = record { zone = 0; side = Inject; price = record { 0 = pos 0 }; least = 0; greatest = 0; gate = None }
 
 pub quantity-requires : goal.quantity-requires
 quantity-requires c =

@@ -1,7 +1,7 @@
 use Rattle.std.proofs.Common.{◌≡◌, sym, ap, ◌∙◌, ◌+◌, arith, subst, inl, inr, Vec, ℕ, Global, List, length}
 use Rattle.std.proofs.lemmas.Bool.{cases_lt}
 use Rattle.std.proofs.lemmas.List.{get_or_append_left, get_or_push, length_push}
-use Rattle.std.specs.Prelude.{slice_index_or, ◌++◌, ◌∷◌, []}
+use Rattle.std.specs.Prelude.{slice_index_or, ◌∷◌, []}
 use Rattle.mari_flow.specs.Network.{AreMeeting}
 use Rattle.mari_flow.proofs.network.meeting_borders.Goals as goal
 

@@ -1,6 +1,5 @@
-use Rattle.std.proofs.Common.{◌≡◌, ◌<◌, ℕ, ◌≤ℤ◌, to_z, of_z, to_z-of_z, sym, ◌∙◌, rules, FitsSigned, w64, arith, subst, List, length, refl, Some, None}
+use Rattle.std.proofs.Common.{◌≡◌, ◌<◌, ℕ, to_z-of_z, sym, ◌∙◌, FitsSigned, w64, arith, subst, List, length, refl, Some, None}
 use Rattle.std.proofs.lemmas.Int.{ints}
-use Rattle.mari_flow.specs.declared.slots.Slot.{Slot}
 use Rattle.mari_flow.specs.declared.chain.Hop.{Hop}
 use Rattle.mari_flow.specs.declared.margins.Margin.{Margin}
 use Rattle.mari_flow.specs.Slots.{no_slot, slot_at, zone_of, price_of, amount_at, IsSmallSlot}
@@ -67,7 +66,7 @@ loop-sink-preserved c =
     let small : IsSmallSlot (slot_at c.args.network.now.slots.now c.in-Some.sink) = c.requires.network.small c.in-Some.sink no_slot d.less.0 in
     let p : FitsSigned w64 (price_of c.args.network.now.slots.now c.in-Some.sink) = omega (arith, ints, small.cheap, small.dear) in
     let none : NoneCheaper c.args.network.now.slots.now c.args.amounts.now c.spread.new.marked (price_of c.args.network.now.slots.now c.in-Some.sink) = none_cheaper c.args.network.now.slots.now c.args.amounts.now (length c.args.network.now.meeting.now) c.as_slice-margins.result.now c.spread.new.marked (price_of c.args.network.now.slots.now c.in-Some.sink) zoned mar
-        (λ z i l m e. rw (to_z-of_z p) at (c.in_default-cheapest.ensures.none refl z i (omega (arith, mar.long)) m e)) in
+    (λ z i l m e. rw (to_z-of_z p) at (c.in_default-cheapest.ensures.none refl z i (omega (arith, mar.long)) m e)) in
     levels_more c.args.network.now.slots.now c.args.network.now.borders.now c.args.amounts.now c.args.flows.now c.loop-sink.marked c.spread.new.marked (amount_at c.loop-sink.prices) (amount_at c.level.new.prices) c.in-Some.sink c.loop-sink.invariant d small.cheap
     (record { keep = c.level.ensures.keep; level = λ z m l. c.level.ensures.level z m l ∙ to_z-of_z p }) c.in_ok-hops.ensures.spread.keeps c.in_ok-hops.ensures.spread.long c.in_ok-hops.ensures.closed none
 

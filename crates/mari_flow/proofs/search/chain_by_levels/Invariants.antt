@@ -1,4 +1,4 @@
-use Rattle.std.proofs.Common.{◌≡◌, length, not}
+use Rattle.std.proofs.Common.{not}
 use Rattle.std.specs.Prelude.{count_by}
 use Rattle.mari_flow.specs.Slots.{amount_at}
 use Rattle.mari_flow.specs.Levels.{AreLevels}

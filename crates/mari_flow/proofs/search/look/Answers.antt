@@ -1,4 +1,4 @@
-use Rattle.std.proofs.Common.{◌≡◌, ◌<◌, ℕ, ℤ, true, false, Bool, pos, ◌<ℤ◌, sym, ap, ◌∙◌, ◌+◌, arith, subst, take, get_or, List, ◌++◌, ◌∷◌, []}
+use Rattle.std.proofs.Common.{◌≡◌, ℕ, ℤ, true, false, Bool, pos, ◌<ℤ◌, sym, ap, ◌∙◌, arith, subst, take, get_or, List}
 use Rattle.std.specs.List.{All}
 use Rattle.std.proofs.lemmas.List.{take_more, take_all}
 use Rattle.std.proofs.lemmas.List.Elements.{All-push}
@@ -37,9 +37,9 @@ loop-border-preserved c =
     let stay1 : hop_at c.loop-border.hops.items c.args.at ≡ hop_at c.args.hops.now.items c.args.at = c.loop-border.invariant.stay c.args.at c.requires.at in
     let stay2 : hop_at c.reach_over.new.hops.items c.args.at ≡ hop_at c.args.hops.now.items c.args.at = c.reach_over.ensures.stay c.args.at (omega (arith, c.loop-border.invariant.more)) ∙ stay1 in
     let forth : Leads c.args.network.now.borders.now c.args.flows.now c.loop-border.hops.items c.reach_over.new.marked (hop_of c.args.network.now.borders.now (get_or c.meeting_at-places.result.now c.loop-border.border-index 0) true c.args.at) =
-        subst (λ (h : Hop). Leads c.args.network.now.borders.now c.args.flows.now c.loop-border.hops.items c.reach_over.new.marked h) c.hop_over.ensures c.in_ok-reach_over.ensures.into in
+    subst (λ (h : Hop). Leads c.args.network.now.borders.now c.args.flows.now c.loop-border.hops.items c.reach_over.new.marked h) c.hop_over.ensures c.in_ok-reach_over.ensures.into in
     let back : Leads c.args.network.now.borders.now c.args.flows.now c.reach_over.new.hops.items c.reach_over-in-loop-border.new.marked (hop_of c.args.network.now.borders.now (get_or c.meeting_at-places.result.now c.loop-border.border-index 0) false c.args.at) =
-        subst (λ (h : Hop). Leads c.args.network.now.borders.now c.args.flows.now c.reach_over.new.hops.items c.reach_over-in-loop-border.new.marked h) c.hop_over-in-loop-border.ensures c.in_ok-reach_over-2.ensures.into in
+    subst (λ (h : Hop). Leads c.args.network.now.borders.now c.args.flows.now c.reach_over.new.hops.items c.reach_over-in-loop-border.new.marked h) c.hop_over-in-loop-border.ensures c.in_ok-reach_over-2.ensures.into in
     record {
       spread = λ old start s. c.in_ok-reach_over-2.ensures.spread old start (c.in_ok-reach_over.ensures.spread old start (c.loop-border.invariant.spread old start s));
       keeps = λ z e. on z (c.loop-border.invariant.keeps z e);
@@ -49,8 +49,8 @@ loop-border-preserved c =
           (All-push (λ k. MarkedInto c.reach_over-in-loop-border.new.marked (hop_at c.args.hops.now.items c.args.at).zone (border_at c.args.network.now.borders.now k) (amount_at c.args.flows.now k)) (take c.loop-border.border-index c.meeting_at-places.result.now) (get_or c.meeting_at-places.result.now c.loop-border.border-index 0)
           (λ k d l way r e. on _ (c.loop-border.invariant.into k d l way r e))
           (by_ways (λ w. pos 0 <ℤ room_of w (border_at c.args.network.now.borders.now (get_or c.meeting_at-places.result.now c.loop-border.border-index 0)) (amount_at c.args.flows.now (get_or c.meeting_at-places.result.now c.loop-border.border-index 0)) → head_of w (border_at c.args.network.now.borders.now (get_or c.meeting_at-places.result.now c.loop-border.border-index 0)) ≡ (hop_at c.args.hops.now.items c.args.at).zone → is_marked c.reach_over-in-loop-border.new.marked (tail_of w (border_at c.args.network.now.borders.now (get_or c.meeting_at-places.result.now c.loop-border.border-index 0))) ≡ true)
-              (λ r e. c.reach_over-in-loop-border.ensures.keeps _ (forth r (e ∙ sym (ap (λ (x : Hop). x.zone) stay1))))
-              (λ r e. back r (e ∙ sym (ap (λ (x : Hop). x.zone) stay2)))));
+          (λ r e. c.reach_over-in-loop-border.ensures.keeps _ (forth r (e ∙ sym (ap (λ (x : Hop). x.zone) stay1))))
+          (λ r e. back r (e ∙ sym (ap (λ (x : Hop). x.zone) stay2)))));
     }
 
 pub returns-clause-into : goal.returns-clause-into

@@ -4,7 +4,7 @@ use Rattle.mari_market.specs.Activation.{IsWithinLimits}
 use Rattle.mari_flow.specs.declared.chain.Hop.{Hop}
 use Rattle.mari_flow.specs.Slots.{amount_at}
 use Rattle.mari_flow.specs.Network.{no_border, border_at}
-use Rattle.mari_flow.specs.Chain.{no_hop, room_of, tail_of}
+use Rattle.mari_flow.specs.Chain.{no_hop, room_of}
 use Rattle.mari_flow.specs.Spread.{IsSpread, is_marked}
 use Rattle.mari_flow.proofs.Lists.{zip_at, same_default}
 use Rattle.mari_flow.proofs.Spread.{spread_more}

@@ -1,16 +1,10 @@
-use Rattle.std.proofs.Common.{◌≡◌, ℕ, sym, ap, ◌∙◌, get_or, pos, None, List, rules}
-use Rattle.mari_market.specs.declared.market.Side.TheVariants.{Inject}
-use Rattle.mari_market.specs.Bounds.{Span}
+use Rattle.std.proofs.Common.{◌≡◌, ℕ, sym, ap, ◌∙◌, get_or, List}
 use Rattle.mari_market.specs.declared.market.Order.{Order}
-use Rattle.mari_flow.specs.Orders.{slot_of}
+use Rattle.mari_flow.specs.Orders.{no_order, slot_of}
 use Rattle.mari_flow.proofs.Lists.{pushed_map, map_at}
 use Rattle.mari_flow.proofs.slots.order_slots.Goals as goal
 
-no_order : Order
-no_order = record { zone = 0; side = Inject; price = record { 0 = pos 0 }; least = 0; greatest = 0; gate = None }
-
 pub loop-i-preserved : goal.loop-i-preserved
-unfolding no_order
 loop-i-preserved c = λ spans are.
     let lo : get_or c.args.least.now c.loop-i.i 0 ≡ (spans (get_or c.args.orders.now c.loop-i.i no_order)).lo =
     ap (λ (xs : List ℕ). get_or xs c.loop-i.i 0) are.lo ∙ map_at (λ (o : Order). (spans o).lo) c.args.orders.now c.loop-i.i no_order 0 c.loop-i-test.true in

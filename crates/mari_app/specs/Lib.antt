@@ -7,3 +7,4 @@ pub mod Fetching
 pub mod Printing
 pub mod Form
 pub mod FormViews
+pub mod Day

@@ -2,6 +2,7 @@
 #![tactic(auto)]
 
 mod block;
+mod day;
 mod files;
 mod form;
 mod pages;

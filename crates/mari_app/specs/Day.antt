@@ -37,12 +37,16 @@ abbrev pub bids_shown : Option BidRow → List ℕ → List BidShown
 bids_shown None mw = []
 bids_shown (Some b) mw = record { id = b.id; mw = slice_index_or mw 0 0 } ∷ []
 
+-- the zone's line
+abbrev pub zone_shown_at : (least greatest published : List Cents) → ZoneShown
+zone_shown_at least greatest published = record { name = codes "Z"; price = price_at published 0; least = price_at least 0; greatest = price_at greatest 0; area = 1 }
+
 -- what is shown of a clearing at these prices
 abbrev pub shown_at : Input → Clearing → (least greatest published : List Cents) → Shown
 shown_at i k least greatest published = record {
   quarter = 1;
   welfare = k.welfare;
-  zones = record { name = codes "Z"; price = price_at published 0; least = price_at least 0; greatest = price_at greatest 0; area = 1 } ∷ [];
+  zones = zone_shown_at least greatest published ∷ [];
   borders = [];
   bids = bids_shown i.bid k.activation.mw;
   demands = drop (length (bid_orders i.bid)) k.activation.mw;

@@ -8,3 +8,4 @@ pub mod Printing
 pub mod Form
 pub mod FormViews
 pub mod Day
+pub mod Prices

@@ -1,20 +1,18 @@
 //! The day of the market files in their first form: its market, its clearing, its prices and its text.
 
-ghost use Rattle.std.specs.Prelude.{◌≡◌, ◌++◌, ◌∷◌, ◌≤◌, [], IfOk, Some, length, map, drop, List};
+ghost use Rattle.std.specs.Prelude.{◌≡◌, ◌++◌, ◌∷◌, ◌≤◌, [], IfOk, Some, length, map, drop};
 ghost use Rattle.std.specs.Option.{option_map};
-ghost use Rattle.mari_units.specs.declared.Cents.{Cents};
-ghost use Rattle.mari_market.specs.Clearing.{IsClearing};
 ghost use Rattle.mari_market.specs.Market.{IsValid, IsValidOrder};
 ghost use Rattle.std.specs.List.{All};
-ghost use Rattle.mari_market.specs.Optimal.{IsFeasible, IsConsistent};
 ghost use Rattle.mari_market.specs.Price.{price_at};
-ghost use Rattle.mari_app.specs.Day.{bid_orders, demand_orders, market_at, bids_shown, shown_at, IsDay};
+ghost use Rattle.mari_app.specs.Day.{bid_orders, demand_orders, market_at, bids_shown, zone_shown_at, shown_at, IsDay};
 ghost use Rattle.mari_app.specs.FormViews.{bid_view, demand_view, read_view};
-ghost use Rattle.mari_app.specs.Views.{bid_shown, shown};
+ghost use Rattle.mari_app.specs.Views.{bid_shown, zone_shown, shown};
 
 use crate::block::{BidLine, Block, ZoneLine, day_bytes};
+use crate::pricing::{Pricing, pricing_of};
 use crate::records::{BidRecord, DemandRecord, Read};
-use mari_market::{Activation, Clearing, Market, Order, Side};
+use mari_market::{Clearing, Market, Order, Prices, Side};
 use mari_merit::clear_plain;
 use mari_units::{CAP, Cents, Items, Memory};
 use std::alloc::Global;
@@ -79,4 +77,94 @@ fn market_of(alloc: Global, read: &Read<'_>) -> Result<Market, Memory>
         gates: Items::of(Vec::new(alloc)),
         reference: Cents(4000),
     })
+}
+
+/// The line of the bid, if there is one.
+fn bid_lines<'a>(
+    alloc: Global,
+    bid: Option<BidRecord<'a>>,
+    mw: &[u32],
+) -> Result<Vec<BidLine<'a>>, Memory>
+    ensures { IfOk result (λ lines. map bid_shown lines.items ≡ bids_shown (option_map bid_view bid.entry) mw.now) }
+{
+    let mut lines = Vec::new(alloc);
+    if let Some(bid) = bid {
+        lines.push(BidLine {
+            id: bid.id,
+            mw: mw.first().copied().unwrap_or(0),
+        })?;
+    }
+    Ok(lines)
+}
+
+/// How many MW each order behind the first `count` runs.
+fn rest_of(alloc: Global, mw: &[u32], count: usize) -> Result<Vec<u32>, Memory>
+    ensures { IfOk result (λ rest. rest.items ≡ drop count mw.now) }
+{
+    Ok(mw.iter().skip(count).copied().collect(alloc)?)
+}
+
+/// How many orders the bid makes.
+fn bid_count(read: &Read<'_>) -> usize
+    ensures { result ≡ length (bid_orders (read_view read.now).bid) }
+{
+    match read.bid {
+        None => 0,
+        Some(_) => 1,
+    }
+}
+
+/// The line of the zone.
+fn zone_line<'a>(pricing: &Pricing) -> ZoneLine<'a>
+    ensures { zone_shown result ≡ zone_shown_at pricing.now.least.cents pricing.now.greatest.cents pricing.now.published.cents }
+{
+    ZoneLine {
+        name: b"Z",
+        price: first_price(&pricing.published),
+        least: first_price(&pricing.least),
+        greatest: first_price(&pricing.greatest),
+        area: 1,
+    }
+}
+
+fn first_price(prices: &Prices) -> Cents
+    ensures { result.0 ≡ price_at prices.now.cents 0 }
+{
+    prices.cents.as_slice().first().copied().unwrap_or(Cents(0))
+}
+
+/// What is shown of a clearing.
+fn block_of<'a>(
+    alloc: Global,
+    read: &Read<'a>,
+    clearing: Clearing,
+    pricing: &Pricing,
+) -> Result<Block<'a>, Memory>
+    ensures shown { IfOk result (λ b. shown b ≡ shown_at (read_view read.now) clearing pricing.now.least.cents pricing.now.greatest.cents pricing.now.published.cents) }
+    ensures borders { IfOk result (λ b. b.borders.items ≡ []) }
+{
+    let mw = clearing.activation.mw.as_slice();
+    let bids = bid_lines(alloc, read.bid, mw)?;
+    let demands = rest_of(alloc, mw, bid_count(read))?;
+    Ok(Block {
+        quarter: 1,
+        welfare: clearing.welfare,
+        zones: vec![in alloc; zone_line(pricing)]?,
+        borders: Vec::new(alloc),
+        bids,
+        demands,
+        tree: clearing.tree.into_vec(),
+    })
+}
+
+/// Clears the market of the files, and gives the text of its day.
+pub fn day_of(alloc: Global, read: &Read<'_>) -> Result<Vec<u8>, Memory>
+    ensures { IfOk result (λ text. IsDay (read_view read.now) text.items) }
+{
+    let market = market_of(alloc, read)?;
+    let clearing = clear_plain(alloc, &market)?;
+    let pricing = pricing_of(alloc, &market, &clearing.activation)?;
+    let block = block_of(alloc, read, clearing, &pricing)?;
+    let text = day_bytes(alloc, &block)?;
+    Ok(text)
 }

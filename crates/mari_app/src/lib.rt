@@ -6,6 +6,7 @@ mod day;
 mod files;
 mod form;
 mod pages;
+mod pricing;
 mod records;
 mod status;
 mod text;

@@ -9,3 +9,6 @@ pub mod Form
 pub mod FormViews
 pub mod Day
 pub mod Prices
+pub mod Headline
+pub mod Outcome
+pub mod Program

@@ -1,0 +1,183 @@
+//! The top call.
+
+ghost use Rattle.std.specs.Prelude.{◌≡◌, ◌↔◌, ◌≢◌, ◌⊎◌, ℕ, None, Some, map, string_bytes};
+ghost use Rattle.mari_units.specs.declared.Refusal.{Refusal};
+ghost use Rattle.mari_io.specs.Outside.{Counts, Pages, Rose};
+ghost use Rattle.mari_io.specs.declared.shelf.Fetch.TheVariants as fetch;
+ghost use Rattle.mari_app.specs.declared.files.File.{File};
+ghost use Rattle.mari_app.specs.Files.{Gap};
+ghost use Rattle.mari_app.specs.Files.Gap.{NotHeld, OverLimit};
+ghost use Rattle.mari_app.specs.Headline.{WroteDay};
+ghost use Rattle.mari_app.specs.Outcome.{HasGap, RefusesFile, Says, IsNoCommand, IsNoPage, Reports, Reported, fetch_line, fetch_status};
+ghost use Rattle.mari_app.specs.Printing.{file_line as file_text, usage_line as usage_text, then_took};
+ghost use Rattle.mari_app.specs.Program.{IsAccepted, not_built_at, IsRefused, IsReadFault, gap_status, Lacks, IsCutOff, Or};
+ghost use Rattle.mari_app.specs.Words.{folder_at};
+
+use crate::day::day_of;
+use crate::files::File;
+use crate::form::read_pages;
+use crate::outcome::Outcome;
+use crate::pages::{PagesFault, fetch_pages};
+use crate::status::Status;
+use crate::words::folder_of;
+use crate::writing::{file_line, not_built_line, usage_line, write_all};
+use mari_io::{Fetch, Shelf, Sink};
+use mari_units::Refusal;
+use std::alloc::Global;
+
+/// What the words and the shelf's pages come to.
+fn outcome_of<S: Shelf>(alloc: Global, words: &[String], shelf: &mut S) -> Outcome
+    ensures command { IsNoCommand result ↔ (folder_at (map string_bytes words.now) ≡ None) }
+    ensures told { (told : Pages) → S.pages shelf.old ≡ Some told → Says (map string_bytes words.now) told result }
+    ensures failed { Counts (IsNoPage fetch.Failed result) (S.faults shelf.old) (S.faults shelf.new) }
+    ensures missing { Counts (IsNoPage fetch.Missing result) (S.misses shelf.old) (S.misses shelf.new) }
+    ensures too_long { Counts (IsNoPage fetch.TooLong result) (S.overs shelf.old) (S.overs shelf.new) }
+{
+    let Some(folder) = folder_of(words) else {
+        return Outcome::NoCommand;
+    };
+    let pages = match fetch_pages(alloc, shelf, folder) {
+        Ok(pages) => pages,
+        Err(PagesFault::Of(file, why)) => return Outcome::NoPage(file, why),
+        Err(PagesFault::NoMemory) => return Outcome::NoMemory,
+    };
+    let read = match read_pages(&pages) {
+        Ok(read) => read,
+        Err(file) => return Outcome::NotBuilt(file),
+    };
+    match day_of(alloc, &read) {
+        Ok(text) => Outcome::Day(text),
+        Err(_) => Outcome::NoMemory,
+    }
+}
+
+/// Writes a text, and answers its status, or that of a write fault.
+fn say<K: Sink>(sink: &mut K, text: &[u8], status: Status) -> Status
+    requires { status ≢ Status.WriteFault }
+    ensures reports { Reports text.now status (K.taken sink.old) (K.taken sink.new) result }
+    ensures cause { Counts (result ≡ Status.WriteFault) (K.faults sink.old) (K.faults sink.new) }
+{
+    match write_all(sink, text) {
+        Ok(()) => status,
+        Err(_) => Status::WriteFault,
+    }
+}
+
+/// Writes a line that names a file.
+fn say_file<K: Sink>(
+    alloc: Global,
+    sink: &mut K,
+    word: &[u8],
+    file: File,
+    status: Status,
+) -> Status
+    requires { status ≢ Status.WriteFault }
+    ensures reports { Reports (file_text word.now file) status (K.taken sink.old) (K.taken sink.new) result }
+    ensures cause { Counts (result ≡ Status.WriteFault) (K.faults sink.old) (K.faults sink.new) }
+{
+    match file_line(alloc, word, file) {
+        Ok(line) => say(sink, &line, status),
+        Err(_) => Status::Memory,
+    }
+}
+
+/// Writes the line of a file whose page can't be had.
+fn say_no_page<K: Sink>(alloc: Global, sink: &mut K, file: File, why: Fetch) -> Status
+    ensures reports { Reports (fetch_line file why) (fetch_status why) (K.taken sink.old) (K.taken sink.new) result }
+    ensures cause { Counts (result ≡ Status.WriteFault) (K.faults sink.old) (K.faults sink.new) }
+{
+    match why {
+        Fetch::Failed => say_file(alloc, sink, b"readfault", file, Status::ReadFault),
+        Fetch::Missing => say_file(alloc, sink, b"missing", file, Status::Missing),
+        Fetch::TooLong => say_file(alloc, sink, b"toolong", file, Status::TooLong),
+        Fetch::Memory => Status::Memory,
+    }
+}
+
+/// Writes the line of a file that isn't in its first form.
+fn say_not_built<K: Sink>(alloc: Global, sink: &mut K, file: File) -> Status
+    ensures reports { Reported (Outcome.NotBuilt file) (K.taken sink.old) (K.taken sink.new) result }
+    ensures cause { Counts (result ≡ Status.WriteFault) (K.faults sink.old) (K.faults sink.new) }
+{
+    let refusal = Refusal {
+        file: file.number(),
+        line: 1,
+        number: 20,
+    };
+    match not_built_line(alloc, file) {
+        Ok(line) => say(sink, &line, Status::Refused(refusal)),
+        Err(_) => Status::Memory,
+    }
+}
+
+/// Writes what is printed of an outcome, and answers its status.
+fn report<K: Sink>(alloc: Global, sink: &mut K, outcome: &Outcome) -> Status
+    ensures reported { Reported outcome.now (K.taken sink.old) (K.taken sink.new) result }
+    ensures cause { Counts (result ≡ Status.WriteFault) (K.faults sink.old) (K.faults sink.new) }
+{
+    match outcome {
+        Outcome::NoCommand => say(sink, usage_line(), Status::Usage),
+        Outcome::Day(text) => say(sink, text, Status::Done),
+        Outcome::NoPage(file, why) => say_no_page(alloc, sink, *file, *why),
+        Outcome::NotBuilt(file) => say_not_built(alloc, sink, *file),
+        Outcome::NoMemory => Status::Memory,
+    }
+}
+
+/// Does all that the program does: clears the folder that the words name, and prints its day, or says why not.
+///
+/// `clear FOLDER` fetches the seven market files of the folder in their order and then reads them in that order. At this stage
+/// a file that isn't in its first form is refused as not built; the first form has one zone, at most one upward bid and at
+/// most one inelastic demand.
+pub fn run_program<S: Shelf, K: Sink>(
+    alloc: Global,
+    words: &[String],
+    shelf: &mut S,
+    sink: &mut K,
+) -> Status
+    // The headline: what is printed is a day of the pages.
+    ensures done { result ≡ Status.Done → (told : Pages) → S.pages shelf.old ≡ Some told
+        → WroteDay (map string_bytes words.now) told (K.taken sink.old) (K.taken sink.new) }
+
+    // Words that are no command, and nothing else, are answered by the usage line.
+    ensures usage { result ≡ Status.Usage → folder_at (map string_bytes words.now) ≡ None }
+    ensures usage_line { result ≡ Status.Usage → K.taken sink.new ≡ then_took (K.taken sink.old) usage_text }
+    ensures no_command { folder_at (map string_bytes words.now) ≡ None
+        → (result ≡ Status.Usage) ⊎ (result ≡ Status.WriteFault) ⊎ (result ≡ Status.Memory) }
+
+    // The first file that isn't in its first form is refused.
+    ensures refused { (refusal : Refusal) → result ≡ Status.Refused refusal
+        → IsRefused (map string_bytes words.now) (S.pages shelf.old) (K.taken sink.old) (K.taken sink.new) refusal }
+    ensures refuses { (told : Pages) (file : File) → S.pages shelf.old ≡ Some told → RefusesFile (map string_bytes words.now) told file
+        → Or (Status.Refused (not_built_at file)) result }
+
+    // A fetch that failed, and the first file whose page is missing or too long.
+    ensures read_fault { Counts (result ≡ Status.ReadFault) (S.faults shelf.old) (S.faults shelf.new) }
+    ensures read_fault_line { result ≡ Status.ReadFault → IsReadFault (K.taken sink.old) (K.taken sink.new) }
+    ensures missing { Counts (result ≡ Status.Missing) (S.misses shelf.old) (S.misses shelf.new) }
+    ensures missing_file { result ≡ Status.Missing
+        → Lacks (map string_bytes words.now) (S.pages shelf.old) (K.taken sink.old) (K.taken sink.new) NotHeld }
+    ensures too_long { Counts (result ≡ Status.TooLong) (S.overs shelf.old) (S.overs shelf.new) }
+    ensures too_long_file { result ≡ Status.TooLong
+        → Lacks (map string_bytes words.now) (S.pages shelf.old) (K.taken sink.old) (K.taken sink.new) OverLimit }
+    ensures gaps { (told : Pages) (file : File) (gap : Gap) → S.pages shelf.old ≡ Some told → HasGap (map string_bytes words.now) told file gap
+        → Or (gap_status gap) result }
+
+    // A write that failed, and want of memory, which leaves the sink as it was.
+    ensures write_fault { Counts (result ≡ Status.WriteFault) (K.faults sink.old) (K.faults sink.new) }
+    ensures cut_off { result ≡ Status.WriteFault
+        → IsCutOff (map string_bytes words.now) (S.pages shelf.old) (K.taken sink.old) (K.taken sink.new) }
+    ensures memory { result ≡ Status.Memory → K.taken sink.new ≡ K.taken sink.old }
+
+    // Nothing is unpublished, and nothing is checked yet.
+    ensures published { result ≢ Status.Unpublished }
+    ensures unchecked { (run fault : ℕ) → result ≢ Status.Invalid run fault }
+
+    // Pages that are accepted are cleared, where no count rose.
+    ensures complete { (told : Pages) → S.pages shelf.old ≡ Some told → IsAccepted (map string_bytes words.now) told
+        → (result ≡ Status.Done) ⊎ Rose (S.faults shelf.old) (S.faults shelf.new) ⊎ Rose (K.faults sink.old) (K.faults sink.new)
+        ⊎ (result ≡ Status.Memory) }
+{
+    let outcome = outcome_of(alloc, words, shelf);
+    report(alloc, sink, &outcome)
+}

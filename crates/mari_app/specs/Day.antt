@@ -50,7 +50,7 @@ shown_at i k least greatest published = record {
   borders = [];
   bids = bids_shown i.bid k.activation.mw;
   demands = drop (length (bid_orders i.bid)) k.activation.mw;
-  tree = k.tree
+  tree = k.tree;
 }
 
 -- the text of a day of these files: a clearing of their market within the budget of 10,000 nodes, so an optimal activation, its

@@ -23,5 +23,5 @@ shown b = record {
   borders = map border_shown b.borders.items;
   bids = map bid_shown b.bids.items;
   demands = b.demands.items;
-  tree = b.tree.items
+  tree = b.tree.items;
 }

@@ -92,11 +92,7 @@ fn put_zones(alloc: Global, out: &mut Vec<u8>, zones: &[ZoneLine<'_>]) -> Result
     Ok(())
 }
 
-fn put_borders(
-    alloc: Global,
-    out: &mut Vec<u8>,
-    borders: &[BorderLine<'_>],
-) -> Result<(), Memory>
+fn put_borders(alloc: Global, out: &mut Vec<u8>, borders: &[BorderLine<'_>]) -> Result<(), Memory>
     requires { All (λ b. unsigned_abs b.rent.0 ≤ 10 ^ 30) borders.now }
     ensures { OnOk result (out.new.items ≡ out.old.items ++ texts_of border_text (map border_shown borders.now)) }
 {

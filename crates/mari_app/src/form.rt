@@ -141,10 +141,7 @@ fn read_last(pages: &Folder) -> Result<Option<DemandRecord>, File>
     let runs = b"run,quarter,kind,reference\n1,1,scheduled,40.00\n";
     fixed(File::Runs, runs, pages.page(File::Runs))?;
     let header = b"run,zone,mw,price\n";
-    required(
-        File::Demands,
-        demands_of(header, pages.page(File::Demands)),
-    )
+    required(File::Demands, demands_of(header, pages.page(File::Demands)))
 }
 
 #[tactic(auto, unfolding(crate::specs::Form::first_at))]

@@ -64,13 +64,7 @@ fn say<K: Sink>(sink: &mut K, text: &[u8], status: Status) -> Status
 }
 
 /// Writes a line that names a file.
-fn say_file<K: Sink>(
-    alloc: Global,
-    sink: &mut K,
-    word: &[u8],
-    file: File,
-    status: Status,
-) -> Status
+fn say_file<K: Sink>(alloc: Global, sink: &mut K, word: &[u8], file: File, status: Status) -> Status
     requires { status ≢ Status.WriteFault }
     ensures reports { Reports (file_text word.now file) status (K.taken sink.old) (K.taken sink.new) result }
     ensures cause { Counts (result ≡ Status.WriteFault) (K.faults sink.old) (K.faults sink.new) }

@@ -10,11 +10,11 @@ loop-file-preserved g c = record {
   all = refl;
   count = simp (c.in_ok-push.ensures.items, length-append) (omega (arith, c.loop-file.invariant.count));
   held = λ told e.
-    let tells = c.in_ok-page.ensures.told told (c.loop-file.invariant.same ∙ e) in
-    rw (c.in_ok-push.ensures.items, add-one) (held_more told c.args.folder.now files c.loop-file.pages.items c.in_ok-page.page c.loop-file.file-index Day c.loop-file-test.true (c.loop-file.invariant.held told e) tells.0);
+      let tells = c.in_ok-page.ensures.told told (c.loop-file.invariant.same ∙ e) in
+      rw (c.in_ok-push.ensures.items, add-one) (held_more told c.args.folder.now files c.loop-file.pages.items c.in_ok-page.page c.loop-file.file-index Day c.loop-file-test.true (c.loop-file.invariant.held told e) tells.0);
   no_gap = λ told e.
-    let tells = c.in_ok-page.ensures.told told (c.loop-file.invariant.same ∙ e) in
-    c.loop-file.invariant.no_gap told e ∙ rw add-one (gap_behind told c.args.folder.now files c.loop-file.file-index Day c.loop-file-test.true tells.1);
+      let tells = c.in_ok-page.ensures.told told (c.loop-file.invariant.same ∙ e) in
+      c.loop-file.invariant.no_gap told e ∙ rw add-one (gap_behind told c.args.folder.now files c.loop-file.file-index Day c.loop-file-test.true tells.1);
   faults = omega (arith, c.loop-file.invariant.faults, c.in_ok-page.ensures.failed.later);
   misses = omega (arith, c.loop-file.invariant.misses, c.in_ok-page.ensures.missing.later);
   overs = omega (arith, c.loop-file.invariant.overs, c.in_ok-page.ensures.too_long.later);

@@ -14,5 +14,5 @@ nearest_prices-requires c = record {
 pub returns-clause-published : goal.returns-clause-published
 returns-clause-published c =
     rw c.of.ensures (published c.args.market.now c.args.activation.now _ _ _ c.in_ok-intervals.ensures.least c.in_ok-intervals.ensures.greatest
-      (c.in_ok-published.ensures.one_each ∙ ap length c.as_slice.ensures)
-      (rw (c.as_slice.ensures, c.as_slice-2.ensures) at c.in_ok-published.ensures.nearest))
+    (c.in_ok-published.ensures.one_each ∙ ap length c.as_slice.ensures)
+    (rw (c.as_slice.ensures, c.as_slice-2.ensures) at c.in_ok-published.ensures.nearest))

@@ -27,4 +27,4 @@ returns-clause-too_long_file g c = λ e. too_long _ c.outcome_of-outcome.result 
 pub returns-clause-complete : goal.returns-clause-complete
 returns-clause-complete g c = λ told t h.
     with_causes c.outcome_of-outcome.ensures.failed.rose c.report.ensures.cause.rose
-      (accepted_answer _ c.outcome_of-outcome.result told _ _ _ (c.outcome_of-outcome.ensures.told told t) c.outcome_of-outcome.ensures.command.0 c.report.ensures.reported h)
+    (accepted_answer _ c.outcome_of-outcome.result told _ _ _ (c.outcome_of-outcome.ensures.told told t) c.outcome_of-outcome.ensures.command.0 c.report.ensures.reported h)

@@ -1,0 +1,38 @@
+//! Clears a folder of market files: `mari clear FOLDER`.
+//!
+//! `run_program` is the whole program over any shelf and sink: words, pages in order, a market, its clearing, its prices, and
+//! bytes. Its contract carries the headline (`specs/Headline.antt`). `main` calls it over real files and standard output.
+#![tactic(auto)]
+
+mod arguments;
+mod block;
+mod day;
+mod files;
+mod form;
+mod outcome;
+mod pages;
+mod pricing;
+mod program;
+mod records;
+mod status;
+#[cfg(test)]
+mod tests;
+mod text;
+mod words;
+mod writing;
+
+use arguments::words_of;
+use mari_io::{DiskShelf, StdSink};
+pub use program::run_program;
+pub use status::Status;
+use std::process::ExitCode;
+
+fn main(rt: HostRuntime) -> ExitCode {
+    let words = match words_of(&rt) {
+        Ok(words) => words,
+        Err(status) => return ExitCode::from(status.code()),
+    };
+    let mut shelf = DiskShelf::new(rt);
+    let mut sink = StdSink::new(rt);
+    ExitCode::from(run_program(rt.alloc(), &words, &mut shelf, &mut sink).code())
+}

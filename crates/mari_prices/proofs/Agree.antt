@@ -1,7 +1,6 @@
 -- Prices that keep all bounds and comparisons are consistent.
-use Rattle.std.proofs.Common.{◌≡◌, ◌⊎◌, ℕ, ◌<◌, ◌≤◌, ℤ, pos, neg_ℤ, ◌≤ℤ◌, List, [], ◌∷◌, length, arith, refl, sym, subst, inl, inr}
+use Rattle.std.proofs.Common.{◌≡◌, ℕ, ◌<◌, ℤ, pos, neg_ℤ, ◌≤ℤ◌, List, [], ◌∷◌, length, arith, refl, sym, subst, inl, inr}
 use Rattle.std.specs.List.{AllZip, All}
-use Rattle.std.proofs.lemmas.Int.{ints}
 use Rattle.std.proofs.lemmas.List.{get_or_default}
 use Rattle.std.proofs.lemmas.List.Elements.{All-head, All-tail}
 use Rattle.std.proofs.lemmas.Slice.Zip.{AllZip-long}
@@ -11,10 +10,10 @@ use Rattle.mari_market.specs.declared.market.Border.{Border}
 use Rattle.mari_market.specs.declared.market.Market.{Market}
 use Rattle.mari_market.specs.declared.activation.Activation.{Activation}
 use Rattle.mari_market.specs.Activation.{is_open}
-use Rattle.mari_market.specs.Consistent.{standing_of, IsConsistentOrder, IsConsistentBorder, SetsLowerAt, SetsUpperAt, IsLowerBound, IsUpperBound, LeadsBy, Leads}
+use Rattle.mari_market.specs.Consistent.{IsConsistentOrder, IsConsistentBorder, SetsLowerAt, SetsUpperAt, IsLowerBound, IsUpperBound, LeadsBy, Leads}
 use Rattle.mari_market.specs.Market.{IsValid, IsValidOrder, IsValidBorder}
 use Rattle.mari_market.specs.Optimal.{IsFeasible, IsConsistent}
-use Rattle.mari_market.specs.Price.{IsPrice, ArePrices, price_at, cap}
+use Rattle.mari_market.specs.Price.{IsPrice, price_at, cap}
 use Rattle.mari_market.specs.Sums.{AnyZip}
 use Rattle.mari_market.proofs.Conflicts.{lower_kept, upper_kept, leads_sound, price_in_cap}
 use Rattle.mari_prices.proofs.Spreads.{AnyZip-map}

@@ -1,5 +1,5 @@
 -- What the ends of intervals say of consistent prices.
-use Rattle.std.proofs.Common.{◌≡◌, ◌⊎◌, ℕ, ◌+◌, ◌<◌, ◌≤◌, ℤ, pos, neg_ℤ, ◌≤ℤ◌, ◌<ℤ◌, List, [], ◌∷◌, Option, Some, None, length, zero, suc, arith, refl, sym, ap, ◌∙◌, subst, inl, inr}
+use Rattle.std.proofs.Common.{◌≡◌, ◌⊎◌, ℕ, ◌+◌, ◌<◌, ◌≤◌, ℤ, pos, neg_ℤ, ◌≤ℤ◌, List, [], ◌∷◌, Option, Some, None, length, arith, refl, sym, ap, ◌∙◌, subst, inl, inr}
 use Rattle.std.specs.List.{All}
 use Rattle.std.proofs.lemmas.Int.{ints}
 use Rattle.std.proofs.lemmas.List.Elements.{All-weaker, All-nil, All-cons, All-from_get_or}
@@ -9,20 +9,18 @@ use Rattle.mari_market.specs.declared.market.Border.{Border}
 use Rattle.mari_market.specs.declared.market.Market.{Market}
 use Rattle.mari_market.specs.declared.activation.Activation.{Activation}
 use Rattle.mari_market.specs.Conflict.{IsChain, last_of, Contradicts, IsContradiction}
-use Rattle.mari_market.specs.Consistent.{LeadsBy, Leads, IsLowerBound, IsUpperBound}
-use Rattle.mari_market.specs.Interval.{IsLeastPrice, IsGreatestPrice, AreLeastPrices, AreGreatestPrices}
+use Rattle.mari_market.specs.Consistent.{LeadsBy, Leads, IsUpperBound}
+use Rattle.mari_market.specs.Interval.{AreLeastPrices, AreGreatestPrices}
 use Rattle.mari_market.specs.Market.{IsValid, IsValidOrder, IsValidBorder}
 use Rattle.mari_market.specs.Optimal.{IsFeasible, IsConsistent}
-use Rattle.mari_market.specs.Price.{IsPrice, price_at, cap, EachZone}
-use Rattle.mari_market.specs.Sums.{AnyZip}
+use Rattle.mari_market.specs.Price.{IsPrice, price_at, cap}
 use Rattle.mari_prices.specs.declared.bounds.End.{End}
 use Rattle.mari_prices.specs.declared.bounds.End.TheVariants.{Least, Greatest}
 use Rattle.mari_prices.specs.declared.along.Along.TheVariants.{Rising, Falling}
 use Rattle.mari_prices.specs.declared.spread.Settled.{Settled}
 use Rattle.mari_prices.specs.Along.{LeadsTo}
-use Rattle.mari_prices.specs.Ends.{along_of, IsEnd, ArePriced, ArePricesOf, AreTrails, AreUncontradicted, IsContradicted, IsBefore, Follows, IsTrail, IsTrailTo}
+use Rattle.mari_prices.specs.Ends.{along_of, IsEnd, ArePriced, ArePricesOf, AreTrails, AreUncontradicted, IsContradicted, Follows, IsTrailTo}
 use Rattle.mari_prices.specs.Spread.{entry_at, value_in, IsFirst, IsAfter, IsSpreading}
-use Rattle.mari_prices.specs.Tightest.{signed, IsBoundBy, IsTightest}
 use Rattle.mari_prices.proofs.Agree.{KeepsAll, keeps_consistent, consistent_keeps}
 use Rattle.mari_prices.proofs.Extremes.{entry_within, spread_least}
 use Rattle.mari_prices.proofs.Spreads.{AnyZip-of, lower_spreads, lower_from, upper_spreads, upper_from, rising_spreads, rising_from, falling_spreads, falling_from, bound_price}

@@ -1,8 +1,8 @@
 -- Values that spread are the least that keep every own value and every comparison.
-use Rattle.std.proofs.Common.{◌≡◌, ◌⊎◌, ℕ, ◌+◌, ◌<◌, ◌≤◌, ℤ, pos, ◌≤ℤ◌, List, [], ◌∷◌, Option, Some, None, length, zero, suc, arith, refl, sym, ap, ◌∙◌, subst, inl, inr}
+use Rattle.std.proofs.Common.{◌≡◌, ◌⊎◌, ℕ, ◌<◌, ◌≤◌, ℤ, ◌≤ℤ◌, List, [], ◌∷◌, Option, Some, length, zero, suc, arith, inl, inr}
 use Rattle.std.proofs.lemmas.Int.{ints}
 use Rattle.mari_prices.specs.declared.spread.Settled.{Settled}
-use Rattle.mari_prices.specs.Spread.{entry_at, IsFirst, IsAfter, IsSpreading, IsSpread}
+use Rattle.mari_prices.specs.Spread.{entry_at, IsFirst, IsAfter, IsSpreading}
 
 pub entry_within : (xs : List (Option Settled)) (z : ℕ) (s : Settled) → entry_at xs z ≡ Some s → z < length xs
 entry_within [] z s e = absurd (cc)

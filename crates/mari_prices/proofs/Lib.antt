@@ -5,3 +5,5 @@ pub mod Spreads
 pub mod Extremes
 pub mod Agree
 pub mod EndLaws
+pub mod Numbers
+pub mod AreaLaws

@@ -1,5 +1,5 @@
 -- Bounds and comparisons of prices, as the definitions have them and as they spread.
-use Rattle.std.proofs.Common.{◌≡◌, ◌⊎◌, if◌then◌else◌, Bool, true, false, ℕ, ◌+◌, ◌<◌, ◌≤◌, ℤ, pos, neg_ℤ, ◌≤ℤ◌, ◌<ℤ◌, List, [], ◌∷◌, Option, Some, None, length, zero, suc, arith, refl, sym, ap, ◌∙◌, subst, inl, inr}
+use Rattle.std.proofs.Common.{◌≡◌, if◌then◌else◌, Bool, true, false, ℕ, ◌<◌, ◌≤◌, ℤ, neg_ℤ, List, [], ◌∷◌, Option, Some, None, length, arith, refl, sym, ap, subst, inl, inr}
 use Rattle.std.specs.Prelude.{nat_lt, MatchOption}
 use Rattle.std.specs.List.{AllZip, All}
 use Rattle.std.proofs.lemmas.Int.{ints}
@@ -14,16 +14,16 @@ use Rattle.mari_market.specs.Bounds.{IsWithin, own_bounds, span_of, gated_span}
 use Rattle.mari_market.specs.Bounds.GateState.{Open, Closed}
 use Rattle.mari_market.specs.Consistent.{Standing, standing_of, SetsLower, SetsUpper, SetsLowerAt, SetsUpperAt, IsLowerBound, IsUpperBound, LeadsBy, Leads}
 use Rattle.mari_market.specs.Consistent.Standing.{InOpen, InClosed}
-use Rattle.mari_market.specs.Market.{IsValid, IsValidOrder, GateFits}
+use Rattle.mari_market.specs.Market.{IsValid, IsValidOrder}
 use Rattle.mari_market.specs.Optimal.{IsFeasible}
-use Rattle.mari_market.specs.Price.{IsPrice, cap}
+use Rattle.mari_market.specs.Price.{IsPrice}
 use Rattle.mari_market.specs.Sums.{AnyZip}
 use Rattle.mari_market.proofs.Sums.{AllZip-with, AllZip-both}
 use Rattle.mari_prices.specs.declared.bounds.End.{End}
 use Rattle.mari_prices.specs.declared.bounds.End.TheVariants.{Least, Greatest}
-use Rattle.mari_prices.specs.declared.along.Along.TheVariants.{Rising, Falling, Joined}
+use Rattle.mari_prices.specs.declared.along.Along.TheVariants.{Rising, Falling}
 use Rattle.mari_prices.specs.Along.{LeadsOver, LeadsTo}
-use Rattle.mari_prices.specs.Tightest.{signed, SetsAtEnd, own_standing, SetsAt, IsBoundBy}
+use Rattle.mari_prices.specs.Tightest.{signed, own_standing, SetsAt, IsBoundBy}
 
 pub AnyZip-with : {X Y : Type 0} (P Q R : X → Y → Type 0) → ((x : X) (y : Y) → P x y → Q x y → R x y) → (xs : List X) (ys : List Y) → AllZip P xs ys → AnyZip Q xs ys → AnyZip R xs ys
 AnyZip-with P Q R h [] ys a e = absurd e

@@ -1,9 +1,9 @@
 -- One more zone settled.
-use Rattle.std.proofs.Common.{◌≡◌, ◌⊎◌, ◌+◌, ℕ, ◌<◌, ◌≤◌, ℤ, pos, ◌≤ℤ◌, List, [], ◌∷◌, Option, Some, None, length, get_or, set, zero, suc, arith, refl, sym, ap, ◌∙◌, subst, inl, inr, get_or-set_same, get_or-set_other, length-set, replicate}
+use Rattle.std.proofs.Common.{◌≡◌, ◌⊎◌, ◌+◌, ℕ, ◌<◌, ◌≤◌, ℤ, ◌≤ℤ◌, List, [], ◌∷◌, Option, Some, None, length, get_or, set, zero, suc, arith, refl, sym, ap, ◌∙◌, subst, inl, inr, get_or-set_same, get_or-set_other, length-set, replicate}
 use Rattle.std.proofs.lemmas.Int.{ints}
 use Rattle.std.proofs.lemmas.Bool.{cases_eq}
 use Rattle.mari_prices.specs.declared.spread.Settled.{Settled}
-use Rattle.mari_prices.specs.Spread.{entry_at, IsFree, free_zones, IsFirst, IsAfter, IsSpreading, IsSpread, IsLed, IsStart, IsNext}
+use Rattle.mari_prices.specs.Spread.{entry_at, IsFree, free_zones, IsFirst, IsAfter, IsSpreading, IsLed, IsStart, IsNext}
 
 pub free_zones-set : (xs : List (Option Settled)) (z : ℕ) (s : Settled) → z < length xs → entry_at xs z ≡ None → free_zones (set xs z (Some s)) + 1 ≡ free_zones xs
 free_zones-set [] z s h e = absurd (omega arith)

@@ -3,3 +3,4 @@ pub mod Spread
 pub mod Tightest
 pub mod Ends
 pub mod Answers
+pub mod Firsts

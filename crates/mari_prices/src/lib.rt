@@ -6,8 +6,10 @@ mod along;
 mod bounds;
 mod ends;
 mod intervals;
+mod numbering;
 mod published;
 mod spread;
 
 pub use intervals::{Intervals, PriceFault, price_test};
+pub use numbering::areas;
 pub use published::{nearest, published_prices, same_gates_same_prices};

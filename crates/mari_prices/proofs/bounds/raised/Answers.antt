@@ -1,4 +1,4 @@
-use Rattle.std.proofs.Common.{arith, ℤ, to_z, of_z, to_z-of_z, w64, FitsSigned, ◌≡◌, rules}
+use Rattle.std.proofs.Common.{arith}
 use Rattle.std.proofs.lemmas.Int.{ints, clamps}
 use Rattle.mari_prices.proofs.Tight.{raise_to}
 use Rattle.mari_prices.proofs.bounds.raised.Goals as goal

@@ -1,11 +1,10 @@
-use Rattle.std.proofs.Common.{arith, ℤ, ℕ, pos, get_or, to_z, of_z, to_z-of_z, w64, FitsSigned, ◌≡◌, ◌<◌, ◌∙◌, rules, None, length-set, subst, sym, length, set}
-use Rattle.std.proofs.lemmas.Int.{ints}
+use Rattle.std.proofs.Common.{arith, pos, get_or, to_z, of_z, to_z-of_z, w64, FitsSigned, ◌≡◌, ◌<◌, ◌∙◌, rules, None, length-set, sym, length}
 use Rattle.std.proofs.lemmas.List.{get_or_default}
 use Rattle.std.proofs.lemmas.List.Elements.{All-get_or}
 use Rattle.mari_market.specs.declared.market.Side.TheVariants.{Inject}
 use Rattle.mari_market.specs.declared.market.Order.{Order}
 use Rattle.mari_prices.specs.Spread.{value_in}
-use Rattle.mari_prices.specs.Tightest.{IsRaised, IsTightest}
+use Rattle.mari_prices.specs.Tightest.{IsRaised}
 use Rattle.mari_prices.proofs.Tight.{tightest_more, raised_at, raised_read}
 use Rattle.mari_prices.proofs.bounds.tightest.Goals as goal
 

@@ -1,8 +1,6 @@
-use Rattle.std.proofs.Common.{arith, ◌≡◌, Some, None, ℕ, ◌+◌, ◌<◌, ◌≤◌, List, [], ◌∷◌, ◌++◌, length, reverse, subst, sym, ◌∙◌, ap, refl}
+use Rattle.std.proofs.Common.{arith, ◌≡◌, Some, ℕ, List, [], ◌∷◌, ◌++◌, reverse, subst, sym, ◌∙◌, ap}
 use Rattle.std.proofs.lemmas.List.{reverse-append, length-reverse}
-use Rattle.mari_prices.specs.declared.spread.Settled.{Settled}
-use Rattle.mari_prices.specs.Ends.{IsTrail, IsTrailTo, depth_of}
-use Rattle.mari_prices.specs.Spread.{entry_at}
+use Rattle.mari_prices.specs.Ends.{IsTrailTo, depth_of}
 use Rattle.mari_prices.proofs.Extremes.{entry_within}
 use Rattle.mari_prices.proofs.ends.chain_to.Goals as goal
 

@@ -1,5 +1,5 @@
-use Rattle.std.proofs.Common.{arith, ◌≡◌, Some, ℕ, ◌<◌, ℤ, pos, neg_ℤ, ◌≤ℤ◌, ◌<ℤ◌, get_or, to_z, of_z, to_z-of_z, w64, FitsSigned, rules, below_more, ◌∙◌, true, false, ap, subst, sym}
-use Rattle.std.proofs.lemmas.Int.{ints, by_lt_z}
+use Rattle.std.proofs.Common.{◌≡◌, Some, ℕ, ℤ, pos, neg_ℤ, ◌≤ℤ◌, ◌<ℤ◌, get_or, to_z, of_z, to_z-of_z, w64, FitsSigned, rules, below_more, subst, sym}
+use Rattle.std.proofs.lemmas.Int.{by_lt_z}
 use Rattle.std.proofs.lemmas.Bool.{both_ways}
 use Rattle.mari_prices.specs.declared.spread.Settled.{Settled}
 use Rattle.mari_prices.specs.Spread.{entry_at, value_in}

@@ -1,4 +1,4 @@
-use Rattle.std.proofs.Common.{arith, length, ◌≡◌}
+use Rattle.std.proofs.Common.{length, ◌≡◌}
 use Rattle.std.proofs.lemmas.Slice.Zip.{AllZip-long}
 use Rattle.mari_prices.proofs.ends.ends_of.Goals as goal
 

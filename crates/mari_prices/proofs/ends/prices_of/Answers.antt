@@ -1,9 +1,8 @@
-use Rattle.std.proofs.Common.{arith, ◌≡◌, Some, None, ℕ, length, subst, sym, ◌∙◌, ap}
+use Rattle.std.proofs.Common.{arith, ◌≡◌, Some, None, subst, sym}
 use Rattle.std.proofs.lemmas.Int.{ints}
 use Rattle.mari_units.specs.declared.Cents.{Cents}
 use Rattle.std.proofs.Common.{List}
-use Rattle.mari_market.specs.Price.{IsPrice, price_at}
-use Rattle.mari_prices.specs.declared.spread.Settled.{Settled}
+use Rattle.mari_market.specs.Price.{IsPrice}
 use Rattle.mari_prices.specs.Ends.{ArePricesOf}
 use Rattle.mari_prices.specs.Spread.{entry_at}
 use Rattle.mari_prices.proofs.Extremes.{entry_within}

@@ -1,4 +1,4 @@
-use Rattle.std.proofs.Common.{◌≡◌, ℕ, ◌<◌, length, Some, vec_len}
+use Rattle.std.proofs.Common.{◌≡◌, ℕ, ◌<◌, length, Some}
 use Rattle.mari_market.specs.Price.{price_at}
 use Rattle.mari_prices.specs.declared.spread.Settled.{Settled}
 use Rattle.mari_prices.specs.Spread.{entry_at}

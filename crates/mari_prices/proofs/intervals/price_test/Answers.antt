@@ -1,11 +1,6 @@
 use Rattle.std.proofs.Common.{◌≡◌, ℕ, ◌<◌, ℤ, List, Option, length, subst, sym}
 use Rattle.std.specs.List.{All}
-use Rattle.mari_units.specs.declared.Cents.{Cents}
-use Rattle.mari_market.specs.declared.market.Market.{Market}
-use Rattle.mari_market.specs.declared.activation.Activation.{Activation}
 use Rattle.mari_market.specs.Conflict.{IsContradiction}
-use Rattle.mari_market.specs.Market.{IsValid}
-use Rattle.mari_market.specs.Optimal.{IsFeasible}
 use Rattle.mari_market.specs.Price.{IsPrice}
 use Rattle.mari_prices.specs.declared.bounds.End.TheVariants.{Least, Greatest}
 use Rattle.mari_prices.specs.declared.along.Along.TheVariants.{Rising}
@@ -13,8 +8,8 @@ use Rattle.mari_prices.specs.declared.spread.Settled.{Settled}
 use Rattle.mari_prices.specs.Along.{LeadsTo}
 use Rattle.mari_prices.specs.Ends.{IsEnd, ArePriced, ArePricesOf, AreTrails, AreUncontradicted, IsContradicted, IsTrailTo}
 use Rattle.mari_prices.specs.Spread.{value_in}
-use Rattle.mari_prices.proofs.Agree.{KeepsAll, keeps_consistent}
-use Rattle.mari_prices.proofs.EndLaws.{priced, bounds_priced, least_keeps, greatest_keeps, are_least, are_greatest, contradicted_none, trails, ShowsContradiction, trail_contradicts}
+use Rattle.mari_prices.proofs.Agree.{keeps_consistent}
+use Rattle.mari_prices.proofs.EndLaws.{priced, bounds_priced, least_keeps, greatest_keeps, are_least, are_greatest, contradicted_none, trails, trail_contradicts}
 use Rattle.mari_prices.proofs.intervals.price_test.Goals as goal
 
 at_lists : (xs xs' : List (Option Settled)) (us us' : List ℤ) (z : ℕ) → xs' ≡ xs → us' ≡ us → IsContradicted xs' us' z → IsContradicted xs us z

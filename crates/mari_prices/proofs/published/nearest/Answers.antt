@@ -1,5 +1,5 @@
-use Rattle.std.proofs.Common.{arith, ◌≡◌, ℤ, pos, ◌-ℤ◌, ◌≤ℤ◌, ◌≤◌}
-use Rattle.std.proofs.lemmas.Int.{ints, clamps, by_lt_z}
+use Rattle.std.proofs.Common.{arith, ◌≡◌, ℤ, ◌≤ℤ◌, ◌≤◌}
+use Rattle.std.proofs.lemmas.Int.{ints, clamps}
 use Rattle.std.specs.Int.{int_max, int_min}
 use Rattle.mari_market.specs.Interval.{IsNearest, distance}
 use Rattle.mari_prices.proofs.published.nearest.Goals as goal

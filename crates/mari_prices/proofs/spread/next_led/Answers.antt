@@ -1,4 +1,4 @@
-use Rattle.std.proofs.Common.{arith, ℤ, ℕ, pos, get_or, to_z-of_z, to_z, of_z, FitsSigned, w64, rules, ◌≡◌, subst}
+use Rattle.std.proofs.Common.{arith, ℤ, pos, get_or, to_z-of_z, to_z, of_z, FitsSigned, w64, rules, ◌≡◌, subst}
 use Rattle.mari_market.specs.declared.market.Border.{Border}
 use Rattle.mari_market.proofs.Sums.{AnyZip-meets}
 use Rattle.mari_prices.specs.Along.{LeadsOver}

@@ -1,4 +1,4 @@
-use Rattle.std.proofs.Common.{arith, length, List, Option, ◌≡◌, ◌+◌, ◌<◌, length-set, Some, subst, sym}
+use Rattle.std.proofs.Common.{arith, length, List, Option, length-set, Some, subst}
 use Rattle.mari_prices.specs.declared.spread.Settled.{Settled}
 use Rattle.mari_prices.specs.Along.{LeadsTo}
 use Rattle.mari_prices.specs.Spread.{IsNext, value_in, IsFree, NoneFreeBefore}

@@ -1,6 +1,7 @@
 //! The ways in which bounds of prices, and areas, spread along borders.
 
 ghost use Rattle.std.specs.Prelude.{IsTrue, ◌↔◌, pos, neg_ℤ, ◌<ℤ◌};
+ghost use Rattle.mari_market.specs.Area.{IsUncongested};
 ghost use Rattle.mari_prices.specs.Along.{LeadsBack, LeadsOn};
 
 use mari_market::Border;
@@ -26,6 +27,12 @@ fn could_carry_less(border: &Border, flow: i64) -> bool
     flow > -i64::from(border.back)
 }
 
+fn is_uncongested(border: &Border, flow: i64) -> bool
+    ensures { IsTrue result ↔ IsUncongested border.now flow }
+{
+    could_carry_less(border, flow) && could_carry_more(border, flow)
+}
+
 impl Along {
     /// Whether the border leads from its first zone to its second.
     pub(crate) fn leads_on(self, border: &Border, flow: i64) -> bool
@@ -34,7 +41,7 @@ impl Along {
         match self {
             Along::Rising => could_carry_less(border, flow),
             Along::Falling => could_carry_more(border, flow),
-            Along::Joined => could_carry_less(border, flow) && could_carry_more(border, flow),
+            Along::Joined => is_uncongested(border, flow),
         }
     }
 
@@ -45,7 +52,7 @@ impl Along {
         match self {
             Along::Rising => could_carry_more(border, flow),
             Along::Falling => could_carry_less(border, flow),
-            Along::Joined => could_carry_less(border, flow) && could_carry_more(border, flow),
+            Along::Joined => is_uncongested(border, flow),
         }
     }
 }

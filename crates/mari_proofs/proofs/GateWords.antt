@@ -119,9 +119,9 @@ length_of_word m x a e = sym (length-map-range_with_len (bit_of x) 0 x.length) �
 
 pub opens_as_decided : (m : Market) (x : Prefix) (a : Activation) → IsValid m → gate_word_of m a ≡ word_of x → is_open m a ≡ decides x
 opens_as_decided m x a v e = fun_ext (λ g. elim (cases_lt g (length m.gates)) [
-    | inl l ↦ open_at m x a g l e
-    | inr l ↦ none_past m.zones (length m.gates) g m.orders a.mw v.orders l ∙ sym (get_or_past (word_of x) g false (omega (arith, length_of_word m x a e, length-map-range_with_len (bit_of x) 0 x.length)))
-  ])
+  | inl l ↦ open_at m x a g l e
+  | inr l ↦ none_past m.zones (length m.gates) g m.orders a.mw v.orders l ∙ sym (get_or_past (word_of x) g false (omega (arith, length_of_word m x a e, length-map-range_with_len (bit_of x) 0 x.length)))
+])
 
 within_test : (b : Bool) (o : Order) (q : ℕ) → 1 ≤ o.least → IsWithin (gated_span (if b then Open else Closed) o) q → b ≡ nat_lt 0 q
 within_test true o q l w = let at : o.least ≤ q = w.least in let some : 0 < q = omega arith in grind (arith, nat_tests)

@@ -57,13 +57,6 @@ take_more (x ∷ xs) (suc i) d h =
     let one : suc i + 1 ≡ suc (i + 1) = omega arith in
     ap (λ n. take n (x ∷ xs)) one ∙ ap (λ (ys : List TreeItem). x ∷ ys) (take_more xs i d (omega arith))
 
-drop_here : (items : List TreeItem) (i : ℕ) (d : TreeItem) → i < length items → drop i items ≡ get_or items i d ∷ drop (i + 1) items
-drop_here [] i d h = absurd (omega arith)
-drop_here (x ∷ xs) zero d h = refl
-drop_here (x ∷ xs) (suc i) d h =
-    let one : suc i + 1 ≡ suc (i + 1) = omega arith in
-    drop_here xs i d (omega arith) ∙ ap (λ n. get_or xs i d ∷ drop n (x ∷ xs)) (sym one)
-
 -- a walk's step: one item more that fits
 pub walk_more : (m : Market) (cutoff : ℤ) (items : List TreeItem) (i : ℕ) (d : TreeItem) (x : Prefix) (at next : Option Prefix) → i < length items → at ≡ Some x → LeavesWords m cutoff ([] ∷ []) (take i items) (left_at m.gates at) → FitsItem m cutoff x (get_or items i d) next → LeavesWords m cutoff ([] ∷ []) (take (i + 1) items) (left_at m.gates next)
 walk_more m cutoff items i d x at next h is before fits =
@@ -75,39 +68,6 @@ pub walk_start : (m : Market) (cutoff : ℤ) (x : Prefix) → word_of x ≡ [] �
 walk_start m cutoff x e = sym (ap (λ (w : List Bool). w ∷ waiting_after m.gates w) e)
 
 -- ---- the answers
-
-pub item_left_over : (m : Market) (cutoff : ℤ) (items : List TreeItem) (i : ℕ) (d : TreeItem) (at : Option Prefix) → i < length items → at ≡ None → LeavesWords m cutoff ([] ∷ []) (take i items) (left_at m.gates at) → IsBadShape m cutoff items i
-item_left_over m cutoff items i d at h is before = record {
-  within = omega arith;
-  left = left_at m.gates at;
-  before = before;
-  fails = subst (λ (o : Option Prefix). ShapeFails m (left_at m.gates o) (drop i items)) (sym is) (subst (λ (xs : List TreeItem). ShapeFails m [] xs) (sym (drop_here items i d h)) tt);
-}
-
-full_fails : (m : Market) (x : Prefix) (words : List (List Bool)) (item : TreeItem) (rest : List TreeItem) → IsFullBranch m x item → ShapeFails m (word_of x ∷ words) (item ∷ rest)
-full_fails m x words (Leaf leaf) rest h = absurd h
-full_fails m x words Branch rest h = h
-
-pub bad_branch : (m : Market) (cutoff : ℤ) (items : List TreeItem) (i : ℕ) (d : TreeItem) (x : Prefix) (at : Option Prefix) → i < length items → at ≡ Some x → LeavesWords m cutoff ([] ∷ []) (take i items) (left_at m.gates at) → IsFullBranch m x (get_or items i d) → IsBadShape m cutoff items i
-bad_branch m cutoff items i d x at h is before full = record {
-  within = omega arith;
-  left = left_at m.gates at;
-  before = before;
-  fails = subst (λ (o : Option Prefix). ShapeFails m (left_at m.gates o) (drop i items)) (sym is)
-      (subst (λ (xs : List TreeItem). ShapeFails m (left_at m.gates (Some x)) xs) (sym (drop_here items i d h)) (full_fails m x (waiting_after m.gates (word_of x)) (get_or items i d) (drop (i + 1) items) full));
-}
-
-false_fails : (m : Market) (cutoff : ℤ) (x : Prefix) (words : List (List Bool)) (item : TreeItem) (rest : List TreeItem) → IsFalseLeaf m cutoff x item → LeafFails m cutoff (word_of x ∷ words) (item ∷ rest)
-false_fails m cutoff x words (Leaf leaf) rest h = h
-false_fails m cutoff x words Branch rest h = absurd h
-
-pub bad_leaf : (m : Market) (cutoff : ℤ) (items : List TreeItem) (i : ℕ) (d : TreeItem) (x : Prefix) (at : Option Prefix) → i < length items → at ≡ Some x → LeavesWords m cutoff ([] ∷ []) (take i items) (left_at m.gates at) → IsFalseLeaf m cutoff x (get_or items i d) → IsBadLeaf m cutoff items i
-bad_leaf m cutoff items i d x at h is before wrong = record {
-  left = left_at m.gates at;
-  before = before;
-  fails = subst (λ (o : Option Prefix). LeafFails m cutoff (left_at m.gates o) (drop i items)) (sym is)
-      (subst (λ (xs : List TreeItem). LeafFails m cutoff (left_at m.gates (Some x)) xs) (sym (drop_here items i d h)) (false_fails m cutoff x (waiting_after m.gates (word_of x)) (get_or items i d) (drop (i + 1) items) wrong));
-}
 
 pub ends_too_early : (m : Market) (cutoff : ℤ) (items : List TreeItem) (i : ℕ) (x : Prefix) (at : Option Prefix) → length items ≤ i → at ≡ Some x → LeavesWords m cutoff ([] ∷ []) (take i items) (left_at m.gates at) → IsBadShape m cutoff items (length items)
 ends_too_early m cutoff items i x at h is before = record {

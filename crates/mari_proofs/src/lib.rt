@@ -10,6 +10,8 @@ mod cuts;
 mod dual;
 mod laws;
 mod leaves;
+#[cfg(test)]
+mod tests;
 mod tightness;
 mod trees;
 

@@ -58,7 +58,8 @@ fn take_item(market: &Market, prefix: &Prefix, item: &TreeItem, cutoff: Quarters
     ensures { IsStep market.now cutoff.0 prefix.now item.now result }
 {
     match item {
-        TreeItem::Branch if prefix.length as usize >= market.gates.as_slice().len() => Step::BadShape,
+        TreeItem::Branch if prefix.length as usize >= market.gates.as_slice().len() =>
+            Step::BadShape,
         TreeItem::Branch => Step::On(Some(child_of(prefix, false))),
         TreeItem::Leaf(leaf) if check_leaf(market, prefix, leaf, cutoff) => {
             Step::On(next_after(market, prefix))

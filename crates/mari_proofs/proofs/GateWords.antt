@@ -1,5 +1,5 @@
 -- An activation of a prefix's gate word, order by order.
-use Rattle.std.proofs.Common.{◌≡◌, ◌==◌, ◌&&◌, ◌||◌, if◌then◌else◌, Bool, true, false, ℕ, ◌+◌, ◌<◌, ◌≤◌, ℤ, List, [], ◌∷◌, ◌++◌, length, map, get_or, Option, Some, None, arith, subst, refl, sym, ap, ◌∙◌, zero, suc, inl, inr}
+use Rattle.std.proofs.Common.{◌≡◌, ◌&&◌, ◌||◌, if◌then◌else◌, Bool, true, false, ℕ, ◌+◌, ◌<◌, ◌≤◌, List, [], ◌∷◌, ◌++◌, length, map, get_or, Option, Some, None, arith, subst, refl, sym, ap, ◌∙◌, zero, suc, inl, inr}
 use Rattle.std.specs.Prelude.{nat_lt, MatchOption, Any, IfSome, IsTrue, ◌↔◌}
 use Rattle.std.specs.List.{All, AllZip, range_with_len}
 use Rattle.std.proofs.lemmas.Bool.{cases_lt}
@@ -13,9 +13,9 @@ use Rattle.mari_market.specs.declared.market.Market.{Market}
 use Rattle.mari_market.specs.declared.activation.Activation.{Activation}
 use Rattle.mari_market.specs.declared.prefix.Prefix.{Prefix}
 use Rattle.mari_market.specs.Activation.{is_gate, runs_gate, is_open, gate_word_of}
-use Rattle.mari_market.specs.Bounds.{Span, IsWithin, span_in, span_of, gated_span, own_bounds}
+use Rattle.mari_market.specs.Bounds.{IsWithin, span_of, gated_span, own_bounds}
 use Rattle.mari_market.specs.Bounds.GateState.{Open, Closed}
-use Rattle.mari_market.specs.Market.{IsValid, IsValidOrder, GateFits}
+use Rattle.mari_market.specs.Market.{IsValid, IsValidOrder}
 use Rattle.mari_market.specs.Optimal.{IsFeasible}
 use Rattle.mari_market.specs.Prefix.{word_of, bit_of, opens_in}
 use Rattle.mari_market.proofs.Sums.{AllZip-both, AllZip-with}

@@ -1,10 +1,8 @@
 -- The greatest lower and the least upper bound of a zone's price, order by order.
-use Rattle.std.proofs.Common.{◌≡◌, ◌⊎◌, ℕ, ◌+◌, ◌<◌, ◌≤◌, Bool, ℤ, neg_ℤ, ◌≤ℤ◌, List, [], length, take, get_or, arith, subst, sym, ◌∙◌, refl, inl, inr}
+use Rattle.std.proofs.Common.{◌≡◌, ◌⊎◌, ℕ, ◌+◌, ◌<◌, Bool, ℤ, ◌≤ℤ◌, List, length, take, get_or, arith, subst, sym, inl, inr}
 use Rattle.std.proofs.lemmas.Int.{ints}
-use Rattle.std.proofs.lemmas.List.{take_all}
 use Rattle.mari_market.specs.declared.market.Order.{Order}
 use Rattle.mari_market.specs.Consistent.{SetsLowerAt, SetsUpperAt}
-use Rattle.mari_market.specs.Price.{cap}
 use Rattle.mari_proofs.specs.Conflicts.{IsLowerOf, IsUpperOf, IsGreatestLower, IsLeastUpper}
 use Rattle.mari_proofs.proofs.Pairs.{AnyZip_cases, AnyZip_kept, AnyZip_new}
 

@@ -1,6 +1,6 @@
 -- A walk through a tree, item by item.
-use Rattle.std.proofs.Common.{◌≡◌, Bool, true, false, ℕ, zero, suc, ◌+◌, ◌<◌, ◌≤◌, ℤ, ◌≤ℤ◌, List, [], ◌∷◌, ◌++◌, length, take, drop, get_or, Option, Some, None, arith, subst, refl, sym, ap, ◌∙◌}
-use Rattle.std.specs.Prelude.{◌↔◌, IfSome}
+use Rattle.std.proofs.Common.{◌≡◌, Bool, false, ℕ, zero, suc, ◌+◌, ◌<◌, ◌≤◌, ℤ, List, [], ◌∷◌, ◌++◌, length, take, drop, get_or, Option, Some, None, arith, subst, refl, sym, ap, ◌∙◌}
+use Rattle.std.specs.Prelude.{◌↔◌}
 use Rattle.std.proofs.lemmas.List.{take_all}
 use Rattle.mari_market.specs.declared.market.GateInfo.{GateInfo}
 use Rattle.mari_market.specs.declared.market.Market.{Market}
@@ -12,15 +12,15 @@ use Rattle.mari_market.specs.Activation.{welfare_of}
 use Rattle.mari_market.specs.Market.{IsValid}
 use Rattle.mari_market.specs.Optimal.{IsAdmissible, IsOptimal}
 use Rattle.mari_market.specs.Prefix.{word_of, children, IsFeasibleWord, IsFeasiblePrefix}
-use Rattle.mari_market.specs.Tree.{LeafHolds, TreeHolds, AreParts}
+use Rattle.mari_market.specs.Tree.{TreeHolds, AreParts}
 use Rattle.mari_market.proofs.Prefixes.{closed_child}
-use Rattle.mari_market.proofs.Search.{tree_sound, optimal_by_tree}
+use Rattle.mari_market.proofs.Search.{optimal_by_tree}
 use Rattle.mari_gates.specs.Prefixes.{IsCleared}
 use Rattle.mari_gates.proofs.Decisions.{length-decisions}
 use Rattle.mari_proofs.specs.declared.trees.TreeVerdict.{TreeVerdict}
 use Rattle.mari_proofs.specs.declared.trees.TreeVerdict.TheVariants.{Holds, BadShape, BadLeaf}
-use Rattle.mari_proofs.specs.Places.{LeavesWords, ShapeFails, LeafFails, IsBadShape, IsBadLeaf, IsVerdict, waiting_after, left_at}
-use Rattle.mari_proofs.specs.Steps.{FitsItem, IsFullBranch, IsFalseLeaf}
+use Rattle.mari_proofs.specs.Places.{LeavesWords, ShapeFails, LeafFails, IsBadShape, IsVerdict, waiting_after, left_at}
+use Rattle.mari_proofs.specs.Steps.{FitsItem, IsFullBranch}
 use Rattle.mari_proofs.proofs.WaitingWords.{first_child}
 
 -- ---- one item

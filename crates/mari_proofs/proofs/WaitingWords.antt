@@ -1,11 +1,10 @@
 -- The words that wait in a walk through a tree in preorder.
-use Rattle.std.proofs.Common.{◌≡◌, if◌then◌else◌, Bool, true, false, ℕ, zero, suc, ◌+◌, ◌<◌, ◌≤◌, List, [], ◌∷◌, ◌++◌, length, take, Option, Some, None, arith, subst, refl, sym, ap, ◌∙◌, length-append}
-use Rattle.std.proofs.lemmas.List.{take-append-le, take_all}
+use Rattle.std.proofs.Common.{◌≡◌, if◌then◌else◌, Bool, true, false, ℕ, zero, suc, ◌<◌, ◌≤◌, List, [], ◌∷◌, ◌++◌, length, take, Some, arith, subst, refl, sym, ap, ◌∙◌, length-append}
+use Rattle.std.proofs.lemmas.List.{take_all}
 use Rattle.mari_market.specs.declared.market.GateInfo.{GateInfo}
 use Rattle.mari_market.specs.declared.market.Market.{Market}
 use Rattle.mari_market.specs.declared.prefix.Prefix.{Prefix}
-use Rattle.mari_market.specs.Gates.{group_of, parent_of}
-use Rattle.mari_market.specs.Prefix.{word_of, opens_in, may_open, children, IsFeasibleWord, IsFeasiblePrefix}
+use Rattle.mari_market.specs.Prefix.{word_of, opens_in, children, IsFeasibleWord, IsFeasiblePrefix}
 use Rattle.mari_market.proofs.Search.{parents_earlier}
 use Rattle.mari_market.specs.Market.{IsValid}
 use Rattle.mari_gates.specs.Prefixes.{IsCleared, ParentsEarlier}

@@ -1,8 +1,7 @@
-use Rattle.std.proofs.Common.{◌≡◌, ◌≤◌, ◌<◌, ◌+◌, ◌-◌, ℕ, ◌∷◌, ◌++◌, [], Bool, true, false, List, length, arith, sym, ap, ◌∙◌}
+use Rattle.std.proofs.Common.{◌≡◌, ◌+◌, ◌-◌, ℕ, ◌∷◌, ◌++◌, [], Bool, true, false, arith, sym, ap, ◌∙◌}
 use Rattle.std.specs.Prelude.{if◌then◌else◌}
 use Rattle.mari_market.specs.declared.prefix.Prefix.{Prefix}
 use Rattle.mari_market.specs.Prefix.{word_of, bit_of}
-use Rattle.mari_gates.proofs.Decisions.{length-decisions}
 use Rattle.mari_proofs.specs.Places.{opened_child}
 use Rattle.mari_proofs.proofs.WaitingWords.{waiting_up, waiting_sibling, parent_feasible, opened_read, length_feasible}
 use Rattle.mari_proofs.proofs.trees.next_after.Goals as goal

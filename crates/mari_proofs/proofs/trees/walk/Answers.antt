@@ -1,4 +1,4 @@
-use Rattle.std.proofs.Common.{subst, length}
+use Rattle.std.proofs.Common.{subst}
 use Rattle.mari_market.specs.declared.certificate.TreeItem.{TreeItem}
 use Rattle.mari_proofs.specs.Steps.{FitsItem}
 use Rattle.mari_proofs.proofs.TreeWalk.{walk_more, ends_too_early, walk_ends}

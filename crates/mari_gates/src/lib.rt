@@ -11,5 +11,5 @@ pub mod states;
 mod tests;
 
 pub use bounds::{bound_of, bounds_of};
-pub use prefixes::{child_of, may_branch_up, opens, prefix_feasible, without_last};
+pub use prefixes::{child_of, empty_prefix, may_branch_up, opens, prefix_feasible, without_last};
 pub use states::{GateState, GateStates, states_at};

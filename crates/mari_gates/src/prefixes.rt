@@ -144,6 +144,17 @@ fn set_bit(prefix: &mut Prefix, gate: u32, opened: bool)
     prefix.bits[place] = with_bit(prefix.bits[place], gate % 64, opened);
 }
 
+/// The prefix that decides no gate.
+pub fn empty_prefix() -> Prefix
+    ensures word { word_of result ≡ [] }
+    ensures cleared { IsCleared result }
+{
+    Prefix {
+        length: 0,
+        bits: [0; 8],
+    }
+}
+
 /// The prefix that decides one gate more.
 pub fn child_of(prefix: &Prefix, opened: bool) -> Prefix
     requires room { prefix.now.length < 512 }

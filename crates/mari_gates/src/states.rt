@@ -113,7 +113,7 @@ pub fn states_at(market: &Market, prefix: &Prefix) -> GateStates
 
 impl GateStates {
     /// The state of a gate.
-    pub fn state(&self, gate: u32) -> GateState
+    fn state(&self, gate: u32) -> GateState
         requires { gate < 512 }
         ensures { meaning_of result ≡ state_in self.now gate }
     {

@@ -1,5 +1,5 @@
 -- The test of a cut against its definition.
-use Rattle.std.proofs.Common.{◌≡◌, Bool, true, ℕ, ℤ, pos, ◌+ℤ◌, ◌<ℤ◌, neg_ℤ, List, [], ◌∷◌, length, refl, sym, ap, ◌∙◌, subst}
+use Rattle.std.proofs.Common.{◌≡◌, Bool, ℕ, ℤ, pos, ◌+ℤ◌, List, [], ◌∷◌, length, refl, sym, ap, ◌∙◌, subst}
 use Rattle.std.specs.Prelude.{if◌then◌else◌, ◌↔◌, IsTrue}
 use Rattle.std.specs.List.{All}
 use Rattle.std.proofs.lemmas.List.Elements.{All-head, All-tail}

@@ -1,17 +1,15 @@
 -- The two sums of a dual value, with the bounds as a table of states has them.
-use Rattle.std.proofs.Common.{◌≡◌, ℕ, ◌<◌, ◌≤◌, ℤ, pos, ◌+ℤ◌, List, [], ◌∷◌, length, arith, refl, sym, ap, ◌∙◌, subst}
+use Rattle.std.proofs.Common.{◌≡◌, ℕ, ℤ, ◌+ℤ◌, List, [], ◌∷◌, length, refl, ap, ◌∙◌}
 use Rattle.std.specs.List.{All}
 use Rattle.std.proofs.lemmas.List.Elements.{All-head, All-tail}
 use Rattle.mari_units.specs.declared.Cents.{Cents}
 use Rattle.mari_market.specs.declared.market.Order.{Order}
-use Rattle.mari_market.specs.declared.market.Border.{Border}
 use Rattle.mari_market.specs.declared.market.Market.{Market}
 use Rattle.mari_market.specs.Bounds.{Span}
 use Rattle.mari_market.specs.Dual.{best_order, best_trade, dual_value_of, best_border}
-use Rattle.mari_market.specs.Market.{IsValid, IsValidOrder, IsValidBorder, GateFits}
+use Rattle.mari_market.specs.Market.{IsValid, IsValidOrder, GateFits}
 use Rattle.mari_market.specs.Price.{price_at}
 use Rattle.mari_market.specs.Sums.{int_sum}
-use Rattle.std.specs.Prelude.{MatchOption}
 
 -- two spans that agree on each order of a gate that is there give the same sum
 pub same_sum : (f g : Order → Span) (ps : List Cents) (zones gates : ℕ) (os : List Order) → ((o : Order) → GateFits gates o → f o ≡ g o) → All (IsValidOrder zones gates) os → int_sum (best_order f ps) os ≡ int_sum (best_order g ps) os

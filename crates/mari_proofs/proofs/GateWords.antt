@@ -1,5 +1,5 @@
 -- An activation of a prefix's gate word, order by order.
-use Rattle.std.proofs.Common.{◌≡◌, ◌==◌, ◌&&◌, ◌||◌, if◌then◌else◌, Bool, true, false, ℕ, ◌+◌, ◌<◌, ◌≤◌, ℤ, List, [], ◌∷◌, ◌++◌, length, map, get_or, Option, Some, None, arith, subst, refl, sym, ap, ◌∙◌, zero, suc, inl, inr}
+use Rattle.std.proofs.Common.{◌≡◌, ◌&&◌, ◌||◌, if◌then◌else◌, Bool, true, false, ℕ, ◌+◌, ◌<◌, ◌≤◌, List, [], ◌∷◌, ◌++◌, length, map, get_or, Option, Some, None, arith, subst, refl, sym, ap, ◌∙◌, zero, suc, inl, inr}
 use Rattle.std.specs.Prelude.{nat_lt, MatchOption, Any, IfSome, IsTrue, ◌↔◌}
 use Rattle.std.specs.List.{All, AllZip, range_with_len}
 use Rattle.std.proofs.lemmas.Bool.{cases_lt}
@@ -13,9 +13,9 @@ use Rattle.mari_market.specs.declared.market.Market.{Market}
 use Rattle.mari_market.specs.declared.activation.Activation.{Activation}
 use Rattle.mari_market.specs.declared.prefix.Prefix.{Prefix}
 use Rattle.mari_market.specs.Activation.{is_gate, runs_gate, is_open, gate_word_of}
-use Rattle.mari_market.specs.Bounds.{Span, IsWithin, span_in, span_of, gated_span, own_bounds}
+use Rattle.mari_market.specs.Bounds.{IsWithin, span_of, gated_span, own_bounds}
 use Rattle.mari_market.specs.Bounds.GateState.{Open, Closed}
-use Rattle.mari_market.specs.Market.{IsValid, IsValidOrder, GateFits}
+use Rattle.mari_market.specs.Market.{IsValid, IsValidOrder}
 use Rattle.mari_market.specs.Optimal.{IsFeasible}
 use Rattle.mari_market.specs.Prefix.{word_of, bit_of, opens_in}
 use Rattle.mari_market.proofs.Sums.{AllZip-both, AllZip-with}
@@ -119,9 +119,9 @@ length_of_word m x a e = sym (length-map-range_with_len (bit_of x) 0 x.length) �
 
 pub opens_as_decided : (m : Market) (x : Prefix) (a : Activation) → IsValid m → gate_word_of m a ≡ word_of x → is_open m a ≡ decides x
 opens_as_decided m x a v e = fun_ext (λ g. elim (cases_lt g (length m.gates)) [
-    | inl l ↦ open_at m x a g l e
-    | inr l ↦ none_past m.zones (length m.gates) g m.orders a.mw v.orders l ∙ sym (get_or_past (word_of x) g false (omega (arith, length_of_word m x a e, length-map-range_with_len (bit_of x) 0 x.length)))
-  ])
+  | inl l ↦ open_at m x a g l e
+  | inr l ↦ none_past m.zones (length m.gates) g m.orders a.mw v.orders l ∙ sym (get_or_past (word_of x) g false (omega (arith, length_of_word m x a e, length-map-range_with_len (bit_of x) 0 x.length)))
+])
 
 within_test : (b : Bool) (o : Order) (q : ℕ) → 1 ≤ o.least → IsWithin (gated_span (if b then Open else Closed) o) q → b ≡ nat_lt 0 q
 within_test true o q l w = let at : o.least ≤ q = w.least in let some : 0 < q = omega arith in grind (arith, nat_tests)

@@ -1,7 +1,5 @@
 -- What holds somewhere in two lists side by side, pair by pair.
-use Rattle.std.proofs.Common.{◌≡◌, ◌⊎◌, ℕ, ◌+◌, ◌<◌, ◌≤◌, Bool, true, false, List, [], ◌∷◌, length, take, get_or, arith, subst, sym, ap, refl, zero, suc, inl, inr}
-use Rattle.std.specs.Prelude.{◌↔◌, IsTrue}
-use Rattle.std.proofs.lemmas.List.{take_all}
+use Rattle.std.proofs.Common.{◌≡◌, ◌⊎◌, ℕ, ◌+◌, ◌<◌, List, [], ◌∷◌, length, take, get_or, arith, subst, sym, zero, suc, inl, inr}
 use Rattle.mari_market.specs.Sums.{AnyZip}
 
 pub AnyZip_here : {X Y : Type 0} (P : X → Y → Type 0) (xs : List X) (ys : List Y) (i : ℕ) (d : X) (e : Y) → i < length xs → i < length ys → P (get_or xs i d) (get_or ys i e) → AnyZip P xs ys

@@ -1,13 +1,12 @@
 -- The first place at which a certificate tree fails.
-use Rattle.std.specs.Prelude.{◌≡◌, ⊤, if◌then◌else◌, Bool, true, false, ℕ, zero, suc, ◌<◌, ◌≤◌, ℤ, List, [], ◌∷◌, ◌++◌, length, take, drop, Option, Some, None}
+use Rattle.std.specs.Prelude.{◌≡◌, ⊤, if◌then◌else◌, Bool, true, ℕ, zero, suc, ◌<◌, ◌≤◌, ℤ, List, [], ◌∷◌, ◌++◌, length, take, drop, Option, Some, None}
 use Rattle.mari_market.specs.declared.market.GateInfo.{GateInfo}
 use Rattle.mari_market.specs.declared.market.Market.{Market}
 use Rattle.mari_market.specs.declared.prefix.Prefix.{Prefix}
 use Rattle.mari_market.specs.declared.certificate.TreeItem.{TreeItem}
 use Rattle.mari_market.specs.declared.certificate.TreeItem.TheVariants.{Branch, Leaf}
-use Rattle.mari_market.specs.Prefix.{bit_of, word_of, may_open, children}
+use Rattle.mari_market.specs.Prefix.{word_of, opens_in, may_open, children}
 use Rattle.mari_market.specs.Tree.{LeafHolds, TreeHolds}
-use Rattle.mari_gates.specs.Prefixes.{decisions}
 use Rattle.mari_proofs.specs.declared.trees.TreeVerdict.{TreeVerdict}
 use Rattle.mari_proofs.specs.declared.trees.TreeVerdict.TheVariants.{Holds, BadShape, BadLeaf}
 
@@ -59,12 +58,16 @@ IsVerdict m cutoff items (BadLeaf place) = IsBadLeaf m cutoff items place
 abbrev pub opened_child : List GateInfo → List Bool → List (List Bool)
 opened_child gates word = if may_open gates word (length word) then (word ++ true ∷ []) ∷ [] else []
 
--- the words that wait behind the first n decisions of a prefix, in preorder: the open children of those that it closes
-abbrev pub waiting : List GateInfo → Prefix → ℕ → List (List Bool)
-waiting gates x zero = []
-waiting gates x (suc n) = (if bit_of x n then [] else opened_child gates (decisions x n)) ++ waiting gates x n
+-- the words that wait behind the first n decisions of a word, in preorder: the open children of those that it closes
+abbrev pub waiting : List GateInfo → List Bool → ℕ → List (List Bool)
+waiting gates word zero = []
+waiting gates word (suc n) = (if opens_in word n then [] else opened_child gates (take n word)) ++ waiting gates word n
+
+-- the words that wait behind a word
+abbrev pub waiting_after : List GateInfo → List Bool → List (List Bool)
+waiting_after gates word = waiting gates word (length word)
 
 -- the words that are left where a prefix is the next, or none is
 abbrev pub left_at : List GateInfo → Option Prefix → List (List Bool)
 left_at gates None = []
-left_at gates (Some x) = word_of x ∷ waiting gates x x.length
+left_at gates (Some x) = word_of x ∷ waiting_after gates (word_of x)

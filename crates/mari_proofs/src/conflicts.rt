@@ -225,7 +225,12 @@ fn is_chain(market: &Market, activation: &Activation, first: u32, rest: &[u32]) 
     requires { length activation.now.flow ≡ length market.now.borders }
     ensures { IsTrue result ↔ IsChain market.now activation.now first rest.now }
 {
-    leads_on(market.borders.as_slice(), activation.flow.as_slice(), first, rest)
+    leads_on(
+        market.borders.as_slice(),
+        activation.flow.as_slice(),
+        first,
+        rest,
+    )
 }
 
 /// Whether one number is less than another.
@@ -297,12 +302,7 @@ fn are_zones(chain: &[u32], count: u32) -> bool
 }
 
 /// Whether a chain has no more zones than there are, all of them there, and its prices contradict each other.
-fn is_refutation(
-    market: &Market,
-    prefix: &Prefix,
-    activation: &Activation,
-    chain: &[u32],
-) -> bool
+fn is_refutation(market: &Market, prefix: &Prefix, activation: &Activation, chain: &[u32]) -> bool
     requires market { IsValid market.now }
     requires activation { IsOfWord market.now prefix.now activation.now }
     ensures { IsTrue result ↔ IsRefutation market.now activation.now chain.now }

@@ -30,7 +30,9 @@ pub(crate) fn are_potentials(market: &Market, potentials: &[Cents]) -> bool
 fn are_capped(potentials: &[Cents]) -> bool
     ensures { IsTrue result ↔ All (λ c. IsPrice c.0) potentials.now }
 {
-    potentials.iter().all(|cents| -CAP <= cents.0 && cents.0 <= CAP)
+    potentials
+        .iter()
+        .all(|cents| -CAP <= cents.0 && cents.0 <= CAP)
 }
 
 /// The product of two numbers, which always fits.

@@ -7,7 +7,7 @@ ghost use Rattle.mari_market.specs.Market.{IsValid};
 ghost use Rattle.mari_market.specs.Optimal.{IsAdmissible};
 ghost use Rattle.mari_market.specs.Prefix.{word_of, IsFeasiblePrefix};
 ghost use Rattle.mari_market.specs.Tree.{IsBound, LeafHolds};
-ghost use Rattle.mari_proofs.specs.Leaves.{IsNoConflict};
+ghost use Rattle.mari_proofs.specs.Leaves.{ExcludesWord};
 
 use crate::conflicts::is_conflict;
 use crate::cuts::is_cut;
@@ -37,7 +37,7 @@ pub fn check_leaf(market: &Market, prefix: &Prefix, leaf: &Leaf, cutoff: Quarter
 
     // No admissible activation whose gates begin as the prefix says is better than the cutoff.
     ensures bounds { IsTrue result → (a : Activation) → IsAdmissible market.now a → take prefix.now.length (gate_word_of market.now a) ≡ word_of prefix.now → welfare_of market.now a ≤ℤ cutoff.0 }
-    ensures refutes { IsTrue result → (a : Activation) → IsAdmissible market.now a → gate_word_of market.now a ≡ word_of prefix.now → IsNoConflict leaf.now }
+    ensures excludes { IsTrue result → ExcludesWord market.now (word_of prefix.now) leaf.now }
     ensures rises { IsTrue result → (w : ℤ) → cutoff.0 ≤ℤ w → LeafHolds market.now w (word_of prefix.now) leaf.now }
 {
     match leaf {

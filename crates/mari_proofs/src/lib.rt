@@ -8,10 +8,14 @@
 mod conflicts;
 mod cuts;
 mod dual;
+mod laws;
 mod leaves;
+#[cfg(test)]
+mod tests;
 mod tightness;
 mod trees;
 
 pub use dual::dual_value;
+pub use laws::one_gate_word;
 pub use leaves::check_leaf;
-pub use trees::TreeVerdict;
+pub use trees::{TreeVerdict, check_tree};

@@ -76,12 +76,7 @@ fn is_tight_border(border: &Border, flow: i64, potentials: &[Cents]) -> bool
 }
 
 /// Whether what each order runs is tight.
-fn are_tight_orders(
-    states: &GateStates,
-    orders: &[Order],
-    mw: &[u32],
-    potentials: &[Cents],
-) -> bool
+fn are_tight_orders(states: &GateStates, orders: &[Order], mw: &[u32], potentials: &[Cents]) -> bool
     requires lengths { length mw.now ≡ length orders.now }
     requires orders { All (IsValidOrder (length potentials.now) 512) orders.now }
     requires potentials { All IsPotential potentials.now }

@@ -1,4 +1,4 @@
-use Rattle.std.proofs.Common.{◌≡◌, ◌≤◌, length, arith, to_z-of_z, w64, rules}
+use Rattle.std.proofs.Common.{arith, to_z-of_z, w64, rules}
 use Rattle.std.specs.Prelude.{FitsSigned}
 use Rattle.mari_market.specs.declared.market.Order.{Order}
 use Rattle.mari_market.specs.Bounds.{IsWithin, own_bounds}

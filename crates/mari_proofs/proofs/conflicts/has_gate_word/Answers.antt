@@ -4,7 +4,7 @@ use Rattle.mari_market.specs.declared.market.Order.{Order}
 use Rattle.mari_market.specs.Bounds.{IsWithin, own_bounds}
 use Rattle.mari_market.specs.Activation.{gate_word_of}
 use Rattle.mari_market.specs.Prefix.{word_of}
-use Rattle.mari_proofs.proofs.GateWords.{lengths_read, word_test, length_of_word, all_decided}
+use Rattle.mari_proofs.proofs.GateWords.{lengths_read, word_test, length_of_word}
 use Rattle.mari_proofs.proofs.conflicts.has_gate_word.Goals as goal
 
 pub run_as_decided-requires-clause-lengths : goal.run_as_decided-requires-clause-lengths

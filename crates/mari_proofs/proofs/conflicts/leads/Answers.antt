@@ -1,4 +1,4 @@
-use Rattle.std.proofs.Common.{◌≡◌, true, false, arith, pos, get_or, to_z-of_z, w64, rules, subst, refl}
+use Rattle.std.proofs.Common.{arith, pos, get_or, to_z-of_z, w64, rules, refl}
 use Rattle.std.specs.Prelude.{FitsSigned}
 use Rattle.std.proofs.lemmas.Bool.{both_ways}
 use Rattle.mari_market.specs.declared.market.Border.{Border}

@@ -1,4 +1,4 @@
-use Rattle.std.proofs.Common.{◌≡◌, ◌*◌, take, pos, neg_ℤ, ◌≤ℤ◌}
+use Rattle.std.proofs.Common.{◌≡◌, ◌*◌, take, pos, ◌≤ℤ◌}
 use Rattle.mari_market.specs.Sums.{int_sum}
 use Rattle.mari_proofs.specs.NetInjections.{carried_of}
 use Rattle.mari_proofs.proofs.cuts.borders_carry.Given as goal

@@ -1,3 +1,6 @@
+use Rattle.std.proofs.Common.{subst, sym}
+use Rattle.mari_market.specs.declared.certificate.Leaf.{Leaf as LeafRecord}
+use Rattle.mari_proofs.specs.Leaves.{ExcludesWord}
 use Rattle.mari_market.specs.declared.certificate.Leaf.TheVariants.{Bound, Cut, Conflict}
 use Rattle.mari_market.specs.Prefix.{word_of}
 use Rattle.mari_market.proofs.Conflicts.{conflict_refutes}
@@ -13,5 +16,7 @@ returns-in-Cut-clause-bounds c = λ yes a adm e. leaf_bounds_below c.args.market
 pub returns-in-Conflict-clause-bounds : goal.returns-in-Conflict-clause-bounds
 returns-in-Conflict-clause-bounds c = λ yes a adm e. leaf_bounds_below c.args.market.now c.args.cutoff.0 c.args.prefix.now c.args.prefix.now.length (Conflict c.in-Conflict.conflict) a c.requires.market (c.is_conflict.ensures.0 yes) adm e
 
-pub returns-in-Conflict-clause-refutes : goal.returns-in-Conflict-clause-refutes
-returns-in-Conflict-clause-refutes c = λ yes a adm e. absurd (conflict_refutes c.args.market.now (word_of c.args.prefix.now) c.in-Conflict.conflict a c.requires.market (c.is_conflict.ensures.0 yes) adm e)
+pub returns-in-Conflict-clause-excludes : goal.returns-in-Conflict-clause-excludes
+returns-in-Conflict-clause-excludes c = λ yes.
+    subst (λ (leaf : LeafRecord). ExcludesWord c.args.market.now (word_of c.args.prefix.now) leaf) (sym c.in-Conflict.is)
+    (λ a adm e. conflict_refutes c.args.market.now (word_of c.args.prefix.now) c.in-Conflict.conflict a c.requires.market (c.is_conflict.ensures.0 yes) adm e)

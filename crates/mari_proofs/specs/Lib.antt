@@ -1,1 +1,5 @@
 pub mod Potentials
+pub mod NetInjections
+pub mod Conflicts
+pub mod Leaves
+pub mod Places

@@ -1,6 +1,6 @@
 //! The dual value: what all orders gain and all borders earn at most, at one potential for each zone.
 
-ghost use Rattle.std.specs.Prelude.{◌≡◌, ℕ, ℤ, pos, ◌+ℤ◌, ◌-ℤ◌, ◌*ℤ◌, ◌≤ℤ◌, neg_ℤ, ◌≤◌, ◌<◌, length, IfSome};
+ghost use Rattle.std.specs.Prelude.{◌≡◌, ◌↔◌, IsTrue, ℕ, ℤ, pos, ◌+ℤ◌, ◌-ℤ◌, ◌*ℤ◌, ◌≤ℤ◌, neg_ℤ, ◌≤◌, ◌<◌, length, IfSome};
 ghost use Rattle.std.specs.Int.{int_max};
 ghost use Rattle.std.specs.List.{All};
 ghost use Rattle.mari_market.specs.declared.activation.Activation.{Activation};
@@ -17,7 +17,21 @@ ghost use Rattle.mari_proofs.specs.Potentials.{IsPotential};
 
 use mari_gates::{GateStates, states_at};
 use mari_market::{Border, Market, Order, Prefix, Prices, Side};
-use mari_units::{Cents, Quarters};
+use mari_units::{CAP, Cents, Quarters};
+
+/// Whether there is one potential for each zone, within the cap.
+pub(crate) fn are_potentials(market: &Market, potentials: &[Cents]) -> bool
+    ensures { IsTrue result ↔ ArePrices market.now potentials.now }
+{
+    potentials.len() == market.zones as usize && are_capped(potentials)
+}
+
+/// Whether each potential lies from the negative of the cap to the cap.
+fn are_capped(potentials: &[Cents]) -> bool
+    ensures { IsTrue result ↔ All (λ c. IsPrice c.0) potentials.now }
+{
+    potentials.iter().all(|cents| -CAP <= cents.0 && cents.0 <= CAP)
+}
 
 /// The product of two numbers, which always fits.
 fn product(a: i64, b: i64) -> i128
@@ -80,7 +94,7 @@ fn best_order(order: &Order, states: &GateStates, potentials: &[Cents]) -> i128
 }
 
 /// A zone's potential.
-fn potential_at(potentials: &[Cents], zone: u32) -> Cents
+pub(crate) fn potential_at(potentials: &[Cents], zone: u32) -> Cents
     requires zone { zone < length potentials.now }
     requires potentials { All IsPotential potentials.now }
     ensures value { result.0 ≡ price_at potentials.now zone }

@@ -5,6 +5,13 @@
 //! memory. Their promise: they answer exactly whether the certificate holds, and what holds bounds every admissible welfare.
 #![tactic(auto)]
 
+mod conflicts;
+mod cuts;
 mod dual;
+mod leaves;
+mod tightness;
+mod trees;
 
 pub use dual::dual_value;
+pub use leaves::check_leaf;
+pub use trees::TreeVerdict;

@@ -1,6 +1,6 @@
 use Rattle.std.proofs.Common.{arith, ◌≡◌, pos, ◌*ℤ◌}
 use Rattle.std.proofs.lemmas.Int.{ints}
-use Rattle.mari_proofs.proofs.Products.{scaled, product_read}
+use Rattle.mari_welfare.proofs.Wide.{scaled, product_read}
 use Rattle.mari_proofs.proofs.dual.amount.Goals as goal
 
 pub returns-clause-low : goal.returns-clause-low

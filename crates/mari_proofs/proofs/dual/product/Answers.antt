@@ -1,4 +1,4 @@
-use Rattle.mari_proofs.proofs.Products.{wide_bits}
+use Rattle.mari_welfare.proofs.Wide.{wide_bits}
 use Rattle.mari_proofs.proofs.dual.product.Goals as goal
 
 pub overflow_mul-result : goal.overflow_mul-result

@@ -1,0 +1,10 @@
+pub mod Text
+pub mod Views
+pub mod Words
+pub mod Files
+pub mod Status
+pub mod Fetching
+pub mod Printing
+pub mod Form
+pub mod FormViews
+pub mod Day

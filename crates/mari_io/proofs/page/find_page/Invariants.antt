@@ -1,0 +1,8 @@
+use Rattle.std.proofs.Common.{◌≡◌, drop}
+use Rattle.mari_io.specs.Outside.{page_of}
+use Rattle.mari_io.specs.Memory.{pages_of}
+use Rattle.mari_io.proofs.page.find_page.Given as goal
+
+-- no page so far has the name
+abbrev pub invariant-loop-page : goal.invariant-loop-page
+invariant-loop-page l = page_of (pages_of (drop l.page-index l.pages)) l.name ≡ page_of (pages_of l.pages) l.name

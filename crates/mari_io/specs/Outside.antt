@@ -1,0 +1,59 @@
+-- What a shelf gives and what a sink takes, and the counts that show why one of them failed.
+use Rattle.std.specs.Prelude.{ℕ, ◌+◌, ◌-◌, ◌^◌, ◌≤◌, ◌<◌, ◌≡◌, min, List, [], ◌∷◌, ◌++◌, length, take, drop, Option, Some, None, Result, Ok, Err, if◌then◌else◌, IsSomeAnd, ⊤}
+use Rattle.std.specs.Str.{bytes_eq}
+use Rattle.std.specs.Option.{option_map}
+use Rattle.mari_io.specs.declared.shelf.Fetch.{Fetch}
+use Rattle.mari_io.specs.declared.shelf.Fetch.TheVariants.{Failed, Missing, TooLong, Memory}
+
+-- a count of 64 bits after one event more: it stays at its last value
+abbrev pub counted : ℕ → ℕ
+counted n = min (n + 1) (2 ^ 64 - 1)
+
+-- a count went up, or stands at its last value
+abbrev pub Rose : ℕ → ℕ → Type 0
+Rose before now = counted before ≤ now
+
+-- a count that doesn't fall, and has risen where this happened
+pub record Counts (happened : Type 0) (before now : ℕ) : Type 0 where
+  pub later : before ≤ now
+  pub rose : happened → Rose before now
+
+-- pages, each by its name
+abbrev pub Pages : Type 0
+Pages = List (List ℕ × List ℕ)
+
+-- the page of a name: the first of that name
+abbrev pub page_of : Pages → List ℕ → Option (List ℕ)
+page_of [] name = None
+page_of (page ∷ pages) name = if bytes_eq page.0 name then Some page.1 else page_of pages name
+
+-- what a fetch answers where the page of that name is known
+abbrev pub FetchTells : {T : Type 0} → Option (List ℕ) → List ℕ → List ℕ → Result T Fetch → Type 0
+FetchTells page old new (Ok done) = page ≡ Some (drop (length old) new)
+FetchTells page old new (Err Missing) = page ≡ None
+FetchTells page old new (Err TooLong) = IsSomeAnd page (λ bytes. 268435456 < length bytes)
+FetchTells page old new (Err Failed) = ⊤
+FetchTells page old new (Err Memory) = ⊤
+
+-- new is old with at most so many bytes more
+pub record AppendsAtMost (most : ℕ) (old new : List ℕ) : Type 0 where
+  pub front : take (length old) new ≡ old
+  pub more : length new ≤ length old + most
+
+-- how many bytes of a piece were taken
+abbrev pub taken_count : {E : Type 0} → Result ℕ E → ℕ
+taken_count (Ok n) = n
+taken_count (Err e) = 0
+
+-- what was taken, where it is told
+abbrev pub taken_after : {E : Type 0} → Option (List ℕ) → List ℕ → Result ℕ E → Option (List ℕ)
+taken_after taken piece result = option_map (λ t. t ++ take (taken_count result) piece) taken
+
+-- nothing was taken though something was there
+abbrev pub TookNothing : {E : Type 0} → List ℕ → Result ℕ E → Type 0
+TookNothing piece result = (taken_count result ≡ 0) × (0 < length piece)
+
+-- the call gave an error
+abbrev pub IsRefused : {T E : Type 0} → Result T E → Type 0
+IsRefused (Ok x) = ⊥
+IsRefused (Err e) = ⊤

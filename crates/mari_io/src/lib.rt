@@ -1,0 +1,27 @@
+//! The outside as two traits: a shelf that gives pages by their names, and a sink that takes bytes. Both count what went wrong,
+//! so that whoever calls them can say why a call failed.
+//!
+//! In memory a shelf tells its pages and a sink what it took, and both fail by a plan; over real files and standard output
+//! neither tells anything. The crate stands on `mari_units`. Its promise: an answer other than success comes only where its
+//! count rose in that call.
+#![tactic(auto)]
+
+mod disk;
+mod memory_shelf;
+mod memory_sink;
+mod output;
+mod page;
+mod plan;
+mod shelf;
+mod sink;
+#[cfg(test)]
+mod tests;
+
+pub use disk::DiskShelf;
+pub use memory_shelf::MemoryShelf;
+pub use memory_sink::MemorySink;
+pub use output::StdSink;
+pub use page::{Name64, Page};
+pub use plan::FaultPlan;
+pub use shelf::{Fetch, Shelf};
+pub use sink::{Failed, Sink};

@@ -1,0 +1,5 @@
+pub mod Rungs
+pub mod Sorted
+pub mod Filling
+pub mod Clears
+pub mod Sizes

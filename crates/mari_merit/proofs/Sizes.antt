@@ -1,0 +1,53 @@
+-- The welfare of an admissible activation fits 64 bits.
+use Rattle.std.proofs.Common.{◌≡◌, ℕ, suc, ◌+◌, ◌*◌, ◌^◌, ◌<◌, ◌≤◌, if◌then◌else◌, Bool, true, false, ℤ, pos, neg_ℤ, ◌*ℤ◌, ◌≤ℤ◌, ◌<ℤ◌, List, [], ◌∷◌, Option, Some, None, length, arith, refl}
+use Rattle.std.proofs.lemmas.Int.{ints}
+use Rattle.std.specs.List.{All, AllZip}
+use Rattle.mari_market.specs.declared.market.Side.{Side}
+use Rattle.mari_market.specs.declared.market.Side.TheVariants.{Inject, Withdraw}
+use Rattle.mari_market.specs.declared.market.Order.{Order}
+use Rattle.mari_market.specs.declared.market.Market.{Market}
+use Rattle.mari_market.specs.declared.activation.Activation.{Activation}
+use Rattle.mari_market.specs.Activation.{gain, order_gain, welfare_of, is_open}
+use Rattle.mari_market.specs.Bounds.{IsWithin, gated_span, span_of, own_bounds}
+use Rattle.mari_market.specs.Bounds.GateState.{Open, Closed}
+use Rattle.mari_market.specs.Market.{IsValid, IsValidOrder}
+use Rattle.mari_market.specs.Optimal.{IsFeasible, IsAdmissible}
+use Rattle.mari_market.specs.Price.{IsPrice}
+use Rattle.mari_market.specs.Sums.{int_sum}
+use Rattle.mari_market.proofs.Sums.{sum_along-le, AllZip-with}
+use Rattle.mari_market.proofs.Surplus.{welfare_at_least_0}
+use Rattle.mari_welfare.proofs.Wide.{scaled}
+
+gain_at_most : (side : Side) (c : ℤ) (q : ℕ) → IsPrice c → q ≤ 99999 → gain side c q ≤ℤ pos (9999900 * 99999)
+gain_at_most Inject c q p l = omega (arith, ints, (scaled c q 9999900 99999 p.low p.high l).0)
+gain_at_most Withdraw c q p l = (scaled c q 9999900 99999 p.low p.high l).1
+
+gated_at_most : (b : Bool) (o : Order) (q : ℕ) → IsWithin (gated_span (if b then Open else Closed) o) q → q ≤ o.greatest
+gated_at_most true o q w = w.most
+gated_at_most false o q w = omega (arith, w.most)
+
+at_most : (opens : ℕ → Bool) (gate : Option ℕ) (o : Order) (q : ℕ) → IsWithin (span_of (λ g. if opens g then Open else Closed) gate o) q → q ≤ o.greatest
+at_most opens None o q w = w.most
+at_most opens (Some g) o q w = gated_at_most (opens g) o q w
+
+constant : {X : Type 0} (xs : List X) → int_sum (λ (x : X). pos (9999900 * 99999)) xs ≡ pos (9999900 * 99999 * length xs)
+constant [] = refl
+constant (x ∷ xs) = omega (arith, ints, constant xs)
+
+-- the welfare of a feasible activation is at most what all orders gain at their greatest quantities and the greatest price
+pub welfare_at_most : (m : Market) (a : Activation) → IsValid m → IsFeasible m a → welfare_of m a ≤ℤ pos (9999900 * 99999 * 4608)
+welfare_at_most m a v f =
+    let each = sum_along-le order_gain (λ (o : Order). pos (9999900 * 99999)) (λ (o : Order) (q : ℕ). IsValidOrder m.zones (length m.gates) o × IsWithin (own_bounds m a o) q)
+    (λ o q h. gain_at_most o.side o.price.0 q h.0.price (omega (arith, h.0.small, at_most (is_open m a) o.gate o q h.1)))
+    m.orders a.mw (AllZip-with _ _ m.orders a.mw v.orders f.orders) in
+    omega (arith, ints, each, constant m.orders, v.few_orders)
+
+-- two lists side by side are of one length
+pub as_long : {X Y : Type 0} (R : X → Y → Type 0) (xs : List X) (ys : List Y) → AllZip R xs ys → length ys ≡ length xs
+as_long R [] [] h = refl
+as_long R [] (y ∷ ys) h = absurd h
+as_long R (x ∷ xs) [] h = absurd h
+as_long R (x ∷ xs) (y ∷ ys) h = omega (arith, as_long R xs ys h.1)
+
+pub as_many : (m : Market) (a : Activation) → IsFeasible m a → length a.mw ≡ length m.orders
+as_many m a f = as_long _ m.orders a.mw f.orders

@@ -1,0 +1,164 @@
+-- One more zone settled.
+use Rattle.std.proofs.Common.{◌≡◌, ◌⊎◌, ◌+◌, ℕ, ◌<◌, ◌≤◌, ℤ, pos, ◌≤ℤ◌, List, [], ◌∷◌, Option, Some, None, length, get_or, set, zero, suc, arith, refl, sym, ap, ◌∙◌, subst, inl, inr, get_or-set_same, get_or-set_other, length-set, replicate}
+use Rattle.std.proofs.lemmas.Int.{ints}
+use Rattle.std.proofs.lemmas.Bool.{cases_eq}
+use Rattle.mari_prices.specs.declared.spread.Settled.{Settled}
+use Rattle.mari_prices.specs.Spread.{entry_at, IsFree, free_zones, IsFirst, IsAfter, IsSpreading, IsSpread, IsLed, IsStart, IsNext}
+
+pub free_zones-set : (xs : List (Option Settled)) (z : ℕ) (s : Settled) → z < length xs → entry_at xs z ≡ None → free_zones (set xs z (Some s)) + 1 ≡ free_zones xs
+free_zones-set [] z s h e = absurd (omega arith)
+free_zones-set (None ∷ xs) zero s h e = refl
+free_zones-set (Some t ∷ xs) zero s h e = absurd (cc)
+free_zones-set (None ∷ xs) (suc z) s h e = ap (λ n. n + 1) (free_zones-set xs z s (omega arith) e)
+free_zones-set (Some t ∷ xs) (suc z) s h e = free_zones-set xs z s (omega arith) e
+
+-- an entry after zone z was settled is the new one or an old one
+entry_cases : (xs : List (Option Settled)) (z w : ℕ) (e s : Settled) → z < length xs → entry_at (set xs z (Some e)) w ≡ Some s → ((w ≡ z) × (s ≡ e)) ⊎ (entry_at xs w ≡ Some s)
+entry_cases xs z w e s h k = elim (cases_eq w z) [
+  | inl same ↦
+      let new : get_or (set xs z (Some e)) z None ≡ Some e = get_or-set_same xs z (Some e) None h in
+      let at : get_or (set xs z (Some e)) z None ≡ Some s = subst (λ (x : ℕ). get_or (set xs z (Some e)) x None ≡ Some s) same k in
+      inl (same, cc)
+  | inr other ↦ inr (sym (get_or-set_other xs z w (Some e) None other) ∙ k)
+]
+
+-- a zone that is free then was free before
+free_before : (xs : List (Option Settled)) (z u : ℕ) (e : Settled) → z < length xs → IsFree (set xs z (Some e)) u → IsFree xs u
+free_before xs z u e h f = elim (cases_eq u z) [
+  | inl same ↦
+      let new : get_or (set xs z (Some e)) z None ≡ Some e = get_or-set_same xs z (Some e) None h in
+      let at : get_or (set xs z (Some e)) z None ≡ None = subst (λ (x : ℕ). get_or (set xs z (Some e)) x None ≡ None) same f.1 in
+      absurd (cc)
+  | inr other ↦ (omega (arith, f.0, length-set xs z (Some e)), sym (get_or-set_other xs z u (Some e) None other) ∙ f.1)
+]
+
+-- an old entry stays
+entry_kept : (xs : List (Option Settled)) (z w : ℕ) (e s : Settled) → entry_at xs z ≡ None → entry_at xs w ≡ Some s → entry_at (set xs z (Some e)) w ≡ Some s
+entry_kept xs z w e s free k = elim (cases_eq w z) [
+  | inl same ↦ let at : entry_at xs z ≡ Some s = subst (λ (x : ℕ). entry_at xs x ≡ Some s) same k in absurd (cc)
+  | inr other ↦ get_or-set_other xs z w (Some e) None other ∙ k
+]
+
+free_zones-le : (xs : List (Option Settled)) → free_zones xs ≤ length xs
+free_zones-le [] = omega arith
+free_zones-le (None ∷ xs) = omega (arith, free_zones-le xs)
+free_zones-le (Some t ∷ xs) = omega (arith, free_zones-le xs)
+
+-- what the new entry has to meet
+record Fits (lead : ℕ → ℕ → Type 0) (own : ℕ → ℤ) (xs : List (Option Settled)) (z : ℕ) (e : Settled) : Type 0 where
+  free : IsFree xs z
+  above : own z ≤ℤ e.value
+  risen : (y : ℕ) (s : Settled) → entry_at xs y ≡ Some s → lead y z → s.value ≤ℤ e.value
+  least : (w : ℕ) (s : Settled) → entry_at xs w ≡ Some s → e.value ≤ℤ s.value
+  newest : (y u : ℕ) (s : Settled) → entry_at xs y ≡ Some s → IsFree xs u → lead y u → s.value ≤ℤ e.value
+  rest : (u : ℕ) → IsFree xs u → own u ≤ℤ e.value
+  source : IsFirst own z e ⊎ IsAfter lead xs z e
+  short : e.depth + free_zones xs ≤ length xs + 1
+
+after_kept : (lead : ℕ → ℕ → Type 0) (xs : List (Option Settled)) (z w : ℕ) (e s : Settled) → entry_at xs z ≡ None → IsAfter lead xs w s → IsAfter lead (set xs z (Some e)) w s
+after_kept lead xs z w e s free a = record { before = a.before; entry = a.entry; settled = entry_kept xs z a.before e a.entry free a.settled; leads = a.leads; previous = a.previous; value = a.value; depth = a.depth }
+
+source_kept : (lead : ℕ → ℕ → Type 0) (own : ℕ → ℤ) (xs : List (Option Settled)) (z w : ℕ) (e s : Settled) → entry_at xs z ≡ None → IsFirst own w s ⊎ IsAfter lead xs w s → IsFirst own w s ⊎ IsAfter lead (set xs z (Some e)) w s
+source_kept lead own xs z w e s free (inl f) = inl f
+source_kept lead own xs z w e s free (inr a) = inr (after_kept lead xs z w e s free a)
+
+settle : (lead : ℕ → ℕ → Type 0) (own : ℕ → ℤ) (xs : List (Option Settled)) (z : ℕ) (e : Settled) → IsSpreading lead own xs → Fits lead own xs z e → IsSpreading lead own (set xs z (Some e))
+settle lead own xs z e h f =
+    let there : z < length xs = f.free.0 in
+    let values : (w : ℕ) (s : Settled) → entry_at (set xs z (Some e)) w ≡ Some s → e.value ≤ℤ s.value =
+    λ w s k. elim (entry_cases xs z w e s there k) [ inl new ↦ omega (arith, ints, ap (λ (t : Settled). t.value) new.1) | inr old ↦ f.least w s old ] in
+    record {
+      above = λ w s k. elim (entry_cases xs z w e s there k) [
+        | inl new ↦ subst (λ (t : Settled). own w ≤ℤ t.value) (sym new.1) (subst (λ (x : ℕ). own x ≤ℤ e.value) (sym new.0) f.above)
+        | inr old ↦ h.above w s old
+      ];
+      rises = λ y w s t k l r. elim (entry_cases xs z w e t there l) [
+        | inl new ↦ elim (entry_cases xs z y e s there k) [
+          | inl also ↦ omega (arith, ints, ap (λ (t : Settled). t.value) new.1, ap (λ (t : Settled). t.value) also.1)
+          | inr old ↦ subst (λ (t : Settled). s.value ≤ℤ t.value) (sym new.1) (f.risen y s old (subst (lead y) new.0 r))
+        ]
+        | inr old ↦ elim (entry_cases xs z y e s there k) [
+          | inl new ↦ subst (λ (x : Settled). x.value ≤ℤ t.value) (sym new.1) (f.least w t old)
+          | inr older ↦ h.rises y w s t older old r
+        ]
+      ];
+      newest = λ y w u s t k l free r. elim (entry_cases xs z y e s there k) [
+        | inl new ↦ subst (λ (x : Settled). x.value ≤ℤ t.value) (sym new.1) (values w t l)
+        | inr old ↦ elim (entry_cases xs z w e t there l) [
+          | inl new ↦ subst (λ (x : Settled). s.value ≤ℤ x.value) (sym new.1) (f.newest y u s old (free_before xs z u e there free) r)
+          | inr older ↦ h.newest y w u s t old older (free_before xs z u e there free) r
+        ]
+      ];
+      rest = λ y u s k free. elim (entry_cases xs z y e s there k) [
+        | inl new ↦ subst (λ (x : Settled). own u ≤ℤ x.value) (sym new.1) (f.rest u (free_before xs z u e there free))
+        | inr old ↦ h.rest y u s old (free_before xs z u e there free)
+      ];
+      source = λ w s k. elim (entry_cases xs z w e s there k) [
+        | inl new ↦ subst (λ (x : Settled). IsFirst own w x ⊎ IsAfter lead (set xs z (Some e)) w x) (sym new.1)
+            (subst (λ (y : ℕ). IsFirst own y e ⊎ IsAfter lead (set xs z (Some e)) y e) (sym new.0) (source_kept lead own xs z z e e f.free.1 f.source))
+        | inr old ↦ source_kept lead own xs z w e s f.free.1 (h.source w s old)
+      ];
+      short = λ w s k. elim (entry_cases xs z w e s there k) [
+        | inl new ↦ omega (arith, ap (λ (t : Settled). t.depth) new.1, f.short, free_zones-set xs z e there f.free.1, length-set xs z (Some e))
+        | inr old ↦ omega (arith, h.short w s old, free_zones-set xs z e there f.free.1, length-set xs z (Some e))
+      ];
+    }
+
+led_fits : (lead : ℕ → ℕ → Type 0) (own : ℕ → ℤ) (xs : List (Option Settled)) (z : ℕ) (e : Settled) → IsSpreading lead own xs → IsLed lead xs z e → Fits lead own xs z e
+led_fits lead own xs z e h n =
+    let a = n.after in
+    record {
+      free = n.free;
+      above = omega (arith, ints, a.value, h.rest a.before z a.entry a.settled n.free);
+      risen = λ y s k r. omega (arith, ints, a.value, h.newest y a.before z s a.entry k a.settled n.free r);
+      least = λ w s k. omega (arith, ints, a.value, h.newest a.before w z a.entry s a.settled k n.free a.leads);
+      newest = λ y u s k free r. omega (arith, ints, a.value, h.newest y a.before u s a.entry k a.settled free r);
+      rest = λ u free. omega (arith, ints, a.value, h.rest a.before u a.entry a.settled free);
+      source = inr a;
+      short = omega (arith, a.depth, h.short a.before a.entry a.settled);
+    }
+
+start_fits : (lead : ℕ → ℕ → Type 0) (own : ℕ → ℤ) (xs : List (Option Settled)) (z : ℕ) (e : Settled) → IsSpreading lead own xs → IsStart lead own xs z e → Fits lead own xs z e
+start_fits lead own xs z e h n = record {
+  free = n.greatest.free;
+  above = omega (arith, ints, n.first.value);
+  risen = λ y s k r. absurd (n.none_led y z s k n.greatest.free r);
+  least = λ w s k. omega (arith, ints, n.first.value, h.rest w z s k n.greatest.free);
+  newest = λ y u s k free r. absurd (n.none_led y u s k free r);
+  rest = λ u free. omega (arith, ints, n.first.value, n.greatest.greatest u free);
+  source = inl n.first;
+  short = omega (arith, n.first.depth, free_zones-le xs);
+}
+
+-- the next zone, settled
+pub settle_next : (lead : ℕ → ℕ → Type 0) (own : ℕ → ℤ) (xs : List (Option Settled)) (z : ℕ) (e : Settled) → IsSpreading lead own xs → IsNext lead own xs z e → IsSpreading lead own (set xs z (Some e))
+settle_next lead own xs z e h (inl n) = settle lead own xs z e h (led_fits lead own xs z e h n)
+settle_next lead own xs z e h (inr n) = settle lead own xs z e h (start_fits lead own xs z e h n)
+
+pub next_free : (lead : ℕ → ℕ → Type 0) (own : ℕ → ℤ) (xs : List (Option Settled)) (z : ℕ) (e : Settled) → IsNext lead own xs z e → IsFree xs z
+next_free lead own xs z e (inl n) = n.free
+next_free lead own xs z e (inr n) = n.greatest.free
+
+entry_of_free : (n z : ℕ) (s : Settled) → entry_at (replicate n None) z ≡ Some s → ⊥
+entry_of_free zero z s k = absurd (cc)
+entry_of_free (suc n) zero s k = absurd (cc)
+entry_of_free (suc n) (suc z) s k = entry_of_free n z s k
+
+-- nothing settled yet
+pub spreading_none : (lead : ℕ → ℕ → Type 0) (own : ℕ → ℤ) (n : ℕ) → IsSpreading lead own (replicate n None)
+spreading_none lead own n = record {
+  above = λ z s k. absurd (entry_of_free n z s k);
+  rises = λ y z s t k l r. absurd (entry_of_free n y s k);
+  newest = λ y z u s t k l f r. absurd (entry_of_free n y s k);
+  rest = λ y u s k f. absurd (entry_of_free n y s k);
+  source = λ z s k. absurd (entry_of_free n z s k);
+  short = λ z s k. absurd (entry_of_free n z s k);
+}
+
+-- where no zone is free, all are settled
+pub all_settled : (xs : List (Option Settled)) → ((z : ℕ) → IsFree xs z → ⊥) → (z : ℕ) → z < length xs → (s : Settled) × (entry_at xs z ≡ Some s)
+all_settled xs none z h = by_entry (entry_at xs z) refl
+  where
+    by_entry : (e : Option Settled) → entry_at xs z ≡ e → (s : Settled) × (entry_at xs z ≡ Some s)
+    by_entry None k = absurd (none z (h, k))
+    by_entry (Some s) k = (s, k)

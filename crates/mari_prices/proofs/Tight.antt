@@ -1,0 +1,106 @@
+-- Bounds of prices, order by order.
+use Rattle.std.proofs.Common.{◌≡◌, ◌⊎◌, ℕ, ◌+◌, ◌<◌, ◌≤◌, ℤ, pos, neg_ℤ, ◌≤ℤ◌, List, [], ◌∷◌, length, take, get_or, zero, suc, arith, refl, sym, set, subst, inl, inr, get_or-set_same, get_or-set_other, ◌∙◌}
+use Rattle.std.proofs.lemmas.Int.{ints, clamps, by_lt_z}
+use Rattle.std.specs.Int.{int_max}
+use Rattle.std.proofs.lemmas.List.{take_all}
+use Rattle.std.proofs.lemmas.Bool.{cases_eq}
+use Rattle.mari_market.specs.declared.market.Order.{Order}
+use Rattle.mari_market.specs.Price.{cap}
+use Rattle.mari_market.specs.Sums.{AnyZip}
+use Rattle.mari_prices.specs.declared.bounds.End.{End}
+use Rattle.mari_prices.specs.Spread.{value_in}
+use Rattle.mari_prices.specs.Tightest.{SetsAt, SetsAtEnd, IsBoundBy, IsTightest, IsRaised, own_standing, signed}
+
+⊎_map : {A B C : Type 0} → A ⊎ B → (B → C) → A ⊎ C
+⊎_map (inl a) f = inl a
+⊎_map (inr b) f = inr (f b)
+
+⊎_second : {A B C : Type 0} → B ⊎ C → (A ⊎ B) ⊎ C
+⊎_second (inl b) = inl (inr b)
+⊎_second (inr c) = inr c
+
+⊎_assoc : {A B C D : Type 0} → A ⊎ D → (D → B ⊎ C) → (A ⊎ B) ⊎ C
+⊎_assoc (inl a) f = inl (inl a)
+⊎_assoc (inr d) f = ⊎_second (f d)
+
+AnyZip_kept : {X Y : Type 0} (P : X → Y → Type 0) (xs : List X) (ys : List Y) (i : ℕ) → AnyZip P (take i xs) (take i ys) → AnyZip P (take (i + 1) xs) (take (i + 1) ys)
+AnyZip_kept P xs ys zero p = absurd p
+AnyZip_kept P [] ys (suc i) p = absurd p
+AnyZip_kept P (x ∷ xs) [] (suc i) p = absurd p
+AnyZip_kept P (x ∷ xs) (y ∷ ys) (suc i) p =
+    let k : suc (i + 1) ≡ suc i + 1 = omega arith in
+    subst (λ (n : ℕ). AnyZip P (take n (x ∷ xs)) (take n (y ∷ ys))) k (⊎_map p (λ a. AnyZip_kept P xs ys i a))
+
+AnyZip_here : {X Y : Type 0} (P : X → Y → Type 0) (xs : List X) (ys : List Y) (i : ℕ) (d : X) (e : Y) → i < length xs → i < length ys → P (get_or xs i d) (get_or ys i e) → AnyZip P (take (i + 1) xs) (take (i + 1) ys)
+AnyZip_here P [] ys i d e h l p = absurd (omega arith)
+AnyZip_here P (x ∷ xs) [] i d e h l p = absurd (omega arith)
+AnyZip_here P (x ∷ xs) (y ∷ ys) zero d e h l p = inl p
+AnyZip_here P (x ∷ xs) (y ∷ ys) (suc i) d e h l p =
+    let k : suc (i + 1) ≡ suc i + 1 = omega arith in
+    subst (λ (n : ℕ). AnyZip P (take n (x ∷ xs)) (take n (y ∷ ys))) k (inr (AnyZip_here P xs ys i d e (omega arith) (omega arith) p))
+
+AnyZip_less : {X Y : Type 0} (P : X → Y → Type 0) (xs : List X) (ys : List Y) (i : ℕ) (d : X) (e : Y) → i < length xs → i < length ys → AnyZip P (take (i + 1) xs) (take (i + 1) ys) → AnyZip P (take i xs) (take i ys) ⊎ P (get_or xs i d) (get_or ys i e)
+AnyZip_less P [] ys i d e h l p = absurd (omega arith)
+AnyZip_less P (x ∷ xs) [] i d e h l p = absurd (omega arith)
+AnyZip_less P (x ∷ xs) (y ∷ ys) zero d e h l (inl p) = inr p
+AnyZip_less P (x ∷ xs) (y ∷ ys) zero d e h l (inr p) = absurd p
+AnyZip_less P (x ∷ xs) (y ∷ ys) (suc i) d e h l p =
+    let k : suc i + 1 ≡ suc (i + 1) = omega arith in
+    ⊎_assoc (subst (λ (n : ℕ). AnyZip P (take n (x ∷ xs)) (take n (y ∷ ys))) k p) (λ a. AnyZip_less P xs ys i d e (omega arith) (omega arith) a)
+
+-- no order yet
+pub tightest_none : (end : End) (os : List Order) (qs : List ℕ) (z : ℕ) (c : ℤ) → c ≡ neg_ℤ cap → IsTightest end (take 0 os) (take 0 qs) z c
+tightest_none end os qs z c e = record { bound = inl e; tightest = λ d b. none d b }
+  where
+    none : (d : ℤ) → IsBoundBy end (take 0 os) (take 0 qs) z d → d ≤ℤ c
+    none d (inl k) = omega (arith, ints)
+    none d (inr a) = absurd a
+
+-- one more order
+pub tightest_more : (end : End) (os : List Order) (qs : List ℕ) (i z : ℕ) (d : Order) (old new : ℤ) → i < length os → i < length qs → IsTightest end (take i os) (take i qs) z old → IsRaised end (get_or os i d) (get_or qs i 0) z old new → IsTightest end (take (i + 1) os) (take (i + 1) qs) z new
+tightest_more end os qs i z d old new h l t r = record { bound = bound r.from; tightest = λ c b. tightest c b }
+  where
+    lifted : (c : ℤ) → IsBoundBy end (take i os) (take i qs) z c → IsBoundBy end (take (i + 1) os) (take (i + 1) qs) z c
+    lifted c (inl e) = inl e
+    lifted c (inr a) = inr (AnyZip_kept (SetsAt end z c) os qs i a)
+
+    bound : (new ≡ old) ⊎ SetsAt end z new (get_or os i d) (get_or qs i 0) → IsBoundBy end (take (i + 1) os) (take (i + 1) qs) z new
+    bound (inl e) = subst (λ (c : ℤ). IsBoundBy end (take (i + 1) os) (take (i + 1) qs) z c) (sym e) (lifted old t.bound)
+    bound (inr s) = inr (AnyZip_here (SetsAt end z new) os qs i d 0 h l s)
+
+    by : (c : ℤ) → AnyZip (SetsAt end z c) (take i os) (take i qs) ⊎ SetsAt end z c (get_or os i d) (get_or qs i 0) → c ≤ℤ new
+    by c (inl a) = omega (arith, ints, t.tightest c (inr a), r.kept)
+    by c (inr s) = r.met c s
+
+    tightest : (c : ℤ) → IsBoundBy end (take (i + 1) os) (take (i + 1) qs) z c → c ≤ℤ new
+    tightest c (inl e) = omega (arith, ints, t.tightest c (inl e), r.kept)
+    tightest c (inr a) = by c (AnyZip_less (SetsAt end z c) os qs i d 0 h l a)
+
+pub tightest_all : (end : End) (os : List Order) (qs : List ℕ) (i z : ℕ) (c : ℤ) → length os ≤ i → length qs ≤ i → IsTightest end (take i os) (take i qs) z c → IsTightest end os qs z c
+tightest_all end os qs i z c h l t = subst (λ (ys : List ℕ). IsTightest end os ys z c) (take_all i qs l) (subst (λ (xs : List Order). IsTightest end xs (take i qs) z c) (take_all i os h) t)
+
+-- an order sets nothing in other zones
+elsewhere : (end : End) (o : Order) (q z : ℕ) (old : ℤ) → (z ≡ o.zone → ⊥) → IsRaised end o q z old old
+elsewhere end o q z old apart = record { kept = omega (arith, ints); met = λ c s. absurd (apart (sym s.zone)); from = inl refl }
+
+-- and raises its own zone's bound
+pub raised_at : (end : End) (o : Order) (q : ℕ) (values : List ℤ) (new : ℤ) → o.zone < length values → IsRaised end o q o.zone (value_in values o.zone) new → (z : ℕ) → IsRaised end o q z (value_in values z) (value_in (set values o.zone new) z)
+raised_at end o q values new h r z = elim (cases_eq z o.zone) [
+  | inl same ↦
+      let at : get_or (set values o.zone new) o.zone (pos 0) ≡ new = get_or-set_same values o.zone new (pos 0) h in
+      subst (λ (x : ℕ). IsRaised end o q x (value_in values x) (value_in (set values o.zone new) x)) (sym same) (subst (λ (v : ℤ). IsRaised end o q o.zone (value_in values o.zone) v) (sym at) r)
+  | inr other ↦ subst (λ (v : ℤ). IsRaised end o q z (value_in values z) v) (sym (get_or-set_other values o.zone z new (pos 0) other)) (elsewhere end o q z (value_in values z) other)
+]
+
+-- the greater of the old bound and the order's
+pub raise_to : (end : End) (o : Order) (q : ℕ) (old own new : ℤ) → own ≡ signed end o.price.0 → SetsAtEnd end (own_standing o.gate q) o.side o.greatest q → new ≡ int_max old own → IsRaised end o q o.zone old new
+raise_to end o q old own new e sets k = record {
+  kept = omega (arith, ints, clamps);
+  met = λ c s. omega (arith, ints, clamps, s.price);
+  from = by_lt_z old own
+      (λ l. let at : new ≡ own = omega (arith, ints, clamps) in inr (record { zone = refl; price = sym e ∙ sym at; sets = sets }))
+      (λ l. inl (omega (arith, ints, clamps)));
+}
+
+pub raised_read : (end : End) (o : Order) (q z : ℕ) (old new old' new' : ℤ) → old ≡ old' → new ≡ new' → IsRaised end o q z old new → IsRaised end o q z old' new'
+raised_read end o q z old new old' new' e k r = subst (λ (v : ℤ). IsRaised end o q z old' v) k (subst (λ (v : ℤ). IsRaised end o q z v new) e r)

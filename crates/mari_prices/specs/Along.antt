@@ -1,0 +1,28 @@
+-- How bounds of prices, and areas, spread along borders.
+use Rattle.std.specs.Prelude.{◌≡◌, ◌⊎◌, ℕ, ℤ, pos, neg_ℤ, ◌<ℤ◌, List}
+use Rattle.mari_market.specs.declared.market.Border.{Border}
+use Rattle.mari_market.specs.Area.{IsUncongested}
+use Rattle.mari_market.specs.Sums.{AnyZip}
+use Rattle.mari_prices.specs.declared.along.Along.{Along}
+use Rattle.mari_prices.specs.declared.along.Along.TheVariants.{Rising, Falling, Joined}
+
+-- whether the border leads from its first zone to its second: lower bounds go where prices are at least as high, upper
+-- bounds where they are at least as low, and areas over uncongested borders
+abbrev pub LeadsOn : Along → Border → ℤ → Type 0
+LeadsOn Rising b f = neg_ℤ (pos b.back) <ℤ f
+LeadsOn Falling b f = f <ℤ pos b.limit
+LeadsOn Joined b f = IsUncongested b f
+
+-- whether it leads from its second zone to its first
+abbrev pub LeadsBack : Along → Border → ℤ → Type 0
+LeadsBack Rising b f = f <ℤ pos b.limit
+LeadsBack Falling b f = neg_ℤ (pos b.back) <ℤ f
+LeadsBack Joined b f = IsUncongested b f
+
+-- the border leads from zone y to zone z
+abbrev pub LeadsOver : Along → ℕ → ℕ → Border → ℤ → Type 0
+LeadsOver along y z b f = ((b.from ≡ y) × (b.to ≡ z) × LeadsOn along b f) ⊎ ((b.to ≡ y) × (b.from ≡ z) × LeadsBack along b f)
+
+-- some border does
+abbrev pub LeadsTo : Along → List Border → List ℤ → ℕ → ℕ → Type 0
+LeadsTo along bs fs y z = AnyZip (LeadsOver along y z) bs fs

@@ -1,0 +1,5 @@
+pub mod Along
+pub mod Spread
+pub mod Tightest
+pub mod Ends
+pub mod Answers

@@ -1,0 +1,43 @@
+-- The tightest bound of each zone's price, at the lower end of its interval or, with signs turned, at the upper end.
+use Rattle.std.specs.Prelude.{◌≡◌, ◌⊎◌, ℕ, nat_lt, ℤ, neg_ℤ, ◌≤ℤ◌, List, Option}
+use Rattle.mari_market.specs.declared.market.Side.{Side}
+use Rattle.mari_market.specs.declared.market.Order.{Order}
+use Rattle.mari_market.specs.Consistent.{Standing, standing_of, SetsLower, SetsUpper}
+use Rattle.mari_market.specs.Price.{cap}
+use Rattle.mari_market.specs.Sums.{AnyZip}
+use Rattle.mari_prices.specs.declared.bounds.End.{End}
+use Rattle.mari_prices.specs.declared.bounds.End.TheVariants.{Least, Greatest}
+
+-- upper bounds of prices are lower bounds of the prices with their signs turned
+abbrev pub signed : End → ℤ → ℤ
+signed Least c = c
+signed Greatest c = neg_ℤ c
+
+abbrev pub SetsAtEnd : End → Standing → Side → ℕ → ℕ → Type 0
+SetsAtEnd Least s side greatest q = SetsLower s side greatest q
+SetsAtEnd Greatest s side greatest q = SetsUpper s side greatest q
+
+-- an order of a gate is of an open one where it runs
+abbrev pub own_standing : Option ℕ → ℕ → Standing
+own_standing gate q = standing_of (λ _. nat_lt 0 q) gate
+
+-- the order is of zone z and sets the bound c
+pub record SetsAt (end : End) (z : ℕ) (c : ℤ) (o : Order) (q : ℕ) : Type 0 where
+  pub zone : o.zone ≡ z
+  pub price : signed end o.price.0 ≡ c
+  pub sets : SetsAtEnd end (own_standing o.gate q) o.side o.greatest q
+
+-- c bounds the zone's price: by the cap, or by an order
+abbrev pub IsBoundBy : End → List Order → List ℕ → ℕ → ℤ → Type 0
+IsBoundBy end os qs z c = (c ≡ neg_ℤ cap) ⊎ AnyZip (SetsAt end z c) os qs
+
+-- and no other bound is tighter
+pub record IsTightest (end : End) (os : List Order) (qs : List ℕ) (z : ℕ) (c : ℤ) : Type 0 where
+  pub bound : IsBoundBy end os qs z c
+  pub tightest : (d : ℤ) → IsBoundBy end os qs z d → d ≤ℤ c
+
+-- the zone's bound before and after one order
+pub record IsRaised (end : End) (o : Order) (q z : ℕ) (old new : ℤ) : Type 0 where
+  pub kept : old ≤ℤ new
+  pub met : (c : ℤ) → SetsAt end z c o q → c ≤ℤ new
+  pub from : (new ≡ old) ⊎ SetsAt end z new o q

@@ -1,0 +1,144 @@
+//! The ends of all zones' intervals, and the chain that shows that there are none.
+
+ghost use Rattle.std.specs.Prelude.{◌≡◌, ◌<◌, ◌≤◌, IsTrue, ◌↔◌, false, None, length, IfOk, IfSome, MatchOption, ◌<ℤ◌, neg_ℤ, Some, ℕ};
+ghost use Rattle.std.specs.List.{All};
+ghost use Rattle.mari_market.specs.Market.{IsValid};
+ghost use Rattle.mari_market.specs.Optimal.{IsFeasible};
+ghost use Rattle.mari_market.specs.Price.{IsPrice};
+ghost use Rattle.mari_prices.specs.Ends.{along_of, ArePriced, ArePricesOf, AreTrails, AreUncontradicted, IsContradicted, IsEnd, IsTrailTo};
+ghost use Rattle.mari_prices.specs.Spread.{entry_at};
+ghost use Rattle.mari_prices.specs.Tightest.{signed};
+ghost use Rattle.mari_prices.specs.declared.spread.Settled.{Settled as SettledZone};
+
+use crate::along::Along;
+use crate::bounds::{End, tightest};
+use crate::spread::{Settled, spread};
+use mari_market::{Activation, Market, Prices};
+use mari_units::{Cents, Items};
+use std::alloc::{AllocError, Global};
+
+/// The tightest bounds of all zones' prices at one end, and what they become as they spread along borders.
+#[derive(Drop)]
+pub(crate) struct Ends {
+    pub(crate) bounds: Vec<i64>,
+    pub(crate) settled: Vec<Option<Settled>>,
+}
+
+impl End {
+    fn along(self) -> Along
+        ensures { result ≡ along_of self }
+    {
+        match self {
+            End::Least => Along::Rising,
+            End::Greatest => Along::Falling,
+        }
+    }
+
+    fn price(self, value: i64) -> Cents
+        requires { IsPrice value }
+        ensures { result.0 ≡ signed self value }
+    {
+        match self {
+            End::Least => Cents(value),
+            End::Greatest => Cents(-value),
+        }
+    }
+}
+
+pub(crate) fn ends_of(
+    alloc: Global,
+    market: &Market,
+    activation: &Activation,
+    end: End,
+) -> Result<Ends, AllocError>
+    requires valid { IsValid market.now }
+    requires feasible { IsFeasible market.now activation.now }
+    ensures { IfOk result (λ e. IsEnd end market.now activation.now e.bounds.items e.settled.items) }
+{
+    let (orders, mw) = (market.orders.as_slice(), activation.mw.as_slice());
+    let bounds = tightest(alloc, market.zones, orders, mw, end)?;
+    let (borders, flow) = (market.borders.as_slice(), activation.flow.as_slice());
+    let settled = spread(alloc, &bounds, borders, flow, end.along())?;
+    Ok(Ends { bounds, settled })
+}
+
+/// The prices that the values stand for.
+pub(crate) fn prices_of(
+    alloc: Global,
+    settled: &[Option<Settled>],
+    end: End,
+) -> Result<Prices, AllocError>
+    requires { ArePriced settled.now }
+    ensures { IfOk result (λ p. ArePricesOf end settled.now p.cents) }
+{
+    let mut cents = Vec::new(alloc);
+    for entry in settled {
+        match entry {
+            Some(zone) => cents.push(end.price(zone.value))?,
+            None => unreachable!(),
+        }
+    }
+    Ok(Prices {
+        cents: Items::of(cents),
+    })
+}
+
+// Whether a least price is above the upper bound, which stands with its sign turned.
+fn is_above(entry: &Option<Settled>, upper: i64) -> bool
+    requires upper { IsPrice upper }
+    requires value { IfSome entry.now (λ s. IsPrice s.value) }
+    ensures none { entry.now ≡ None → result ≡ false }
+    ensures some { (s : SettledZone) → entry.now ≡ Some s → (IsTrue result ↔ (neg_ℤ upper <ℤ s.value)) }
+{
+    match entry {
+        Some(zone) => zone.value > -upper,
+        None => false,
+    }
+}
+
+/// A zone whose least price is above its upper bound.
+pub(crate) fn contradicted(settled: &[Option<Settled>], uppers: &[i64]) -> Option<u32>
+    requires lengths { length uppers.now ≡ length settled.now }
+    requires few { length settled.now ≤ 64 }
+    requires priced { ArePriced settled.now }
+    requires uppers { All IsPrice uppers.now }
+    ensures { MatchOption result (AreUncontradicted (length settled.now) settled.now uppers.now) (IsContradicted settled.now uppers.now) }
+{
+    for (zone, entry) in settled.iter().enumerate() {
+        if is_above(entry, uppers[zone]) {
+            return Some(zone as u32);
+        }
+    }
+    None
+}
+
+// The zone that settled this one.
+fn previous_of(settled: &[Option<Settled>], zone: u32) -> Option<u32>
+    requires { zone < length settled.now }
+    ensures { (s : SettledZone) → entry_at settled.now zone ≡ Some s → result ≡ s.previous }
+{
+    match settled[zone as usize] {
+        Some(entry) => entry.previous,
+        None => None,
+    }
+}
+
+/// The chain of zones along which the last one got its value.
+pub(crate) fn chain_to(
+    alloc: Global,
+    settled: &[Option<Settled>],
+    last: u32,
+) -> Result<Vec<u32>, AllocError>
+    requires last { last < length settled.now }
+    requires trails { AreTrails settled.now }
+    ensures { IfOk result (λ v. IsTrailTo settled.now last v.items) }
+{
+    let mut chain = vec![in alloc; last]?;
+    let mut first = last;
+    while let Some(before) = previous_of(settled, first) {
+        chain.push(before)?;
+        first = before;
+    }
+    chain.reverse();
+    Ok(chain)
+}

@@ -1,0 +1,74 @@
+//! The intervals of consistent prices.
+
+ghost use Rattle.std.specs.Prelude.{◌≡◌, ◌≤◌, ◌<◌, ℕ, List, length, IfOk, OnOk, IfErr};
+ghost use Rattle.std.specs.List.{All};
+ghost use Rattle.mari_market.specs.Conflict.{IsContradiction};
+ghost use Rattle.mari_market.specs.Interval.{AreGreatestPrices, AreLeastPrices};
+ghost use Rattle.mari_market.specs.Market.{IsValid};
+ghost use Rattle.mari_market.specs.Optimal.{IsConsistent, IsFeasible};
+ghost use Rattle.mari_prices.specs.Answers.{OnConflict};
+ghost use Rattle.mari_units.specs.declared.Cents.{Cents};
+
+use crate::bounds::End;
+use crate::ends::{chain_to, contradicted, ends_of, prices_of};
+use mari_market::{Activation, Market, Prices};
+use mari_units::Items;
+use std::alloc::{AllocError, Global};
+
+/// For each zone the least and the greatest of its consistent prices, in cents per MWh.
+#[derive(Drop)]
+pub struct Intervals {
+    pub least: Prices,
+    pub greatest: Prices,
+}
+
+/// Why there are no intervals: no prices are consistent, as a chain of zones shows, or memory was wanted and not there.
+#[derive(Debug, Drop)]
+pub enum PriceFault {
+    Conflict(Items<u32>),
+    Memory,
+}
+
+impl From<AllocError> for PriceFault {
+    ghost use Rattle.std.specs.Prelude.{◌≡◌};
+    ghost use Rattle.mari_prices.specs.declared.intervals.PriceFault.TheVariants.{Memory};
+
+    ghost from_gives = { λ _ fault. fault ≡ Memory };
+
+    fn from(_: AllocError) -> Self {
+        PriceFault::Memory
+    }
+}
+
+/// The intervals of the prices that are consistent with an activation, by the marginal pricing of Article 30 of Regulation
+/// (EU) 2017/2195 in whole MW and whole cents per MWh.
+///
+/// A conflict comes exactly where no prices are consistent. From each zone of its chain to the next, some border makes the
+/// next price at least the former, but the first zone has a lower bound above an upper bound of the last.
+/// Time is that of the orders, and of zones times borders.
+pub fn price_test(
+    alloc: Global,
+    market: &Market,
+    activation: &Activation,
+) -> Result<Intervals, PriceFault>
+    requires valid { IsValid market.now }
+    requires feasible { IsFeasible market.now activation.now }
+    ensures some { OnOk result ((ps : List Cents) × IsConsistent market.now activation.now ps) }
+    ensures least { IfOk result (λ i. AreLeastPrices market.now activation.now i.least.cents) }
+    ensures greatest { IfOk result (λ i. AreGreatestPrices market.now activation.now i.greatest.cents) }
+    ensures none { IfErr result (λ e. OnConflict e (λ _. (ps : List Cents) → IsConsistent market.now activation.now ps → ⊥)) }
+    ensures chain { IfErr result (λ e. OnConflict e (IsContradiction market.now activation.now)) }
+    ensures short { IfErr result (λ e. OnConflict e (λ chain. length chain ≤ market.now.zones)) }
+    ensures zones { IfErr result (λ e. OnConflict e (All (λ z. z < market.now.zones))) }
+{
+    let least = ends_of(alloc, market, activation, End::Least)?;
+    let greatest = ends_of(alloc, market, activation, End::Greatest)?;
+    if let Some(zone) = contradicted(&least.settled, &greatest.bounds) {
+        let chain = chain_to(alloc, &least.settled, zone)?;
+        return Err(PriceFault::Conflict(Items::of(chain)));
+    }
+    Ok(Intervals {
+        least: prices_of(alloc, &least.settled, End::Least)?,
+        greatest: prices_of(alloc, &greatest.settled, End::Greatest)?,
+    })
+}

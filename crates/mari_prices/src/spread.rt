@@ -1,0 +1,191 @@
+//! Values that spread from zone to zone along borders.
+
+ghost use Rattle.std.specs.Prelude.{◌≡◌, ◌⊎◌, ◌≤◌, ◌<◌, ◌≤ℤ◌, true, length, Some, IfOk, MatchOption, IfSome};
+ghost use Rattle.std.specs.Option.{IfNone};
+ghost use Rattle.std.specs.List.{All};
+ghost use Rattle.mari_prices.specs.Along.{LeadsTo};
+ghost use Rattle.mari_prices.specs.Spread.{AreShort, IsGreatestBefore, IsLed, IsLedOver, IsNext, IsNotPassed, IsPassed, NoneFreeBefore, NoneLed, NoneOver, SpreadsAlong, value_in};
+
+use crate::along::Along;
+use mari_market::Border;
+use std::alloc::{AllocError, Global};
+
+/// What a zone gets: a value, from the zone before it, if another zone led to it, along a chain of so many zones.
+#[derive(Clone, Copy, Debug, Drop, PartialEq, Eq)]
+pub(crate) struct Settled {
+    pub(crate) value: i64,
+    pub(crate) previous: Option<u32>,
+    pub(crate) depth: u32,
+}
+
+// What the second zone gets from the first, if that is settled and the second is free.
+fn passed_on(settled: &[Option<Settled>], from: u32, to: u32) -> Option<Settled>
+    requires from { from < length settled.now }
+    requires to { to < length settled.now }
+    requires short { AreShort settled.now }
+    ensures { MatchOption result (IsNotPassed settled.now from to) (IsPassed settled.now from to) }
+{
+    if settled[to as usize].is_some() {
+        return None;
+    }
+    match settled[from as usize] {
+        Some(before) => Some(Settled {
+            value: before.value,
+            previous: Some(from),
+            depth: before.depth + 1,
+        }),
+        None => None,
+    }
+}
+
+// The same, if the border leads that way.
+fn led(leads: bool, settled: &[Option<Settled>], from: u32, to: u32) -> Option<Settled>
+    requires from { from < length settled.now }
+    requires to { to < length settled.now }
+    requires short { AreShort settled.now }
+    ensures none { IfNone result (leads ≡ true → IsNotPassed settled.now from to) }
+    ensures some { IfSome result (λ s. (leads ≡ true) × IsPassed settled.now from to s) }
+{
+    if leads {
+        passed_on(settled, from, to)
+    } else {
+        None
+    }
+}
+
+// A free zone to which the border leads from a settled one, and what it gets.
+fn led_over(
+    settled: &[Option<Settled>],
+    border: &Border,
+    flow: i64,
+    along: Along,
+) -> Option<(u32, Settled)>
+    requires from { border.now.from < length settled.now }
+    requires to { border.now.to < length settled.now }
+    requires short { AreShort settled.now }
+    ensures none { IfNone result (NoneOver along settled.now border.now flow) }
+    ensures some { IfSome result (λ p. IsLedOver along settled.now border.now flow p.0 p.1) }
+{
+    match led(
+        along.leads_on(border, flow),
+        settled,
+        border.from,
+        border.to,
+    ) {
+        Some(entry) => Some((border.to, entry)),
+        None => match led(
+            along.leads_back(border, flow),
+            settled,
+            border.to,
+            border.from,
+        ) {
+            Some(entry) => Some((border.from, entry)),
+            None => None,
+        },
+    }
+}
+
+// A free zone to which some border leads from a settled one, and what it gets.
+fn next_led(
+    settled: &[Option<Settled>],
+    borders: &[Border],
+    flow: &[i64],
+    along: Along,
+) -> Option<(u32, Settled)>
+    requires lengths { length flow.now ≡ length borders.now }
+    requires ends { All (λ b. (b.from < length settled.now) × (b.to < length settled.now)) borders.now }
+    requires short { AreShort settled.now }
+    ensures none { IfNone result (NoneLed (LeadsTo along borders.now flow.now) settled.now) }
+    ensures some { IfSome result (λ p. IsLed (LeadsTo along borders.now flow.now) settled.now p.0 p.1) }
+{
+    for (i, border) in borders.iter().enumerate() {
+        if let Some(next) = led_over(settled, border, flow[i], along) {
+            return Some(next);
+        }
+    }
+    None
+}
+
+// The zone of the greater value, where there are two.
+fn greater(values: &[i64], best: Option<u32>, zone: u32) -> u32
+    requires zone { zone < length values.now }
+    requires best { IfSome best (λ z. z < length values.now) }
+    ensures one { (result ≡ zone) ⊎ (best ≡ Some result) }
+    ensures zone { value_in values.now zone ≤ℤ value_in values.now result }
+    ensures best { IfSome best (λ z. value_in values.now z ≤ℤ value_in values.now result) }
+{
+    match best {
+        Some(best) if values[best as usize] >= values[zone as usize] => best,
+        _ => zone,
+    }
+}
+
+// The free zone of the greatest value.
+fn greatest_free(settled: &[Option<Settled>], values: &[i64]) -> Option<u32>
+    requires lengths { length values.now ≡ length settled.now }
+    requires few { length settled.now ≤ 64 }
+    ensures { MatchOption result (NoneFreeBefore (length settled.now) settled.now) (IsGreatestBefore (length settled.now) (value_in values.now) settled.now) }
+{
+    let mut best = None;
+    for (zone, entry) in settled.iter().enumerate() {
+        if entry.is_none() {
+            best = Some(greater(values, best, zone as u32));
+        }
+    }
+    best
+}
+
+// The next zone to settle, and what it gets.
+fn next(
+    settled: &[Option<Settled>],
+    values: &[i64],
+    borders: &[Border],
+    flow: &[i64],
+    along: Along,
+) -> Option<(u32, Settled)>
+    requires values { length values.now ≡ length settled.now }
+    requires lengths { length flow.now ≡ length borders.now }
+    requires ends { All (λ b. (b.from < length settled.now) × (b.to < length settled.now)) borders.now }
+    requires few { length settled.now ≤ 64 }
+    requires short { AreShort settled.now }
+    ensures none { IfNone result (NoneFreeBefore (length settled.now) settled.now) }
+    ensures some { IfSome result (λ p. IsNext (LeadsTo along borders.now flow.now) (value_in values.now) settled.now p.0 p.1) }
+{
+    if let Some(next) = next_led(settled, borders, flow, along) {
+        return Some(next);
+    }
+    match greatest_free(settled, values) {
+        Some(zone) => Some((
+            zone,
+            Settled {
+                value: values[zone as usize],
+                previous: None,
+                depth: 1,
+            },
+        )),
+        None => None,
+    }
+}
+
+/// For each zone the greatest of its own value and of the values of all zones from which borders lead to it.
+///
+/// Zones are settled one by one, from the greatest value down, in time of zones times borders and zones.
+pub(crate) fn spread(
+    alloc: Global,
+    values: &[i64],
+    borders: &[Border],
+    flow: &[i64],
+    along: Along,
+) -> Result<Vec<Option<Settled>>, AllocError>
+    requires few { length values.now ≤ 64 }
+    requires lengths { length flow.now ≡ length borders.now }
+    requires ends { All (λ b. (b.from < length values.now) × (b.to < length values.now)) borders.now }
+    ensures one_each { IfOk result (λ v. length v.items ≡ length values.now) }
+    ensures spread { IfOk result (λ v. SpreadsAlong along borders.now flow.now values.now v.items) }
+{
+    let mut settled = vec![in alloc; None; values.len()]?;
+    while let Some((zone, entry)) = next(&settled, values, borders, flow, along) {
+        settled[zone as usize] = Some(entry);
+    }
+    Ok(settled)
+}

@@ -1,0 +1,33 @@
+-- What a certificate that holds says of the activations below its prefix.
+use Rattle.std.proofs.Common.{◌≡◌, Bool, ℕ, ◌≤◌, ℤ, ◌≤ℤ◌, List, [], ◌∷◌, take, zero, suc, arith, subst, sym}
+use Rattle.std.proofs.lemmas.Int.{ints}
+use Rattle.mari_market.specs.declared.market.Market.{Market}
+use Rattle.mari_market.specs.declared.activation.Activation.{Activation}
+use Rattle.mari_market.specs.declared.prefix.Prefix.{Prefix}
+use Rattle.mari_market.specs.declared.certificate.Leaf.{Leaf as LeafRecord}
+use Rattle.mari_market.specs.declared.certificate.Leaf.TheVariants.{Bound, Cut, Conflict}
+use Rattle.mari_market.specs.Activation.{is_open, welfare_of, gate_word_of}
+use Rattle.mari_market.specs.Market.{IsValid}
+use Rattle.mari_market.specs.Optimal.{IsAdmissible}
+use Rattle.mari_market.specs.Prefix.{word_of, bounds_of_word}
+use Rattle.mari_market.specs.Tree.{LeafHolds}
+use Rattle.mari_market.proofs.Words.{Begins, BeginsFrom, begins_own}
+use Rattle.mari_market.proofs.Duality.{weak_duality}
+use Rattle.mari_market.proofs.Cuts.{cut_is_empty}
+use Rattle.mari_market.proofs.Conflicts.{conflict_is_empty}
+use Rattle.mari_market.proofs.Search.{within_word}
+
+begins_take : (k n : ℕ) (word : List Bool) (opens : ℕ → Bool) → BeginsFrom k word opens → BeginsFrom k (take n word) opens
+begins_take k zero word opens b = tt
+begins_take k (suc n) [] opens b = tt
+begins_take k (suc n) (c ∷ cs) opens b = (b.0, begins_take (suc k) n cs opens b.1)
+
+leaf_bounds : (m : Market) (w : ℤ) (word : List Bool) (leaf : LeafRecord) (a : Activation) → IsValid m → LeafHolds m w word leaf → IsAdmissible m a → Begins word (is_open m a) → welfare_of m a ≤ℤ w
+leaf_bounds m w word (Bound ps) a v h adm begun = omega (arith, ints, weak_duality (bounds_of_word m word) m a ps.cents v (within_word m a word adm.feasible begun), h.value)
+leaf_bounds m w word (Cut cut) a v h adm begun = absurd (cut_is_empty (bounds_of_word m word) m a cut.side cut.zones v (within_word m a word adm.feasible begun) h.side)
+leaf_bounds m w word (Conflict conflict) a v h adm begun = absurd (conflict_is_empty m word conflict a v h adm begun)
+
+-- no admissible activation whose gates begin as the prefix says is better than the cutoff
+pub leaf_bounds_below : (m : Market) (w : ℤ) (x : Prefix) (n : ℕ) (leaf : LeafRecord) (a : Activation) → IsValid m → LeafHolds m w (word_of x) leaf → IsAdmissible m a → take n (gate_word_of m a) ≡ word_of x → welfare_of m a ≤ℤ w
+leaf_bounds_below m w x n leaf a v h adm e =
+    leaf_bounds m w (word_of x) leaf a v h adm (subst (λ (word : List Bool). Begins word (is_open m a)) e (begins_take 0 n (gate_word_of m a) (is_open m a) (begins_own m a)))

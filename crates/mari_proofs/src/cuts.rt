@@ -1,0 +1,149 @@
+//! Cuts: sets of zones that have too much energy, or too little, for any activation to balance.
+
+ghost use Rattle.std.specs.Prelude.{◌≡◌, ◌↔◌, ℕ, ℤ, pos, ◌+ℤ◌, ◌≤ℤ◌, neg_ℤ, ◌≤◌, ◌<◌, length, IsTrue, IfSome};
+ghost use Rattle.std.specs.List.{All};
+ghost use Rattle.mari_market.specs.Bounds.{span_in};
+ghost use Rattle.mari_market.specs.Cut.{is_in, IsRising, IsCut, CannotBalance};
+ghost use Rattle.mari_market.specs.Market.{IsValid, IsValidOrder, IsValidBorder};
+ghost use Rattle.mari_market.specs.Prefix.{bounds_at, IsFeasiblePrefix};
+ghost use Rattle.mari_market.specs.Sums.{int_sum};
+ghost use Rattle.mari_gates.specs.GateTable.{state_in};
+ghost use Rattle.mari_proofs.specs.NetInjections.{net_put, put_of, carried_of, Exceeds};
+
+use mari_gates::{GateStates, states_at};
+use mari_market::{Border, Cut, CutSide, Market, Order, Prefix, Side};
+
+/// Whether zone numbers rise strictly and are all there.
+fn are_rising(zones: &[u32], count: u32) -> bool
+    ensures { IsTrue result ↔ IsRising 0 count zones.now }
+{
+    let mut least = 0;
+    for zone in zones {
+        if *zone < least || *zone >= count {
+            return false;
+        }
+        least = *zone + 1;
+    }
+    true
+}
+
+/// Whether the zone is one of the set.
+fn is_in(zones: &[u32], zone: u32) -> bool
+    ensures { result ≡ is_in zones.now zone }
+{
+    zones.iter().any(|other| *other == zone)
+}
+
+/// The least net injection of an order within its bounds, or the greatest.
+fn net_put(side: CutSide, order: &Order, span: (u32, u32)) -> i64
+    requires least { span.0 ≤ 99999 }
+    requires greatest { span.1 ≤ 99999 }
+    ensures value { result ≡ net_put side order.now.side (record { lo = span.0; hi = span.1 }) }
+    ensures low { neg_ℤ (pos 100000) ≤ℤ result }
+    ensures high { result ≤ℤ pos 100000 }
+{
+    match (side, order.side) {
+        (CutSide::Out, Side::Inject) => i64::from(span.0),
+        (CutSide::Out, Side::Withdraw) => -i64::from(span.1),
+        (CutSide::In, Side::Inject) => i64::from(span.1),
+        (CutSide::In, Side::Withdraw) => -i64::from(span.0),
+    }
+}
+
+/// What an order of the set puts in at least, or at most; and 0 of any other.
+fn order_put(side: CutSide, zones: &[u32], order: &Order, states: &GateStates) -> i64
+    requires { IsValidOrder 64 512 order.now }
+    ensures value { result ≡ put_of side (span_in (state_in states.now)) zones.now order.now }
+    ensures low { neg_ℤ (pos 100000) ≤ℤ result }
+    ensures high { result ≤ℤ pos 100000 }
+{
+    if is_in(zones, order.zone) {
+        net_put(side, order, states.span(order))
+    } else {
+        0
+    }
+}
+
+/// The most that a border carries out of the set, or into it.
+fn border_carries(side: CutSide, zones: &[u32], border: &Border) -> i64
+    requires { IsValidBorder 64 border.now }
+    ensures value { result ≡ carried_of side zones.now border.now }
+    ensures low { pos 0 ≤ℤ result }
+    ensures high { result ≤ℤ pos 200000 }
+{
+    let limit = match (is_in(zones, border.from), is_in(zones, border.to)) {
+        (true, false) => match side {
+            CutSide::Out => border.limit,
+            CutSide::In => border.back,
+        },
+        (false, true) => match side {
+            CutSide::Out => border.back,
+            CutSide::In => border.limit,
+        },
+        (true, true) | (false, false) => 0,
+    };
+    i64::from(limit)
+}
+
+/// What the orders of the set put in at least, or at most.
+fn orders_put(side: CutSide, zones: &[u32], orders: &[Order], states: &GateStates) -> i64
+    requires few { length orders.now ≤ 4608 }
+    requires orders { All (IsValidOrder 64 512) orders.now }
+    ensures value { result ≡ int_sum (put_of side (span_in (state_in states.now)) zones.now) orders.now }
+    ensures low { neg_ℤ (pos 460800000) ≤ℤ result }
+    ensures high { result ≤ℤ pos 460800000 }
+{
+    let mut total = 0;
+    for order in orders {
+        total += order_put(side, zones, order, states);
+    }
+    total
+}
+
+/// The most that the borders carry out of the set, or into it.
+fn borders_carry(side: CutSide, zones: &[u32], borders: &[Border]) -> i64
+    requires few { length borders.now ≤ 256 }
+    requires borders { All (IsValidBorder 64) borders.now }
+    ensures value { result ≡ int_sum (carried_of side zones.now) borders.now }
+    ensures low { pos 0 ≤ℤ result }
+    ensures high { result ≤ℤ pos 51200000 }
+{
+    let mut total = 0;
+    for border in borders {
+        total += border_carries(side, zones, border);
+    }
+    total
+}
+
+/// Whether what is put in is more than what can leave, or less than the negative of what can enter.
+fn exceeds(side: CutSide, put: i64, carried: i64) -> bool
+    requires low { pos 0 ≤ℤ carried }
+    requires high { carried ≤ℤ pos 51200000 }
+    ensures { IsTrue result ↔ Exceeds side put carried }
+{
+    match side {
+        CutSide::Out => carried < put,
+        CutSide::In => put < -carried,
+    }
+}
+
+/// Whether the set has more than can leave it, or lacks more than can enter it.
+fn cannot_balance(market: &Market, states: &GateStates, side: CutSide, zones: &[u32]) -> bool
+    requires { IsValid market.now }
+    ensures { IsTrue result ↔ CannotBalance (span_in (state_in states.now)) market.now side zones.now }
+{
+    let put = orders_put(side, zones, market.orders.as_slice(), states);
+    let carried = borders_carry(side, zones, market.borders.as_slice());
+    exceeds(side, put, carried)
+}
+
+/// Whether a cut holds at a prefix.
+pub(crate) fn is_cut(market: &Market, prefix: &Prefix, cut: &Cut) -> bool
+    requires market { IsValid market.now }
+    requires prefix { IsFeasiblePrefix market.now prefix.now }
+    ensures { IsTrue result ↔ IsCut (bounds_at market.now prefix.now) market.now cut.now }
+{
+    let zones = cut.zones.as_slice();
+    are_rising(zones, market.zones)
+        && cannot_balance(market, &states_at(market, prefix), cut.side, zones)
+}

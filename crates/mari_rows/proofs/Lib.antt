@@ -1,0 +1,7 @@
+pub mod BookLemmas
+pub mod FirstLemmas
+pub mod FirstMeaning
+pub mod NameLemmas
+pub mod PlaceLemmas
+pub mod RecordLemmas
+pub mod RowLemmas

@@ -1,0 +1,77 @@
+-- Rows, their fields and the first fault among them.
+use Rattle.std.proofs.Common.{◌≡◌, ◌+◌, ◌==◌, ℕ, suc, zero, Bool, true, false, List, [], ◌∷◌, ◌++◌, Option, Some, None, Result, Ok, Err, take, length, refl, sym, arith, IsUtf8, All, if◌then◌else◌}
+use Rattle.std.specs.Prelude.{MatchResult, is_ok}
+use Rattle.std.specs.List.{list_all}
+use Rattle.std.specs.Option.{option_or}
+use Rattle.std.specs.Str.{is_utf8}
+use Rattle.std.proofs.lemmas.Bool.{eqb-true}
+use Rattle.std.proofs.lemmas.List.Elements.{All-cons, All-nil}
+use Rattle.std.proofs.lemmas.Str.{IsUtf8-from_is_utf8, is_utf8-from_IsUtf8}
+use Rattle.csv.specs.Records.{field_at}
+use Rattle.mari_rows.specs.First.{first_fault_behind}
+use Rattle.mari_rows.specs.Records.{records_in}
+use Rattle.mari_rows.specs.Rows.{columns_of, fault_of_row, first_row_fault, rows_behind_header, rows_checked, rows_in, IsFaultOf}
+use Rattle.mari_rows.specs.declared.faults.RowFault.{RowFault}
+use Rattle.mari_rows.specs.declared.faults.RowFault.TheVariants.{BadHeader, BadRow, NotUtf8, Memory}
+use Rattle.mari_rows.specs.declared.rows.Row.{Row}
+use Rattle.mari_rows.proofs.FirstLemmas.{value-no-fault}
+
+-- the test of a text, from what `from_utf8` says
+pub tested : {A E : Type 0} (P : A → Type 0) (Q : E → Type 0) (bytes : List ℕ) (r : Result A E)
+    → MatchResult r (λ s. P s × IsUtf8 bytes) (λ e. ¬ (IsUtf8 bytes) × Q e) → is_ok r ≡ is_utf8 bytes
+tested P Q bytes (Ok s) h = sym (is_utf8-from_IsUtf8 bytes h.1)
+tested P Q bytes (Err e) h = by (is_utf8 bytes) refl
+  where
+    by : (b : Bool) → is_utf8 bytes ≡ b → false ≡ is_utf8 bytes
+    by true text = absurd (h.0 (IsUtf8-from_is_utf8 bytes text))
+    by false not_text = sym not_text
+
+-- one field more
+pub take-field : (fields : List (List ℕ)) (i : ℕ) (x : List ℕ) → field_at fields i ≡ Some x → take (i + 1) fields ≡ take i fields ++ x ∷ []
+unfolding field_at
+take-field [] i x at = cc at
+take-field (f ∷ fs) zero x at = rw (some-same at) refl
+  where
+    some-same : {a b : List ℕ} → Some a ≡ Some b → a ≡ b
+    some-same e = cc e
+take-field (f ∷ fs) (suc i) x at = grind (arith, take-field fs i x at)
+
+-- a fault of the header is one of the rows
+pub fault-checked : (width : ℕ) (read : Result (List Row) RowFault) (fault : RowFault) → IsFaultOf read fault → IsFaultOf (rows_checked width read) fault
+fault-checked width read BadHeader there = rw there refl
+fault-checked width read (BadRow line) there = rw there refl
+fault-checked width read (NotUtf8 line) there = rw there refl
+fault-checked width read Memory there = tt
+
+-- a row without a fault has as many fields as are wanted
+width-of : (width : ℕ) (row : Row) → fault_of_row width row ≡ None → length row.fields ≡ width
+width-of width row none = by (length row.fields == width) refl none
+  where
+    by : (b : Bool) → (length row.fields == width) ≡ b
+        → (if b then if list_all is_utf8 row.fields then None else Some (NotUtf8 row.line) else Some (BadRow row.line)) ≡ None
+        → length row.fields ≡ width
+    by true e none = eqb-true (length row.fields) width e
+    by false e none = cc none
+
+widths-behind : (width : ℕ) (earlier rows : List Row) → first_fault_behind (λ earlier row. fault_of_row width row) earlier rows ≡ None
+    → All (λ row. length row.fields ≡ width) rows
+widths-behind width earlier [] none = All-nil (λ row. length row.fields ≡ width)
+widths-behind width earlier (row ∷ rows) none = by (fault_of_row width row) refl none (widths-behind width (earlier ++ row ∷ []) rows)
+  where
+    by : (o : Option RowFault) → fault_of_row width row ≡ o
+        → option_or o (first_fault_behind (λ earlier row. fault_of_row width row) (earlier ++ row ∷ []) rows) ≡ None
+        → (first_fault_behind (λ earlier row. fault_of_row width row) (earlier ++ row ∷ []) rows ≡ None → All (λ row. length row.fields ≡ width) rows)
+        → All (λ row. length row.fields ≡ width) (row ∷ rows)
+    by None e h more = All-cons (λ row. length row.fields ≡ width) row rows (width-of width row e) (more h)
+    by (Some fault) e h more = cc h
+
+-- rows that were read have as many fields as there are columns
+pub widths : (columns page : List ℕ) (rows : List Row) → rows_in columns page ≡ Ok rows → All (λ row. length row.fields ≡ length (columns_of columns)) rows
+widths columns page rows read = by (rows_behind_header (columns_of columns) (records_in page)) read
+  where
+    by : (r : Result (List Row) RowFault) → rows_checked (length (columns_of columns)) r ≡ Ok rows
+        → All (λ row. length row.fields ≡ length (columns_of columns)) rows
+    by (Err fault) e = cc e
+    by (Ok all) e =
+        let good = value-no-fault (first_row_fault (length (columns_of columns)) all) all rows (sym e) in
+        rw good.1 (widths-behind (length (columns_of columns)) [] all good.0)

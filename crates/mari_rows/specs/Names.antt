@@ -1,0 +1,25 @@
+-- Lists of names.
+use Rattle.std.specs.Prelude.{◌≢◌, ◌<◌, ◌^◌, ℕ, Bool, List, [], ◌∷◌, ◌++◌, length, fold, if◌then◌else◌}
+use Rattle.std.specs.List.{list_any, position_or_len, AllPairs}
+use Rattle.std.specs.Str.{bytes_eq}
+
+-- whether a name is one of these
+abbrev pub is_among : List (List ℕ) → List ℕ → Bool
+is_among names name = list_any (bytes_eq name) names
+
+-- the names with this one, which goes last where it is new
+abbrev pub with_name : List (List ℕ) → List ℕ → List (List ℕ)
+with_name names name = if is_among names name then names else names ++ name ∷ []
+
+-- each name once, in order of first appearance
+abbrev pub distinct : List (List ℕ) → List (List ℕ)
+distinct names = fold with_name [] names
+
+-- the place of a name, and the length where it is not there
+abbrev pub place_in : List (List ℕ) → List ℕ → ℕ
+place_in names name = position_or_len (bytes_eq name) names
+
+-- so few that a place fits 32 bits, and no two of them are equal
+pub record AreNames (names : List (List ℕ)) : Type 0 where
+  pub few : length names < 2 ^ 32
+  pub distinct : AllPairs (λ a b. a ≢ b) names

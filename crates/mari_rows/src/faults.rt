@@ -1,0 +1,96 @@
+//! What is wrong with a page, and where.
+ghost use Rattle.std.specs.Prelude.{◌≡◌};
+
+use mari_units::Memory;
+use std::alloc::{AllocError, AllocFailed};
+use thiserror::Error;
+
+/// Why a page has no rows. Lines count records, the header being 1.
+#[derive(Clone, Copy, Debug, PartialEq, Eq)]
+pub enum RowFault {
+    BadHeader,
+    BadRow(u32),
+    NotUtf8(u32),
+    Memory,
+}
+
+/// Why a name was not added.
+#[derive(Clone, Copy, Debug, PartialEq, Eq)]
+pub enum AddFault {
+    Repeated,
+    Memory,
+}
+
+/// The first refusal of a book: its line and the number of the check that fails.
+#[derive(Clone, Copy, Debug, PartialEq, Eq, Error)]
+pub enum BookFault {
+    #[error("line {line}: check {number} fails")]
+    At { line: u32, number: u8 },
+    #[error("memory was wanted and not there")]
+    Memory,
+}
+
+impl From<Memory> for RowFault {
+    ghost use Rattle.mari_rows.specs.declared.faults.RowFault.TheVariants.{Memory};
+
+    ghost from_gives = { λ _ fault. fault ≡ Memory };
+
+    fn from(_: Memory) -> Self {
+        RowFault::Memory
+    }
+}
+
+impl From<AllocError> for RowFault {
+    ghost use Rattle.mari_rows.specs.declared.faults.RowFault.TheVariants.{Memory};
+
+    ghost from_gives = { λ _ fault. fault ≡ Memory };
+
+    fn from(_: AllocError) -> Self {
+        RowFault::Memory
+    }
+}
+
+impl<T: Drop> From<AllocFailed<T>> for RowFault {
+    ghost use Rattle.mari_rows.specs.declared.faults.RowFault.TheVariants.{Memory};
+
+    ghost from_gives = { λ _ fault. fault ≡ Memory };
+
+    fn from(_: AllocFailed<T>) -> Self {
+        RowFault::Memory
+    }
+}
+
+impl From<Memory> for BookFault {
+    ghost use Rattle.mari_rows.specs.declared.faults.BookFault.TheVariants.{Memory};
+
+    ghost from_gives = { λ _ fault. fault ≡ Memory };
+
+    fn from(_: Memory) -> Self {
+        BookFault::Memory
+    }
+}
+
+impl<T: Drop> From<AllocFailed<T>> for BookFault {
+    ghost use Rattle.mari_rows.specs.declared.faults.BookFault.TheVariants.{Memory};
+
+    ghost from_gives = { λ _ fault. fault ≡ Memory };
+
+    fn from(_: AllocFailed<T>) -> Self {
+        BookFault::Memory
+    }
+}
+
+impl From<RowFault> for BookFault {
+    ghost use Rattle.mari_rows.specs.Books.{refusal_of};
+
+    ghost from_gives = { λ fault refusal. refusal ≡ refusal_of fault };
+
+    fn from(fault: RowFault) -> Self {
+        match fault {
+            RowFault::BadHeader => BookFault::At { line: 1, number: 1 },
+            RowFault::BadRow(line) => BookFault::At { line, number: 2 },
+            RowFault::NotUtf8(line) => BookFault::At { line, number: 3 },
+            RowFault::Memory => BookFault::Memory,
+        }
+    }
+}

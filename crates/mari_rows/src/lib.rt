@@ -1,0 +1,17 @@
+//! Records of a page with their lines, and names in order of appearance.
+#![tactic(auto)]
+
+mod faults;
+mod field;
+mod names;
+mod numbers;
+mod records;
+mod rows;
+#[cfg(test)]
+mod tests;
+
+pub use faults::{AddFault, BookFault, RowFault};
+pub use field::Field;
+pub use names::NameIndex;
+pub use numbers::{is_price, is_whole, number_of};
+pub use rows::{Row, RowReader, Rows, read_rows, rows_of};

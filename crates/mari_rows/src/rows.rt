@@ -1,0 +1,201 @@
+//! The rows of a page: its records below the header, each with its line.
+ghost use Rattle.std.specs.Prelude.{◌≡◌, ◌≤◌, ◌<◌, ◌∷◌, [], ◌^◌, All, length, map, IfOk, IfErr, OnErr, MatchOption};
+ghost use Rattle.std.specs.List.{list_all};
+ghost use Rattle.std.specs.Str.{is_utf8 as is_utf8_of};
+ghost use Rattle.mari_rows.specs.Records.{records_in};
+ghost use Rattle.mari_rows.specs.Rows.{columns_of as columns_in, fault_of_row, field_of, first_row_fault, is_header as is_header_of, rows_behind_header as rows_behind_header_in, rows_in, IsFaultOf};
+
+use crate::faults::RowFault;
+use crate::field::Field;
+use crate::records::Records;
+use mari_units::{Items, Memory};
+use std::alloc::{AllocError, Global};
+use std::marker::Model;
+
+/// A record and its line, which is its number among the file's records, the header being 1.
+#[derive(Debug, Drop)]
+pub struct Row {
+    pub line: u32,
+    pub fields: Items<Field>,
+}
+
+/// The records below the header, in their order.
+#[derive(Debug, Drop)]
+pub struct Rows {
+    pub rows: Items<Row>,
+}
+
+/// The rows of a page that are still to be read, one at a time, which contracts see as the list of them.
+///
+/// It holds one record at a time, so a book is read with no more memory than the book takes.
+#[derive(Drop)]
+pub struct RowReader<'a> {
+    records: Records<'a>,
+    line: u32,
+}
+
+impl<'a> Model for RowReader<'a> {
+    ghost use Rattle.std.specs.Prelude.{List, ◌+◌, ◌<◌, ◌^◌, length};
+    ghost use Rattle.mari_rows.specs.Rows.{rows_from};
+    ghost use Rattle.mari_rows.specs.declared.rows.Row.{Row};
+
+    ghost Value = { List Row };
+
+    ghost view = { λ r. rows_from r.line r.records };
+
+    ghost invariant = { λ r. r.line + length r.records < 2 ^ 32 };
+}
+
+impl Row {
+    /// The field at a place, and nothing past the last.
+    pub fn field(&self, place: usize) -> &[u8]
+        ensures { result.now ≡ field_of self.now place }
+    {
+        match self.fields.as_slice().get(place) {
+            Some(field) => field.as_slice(),
+            None => &[],
+        }
+    }
+
+    // What is wrong with it by itself, where so many fields are wanted.
+    fn fault(&self, width: usize) -> Option<RowFault>
+        ensures { result ≡ fault_of_row width self.now }
+    {
+        if self.fields.as_slice().len() != width {
+            Some(RowFault::BadRow(self.line))
+        } else if !all_text(self.fields.as_slice()) {
+            Some(RowFault::NotUtf8(self.line))
+        } else {
+            None
+        }
+    }
+}
+
+impl<'a> RowReader<'a> {
+    /// The next row. Once memory was wanted there are no more.
+    pub fn next(&mut self, alloc: Global) -> Result<Option<Row>, Memory>
+        ensures next { IfOk result (λ next. MatchOption next ((self.old ≡ []) × (self.new ≡ [])) (λ row. self.old ≡ row ∷ self.new)) }
+        ensures err { OnErr result (self.new ≡ []) }
+    {
+        match self.records.next(alloc)? {
+            None => Ok(None),
+            Some(fields) => {
+                let line = self.line;
+                self.line += 1;
+                Ok(Some(Row {
+                    line,
+                    fields: Items::of(fields),
+                }))
+            }
+        }
+    }
+}
+
+fn is_text(bytes: &[u8]) -> bool
+    ensures { result ≡ is_utf8_of bytes.now }
+{
+    std::str::from_utf8(bytes).is_ok()
+}
+
+fn all_text(fields: &[Field]) -> bool
+    ensures { result ≡ list_all is_utf8_of fields.now }
+{
+    fields.iter().all(|field| is_text(field.as_slice()))
+}
+
+// The texts between the commas.
+fn columns_of(alloc: Global, columns: &str) -> Result<Vec<&[u8]>, AllocError>
+    ensures { IfOk result (λ v. map (λ x. x.now) v.items ≡ columns_in columns.now) }
+{
+    columns
+        .as_bytes()
+        .split(|byte| *byte == b',')
+        .collect(alloc)
+}
+
+fn texts_of(alloc: Global, fields: &[Field]) -> Result<Vec<&[u8]>, AllocError>
+    ensures { IfOk result (λ v. map (λ x. x.now) v.items ≡ fields.now) }
+{
+    fields.iter().map(|field| field.as_slice()).collect(alloc)
+}
+
+// Whether the fields are the column names.
+fn is_header(alloc: Global, fields: &[Field], columns: &[&[u8]]) -> Result<bool, Memory>
+    ensures { IfOk result (λ r. r ≡ is_header_of (map (λ c. c.now) columns.now) fields.now) }
+{
+    let texts = texts_of(alloc, fields)?;
+    Ok(texts.as_slice() == columns)
+}
+
+// The rows of a page whose header is these columns.
+fn rows_behind_header<'a>(
+    alloc: Global,
+    page: &'a [u8],
+    columns: &[&[u8]],
+) -> Result<RowReader<'a>, RowFault>
+    requires { length page.now ≤ 268435456 }
+    ensures rows { IfOk result (λ rows. rows_behind_header_in (map (λ c. c.now) columns.now) (records_in page.now) ≡ Ok rows) }
+    ensures fault { IfErr result (IsFaultOf (rows_behind_header_in (map (λ c. c.now) columns.now) (records_in page.now))) }
+{
+    let mut records = Records::of(alloc, page);
+    let Some(header) = records.next(alloc)? else {
+        return Err(RowFault::BadHeader);
+    };
+    if !is_header(alloc, header.as_slice(), columns)? {
+        return Err(RowFault::BadHeader);
+    }
+    Ok(RowReader { records, line: 2 })
+}
+
+// The first row with a fault by itself.
+fn first_fault_of(
+    alloc: Global,
+    rows: &mut RowReader<'_>,
+    width: usize,
+) -> Result<Option<RowFault>, Memory>
+    ensures { IfOk result (λ fault. fault ≡ first_row_fault width rows.old) }
+{
+    'rows: while let Some(row) = rows.next(alloc)? {
+        if let Some(fault) = row.fault(width) {
+            return Ok(Some(fault));
+        }
+    }
+    Ok(None)
+}
+
+/// Reads the rows of a page with these columns, whose names stand between the commas.
+///
+/// The whole page is read through for a row with a fault before the first row is given.
+pub fn read_rows<'a>(
+    alloc: Global,
+    page: &'a [u8],
+    columns: &str,
+) -> Result<RowReader<'a>, RowFault>
+    requires { length page.now ≤ 268435456 }
+    ensures rows { IfOk result (λ rows. rows_in columns.now page.now ≡ Ok rows) }
+    ensures fault { IfErr result (IsFaultOf (rows_in columns.now page.now)) }
+{
+    let columns = columns_of(alloc, columns)?;
+    let mut rows = rows_behind_header(alloc, page, columns.as_slice())?;
+    match first_fault_of(alloc, &mut rows, columns.len())? {
+        Some(fault) => Err(fault),
+        None => rows_behind_header(alloc, page, columns.as_slice()),
+    }
+}
+
+/// The rows of a page with these columns, whose names stand between the commas.
+pub fn rows_of(alloc: Global, bytes: &[u8], columns: &str) -> Result<Rows, RowFault>
+    requires { length bytes.now ≤ 268435456 }
+    ensures rows { IfOk result (λ rows. rows_in columns.now bytes.now ≡ Ok rows.rows) }
+    ensures widths { IfOk result (λ rows. All (λ row. length row.fields ≡ length (columns_in columns.now)) rows.rows) }
+    ensures fault { IfErr result (IsFaultOf (rows_in columns.now bytes.now)) }
+{
+    let mut left = read_rows(alloc, bytes, columns)?;
+    let mut rows = Vec::new(alloc);
+    'rows: while let Some(row) = left.next(alloc)? {
+        rows.push(row)?;
+    }
+    Ok(Rows {
+        rows: Items::of(rows),
+    })
+}

@@ -1,0 +1,12 @@
+use Rattle.std.proofs.Common.{arith}
+use Rattle.std.proofs.lemmas.Int.{ints}
+use Rattle.mari_market.specs.Activation.{put_into}
+use Rattle.mari_market.proofs.Sums.{sum_along_step}
+use Rattle.mari_welfare.proofs.feasibility.net_injection.Goals as goal
+
+pub loop-i-preserved : goal.loop-i-preserved
+loop-i-preserved c = record {
+  sum = sum_along_step (put_into c.args.zone) c.args.orders.now c.args.mw.now c.loop-i.i _ 0 _ _ _ c.loop-i-test.true (omega arith) c.loop-i.invariant.sum c.injection_into-total.ensures.value (omega (arith, ints));
+  low = omega (arith, ints);
+  high = omega (arith, ints);
+}

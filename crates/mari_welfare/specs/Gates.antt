@@ -1,0 +1,43 @@
+-- Gates, as the tests go through them.
+use Rattle.std.specs.Prelude.{◌≡◌, ◌≢◌, ◌&&◌, if◌then◌else◌, Bool, true, ℕ, nat_lt, List, Option, Some}
+use Rattle.mari_market.specs.declared.market.GateInfo.{GateInfo}
+use Rattle.mari_market.specs.declared.market.Order.{Order}
+use Rattle.mari_market.specs.Activation.{is_gate, runs_gate}
+use Rattle.mari_market.specs.Bounds.{Span, span_in}
+use Rattle.mari_market.specs.Bounds.GateState.{Open, Closed}
+use Rattle.mari_market.specs.Gates.{group_of, parent_of}
+
+-- whether the order is of the gate and runs
+abbrev pub is_run_of : ℕ → Order → ℕ → Bool
+is_run_of g o q = is_gate g o.gate && nat_lt 0 q
+
+-- whether what the orders run opens the gate
+abbrev pub opens_by : List Order → List ℕ → ℕ → Bool
+opens_by os qs g = runs_gate g os qs
+
+-- an order's bounds where each gate is open or closed as the orders run
+abbrev pub bounds_by : List Order → List ℕ → Order → Span
+bounds_by os qs = span_in (λ g. if opens_by os qs g then Open else Closed)
+
+-- the gate's parent, if it has one, is open
+abbrev pub HasOpenParent : (ℕ → Bool) → Option ℕ → Type 0
+HasOpenParent opens parent = (h : ℕ) → parent ≡ Some h → opens h ≡ true
+
+-- every open gate of the group is the one at this place
+abbrev pub IsAloneIn : List GateInfo → (ℕ → Bool) → ℕ → ℕ → Type 0
+IsAloneIn gates opens place group = (h : ℕ) → opens h ≡ true → group_of gates h ≡ Some group → place ≡ h
+
+-- another open gate of the group
+pub record IsRival (gates : List GateInfo) (opens : ℕ → Bool) (place group other : ℕ) : Type 0 where
+  pub apart : place ≢ other
+  pub same : group_of gates other ≡ Some group
+  pub running : opens other ≡ true
+
+-- if the gate is in a group, it is alone there
+abbrev pub IsAlone : List GateInfo → (ℕ → Bool) → ℕ → Option ℕ → Type 0
+IsAlone gates opens place group = (k : ℕ) → group ≡ Some k → IsAloneIn gates opens place k
+
+-- an open gate has an open parent, if it has one, and is alone in its group
+pub record KeepsRulesAt (gates : List GateInfo) (opens : ℕ → Bool) (place : ℕ) : Type 0 where
+  pub parent : opens place ≡ true → HasOpenParent opens (parent_of gates place)
+  pub group : opens place ≡ true → IsAlone gates opens place (group_of gates place)

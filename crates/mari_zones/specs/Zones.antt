@@ -1,0 +1,52 @@
+-- The book of zones.
+use Rattle.std.specs.Prelude.{ℕ, List, [], ◌∷◌, not, ◌&&◌, ◌==◌, nat_le, length, map, codes}
+use Rattle.mari_units.specs.Names.{is_name}
+use Rattle.mari_rows.specs.Books.{Checks, Grammar}
+use Rattle.mari_rows.specs.Names.{distinct, is_among, place_in}
+use Rattle.mari_rows.specs.Rows.{field_of}
+use Rattle.mari_rows.specs.declared.rows.Row.{Row}
+use Rattle.mari_zones.specs.declared.zones.ZoneBook.{ZoneBook}
+
+-- the zone of a line
+abbrev pub zone_of : Row → List ℕ
+zone_of row = field_of row 0
+
+-- the operator of a line
+abbrev pub operator_of : Row → List ℕ
+operator_of row = field_of row 1
+
+-- the zones of these lines
+abbrev pub zones_of : List Row → List (List ℕ)
+zones_of rows = map zone_of rows
+
+-- the operators of these lines, each once, in order of first appearance
+abbrev pub operators_of : List Row → List (List ℕ)
+operators_of rows = distinct (map operator_of rows)
+
+-- a line is refused as the 65th, for a field that is no name, and for a zone of an earlier line
+abbrev pub zone_checks : List Row → Row → Checks
+zone_checks earlier row =
+    (nat_le 64 (length earlier), 11)
+    ∷ (not (is_name (zone_of row) && is_name (operator_of row)), 12)
+    ∷ (is_among (zones_of earlier) (zone_of row), 13)
+    ∷ []
+
+-- a file without a zone is refused
+abbrev pub zone_file_checks : List Row → Checks
+zone_file_checks rows = (length rows == 0, 14) ∷ []
+
+-- each line's zone, each operator, and the place of each zone's operator
+abbrev pub zone_book : List Row → ZoneBook
+zone_book rows = record {
+  zones = zones_of rows;
+  operators = operators_of rows;
+  operator_of = map (λ row. place_in (operators_of rows) (operator_of row)) rows;
+}
+
+-- the columns of the file
+unfoldable pub zone_columns : List ℕ
+zone_columns = codes "zone,operator"
+
+-- what makes a page a book of zones
+abbrev pub zone_grammar : Grammar ZoneBook
+zone_grammar = record { columns = zone_columns; line_checks = zone_checks; file_checks = zone_file_checks; book = zone_book }

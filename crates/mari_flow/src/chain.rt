@@ -13,7 +13,7 @@ use crate::slots::{move_amount, room_above, room_below};
 use mari_market::Border;
 
 /// A border over which energy can move from a zone to that of an earlier hop.
-#[derive(Clone, Copy, Debug, Drop, PartialEq, Eq)]
+#[derive(Clone, Copy, Drop)]
 pub struct Hop {
     pub zone: u32,
     pub border: usize,

@@ -15,7 +15,7 @@ use Rattle.mari_market.specs.Cut.{least_put, most_put}
 use Rattle.mari_flow.specs.declared.slots.Slot.{Slot}
 use Rattle.mari_flow.specs.Slots.{no_slot, IsSmallSlot}
 use Rattle.mari_flow.specs.Orders.{no_order, slot_of, slots_of, extra_if, extra_of, extras, CanPut, IsOrderSlot, AreOrderSlots}
-use Rattle.mari_flow.proofs.Lists.{all_at, map_at, zip_at, zip_of}
+use Rattle.mari_flow.proofs.Lists.{map_at, zip_at, zip_of}
 
 -- a span in order, within the limit of an order
 pub record IsFineSpan (s : Span) : Type 0 where
@@ -52,10 +52,10 @@ order_slots_fine spans n gates os v f =
       fine = λ k d l.
           let there : k < length os = omega (arith, long, l) in
           subst (λ (s : Slot). IsOrderSlot n s) (sym (map_at (λ (o : Order). slot_of (spans o) o) os k no_order d there))
-          (order_slot spans n gates (get_or os k no_order) (all_at (IsValidOrder n gates) os k no_order there v) (all_at (λ (o : Order). IsFineSpan (spans o)) os k no_order there f));
+          (order_slot spans n gates (get_or os k no_order) (v k no_order there) (f k no_order there));
       sides = zip_of (λ (o : Order) (s : Slot). CanPut o.side s.low × CanPut o.side s.high) os (slots_of spans os) no_order no_slot (sym long)
           (λ k l. subst (λ (s : Slot). CanPut (get_or os k no_order).side s.low × CanPut (get_or os k no_order).side s.high) (sym (map_at (λ (o : Order). slot_of (spans o) o) os k no_order no_slot l))
-          (can_puts (get_or os k no_order).side (spans (get_or os k no_order)) (all_at (λ (o : Order). IsFineSpan (spans o)) os k no_order l f)));
+          (can_puts (get_or os k no_order).side (spans (get_or os k no_order)) (f k no_order l)));
     }
 
 -- a slot of a network
@@ -84,7 +84,7 @@ pub network_slots : (n : ℕ) (slots : List Slot) → All (IsOrderSlot n) slots 
 network_slots n slots a = All-append (λ (s : Slot). IsNetworkSlot n s) slots (extras slots)
     (λ k d l. record { zone = (a k d l).zone; small = slot_small (get_or slots k d) n (a k d l) })
     (λ k d l. let there : k < length slots = omega (arith, length-map slots extra_of, l) in
-    subst (λ (s : Slot). IsNetworkSlot n s) (sym (map_at extra_of slots k no_slot d there)) (extra_fine n (get_or slots k no_slot) (all_at (IsOrderSlot n) slots k no_slot there a)))
+    subst (λ (s : Slot). IsNetworkSlot n s) (sym (map_at extra_of slots k no_slot d there)) (extra_fine n (get_or slots k no_slot) (a k no_slot there)))
 
 take_append : (os : List Order) (slots rest : List Slot) → length slots ≡ length os → take (length os) (slots ++ rest) ≡ slots
 take_append [] [] rest e = refl

@@ -9,9 +9,6 @@ same_default [] i d e h = absurd (omega arith)
 same_default (x ∷ xs) zero d e h = refl
 same_default (x ∷ xs) (suc i) d e h = same_default xs i d e (omega arith)
 
-pub all_at : {X : Type 0} (P : X → Type 0) (xs : List X) (i : ℕ) (d : X) → i < length xs → All P xs → P (get_or xs i d)
-all_at P xs i d h a = a i d h
-
 pub all_zip : {X Y : Type 0} (P : X → Type 0) (xs : List X) (ys : List Y) → length xs ≡ length ys → All P xs → AllZip (λ x y. P x) xs ys
 all_zip P [] [] e a = tt
 all_zip P (x ∷ xs) (y ∷ ys) e a = (All-head P x xs a, all_zip P xs ys (omega arith) (All-tail P x xs a))

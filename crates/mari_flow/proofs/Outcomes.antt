@@ -12,14 +12,14 @@ use Rattle.mari_market.specs.Sums.{sum_along}
 use Rattle.mari_market.specs.Cut.{is_in, CannotBalance}
 use Rattle.mari_market.specs.Activation.{IsWithinLimits}
 use Rattle.mari_market.specs.Bounds.{Span}
-use Rattle.mari_market.specs.Market.{IsValid, IsValidOrder, IsValidBorder}
+use Rattle.mari_market.specs.Market.{IsValid, IsValidOrder}
 use Rattle.mari_market.specs.Price.{price_at}
 use Rattle.mari_flow.specs.declared.slots.Slot.{Slot}
 use Rattle.mari_flow.specs.Slots.{beyond, no_slot, slot_at, amount_at, slot_into, IsWithinSlot, IsTightSlot, IsRunning}
 use Rattle.mari_flow.specs.Levels.{IsTightFlow, AreTight}
 use Rattle.mari_flow.specs.Orders.{no_order, slot_of, slots_of, extras, ArePuts, capped, extra_of}
 use Rattle.mari_flow.specs.Network.{no_border}
-use Rattle.mari_flow.proofs.Lists.{all_at, all_zip, zip_at, zip_of, zip_long, zip_first, zip_rest, at_drop, map_at}
+use Rattle.mari_flow.proofs.Lists.{all_zip, zip_at, zip_of, zip_long, zip_first, zip_rest, at_drop, map_at}
 use Rattle.mari_flow.proofs.Shortfalls.{IsExtra, RunsSlot, RunsFlow, IsReal, AreLowest, AreHighest, counts, paid_slot, cost_flow, paid_is_cost, shortfall_out, shortfall_in}
 use Rattle.mari_flow.proofs.Starts.{if_none, extra_fits, shortfall_is_cut_out, shortfall_is_cut_in}
 use Rattle.mari_flow.proofs.Transfers.{IsOptimum, optimum_from}
@@ -37,7 +37,7 @@ into_none z (s ∷ ss) (w ∷ ws) h = omega (arith, ints, into_none z ss ws (λ 
 reals_real : (bounds : Order → Span) (n gates : ℕ) (os : List Order) → All (IsValidOrder n gates) os → All (IsReal beyond) (slots_of bounds os)
 reals_real bounds n gates os v = λ k d l.
     let there : k < length os = omega (arith, length-map os (λ (o : Order). slot_of (bounds o) o), l) in
-    let o_valid = all_at (IsValidOrder n gates) os k no_order there v in
+    let o_valid = v k no_order there in
     subst (λ (s : Slot). IsReal beyond s) (sym (map_at (λ (o : Order). slot_of (bounds o) o) os k no_order d there))
     (record { above = omega (arith, ints, o_valid.price.low); below = omega (arith, ints, o_valid.price.high) })
 
@@ -58,7 +58,7 @@ runs bounds m xs fs p e =
     let all = slots_of bounds m.orders ++ extras (slots_of bounds m.orders) in
     zip_of (RunsSlot m.zones p) (slots_of bounds m.orders ++ extras (slots_of bounds m.orders)) xs no_slot (pos 0) (zip_long IsWithinSlot (slots_of bounds m.orders ++ extras (slots_of bounds m.orders)) xs e.running.amounts)
     (λ k l. record {
-      zone = all_at (λ (s : Slot). s.zone < m.zones) (slots_of bounds m.orders ++ extras (slots_of bounds m.orders)) k no_slot l e.zones;
+      zone = e.zones k no_slot l;
       within = zip_at IsWithinSlot (slots_of bounds m.orders ++ extras (slots_of bounds m.orders)) xs k no_slot (pos 0) l e.running.amounts;
       tight = e.tight.slots_tight k l;
     })
@@ -77,7 +77,7 @@ ends_solved bounds m a ps p xs e puts prices none =
 flow_runs : (bounds : Order → Span) (m : Market) (xs fs : List ℤ) (p : ℕ → ℤ) → Ends bounds m xs fs p → AllZip (RunsFlow m.zones p) m.borders fs
 flow_runs bounds m xs fs p e =
     zip_of (RunsFlow m.zones p) m.borders fs no_border (pos 0) (zip_long IsWithinLimits m.borders fs e.running.flows)
-    (λ k l. let b_valid = all_at (IsValidBorder m.zones) m.borders k no_border l e.valid.borders in record {
+    (λ k l. let b_valid = e.valid.borders k no_border l in record {
       from = b_valid.from;
       to = b_valid.to;
       within = zip_at IsWithinLimits m.borders fs k no_border (pos 0) l e.running.flows;
@@ -87,7 +87,7 @@ flow_runs bounds m xs fs p e =
 ends_paid : (bounds : Order → Span) (m : Market) (xs fs : List ℤ) (p q : ℕ → ℤ) → Ends bounds m xs fs p → (sum_along (paid_slot q) (slots_of bounds m.orders) (take (length (slots_of bounds m.orders)) xs) +ℤ sum_along (paid_slot q) (extras (slots_of bounds m.orders)) (drop (length (slots_of bounds m.orders)) xs)) ≡ sum_along (cost_flow q) m.borders fs
 ends_paid bounds m xs fs p q e =
     sym (sum_split (paid_slot q) IsWithinSlot (slots_of bounds m.orders) (extras (slots_of bounds m.orders)) xs e.running.amounts)
-    ∙ paid_is_cost q m.zones (slots_of bounds m.orders ++ extras (slots_of bounds m.orders)) xs m.borders fs e.zones (λ k d l. let b_valid = all_at (IsValidBorder m.zones) m.borders k d l e.valid.borders in (b_valid.from, b_valid.to)) e.running.balance
+    ∙ paid_is_cost q m.zones (slots_of bounds m.orders ++ extras (slots_of bounds m.orders)) xs m.borders fs e.zones (λ k d l. let b_valid = e.valid.borders k d l in (b_valid.from, b_valid.to)) e.running.balance
 
 -- where something is taken away, the zones of the least price are a cut
 pub ends_cut_out : (bounds : Order → Span) (m : Market) (xs fs : List ℤ) (p : ℕ → ℤ) (zones : List ℕ) (j : ℕ) → Ends bounds m xs fs p → AreLowest m.zones beyond p (is_in zones) → j < length (extras (slots_of bounds m.orders)) → amount_at xs (length (slots_of bounds m.orders) + j) <ℤ pos 0 → CannotBalance bounds m Out zones

@@ -19,6 +19,10 @@ use Rattle.mari_flow.specs.declared.optimum.SolveFault.TheVariants.{Cut, Memory}
 use Rattle.mari_flow.specs.declared.slots.Slot.{Slot}
 use Rattle.mari_flow.specs.Orders.{slots_of, extras, CanPut}
 
+-- no activation lies within the spans
+abbrev pub NoneWithin : (Order → Span) → Market → Type 0
+NoneWithin spans m = (a : Activation) → ¬ IsWithinBounds spans m a
+
 -- P holds of the cut, where the fault is one
 abbrev pub OfCut : SolveFault → (CutRecord → Type 0) → Type 0
 OfCut (Cut cut) P = P cut

@@ -13,7 +13,7 @@ use crate::slots::{move_amount, room_above, room_below};
 use mari_market::Border;
 
 /// A border over which energy can move from a zone to that of an earlier hop.
-#[derive(Clone, Copy, Debug, Drop, PartialEq, Eq)]
+#[derive(Clone, Copy, Drop)]
 pub struct Hop {
     pub zone: u32,
     pub border: usize,
@@ -28,7 +28,8 @@ fn flow_after(border: &Border, now: i64, more: i64, forth: bool) -> i64
     requires room { more ≤ℤ room_of forth border.now now }
     ensures { result ≡ now +ℤ more_flow forth more }
 {
-    let (_limit, _back) = (i64::from(border.limit), i64::from(border.back));
+    // Both limits are read, since it is they that bound the flow.
+    let (_limit, _back) = (border.limit, border.back);
     if forth { now + more } else { now - more }
 }
 

@@ -12,7 +12,7 @@ use crate::slots::Slot;
 use std::alloc::{AllocError, Global};
 
 /// A zone's dearest slot that may put in less, and its cheapest that may put in more.
-#[derive(Clone, Copy, Debug, Drop, PartialEq, Eq)]
+#[derive(Clone, Copy, Drop)]
 pub struct Margin {
     pub dearest: Option<usize>,
     pub cheapest: Option<usize>,

@@ -4,7 +4,6 @@ ghost use Rattle.std.specs.Prelude.{◌≡◌, ◌<◌, ◌≤◌, ◌<ℤ◌, �
 ghost use Rattle.std.specs.Int.{int_max};
 ghost use Rattle.std.specs.List.{AllZip};
 ghost use Rattle.mari_market.specs.declared.market.Order.{Order};
-ghost use Rattle.mari_market.specs.declared.activation.Activation.{Activation as ActivationRecord};
 ghost use Rattle.mari_market.specs.Activation.{welfare_of};
 ghost use Rattle.mari_market.specs.Bounds.{Span};
 ghost use Rattle.mari_market.specs.Cut.{is_in, IsRising, IsCut};
@@ -17,7 +16,7 @@ ghost use Rattle.mari_flow.specs.declared.optimum.SolveFault.TheVariants.{Memory
 ghost use Rattle.mari_flow.specs.Slots.{amount_at};
 ghost use Rattle.mari_flow.specs.Network.{IsNetwork, Runs};
 ghost use Rattle.mari_flow.specs.Orders.{capped_cents, is_inside, slots_of, ArePuts, CanPut, AreOrderSlots};
-ghost use Rattle.mari_flow.specs.Solving.{OfCut, IsAnswer, IsNetworkOf, AreSlotsOf};
+ghost use Rattle.mari_flow.specs.Solving.{NoneWithin, OfCut, IsAnswer, IsNetworkOf, AreSlotsOf};
 
 use crate::finish::{cap_all, cut_zones, first_short, quantities, stated, welfare};
 use crate::network::{Network, meeting_borders};
@@ -183,7 +182,7 @@ pub fn solve(alloc: Global, market: &Market, prefix: &Prefix) -> Result<Solved, 
     ensures potentials { IfOk result (λ s. ArePrices market.now s.potentials.cents) }
     ensures stated { IfOk result (λ s. pos s.welfare ≡ int_max (pos 0) (welfare_of market.now s.activation)) }
     ensures cut { IfErr result (λ fault. OfCut fault (IsCut (bounds_at market.now prefix.now) market.now)) }
-    ensures empty { IfErr result (λ fault. OfCut fault (λ _. (a : ActivationRecord) → IsWithinBounds (bounds_at market.now prefix.now) market.now a → ⊥)) }
+    ensures empty { IfErr result (λ fault. OfCut fault (λ _. NoneWithin (bounds_at market.now prefix.now) market.now)) }
 {
     let bounds = bounds_of(alloc, market, prefix)?;
     let least = bounds.least.as_slice();

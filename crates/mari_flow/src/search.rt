@@ -224,8 +224,8 @@ fn chain_by_levels(
     ensures { IfOk result (λ r. MatchOption r (AreTightPrices network.now amounts.now flows.now prices.new) (IsImproving network.now amounts.now flows.now)) }
 {
     let slots = network.slots;
-    let every = margins_of(alloc, network, amounts)?;
-    let margins = every.as_slice();
+    let marginal = margins_of(alloc, network, amounts)?;
+    let margins = marginal.as_slice();
     while let Some(sink) = dearest(slots, margins, marked) {
         let slot = slots[sink];
         level(prices, marked, slot.price);

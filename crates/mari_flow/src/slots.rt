@@ -15,7 +15,7 @@ use std::alloc::{AllocError, Global};
 pub const BEYOND: i64 = 20_000_000;
 
 /// What may put energy into a zone at a price, or take it out where the amount is negative.
-#[derive(Clone, Copy, Debug, Drop, PartialEq, Eq)]
+#[derive(Clone, Copy, Drop)]
 pub struct Slot {
     pub zone: u32,
     pub price: i64,

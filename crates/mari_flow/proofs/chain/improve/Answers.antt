@@ -1,8 +1,8 @@
 use Rattle.std.proofs.Common.{◌≡◌, ℤ, pos, ◌-ℤ◌, ◌≤ℤ◌, neg_ℤ, to_z, of_z, to_z-of_z, sym, ap, ◌∙◌, rules, FitsSigned, w64, arith, List, get_or-set_other}
 use Rattle.std.proofs.lemmas.Int.{ints}
-use Rattle.mari_flow.specs.Slots.{no_slot, slot_at, amount_at, IsWithinSlot, IsSmallSlot}
+use Rattle.mari_flow.specs.Slots.{no_slot, slot_at, amount_at, IsWithinSlot}
 use Rattle.mari_flow.specs.Chain.{hop_at}
-use Rattle.mari_flow.proofs.Lists.{zip_at, all_at}
+use Rattle.mari_flow.proofs.Lists.{zip_at}
 use Rattle.mari_flow.proofs.Chains.{move_rises, move_balances, other_slot}
 use Rattle.mari_flow.proofs.chain.improve.Goals as goal
 
@@ -15,7 +15,7 @@ move_amount-requires-clause-moved c =
     rw less (record { least = omega (arith, ints, c.most_along-more.ensures.sink); most = omega (arith, ints, within.most) })
 
 pub move_amount-requires-2-clause-small : goal.move_amount-requires-2-clause-small
-move_amount-requires-2-clause-small c = all_at IsSmallSlot c.args.network.now.slots.now c.args.chain.now.source no_slot c.requires.chain.more.0 c.requires.network.small
+move_amount-requires-2-clause-small c = c.requires.network.small c.args.chain.now.source no_slot c.requires.chain.more.0
 
 pub move_amount-requires-2-clause-moved : goal.move_amount-requires-2-clause-moved
 move_amount-requires-2-clause-moved c =

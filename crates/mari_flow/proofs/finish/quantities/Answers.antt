@@ -20,10 +20,9 @@ pub loop-i-preserved : goal.loop-i-preserved
 loop-i-preserved c =
     let fits : FitsSigned w64 (amount_at c.args.amounts.now c.loop-i.i) = search rules in
     let here : c.loop-i.i < length c.args.amounts.now = omega (arith, c.requires.lengths, c.loop-i-test.true) in
-    let items = c.in_ok-push.ensures.items in
     record {
-      puts = subst (λ (qs : List ℕ). ArePuts (take (c.loop-i.i + 1) c.args.orders.now) (take (c.loop-i.i + 1) c.args.amounts.now) qs) (sym items)
+      puts = subst (λ (qs : List ℕ). ArePuts (take (c.loop-i.i + 1) c.args.orders.now) (take (c.loop-i.i + 1) c.args.amounts.now) qs) (sym c.in_ok-push.ensures.items)
           (puts_more c.args.orders.now c.args.amounts.now c.loop-i.all.items c.loop-i.i no_order c.quantity.result c.loop-i-test.true here c.loop-i.invariant.puts (sym (to_z-of_z fits) ∙ c.quantity.ensures.puts));
-      long = ap (λ (qs : List ℕ). length qs) items ∙ length_push c.loop-i.all.items c.quantity.result ∙ ap (λ n. n + 1) c.loop-i.invariant.long;
-      small = subst (λ (qs : List ℕ). All (λ q. q ≤ 99999) qs) (sym items) (All-push (λ q. q ≤ 99999) c.loop-i.all.items c.quantity.result c.loop-i.invariant.small c.quantity.ensures.small);
+      long = ap (λ (qs : List ℕ). length qs) c.in_ok-push.ensures.items ∙ length_push c.loop-i.all.items c.quantity.result ∙ ap (λ n. n + 1) c.loop-i.invariant.long;
+      small = subst (λ (qs : List ℕ). All (λ q. q ≤ 99999) qs) (sym c.in_ok-push.ensures.items) (All-push (λ q. q ≤ 99999) c.loop-i.all.items c.quantity.result c.loop-i.invariant.small c.quantity.ensures.small);
     }

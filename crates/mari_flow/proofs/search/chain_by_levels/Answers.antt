@@ -17,17 +17,17 @@ loop-sink-init c = levels_none c.args.network.now.slots.now c.args.network.now.b
 
 pub dearest-requires-clause-there : goal.dearest-requires-clause-there
 dearest-requires-clause-there c = λ z i l e.
-    let mar = subst (λ (ms : List Margin). AreMargins c.args.network.now.slots.now c.args.amounts.now (length c.args.network.now.meeting.now) (length c.args.network.now.slots.now) ms) (sym c.as_slice-margins.ensures.value) c.in_ok-every.ensures in
+    let mar = subst (λ (ms : List Margin). AreMargins c.args.network.now.slots.now c.args.amounts.now (length c.args.network.now.meeting.now) (length c.args.network.now.slots.now) ms) (sym c.as_slice-margins.ensures.value) c.in_ok-marginal.ensures in
     ((mar.dearest z (omega (arith, mar.long))).one i e).0.0
 
 pub cheapest-requires-clause-there : goal.cheapest-requires-clause-there
 cheapest-requires-clause-there c = λ z i l e.
-    let mar = subst (λ (ms : List Margin). AreMargins c.args.network.now.slots.now c.args.amounts.now (length c.args.network.now.meeting.now) (length c.args.network.now.slots.now) ms) (sym c.as_slice-margins.ensures.value) c.in_ok-every.ensures in
+    let mar = subst (λ (ms : List Margin). AreMargins c.args.network.now.slots.now c.args.amounts.now (length c.args.network.now.meeting.now) (length c.args.network.now.slots.now) ms) (sym c.as_slice-margins.ensures.value) c.in_ok-marginal.ensures in
     ((mar.cheapest z (omega (arith, mar.long))).one i e).0.0
 
 pub place_of-at-requires : goal.place_of-at-requires
 place_of-at-requires c =
-    let mar = subst (λ (ms : List Margin). AreMargins c.args.network.now.slots.now c.args.amounts.now (length c.args.network.now.meeting.now) (length c.args.network.now.slots.now) ms) (sym c.as_slice-margins.ensures.value) c.in_ok-every.ensures in
+    let mar = subst (λ (ms : List Margin). AreMargins c.args.network.now.slots.now c.args.amounts.now (length c.args.network.now.meeting.now) (length c.args.network.now.slots.now) ms) (sym c.as_slice-margins.ensures.value) c.in_ok-marginal.ensures in
     let zoned : (k : ℕ) → k < length c.args.network.now.slots.now → zone_of c.args.network.now.slots.now k < length c.args.network.now.meeting.now = λ k l. c.requires.network.zones k no_slot l in
     let d : IsDearest c.args.network.now.slots.now c.args.amounts.now c.loop-sink.marked c.in-Some.sink = dearest_is c.args.network.now.slots.now c.args.amounts.now (length c.args.network.now.meeting.now) c.as_slice-margins.result.now c.loop-sink.marked c.in-Some.sink zoned mar (subst (λ (n : ℕ). IsDearestOf c.args.network.now.slots.now c.as_slice-margins.result.now c.loop-sink.marked n (Some c.in-Some.sink)) mar.long c.in-Some.ensures.dearest) in
     let small : IsSmallSlot (slot_at c.args.network.now.slots.now c.in-Some.sink) = c.requires.network.small c.in-Some.sink no_slot d.less.0 in
@@ -39,7 +39,7 @@ place_of-at-requires c =
 
 pub returns-in-Some-cheapest : goal.returns-in-Some-cheapest
 returns-in-Some-cheapest c =
-    let mar = subst (λ (ms : List Margin). AreMargins c.args.network.now.slots.now c.args.amounts.now (length c.args.network.now.meeting.now) (length c.args.network.now.slots.now) ms) (sym c.as_slice-margins.ensures.value) c.in_ok-every.ensures in
+    let mar = subst (λ (ms : List Margin). AreMargins c.args.network.now.slots.now c.args.amounts.now (length c.args.network.now.meeting.now) (length c.args.network.now.slots.now) ms) (sym c.as_slice-margins.ensures.value) c.in_ok-marginal.ensures in
     let zoned : (k : ℕ) → k < length c.args.network.now.slots.now → zone_of c.args.network.now.slots.now k < length c.args.network.now.meeting.now = λ k l. c.requires.network.zones k no_slot l in
     let d : IsDearest c.args.network.now.slots.now c.args.amounts.now c.loop-sink.marked c.in-Some.sink = dearest_is c.args.network.now.slots.now c.args.amounts.now (length c.args.network.now.meeting.now) c.as_slice-margins.result.now c.loop-sink.marked c.in-Some.sink zoned mar (subst (λ (n : ℕ). IsDearestOf c.args.network.now.slots.now c.as_slice-margins.result.now c.loop-sink.marked n (Some c.in-Some.sink)) mar.long c.in-Some.ensures.dearest) in
     let small : IsSmallSlot (slot_at c.args.network.now.slots.now c.in-Some.sink) = c.requires.network.small c.in-Some.sink no_slot d.less.0 in
@@ -60,7 +60,7 @@ returns-in-Some-cheapest c =
 
 pub loop-sink-preserved : goal.loop-sink-preserved
 loop-sink-preserved c =
-    let mar = subst (λ (ms : List Margin). AreMargins c.args.network.now.slots.now c.args.amounts.now (length c.args.network.now.meeting.now) (length c.args.network.now.slots.now) ms) (sym c.as_slice-margins.ensures.value) c.in_ok-every.ensures in
+    let mar = subst (λ (ms : List Margin). AreMargins c.args.network.now.slots.now c.args.amounts.now (length c.args.network.now.meeting.now) (length c.args.network.now.slots.now) ms) (sym c.as_slice-margins.ensures.value) c.in_ok-marginal.ensures in
     let zoned : (k : ℕ) → k < length c.args.network.now.slots.now → zone_of c.args.network.now.slots.now k < length c.args.network.now.meeting.now = λ k l. c.requires.network.zones k no_slot l in
     let d : IsDearest c.args.network.now.slots.now c.args.amounts.now c.loop-sink.marked c.in-Some.sink = dearest_is c.args.network.now.slots.now c.args.amounts.now (length c.args.network.now.meeting.now) c.as_slice-margins.result.now c.loop-sink.marked c.in-Some.sink zoned mar (subst (λ (n : ℕ). IsDearestOf c.args.network.now.slots.now c.as_slice-margins.result.now c.loop-sink.marked n (Some c.in-Some.sink)) mar.long c.in-Some.ensures.dearest) in
     let small : IsSmallSlot (slot_at c.args.network.now.slots.now c.in-Some.sink) = c.requires.network.small c.in-Some.sink no_slot d.less.0 in
@@ -72,7 +72,7 @@ loop-sink-preserved c =
 
 pub returns : goal.returns
 returns c =
-    let mar = subst (λ (ms : List Margin). AreMargins c.args.network.now.slots.now c.args.amounts.now (length c.args.network.now.meeting.now) (length c.args.network.now.slots.now) ms) (sym c.as_slice-margins.ensures.value) c.in_ok-every.ensures in
+    let mar = subst (λ (ms : List Margin). AreMargins c.args.network.now.slots.now c.args.amounts.now (length c.args.network.now.meeting.now) (length c.args.network.now.slots.now) ms) (sym c.as_slice-margins.ensures.value) c.in_ok-marginal.ensures in
     let zoned : (k : ℕ) → k < length c.args.network.now.slots.now → zone_of c.args.network.now.slots.now k < length c.args.network.now.meeting.now = λ k l. c.requires.network.zones k no_slot l in
     let none : NoneLess c.args.network.now.slots.now c.args.amounts.now c.loop-sink.marked = dearest_none c.args.network.now.slots.now c.args.amounts.now (length c.args.network.now.meeting.now) c.as_slice-margins.result.now c.loop-sink.marked zoned mar (subst (λ (n : ℕ). IsDearestOf c.args.network.now.slots.now c.as_slice-margins.result.now c.loop-sink.marked n None) mar.long c.in_default.ensures.dearest) in
     let marks : length c.loop-sink.marked ≡ length c.args.network.now.meeting.now = omega arith in

@@ -3,8 +3,8 @@
 
 mod faults;
 mod field;
+mod fields;
 mod names;
-mod numbers;
 mod records;
 mod rows;
 #[cfg(test)]
@@ -12,6 +12,6 @@ mod tests;
 
 pub use faults::{AddFault, BookFault, RowFault};
 pub use field::Field;
+pub use fields::{cents_of, is_first_of, is_price, is_whole, number_of};
 pub use names::NameIndex;
-pub use numbers::{is_price, is_whole, number_of};
 pub use rows::{Row, RowReader, Rows, read_rows, rows_of};

@@ -1,6 +1,7 @@
 //! Records of a page with their lines, and names in order of appearance.
 #![tactic(auto)]
 
+mod counts;
 mod faults;
 mod field;
 mod fields;
@@ -10,6 +11,7 @@ mod rows;
 #[cfg(test)]
 mod tests;
 
+pub use counts::count_one;
 pub use faults::{AddFault, BookFault, RowFault};
 pub use field::Field;
 pub use fields::{cents_of, is_first_of, is_price, is_whole, number_of};

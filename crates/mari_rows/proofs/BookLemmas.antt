@@ -1,8 +1,12 @@
 -- Steps that every book takes.
-use Rattle.std.proofs.Common.{◌≡◌, ◌∙◌, ℕ, List, [], ◌∷◌, ◌++◌, Some, None, Result, Ok, Err, append_assoc, refl, sym}
+use Rattle.std.proofs.Common.{◌≡◌, ◌∙◌, ℕ, Bool, true, false, if◌then◌else◌, Option, List, [], ◌∷◌, ◌++◌, Some, None, Result, Ok, Err, append_assoc, refl, sym}
 use Rattle.std.proofs.lemmas.List.{append-nil}
-use Rattle.mari_rows.specs.Books.{Grammar, GivesBook, book_in, book_of_rows, first_failing, line_refusal, refusal_of}
-use Rattle.mari_rows.specs.First.{first_fault, first_fault_behind}
+use Rattle.mari_rows.specs.Books.{Checks, Grammar, GivesBook, TakesLine, book_in, book_of_read, book_of_rows, first_failing, line_refusal, refusal_of}
+use Rattle.std.specs.Prelude.{option_map}
+use Rattle.std.specs.Option.{option_or}
+use Rattle.std.specs.Result.{IsErrAnd}
+use Rattle.mari_rows.specs.First.{HasNoFault, first_fault, first_fault_behind, unless_fault}
+use Rattle.mari_rows.proofs.FirstMeaning.{none-means}
 use Rattle.mari_rows.specs.Rows.{rows_in, IsFaultOf}
 use Rattle.mari_rows.specs.declared.faults.BookFault.{BookFault}
 use Rattle.mari_rows.specs.declared.faults.BookFault.TheVariants as refused
@@ -36,6 +40,21 @@ module _ {Book : Type 0} (g : Grammar Book) where
       sym so_far.refusal ∙ first_fault-here (line_refusal g) earlier lines rest line next (rw fails refl) in
       rw here refl
 
+  -- an answer to a line that refuses it is the answer to all
+  pub gives-line-fault : {X : Type 0} (earlier lines rest all : List Row) (line : Row) (fault : BookFault) (Holds : X → Type 0) → IsReadTo earlier lines all
+      → lines ≡ line ∷ rest → TakesLine (Err fault) line.line (first_failing (g.line_checks earlier line)) Holds → GivesBook (Err fault) (book_of_rows g all)
+  gives-line-fault earlier lines rest all line refused.Memory Holds so_far next takes = tt
+  gives-line-fault earlier lines rest all line (refused.At at number) Holds so_far next takes =
+      rw takes.0 (refused-line earlier lines rest all line number so_far next takes.1)
+
+  -- the same, where the answer is passed on
+  pub gives-line-error : {X : Type 0} (earlier lines rest all : List Row) (line : Row) (fault : BookFault) (Holds : X → Type 0) (result : Result Book BookFault)
+      → IsReadTo earlier lines all → lines ≡ line ∷ rest → TakesLine (Err fault) line.line (first_failing (g.line_checks earlier line)) Holds
+      → IsErrAnd result (λ error. error ≡ fault) → GivesBook result (book_of_rows g all)
+  gives-line-error earlier lines rest all line fault Holds (Ok book) so_far next takes passed_on = absurd passed_on
+  gives-line-error earlier lines rest all line fault Holds (Err error) so_far next takes passed_on =
+      rw passed_on (gives-line-fault earlier lines rest all line fault Holds so_far next takes)
+
   -- where no line is left, the checks of the file decide
   pub read-all : (earlier all : List Row) → IsReadTo earlier [] all → (all ≡ earlier) × (first_fault (line_refusal g) all ≡ None)
   read-all earlier all so_far = (sym so_far.whole ∙ append-nil earlier, sym so_far.refusal)
@@ -63,3 +82,51 @@ module _ {Book : Type 0} (g : Grammar Book) where
   gives-fault page (BadRow line) read = rw read refl
   gives-fault page (NotUtf8 line) read = rw read refl
   gives-fault page Memory read = tt
+
+  pub gives-error : (page : List ℕ) (fault : RowFault) (result : Result Book BookFault) → IsFaultOf (rows_in g.columns page) fault
+      → IsErrAnd result (λ error. error ≡ refusal_of fault) → GivesBook result (book_in g page)
+  gives-error page fault (Ok book) read passed_on = absurd passed_on
+  gives-error page fault (Err error) read passed_on = rw passed_on (gives-fault page fault read)
+
+  -- the lines of a book: none of them is refused, nor all together, and the book is what they say
+  pub record IsBookOf (rows : List Row) (book : Book) : Type 0 where
+    pub lines : HasNoFault (line_refusal g) rows
+    pub file : first_failing (g.file_checks rows) ≡ None
+    pub says : book ≡ g.book rows
+
+  pub book-rows : (rows : List Row) (book : Book) → book_of_rows g rows ≡ Ok book → IsBookOf rows book
+  book-rows rows book read = by (first_fault (line_refusal g) rows) refl (first_failing (g.file_checks rows)) refl read
+    where
+      by : (lines : Option BookFault) → first_fault (line_refusal g) rows ≡ lines → (file : Option ℕ) → first_failing (g.file_checks rows) ≡ file
+          → unless_fault (option_or lines (option_map (λ number. refused.At 1 number) file)) (g.book rows) ≡ Ok book → IsBookOf rows book
+      by (Some fault) l file f e = cc e
+      by None l (Some number) f e = cc e
+      by None l None f e = record { lines = none-means (line_refusal g) rows l; file = f; says = cc e }
+
+  -- a page that is a book
+  pub book-page : (page : List ℕ) (book : Book) → book_in g page ≡ Ok book → (rows : List Row) × (rows_in g.columns page ≡ Ok rows) × IsBookOf rows book
+  book-page page book read = by (rows_in g.columns page) refl read
+    where
+      by : (r : Result (List Row) RowFault) → rows_in g.columns page ≡ r → book_of_read g r ≡ Ok book
+          → (rows : List Row) × (rows_in g.columns page ≡ Ok rows) × IsBookOf rows book
+      by (Ok rows) e b = (rows, e, book-rows rows book b)
+      by (Err fault) e b = cc b
+
+-- checks and further ones behind them
+module _ (further : Checks) where
+  pub first_failing-append : (checks : Checks) → first_failing (checks ++ further) ≡ option_or (first_failing checks) (first_failing further)
+  first_failing-append [] = refl
+  first_failing-append (check ∷ checks) = by check.0 (first_failing-append checks)
+    where
+      by : (b : Bool) → first_failing (checks ++ further) ≡ option_or (first_failing checks) (first_failing further)
+          → (if b then Some check.1 else first_failing (checks ++ further)) ≡ option_or (if b then Some check.1 else first_failing checks) (first_failing further)
+      by true more = refl
+      by false more = more
+
+-- checks of which none fails: the first, and those behind it
+pub passed : (check : Bool × ℕ) (checks : Checks) → first_failing (check ∷ checks) ≡ None → (check.0 ≡ false) × (first_failing checks ≡ None)
+passed check checks none = by check.0 refl none
+  where
+    by : (b : Bool) → check.0 ≡ b → (if b then Some check.1 else first_failing checks) ≡ None → (check.0 ≡ false) × (first_failing checks ≡ None)
+    by true e n = cc n
+    by false e n = (e, n)

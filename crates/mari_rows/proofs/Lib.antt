@@ -1,4 +1,5 @@
 pub mod BookLemmas
+pub mod CountLemmas
 pub mod FirstLemmas
 pub mod FirstMeaning
 pub mod NameLemmas

@@ -1,5 +1,5 @@
 -- Places of names, while names are added.
-use Rattle.std.proofs.Common.{◌≡◌, ℕ, Bool, true, false, List, [], ◌∷◌, ◌++◌, refl, ap, length, arith, ◌+◌, ◌≤◌, if◌then◌else◌, map, fold}
+use Rattle.std.proofs.Common.{◌≡◌, ◌∙◌, ℕ, Bool, true, false, List, [], ◌∷◌, ◌++◌, refl, ap, length, arith, ◌+◌, ◌≤◌, if◌then◌else◌, map, fold}
 use Rattle.std.proofs.lemmas.List.Sums.{fold-append}
 use Rattle.std.proofs.lemmas.List.{length-append, map-append}
 use Rattle.std.specs.Prelude.{◌||◌, ◌&&◌}
@@ -69,27 +69,34 @@ all-among : (names xs : List (List ℕ)) → list_all (is_among (fold with_name 
 all-among names [] = refl
 all-among names (x ∷ xs) = rw (kept (with_name names x) xs x (among-new names x)) (all-among (with_name names x) xs)
 
-places : {X : Type 0} (name_of : X → List ℕ) (names : List (List ℕ)) (other : List ℕ) (xs : List X) → list_all (is_among names) (map name_of xs) ≡ true
-    → map (λ x. place_in (with_name names other) (name_of x)) xs ≡ map (λ x. place_in names (name_of x)) xs
-places name_of names other [] all = refl
-places name_of names other (x ∷ xs) all = by (is_among names (name_of x)) refl all (places name_of names other xs)
-  where
-    by : (b : Bool) → is_among names (name_of x) ≡ b → (is_among names (name_of x) && list_all (is_among names) (map name_of xs)) ≡ true
-        → (list_all (is_among names) (map name_of xs) ≡ true → map (λ x. place_in (with_name names other) (name_of x)) xs ≡ map (λ x. place_in names (name_of x)) xs)
-        → map (λ x. place_in (with_name names other) (name_of x)) (x ∷ xs) ≡ map (λ x. place_in names (name_of x)) (x ∷ xs)
-    by true e h more = λ i. place-with names (name_of x) other e i ∷ more (rw e at h) i
-    by false e h more = cc (rw e at h)
+-- what is made of places that are there stays as it is with one more name
+module _ {X Y : Type 0} (make : ℕ → X → Y) (name_of : X → List ℕ) where
+  -- what is made of each item and the place of its name
+  abbrev pub made : List (List ℕ) → List X → List Y
+  made names xs = map (λ x. make (place_in names (name_of x)) x) xs
 
-module _ {X : Type 0} (name_of : X → List ℕ) (xs : List X) (x : X) where
-  -- one more name
-  pub distinct-push : distinct (map name_of (xs ++ x ∷ [])) ≡ with_name (distinct (map name_of xs)) (name_of x)
-  distinct-push = rw (map-append name_of xs (x ∷ [])) (fold-append with_name [] (map name_of xs) (name_of x ∷ []))
+  made-with : (names : List (List ℕ)) (other : List ℕ) (xs : List X) → list_all (is_among names) (map name_of xs) ≡ true → made (with_name names other) xs ≡ made names xs
+  made-with names other [] all = refl
+  made-with names other (x ∷ xs) all = by (is_among names (name_of x)) refl all (made-with names other xs)
+    where
+      by : (b : Bool) → is_among names (name_of x) ≡ b → (is_among names (name_of x) && list_all (is_among names) (map name_of xs)) ≡ true
+          → (list_all (is_among names) (map name_of xs) ≡ true → made (with_name names other) xs ≡ made names xs)
+          → made (with_name names other) (x ∷ xs) ≡ made names (x ∷ xs)
+      by true e h more = λ i. make (place-with names (name_of x) other e i) x ∷ more (rw e at h) i
+      by false e h more = cc (rw e at h)
 
-  -- the places of the names among the distinct ones, with one more
-  pub places-push : map (λ y. place_in (with_name (distinct (map name_of xs)) (name_of x)) (name_of y)) (xs ++ x ∷ [])
-      ≡ map (λ y. place_in (distinct (map name_of xs)) (name_of y)) xs ++ place_in (with_name (distinct (map name_of xs)) (name_of x)) (name_of x) ∷ []
-  places-push = rw (map-append (λ y. place_in (with_name (distinct (map name_of xs)) (name_of x)) (name_of y)) xs (x ∷ []))
-      (ap (λ l. l ++ place_in (with_name (distinct (map name_of xs)) (name_of x)) (name_of x) ∷ []) (places name_of (distinct (map name_of xs)) (name_of x) xs (all-among [] (map name_of xs))))
+  -- and one more item goes last
+  pub made-push : (xs : List X) (x : X) → made (with_name (distinct (map name_of xs)) (name_of x)) (xs ++ x ∷ [])
+      ≡ made (distinct (map name_of xs)) xs ++ make (place_in (with_name (distinct (map name_of xs)) (name_of x)) (name_of x)) x ∷ []
+  made-push xs x =
+      let names = with_name (distinct (map name_of xs)) (name_of x) in
+      map-append (λ y. make (place_in names (name_of y)) y) xs (x ∷ [])
+      ∙ ap (λ ys. ys ++ make (place_in names (name_of x)) x ∷ []) (made-with (distinct (map name_of xs)) (name_of x) xs (all-among [] (map name_of xs)))
+
+-- one more name
+pub distinct-push : {X : Type 0} (name_of : X → List ℕ) (xs : List X) (x : X)
+    → distinct (map name_of (xs ++ x ∷ [])) ≡ with_name (distinct (map name_of xs)) (name_of x)
+distinct-push name_of xs x = rw (map-append name_of xs (x ∷ [])) (fold-append with_name [] (map name_of xs) (name_of x ∷ []))
 
 pub length-with_name : (names : List (List ℕ)) (name : List ℕ) → length (with_name names name) ≤ length names + 1
 length-with_name names name = by (is_among names name)

@@ -1,5 +1,5 @@
 -- Rows, their fields and the first fault among them.
-use Rattle.std.proofs.Common.{◌≡◌, ◌+◌, ◌==◌, ℕ, suc, zero, Bool, true, false, List, [], ◌∷◌, ◌++◌, Option, Some, None, Result, Ok, Err, take, length, refl, sym, arith, IsUtf8, All, if◌then◌else◌}
+use Rattle.std.proofs.Common.{◌≡◌, ◌≤◌, ◌+◌, ◌==◌, ℕ, suc, zero, Bool, true, false, List, [], ◌∷◌, ◌++◌, Option, Some, None, Result, Ok, Err, take, length, refl, sym, arith, IsUtf8, All, if◌then◌else◌}
 use Rattle.std.specs.Prelude.{MatchResult, is_ok}
 use Rattle.std.specs.List.{list_all}
 use Rattle.std.specs.Option.{option_or}
@@ -10,7 +10,8 @@ use Rattle.std.proofs.lemmas.Str.{IsUtf8-from_is_utf8, is_utf8-from_IsUtf8}
 use Rattle.csv.specs.Records.{field_at}
 use Rattle.mari_rows.specs.First.{first_fault_behind}
 use Rattle.mari_rows.specs.Records.{records_in}
-use Rattle.mari_rows.specs.Rows.{columns_of, fault_of_row, first_row_fault, rows_behind_header, rows_checked, rows_in, IsFaultOf}
+use Rattle.mari_rows.specs.Rows.{columns_of, fault_of_row, first_row_fault, is_header, rows_behind_header, rows_checked, rows_from, rows_in, rows_of_width, IsFaultOf}
+use Rattle.mari_rows.proofs.RecordLemmas.{length-records_in}
 use Rattle.mari_rows.specs.declared.faults.RowFault.{RowFault}
 use Rattle.mari_rows.specs.declared.faults.RowFault.TheVariants.{BadHeader, BadRow, NotUtf8, Memory}
 use Rattle.mari_rows.specs.declared.rows.Row.{Row}
@@ -75,3 +76,24 @@ widths columns page rows read = by (rows_behind_header (columns_of columns) (rec
     by (Ok all) e =
         let good = value-no-fault (first_row_fault (length (columns_of columns)) all) all rows (sym e) in
         rw good.1 (widths-behind (length (columns_of columns)) [] all good.0)
+
+-- a page has no more rows than bytes
+pub length-rows_in : (columns page : List ℕ) (rows : List Row) → rows_in columns page ≡ Ok rows → length rows ≤ length page
+length-rows_in columns page rows read = by (records_in page) (length-records_in page) read
+  where
+    length-rows_from : (line : ℕ) (records : List (List (List ℕ))) → length (rows_from line records) ≡ length records
+    length-rows_from line [] = refl
+    length-rows_from line (fields ∷ records) = rw (length-rows_from (line + 1) records) refl
+
+    checked : (all : List Row) → rows_of_width (length (columns_of columns)) all ≡ Ok rows → rows ≡ all
+    checked all e = (value-no-fault (first_row_fault (length (columns_of columns)) all) all rows (sym e)).1
+
+    by : (records : List (List (List ℕ))) → length records ≤ length page + 1
+        → rows_checked (length (columns_of columns)) (rows_behind_header (columns_of columns) records) ≡ Ok rows → length rows ≤ length page
+    by [] few e = cc e
+    by (header ∷ records) few e = headed (is_header (columns_of columns) header) e
+      where
+        headed : (b : Bool) → rows_checked (length (columns_of columns)) (if b then Ok (rows_from 2 records) else Err BadHeader) ≡ Ok rows
+            → length rows ≤ length page
+        headed false e = cc e
+        headed true e = rw (checked (rows_from 2 records) e, length-rows_from 2 records) (omega (arith, few))

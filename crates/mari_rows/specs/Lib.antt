@@ -1,6 +1,6 @@
 pub mod Books
+pub mod Fields
 pub mod First
 pub mod Names
-pub mod Numbers
 pub mod Records
 pub mod Rows

@@ -70,6 +70,16 @@ impl From<Memory> for BookFault {
     }
 }
 
+impl From<AllocError> for BookFault {
+    ghost use Rattle.mari_rows.specs.declared.faults.BookFault.TheVariants.{Memory};
+
+    ghost from_gives = { λ _ fault. fault ≡ Memory };
+
+    fn from(_: AllocError) -> Self {
+        BookFault::Memory
+    }
+}
+
 impl<T: Drop> From<AllocFailed<T>> for BookFault {
     ghost use Rattle.mari_rows.specs.declared.faults.BookFault.TheVariants.{Memory};
 

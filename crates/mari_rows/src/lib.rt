@@ -1,17 +1,19 @@
 //! Records of a page with their lines, and names in order of appearance.
 #![tactic(auto)]
 
+mod counts;
 mod faults;
 mod field;
+mod fields;
 mod names;
-mod numbers;
 mod records;
 mod rows;
 #[cfg(test)]
 mod tests;
 
+pub use counts::count_one;
 pub use faults::{AddFault, BookFault, RowFault};
 pub use field::Field;
+pub use fields::{cents_of, is_first_of, is_price, is_whole, number_of};
 pub use names::NameIndex;
-pub use numbers::{is_price, is_whole, number_of};
 pub use rows::{Row, RowReader, Rows, read_rows, rows_of};

@@ -2,7 +2,7 @@ use Rattle.std.proofs.Common.{◌≡◌, ◌<◌, ◌==◌, false, refl, ◌∙�
 use Rattle.std.proofs.lemmas.List.{length-append, length-map, map-append}
 use Rattle.mari_rows.specs.Names.{is_among}
 use Rattle.mari_rows.proofs.BookLemmas.{read-on, read-whole}
-use Rattle.mari_rows.proofs.PlaceLemmas.{distinct-push, length-distinct, places-push}
+use Rattle.mari_rows.proofs.PlaceLemmas.{distinct-push, length-distinct, made-push}
 use Rattle.mari_zones.specs.Zones.{operator_of, zone_grammar, zone_of}
 use Rattle.mari_zones.proofs.zones.book_of.Goals as goal
 
@@ -30,7 +30,7 @@ lines-preserved c =
       so_far = read-on zone_grammar inv.earlier c.lines.lines c.next.new.self c.args.lines.now line inv.so_far next none;
       zones = rw (zone, inv.zones) (sym (map-append zone_of inv.earlier (line ∷ [])));
       operators = rw (names, inv.operators) (sym (distinct-push operator_of inv.earlier line));
-      operator_of = rw (pushed, inv.operator_of, place, names, inv.operators) (sym (places-push operator_of inv.earlier line));
+      operator_of = rw (pushed, inv.operator_of, place, names, inv.operators) (sym (made-push (λ place row. place) operator_of inv.earlier line));
       limit = omega (arith, count, room, length-append inv.earlier (line ∷ []));
     }
 

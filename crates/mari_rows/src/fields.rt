@@ -1,9 +1,9 @@
-//! Numbers of a field.
+//! Numbers, prices and words of a field.
 ghost use Rattle.std.specs.Prelude.{◌≡◌, is_some};
 ghost use Rattle.mari_units.specs.Numbers.{price_of, whole_of};
-ghost use Rattle.mari_rows.specs.Numbers.{number_in};
+ghost use Rattle.mari_rows.specs.Fields.{cents_in, is_first_of as is_first, number_in};
 
-use mari_units::{NumberFault, read_cents, read_mw};
+use mari_units::{Cents, NumberFault, read_cents, read_mw};
 
 /// The whole number that a text writes, where it is from `least` to `greatest`.
 pub fn number_of(text: &[u8], least: u32, greatest: u32) -> Option<u32>
@@ -27,4 +27,24 @@ pub fn is_price(text: &[u8]) -> bool
     ensures { result ≡ is_some (price_of text.now) }
 {
     !matches!(read_cents(text), Err(NumberFault::NotANumber))
+}
+
+/// The price that a text writes, where it is from -CAP to CAP.
+pub fn cents_of(text: &[u8]) -> Option<Cents>
+    ensures { result ≡ cents_in text.now }
+{
+    read_cents(text).ok()
+}
+
+/// Whether a text is the first of two words, where it is one of them.
+pub fn is_first_of(text: &[u8], first: &[u8], second: &[u8]) -> Option<bool>
+    ensures { result ≡ is_first first.now second.now text.now }
+{
+    if text == first {
+        Some(true)
+    } else if text == second {
+        Some(false)
+    } else {
+        None
+    }
 }

@@ -1,0 +1,21 @@
+use Rattle.std.proofs.Common.{◌≤◌, length, arith}
+use Rattle.mari_rows.proofs.BookLemmas.{gives-error, gives-rows}
+use Rattle.mari_rows.proofs.RowLemmas.{length-rows_in}
+use Rattle.mari_bids.specs.Bids.{bid_columns, bid_grammar}
+use Rattle.mari_bids.proofs.bids.BidBook.read.Goals as goal
+
+pub book_of-requires : goal.book_of-requires
+unfolding bid_columns
+book_of-requires c =
+    let few : length c.in_ok-lines.lines ≤ length c.args.bids.now = length-rows_in bid_columns c.args.bids.now c.in_ok-lines.lines c.in_ok-lines.ensures.rows in
+    omega (arith, few, c.requires)
+
+pub returns-in_err-lines : goal.returns-in_err-lines
+unfolding bid_columns
+returns-in_err-lines c =
+    gives-error (bid_grammar c.args.zones.now c.args.quarters) c.args.bids.now c.in_err-lines.field-0.0 c.from_residual.result c.in_err-lines.ensures.fault
+    c.from_residual.ensures.1
+
+pub returns : goal.returns
+unfolding bid_columns
+returns c = gives-rows (bid_grammar c.args.zones.now c.args.quarters) c.args.bids.now c.in_ok-lines.lines c.book_of.result c.in_ok-lines.ensures.rows c.book_of.ensures

@@ -1,0 +1,27 @@
+-- Numbers, prices and words of a field.
+use Rattle.std.specs.Prelude.{ℕ, ℤ, pos, negsuc, List, Option, Some, None, Bool, true, false, nat_le, int_le, neg_ℤ, ◌&&◌, if◌then◌else◌}
+use Rattle.std.specs.Option.{option_and_then}
+use Rattle.std.specs.Str.{bytes_eq}
+use Rattle.mari_units.specs.Numbers.{price_of, whole_of}
+use Rattle.mari_units.specs.declared.numbers.Cents.{Cents}
+
+-- a number from the least to the greatest
+abbrev pub within : ℕ → ℕ → ℤ → Option ℕ
+within least greatest (pos n) = if nat_le least n && nat_le n greatest then Some n else None
+within least greatest (negsuc n) = None
+
+-- the whole number that a text writes, where it is from the least to the greatest
+abbrev pub number_in : ℕ → ℕ → List ℕ → Option ℕ
+number_in least greatest text = option_and_then (within least greatest) (whole_of text)
+
+-- a price from -CAP to CAP
+abbrev pub within_cap : ℤ → Option Cents
+within_cap cents = if int_le (neg_ℤ (pos 9999900)) cents && int_le cents (pos 9999900) then Some (record { 0 = cents }) else None
+
+-- the price that a text writes, where it is from -CAP to CAP
+abbrev pub cents_in : List ℕ → Option Cents
+cents_in text = option_and_then within_cap (price_of text)
+
+-- whether a text is the first of two words, where it is one of them
+abbrev pub is_first_of : List ℕ → List ℕ → List ℕ → Option Bool
+is_first_of first second text = if bytes_eq text first then Some true else if bytes_eq text second then Some false else None

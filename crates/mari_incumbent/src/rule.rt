@@ -1,0 +1,74 @@
+//! The rule of the word, and the kinds of step on it.
+
+use atomic_table::{Join, Play, Split, TableRule};
+
+/// What a seat knows. No value of it is made.
+pub struct View {
+    pub first: u64,
+    pub all: u64,
+    pub seen: u64,
+    pub offered: u64,
+    pub parts: u64,
+}
+
+/// The key is the first number and the parts of all seats.
+pub struct Law;
+
+impl TableRule<(), View, (u64, u64)> for Law {
+    ghost use Rattle.mari_incumbent.specs.Rule.{Kept, view_of};
+
+    ghost holds = { λ k s. Kept k.0 k.1 s.words s.views };
+
+    ghost first = { λ k. view_of k.0 k.1 k.0 k.0 k.1 };
+}
+
+/// One load.
+pub struct Look;
+
+impl Play<(), View> for Look {
+    ghost use Rattle.mari_incumbent.specs.Rule.{Looks};
+
+    ghost then = { Looks };
+}
+
+/// One `fetch_max`.
+pub struct Offer;
+
+impl Play<(), View> for Offer {
+    ghost use Rattle.mari_incumbent.specs.Rule.{Offers};
+
+    ghost then = { Offers };
+}
+
+/// One part goes to a new seat.
+pub struct Part;
+
+impl Split<View> for Part {
+    ghost use Rattle.mari_incumbent.specs.Rule.{less_one, one_part};
+
+    ghost left = { less_one };
+
+    ghost right = { one_part };
+}
+
+/// A seat without parts, which carries what was seen.
+pub struct Note;
+
+impl Split<View> for Note {
+    ghost use Rattle.mari_incumbent.specs.Rule.{note_of};
+
+    ghost left = { λ v. v };
+
+    ghost right = { note_of };
+}
+
+/// A seat is joined into another.
+pub struct Both;
+
+impl Join<View> for Both {
+    ghost use Rattle.mari_incumbent.specs.Rule.{both_of, nothing};
+
+    ghost both = { both_of };
+
+    ghost spent = { nothing };
+}

@@ -25,6 +25,7 @@ abbrev pub IsFalseLeaf : Market → ℤ → Prefix → TreeItem → Type 0
 IsFalseLeaf m cutoff x (Leaf leaf) = LeafHolds m cutoff (word_of x) leaf → ⊥
 IsFalseLeaf m cutoff x Branch = ⊥
 
+-- the answer to an item is right: what is next, a branch that has no gate to decide, or a leaf that doesn't hold
 abbrev pub IsStep : Market → ℤ → Prefix → TreeItem → Step → Type 0
 IsStep m cutoff x item (On next) = FitsItem m cutoff x item next × IfSome next (IsFeasiblePrefix m)
 IsStep m cutoff x item BadShape = IsFullBranch m x item

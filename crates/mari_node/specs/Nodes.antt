@@ -1,0 +1,52 @@
+-- A node of the search with the relaxed optimum that the solver gives.
+use Rattle.std.specs.Prelude.{◌≡◌, ◌<◌, ◌≤◌, Bool, ℕ, pos, List, length, Some, None}
+use Rattle.std.specs.Int.{int_max}
+use Rattle.std.specs.List.{All}
+use Rattle.mari_market.specs.declared.market.Market.{Market}
+use Rattle.mari_market.specs.declared.activation.Activation.{Activation}
+use Rattle.mari_market.specs.declared.finding.Relaxed.{Relaxed}
+use Rattle.mari_market.specs.Activation.{welfare_of}
+use Rattle.mari_market.specs.Conflict.{IsContradiction}
+use Rattle.mari_market.specs.Dual.{IsTight, dual_value_of}
+use Rattle.mari_market.specs.Prefix.{bounds_of_word, IsFeasibleWord}
+use Rattle.mari_market.specs.Price.{ArePrices}
+use Rattle.mari_market.specs.Relaxation.{IsWithinBounds, IsRelaxedWelfare}
+use Rattle.mari_flow.specs.declared.optimum.Solved.{Solved}
+
+-- the solved optimum as the best activation of its node
+abbrev pub best_found : Solved → Relaxed
+best_found s = record { potentials = s.potentials; bound = s.welfare; best = Some (record { activation = s.activation; welfare = s.welfare }); conflict = None }
+
+-- the solved optimum as a bound alone
+abbrev pub bound_found : Solved → Relaxed
+bound_found s = record { potentials = s.potentials; bound = s.welfare; best = None; conflict = None }
+
+-- the solved optimum as a conflict, by a chain of zones
+abbrev pub conflict_found : Solved → List ℕ → Relaxed
+conflict_found s chain = record { potentials = s.potentials; bound = s.welfare; best = None; conflict = Some (record { chain = chain; potentials = s.potentials; activation = s.activation }) }
+
+-- a chain of at most all zones contradicts all prices of an activation
+pub record IsContradictory (m : Market) (a : Activation) (zs : List ℕ) : Type 0 where
+  pub chain : IsContradiction m a zs
+  pub short : length zs ≤ m.zones
+  pub zones : All (λ z. z < m.zones) zs
+
+-- the relaxed optimum of a word, as the solver states it
+pub record IsRelaxedOptimum (m : Market) (word : List Bool) (s : Solved) : Type 0 where
+  pub within : IsWithinBounds (bounds_of_word m word) m s.activation
+  pub relaxed : IsRelaxedWelfare m word (welfare_of m s.activation)
+  pub dual : dual_value_of (bounds_of_word m word) m s.potentials.cents ≡ welfare_of m s.activation
+  pub tight : IsTight (bounds_of_word m word) m s.activation s.potentials.cents
+  pub potentials : ArePrices m s.potentials.cents
+  pub stated : pos s.welfare ≡ int_max (pos 0) (welfare_of m s.activation)
+
+-- the same at a feasible word that decides every gate
+pub record IsLastNode (m : Market) (word : List Bool) (s : Solved) : Type 0 where
+  pub optimum : IsRelaxedOptimum m word s
+  pub feasible : IsFeasibleWord m.gates word
+  pub full : length word ≡ length m.gates
+
+-- and at a word that leaves a gate undecided
+pub record IsInnerNode (m : Market) (word : List Bool) (s : Solved) : Type 0 where
+  pub optimum : IsRelaxedOptimum m word s
+  pub undecided : length word < length m.gates

@@ -1,0 +1,120 @@
+//! What is found of one node of the search.
+
+ghost use Rattle.std.specs.Prelude.{◌≡◌, Bool, List, IfOk};
+ghost use Rattle.mari_market.specs.Finding.{IsFinding, IsRelaxedFinding};
+ghost use Rattle.mari_market.specs.Market.{IsValid};
+ghost use Rattle.mari_market.specs.Optimal.{IsFeasible};
+ghost use Rattle.mari_market.specs.Prefix.{word_of, IsFeasiblePrefix};
+ghost use Rattle.mari_node.specs.Nodes.{best_found, bound_found, conflict_found, IsInnerNode, IsLastNode, IsRelaxedOptimum};
+
+use crate::admissibility::{contradiction, is_admissible};
+use mari_flow::{SolveFault, Solved, solve};
+use mari_market::{Attained, Conflict, Finding, Market, Prefix, Relaxed};
+use mari_units::{Items, Memory};
+use std::alloc::{AllocError, Global};
+
+/// The solved optimum as the best activation of its node.
+fn best_of(solved: Solved) -> Relaxed
+    ensures { result ≡ best_found solved }
+{
+    Relaxed {
+        potentials: solved.potentials,
+        bound: solved.welfare,
+        best: Some(Attained {
+            activation: solved.activation,
+            welfare: solved.welfare,
+        }),
+        conflict: None,
+    }
+}
+
+/// The solved optimum as a bound alone.
+fn bound_alone(solved: Solved) -> Relaxed
+    ensures { result ≡ bound_found solved }
+{
+    Relaxed {
+        potentials: solved.potentials,
+        bound: solved.welfare,
+        best: None,
+        conflict: None,
+    }
+}
+
+/// The solved optimum as a conflict, by a chain of zones whose prices contradict each other.
+fn conflict_by(solved: Solved, chain: Items<u32>) -> Result<Relaxed, AllocError>
+    ensures { IfOk result (λ relaxed. relaxed ≡ conflict_found solved chain) }
+{
+    let potentials = solved.potentials.clone()?;
+    Ok(Relaxed {
+        potentials,
+        bound: solved.welfare,
+        best: None,
+        conflict: Some(Conflict {
+            chain,
+            potentials: solved.potentials,
+            activation: solved.activation,
+        }),
+    })
+}
+
+/// What is found where every gate is decided: the optimum runs exactly the open gates, and it is the best of its gate word
+/// or shows that the word has none.
+fn last_node(alloc: Global, market: &Market, solved: Solved) -> Result<Relaxed, Memory>
+    requires valid { IsValid market.now }
+    requires feasible { IsFeasible market.now solved.activation }
+    ensures { (word : List Bool) → IsLastNode market.now word solved → IfOk result (IsRelaxedFinding market.now word) }
+{
+    match contradiction(alloc, market, &solved.activation)? {
+        None => Ok(best_of(solved)),
+        Some(chain) => Ok(conflict_by(solved, chain)?),
+    }
+}
+
+/// What is found where a gate is undecided: the optimum, where it is admissible, and its bound.
+fn inner_node(alloc: Global, market: &Market, solved: Solved) -> Result<Relaxed, Memory>
+    requires valid { IsValid market.now }
+    ensures { (word : List Bool) → IsInnerNode market.now word solved → IfOk result (IsRelaxedFinding market.now word) }
+{
+    if is_admissible(alloc, market, &solved.activation)? {
+        Ok(best_of(solved))
+    } else {
+        Ok(bound_alone(solved))
+    }
+}
+
+/// What is found of a prefix with a relaxed optimum.
+fn relaxed_node(
+    alloc: Global,
+    market: &Market,
+    prefix: &Prefix,
+    solved: Solved,
+) -> Result<Relaxed, Memory>
+    requires valid { IsValid market.now }
+    requires prefix { IsFeasiblePrefix market.now prefix.now }
+    requires optimum { IsRelaxedOptimum market.now (word_of prefix.now) solved }
+    ensures { IfOk result (IsRelaxedFinding market.now (word_of prefix.now)) }
+{
+    if prefix.length as usize == market.gates.as_slice().len() {
+        last_node(alloc, market, solved)
+    } else {
+        inner_node(alloc, market, solved)
+    }
+}
+
+/// Examines one node of the search, the prefix that stands there.
+///
+/// Where no activation lies within the prefix's bounds the finding is a cut that shows it. Else it has potentials, one for
+/// each zone in cents per MWh, whose dual value is the relaxed welfare of the prefix; that value in quarter-cents, or 0
+/// where it is negative; and it may have an admissible activation. At a prefix that decides every gate the activation is the
+/// best of that gate word, or a conflict shows that the word has no admissible activation.
+pub fn examine(alloc: Global, market: &Market, prefix: &Prefix) -> Result<Finding, Memory>
+    requires valid { IsValid market.now }
+    requires prefix { IsFeasiblePrefix market.now prefix.now }
+    ensures { IfOk result (IsFinding market.now (word_of prefix.now)) }
+{
+    match solve(alloc, market, prefix) {
+        Ok(solved) => Ok(Finding::Relaxed(relaxed_node(alloc, market, prefix, solved)?)),
+        Err(SolveFault::Cut(cut)) => Ok(Finding::Empty(cut)),
+        Err(SolveFault::Memory) => Err(Memory),
+    }
+}

@@ -9,6 +9,7 @@ use Rattle.mari_market.specs.declared.activation.Activation.{Activation}
 use Rattle.mari_market.specs.declared.clearing.Clearing.{Clearing}
 use Rattle.mari_market.specs.Clearing.{IsClearing}
 use Rattle.mari_market.specs.Interval.{AreLeastPrices, AreGreatestPrices, ArePublishedPrices}
+use Rattle.mari_market.specs.Optimal.{IsConsistent}
 use Rattle.mari_market.specs.Price.{price_at}
 use Rattle.mari_app.specs.Form.{BidRow, Input}
 use Rattle.mari_app.specs.Text.{ZoneShown, BidShown, Shown, day_text}
@@ -54,7 +55,8 @@ shown_at i k least greatest published = record {
 }
 
 -- the text of a day of these files: a clearing of their market within the budget of 10,000 nodes, so an optimal activation, its
--- welfare and a certificate tree that holds; and the least, the greatest and the published price of its zone
+-- welfare and a certificate tree that holds; and the least, the greatest and the published price of its zone, the last of which is
+-- consistent with the activation
 pub record IsDay (i : Input) (text : List ℕ) : Type 0 where
   pub clearing : Clearing
   pub least : List Cents
@@ -64,4 +66,5 @@ pub record IsDay (i : Input) (text : List ℕ) : Type 0 where
   pub least_prices : AreLeastPrices (market_at i) clearing.activation least
   pub greatest_prices : AreGreatestPrices (market_at i) clearing.activation greatest
   pub published_prices : ArePublishedPrices (market_at i) clearing.activation published
+  pub consistent : IsConsistent (market_at i) clearing.activation published
   pub printed : text ≡ day_text (shown_at i clearing least greatest published)

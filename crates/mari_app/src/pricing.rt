@@ -3,7 +3,7 @@
 ghost use Rattle.std.specs.Prelude.{◌≡◌, ◌<◌, ℕ, IfOk, length};
 ghost use Rattle.mari_market.specs.Interval.{AreLeastPrices, AreGreatestPrices, ArePublishedPrices, IsNearest};
 ghost use Rattle.mari_market.specs.Market.{IsValid};
-ghost use Rattle.mari_market.specs.Optimal.{IsAdmissible};
+ghost use Rattle.mari_market.specs.Optimal.{IsAdmissible, IsConsistent};
 ghost use Rattle.mari_market.specs.Price.{price_at};
 ghost use Rattle.mari_app.specs.Prices.{AreIntervals};
 
@@ -67,6 +67,7 @@ pub fn pricing_of(
     ensures least { IfOk result (λ p. AreLeastPrices market.now activation.now p.least.cents) }
     ensures greatest { IfOk result (λ p. AreGreatestPrices market.now activation.now p.greatest.cents) }
     ensures published { IfOk result (λ p. ArePublishedPrices market.now activation.now p.published.cents) }
+    ensures consistent { IfOk result (λ p. IsConsistent market.now activation.now p.published.cents) }
 {
     let intervals = intervals_of(alloc, market, activation)?;
     let published = nearest_prices(

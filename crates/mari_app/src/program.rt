@@ -27,6 +27,7 @@ use std::alloc::Global;
 
 /// What the words and the shelf's pages come to.
 fn outcome_of<S: Shelf>(alloc: Global, words: &[String], shelf: &mut S) -> Outcome
+    ensures same { S.pages shelf.new ≡ S.pages shelf.old }
     ensures command { IsNoCommand result ↔ (folder_at (map string_bytes words.now) ≡ None) }
     ensures told { (told : Pages) → S.pages shelf.old ≡ Some told → Says (map string_bytes words.now) told result }
     ensures failed { Counts (IsNoPage fetch.Failed result) (S.faults shelf.old) (S.faults shelf.new) }
@@ -132,6 +133,8 @@ pub fn run_program<S: Shelf, K: Sink>(
     // The headline: what is printed is a day of the pages.
     ensures done { result ≡ Status.Done → (told : Pages) → S.pages shelf.old ≡ Some told
         → WroteDay (map string_bytes words.now) told (K.taken sink.old) (K.taken sink.new) }
+
+    ensures same { S.pages shelf.new ≡ S.pages shelf.old }
 
     // Words that are no command, and nothing else, are answered by the usage line.
     ensures usage { result ≡ Status.Usage → folder_at (map string_bytes words.now) ≡ None }

@@ -106,6 +106,24 @@ fn nothing_traded(rt: HostRuntime) -> Result<(), Fail> {
 }
 
 #[test]
+fn negative_demand_without_a_bid(rt: HostRuntime) -> Result<(), Fail> {
+    let alloc = rt.alloc();
+    let shelf = shelf(alloc, BIDS, "run,zone,mw,price\n1,Z,-30,\n", &[])?;
+    let printed =
+        "mari 1 2025-03-12 96 10000\nrun 1 1 scheduled published\nwelfare 0\nzone Z -99999.00 -99999.00 -99999.00 1\ndemand 1 0\ntree 1\nbound -99999.00\nend 1\ndone 1 0\n";
+    compare(&rt, alloc, &["clear", "F"], shelf, 0, printed)
+}
+
+#[test]
+fn demand_of_nothing(rt: HostRuntime) -> Result<(), Fail> {
+    let alloc = rt.alloc();
+    let shelf = shelf(alloc, ONE_BID, "run,zone,mw,price\n1,Z,0,\n", &[])?;
+    let printed =
+        "mari 1 2025-03-12 96 10000\nrun 1 1 scheduled published\nwelfare 0\nzone Z 40.00 -99999.00 50.00 1\nbid u1 0\ndemand 1 0\ntree 1\nbound 50.00\nend 1\ndone 1 0\n";
+    compare(&rt, alloc, &["clear", "F"], shelf, 0, printed)
+}
+
+#[test]
 fn downward_bid_before_its_time(rt: HostRuntime) -> Result<(), Fail> {
     let alloc = rt.alloc();
     let bids =
@@ -142,19 +160,25 @@ fn fetch_that_fails(rt: HostRuntime) -> Result<(), Fail> {
 #[test]
 fn page_missing(rt: HostRuntime) -> Result<(), Fail> {
     let alloc = rt.alloc();
-    let pages = vec![in alloc; text_page(alloc, "F/day.csv", "date,rule\n")?]?;
+    let mut pages = Vec::new(alloc);
+    for (name, text) in PAGES {
+        if name != "F/links.csv" {
+            pages.push(text_page(alloc, name, text)?)?;
+        }
+    }
+    pages.push(text_page(alloc, "F/bids.csv", ONE_BID)?)?;
     let shelf = MemoryShelf::new(pages, plan(alloc, &[])?);
-    let printed = "missing zones.csv\n";
+    let printed = "missing links.csv\n";
     compare(&rt, alloc, &["clear", "F"], shelf, 8, printed)
 }
 
 #[test]
 fn page_too_long(rt: HostRuntime) -> Result<(), Fail> {
     let alloc = rt.alloc();
-    let bytes = vec![in alloc; b'Z'; 268_435_457]?;
-    let pages = vec![in alloc; page(alloc, "F/day.csv", bytes)?]?;
-    let shelf = MemoryShelf::new(pages, plan(alloc, &[])?);
-    let printed = "toolong day.csv\n";
+    let day = text_page(alloc, "F/day.csv", "date,rule\n")?;
+    let zones = page(alloc, "F/zones.csv", vec![in alloc; b'Z'; 268_435_457]?)?;
+    let shelf = MemoryShelf::new(vec![in alloc; day, zones]?, plan(alloc, &[])?);
+    let printed = "toolong zones.csv\n";
     compare(&rt, alloc, &["clear", "F"], shelf, 9, printed)
 }
 

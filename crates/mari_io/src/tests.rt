@@ -59,17 +59,43 @@ fn a_sink_takes_what_a_call_and_its_room_allow(rt: HostRuntime) -> Result<(), Fa
     Ok(())
 }
 
-#[test]
-fn a_real_file_is_a_page(rt: HostRuntime) -> Result<(), Fail> {
-    fs::write(&rt, "mari_io_test_zones.csv", b"zone,operator\nZ,T\n")?;
+/// What fetching a real file of so many bytes gives, and how many bytes were appended.
+fn fetch_real(
+    rt: HostRuntime,
+    path: &str,
+    length: usize,
+) -> Result<(Result<(), Fetch>, usize), Fail> {
+    fs::write(&rt, path, vec![in rt.alloc(); b'Z'; length]?.as_slice())?;
     let mut into = Vec::new(rt.alloc());
     let mut shelf = DiskShelf::new(rt);
-    assert_eq!(rt; shelf.fetch("mari_io_test_zones.csv", &mut into), Ok(()));
-    assert_eq!(rt; into.as_slice(), b"zone,operator\nZ,T\n".as_slice());
-    fs::remove_file(&rt, "mari_io_test_zones.csv")?;
-    let missing = shelf.fetch("mari_io_test_zones.csv", &mut into);
-    assert_eq!(rt; missing, Err(Fetch::Missing));
+    let fetched = shelf.fetch(path, &mut into);
+    fs::remove_file(&rt, path)?;
+    Ok((fetched, into.len()))
+}
+
+#[test]
+fn a_real_file_is_a_page(rt: HostRuntime) -> Result<(), Fail> {
+    let (fetched, length) = fetch_real(rt, "mari_io_test_page", 20_000)?;
+    assert_eq!(rt; fetched, Ok(()));
+    assert_eq!(rt; length, 20_000);
     Ok(())
+}
+
+#[test]
+fn a_real_file_is_too_long_past_the_limit(rt: HostRuntime) -> Result<(), Fail> {
+    let (fetched, length) = fetch_real(rt, "mari_io_test_long_page", 268_435_457)?;
+    assert_eq!(rt; fetched, Err(Fetch::TooLong));
+    assert_eq!(rt; length, 0);
+    Ok(())
+}
+
+#[test]
+fn no_file_is_missing_and_a_folder_fails(rt: HostRuntime) {
+    let mut into = Vec::new(rt.alloc());
+    let mut shelf = DiskShelf::new(rt);
+    let missing = shelf.fetch("mari_io_test_nothing", &mut into);
+    assert_eq!(rt; missing, Err(Fetch::Missing));
+    assert_eq!(rt; shelf.fetch(".", &mut into), Err(Fetch::Failed));
 }
 
 #[test]

@@ -2,7 +2,7 @@ use Rattle.std.proofs.Common.{◌≡◌, ◌<◌, ◌∙◌, ℕ, List, length, 
 use Rattle.mari_units.specs.declared.Cents.{Cents}
 use Rattle.mari_market.specs.Interval.{IsNearest, ArePublishedPrices}
 use Rattle.mari_market.specs.Price.{price_at}
-use Rattle.mari_app.specs.Prices.{AreIntervals}
+use Rattle.mari_market.proofs.Published.{published_consistent}
 use Rattle.mari_app.proofs.Intervals.{in_order, published}
 use Rattle.mari_app.proofs.pricing.pricing_of.Goals as goal
 
@@ -16,3 +16,6 @@ returns-clause-published c =
     rw c.of.ensures (published c.args.market.now c.args.activation.now _ _ _ c.in_ok-intervals.ensures.least c.in_ok-intervals.ensures.greatest
     (c.in_ok-published.ensures.one_each ∙ ap length c.as_slice.ensures)
     (rw (c.as_slice.ensures, c.as_slice-2.ensures) at c.in_ok-published.ensures.nearest))
+
+pub returns-clause-consistent : goal.returns-clause-consistent
+returns-clause-consistent c = published_consistent c.args.market.now c.args.activation.now _ c.requires.valid (returns-clause-published c)

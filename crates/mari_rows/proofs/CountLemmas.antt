@@ -1,10 +1,10 @@
 -- Counts of items by a number of theirs.
-use Rattle.std.proofs.Common.{◌≡◌, ◌≢◌, ◌≤◌, ◌<◌, ◌+◌, ◌==◌, ◌⊎◌, ◌∙◌, ◌++◌, ◌∷◌, [], ℕ, List, Bool, true, false, get_or, length, if◌then◌else◌, refl, sym, ap, arith, add-zero, inl, inr}
-use Rattle.std.specs.Prelude.{count_by}
+use Rattle.std.proofs.Common.{◌≡◌, ◌≢◌, ◌≤◌, ◌<◌, ◌+◌, ◌==◌, ◌⊎◌, ◌∙◌, ◌++◌, ◌∷◌, [], ℕ, List, Bool, true, false, get_or, length, if◌then◌else◌, refl, sym, ap, arith, add-zero, take, drop, inl, inr}
+use Rattle.std.specs.Prelude.{count_by, nat_le, nat_lt}
 use Rattle.std.proofs.Math.ListN.{set}
-use Rattle.std.proofs.lemmas.Bool.Decides.{eqb_tells}
+use Rattle.std.proofs.lemmas.Bool.Decides.{eqb_tells, nat_tests}
 use Rattle.std.proofs.lemmas.List.Sums.{fold-append}
-use Rattle.std.proofs.lemmas.List.{get_or-set_other}
+use Rattle.std.proofs.lemmas.List.{append-nil, drop_all, get_or-set_other, take_all}
 use Rattle.std.proofs.lemmas.Grind.{get_or-set_at}
 
 -- one more item is counted, or not
@@ -28,3 +28,14 @@ module _ {X : Type 0} (number_of : X → ℕ) (most : ℕ) (xs : List X) (x : X)
       by (inr other) =
           get_or-set_other counts (number_of x) k (get_or counts (number_of x) 0 + 1) 0 (λ e. other.1 (sym e))
           ∙ so_far k below ∙ sym (add-zero (count_by (λ y. number_of y == k) xs)) ∙ sym (rw other.0 at pushed)
+
+-- a count below the most, or not
+pub below : (most count : ℕ) → nat_lt count most ≡ true → nat_le most count ≡ false
+below most count room = grind (arith, nat_tests)
+
+pub not-below : (most count : ℕ) → nat_lt count most ≡ false → nat_le most count ≡ true
+not-below most count full = grind (arith, nat_tests)
+
+-- a list that was written over as a whole
+pub written-back : (old new : List ℕ) (len : ℕ) → length new ≡ length old → len ≡ length old → take len (new ++ drop (length new) old) ≡ new
+written-back old new len same all = rw (all, sym same, drop_all (length new) old (omega (arith, same)), append-nil new) (take_all (length new) new (omega arith))

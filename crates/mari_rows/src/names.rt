@@ -14,7 +14,7 @@ use std::marker::Model;
 /// Names, each once, which contracts see as the list of them in the order in which they were added.
 ///
 /// A name is found, and one is added, in constant time.
-#[derive(Debug, Drop)]
+#[derive(Debug)]
 pub struct NameIndex {
     names: IndexSet<Vec<u8>>,
 }
@@ -28,6 +28,12 @@ impl Model for NameIndex {
     ghost view = { λ n. map (λ v. v.items) n.names.keys };
 
     ghost invariant = { λ n. AreNames (map (λ v. v.items) n.names.keys) };
+}
+
+impl Drop for NameIndex {
+    fn drop(self) {
+        let Self { names: _names } = self;
+    }
 }
 
 impl NameIndex {

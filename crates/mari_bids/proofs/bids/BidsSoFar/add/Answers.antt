@@ -3,12 +3,11 @@ use Rattle.std.specs.Prelude.{nat_le, nat_lt}
 use Rattle.std.proofs.lemmas.List.{length-set, map-append}
 use Rattle.mari_rows.specs.Books.{first_failing}
 use Rattle.mari_rows.proofs.BookLemmas.{first_failing-append}
-use Rattle.mari_rows.proofs.CountLemmas.{counts-push}
+use Rattle.mari_rows.proofs.CountLemmas.{below, counts-push, not-below, written-back}
 use Rattle.mari_rows.proofs.FirstLemmas.{fault-first, value-no-fault}
 use Rattle.mari_rows.proofs.PlaceLemmas.{distinct-push, made-push}
 use Rattle.mari_bids.specs.Bids.{bid_at, bid_checks, count_of, id_of, line_checks, provider_of, quarter_at}
 use Rattle.mari_bids.specs.declared.bids.Bid.{Bid}
-use Rattle.mari_bids.proofs.BidLemmas.{below, not-below, written-back}
 use Rattle.mari_bids.proofs.bids.BidsSoFar.add.Goals as goal
 
 pub returns-in-Err : goal.returns-in-Err
@@ -32,7 +31,7 @@ returns-then-not-count_one c = λ earlier holds.
     let counted : get_or c.args.self.now.counts.items (quarter_at quarters line) 0 ≡ count = holds.counts (quarter_at quarters line) (rw (sym quarter) c.in-Ok.ensures.quarter) in
     let no : c.count_one.result ≡ false = search rules in
     let full = rw (c.deref_mut.ensures.value, quarter, counted) at (sym c.count_one.ensures.room ∙ no) in
-    (refl, first_failing-append ((nat_le 4096 count, 17) ∷ []) checks ∙ rw (good.0, not-below count full) refl)
+    (refl, first_failing-append ((nat_le 4096 count, 17) ∷ []) checks ∙ rw (good.0, not-below 4096 count full) refl)
 
 pub returns : goal.returns
 returns c = λ earlier holds.
@@ -56,7 +55,7 @@ returns c = λ earlier holds.
     let old = c.args.self.now.counts.items in
     let long : length c.count_one.new.counts ≡ length old = rw counts (length-set old (quarter_at quarters line) _) in
     let back = written-back old c.count_one.new.counts c.args.self.now.counts.len long c.args.self.now.counts.ok.0 ∙ counts in (
-      first_failing-append ((nat_le 4096 count, 17) ∷ []) checks ∙ rw (good.0, below count room) refl,
+      first_failing-append ((nat_le 4096 count, 17) ∷ []) checks ∙ rw (good.0, below 4096 count room) refl,
       record {
         ids = rw (id, holds.ids) (sym (map-append id_of earlier (line ∷ [])));
         providers = rw (names, holds.providers) (sym (distinct-push provider_of earlier line));

@@ -1,0 +1,12 @@
+//! The books of runs and of demands.
+//!
+//! They stand on the rows of a page and on the book of zones. A page gives exactly its book, or exactly its first refusal.
+#![tactic(auto)]
+
+mod demands;
+mod runs;
+#[cfg(test)]
+mod tests;
+
+pub use demands::{Demand, DemandBook};
+pub use runs::{Run, RunBook};

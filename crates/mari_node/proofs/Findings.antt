@@ -1,5 +1,5 @@
 -- What the solver and the test of prices tell is a finding.
-use Rattle.std.proofs.Common.{◌≡◌, ◌≢◌, Bool, true, false, not, ℕ, ◌<◌, ◌≤◌, ℤ, pos, ◌≤ℤ◌, List, length, Some, None, arith, refl, sym, ap, ◌∙◌, subst}
+use Rattle.std.proofs.Common.{◌≡◌, ◌≢◌, Bool, true, false, not, ℕ, ℤ, pos, ◌≤ℤ◌, List, length, Some, None, arith, refl, sym, ap, ◌∙◌, subst}
 use Rattle.std.proofs.lemmas.Int.{ints, clamps}
 use Rattle.std.proofs.lemmas.List.FromFn.{length-map-range_with_len}
 use Rattle.std.specs.Int.{int_max}
@@ -8,8 +8,7 @@ use Rattle.mari_market.specs.declared.market.Market.{Market}
 use Rattle.mari_market.specs.declared.market.GateInfo.{GateInfo}
 use Rattle.mari_market.specs.declared.prefix.Prefix.{Prefix}
 use Rattle.mari_market.specs.declared.activation.Activation.{Activation}
-use Rattle.mari_market.specs.declared.certificate.Conflict.{Conflict}
-use Rattle.mari_market.specs.Activation.{welfare_of, gate_word_of}
+use Rattle.mari_market.specs.Activation.{welfare_of}
 use Rattle.mari_market.specs.Conflict.{IsConflict}
 use Rattle.mari_market.specs.Dual.{dual_value_of}
 use Rattle.mari_market.specs.Finding.{IsAttained, IsRelaxedFinding}

@@ -8,7 +8,9 @@ use Rattle.mari_units.specs.declared.numbers.Quarters.{Quarters}
 use Rattle.mari_units.specs.Numbers.{printed_cents, printed_euros}
 use Rattle.mari_market.specs.declared.certificate.CutSide.{CutSide}
 use Rattle.mari_market.specs.declared.certificate.CutSide.TheVariants.{Out, In}
+use Rattle.mari_publish.specs.declared.publication.AmountLine.{AmountLine}
 use Rattle.mari_publish.specs.declared.publication.Block.{Block}
+use Rattle.mari_publish.specs.declared.publication.Heading.{Heading}
 use Rattle.mari_publish.specs.declared.publication.MoneyLine.{MoneyLine}
 use Rattle.mari_publish.specs.declared.publication.Publication.{Publication}
 use Rattle.mari_publish.specs.declared.line.Line.{Line}
@@ -65,11 +67,19 @@ keyword (line.Done published unpublished) = codes "done"
 abbrev pub money_fields : MoneyLine → List (List ℕ)
 money_fields m = m.name ∷ money_text m.payment ∷ money_text m.rent ∷ money_text m.net ∷ []
 
+-- a run's number, its quarter and its kind
+abbrev pub heading_fields : Heading → List (List ℕ)
+heading_fields h = decimal h.run ∷ decimal h.quarter ∷ kind_text h.direct ∷ []
+
+-- a provider's name and amount
+abbrev pub amount_fields : AmountLine → List (List ℕ)
+amount_fields a = a.name ∷ money_text a.amount ∷ []
+
 -- what stands behind the first word
 abbrev pub fields : Line → List (List ℕ)
 fields (line.Head date quarters budget) = codes "1" ∷ date ∷ decimal quarters ∷ decimal budget ∷ []
-fields (line.Run h) = decimal h.run ∷ decimal h.quarter ∷ kind_text h.direct ∷ codes "published" ∷ []
-fields (line.Unpublished h count) = decimal h.run ∷ decimal h.quarter ∷ kind_text h.direct ∷ codes "unpublished" ∷ decimal count ∷ []
+fields (line.Run heading) = heading_fields heading ++ codes "published" ∷ []
+fields (line.Unpublished heading count) = heading_fields heading ++ codes "unpublished" ∷ decimal count ∷ []
 fields (line.Welfare welfare) = decimal welfare ∷ []
 fields (line.Zone z) = z.name ∷ price_text z.price ∷ price_text z.least ∷ price_text z.greatest ∷ decimal z.area ∷ []
 fields (line.Border b) = b.from ∷ b.to ∷ signed_decimal b.flow ∷ money_text b.rent ∷ []
@@ -84,10 +94,10 @@ fields (line.At prices) = map price_text prices
 fields (line.Flows flows) = map signed_decimal flows
 fields (line.Mws mws) = map decimal mws
 fields (line.Operator operator) = money_fields operator
-fields (line.Provider p) = p.name ∷ money_text p.amount ∷ []
+fields (line.Provider provider) = amount_fields provider
 fields (line.End run) = decimal run ∷ []
 fields (line.TotalOperator operator) = money_fields operator
-fields (line.TotalProvider p) = p.name ∷ money_text p.amount ∷ []
+fields (line.TotalProvider provider) = amount_fields provider
 fields (line.Done published unpublished) = decimal published ∷ decimal unpublished ∷ []
 
 -- fields, each behind a space
@@ -95,7 +105,7 @@ abbrev pub spaced : List (List ℕ) → List ℕ
 spaced texts = flat_map (λ text. 32 ∷ text) texts
 
 -- a line without its end
-abbrev pub spelling : Line → List ℕ
+unfoldable pub spelling : Line → List ℕ
 spelling l = keyword l ++ spaced (fields l)
 
 -- a line with the line feed at its end

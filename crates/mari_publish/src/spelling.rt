@@ -1,8 +1,9 @@
 //! Each kind of line, as it is spelled.
+#![tactic(auto, unfolding(crate::specs::Spelling::spelling))]
 
-ghost use Rattle.std.specs.Prelude.{◌≡◌, ◌++◌, ◌∷◌, ◌≤◌, ◌^◌, OnOk};
+ghost use Rattle.std.specs.Prelude.{◌≡◌, ◌++◌, ◌∷◌, ◌≤◌, ◌^◌, OnOk, codes};
 ghost use Rattle.mari_publish.specs.Ranges.{IsMoney, IsMoneyLine, IsAmountLine};
-ghost use Rattle.mari_publish.specs.Spelling.{line_text, spaced, money_fields, kind_text};
+ghost use Rattle.mari_publish.specs.Spelling.{line_text, spaced, money_fields, amount_fields, heading_fields, kind_text};
 ghost use Rattle.mari_publish.specs.declared.line.Line.TheVariants as line;
 
 use crate::publication::{AmountLine, BidLine, BorderLine, Heading, MoneyLine, ZoneLine};
@@ -38,14 +39,21 @@ fn put_kind(out: &mut Vec<u8>, direct: bool) -> Result<(), Memory>
     }
 }
 
-/// Appends the heading of a published run.
-pub fn put_run(alloc: Global, out: &mut Vec<u8>, heading: Heading) -> Result<(), Memory>
-    ensures { OnOk result (out.new.items ≡ out.old.items ++ line_text (line.Run heading)) }
+/// Appends a run's keyword, its number, its quarter and its kind.
+fn put_heading(alloc: Global, out: &mut Vec<u8>, heading: Heading) -> Result<(), Memory>
+    ensures { OnOk result (out.new.items ≡ out.old.items ++ codes "run" ++ spaced (heading_fields heading)) }
 {
     put(out, b"run")?;
     put_number(alloc, out, u64::from(heading.run))?;
     put_number(alloc, out, u64::from(heading.quarter))?;
-    put_kind(out, heading.direct)?;
+    put_kind(out, heading.direct)
+}
+
+/// Appends the heading of a published run.
+pub fn put_run(alloc: Global, out: &mut Vec<u8>, heading: Heading) -> Result<(), Memory>
+    ensures { OnOk result (out.new.items ≡ out.old.items ++ line_text (line.Run heading)) }
+{
+    put_heading(alloc, out, heading)?;
     put(out, b" published\n")
 }
 
@@ -58,10 +66,7 @@ pub fn put_unpublished(
 ) -> Result<(), Memory>
     ensures { OnOk result (out.new.items ≡ out.old.items ++ line_text (line.Unpublished heading count)) }
 {
-    put(out, b"run")?;
-    put_number(alloc, out, u64::from(heading.run))?;
-    put_number(alloc, out, u64::from(heading.quarter))?;
-    put_kind(out, heading.direct)?;
+    put_heading(alloc, out, heading)?;
     put(out, b" unpublished")?;
     put_number(alloc, out, u64::from(count))?;
     put(out, b"\n")
@@ -166,14 +171,22 @@ pub fn put_total_operator(
     put(out, b"\n")
 }
 
+/// Appends a provider's name and amount.
+fn put_amount_fields(alloc: Global, out: &mut Vec<u8>, provider: &AmountLine) -> Result<(), Memory>
+    requires { IsAmountLine provider.now }
+    ensures { OnOk result (out.new.items ≡ out.old.items ++ spaced (amount_fields provider.now)) }
+{
+    put_field(out, provider.name.bytes())?;
+    put_money(alloc, out, provider.amount)
+}
+
 /// Appends a provider's line in a block.
 pub fn put_provider(alloc: Global, out: &mut Vec<u8>, provider: &AmountLine) -> Result<(), Memory>
     requires { IsAmountLine provider.now }
     ensures { OnOk result (out.new.items ≡ out.old.items ++ line_text (line.Provider provider.now)) }
 {
     put(out, b"provider")?;
-    put_field(out, provider.name.bytes())?;
-    put_money(alloc, out, provider.amount)?;
+    put_amount_fields(alloc, out, provider)?;
     put(out, b"\n")
 }
 
@@ -187,8 +200,7 @@ pub fn put_total_provider(
     ensures { OnOk result (out.new.items ≡ out.old.items ++ line_text (line.TotalProvider provider.now)) }
 {
     put(out, b"total-provider")?;
-    put_field(out, provider.name.bytes())?;
-    put_money(alloc, out, provider.amount)?;
+    put_amount_fields(alloc, out, provider)?;
     put(out, b"\n")
 }
 

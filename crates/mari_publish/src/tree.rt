@@ -1,4 +1,5 @@
 //! The lines of a certificate tree.
+#![tactic(auto, unfolding(crate::specs::Spelling::spelling))]
 
 ghost use Rattle.std.specs.Prelude.{◌≡◌, ◌++◌, ◌<◌, ◌≤◌, ◌+◌, ◌^◌, OnOk, map, length};
 ghost use Rattle.std.specs.List.{All, flat_map};
@@ -75,31 +76,67 @@ fn put_cut(alloc: Global, out: &mut Vec<u8>, cut: &Cut) -> Result<(), Memory>
     put(out, b"\n")
 }
 
-fn put_conflict(alloc: Global, out: &mut Vec<u8>, conflict: &Conflict) -> Result<(), Memory>
-    ensures { OnOk result (out.new.items ≡ out.old.items ++ text_of_lines (item_lines (TreeItem.Leaf (Leaf.Conflict conflict.now)))) }
+fn put_chain(alloc: Global, out: &mut Vec<u8>, zones: &[u32]) -> Result<(), Memory>
+    ensures { OnOk result (out.new.items ≡ out.old.items ++ line_text (line.Conflict zones.now)) }
 {
     put(out, b"conflict")?;
-    put_zones(alloc, out, conflict.chain.as_slice())?;
-    put(out, b"\nat")?;
-    put_prices(alloc, out, conflict.potentials.cents.as_slice())?;
-    put(out, b"\nflows")?;
-    put_flows(alloc, out, conflict.activation.flow.as_slice())?;
-    put(out, b"\nmws")?;
-    put_mws(alloc, out, conflict.activation.mw.as_slice())?;
+    put_zones(alloc, out, zones)?;
     put(out, b"\n")
 }
 
+fn put_at(alloc: Global, out: &mut Vec<u8>, prices: &[Cents]) -> Result<(), Memory>
+    ensures { OnOk result (out.new.items ≡ out.old.items ++ line_text (line.At prices.now)) }
+{
+    put(out, b"at")?;
+    put_prices(alloc, out, prices)?;
+    put(out, b"\n")
+}
+
+fn put_flow_line(alloc: Global, out: &mut Vec<u8>, flows: &[i64]) -> Result<(), Memory>
+    ensures { OnOk result (out.new.items ≡ out.old.items ++ line_text (line.Flows flows.now)) }
+{
+    put(out, b"flows")?;
+    put_flows(alloc, out, flows)?;
+    put(out, b"\n")
+}
+
+fn put_mw_line(alloc: Global, out: &mut Vec<u8>, mws: &[u32]) -> Result<(), Memory>
+    ensures { OnOk result (out.new.items ≡ out.old.items ++ line_text (line.Mws mws.now)) }
+{
+    put(out, b"mws")?;
+    put_mws(alloc, out, mws)?;
+    put(out, b"\n")
+}
+
+#[tactic(auto)]
+fn put_conflict(alloc: Global, out: &mut Vec<u8>, conflict: &Conflict) -> Result<(), Memory>
+    ensures { OnOk result (out.new.items ≡ out.old.items ++ text_of_lines (item_lines (TreeItem.Leaf (Leaf.Conflict conflict.now)))) }
+{
+    put_chain(alloc, out, conflict.chain.as_slice())?;
+    put_at(alloc, out, conflict.potentials.cents.as_slice())?;
+    put_flow_line(alloc, out, conflict.activation.flow.as_slice())?;
+    put_mw_line(alloc, out, conflict.activation.mw.as_slice())
+}
+
+fn put_branch(out: &mut Vec<u8>) -> Result<(), Memory>
+    ensures { OnOk result (out.new.items ≡ out.old.items ++ line_text line.Branch) }
+{
+    put(out, b"branch\n")
+}
+
+#[tactic(auto)]
 fn put_item(alloc: Global, out: &mut Vec<u8>, item: &TreeItem) -> Result<(), Memory>
     ensures { OnOk result (out.new.items ≡ out.old.items ++ text_of_lines (item_lines item.now)) }
 {
     match item {
-        TreeItem::Branch => put(out, b"branch\n"),
+        TreeItem::Branch => put_branch(out),
         TreeItem::Leaf(Leaf::Bound(prices)) => put_bound(alloc, out, prices.cents.as_slice()),
         TreeItem::Leaf(Leaf::Cut(cut)) => put_cut(alloc, out, cut),
         TreeItem::Leaf(Leaf::Conflict(conflict)) => put_conflict(alloc, out, conflict),
     }
 }
 
+#[tactic(auto)]
 fn put_items(alloc: Global, out: &mut Vec<u8>, items: &[TreeItem]) -> Result<(), Memory>
     ensures { OnOk result (out.new.items ≡ out.old.items ++ text_of_lines (flat_map item_lines items.now)) }
 {
@@ -110,6 +147,7 @@ fn put_items(alloc: Global, out: &mut Vec<u8>, items: &[TreeItem]) -> Result<(),
 }
 
 /// Appends the lines of a certificate tree.
+#[tactic(auto)]
 pub fn put_tree_lines(alloc: Global, out: &mut Vec<u8>, items: &[TreeItem]) -> Result<(), Memory>
     requires { length items.now ≤ 50000 }
     ensures { OnOk result (out.new.items ≡ out.old.items ++ text_of_lines (tree_lines items.now)) }

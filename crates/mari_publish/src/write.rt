@@ -162,6 +162,7 @@ fn published_in(blocks: &[Block]) -> u32
 }
 
 /// How many are not.
+#[tactic(auto, using(crate::proofs::Counts::counted))]
 fn unpublished_in(blocks: &[Block]) -> u32
     requires { length blocks.now ≤ 1000 }
     ensures { result ≡ unpublished_of blocks.now }
@@ -210,6 +211,7 @@ pub fn total_text(alloc: Global, publication: &Publication) -> Result<Vec<u8>, M
 }
 
 /// The text of a publication: that of its first line, of its blocks in their order, and of the totals.
+#[tactic(auto, using(crate::proofs::Parts::text_of_blocks))]
 pub fn write_text(alloc: Global, publication: &Publication) -> Result<Vec<u8>, Memory>
     requires { HasText publication.now }
     ensures text { IfOk result (λ text. text.items ≡ text_of publication.now) }

@@ -25,15 +25,23 @@ demand_lines place (mw ∷ mws) = line.Demand place mw ∷ demand_lines (place +
 
 -- the lines of zones, borders, bids and demands
 abbrev pub market_lines : FullBlock → List Line
-market_lines b = map line.Zone b.zones ++ map line.Border b.borders ++ map line.Bid b.bids ++ demand_lines 1 b.demands
+market_lines b = map line.Zone b.zones ++ (map line.Border b.borders ++ (map line.Bid b.bids ++ demand_lines 1 b.demands))
 
 -- the lines of a certificate tree: how many items it has, and the items
 abbrev pub tree_lines : List TreeItem → List Line
 tree_lines tree = line.Tree (length tree) ∷ flat_map item_lines tree
 
--- a published run: its heading, its welfare, its market, its tree, its operators and providers, and its number once more
+-- the first two lines of a published run: its heading and its welfare
+abbrev pub opening_lines : FullBlock → List Line
+opening_lines b = line.Run b.heading ∷ line.Welfare b.welfare ∷ []
+
+-- its last lines: its operators, its providers, and its number once more
+abbrev pub ending_lines : FullBlock → List Line
+ending_lines b = map line.Operator b.operators ++ (map line.Provider b.providers ++ line.End b.heading.run ∷ [])
+
+-- a published run: between them its market and its tree
 abbrev pub full_lines : FullBlock → List Line
-full_lines b = line.Run b.heading ∷ line.Welfare b.welfare ∷ (market_lines b ++ tree_lines b.tree ++ map line.Operator b.operators ++ map line.Provider b.providers ++ line.End b.heading.run ∷ [])
+full_lines b = opening_lines b ++ (market_lines b ++ (tree_lines b.tree ++ ending_lines b))
 
 -- a run that isn't published has one line
 abbrev pub block_lines : Block → List Line
@@ -54,7 +62,7 @@ unpublished_in (block.Unpublished heading count ∷ bs) = unpublished_in bs + 1
 
 -- the totals, and how many blocks of either kind there were
 abbrev pub closing_lines : Publication → List Line
-closing_lines p = map line.TotalOperator p.operators ++ map line.TotalProvider p.providers ++ line.Done (published_in p.blocks) (unpublished_in p.blocks) ∷ []
+closing_lines p = map line.TotalOperator p.operators ++ (map line.TotalProvider p.providers ++ line.Done (published_in p.blocks) (unpublished_in p.blocks) ∷ [])
 
 -- the first line, the blocks, and the closing lines
 abbrev pub lines_of : Publication → List Line

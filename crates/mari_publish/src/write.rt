@@ -2,7 +2,7 @@
 
 ghost use Rattle.std.specs.Prelude.{◌≡◌, ◌++◌, ◌+◌, ◌≤◌, ◌<◌, ◌^◌, OnOk, IfOk, map, length};
 ghost use Rattle.std.specs.List.{All, flat_map};
-ghost use Rattle.mari_publish.specs.Lines.{demand_lines, market_lines, full_lines, block_lines, closing_lines, published_in as published_of, unpublished_in as unpublished_of};
+ghost use Rattle.mari_publish.specs.Lines.{demand_lines, opening_lines, market_lines, ending_lines, full_lines, block_lines, closing_lines, published_in as published_of, unpublished_in as unpublished_of};
 ghost use Rattle.mari_publish.specs.Ranges.{InRange, IsMoney, IsMoneyLine, IsAmountLine, FullFits, BlockFits, TotalsFit, HasText};
 ghost use Rattle.mari_publish.specs.Spelling.{text_of_lines, head_text_of, block_text_of, total_text_of, text_of};
 ghost use Rattle.mari_publish.specs.declared.line.Line.TheVariants as line;
@@ -114,17 +114,30 @@ fn put_market(alloc: Global, out: &mut Vec<u8>, block: &FullBlock) -> Result<(),
     put_demands(alloc, out, block.demands.as_slice())
 }
 
+fn put_opening(alloc: Global, out: &mut Vec<u8>, block: &FullBlock) -> Result<(), Memory>
+    ensures { OnOk result (out.new.items ≡ out.old.items ++ text_of_lines (opening_lines block.now)) }
+{
+    put_run(alloc, out, block.heading)?;
+    put_welfare(alloc, out, block.welfare)
+}
+
+fn put_ending(alloc: Global, out: &mut Vec<u8>, block: &FullBlock) -> Result<(), Memory>
+    requires { FullFits block.now }
+    ensures { OnOk result (out.new.items ≡ out.old.items ++ text_of_lines (ending_lines block.now)) }
+{
+    put_operators(alloc, out, block.operators.as_slice())?;
+    put_providers(alloc, out, block.providers.as_slice())?;
+    put_end(alloc, out, block.heading.run)
+}
+
 fn put_full(alloc: Global, out: &mut Vec<u8>, block: &FullBlock) -> Result<(), Memory>
     requires { FullFits block.now }
     ensures { OnOk result (out.new.items ≡ out.old.items ++ text_of_lines (full_lines block.now)) }
 {
-    put_run(alloc, out, block.heading)?;
-    put_welfare(alloc, out, block.welfare)?;
+    put_opening(alloc, out, block)?;
     put_market(alloc, out, block)?;
     put_tree_lines(alloc, out, block.tree.as_slice())?;
-    put_operators(alloc, out, block.operators.as_slice())?;
-    put_providers(alloc, out, block.providers.as_slice())?;
-    put_end(alloc, out, block.heading.run)
+    put_ending(alloc, out, block)
 }
 
 fn put_block(alloc: Global, out: &mut Vec<u8>, block: &Block) -> Result<(), Memory>
@@ -215,7 +228,7 @@ pub fn total_text(alloc: Global, publication: &Publication) -> Result<Vec<u8>, M
 pub fn write_text(alloc: Global, publication: &Publication) -> Result<Vec<u8>, Memory>
     requires { HasText publication.now }
     ensures text { IfOk result (λ text. text.items ≡ text_of publication.now) }
-    ensures parts { IfOk result (λ text. text.items ≡ head_text_of publication.now.date publication.now.quarters publication.now.budget ++ flat_map block_text_of publication.now.blocks ++ total_text_of publication.now) }
+    ensures parts { IfOk result (λ text. text.items ≡ head_text_of publication.now.date publication.now.quarters publication.now.budget ++ (flat_map block_text_of publication.now.blocks ++ total_text_of publication.now)) }
 {
     let mut out = Vec::new(alloc);
     put_head(

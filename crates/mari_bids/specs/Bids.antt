@@ -1,5 +1,5 @@
 -- The book of bids.
-use Rattle.std.specs.Prelude.{◌≡◌, ◌≢◌, ◌≤◌, ◌<◌, ℕ, ◌==◌, length, Bool, false, List, [], ◌∷◌, ◌++◌, Option, not, ◌&&◌, nat_le, nat_lt, map, codes, is_some, unwrap_or, count_by, pos}
+use Rattle.std.specs.Prelude.{◌≡◌, ◌≢◌, ◌≤◌, ◌<◌, ℕ, ◌==◌, length, Bool, true, false, List, [], ◌∷◌, ◌++◌, Option, not, ◌&&◌, nat_le, nat_lt, map, codes, is_some, unwrap_or, count_by, pos}
 use Rattle.std.specs.List.{All, AllPairs}
 use Rattle.mari_units.specs.Names.{is_name}
 use Rattle.mari_units.specs.Numbers.{price_of, whole_of}
@@ -147,9 +147,13 @@ pub record IsBid (zones : ZoneBook) (providers quarters : ℕ) (bid : Bid) : Typ
   pub most : bid.greatest ≤ 9999
   pub least : bid.least ≤ bid.greatest
 
--- what holds of every book of bids that is read: each bid has a name of its own, and no quarter has more than 4,096
+-- what holds of every book of bids that is read: each bid has a name of its own, each provider a name, and no quarter has more
+-- than 4,096 bids
 pub record IsBidBook (zones : ZoneBook) (quarters : ℕ) (book : BidBook) : Type 0 where
   pub named : length book.ids ≡ length book.bids
+  pub ids : All (λ id. is_name id ≡ true) book.ids
+  pub providers : All (λ provider. is_name provider ≡ true) book.providers
+  pub few : length book.bids ≤ 268435456
   pub distinct : AllPairs (λ a b. a ≢ b) book.ids
   pub bids : All (IsBid zones (length book.providers) quarters) book.bids
   pub of_quarter : (quarter : ℕ) → count_by (λ (bid : Bid). bid.quarter == quarter) book.bids ≤ 4096

@@ -9,6 +9,7 @@ use Rattle.std.proofs.lemmas.Bool.{leb-true, ltb-true}
 use Rattle.std.proofs.lemmas.Int.{ints}
 use Rattle.std.proofs.lemmas.List.{append-nil}
 use Rattle.std.proofs.lemmas.List.Folds.{list_all-map}
+use Rattle.std.proofs.lemmas.List.Elements.{All-head, All-nil, All-push, All-tail}
 use Rattle.std.proofs.lemmas.List.Sums.{AllPass-from_list_all}
 use Rattle.std.proofs.lemmas.Option.{cond_some}
 use Rattle.std.proofs.lemmas.List.Quantifiers.{all_pairs_push}
@@ -17,7 +18,7 @@ use Rattle.mari_units.specs.declared.numbers.Cents.{Cents}
 use Rattle.mari_rows.specs.Books.{Checks, Grammar, first_failing, line_refusal}
 use Rattle.mari_rows.specs.Fields.{cents_in, number_in, within, within_cap, IsWithinCap}
 use Rattle.mari_rows.specs.First.{HasNoFault}
-use Rattle.mari_rows.specs.Names.{distinct, is_among, place_in}
+use Rattle.mari_rows.specs.Names.{distinct, is_among, place_in, with_name}
 use Rattle.mari_rows.specs.declared.rows.Row.{Row}
 use Rattle.mari_rows.specs.declared.faults.BookFault.TheVariants as refused
 use Rattle.mari_rows.proofs.BookLemmas.{IsBookOf, passed}
@@ -166,3 +167,18 @@ count_by-map f test xs = from 0 xs
     from : (n : ℕ) (ys : List _) → fold (λ m y. m + (if test y then 1 else 0)) n (map f ys) ≡ fold (λ m y. m + (if test (f y) then 1 else 0)) n ys
     from n [] = refl
     from n (y ∷ ys) = from (n + (if test (f y) then 1 else 0)) ys
+
+-- what holds of all names holds of the distinct ones
+module _ (P : List ℕ → Type 0) where
+  one-name : (names : List (List ℕ)) (name : List ℕ) → All P names → P name → All P (with_name names name)
+  one-name names name all here = elim (is_among names name) as (λ b. All P (if b then names else names ++ name ∷ [])) [
+      true ↦ all
+    | false ↦ All-push P names name all here
+    ]
+
+  each-name : (names xs : List (List ℕ)) → All P names → All P xs → All P (fold with_name names xs)
+  each-name names [] all more = all
+  each-name names (x ∷ xs) all more = each-name (with_name names x) xs (one-name names x all (All-head P x xs more)) (All-tail P x xs more)
+
+  pub all-distinct : (xs : List (List ℕ)) → All P xs → All P (distinct xs)
+  all-distinct xs all = each-name [] xs (All-nil P) all

@@ -22,4 +22,7 @@ unfolding bid_columns
 returns-clause-book c = gives-rows (bid_grammar c.args.zones.now c.args.quarters) c.args.bids.now c.in_ok-lines.lines c.book_of.result c.in_ok-lines.ensures.rows c.book_of.ensures
 
 pub returns-clause-bids : goal.returns-clause-bids
-returns-clause-bids c = bid-facts c.args.zones.now c.args.quarters c.in_ok-lines.lines c.book_of.result c.book_of.ensures
+unfolding bid_columns
+returns-clause-bids c =
+    let few : length c.in_ok-lines.lines ≤ length c.args.bids.now = length-rows_in bid_columns c.args.bids.now c.in_ok-lines.lines c.in_ok-lines.ensures.rows in
+    bid-facts c.args.zones.now c.args.quarters c.in_ok-lines.lines c.book_of.result (omega (arith, few, c.requires)) c.book_of.ensures

@@ -1,16 +1,17 @@
 //! The books of a folder, or the first refusal.
 
-ghost use Rattle.std.specs.Prelude.{◌≡◌, ◌≤◌, IfOk, Some, Result as Res, length};
+ghost use Rattle.std.specs.Prelude.{◌≡◌, ◌≤◌, ℕ, IfOk, IfErr, Some, Result as Res, length};
 ghost use Rattle.mari_io.specs.Outside.{Counts, Pages};
 ghost use Rattle.mari_io.specs.declared.shelf.Fetch.TheVariants as fetch;
 ghost use Rattle.mari_rows.specs.Books.{book_in, GivesBook};
 ghost use Rattle.mari_rows.specs.declared.faults.BookFault.{BookFault as Fault};
-ghost use Rattle.mari_zones.specs.Zones.{zone_grammar};
-ghost use Rattle.mari_zones.specs.Borders.{border_grammar};
+ghost use Rattle.mari_zones.specs.Zones.{zone_grammar, IsZoneBook};
+ghost use Rattle.mari_zones.specs.declared.zones.ZoneBook.{ZoneBook as Zones};
+ghost use Rattle.mari_zones.specs.Borders.{border_grammar, IsBorderBook};
 ghost use Rattle.mari_bids.specs.Bids.{bid_grammar, IsBidBook};
-ghost use Rattle.mari_links.specs.Links.{link_grammar};
-ghost use Rattle.mari_demands.specs.Demands.{demand_grammar};
-ghost use Rattle.mari_demands.specs.Runs.{run_grammar};
+ghost use Rattle.mari_links.specs.Links.{link_grammar, IsLinkBook};
+ghost use Rattle.mari_demands.specs.Demands.{demand_grammar, IsDemandBook};
+ghost use Rattle.mari_demands.specs.Runs.{run_grammar, IsRunBook};
 ghost use Rattle.mari_remain.specs.Accepted.{IsAccepted};
 ghost use Rattle.mari_day.specs.Files.{place_of};
 ghost use Rattle.mari_day.specs.Reading.{books_at, day_at, day_page as day_page_of, date_text, of_file, page_of, refusal_at, BooksTell, IsFetchFault, NamesAFile, Reads};
@@ -53,6 +54,7 @@ fn refusal_of(file: File, line: u32, number: u8) -> Refusal
 fn named<T: Drop>(file: File, read: Result<T, BookFault>) -> Result<T, BooksFault>
     ensures reads { (given : Res T Fault) → GivesBook read given → Reads result (of_file file given) }
     ensures ok { IfOk result (λ book. read ≡ Ok book) }
+    ensures file { NamesAFile result }
 {
     match read {
         Ok(book) => Ok(book),
@@ -73,7 +75,8 @@ fn day_page() -> &'static [u8]
 
 /// Accepts the page of the day, which at this stage has one form.
 fn read_day(folder: &Folder) -> Result<(), BooksFault>
-    ensures { Reads result (day_at folder.now) }
+    ensures reads { Reads result (day_at folder.now) }
+    ensures file { NamesAFile result }
 {
     if folder.page(File::Day) == day_page() {
         Ok(())
@@ -85,7 +88,8 @@ fn read_day(folder: &Folder) -> Result<(), BooksFault>
 /// The date of that page.
 #[tactic(auto, unfolding(crate::specs::Reading::date_text))]
 fn date_of(alloc: Global) -> Result<Name, BooksFault>
-    ensures { IfOk result (λ date. date ≡ date_text) }
+    ensures date { IfOk result (λ date. date ≡ date_text) }
+    ensures memory { IfErr result (λ fault. fault ≡ BooksFault.Memory) }
 {
     match read_name(alloc, b"2025-03-12") {
         Ok(date) => Ok(date),
@@ -93,26 +97,97 @@ fn date_of(alloc: Global) -> Result<Name, BooksFault>
     }
 }
 
+fn read_zones(alloc: Global, folder: &Folder) -> Result<ZoneBook, BooksFault>
+    ensures reads { Reads result (of_file File.Zones (book_in zone_grammar (page_of folder.now File.Zones))) }
+    ensures file { NamesAFile result }
+    ensures facts { IfOk result IsZoneBook }
+{
+    named(
+        File::Zones,
+        ZoneBook::read(alloc, folder.page(File::Zones)),
+    )
+}
+
+fn read_borders(
+    alloc: Global,
+    folder: &Folder,
+    zones: &ZoneBook,
+) -> Result<BorderBook, BooksFault>
+    ensures reads { Reads result (of_file File.Borders (book_in (border_grammar zones.now) (page_of folder.now File.Borders))) }
+    ensures file { NamesAFile result }
+    ensures facts { IfOk result (IsBorderBook zones.now) }
+{
+    named(
+        File::Borders,
+        BorderBook::read(alloc, folder.page(File::Borders), zones),
+    )
+}
+
+fn read_bids(alloc: Global, folder: &Folder, zones: &ZoneBook) -> Result<BidBook, BooksFault>
+    ensures reads { Reads result (of_file File.Bids (book_in (bid_grammar zones.now 96) (page_of folder.now File.Bids))) }
+    ensures file { NamesAFile result }
+    ensures facts { IfOk result (IsBidBook zones.now 96) }
+{
+    named(
+        File::Bids,
+        BidBook::read(alloc, folder.page(File::Bids), zones, QUARTERS),
+    )
+}
+
+fn read_links(alloc: Global, folder: &Folder, bids: &BidBook) -> Result<LinkBook, BooksFault>
+    ensures reads { Reads result (of_file File.Links (book_in (link_grammar bids.now) (page_of folder.now File.Links))) }
+    ensures file { NamesAFile result }
+    ensures facts { (zones : Zones) (quarters : ℕ) → IsBidBook zones quarters bids.now → IfOk result (IsLinkBook bids.now) }
+{
+    named(
+        File::Links,
+        LinkBook::read(alloc, folder.page(File::Links), bids),
+    )
+}
+
+fn read_runs(alloc: Global, folder: &Folder) -> Result<RunBook, BooksFault>
+    ensures reads { Reads result (of_file File.Runs (book_in (run_grammar 96) (page_of folder.now File.Runs))) }
+    ensures file { NamesAFile result }
+    ensures facts { IfOk result (IsRunBook 96) }
+{
+    named(
+        File::Runs,
+        RunBook::read(alloc, folder.page(File::Runs), QUARTERS),
+    )
+}
+
+fn read_demands(
+    alloc: Global,
+    folder: &Folder,
+    runs: &RunBook,
+    zones: &ZoneBook,
+) -> Result<DemandBook, BooksFault>
+    requires { length runs.now.runs ≤ 1000 }
+    ensures reads { Reads result (of_file File.Demands (book_in (demand_grammar zones.now (length runs.now.runs)) (page_of folder.now File.Demands))) }
+    ensures file { NamesAFile result }
+    ensures facts { IfOk result (IsDemandBook zones.now (length runs.now.runs)) }
+{
+    named(
+        File::Demands,
+        DemandBook::read(alloc, folder.page(File::Demands), runs, zones),
+    )
+}
+
 /// The books of the pages, in the order of their files, or the first refusal.
 #[tactic(auto, unfolding(crate::specs::Reading::books_at))]
 fn books_of(alloc: Global, folder: &Folder) -> Result<Books, BooksFault>
     ensures reads { Reads result (books_at folder.now) }
+    ensures file { NamesAFile result }
     ensures accepted { IfOk result IsAccepted }
 {
     read_day(folder)?;
-    let page = folder.page(File::Zones);
-    let zones = named(File::Zones, ZoneBook::read(alloc, page))?;
-    let page = folder.page(File::Borders);
-    let borders = named(File::Borders, BorderBook::read(alloc, page, &zones))?;
-    let page = folder.page(File::Bids);
-    let bids = named(File::Bids, BidBook::read(alloc, page, &zones, QUARTERS))?;
-    let page = folder.page(File::Links);
-    let links = named(File::Links, LinkBook::read(alloc, page, &bids))?;
-    let page = folder.page(File::Runs);
-    let runs = named(File::Runs, RunBook::read(alloc, page, QUARTERS))?;
-    let page = folder.page(File::Demands);
-    let demands = named(File::Demands, DemandBook::read(alloc, page, &runs, &zones))?;
     let date = date_of(alloc)?;
+    let zones = read_zones(alloc, folder)?;
+    let borders = read_borders(alloc, folder, &zones)?;
+    let bids = read_bids(alloc, folder, &zones)?;
+    let links = read_links(alloc, folder, &bids)?;
+    let runs = read_runs(alloc, folder)?;
+    let demands = read_demands(alloc, folder, &runs, &zones)?;
     Ok(Books {
         date,
         quarters: QUARTERS,

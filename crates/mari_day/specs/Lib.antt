@@ -1,3 +1,5 @@
 pub mod Files
 pub mod Fetching
 pub mod Reading
+pub mod Prices
+pub mod Run

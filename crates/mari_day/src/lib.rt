@@ -5,7 +5,9 @@
 #![tactic(auto)]
 
 mod files;
+mod lines;
 mod pages;
+mod pricing;
 mod reading;
 
 pub use files::{FILES, File};

@@ -1,0 +1,46 @@
+//! Sums of ledgers.
+
+ghost use Rattle.std.specs.Prelude.{◌≡◌, length};
+ghost use Rattle.std.specs.List.{AllZip};
+ghost use Rattle.mari_settle.specs.Conditions.{AddUp, LedgersAddUp, LinesAddUp};
+ghost use Rattle.mari_settle.specs.Lines.{lines_together, map_along, together};
+
+use crate::ledger::{Ledger, OperatorLine};
+use mari_units::Quarters;
+
+fn add_amounts(amounts: &mut [Quarters], others: &[Quarters])
+    requires { AllZip AddUp amounts.old others.now }
+    ensures { amounts.new ≡ map_along together amounts.old others.now }
+{
+    for (i, other) in others.iter().enumerate() {
+        amounts[i] = Quarters(amounts[i].0 + other.0);
+    }
+}
+
+fn add_lines(lines: &mut [OperatorLine], others: &[OperatorLine])
+    requires { AllZip LinesAddUp lines.old others.now }
+    ensures { lines.new ≡ map_along lines_together lines.old others.now }
+{
+    for (i, other) in others.iter().enumerate() {
+        lines[i] = OperatorLine {
+            payment: Quarters(lines[i].payment.0 + other.payment.0),
+            rent: Quarters(lines[i].rent.0 + other.rent.0),
+        };
+    }
+}
+
+impl Ledger {
+    /// Adds another ledger to this one, number by number.
+    ///
+    /// Both are of the same books and the same borders, so that they have as many lines, amounts and rents.
+    pub fn add(&mut self, other: &Ledger)
+        requires { LedgersAddUp self.old other.now }
+        ensures operators { self.new.operators ≡ map_along lines_together self.old.operators other.now.operators }
+        ensures providers { self.new.providers ≡ map_along together self.old.providers other.now.providers }
+        ensures rents { self.new.rents ≡ map_along together self.old.rents other.now.rents }
+    {
+        add_lines(self.operators.as_mut_slice(), other.operators.as_slice());
+        add_amounts(self.providers.as_mut_slice(), other.providers.as_slice());
+        add_amounts(self.rents.as_mut_slice(), other.rents.as_slice());
+    }
+}

@@ -38,13 +38,18 @@ pub record IsPayable (bids : BidBook) (zones : ℕ) (bid : Bid) : Type 0 where
 abbrev pub NamesBid : BidBook → ℕ → ℕ → Type 0
 NamesBid bids zones number = IsSomeAnd (slice_get bids.bids number) (IsPayable bids zones)
 
+-- a flow for each border, within its limits
+pub record HasFlows (m : Market) (a : Activation) : Type 0 where
+  pub one_each : length a.flow ≡ length m.borders
+  pub within : AllZip IsWithinLimits m.borders a.flow
+
 -- what operators' lines are made of: a valid market, each of whose zones has an operator and a price within the cap, and
 -- flows within the borders' limits
 pub record Settles (zones : ZoneBook) (m : Market) (a : Activation) (ps : List Cents) : Type 0 where
   pub market : IsValid m
   pub operators : length zones.operator_of ≡ m.zones
   pub prices : ArePrices m ps
-  pub flows : AllZip IsWithinLimits m.borders a.flow
+  pub flows : HasFlows m a
 
 -- a bid's side: an upward bid injects
 abbrev pub side_of : Bid → Side
@@ -84,9 +89,13 @@ pub record LedgersAddUp (a b : Ledger) : Type 0 where
 abbrev pub IsSmall : Quarters → Type 0
 IsSmall a = unsigned_abs a.0 ≤ 10 ^ 17
 
+-- so are the two of an operator's line
+pub record IsSmallLine (line : OperatorLine) : Type 0 where
+  pub payment : IsSmall line.payment
+  pub rent : IsSmall line.rent
+
 -- so is every number of a ledger
 pub record HasSmallNumbers (ledger : Ledger) : Type 0 where
-  pub payments : All (λ (line : OperatorLine). IsSmall line.payment) ledger.operators
-  pub operator_rents : All (λ (line : OperatorLine). IsSmall line.rent) ledger.operators
+  pub operators : All IsSmallLine ledger.operators
   pub providers : All IsSmall ledger.providers
   pub rents : All IsSmall ledger.rents

@@ -50,10 +50,14 @@ carried_in z b f = (if b.to == z then f else pos 0) -ℤ (if b.from == z then f 
 abbrev pub net_import : Market → Activation → ℕ → ℤ
 net_import m a z = sum_along (carried_in z) m.borders a.flow
 
--- an operator's payment: over its zones, price times net import
+-- what an operator gets for the net import of a zone: price times quantity, and nothing where the zone is another's
+abbrev pub payment_at : ZoneBook → Market → Activation → List Cents → (operator zone : ℕ) → ℤ
+payment_at zones m a ps operator zone = if operator_at zones zone == operator then price_at ps zone *ℤ net_import m a zone else pos 0
+
+-- an operator's payment: over all zones, what it gets for each
 abbrev pub operator_payment : ZoneBook → Market → Activation → List Cents → ℕ → ℤ
 operator_payment zones m a ps operator =
-    int_sum (λ z. if operator_at zones z == operator then price_at ps z *ℤ net_import m a z else pos 0) (range_with_len 0 m.zones)
+    int_sum (payment_at zones m a ps operator) (range_with_len 0 m.zones)
 
 -- the line of one operator, and those of all
 abbrev pub operator_line : ZoneBook → Market → Activation → List Cents → ℕ → OperatorLine

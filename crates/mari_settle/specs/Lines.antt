@@ -1,5 +1,5 @@
 -- Lists of money.
-use Rattle.std.specs.Prelude.{ℤ, pos, ◌+ℤ◌, List, [], ◌∷◌}
+use Rattle.std.specs.Prelude.{ℕ, ℤ, pos, ◌+ℤ◌, List, [], ◌∷◌, slice_index_or}
 use Rattle.mari_units.specs.declared.numbers.Quarters.{Quarters}
 use Rattle.mari_settle.specs.declared.ledger.OperatorLine.{OperatorLine}
 
@@ -9,6 +9,10 @@ nothing = record { 0 = pos 0 }
 
 abbrev pub no_line : OperatorLine
 no_line = record { payment = nothing; rent = nothing }
+
+-- the amount at a place of a list
+abbrev pub amount_at : List Quarters → ℕ → ℤ
+amount_at amounts k = (slice_index_or amounts k nothing).0
 
 -- what f gives of two lists side by side
 abbrev pub map_along : {X Y Z : Type 0} → (X → Y → Z) → List X → List Y → List Z

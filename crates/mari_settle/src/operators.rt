@@ -1,12 +1,12 @@
 //! What operators get for the energy that their zones take in, and their parts of the rents.
 
 ghost use Rattle.std.specs.Prelude.{◌≡◌, ◌≤◌, ◌*◌, ◌<◌, ℕ, ℤ, length, IsTrue, if◌then◌else◌, pos, ◌-ℤ◌, ◌+ℤ◌, ◌*ℤ◌, unsigned_abs};
-ghost use Rattle.std.specs.List.{All, AllZip};
+ghost use Rattle.std.specs.List.{All};
 ghost use Rattle.mari_market.specs.Activation.{IsWithinLimits};
 ghost use Rattle.mari_market.specs.Market.{IsValid, IsValidBorder};
 ghost use Rattle.mari_market.specs.Price.{price_at};
-ghost use Rattle.mari_settle.specs.Conditions.{IsCapped, Settles};
-ghost use Rattle.mari_settle.specs.Ledger.{carried_in as carried_into, half_of, net_import as net_import_of, operator_at, operator_line as line_of, operator_lines, operator_payment as payment_of, operator_rent as rent_of_operator, rent_of as rent_at, share_of};
+ghost use Rattle.mari_settle.specs.Conditions.{HasFlows, IsCapped, IsSmallLine, Settles};
+ghost use Rattle.mari_settle.specs.Ledger.{carried_in as carried_into, half_of, net_import as net_import_of, operator_at, operator_line as line_of, operator_lines, operator_payment as payment_of, payment_at, operator_rent as rent_of_operator, rent_of as rent_at, share_of};
 
 use crate::ledger::OperatorLine;
 use crate::rents::{price_of, product, rent_of};
@@ -14,16 +14,33 @@ use mari_market::{Activation, Border, Market};
 use mari_units::{Cents, Quarters};
 use mari_zones::ZoneBook;
 
+// Half of a rent, rounded down to a quarter-cent.
+fn lesser_half(rent: i128) -> i128
+    requires { unsigned_abs rent ≤ 4000000000000 }
+    ensures value { result ≡ half_of rent }
+    ensures small { unsigned_abs result ≤ 4000000000000 }
+    ensures rest { unsigned_abs (rent -ℤ result) ≤ 4000000000000 }
+{
+    rent.div_euclid(2)
+}
+
+// A part of a rent for one to whom it is due, and nothing for another.
+fn part_if(due: bool, part: i128) -> i128
+    requires { unsigned_abs part ≤ 4000000000000 }
+    ensures value { result ≡ (if due then part else pos 0) }
+    ensures small { unsigned_abs result ≤ 4000000000000 }
+{
+    if due { part } else { 0 }
+}
+
 // What an operator gets of a rent, where it operates the border's first zone, its second one, or both.
 fn share(first: bool, second: bool, rent: i128) -> i128
     requires { unsigned_abs rent ≤ 4000000000000 }
     ensures value { result ≡ (if first then rent -ℤ half_of rent else pos 0) +ℤ (if second then half_of rent else pos 0) }
     ensures small { unsigned_abs result ≤ 8000000000000 }
 {
-    let half = rent.div_euclid(2);
-    let of_first = if first { rent - half } else { 0 };
-    let of_second = if second { half } else { 0 };
-    of_first + of_second
+    let half = lesser_half(rent);
+    part_if(first, rent - half) + part_if(second, half)
 }
 
 // The operator of a zone.
@@ -89,7 +106,7 @@ fn carried_in(zone: u32, border: &Border, flow: i64) -> i64
 // The flows that enter a zone less those that leave it.
 fn net_import(market: &Market, activation: &Activation, zone: u32) -> i64
     requires market { IsValid market.now }
-    requires flows { AllZip IsWithinLimits market.now.borders activation.now.flow }
+    requires flows { HasFlows market.now activation.now }
     ensures value { result ≡ net_import_of market.now activation.now zone }
     ensures small { unsigned_abs result ≤ 256 * 400000 }
 {
@@ -104,13 +121,34 @@ fn net_import(market: &Market, activation: &Activation, zone: u32) -> i64
 // What the energy that a zone takes in is worth.
 fn import_worth(market: &Market, activation: &Activation, prices: &[Cents], zone: u32) -> i128
     requires market { IsValid market.now }
-    requires flows { AllZip IsWithinLimits market.now.borders activation.now.flow }
+    requires flows { HasFlows market.now activation.now }
     requires zone { zone < length prices.now }
     requires prices { All IsCapped prices.now }
     ensures value { result ≡ price_at prices.now zone *ℤ net_import_of market.now activation.now zone }
     ensures small { unsigned_abs result ≤ 9999900 * 102400000 }
 {
     product(price_of(prices, zone), net_import(market, activation, zone))
+}
+
+// What an operator gets for the energy that a zone takes in: nothing where the zone is another's.
+fn payment_for(
+    zones: &ZoneBook,
+    market: &Market,
+    activation: &Activation,
+    prices: &[Cents],
+    operator: usize,
+    zone: u32,
+) -> i128
+    requires settles { Settles zones.now market.now activation.now prices.now }
+    requires zone { zone < market.now.zones }
+    ensures value { result ≡ payment_at zones.now market.now activation.now prices.now operator zone }
+    ensures small { unsigned_abs result ≤ 9999900 * 102400000 }
+{
+    if operator_of(zones, zone) == operator {
+        import_worth(market, activation, prices, zone)
+    } else {
+        0
+    }
 }
 
 // What an operator gets for the energy that its zones take in.
@@ -127,9 +165,7 @@ fn operator_payment(
 {
     let mut total = 0;
     for zone in 0..market.zones {
-        if operator_of(zones, zone) == operator {
-            total += import_worth(market, activation, prices, zone);
-        }
+        total += payment_for(zones, market, activation, prices, operator, zone);
     }
     total
 }
@@ -144,7 +180,8 @@ pub(crate) fn write_lines(
 )
     requires lengths { length lines.old ≡ length zones.now.operators }
     requires settles { Settles zones.now market.now activation.now prices.now }
-    ensures { lines.new ≡ operator_lines zones.now market.now activation.now prices.now }
+    ensures value { lines.new ≡ operator_lines zones.now market.now activation.now prices.now }
+    ensures small { All IsSmallLine lines.new }
 {
     for operator in 0..lines.len() {
         lines[operator] = OperatorLine {

@@ -1,11 +1,11 @@
 //! The rents of borders.
 
-ghost use Rattle.std.specs.Prelude.{◌≡◌, ◌≤◌, ◌<◌, ◌*ℤ◌, ℤ, length, unsigned_abs};
-ghost use Rattle.std.specs.List.{All, AllZip};
+ghost use Rattle.std.specs.Prelude.{◌≡◌, ◌≤◌, ◌<◌, ◌*ℤ◌, ◌-ℤ◌, ℤ, length, unsigned_abs};
+ghost use Rattle.std.specs.List.{All};
 ghost use Rattle.mari_market.specs.Activation.{IsWithinLimits};
 ghost use Rattle.mari_market.specs.Market.{IsValidBorder};
 ghost use Rattle.mari_market.specs.Price.{price_at};
-ghost use Rattle.mari_settle.specs.Conditions.{IsCapped};
+ghost use Rattle.mari_settle.specs.Conditions.{HasFlows, IsCapped, IsSmall};
 ghost use Rattle.mari_settle.specs.Ledger.{rent_of as rent_at, rents_of};
 
 use mari_market::{Activation, Border, Market};
@@ -28,6 +28,16 @@ pub(crate) fn price_of(prices: &[Cents], zone: u32) -> i64
     prices[zone as usize].0
 }
 
+// How much dearer a border's second zone is than its first.
+fn gap_of(border: &Border, prices: &[Cents]) -> i64
+    requires border { IsValidBorder (length prices.now) border.now }
+    requires prices { All IsCapped prices.now }
+    ensures value { result ≡ price_at prices.now border.now.to -ℤ price_at prices.now border.now.from }
+    ensures small { unsigned_abs result ≤ 19999800 }
+{
+    price_of(prices, border.to) - price_of(prices, border.from)
+}
+
 // A border's rent.
 pub(crate) fn rent_of(border: &Border, flow: i64, prices: &[Cents]) -> i128
     requires border { IsValidBorder (length prices.now) border.now }
@@ -36,8 +46,7 @@ pub(crate) fn rent_of(border: &Border, flow: i64, prices: &[Cents]) -> i128
     ensures value { result ≡ rent_at prices.now border.now flow }
     ensures small { unsigned_abs result ≤ 4000000000000 }
 {
-    let gap = price_of(prices, border.to) - price_of(prices, border.from);
-    product(gap, flow)
+    product(gap_of(border, prices), flow)
 }
 
 // Writes each border's rent.
@@ -50,8 +59,9 @@ pub(crate) fn write_rents(
     requires lengths { length rents.old ≡ length market.now.borders }
     requires borders { All (IsValidBorder (length prices.now)) market.now.borders }
     requires prices { All IsCapped prices.now }
-    requires flows { AllZip IsWithinLimits market.now.borders activation.now.flow }
-    ensures { rents.new ≡ rents_of market.now activation.now prices.now }
+    requires flows { HasFlows market.now activation.now }
+    ensures value { rents.new ≡ rents_of market.now activation.now prices.now }
+    ensures small { All IsSmall rents.new }
 {
     let flow = activation.flow.as_slice();
     for (i, border) in market.borders.as_slice().iter().enumerate() {

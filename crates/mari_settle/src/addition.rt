@@ -8,24 +8,42 @@ ghost use Rattle.mari_settle.specs.Lines.{lines_together, map_along, together};
 use crate::ledger::{Ledger, OperatorLine};
 use mari_units::Quarters;
 
+// The sum of two amounts.
+fn sum_of(amount: Quarters, other: Quarters) -> Quarters
+    requires { AddUp amount other }
+    ensures { result ≡ together amount other }
+{
+    Quarters(amount.0 + other.0)
+}
+
+// The sum of two lines of one operator.
+fn sum_of_lines(line: OperatorLine, other: OperatorLine) -> OperatorLine
+    requires { LinesAddUp line other }
+    ensures { result ≡ lines_together line other }
+{
+    OperatorLine {
+        payment: sum_of(line.payment, other.payment),
+        rent: sum_of(line.rent, other.rent),
+    }
+}
+
+// Adds to each amount the other one at its place.
 fn add_amounts(amounts: &mut [Quarters], others: &[Quarters])
     requires { AllZip AddUp amounts.old others.now }
     ensures { amounts.new ≡ map_along together amounts.old others.now }
 {
-    for (i, other) in others.iter().enumerate() {
-        amounts[i] = Quarters(amounts[i].0 + other.0);
+    for i in 0..amounts.len() {
+        amounts[i] = sum_of(amounts[i], others[i]);
     }
 }
 
+// Adds to each line the other one at its place.
 fn add_lines(lines: &mut [OperatorLine], others: &[OperatorLine])
     requires { AllZip LinesAddUp lines.old others.now }
     ensures { lines.new ≡ map_along lines_together lines.old others.now }
 {
-    for (i, other) in others.iter().enumerate() {
-        lines[i] = OperatorLine {
-            payment: Quarters(lines[i].payment.0 + other.payment.0),
-            rent: Quarters(lines[i].rent.0 + other.rent.0),
-        };
+    for i in 0..lines.len() {
+        lines[i] = sum_of_lines(lines[i], others[i]);
     }
 }
 

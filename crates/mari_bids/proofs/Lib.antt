@@ -1,1 +1,2 @@
 pub mod BidLemmas
+pub mod BookFacts

@@ -1,11 +1,11 @@
 -- The book of bids.
-use Rattle.std.specs.Prelude.{ℕ, ◌==◌, Bool, false, List, [], ◌∷◌, ◌++◌, Option, not, ◌&&◌, nat_le, nat_lt, map, codes, position, is_some, unwrap_or, count_by, pos}
-use Rattle.std.specs.Str.{bytes_eq}
+use Rattle.std.specs.Prelude.{◌≡◌, ◌≢◌, ◌≤◌, ◌<◌, ℕ, ◌==◌, length, Bool, true, false, List, [], ◌∷◌, ◌++◌, Option, not, ◌&&◌, nat_le, nat_lt, map, codes, is_some, unwrap_or, count_by, pos}
+use Rattle.std.specs.List.{All, AllPairs}
 use Rattle.mari_units.specs.Names.{is_name}
 use Rattle.mari_units.specs.Numbers.{price_of, whole_of}
 use Rattle.mari_units.specs.declared.numbers.Cents.{Cents}
 use Rattle.mari_rows.specs.Books.{Checks, Grammar}
-use Rattle.mari_rows.specs.Fields.{cents_in, is_first_of, number_in}
+use Rattle.mari_rows.specs.Fields.{cents_in, is_first_of, number_in, IsWithinCap}
 use Rattle.mari_rows.specs.Names.{distinct, is_among, place_in}
 use Rattle.mari_rows.specs.Rows.{field_of}
 use Rattle.mari_rows.specs.declared.rows.Row.{Row}
@@ -135,3 +135,25 @@ bid_grammar zones quarters = record {
   file_checks = λ rows. [];
   book = bid_book zones quarters;
 }
+
+-- a bid of a zone of the day, of one of so many providers, in one of so many quarters, with its price and quantities in range
+pub record IsBid (zones : ZoneBook) (providers quarters : ℕ) (bid : Bid) : Type 0 where
+  pub provider : bid.provider < providers
+  pub zone : bid.zone < length zones.zones
+  pub first_quarter : 1 ≤ bid.quarter
+  pub last_quarter : bid.quarter ≤ quarters
+  pub price : IsWithinCap bid.price.0
+  pub some : 1 ≤ bid.greatest
+  pub most : bid.greatest ≤ 9999
+  pub least : bid.least ≤ bid.greatest
+
+-- what holds of every book of bids that is read: each bid has a name of its own, each provider a name, and no quarter has more
+-- than 4,096 bids
+pub record IsBidBook (zones : ZoneBook) (quarters : ℕ) (book : BidBook) : Type 0 where
+  pub named : length book.ids ≡ length book.bids
+  pub ids : All (λ id. is_name id ≡ true) book.ids
+  pub providers : All (λ provider. is_name provider ≡ true) book.providers
+  pub few : length book.bids ≤ 268435456
+  pub distinct : AllPairs (λ a b. a ≢ b) book.ids
+  pub bids : All (IsBid zones (length book.providers) quarters) book.bids
+  pub of_quarter : (quarter : ℕ) → count_by (λ (bid : Bid). bid.quarter == quarter) book.bids ≤ 4096

@@ -6,7 +6,7 @@ ghost use Rattle.mari_rows.specs.First.{unless_fault};
 ghost use Rattle.mari_rows.specs.Names.{is_among};
 ghost use Rattle.mari_rows.specs.declared.rows.Row.{Row as Line};
 ghost use Rattle.mari_zones.specs.declared.zones.ZoneBook.{ZoneBook};
-ghost use Rattle.mari_bids.specs.Bids.{bid_at, bid_checks, bid_columns, bid_grammar, has_bad_field as has_bad_field_in, id_of, line_checks, is_both as is_both_in, is_up as is_up_in, provider_of};
+ghost use Rattle.mari_bids.specs.Bids.{bid_at, bid_checks, bid_columns, bid_grammar, has_bad_field as has_bad_field_in, id_of, IsBidBook, line_checks, is_both as is_both_in, is_up as is_up_in, provider_of};
 
 use mari_rows::{
     BookFault, NameIndex, Row, RowReader, cents_of, count_one, is_first_of, is_price, is_whole,
@@ -55,7 +55,8 @@ impl BidBook {
         quarters: u32,
     ) -> Result<BidBook, BookFault>
         requires { length bids.now ≤ 268435456 }
-        ensures { GivesBook result (book_in (bid_grammar zones.now quarters) bids.now) }
+        ensures book { GivesBook result (book_in (bid_grammar zones.now quarters) bids.now) }
+        ensures bids { IfOk result (IsBidBook zones.now quarters) }
     {
         let mut lines = read_rows(alloc, bids, COLUMNS)?;
         book_of(alloc, &mut lines, zones, quarters)

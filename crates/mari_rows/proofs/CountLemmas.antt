@@ -1,5 +1,5 @@
 -- Counts of items by a number of theirs.
-use Rattle.std.proofs.Common.{◌≡◌, ◌≢◌, ◌≤◌, ◌<◌, ◌+◌, ◌==◌, ◌⊎◌, ◌∙◌, ◌++◌, ◌∷◌, [], ℕ, List, Bool, true, false, get_or, length, if◌then◌else◌, refl, sym, ap, arith, add-zero, take, drop, inl, inr}
+use Rattle.std.proofs.Common.{◌≡◌, ◌≢◌, ◌≤◌, ◌<◌, ◌+◌, ◌==◌, ◌⊎◌, ◌∙◌, ◌++◌, ◌∷◌, [], ℕ, List, Bool, true, false, get_or, length, if◌then◌else◌, sym, ap, arith, add-zero, take, drop, inl, inr}
 use Rattle.std.specs.Prelude.{count_by, nat_le, nat_lt}
 use Rattle.std.proofs.Math.ListN.{set}
 use Rattle.std.proofs.lemmas.Bool.Decides.{eqb_tells, nat_tests}

@@ -1,3 +1,4 @@
+pub mod BookFacts
 pub mod BookLemmas
 pub mod CountLemmas
 pub mod FirstLemmas

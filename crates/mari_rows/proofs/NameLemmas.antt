@@ -49,7 +49,7 @@ module _ {V : Type 0} (items : V → List ℕ) (keys : List V) (text : V) (names
   added-place = position_or_len-none (λ k. bytes_eq (items text) (items k)) keys absent ∙ sym (length-map keys items) ∙ ap length are_names
 
 -- a name that is not among others is none of them
-not-among : (names : List (List ℕ)) (name : List ℕ) → is_among names name ≡ false → (k : ℕ) (d : List ℕ) → k < length names → get_or names k d ≢ name
+pub not-among : (names : List (List ℕ)) (name : List ℕ) → is_among names name ≡ false → (k : ℕ) (d : List ℕ) → k < length names → get_or names k d ≢ name
 not-among [] name new k d within same = omega (arith, within)
 not-among (n ∷ ns) name new k d within same = by (bytes_eq name n) refl new k within same (not-among ns name)
   where

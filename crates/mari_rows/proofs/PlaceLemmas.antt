@@ -28,7 +28,8 @@ place-stays (n ∷ ns) name other there = by (bytes_eq name n) refl there (place
     by true e h more = rw e refl
     by false e h more = rw (e, more (rw e at h)) refl
 
-place-with : (names : List (List ℕ)) (name other : List ℕ) → is_among names name ≡ true → place_in (with_name names other) name ≡ place_in names name
+-- also where the other name is there already
+pub place-with : (names : List (List ℕ)) (name other : List ℕ) → is_among names name ≡ true → place_in (with_name names other) name ≡ place_in names name
 place-with names name other there = by (is_among names other)
   where
     by : (b : Bool) → place_in (if b then names else names ++ other ∷ []) name ≡ place_in names name
@@ -47,14 +48,16 @@ among-push (n ∷ ns) name other = rw (among-push ns name other) (by (bytes_eq n
     by true = refl
     by false = refl
 
-among-with : (names : List (List ℕ)) (name other : List ℕ) → is_among names name ≡ true → is_among (with_name names other) name ≡ true
+-- a name that is there stays there
+pub among-with : (names : List (List ℕ)) (name other : List ℕ) → is_among names name ≡ true → is_among (with_name names other) name ≡ true
 among-with names name other there = by (is_among names other)
   where
     by : (b : Bool) → is_among (if b then names else names ++ other ∷ []) name ≡ true
     by true = there
     by false = rw (among-push names name other, there) refl
 
-among-new : (names : List (List ℕ)) (name : List ℕ) → is_among (with_name names name) name ≡ true
+-- an added name is there
+pub among-new : (names : List (List ℕ)) (name : List ℕ) → is_among (with_name names name) name ≡ true
 among-new names name = by (is_among names name) refl
   where
     by : (b : Bool) → is_among names name ≡ b → is_among (if b then names else names ++ name ∷ []) name ≡ true
@@ -65,7 +68,8 @@ kept : (names xs : List (List ℕ)) (name : List ℕ) → is_among names name �
 kept names [] name there = there
 kept names (x ∷ xs) name there = kept (with_name names x) xs name (among-with names name x there)
 
-all-among : (names xs : List (List ℕ)) → list_all (is_among (fold with_name names xs)) xs ≡ true
+-- each name is among the distinct ones
+pub all-among : (names xs : List (List ℕ)) → list_all (is_among (fold with_name names xs)) xs ≡ true
 all-among names [] = refl
 all-among names (x ∷ xs) = rw (kept (with_name names x) xs x (among-new names x)) (all-among (with_name names x) xs)
 

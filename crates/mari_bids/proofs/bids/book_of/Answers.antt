@@ -1,6 +1,6 @@
-use Rattle.std.proofs.Common.{◌≡◌, ◌∙◌, ◌++◌, ◌∷◌, [], ◌≤◌, map, length, sym, ap, rules, arith}
+use Rattle.std.proofs.Common.{◌≡◌, ◌++◌, ◌∷◌, [], map, length, ap, rules, arith}
 use Rattle.std.proofs.lemmas.List.{length-append, length-map}
-use Rattle.mari_rows.proofs.BookLemmas.{gives-line-error, read-on, read-start, read-whole}
+use Rattle.mari_rows.proofs.BookLemmas.{gives-line-error, read-on, read-start}
 use Rattle.mari_rows.proofs.PlaceLemmas.{length-distinct}
 use Rattle.mari_bids.specs.Bids.{bid_grammar, id_of, provider_of}
 use Rattle.mari_bids.proofs.bids.book_of.Goals as goal

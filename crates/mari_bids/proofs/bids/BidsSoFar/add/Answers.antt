@@ -1,12 +1,12 @@
-use Rattle.std.proofs.Common.{◌≡◌, ◌∙◌, ◌++◌, ◌∷◌, [], ℕ, get_or, None, Some, false, true, refl, sym, ap, arith, length, rules}
-use Rattle.std.specs.Prelude.{nat_le, nat_lt}
+use Rattle.std.proofs.Common.{◌≡◌, ◌∙◌, ◌++◌, ◌∷◌, [], get_or, false, true, refl, sym, ap, arith, length, rules}
+use Rattle.std.specs.Prelude.{nat_le}
 use Rattle.std.proofs.lemmas.List.{length-set, map-append}
 use Rattle.mari_rows.specs.Books.{first_failing}
 use Rattle.mari_rows.proofs.BookLemmas.{first_failing-append}
 use Rattle.mari_rows.proofs.CountLemmas.{below, counts-push, not-below, written-back}
 use Rattle.mari_rows.proofs.FirstLemmas.{fault-first, value-no-fault}
 use Rattle.mari_rows.proofs.PlaceLemmas.{distinct-push, made-push}
-use Rattle.mari_bids.specs.Bids.{bid_at, bid_checks, count_of, id_of, line_checks, provider_of, quarter_at}
+use Rattle.mari_bids.specs.Bids.{bid_at, bid_checks, count_of, id_of, provider_of, quarter_at}
 use Rattle.mari_bids.specs.declared.bids.Bid.{Bid}
 use Rattle.mari_bids.proofs.bids.BidsSoFar.add.Goals as goal
 

@@ -1,0 +1,40 @@
+-- Fetching one file after the other.
+use Rattle.std.proofs.Common.{◌≡◌, ℕ, zero, suc, ◌+◌, ◌<◌, List, [], ◌∷◌, ◌++◌, Option, Some, None, length, map, take, drop, slice_index_or, arith, refl, subst}
+use Rattle.mari_io.specs.Outside.{Pages}
+use Rattle.mari_day.specs.declared.files.File.{File}
+use Rattle.mari_day.specs.Files.{files, page_in, gap_of, gap_or, first_gap, AreHeld, Gap, FileGap}
+
+module _ (pages : Pages) (folder : List ℕ) where
+  -- a page without a gap leaves the first gap to the files behind it
+  pub gap_behind : (fs : List File) (i : ℕ) (d : File) → i < length fs → gap_of (page_in pages folder (slice_index_or fs i d)) ≡ None
+      → first_gap pages folder (drop i fs) ≡ first_gap pages folder (drop (suc i) fs)
+  gap_behind [] i d l e = absurd (omega arith)
+  gap_behind (f ∷ fs) zero d l e = rw e refl
+  gap_behind (f ∷ fs) (suc i) d l e = gap_behind fs i d (omega arith) e
+
+  -- a page with a gap is the first with one
+  pub gap_here : (fs : List File) (i : ℕ) (d : File) (gap : Gap) → i < length fs → gap_of (page_in pages folder (slice_index_or fs i d)) ≡ Some gap
+      → first_gap pages folder (drop i fs) ≡ Some (record { file = slice_index_or fs i d; gap = gap })
+  gap_here [] i d gap l e = absurd (omega arith)
+  gap_here (f ∷ fs) zero d gap l e = rw e refl
+  gap_here (f ∷ fs) (suc i) d gap l e = gap_here fs i d gap (omega arith) e
+
+  -- one page more is held
+  pub held_more : (fs : List File) (texts : List (List ℕ)) (text : List ℕ) (i : ℕ) (d : File) → i < length fs → map (page_in pages folder) (take i fs) ≡ map Some texts
+      → page_in pages folder (slice_index_or fs i d) ≡ Some text → map (page_in pages folder) (take (suc i) fs) ≡ map Some (texts ++ text ∷ [])
+  held_more [] texts text i d l h e = absurd (omega arith)
+  held_more (f ∷ fs) [] text zero d l h e = rw e refl
+  held_more (f ∷ fs) (t ∷ ts) text zero d l h e = absurd (cc)
+  held_more (f ∷ fs) [] text (suc i) d l h e = absurd (cc)
+  held_more (f ∷ fs) (t ∷ ts) text (suc i) d l h e =
+      let first : page_in pages folder f ≡ Some t = cc in
+      let rest : map (page_in pages folder) (take i fs) ≡ map Some ts = cc in
+      let more = held_more fs ts text i d (omega arith) rest e in
+      rw (first, more) refl
+
+  -- all files were fetched
+  pub whole : (texts : List (List ℕ)) (i : ℕ) → i ≡ 7 → map (page_in pages folder) (take i files) ≡ map Some texts → first_gap pages folder files ≡ first_gap pages folder (drop i files) → AreHeld pages folder texts
+  whole texts i e h g =
+      let P : ℕ → Type 0 = λ n. map (page_in pages folder) (take n files) ≡ map Some texts in
+      let Q : ℕ → Type 0 = λ n. first_gap pages folder files ≡ first_gap pages folder (drop n files) in
+      record { held = subst P e h; no_gap = subst Q e g }

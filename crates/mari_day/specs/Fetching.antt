@@ -1,0 +1,34 @@
+-- What fetching a folder's pages gives.
+use Rattle.std.specs.Prelude.{◌≡◌, ℕ, List, Result, Ok, Err, Option, Some, None, ⊤}
+use Rattle.mari_io.specs.declared.shelf.Fetch.{Fetch}
+use Rattle.mari_io.specs.declared.shelf.Fetch.TheVariants.{Failed, Missing, TooLong, Memory}
+use Rattle.mari_io.specs.Outside.{Pages}
+use Rattle.mari_day.specs.declared.files.File.{File}
+use Rattle.mari_day.specs.declared.pages.PagesFault.{PagesFault}
+use Rattle.mari_day.specs.declared.pages.PagesFault.TheVariants.{Of, NoMemory}
+use Rattle.mari_day.specs.Files.{files, gap_of, first_gap, AreHeld}
+use Rattle.mari_day.specs.Files.Gap.{NotHeld, OverLimit}
+
+-- the fetch of some file gave this answer
+abbrev pub IsFault : {T : Type 0} → Fetch → Result T PagesFault → Type 0
+IsFault fetch (Ok x) = ⊥
+IsFault fetch (Err NoMemory) = ⊥
+IsFault fetch (Err (Of file f)) = f ≡ fetch
+
+-- what fetching one file says of its page, where that is known
+abbrev pub PageTells : File → Option (List ℕ) → Result (List ℕ) PagesFault → Type 0
+PageTells file page (Ok bytes) = (page ≡ Some bytes) × (gap_of page ≡ None)
+PageTells file page (Err NoMemory) = ⊤
+PageTells file page (Err (Of f Failed)) = f ≡ file
+PageTells file page (Err (Of f Missing)) = (f ≡ file) × (gap_of page ≡ Some NotHeld)
+PageTells file page (Err (Of f TooLong)) = (f ≡ file) × (gap_of page ≡ Some OverLimit)
+PageTells file page (Err (Of f Memory)) = f ≡ file
+
+-- what fetching says of the pages, where they are told: all of them, or the first that isn't held or is too long
+abbrev pub FetchingTells : Pages → List ℕ → Result (List (List ℕ)) PagesFault → Type 0
+FetchingTells pages folder (Ok texts) = AreHeld pages folder texts
+FetchingTells pages folder (Err NoMemory) = ⊤
+FetchingTells pages folder (Err (Of file Failed)) = ⊤
+FetchingTells pages folder (Err (Of file Missing)) = first_gap pages folder files ≡ Some (record { file = file; gap = NotHeld })
+FetchingTells pages folder (Err (Of file TooLong)) = first_gap pages folder files ≡ Some (record { file = file; gap = OverLimit })
+FetchingTells pages folder (Err (Of file Memory)) = ⊤

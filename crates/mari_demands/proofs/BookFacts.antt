@@ -1,0 +1,111 @@
+-- What holds of every book of runs or demands that is read.
+use Rattle.std.proofs.Common.{◌≡◌, ◌∙◌, ◌≤◌, ◌<◌, ◌==◌, ℕ, Bool, true, false, List, [], ◌∷◌, ◌++◌, Option, Some, None, Ok, Err, Result, IfOk, IfSome, map, length, length-append, refl, arith, if◌then◌else◌}
+use Rattle.std.specs.Prelude.{ℤ, pos, neg_ℤ, int_le, ◌&&◌, ◌||◌, nat_le, is_some, unwrap_or, count_by, unsigned_abs}
+use Rattle.std.specs.List.{All}
+use Rattle.std.specs.Option.{option_and_then}
+use Rattle.std.specs.Str.{bytes_eq}
+use Rattle.std.proofs.lemmas.Bool.Decides.{nat_tests}
+use Rattle.std.proofs.lemmas.Int.{ints}
+use Rattle.std.proofs.lemmas.List.{length-map}
+use Rattle.std.proofs.lemmas.List.Elements.{All-map, All-nil, All-push}
+use Rattle.mari_units.specs.Numbers.{whole_of}
+use Rattle.mari_units.specs.declared.numbers.Cents.{Cents}
+use Rattle.mari_rows.specs.Books.{GivesBook, book_of_rows, first_failing}
+use Rattle.mari_rows.specs.Fields.{cents_in, IsWithinCap}
+use Rattle.mari_rows.specs.Rows.{field_of}
+use Rattle.mari_rows.specs.declared.faults.BookFault.{BookFault}
+use Rattle.mari_rows.specs.declared.rows.Row.{Row}
+use Rattle.mari_rows.proofs.BookLemmas.{book-rows}
+use Rattle.mari_rows.proofs.BookFacts.{all-passed, along-lines, both-parts, count_by-map, counts-at-most, found-below, not-false, number-bounds, price-within, read-within}
+use Rattle.mari_zones.specs.declared.zones.ZoneBook.{ZoneBook}
+use Rattle.mari_demands.specs.Runs.{IsRun, IsRunBook, run_book, run_checks, run_grammar, run_of}
+use Rattle.mari_demands.specs.Demands.{IsDemand, IsDemandBook, demand_book, demand_grammar, demand_of, is_inelastic, line_checks, mw_in, run_at, within_mw}
+use Rattle.mari_demands.specs.declared.runs.RunBook.{RunBook}
+use Rattle.mari_demands.specs.declared.demands.Demand.{Demand}
+use Rattle.mari_demands.specs.declared.demands.DemandBook.{DemandBook}
+
+module _ (quarters : ℕ) where
+  -- what holds of the lines of runs so far
+  record AreRuns (rows : List Row) : Type 0 where
+    few : length rows ≤ 1000
+    runs : All (λ row. IsRun quarters (run_of quarters row)) rows
+
+  one-run : (before : List Row) (line : Row) → first_failing (run_checks quarters before line) ≡ None → AreRuns before → AreRuns (before ++ line ∷ [])
+  one-run before line none so_far =
+      let all = all-passed (run_checks quarters before line) none in
+      let quarter = number-bounds 1 quarters (field_of line 1) (not-false _ all.1.1.1.0) in
+      let room : length before < 1000 = grind (arith, nat_tests, all.0) in
+      record {
+        few = simp length-append (omega (arith, room));
+        runs = All-push (λ row. IsRun quarters (run_of quarters row)) before line so_far.runs
+        (record { first_quarter = quarter.0; last_quarter = quarter.1; reference = read-within (field_of line 3) (record { 0 = pos 0 }) (not-false _ all.1.1.1.1.0) });
+      }
+
+  -- what is read is such a book of runs
+  pub run-facts : (rows : List Row) (result : Result RunBook BookFault) → GivesBook result (book_of_rows (run_grammar quarters) rows) → IfOk result (IsRunBook quarters)
+  run-facts rows (Err fault) gives = tt
+  run-facts rows (Ok book) gives =
+      let is = book-rows (run_grammar quarters) rows book gives in
+      let are = along-lines (run_grammar quarters) AreRuns one-run rows book is (record { few = omega arith; runs = All-nil _ }) in
+      let whole : IsRunBook quarters (run_book quarters rows) = record {
+        few = simp length-map are.few;
+        runs = All-map (IsRun quarters) (run_of quarters) rows are.runs;
+      } in
+      rw is.says whole
+
+-- a quantity that a line states is in range
+mw-within : (row : Row) → is_some (mw_in row) ≡ true → unsigned_abs (unwrap_or (mw_in row) (pos 0)) ≤ 99999
+mw-within row some = by (whole_of (field_of row 2)) some
+  where
+    tested : (z : ℤ) (b c : Bool) → int_le (neg_ℤ (pos 99999)) z ≡ b → int_le z (pos 99999) ≡ c → is_some (if b && c then Some z else None) ≡ true
+        → unsigned_abs (unwrap_or (if b && c then Some z else None) (pos 0)) ≤ 99999
+    tested z true true low high s = grind (arith, ints, low, high)
+    tested z true false low high s = cc s
+    tested z false c low high s = cc s
+
+    by : (z : Option ℤ) → is_some (option_and_then within_mw z) ≡ true → unsigned_abs (unwrap_or (option_and_then within_mw z) (pos 0)) ≤ 99999
+    by None s = cc s
+    by (Some z) s = tested z (int_le (neg_ℤ (pos 99999)) z) (int_le z (pos 99999)) refl refl s
+
+-- a price that a field states is within the cap
+stated-price : (text : List ℕ) → IfSome (cents_in text) (λ (price : Cents). IsWithinCap price.0)
+stated-price text = by (cents_in text) refl
+  where
+    by : (o : Option Cents) → cents_in text ≡ o → IfSome o (λ (price : Cents). IsWithinCap price.0)
+    by None e = tt
+    by (Some price) e = price-within text price e
+
+module _ (zones : ZoneBook) (runs : ℕ) where
+  -- what holds of the lines of demands so far
+  record AreDemands (rows : List Row) : Type 0 where
+    demands : All (λ row. IsDemand zones runs (demand_of zones runs row)) rows
+    counts : (k : ℕ) → count_by (λ row. run_at runs row == k) rows ≤ 512
+
+  one-demand : (before : List Row) (line : Row) → first_failing (line_checks zones runs before line) ≡ None → AreDemands before → AreDemands (before ++ line ∷ [])
+  one-demand before line none so_far =
+      let all = all-passed (line_checks zones runs before line) none in
+      let run = number-bounds 1 runs (field_of line 0) (not-false _ all.1.0) in
+      let numbers = both-parts (is_some (mw_in line)) (is_inelastic line || is_some (cents_in (field_of line 3))) (not-false _ all.1.1.1.0) in
+      record {
+        demands = All-push (λ row. IsDemand zones runs (demand_of zones runs row)) before line so_far.demands
+        (record {
+          first_run = run.0;
+          last_run = run.1;
+          zone = found-below (bytes_eq (field_of line 1)) zones.zones (not-false _ all.1.1.0);
+          mw = mw-within line numbers.0;
+          price = stated-price (field_of line 3);
+        });
+        counts = counts-at-most (run_at runs) 512 before line all.1.1.1.1.0 so_far.counts;
+      }
+
+  -- what is read is such a book of demands
+  pub demand-facts : (rows : List Row) (result : Result DemandBook BookFault) → GivesBook result (book_of_rows (demand_grammar zones runs) rows) → IfOk result (IsDemandBook zones runs)
+  demand-facts rows (Err fault) gives = tt
+  demand-facts rows (Ok book) gives =
+      let is = book-rows (demand_grammar zones runs) rows book gives in
+      let are = along-lines (demand_grammar zones runs) AreDemands one-demand rows book is (record { demands = All-nil _; counts = λ k. omega arith }) in
+      let whole : IsDemandBook zones runs (demand_book zones runs rows) = record {
+        demands = All-map (IsDemand zones runs) (demand_of zones runs) rows are.demands;
+        of_run = λ run. rw (count_by-map (demand_of zones runs) (λ (demand : Demand). demand.run == run) rows) (are.counts run);
+      } in
+      rw is.says whole

@@ -1,0 +1,11 @@
+//! The book of links: which bids exclude one another, and which bids depend on others.
+//!
+//! It stands on the rows of a page and on the book of bids. A page gives exactly its book, or exactly its first refusal.
+#![tactic(auto)]
+
+mod entries;
+mod groups;
+mod lines;
+mod links;
+
+pub use links::{BidLinks, LinkBook};

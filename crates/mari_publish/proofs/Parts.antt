@@ -1,0 +1,45 @@
+-- The text of a publication is that of its parts.
+use Rattle.std.proofs.Common.{◌≡◌, List, [], ◌∷◌, ◌++◌, refl, sym, ap, ◌∙◌, append_assoc, ℕ, Result, Ok, Err}
+use Rattle.std.specs.Result.{OnOk}
+use Rattle.std.proofs.lemmas.List.{append-nil}
+use Rattle.std.specs.List.{flat_map}
+use Rattle.std.proofs.lemmas.Grind.{flat_map-append}
+use Rattle.mari_publish.specs.declared.publication.Block.{Block}
+use Rattle.mari_publish.specs.declared.publication.Publication.{Publication}
+use Rattle.mari_publish.specs.declared.line.Line.{Line}
+use Rattle.mari_publish.specs.declared.line.Line.TheVariants as line
+use Rattle.mari_publish.specs.Lines.{block_lines}
+use Rattle.mari_publish.specs.Spelling.{line_text, text_of_lines, head_text_of, block_text_of, total_text_of}
+
+-- the text of the blocks' lines is the blocks' texts
+pub text_of_blocks : (bs : List Block) → text_of_lines (flat_map block_lines bs) ≡ flat_map block_text_of bs
+text_of_blocks [] = refl
+text_of_blocks (b ∷ bs) = flat_map-append line_text (block_lines b) (flat_map block_lines bs) ∙ ap (λ (t : List ℕ). block_text_of b ++ t) (text_of_blocks bs)
+
+-- after three pieces
+pub after_three : {R E : Type 0} (r : Result R E) (x y z w a b c : List ℕ) → y ≡ x ++ a → z ≡ y ++ b → OnOk r (w ≡ z ++ c) → OnOk r (w ≡ x ++ ((a ++ b) ++ c))
+after_three (Ok v) x y z w a b c ea eb ec = ec ∙ ap (λ (t : List ℕ). t ++ c) (eb ∙ ap (λ (t : List ℕ). t ++ b) ea) ∙ ap (λ (t : List ℕ). t ++ c) (append_assoc x a b) ∙ append_assoc x (a ++ b) c
+after_three (Err e) x y z w a b c ea eb ec = tt
+
+-- after the texts of four lists of lines
+pub after_four : {R E : Type 0} (r : Result R E) (x y z v w : List ℕ) (a b c d : List Line) → y ≡ x ++ text_of_lines a → z ≡ y ++ text_of_lines b → v ≡ z ++ text_of_lines c
+    → OnOk r (w ≡ v ++ text_of_lines d) → OnOk r (w ≡ x ++ text_of_lines (a ++ (b ++ (c ++ d))))
+after_four (Ok u) x y z v w a b c d ea eb ec ed =
+    ed ∙ ap (λ (t : List ℕ). t ++ text_of_lines d) (ec ∙ ap (λ (t : List ℕ). t ++ text_of_lines c) (eb ∙ ap (λ (t : List ℕ). t ++ text_of_lines b) ea))
+    ∙ regroup (text_of_lines a) (text_of_lines b) (text_of_lines c) (text_of_lines d)
+    ∙ ap (λ (t : List ℕ). x ++ t) (sym together)
+  where
+    regroup : (p q s t : List ℕ) → (((x ++ p) ++ q) ++ s) ++ t ≡ x ++ (p ++ (q ++ (s ++ t)))
+    regroup p q s t = simp append_assoc
+
+    together : text_of_lines (a ++ (b ++ (c ++ d))) ≡ text_of_lines a ++ (text_of_lines b ++ (text_of_lines c ++ text_of_lines d))
+    together = flat_map-append line_text a (b ++ (c ++ d)) ∙ ap (λ (t : List ℕ). text_of_lines a ++ t) (flat_map-append line_text b (c ++ d) ∙ ap (λ (t : List ℕ). text_of_lines b ++ t) (flat_map-append line_text c d))
+after_four (Err e) x y z v w a b c d ea eb ec ed = tt
+
+-- the head, the blocks and the totals
+pub three_texts : (p : Publication) (y z w : List ℕ) → y ≡ [] ++ line_text (line.Head p.date p.quarters p.budget) → z ≡ y ++ text_of_lines (flat_map block_lines p.blocks) → w ≡ z ++ total_text_of p
+    → w ≡ head_text_of p.date p.quarters p.budget ++ (flat_map block_text_of p.blocks ++ total_text_of p)
+three_texts p y z w ey ez ew =
+    ew ∙ ap (λ (t : List ℕ). t ++ total_text_of p) (ez ∙ ap (λ (t : List ℕ). t ++ text_of_lines (flat_map block_lines p.blocks)) ey ∙ ap (λ (t : List ℕ). line_text (line.Head p.date p.quarters p.budget) ++ t) (text_of_blocks p.blocks))
+    ∙ append_assoc (line_text (line.Head p.date p.quarters p.budget)) (flat_map block_text_of p.blocks) (total_text_of p)
+    ∙ ap (λ (t : List ℕ). t ++ (flat_map block_text_of p.blocks ++ total_text_of p)) (sym (append-nil (line_text (line.Head p.date p.quarters p.budget))))

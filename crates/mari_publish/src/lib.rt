@@ -1,0 +1,19 @@
+//! The day's text, both ways.
+//!
+//! The crate stands on the units and on the market's certificates. Its promise: a publication whose numbers are in range has
+//! one text, its lines are the lines of that publication, and each part of it can be made on its own.
+#![tactic(auto)]
+
+mod fault;
+mod line;
+mod publication;
+mod spelling;
+mod text;
+mod tree;
+mod write;
+
+pub use fault::TextFault;
+pub use publication::{
+    AmountLine, BidLine, Block, BorderLine, FullBlock, Heading, MoneyLine, Publication, ZoneLine,
+};
+pub use write::{block_text, head_text, total_text, write_text};

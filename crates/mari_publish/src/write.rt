@@ -1,0 +1,244 @@
+//! The texts of a publication's parts.
+
+ghost use Rattle.std.specs.Prelude.{◌≡◌, ◌++◌, ◌+◌, ◌≤◌, ◌<◌, ◌^◌, OnOk, IfOk, map, length};
+ghost use Rattle.std.specs.List.{All, flat_map};
+ghost use Rattle.mari_publish.specs.Lines.{demand_lines, opening_lines, market_lines, ending_lines, full_lines, block_lines, closing_lines, published_in as published_of, unpublished_in as unpublished_of};
+ghost use Rattle.mari_publish.specs.Ranges.{InRange, IsMoney, IsMoneyLine, IsAmountLine, FullFits, BlockFits, TotalsFit, HasText};
+ghost use Rattle.mari_publish.specs.Spelling.{text_of_lines, head_text_of, block_text_of, total_text_of, text_of};
+ghost use Rattle.mari_publish.specs.declared.line.Line.TheVariants as line;
+
+use crate::publication::{
+    AmountLine, BidLine, Block, BorderLine, FullBlock, MoneyLine, Publication, ZoneLine,
+};
+use crate::spelling::{
+    put_bid, put_border, put_demand, put_done, put_end, put_head, put_operator, put_provider,
+    put_run, put_total_operator, put_total_provider, put_unpublished, put_welfare, put_zone,
+};
+use crate::tree::put_tree_lines;
+use mari_units::{Memory, Name};
+use std::alloc::Global;
+
+fn put_zones(alloc: Global, out: &mut Vec<u8>, zones: &[ZoneLine]) -> Result<(), Memory>
+    ensures { OnOk result (out.new.items ≡ out.old.items ++ text_of_lines (map line.Zone zones.now)) }
+{
+    for zone in zones {
+        put_zone(alloc, out, zone)?;
+    }
+    Ok(())
+}
+
+fn put_borders(alloc: Global, out: &mut Vec<u8>, borders: &[BorderLine]) -> Result<(), Memory>
+    requires { All (λ b. IsMoney b.rent) borders.now }
+    ensures { OnOk result (out.new.items ≡ out.old.items ++ text_of_lines (map line.Border borders.now)) }
+{
+    for border in borders {
+        put_border(alloc, out, border)?;
+    }
+    Ok(())
+}
+
+fn put_bids(alloc: Global, out: &mut Vec<u8>, bids: &[BidLine]) -> Result<(), Memory>
+    ensures { OnOk result (out.new.items ≡ out.old.items ++ text_of_lines (map line.Bid bids.now)) }
+{
+    for bid in bids {
+        put_bid(alloc, out, bid)?;
+    }
+    Ok(())
+}
+
+fn put_operators(alloc: Global, out: &mut Vec<u8>, operators: &[MoneyLine]) -> Result<(), Memory>
+    requires { All IsMoneyLine operators.now }
+    ensures { OnOk result (out.new.items ≡ out.old.items ++ text_of_lines (map line.Operator operators.now)) }
+{
+    for operator in operators {
+        put_operator(alloc, out, operator)?;
+    }
+    Ok(())
+}
+
+fn put_providers(alloc: Global, out: &mut Vec<u8>, providers: &[AmountLine]) -> Result<(), Memory>
+    requires { All IsAmountLine providers.now }
+    ensures { OnOk result (out.new.items ≡ out.old.items ++ text_of_lines (map line.Provider providers.now)) }
+{
+    for provider in providers {
+        put_provider(alloc, out, provider)?;
+    }
+    Ok(())
+}
+
+fn put_total_operators(
+    alloc: Global,
+    out: &mut Vec<u8>,
+    operators: &[MoneyLine],
+) -> Result<(), Memory>
+    requires { All IsMoneyLine operators.now }
+    ensures { OnOk result (out.new.items ≡ out.old.items ++ text_of_lines (map line.TotalOperator operators.now)) }
+{
+    for operator in operators {
+        put_total_operator(alloc, out, operator)?;
+    }
+    Ok(())
+}
+
+fn put_total_providers(
+    alloc: Global,
+    out: &mut Vec<u8>,
+    providers: &[AmountLine],
+) -> Result<(), Memory>
+    requires { All IsAmountLine providers.now }
+    ensures { OnOk result (out.new.items ≡ out.old.items ++ text_of_lines (map line.TotalProvider providers.now)) }
+{
+    for provider in providers {
+        put_total_provider(alloc, out, provider)?;
+    }
+    Ok(())
+}
+
+fn put_demands(alloc: Global, out: &mut Vec<u8>, demands: &[u32]) -> Result<(), Memory>
+    requires { length demands.now ≤ 512 }
+    ensures { OnOk result (out.new.items ≡ out.old.items ++ text_of_lines (demand_lines 1 demands.now)) }
+{
+    for (i, mw) in demands.iter().enumerate() {
+        put_demand(alloc, out, i as u32 + 1, *mw)?;
+    }
+    Ok(())
+}
+
+fn put_market(alloc: Global, out: &mut Vec<u8>, block: &FullBlock) -> Result<(), Memory>
+    requires { FullFits block.now }
+    ensures { OnOk result (out.new.items ≡ out.old.items ++ text_of_lines (market_lines block.now)) }
+{
+    put_zones(alloc, out, block.zones.as_slice())?;
+    put_borders(alloc, out, block.borders.as_slice())?;
+    put_bids(alloc, out, block.bids.as_slice())?;
+    put_demands(alloc, out, block.demands.as_slice())
+}
+
+fn put_opening(alloc: Global, out: &mut Vec<u8>, block: &FullBlock) -> Result<(), Memory>
+    ensures { OnOk result (out.new.items ≡ out.old.items ++ text_of_lines (opening_lines block.now)) }
+{
+    put_run(alloc, out, block.heading)?;
+    put_welfare(alloc, out, block.welfare)
+}
+
+fn put_ending(alloc: Global, out: &mut Vec<u8>, block: &FullBlock) -> Result<(), Memory>
+    requires { FullFits block.now }
+    ensures { OnOk result (out.new.items ≡ out.old.items ++ text_of_lines (ending_lines block.now)) }
+{
+    put_operators(alloc, out, block.operators.as_slice())?;
+    put_providers(alloc, out, block.providers.as_slice())?;
+    put_end(alloc, out, block.heading.run)
+}
+
+fn put_full(alloc: Global, out: &mut Vec<u8>, block: &FullBlock) -> Result<(), Memory>
+    requires { FullFits block.now }
+    ensures { OnOk result (out.new.items ≡ out.old.items ++ text_of_lines (full_lines block.now)) }
+{
+    put_opening(alloc, out, block)?;
+    put_market(alloc, out, block)?;
+    put_tree_lines(alloc, out, block.tree.as_slice())?;
+    put_ending(alloc, out, block)
+}
+
+fn put_block(alloc: Global, out: &mut Vec<u8>, block: &Block) -> Result<(), Memory>
+    requires { BlockFits block.now }
+    ensures { OnOk result (out.new.items ≡ out.old.items ++ block_text_of block.now) }
+{
+    match block {
+        Block::Published(full) => put_full(alloc, out, full),
+        Block::Unpublished(heading, count) => put_unpublished(alloc, out, *heading, *count),
+    }
+}
+
+fn put_blocks(alloc: Global, out: &mut Vec<u8>, blocks: &[Block]) -> Result<(), Memory>
+    requires { All BlockFits blocks.now }
+    ensures { OnOk result (out.new.items ≡ out.old.items ++ text_of_lines (flat_map block_lines blocks.now)) }
+{
+    for block in blocks {
+        put_block(alloc, out, block)?;
+    }
+    Ok(())
+}
+
+/// How many blocks are published.
+fn published_in(blocks: &[Block]) -> u32
+    requires { length blocks.now ≤ 1000 }
+    ensures { result ≡ published_of blocks.now }
+{
+    let mut count = 0;
+    for block in blocks {
+        if matches!(block, Block::Published(_)) {
+            count += 1;
+        }
+    }
+    count
+}
+
+/// How many are not.
+#[tactic(auto, using(crate::proofs::Counts::counted))]
+fn unpublished_in(blocks: &[Block]) -> u32
+    requires { length blocks.now ≤ 1000 }
+    ensures { result ≡ unpublished_of blocks.now }
+{
+    blocks.len() as u32 - published_in(blocks)
+}
+
+fn put_totals(alloc: Global, out: &mut Vec<u8>, publication: &Publication) -> Result<(), Memory>
+    requires { TotalsFit publication.now }
+    ensures { OnOk result (out.new.items ≡ out.old.items ++ total_text_of publication.now) }
+{
+    put_total_operators(alloc, out, publication.operators.as_slice())?;
+    put_total_providers(alloc, out, publication.providers.as_slice())?;
+    let blocks = publication.blocks.as_slice();
+    put_done(alloc, out, published_in(blocks), unpublished_in(blocks))
+}
+
+/// The text of the first line.
+pub fn head_text(alloc: Global, date: &Name, quarters: u32, budget: u32) -> Result<Vec<u8>, Memory>
+    requires { InRange (line.Head date.now quarters budget) }
+    ensures { IfOk result (λ text. text.items ≡ head_text_of date.now quarters budget) }
+{
+    let mut out = Vec::new(alloc);
+    put_head(alloc, &mut out, date, quarters, budget)?;
+    Ok(out)
+}
+
+/// The text of a block.
+pub fn block_text(alloc: Global, block: &Block) -> Result<Vec<u8>, Memory>
+    requires { BlockFits block.now }
+    ensures { IfOk result (λ text. text.items ≡ block_text_of block.now) }
+{
+    let mut out = Vec::new(alloc);
+    put_block(alloc, &mut out, block)?;
+    Ok(out)
+}
+
+/// The text behind the last block.
+pub fn total_text(alloc: Global, publication: &Publication) -> Result<Vec<u8>, Memory>
+    requires { TotalsFit publication.now }
+    ensures { IfOk result (λ text. text.items ≡ total_text_of publication.now) }
+{
+    let mut out = Vec::new(alloc);
+    put_totals(alloc, &mut out, publication)?;
+    Ok(out)
+}
+
+/// The text of a publication: that of its first line, of its blocks in their order, and of the totals.
+#[tactic(auto, using(crate::proofs::Parts::text_of_blocks))]
+pub fn write_text(alloc: Global, publication: &Publication) -> Result<Vec<u8>, Memory>
+    requires { HasText publication.now }
+    ensures text { IfOk result (λ text. text.items ≡ text_of publication.now) }
+    ensures parts { IfOk result (λ text. text.items ≡ head_text_of publication.now.date publication.now.quarters publication.now.budget ++ (flat_map block_text_of publication.now.blocks ++ total_text_of publication.now)) }
+{
+    let mut out = Vec::new(alloc);
+    put_head(
+        alloc,
+        &mut out,
+        &publication.date,
+        publication.quarters,
+        publication.budget,
+    )?;
+    put_blocks(alloc, &mut out, publication.blocks.as_slice())?;
+    put_totals(alloc, &mut out, publication)?;
+    Ok(out)
+}

@@ -1,0 +1,3 @@
+pub mod Places
+pub mod Gates
+pub mod Validity

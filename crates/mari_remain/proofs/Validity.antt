@@ -1,0 +1,181 @@
+-- The market of a run of accepted books is valid.
+use Rattle.std.proofs.Common.{◌≡◌, ℕ, ◌+◌, ◌-◌, ◌<◌, ◌≤◌, ◌==◌, ℤ, Bool, true, false, List, [], ◌∷◌, ◌++◌, length, map, cond, refl, ap, ◌∙◌, sym, subst, arith, Option, Some, None, IfSome, filter, unwrap_or, slice_get, slice_index_or, get_or, zero-add, length-append, int_lt, unsigned_abs, pos, neg_ℤ}
+use Rattle.std.proofs.lemmas.Int.{ints}
+use Rattle.std.specs.Option.{option_and_then}
+use Rattle.std.specs.List.{All, AllPairs, Any, Contains, position, range_with_len}
+use Rattle.std.specs.Option.{option_map_or}
+use Rattle.std.proofs.lemmas.List.Elements.{All-append, All-contains, All-filter, Contains-append_left, Contains-get_or, All-contains_itself, All-map, All-weaker, All-get_or, filter_passes}
+use Rattle.std.proofs.lemmas.List.Kept.{AllPairs-filter}
+use Rattle.std.proofs.lemmas.List.Sums.{length-filter}
+use Rattle.std.proofs.lemmas.List.{length-map, get_or-map}
+use Rattle.std.proofs.lemmas.Option.{slice_get-map, slice_get-get_or}
+use Rattle.mari_units.specs.declared.Cents.{Cents}
+use Rattle.mari_zones.specs.declared.zones.ZoneBook.{ZoneBook}
+use Rattle.mari_zones.specs.declared.borders.BorderEnds.{BorderEnds}
+use Rattle.mari_bids.specs.declared.bids.Bid.{Bid}
+use Rattle.mari_bids.specs.declared.bids.BidBook.{BidBook}
+use Rattle.mari_zones.specs.Borders.{IsBorder}
+use Rattle.mari_bids.specs.Bids.{IsBid}
+use Rattle.mari_demands.specs.Demands.{IsDemand}
+use Rattle.mari_demands.specs.Runs.{IsRun}
+use Rattle.mari_links.specs.Links.{has_gate, count_of, quarter_of, AreLinks}
+use Rattle.mari_links.specs.declared.links.BidLinks.{BidLinks}
+use Rattle.mari_demands.specs.declared.demands.Demand.{Demand}
+use Rattle.mari_demands.specs.declared.runs.Run.{Run}
+use Rattle.mari_rows.specs.Fields.{IsWithinCap}
+use Rattle.mari_market.specs.declared.market.Order.{Order}
+use Rattle.mari_market.specs.declared.market.GateInfo.{GateInfo}
+use Rattle.mari_market.specs.Gates.{parent_of}
+use Rattle.mari_market.specs.Market.{IsValid, IsValidBorder, IsValidGate, IsValidOrder, GateFits}
+use Rattle.mari_market.specs.Price.{IsPrice}
+use Rattle.mari_remain.specs.declared.books.Books.{Books}
+use Rattle.mari_remain.specs.Accepted.{IsAccepted}
+use Rattle.mari_remain.specs.RunMarket.{bid_at, bid_order, bids_of_quarter, border_of, demand_order, demands_of_run, gate_at, gate_of, gated_of, inelastic_price, least_of, market_at, numbers_of, orders_of, parent_at, run_at}
+use Rattle.mari_remain.proofs.Places.{IsPlace, places-filter, places-within, places-rise, length-places}
+use Rattle.mari_remain.proofs.Gates.{gate-at, gate-is, gate-less}
+
+-- the limits of a border's file are within those of a run
+border : (zones : ZoneBook) (b : BorderEnds) → IsBorder zones b → IsValidBorder (length zones.zones) (border_of b)
+border zones b h = record { from = h.from; to = h.to; apart = h.apart; limit = omega (arith, h.limit); back = omega (arith, h.back) }
+
+-- its least quantity is at most its greatest, and at least 1 with a gate
+least_fits : (gates : ℕ) (b : Bid) (gate : Option ℕ) → b.least ≤ b.greatest → 1 ≤ b.greatest → ((g : ℕ) → gate ≡ Some g → g < gates)
+    → (least_of gate b.least ≤ b.greatest) × GateFits gates (bid_order b gate)
+least_fits gates b None h one there = (omega arith, refl)
+least_fits gates b (Some g) h one there = let in_order : cond (b.least == 0) 1 b.least ≤ b.greatest = grind arith in let some : 1 ≤ cond (b.least == 0) 1 b.least = grind arith in (in_order, (there g refl, some))
+
+-- a bid's order
+bid : (zones : ZoneBook) (providers quarters gates : ℕ) (b : Bid) (gate : Option ℕ) → IsBid zones providers quarters b → ((g : ℕ) → gate ≡ Some g → g < gates) → IsValidOrder (length zones.zones) gates (bid_order b gate)
+bid zones providers quarters gates b gate h there =
+    let fits = least_fits gates b gate h.least h.some there in
+    record { zone = h.zone; price = record { low = h.price.low; high = h.price.high }; in_order = fits.0; small = omega (arith, h.most); gate = fits.1 }
+
+-- an inelastic price is within the cap
+inelastic : (mw : ℤ) → IsPrice (inelastic_price mw).0
+inelastic mw =
+    let low : Cents = record { 0 = neg_ℤ (pos 9999900) } in
+    let high : Cents = record { 0 = pos 9999900 } in
+    elim (int_lt mw (pos 0)) as (λ v. IsPrice (cond v low high).0) [
+      true ↦ record { low = omega (arith, ints); high = omega (arith, ints) }
+    | false ↦ record { low = omega (arith, ints); high = omega (arith, ints) }
+    ]
+
+demand_price : (price : Option Cents) (mw : ℤ) → IfSome price (λ (p : Cents). IsWithinCap p.0) → IsPrice (unwrap_or price (inelastic_price mw)).0
+demand_price None mw h = inelastic mw
+demand_price (Some p) mw h = record { low = h.low; high = h.high }
+
+-- a demand's order
+demand : (zones : ZoneBook) (runs gates : ℕ) (d : Demand) → IsDemand zones runs d → IsValidOrder (length zones.zones) gates (demand_order d)
+demand zones runs gates d h = record { zone = h.zone; price = demand_price d.price d.mw h.price; in_order = omega arith; small = h.mw; gate = refl }
+
+-- what a list contains is contained, mapped, in the list of what it is mapped to
+contains-map : {X Y : Type 0} (f : X → Y) (xs : List X) (x : X) → Contains xs x → Contains (map f xs) (f x)
+contains-map f xs x (k, l, e) = (k, simp length-map l, get_or-map f xs k x (f x) l ∙ ap f e)
+
+parent_in : (parent : Option ℕ) (gated : List ℕ) (h : ℕ) → option_and_then (gate_of gated) parent ≡ Some h → (p : ℕ) × (parent ≡ Some p) × (gate_of gated p ≡ Some h)
+parent_in None gated h e = absurd (cc)
+parent_in (Some p) gated h e = (p, refl, e)
+
+-- the gate at a place
+gate_there : (links : List BidLinks) (gated : List ℕ) (g : ℕ) → g < length gated → parent_of (map (gate_at links gated) gated) g ≡ option_and_then (gate_of gated) (parent_at links (get_or gated g 0))
+gate_there links gated g l = rw (slice_get-map (gate_at links gated) gated g, slice_get-get_or gated g 0 l) refl
+
+-- what is read at a place that is there is its bid
+same_quarter : (quarter : ℕ) (bids : BidBook) (i : ℕ) (d : Bid) → i < length bids.bids → (quarter_of bids (0 + i) == quarter) ≡ ((slice_index_or bids.bids i d).quarter == quarter)
+same_quarter quarter bids i d l = rw (zero-add i, slice_get-get_or bids.bids i d l) refl
+
+-- two filters in either order
+one_filter : (p q : ℕ → Bool) (x : ℕ) (xs : List ℕ) → filter p (filter q xs) ≡ filter q (filter p xs) → (b : Bool) → p x ≡ b → (c : Bool) → q x ≡ c
+    → filter p (filter q (x ∷ xs)) ≡ filter q (filter p (x ∷ xs))
+one_filter p q x xs same true e true f = rw (f, e, f) (ap (λ ys. x ∷ ys) same)
+one_filter p q x xs same true e false f = rw (f, e, f) same
+one_filter p q x xs same false e true f = rw (f, e) same
+one_filter p q x xs same false e false f = rw (f, e) same
+
+filters : (p q : ℕ → Bool) (xs : List ℕ) → filter p (filter q xs) ≡ filter q (filter p xs)
+filters p q [] = refl
+filters p q (x ∷ xs) = one_filter p q x xs (filters p q xs) (p x) refl (q x) refl
+
+module _ (books : Books) (run : ℕ) (ok : IsAccepted books) where
+  rise : AllPairs (λ i j. i < j) (gated_of books run)
+  rise = AllPairs-filter (λ i j. i < j) (has_gate books.links) (numbers_of books run) (places-rise (λ (b : Bid). b.quarter == (run_at books run).quarter) 0 books.bids.bids)
+
+  there : All (λ i. i < length books.bids.bids) (numbers_of books run)
+  there = All-weaker (IsPlace 0 (length books.bids.bids)) (λ i. i < length books.bids.bids) (λ i l. omega (arith, l.below)) (numbers_of books run) (places-within (λ (b : Bid). b.quarter == (run_at books run).quarter) 0 books.bids.bids)
+
+  few_numbers : length (numbers_of books run) ≤ 4096
+  few_numbers = omega (arith, length-places (λ (b : Bid). b.quarter == (run_at books run).quarter) 0 books.bids.bids, ok.bids.of_quarter (run_at books run).quarter)
+
+  pub few : length (demands_of_run books.demands.demands run) ≤ 512
+  few = omega (arith, length-filter (λ (d : Demand). d.run == run) books.demands.demands, ok.demands.of_run run)
+
+  pub few_of_quarter : (quarter : ℕ) → length (filter (has_gate books.links) (bids_of_quarter books.bids.bids quarter)) ≤ 512
+  few_of_quarter quarter =
+      let links = books.links in
+      let numbers : List ℕ = range_with_len 0 (length books.bids.bids) in
+      let of_quarter : ℕ → Bool = λ i. quarter_of books.bids i == quarter in
+      let placed : bids_of_quarter books.bids.bids quarter ≡ filter of_quarter numbers = places-filter (λ (b : Bid). b.quarter == quarter) of_quarter 0 books.bids.bids (same_quarter quarter books.bids) in
+      let both : length (filter (has_gate links) (filter of_quarter numbers)) ≡ length (filter of_quarter (filter (has_gate links) numbers)) = ap length (filters (has_gate links) of_quarter numbers) in
+      let counted : length (filter of_quarter (filter (has_gate links) numbers)) ≡ count_of books.bids (filter (has_gate links) numbers) quarter = length-filter of_quarter (filter (has_gate links) numbers) in
+      let all : length books.links.links ≡ length books.bids.bids = ok.links.one_each ∙ ok.bids.named in
+      let most = rw all at (ok.links.of_quarter quarter) in
+      rw placed (omega (arith, both, counted, most))
+
+  few_gated : length (gated_of books run) ≤ 512
+  few_gated = few_of_quarter (run_at books run).quarter
+
+  parents : (child parent : ℕ) → parent_at books.links.links child ≡ Some parent → parent < child
+  parents child parent e = found (slice_get books.links.links child) refl e
+    where
+      found : (o : Option BidLinks) → slice_get books.links.links child ≡ o → option_and_then (λ (l : BidLinks). l.parent) o ≡ Some parent → parent < child
+      found None there up = absurd (cc)
+      found (Some l) there up = ((ok.links.links child l there).parent parent up).before
+
+  bid_orders : All (IsValidOrder (length books.zones.zones) (length (gated_of books run))) (map (λ i. bid_order (bid_at books.bids.bids i) (gate_of (gated_of books run) i)) (numbers_of books run))
+  bid_orders =
+      let gated : List ℕ = gated_of books run in
+      let zones : ℕ = length books.zones.zones in
+      let valid : (i : ℕ) → i < length books.bids.bids → IsValidOrder (length books.zones.zones) (length (gated_of books run)) (bid_order (bid_at books.bids.bids i) (gate_of (gated_of books run) i)) =
+          λ i l. bid books.zones (length books.bids.providers) books.quarters (length (gated_of books run)) (bid_at books.bids.bids i) (gate_of (gated_of books run) i) (ok.bids.bids i _ l) (λ g e. (gate-at (gated_of books run) i g e).0) in
+      All-map (IsValidOrder (length books.zones.zones) (length (gated_of books run))) (λ i. bid_order (bid_at books.bids.bids i) (gate_of (gated_of books run) i)) (numbers_of books run)
+      (All-weaker (λ i. i < length books.bids.bids) (λ i. IsValidOrder (length books.zones.zones) (length (gated_of books run)) (bid_order (bid_at books.bids.bids i) (gate_of (gated_of books run) i))) valid (numbers_of books run) there)
+
+  demand_orders : All (IsValidOrder (length books.zones.zones) (length (gated_of books run))) (map demand_order (demands_of_run books.demands.demands run))
+  demand_orders = All-map (IsValidOrder (length books.zones.zones) (length (gated_of books run))) demand_order (demands_of_run books.demands.demands run)
+      (All-weaker (IsDemand books.zones (length books.runs.runs)) (λ d. IsValidOrder (length books.zones.zones) (length (gated_of books run)) (demand_order d)) (demand books.zones (length books.runs.runs) (length (gated_of books run))) (demands_of_run books.demands.demands run)
+      (All-filter (λ (d : Demand). d.run == run) (IsDemand books.zones (length books.runs.runs)) books.demands.demands ok.demands.demands))
+
+  gate : (g : ℕ) → g < length (map (gate_at books.links.links (gated_of books run)) (gated_of books run)) → IsValidGate (market_at books run) g
+  gate g l =
+      let gated : List ℕ = gated_of books run in
+      let i : ℕ = get_or gated g 0 in
+      let order_of : ℕ → Order = λ k. bid_order (bid_at books.bids.bids k) (gate_of gated k) in
+      let less : g < length gated = simp length-map at l in
+      let own : gate_of gated i ≡ Some g = gate-is gated g rise less in
+      let kept : All (Contains (numbers_of books run)) gated = All-filter (has_gate books.links) (Contains (numbers_of books run)) (numbers_of books run) (All-contains_itself (numbers_of books run)) in
+      let member : Contains (numbers_of books run) i = kept g 0 less in
+      let placed : Contains (market_at books run).orders (order_of i) = Contains-append_left _ _ _ (contains-map order_of (numbers_of books run) i member) in
+      record {
+        parent = λ h e.
+            let up = parent_in (parent_at books.links.links i) gated h (sym (gate_there books.links.links gated g less) ∙ e) in
+            gate-less gated i up.0 g h rise own up.2 (parents i up.0 up.1);
+        used = (placed.0, order_of i, placed.1, placed.2, own);
+      }
+
+  -- the market is valid
+  pub valid : 1 ≤ run → run ≤ length books.runs.runs → IsValid (market_at books run)
+  valid first last = record {
+    zones = (ok.zones.some, ok.zones.few);
+    few_borders = simp length-map ok.borders.few;
+    few_orders = simp (length-append, length-map) (omega (arith, few_numbers, few));
+    few_gates = simp length-map few_gated;
+    borders = All-map (IsValidBorder (length books.zones.zones)) border_of books.borders.borders (All-weaker (IsBorder books.zones) (λ b. IsValidBorder (length books.zones.zones) (border_of b)) (border books.zones) books.borders.borders ok.borders.borders);
+    orders = simp length-map (All-append (IsValidOrder (length books.zones.zones) (length (gated_of books run))) _ _ bid_orders demand_orders);
+    gates = gate;
+    reference = let own = ok.runs.runs (run - 1) _ (omega arith) in record { low = own.reference.low; high = own.reference.high };
+  }
+
+  -- each demand of a run is small enough to be an order
+  pub small : All (λ (d : Demand). unsigned_abs d.mw ≤ 99999) (demands_of_run books.demands.demands run)
+  small = All-weaker (IsDemand books.zones (length books.runs.runs)) (λ (d : Demand). unsigned_abs d.mw ≤ 99999) (λ d h. h.mw) (demands_of_run books.demands.demands run)
+      (All-filter (λ (d : Demand). d.run == run) (IsDemand books.zones (length books.runs.runs)) books.demands.demands ok.demands.demands)

@@ -1,0 +1,18 @@
+-- What is known of books that were read and accepted.
+use Rattle.std.specs.Prelude.{length}
+use Rattle.mari_zones.specs.Zones.{IsZoneBook}
+use Rattle.mari_zones.specs.Borders.{IsBorderBook}
+use Rattle.mari_bids.specs.Bids.{IsBidBook}
+use Rattle.mari_links.specs.Links.{IsLinkBook}
+use Rattle.mari_demands.specs.Runs.{IsRunBook}
+use Rattle.mari_demands.specs.Demands.{IsDemandBook}
+use Rattle.mari_remain.specs.declared.books.Books.{Books}
+
+-- books of one folder, each read with those before it
+pub record IsAccepted (books : Books) : Type 0 where
+  pub zones : IsZoneBook books.zones
+  pub borders : IsBorderBook books.zones books.borders
+  pub bids : IsBidBook books.zones books.quarters books.bids
+  pub links : IsLinkBook books.bids books.links
+  pub runs : IsRunBook books.quarters books.runs
+  pub demands : IsDemandBook books.zones (length books.runs.runs) books.demands

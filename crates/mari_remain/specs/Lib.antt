@@ -1,0 +1,2 @@
+pub mod RunMarket
+pub mod Accepted

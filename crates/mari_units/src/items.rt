@@ -22,6 +22,10 @@ impl<T> Model for Items<T> {
 }
 
 impl<T> Items<T> {
+    ghost use Rattle.std.specs.Borrow.{Array, Lends, sem};
+    ghost use Rattle.mari_units.specs.contracts.items.Items.{the_row};
+    ghost use Rattle.mari_units.specs.Lists.{with_items};
+
     /// The list of these items.
     pub fn of(items: Vec<T>) -> Items<T>
         ensures { result ≡ items.items }
@@ -34,6 +38,14 @@ impl<T> Items<T> {
         ensures { result.now ≡ self.now }
     {
         self.items.as_slice()
+    }
+
+    /// The items, lent so that they can be changed in place.
+    pub fn as_mut_slice(&mut self) -> &mut [T]
+        ensures* writes_back { sem 𝓛 (Lends (the_row T.row) (Array T.row 0) self.entry result (with_items self.old)) }
+        ensures value { result.now ≡ self.old }
+    {
+        self.items.as_mut_slice()
     }
 
     /// The items, given back.

@@ -1,5 +1,5 @@
 -- Gates, as the tests go through them.
-use Rattle.std.specs.Prelude.{◌≡◌, ◌≢◌, ◌&&◌, if◌then◌else◌, Bool, true, ℕ, nat_lt, List, Option, Some}
+use Rattle.std.specs.Prelude.{◌≡◌, ◌≢◌, ◌&&◌, if◌then◌else◌, Bool, true, false, ℕ, ◌<◌, nat_lt, List, Option, Some, IfSome, slice_index_or}
 use Rattle.mari_market.specs.declared.market.GateInfo.{GateInfo}
 use Rattle.mari_market.specs.declared.market.Order.{Order}
 use Rattle.mari_market.specs.Activation.{is_gate, runs_gate}
@@ -15,9 +15,17 @@ is_run_of g o q = is_gate g o.gate && nat_lt 0 q
 abbrev pub opens_by : List Order → List ℕ → ℕ → Bool
 opens_by os qs g = runs_gate g os qs
 
--- an order's bounds where each gate is open or closed as the orders run
-abbrev pub bounds_by : List Order → List ℕ → Order → Span
-bounds_by os qs = span_in (λ g. if opens_by os qs g then Open else Closed)
+-- whether a table says that the gate is open
+abbrev pub opens_in : List Bool → ℕ → Bool
+opens_in table g = slice_index_or table g false
+
+-- the order's gate, if it has one, is one of 512
+abbrev pub IsOfFewGates : Order → Type 0
+IsOfFewGates o = IfSome o.gate (λ g. g < 512)
+
+-- an order's bounds where each gate is open or closed as said
+abbrev pub bounds_by : (ℕ → Bool) → Order → Span
+bounds_by opens = span_in (λ g. if opens g then Open else Closed)
 
 -- the gate's parent, if it has one, is open
 abbrev pub HasOpenParent : (ℕ → Bool) → Option ℕ → Type 0

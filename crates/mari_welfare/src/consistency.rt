@@ -6,12 +6,12 @@ ghost use Rattle.mari_market.specs.Consistent.{IsConsistentBorder, IsConsistentO
 ghost use Rattle.mari_market.specs.Market.{IsValid, IsValidBorder, IsValidOrder};
 ghost use Rattle.mari_market.specs.Optimal.{IsConsistent};
 ghost use Rattle.mari_market.specs.Price.{ArePrices, IsPrice, price_at};
-ghost use Rattle.mari_welfare.specs.Gates.{opens_by};
+ghost use Rattle.mari_welfare.specs.Gates.{opens_in};
 ghost use Rattle.mari_welfare.specs.Parts.{HasLengths, OrdersAndBordersAgree};
 ghost use Rattle.mari_welfare.specs.Standings.{standing_in};
 
 use crate::feasibility::has_lengths;
-use crate::gates::is_open;
+use crate::gates::OpenGates;
 use mari_market::{Activation, Border, Market, Order, Prices, Side};
 use mari_units::{CAP, Cents};
 
@@ -23,13 +23,12 @@ enum Standing {
     InClosed,
 }
 
-fn standing_of_order(orders: &[Order], mw: &[u32], order: &Order) -> Standing
-    requires { length mw.now ≡ length orders.now }
-    ensures { standing_in result ≡ standing_of (opens_by orders.now mw.now) order.now.gate }
+fn standing_of_order(opened: &OpenGates, order: &Order) -> Standing
+    ensures { standing_in result ≡ standing_of (opens_in opened.now) order.now.gate }
 {
     match order.gate {
         None => Standing::Plain,
-        Some(gate) if is_open(orders, mw, gate) => Standing::InOpen,
+        Some(gate) if opened.has(gate) => Standing::InOpen,
         Some(_) => Standing::InClosed,
     }
 }
@@ -69,28 +68,21 @@ fn is_consistent_trade(standing: Standing, order: &Order, mw: u32, price: Cents)
 }
 
 // Whether what an order runs is consistent with its zone's price.
-fn is_consistent_order(
-    orders: &[Order],
-    mw: &[u32],
-    prices: &[Cents],
-    order: &Order,
-    quantity: u32,
-) -> bool
-    requires lengths { length mw.now ≡ length orders.now }
-    requires zone { order.now.zone < length prices.now }
-    ensures { IsTrue result ↔ IsConsistentOrder (opens_by orders.now mw.now) prices.now order.now quantity }
+fn is_consistent_order(opened: &OpenGates, order: &Order, mw: u32, prices: &[Cents]) -> bool
+    requires { order.now.zone < length prices.now }
+    ensures { IsTrue result ↔ IsConsistentOrder (opens_in opened.now) prices.now order.now mw }
 {
-    let standing = standing_of_order(orders, mw, order);
-    is_consistent_trade(standing, order, quantity, prices[order.zone as usize])
+    let standing = standing_of_order(opened, order);
+    is_consistent_trade(standing, order, mw, prices[order.zone as usize])
 }
 
-fn orders_agree(orders: &[Order], mw: &[u32], prices: &[Cents]) -> bool
+fn orders_agree(opened: &OpenGates, orders: &[Order], mw: &[u32], prices: &[Cents]) -> bool
     requires lengths { length mw.now ≡ length orders.now }
     requires zones { All (λ o. o.zone < length prices.now) orders.now }
-    ensures { IsTrue result ↔ AllZip (IsConsistentOrder (opens_by orders.now mw.now) prices.now) orders.now mw.now }
+    ensures { IsTrue result ↔ AllZip (IsConsistentOrder (opens_in opened.now) prices.now) orders.now mw.now }
 {
     for (i, order) in orders.iter().enumerate() {
-        if !is_consistent_order(orders, mw, prices, order, mw[i]) {
+        if !is_consistent_order(opened, order, mw[i], prices) {
             return false;
         }
     }
@@ -153,6 +145,7 @@ fn all_within_cap(prices: &[Cents]) -> bool
 }
 
 fn orders_and_borders_agree(market: &Market, activation: &Activation, prices: &[Cents]) -> bool
+    requires market { IsValid market.now }
     requires lengths { HasLengths market.now activation.now }
     requires zones { All (λ o. o.zone < length prices.now) market.now.orders }
     requires ends { All (λ b. (b.from < length prices.now) × (b.to < length prices.now)) market.now.borders }
@@ -160,7 +153,8 @@ fn orders_and_borders_agree(market: &Market, activation: &Activation, prices: &[
 {
     let (orders, mw) = (market.orders.as_slice(), activation.mw.as_slice());
     let (borders, flow) = (market.borders.as_slice(), activation.flow.as_slice());
-    orders_agree(orders, mw, prices) && borders_agree(borders, flow, prices)
+    let opened = OpenGates::of(orders, mw);
+    orders_agree(&opened, orders, mw, prices) && borders_agree(borders, flow, prices)
 }
 
 // Whether there is one price for each zone, within the cap.

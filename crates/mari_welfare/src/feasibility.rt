@@ -7,32 +7,29 @@ ghost use Rattle.mari_market.specs.Bounds.{IsWithin};
 ghost use Rattle.mari_market.specs.Market.{IsValid};
 ghost use Rattle.mari_market.specs.Optimal.{IsFeasible};
 ghost use Rattle.mari_market.specs.Sums.{sum_along};
-ghost use Rattle.mari_welfare.specs.Gates.{bounds_by};
+ghost use Rattle.mari_welfare.specs.Gates.{bounds_by, opens_in};
 ghost use Rattle.mari_welfare.specs.Parts.{HasLengths, OrdersAndGatesFit, BordersAndZonesFit};
 
-use crate::gates::{is_open, keep_gate_rules};
+use crate::gates::{OpenGates, keep_gate_rules};
 use mari_market::{Activation, Border, Market, Order, Side};
 
 // Whether an order runs within its bounds.
-fn is_within(orders: &[Order], mw: &[u32], order: &Order, quantity: u32) -> bool
-    requires { length mw.now ≡ length orders.now }
-    ensures { IsTrue result ↔ IsWithin (bounds_by orders.now mw.now order.now) quantity }
+fn is_within(opened: &OpenGates, order: &Order, mw: u32) -> bool
+    ensures { IsTrue result ↔ IsWithin (bounds_by (opens_in opened.now) order.now) mw }
 {
     match order.gate {
-        None => quantity <= order.greatest,
-        Some(gate) if is_open(orders, mw, gate) => {
-            order.least <= quantity && quantity <= order.greatest
-        }
-        Some(_) => quantity == 0,
+        None => mw <= order.greatest,
+        Some(gate) if opened.has(gate) => order.least <= mw && mw <= order.greatest,
+        Some(_) => mw == 0,
     }
 }
 
-fn orders_fit(orders: &[Order], mw: &[u32]) -> bool
+fn orders_fit(opened: &OpenGates, orders: &[Order], mw: &[u32]) -> bool
     requires { length mw.now ≡ length orders.now }
-    ensures { IsTrue result ↔ AllZip (λ o q. IsWithin (bounds_by orders.now mw.now o) q) orders.now mw.now }
+    ensures { IsTrue result ↔ AllZip (λ o q. IsWithin (bounds_by (opens_in opened.now) o) q) orders.now mw.now }
 {
     for (i, order) in orders.iter().enumerate() {
-        if !is_within(orders, mw, order, mw[i]) {
+        if !is_within(opened, order, mw[i]) {
             return false;
         }
     }
@@ -136,12 +133,13 @@ pub(crate) fn has_lengths(market: &Market, activation: &Activation) -> bool
 }
 
 fn orders_and_gates_fit(market: &Market, activation: &Activation) -> bool
+    requires market { IsValid market.now }
     requires lengths { HasLengths market.now activation.now }
-    requires few { length market.now.gates ≤ 512 }
     ensures { IsTrue result ↔ OrdersAndGatesFit market.now activation.now }
 {
     let (orders, mw) = (market.orders.as_slice(), activation.mw.as_slice());
-    orders_fit(orders, mw) && keep_gate_rules(market.gates.as_slice(), orders, mw)
+    let opened = OpenGates::of(orders, mw);
+    orders_fit(&opened, orders, mw) && keep_gate_rules(market.gates.as_slice(), &opened)
 }
 
 fn borders_and_zones_fit(market: &Market, activation: &Activation) -> bool

@@ -1,37 +1,69 @@
 //! Which gates an activation opens, and whether they keep the rules.
 
-ghost use Rattle.std.specs.Prelude.{◌≡◌, ◌<◌, ◌≤◌, length, IsTrue, ◌↔◌};
+ghost use Rattle.std.specs.Prelude.{◌≡◌, ◌||◌, ◌<◌, ◌≤◌, ℕ, length, IsTrue, IfSome, ◌↔◌};
+ghost use Rattle.std.specs.List.{All};
 ghost use Rattle.mari_market.specs.Gates.{KeepsGateRules, group_of as group_of_gate, parent_of as parent_of_gate};
-ghost use Rattle.mari_welfare.specs.Gates.{HasOpenParent, IsAlone, IsAloneIn, IsRival, KeepsRulesAt, is_run_of, opens_by};
+ghost use Rattle.mari_welfare.specs.Gates.{HasOpenParent, IsAlone, IsAloneIn, IsRival, IsOfFewGates, KeepsRulesAt, is_run_of, opens_by, opens_in};
 
 use mari_market::{GateInfo, Order};
+use std::marker::Model;
 
-// Whether an order is of the gate and runs.
-fn runs_for(gate: u32, order: &Order, mw: u32) -> bool
-    ensures { result ≡ is_run_of gate order.now mw }
-{
-    order.gate == Some(gate) && mw > 0
+// The most gates of a market.
+const MOST_GATES: usize = 512;
+
+// The gates that an activation opens, as a table of them that is made once.
+#[derive(Drop)]
+pub(crate) struct OpenGates {
+    opened: [bool; 512],
 }
 
-// Whether some order of the gate runs.
-pub(crate) fn is_open(orders: &[Order], mw: &[u32], gate: u32) -> bool
-    requires { length mw.now ≡ length orders.now }
-    ensures { result ≡ opens_by orders.now mw.now gate }
+impl Model for OpenGates {
+    ghost use Rattle.std.specs.Prelude.{Bool, List};
+
+    ghost Value = { List Bool };
+
+    ghost view = { λ t. t.opened };
+}
+
+// Marks the gate of an order that runs, if it has one.
+fn mark(opened: &mut [bool; 512], order: &Order, mw: u32)
+    requires { IsOfFewGates order.now }
+    ensures { (g : ℕ) → opens_in opened.new g ≡ (opens_in opened.old g || is_run_of g order.now mw) }
 {
-    for (i, order) in orders.iter().enumerate() {
-        if runs_for(gate, order, mw[i]) {
-            return true;
-        }
+    if let Some(gate) = order.gate
+        && mw > 0
+    {
+        opened[gate as usize] = true;
     }
-    false
 }
 
-fn has_open_parent(orders: &[Order], mw: &[u32], parent: Option<u32>) -> bool
-    requires { length mw.now ≡ length orders.now }
-    ensures { IsTrue result ↔ HasOpenParent (opens_by orders.now mw.now) parent }
+impl OpenGates {
+    // The gates of which some order runs.
+    pub(crate) fn of(orders: &[Order], mw: &[u32]) -> OpenGates
+        requires lengths { length mw.now ≡ length orders.now }
+        requires gates { All IsOfFewGates orders.now }
+        ensures { opens_in result ≡ opens_by orders.now mw.now }
+    {
+        let mut opened = [false; 512];
+        for (i, order) in orders.iter().enumerate() {
+            mark(&mut opened, order, mw[i]);
+        }
+        OpenGates { opened }
+    }
+
+    // Whether a gate is open.
+    pub(crate) fn has(&self, gate: u32) -> bool
+        ensures { result ≡ opens_in self.now gate }
+    {
+        (gate as usize) < MOST_GATES && self.opened[gate as usize]
+    }
+}
+
+fn has_open_parent(opened: &OpenGates, parent: Option<u32>) -> bool
+    ensures { IsTrue result ↔ HasOpenParent (opens_in opened.now) parent }
 {
     match parent {
-        Some(parent) => is_open(orders, mw, parent),
+        Some(parent) => opened.has(parent),
         None => true,
     }
 }
@@ -51,29 +83,20 @@ fn parent_of(gates: &[GateInfo], gate: usize) -> Option<u32>
 }
 
 // Whether another gate of the group is open.
-fn is_rival(
-    gates: &[GateInfo],
-    orders: &[Order],
-    mw: &[u32],
-    place: usize,
-    group: u32,
-    other: usize,
-) -> bool
-    requires lengths { length mw.now ≡ length orders.now }
+fn is_rival(gates: &[GateInfo], opened: &OpenGates, place: usize, group: u32, other: usize) -> bool
     requires few { length gates.now ≤ 512 }
     requires there { other < length gates.now }
-    ensures { IsTrue result ↔ IsRival gates.now (opens_by orders.now mw.now) place group other }
+    ensures { IsTrue result ↔ IsRival gates.now (opens_in opened.now) place group other }
 {
-    place != other && group_of(gates, other) == Some(group) && is_open(orders, mw, other as u32)
+    place != other && group_of(gates, other) == Some(group) && opened.has(other as u32)
 }
 
-fn is_alone_in(gates: &[GateInfo], orders: &[Order], mw: &[u32], place: usize, group: u32) -> bool
-    requires lengths { length mw.now ≡ length orders.now }
+fn is_alone_in(gates: &[GateInfo], opened: &OpenGates, place: usize, group: u32) -> bool
     requires few { length gates.now ≤ 512 }
-    ensures { IsTrue result ↔ IsAloneIn gates.now (opens_by orders.now mw.now) place group }
+    ensures { IsTrue result ↔ IsAloneIn gates.now (opens_in opened.now) place group }
 {
     for other in 0..gates.len() {
-        if is_rival(gates, orders, mw, place, group, other) {
+        if is_rival(gates, opened, place, group, other) {
             return false;
         }
     }
@@ -81,37 +104,33 @@ fn is_alone_in(gates: &[GateInfo], orders: &[Order], mw: &[u32], place: usize, g
 }
 
 // Whether no other gate of the gate's group is open.
-fn is_alone(gates: &[GateInfo], orders: &[Order], mw: &[u32], place: usize) -> bool
-    requires lengths { length mw.now ≡ length orders.now }
+fn is_alone(gates: &[GateInfo], opened: &OpenGates, place: usize) -> bool
     requires few { length gates.now ≤ 512 }
     requires there { place < length gates.now }
-    ensures { IsTrue result ↔ IsAlone gates.now (opens_by orders.now mw.now) place (group_of_gate gates.now place) }
+    ensures { IsTrue result ↔ IsAlone gates.now (opens_in opened.now) place (group_of_gate gates.now place) }
 {
     match group_of(gates, place) {
-        Some(group) => is_alone_in(gates, orders, mw, place, group),
+        Some(group) => is_alone_in(gates, opened, place, group),
         None => true,
     }
 }
 
-fn keeps_rules_at(gates: &[GateInfo], orders: &[Order], mw: &[u32], place: usize) -> bool
-    requires lengths { length mw.now ≡ length orders.now }
+fn keeps_rules_at(gates: &[GateInfo], opened: &OpenGates, place: usize) -> bool
     requires few { length gates.now ≤ 512 }
     requires there { place < length gates.now }
-    ensures { IsTrue result ↔ KeepsRulesAt gates.now (opens_by orders.now mw.now) place }
+    ensures { IsTrue result ↔ KeepsRulesAt gates.now (opens_in opened.now) place }
 {
-    !is_open(orders, mw, place as u32)
-        || (has_open_parent(orders, mw, parent_of(gates, place))
-            && is_alone(gates, orders, mw, place))
+    !opened.has(place as u32)
+        || (has_open_parent(opened, parent_of(gates, place)) && is_alone(gates, opened, place))
 }
 
 // Whether the open gates keep the rules of parents and groups.
-pub(crate) fn keep_gate_rules(gates: &[GateInfo], orders: &[Order], mw: &[u32]) -> bool
-    requires lengths { length mw.now ≡ length orders.now }
+pub(crate) fn keep_gate_rules(gates: &[GateInfo], opened: &OpenGates) -> bool
     requires few { length gates.now ≤ 512 }
-    ensures { IsTrue result ↔ KeepsGateRules gates.now (opens_by orders.now mw.now) }
+    ensures { IsTrue result ↔ KeepsGateRules gates.now (opens_in opened.now) }
 {
     for place in 0..gates.len() {
-        if !keeps_rules_at(gates, orders, mw, place) {
+        if !keeps_rules_at(gates, opened, place) {
             return false;
         }
     }

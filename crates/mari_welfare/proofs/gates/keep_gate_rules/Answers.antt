@@ -4,7 +4,7 @@ use Rattle.std.proofs.lemmas.Bool.{cases_lt}
 use Rattle.std.proofs.lemmas.Option.{slice_get_past}
 use Rattle.mari_market.specs.declared.market.GateInfo.{GateInfo}
 use Rattle.mari_market.specs.Gates.{KeepsGateRules}
-use Rattle.mari_welfare.specs.Gates.{KeepsRulesAt, opens_by}
+use Rattle.mari_welfare.specs.Gates.{KeepsRulesAt, opens_in}
 use Rattle.mari_welfare.proofs.gates.keep_gate_rules.Goals as goal
 
 past : (f : GateInfo → Option ℕ) (gates : List GateInfo) (g h : ℕ) → length gates ≤ g → option_and_then f (slice_get gates g) ≡ Some h → ⊥
@@ -17,7 +17,7 @@ whole gates opens n l each = record {
 }
 
 pub loop-place-preserved : goal.loop-place-preserved
-loop-place-preserved c = below_more (KeepsRulesAt c.args.gates.now (opens_by c.args.orders.now c.args.mw.now)) _ c.loop-place.invariant (c.keeps_rules_at.ensures.0 c.if-not-keeps_rules_at.false)
+loop-place-preserved c = below_more (KeepsRulesAt c.args.gates.now (opens_in c.args.opened.now)) _ c.loop-place.invariant (c.keeps_rules_at.ensures.0 c.if-not-keeps_rules_at.false)
 
 pub returns : goal.returns
-returns c = (λ t. whole c.args.gates.now (opens_by c.args.orders.now c.args.mw.now) c.loop-place.place (omega arith) c.loop-place.invariant, λ h. refl)
+returns c = (λ t. whole c.args.gates.now (opens_in c.args.opened.now) c.loop-place.place (omega arith) c.loop-place.invariant, λ h. refl)

@@ -1,0 +1,6 @@
+pub mod Money
+pub mod Flows
+pub mod Lists
+pub mod Amounts
+pub mod Laws
+pub mod Books

@@ -1,0 +1,10 @@
+use Rattle.std.proofs.Common.{arith}
+use Rattle.std.proofs.lemmas.Int.{ints}
+use Rattle.mari_settle.proofs.Money.{product_fits}
+use Rattle.mari_settle.proofs.providers.earned.Goals as goal
+
+pub returns-then-bid-clause-small : goal.returns-then-bid-clause-small
+returns-then-bid-clause-small c = omega (arith, ints, product_fits c.price_of.result c.from.result c.product-worth.result 9999900 99999 c.price_of.ensures.small (omega (arith, ints)) (omega arith) (omega arith) c.product-worth.ensures)
+
+pub returns-else-bid-clause-small : goal.returns-else-bid-clause-small
+returns-else-bid-clause-small c = omega (arith, ints, product_fits c.price_of.result c.from.result c.product-worth.result 9999900 99999 c.price_of.ensures.small (omega (arith, ints)) (omega arith) (omega arith) c.product-worth.ensures)

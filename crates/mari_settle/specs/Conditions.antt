@@ -1,0 +1,101 @@
+-- What the calls of the ledger ask of what they are given, and how large its numbers are.
+use Rattle.std.specs.Prelude.{◌≡◌, ℕ, ◌<◌, ◌≤◌, ◌^◌, ℤ, ◌+ℤ◌, if◌then◌else◌, List, length, take, slice_get, unsigned_abs, IsSomeAnd}
+use Rattle.std.specs.List.{All, AllZip}
+use Rattle.mari_units.specs.declared.numbers.Quarters.{Quarters}
+use Rattle.mari_zones.specs.declared.zones.ZoneBook.{ZoneBook}
+use Rattle.mari_bids.specs.declared.bids.Bid.{Bid}
+use Rattle.mari_bids.specs.declared.bids.BidBook.{BidBook}
+use Rattle.mari_market.specs.declared.market.Side.{Side}
+use Rattle.mari_market.specs.declared.market.Side.TheVariants.{Inject, Withdraw}
+use Rattle.mari_market.specs.declared.market.Order.{Order}
+use Rattle.mari_market.specs.declared.market.Market.{Market}
+use Rattle.mari_market.specs.declared.activation.Activation.{Activation}
+use Rattle.mari_market.specs.Activation.{IsWithinLimits}
+use Rattle.mari_market.specs.Market.{IsValid}
+use Rattle.mari_market.specs.Price.{ArePrices, IsPrice}
+use Rattle.mari_units.specs.declared.numbers.Cents.{Cents}
+use Rattle.mari_settle.specs.declared.ledger.OperatorLine.{OperatorLine}
+use Rattle.mari_settle.specs.declared.ledger.Ledger.{Ledger}
+
+-- each zone of the book has an operator, which is one of the book
+pub record HasOperators (zones : ZoneBook) : Type 0 where
+  pub one_each : length zones.operator_of ≡ length zones.zones
+  pub there : All (λ operator. operator < length zones.operators) zones.operator_of
+
+-- each bid's provider is one of the book
+abbrev pub HasProviders : BidBook → Type 0
+HasProviders bids = All (λ (bid : Bid). bid.provider < length bids.providers) bids.bids
+
+-- a price within the cap
+abbrev pub IsCapped : Cents → Type 0
+IsCapped c = IsPrice c.0
+
+-- the number names a bid, of one of so many zones, whose provider is one of the book
+pub record IsPayable (bids : BidBook) (zones : ℕ) (bid : Bid) : Type 0 where
+  pub zone : bid.zone < zones
+  pub provider : bid.provider < length bids.providers
+
+abbrev pub NamesBid : BidBook → ℕ → ℕ → Type 0
+NamesBid bids zones number = IsSomeAnd (slice_get bids.bids number) (IsPayable bids zones)
+
+-- a flow for each border, within its limits
+pub record HasFlows (m : Market) (a : Activation) : Type 0 where
+  pub one_each : length a.flow ≡ length m.borders
+  pub within : AllZip IsWithinLimits m.borders a.flow
+
+-- what operators' lines are made of: a valid market, each of whose zones has an operator and a price within the cap, and
+-- flows within the borders' limits
+pub record Settles (zones : ZoneBook) (m : Market) (a : Activation) (ps : List Cents) : Type 0 where
+  pub market : IsValid m
+  pub operators : length zones.operator_of ≡ m.zones
+  pub prices : ArePrices m ps
+  pub flows : HasFlows m a
+
+-- a bid's side: an upward bid injects
+abbrev pub side_of : Bid → Side
+side_of bid = if bid.up then Inject else Withdraw
+
+-- the order has the bid's zone and side
+pub record IsOrderOf (order : Order) (bid : Bid) : Type 0 where
+  pub zone : order.zone ≡ bid.zone
+  pub side : order.side ≡ side_of bid
+
+-- the numbers name bids that are there, those of the first orders
+abbrev pub NameOrders : List Bid → List ℕ → List Order → Type 0
+NameOrders bids numbers orders = AllZip (λ number order. IsSomeAnd (slice_get bids number) (IsOrderOf order)) numbers (take (length numbers) orders)
+
+-- one line for each operator, one amount for each provider, one rent for each border of the market
+pub record FitsRun (ledger : Ledger) (zones : ZoneBook) (bids : BidBook) (m : Market) : Type 0 where
+  pub operators : length ledger.operators ≡ length zones.operators
+  pub providers : length ledger.providers ≡ length bids.providers
+  pub rents : length ledger.rents ≡ length m.borders
+
+-- the sum of two amounts lies within 10^30 quarter-cents of 0
+abbrev pub AddUp : Quarters → Quarters → Type 0
+AddUp a b = unsigned_abs (a.0 +ℤ b.0) ≤ 10 ^ 30
+
+-- so do the sums of two operators' lines
+pub record LinesAddUp (a b : OperatorLine) : Type 0 where
+  pub payment : AddUp a.payment b.payment
+  pub rent : AddUp a.rent b.rent
+
+-- and those of two ledgers, which have as many lines, amounts and rents
+pub record LedgersAddUp (a b : Ledger) : Type 0 where
+  pub operators : AllZip LinesAddUp a.operators b.operators
+  pub providers : AllZip AddUp a.providers b.providers
+  pub rents : AllZip AddUp a.rents b.rents
+
+-- an amount within 10^17 quarter-cents of 0
+abbrev pub IsSmall : Quarters → Type 0
+IsSmall a = unsigned_abs a.0 ≤ 10 ^ 17
+
+-- so are the two of an operator's line
+pub record IsSmallLine (line : OperatorLine) : Type 0 where
+  pub payment : IsSmall line.payment
+  pub rent : IsSmall line.rent
+
+-- so is every number of a ledger
+pub record HasSmallNumbers (ledger : Ledger) : Type 0 where
+  pub operators : All IsSmallLine ledger.operators
+  pub providers : All IsSmall ledger.providers
+  pub rents : All IsSmall ledger.rents

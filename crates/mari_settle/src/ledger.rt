@@ -1,0 +1,54 @@
+//! The ledger, and the one in which nothing stands yet.
+
+ghost use Rattle.std.specs.Prelude.{◌≡◌, length, replicate, IfOk};
+ghost use Rattle.mari_settle.specs.Lines.{nothing, no_line};
+
+use mari_bids::BidBook;
+use mari_units::{Items, Memory, Quarters};
+use mari_zones::{BorderBook, ZoneBook};
+use std::alloc::Global;
+
+/// What an operator gets for the energy that its zones take in, and its part of the rents of its borders, in quarter-cents.
+///
+/// The payment is negative where the operator pays. Its net is the payment less the rent.
+#[derive(Clone, Copy, Debug, PartialEq, Eq)]
+pub struct OperatorLine {
+    pub payment: Quarters,
+    pub rent: Quarters,
+}
+
+/// The ledger of a run, or of several: a line for each operator, an amount for each provider and a rent for each border, by
+/// their numbers, in quarter-cents.
+#[derive(Clone, Debug, Drop)]
+pub struct Ledger {
+    pub operators: Items<OperatorLine>,
+    pub providers: Items<Quarters>,
+    pub rents: Items<Quarters>,
+}
+
+impl Ledger {
+    /// The ledger in which every number is 0.
+    pub fn start(
+        alloc: Global,
+        zones: &ZoneBook,
+        borders: &BorderBook,
+        bids: &BidBook,
+    ) -> Result<Ledger, Memory>
+        ensures operators { IfOk result (λ ledger. ledger.operators ≡ replicate (length zones.now.operators) no_line) }
+        ensures providers { IfOk result (λ ledger. ledger.providers ≡ replicate (length bids.now.providers) nothing) }
+        ensures rents { IfOk result (λ ledger. ledger.rents ≡ replicate (length borders.now.borders) nothing) }
+    {
+        let line = OperatorLine {
+            payment: Quarters(0),
+            rent: Quarters(0),
+        };
+        let operators = vec![in alloc; line; zones.operators.len() as usize]?;
+        let providers = vec![in alloc; Quarters(0); bids.providers.len() as usize]?;
+        let rents = vec![in alloc; Quarters(0); borders.borders.as_slice().len()]?;
+        Ok(Ledger {
+            operators: Items::of(operators),
+            providers: Items::of(providers),
+            rents: Items::of(rents),
+        })
+    }
+}

@@ -1,0 +1,87 @@
+//! What providers get and pay for what their bids run.
+
+ghost use Rattle.std.specs.Prelude.{◌≡◌, ◌==◌, ◌≤◌, ◌<◌, ◌*◌, ◌^◌, ℕ, ℤ, pos, ◌+ℤ◌, if◌then◌else◌, length, unsigned_abs, slice_get};
+ghost use Rattle.std.specs.List.{All};
+ghost use Rattle.mari_market.specs.Price.{price_at};
+ghost use Rattle.mari_market.specs.Sums.{sum_along};
+ghost use Rattle.mari_settle.specs.Conditions.{IsCapped, IsSmall, NamesBid};
+ghost use Rattle.mari_settle.specs.Ledger.{bid_amount, earned as earned_by, provider_amounts};
+ghost use Rattle.mari_settle.specs.Lines.{amount_at};
+
+use crate::rents::{price_of, product};
+use mari_bids::{Bid, BidBook};
+use mari_market::Activation;
+use mari_units::{Cents, Quarters};
+
+// What so many MW of a bid earn its provider.
+fn earned(bid: &Bid, mw: u32, prices: &[Cents]) -> i128
+    requires zone { bid.now.zone < length prices.now }
+    requires prices { All IsCapped prices.now }
+    requires mw { mw ≤ 99999 }
+    ensures value { result ≡ earned_by bid.now.up (price_at prices.now bid.now.zone) mw }
+    ensures small { unsigned_abs result ≤ 1000000000000 }
+{
+    let worth = product(price_of(prices, bid.zone), i64::from(mw));
+    if bid.up { worth } else { -worth }
+}
+
+// Sets each amount to 0.
+fn clear(amounts: &mut [Quarters])
+    ensures lengths { length amounts.new ≡ length amounts.old }
+    ensures cleared { (k : ℕ) → amount_at amounts.new k ≡ pos 0 }
+{
+    for i in 0..amounts.len() {
+        amounts[i] = Quarters(0);
+    }
+}
+
+// Adds to the amount of one provider.
+fn pay(amounts: &mut [Quarters], provider: u32, amount: i128)
+    requires provider { provider < length amounts.old }
+    requires so_far { unsigned_abs (amount_at amounts.old provider) ≤ 10 ^ 17 }
+    requires amount { unsigned_abs amount ≤ 1000000000000 }
+    ensures lengths { length amounts.new ≡ length amounts.old }
+    ensures paid { (k : ℕ) → amount_at amounts.new k ≡ amount_at amounts.old k +ℤ (if provider == k then amount else pos 0) }
+{
+    amounts[provider as usize].0 += amount;
+}
+
+// Pays each provider what its bids among these earn it.
+fn pay_all(amounts: &mut [Quarters], bids: &BidBook, numbers: &[u32], mw: &[u32], prices: &[Cents])
+    requires lengths { length amounts.old ≡ length bids.now.providers }
+    requires cleared { (k : ℕ) → amount_at amounts.old k ≡ pos 0 }
+    requires few { length numbers.now ≤ 4608 }
+    requires one_each { length numbers.now ≤ length mw.now }
+    requires mw { All (λ q. q ≤ 99999) mw.now }
+    requires prices { All IsCapped prices.now }
+    requires numbers { All (NamesBid bids.now (length prices.now)) numbers.now }
+    ensures lengths { length amounts.new ≡ length bids.now.providers }
+    ensures paid { (k : ℕ) → amount_at amounts.new k ≡ sum_along (λ number q. bid_amount prices.now k (slice_get bids.now.bids number) q) numbers.now mw.now }
+    ensures small { (k : ℕ) → unsigned_abs (amount_at amounts.new k) ≤ 4608 * 1000000000000 }
+{
+    for (i, number) in numbers.iter().enumerate() {
+        let bid = &bids.bids.as_slice()[*number as usize];
+        pay(amounts, bid.provider, earned(bid, mw[i], prices));
+    }
+}
+
+// Writes each provider's amount.
+pub(crate) fn write_amounts(
+    amounts: &mut [Quarters],
+    bids: &BidBook,
+    numbers: &[u32],
+    activation: &Activation,
+    prices: &[Cents],
+)
+    requires lengths { length amounts.old ≡ length bids.now.providers }
+    requires few { length numbers.now ≤ 4608 }
+    requires one_each { length numbers.now ≤ length activation.now.mw }
+    requires mw { All (λ q. q ≤ 99999) activation.now.mw }
+    requires prices { All IsCapped prices.now }
+    requires numbers { All (NamesBid bids.now (length prices.now)) numbers.now }
+    ensures value { amounts.new ≡ provider_amounts bids.now numbers.now activation.now prices.now }
+    ensures small { All IsSmall amounts.new }
+{
+    clear(amounts);
+    pay_all(amounts, bids, numbers, activation.mw.as_slice(), prices);
+}

@@ -1,0 +1,70 @@
+//! The rents of borders.
+
+ghost use Rattle.std.specs.Prelude.{◌≡◌, ◌≤◌, ◌<◌, ◌*ℤ◌, ◌-ℤ◌, ℤ, length, unsigned_abs};
+ghost use Rattle.std.specs.List.{All};
+ghost use Rattle.mari_market.specs.Activation.{IsWithinLimits};
+ghost use Rattle.mari_market.specs.Market.{IsValidBorder};
+ghost use Rattle.mari_market.specs.Price.{price_at};
+ghost use Rattle.mari_settle.specs.Conditions.{HasFlows, IsCapped, IsSmall};
+ghost use Rattle.mari_settle.specs.Ledger.{rent_of as rent_at, rents_of};
+
+use mari_market::{Activation, Border, Market};
+use mari_units::{Cents, Quarters};
+
+// The product of two numbers, which always fits.
+pub(crate) fn product(a: i64, b: i64) -> i128
+    ensures { result ≡ a *ℤ b }
+{
+    i128::from(a) * i128::from(b)
+}
+
+// A zone's price.
+pub(crate) fn price_of(prices: &[Cents], zone: u32) -> i64
+    requires zone { zone < length prices.now }
+    requires prices { All IsCapped prices.now }
+    ensures value { result ≡ price_at prices.now zone }
+    ensures small { unsigned_abs result ≤ 9999900 }
+{
+    prices[zone as usize].0
+}
+
+// How much dearer a border's second zone is than its first.
+fn gap_of(border: &Border, prices: &[Cents]) -> i64
+    requires border { IsValidBorder (length prices.now) border.now }
+    requires prices { All IsCapped prices.now }
+    ensures value { result ≡ price_at prices.now border.now.to -ℤ price_at prices.now border.now.from }
+    ensures small { unsigned_abs result ≤ 19999800 }
+{
+    price_of(prices, border.to) - price_of(prices, border.from)
+}
+
+// A border's rent.
+pub(crate) fn rent_of(border: &Border, flow: i64, prices: &[Cents]) -> i128
+    requires border { IsValidBorder (length prices.now) border.now }
+    requires prices { All IsCapped prices.now }
+    requires flow { IsWithinLimits border.now flow }
+    ensures value { result ≡ rent_at prices.now border.now flow }
+    ensures small { unsigned_abs result ≤ 4000000000000 }
+{
+    product(gap_of(border, prices), flow)
+}
+
+// Writes each border's rent.
+pub(crate) fn write_rents(
+    rents: &mut [Quarters],
+    market: &Market,
+    activation: &Activation,
+    prices: &[Cents],
+)
+    requires lengths { length rents.old ≡ length market.now.borders }
+    requires borders { All (IsValidBorder (length prices.now)) market.now.borders }
+    requires prices { All IsCapped prices.now }
+    requires flows { HasFlows market.now activation.now }
+    ensures value { rents.new ≡ rents_of market.now activation.now prices.now }
+    ensures small { All IsSmall rents.new }
+{
+    let flow = activation.flow.as_slice();
+    for (i, border) in market.borders.as_slice().iter().enumerate() {
+        rents[i] = Quarters(rent_of(border, flow[i], prices));
+    }
+}

@@ -1,0 +1,70 @@
+//! The ledger of one run.
+
+ghost use Rattle.std.specs.Prelude.{◌≡◌, length, ℤ, pos, ◌≤ℤ◌};
+ghost use Rattle.std.specs.List.{All};
+ghost use Rattle.mari_market.specs.Market.{IsValid};
+ghost use Rattle.mari_market.specs.Optimal.{IsConsistent, IsFeasible};
+ghost use Rattle.mari_market.specs.Sums.{int_sum};
+ghost use Rattle.mari_settle.specs.Conditions.{FitsRun, HasOperators, HasProviders, HasSmallNumbers, NameOrders};
+ghost use Rattle.mari_settle.specs.Ledger.{net_of, operator_lines, provider_amounts, rents_of};
+
+use crate::ledger::Ledger;
+use crate::operators::write_lines;
+use crate::providers::write_amounts;
+use crate::rents::write_rents;
+use mari_bids::BidBook;
+use mari_market::{Activation, Market, Prices};
+use mari_zones::ZoneBook;
+
+/// Writes the ledger of a run over whatever stands there.
+///
+/// The market's first orders are those of the bids with these numbers, one order each; its others are demands. The activation
+/// is feasible and the prices are consistent with it. The congestion rents follow Article 30 of Regulation (EU) 2017/2195; who
+/// gets which half of them is this project's own rule.
+pub fn settle_run(
+    zones: &ZoneBook,
+    bids: &BidBook,
+    market: &Market,
+    numbers: &[u32],
+    prices: &Prices,
+    activation: &Activation,
+    ledger: &mut Ledger,
+)
+    requires operators_there { HasOperators zones.now }
+    requires providers_there { HasProviders bids.now }
+    requires market { IsValid market.now }
+    requires zones { market.now.zones ≡ length zones.now.zones }
+    requires feasible { IsFeasible market.now activation.now }
+    requires consistent { IsConsistent market.now activation.now prices.now.cents }
+    requires numbers { NameOrders bids.now.bids numbers.now market.now.orders }
+    requires ledger { FitsRun ledger.old zones.now bids.now market.now }
+
+    // Exactly the run's operators' lines, providers' amounts and rents, whatever stood there.
+    ensures operators { ledger.new.operators ≡ operator_lines zones.now market.now activation.now prices.now.cents }
+    ensures providers { ledger.new.providers ≡ provider_amounts bids.now numbers.now activation.now prices.now.cents }
+    ensures rents { ledger.new.rents ≡ rents_of market.now activation.now prices.now.cents }
+
+    // No border loses, and what all operators pay and get sums to 0.
+    ensures rents_at_least_0 { All (λ rent. pos 0 ≤ℤ rent.0) ledger.new.rents }
+    ensures nets_sum_to_0 { int_sum net_of ledger.new.operators ≡ pos 0 }
+
+    // So a caller may add a day's ledgers up.
+    ensures small { HasSmallNumbers ledger.new }
+{
+    let prices = prices.cents.as_slice();
+    write_rents(ledger.rents.as_mut_slice(), market, activation, prices);
+    write_lines(
+        ledger.operators.as_mut_slice(),
+        zones,
+        market,
+        activation,
+        prices,
+    );
+    write_amounts(
+        ledger.providers.as_mut_slice(),
+        bids,
+        numbers,
+        activation,
+        prices,
+    );
+}

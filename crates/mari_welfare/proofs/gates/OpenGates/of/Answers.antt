@@ -1,0 +1,13 @@
+use Rattle.std.proofs.Common.{◌∙◌, arith, false}
+use Rattle.std.proofs.Math.Path.{fun_ext}
+use Rattle.mari_welfare.proofs.Open.{marks_more, runs_all, get_or-all_same}
+use Rattle.mari_welfare.proofs.gates.OpenGates.of.Goals as goal
+
+pub loop-i-init : goal.loop-i-init
+loop-i-init c g = get_or-all_same 512 g false
+
+pub loop-i-preserved : goal.loop-i-preserved
+loop-i-preserved c g = marks_more g c.args.orders.now c.args.mw.now c.loop-i.i _ _ _ c.loop-i-test.true (omega arith) (c.loop-i.invariant g) (c.mark.ensures g)
+
+pub returns : goal.returns
+returns c = fun_ext (λ g. c.loop-i.invariant g ∙ runs_all g c.args.orders.now c.args.mw.now c.loop-i.i (omega arith) (omega arith))

@@ -3,3 +3,6 @@ pub mod Fetching
 pub mod Reading
 pub mod Prices
 pub mod Run
+pub mod Money
+pub mod Published
+pub mod Assembled

@@ -4,6 +4,7 @@
 //! those of the pages, or the first refusal; and the text is that of a day of these books.
 #![tactic(auto)]
 
+mod block;
 mod files;
 mod lines;
 mod pages;

@@ -193,14 +193,18 @@ name_checks bids row =
     ∷ (of_kind (names_no_bid bids row) row, 12)
     ∷ []
 
--- and for a wrong quarter, for a parent that does not stand before its child, and for what an earlier line says
-abbrev pub line_checks : BidBook → List Row → Row → Checks
-line_checks bids earlier row =
-    name_checks bids row
-    ++ (of_kind (has_wrong_quarter bids (said_by bids earlier) row) row, 13)
+-- and, behind lines that say this, for a wrong quarter, for a parent that does not stand before its child, and for what an
+-- earlier line says
+abbrev pub place_checks : BidBook → Said → Row → Checks
+place_checks bids said row =
+    (of_kind (has_wrong_quarter bids said row) row, 13)
     ∷ (of_kind (has_later_parent bids row) row, 14)
-    ∷ (of_kind (is_repeated bids (said_by bids earlier) row) row, 15)
+    ∷ (of_kind (is_repeated bids said row) row, 15)
     ∷ []
+
+-- in this order
+abbrev pub line_checks : BidBook → List Row → Row → Checks
+line_checks bids earlier row = name_checks bids row ++ place_checks bids (said_by bids earlier) row
 
 -- whether one of these bids is of a quarter that has more than 512 of them
 abbrev pub has_too_many : BidBook → List ℕ → Bool

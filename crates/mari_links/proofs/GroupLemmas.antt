@@ -33,7 +33,7 @@ among-with_name names other name = by (is_among names other) refl
     by false new = among-push names name other
 
 -- the distinct ones of some names are those names
-among-fold : (names xs : List (List ℕ)) (name : List ℕ) → is_among (fold with_name names xs) name ≡ (is_among names name || is_among xs name)
+pub among-fold : (names xs : List (List ℕ)) (name : List ℕ) → is_among (fold with_name names xs) name ≡ (is_among names name || is_among xs name)
 among-fold names [] name = or-no (is_among names name)
   where
     or-no : (a : Bool) → a ≡ (a || false)
@@ -46,7 +46,7 @@ among-fold names (x ∷ xs) name = among-fold (with_name names x) xs name ∙ rw
     regroup false b c = refl
 
 -- whether an item is found
-find-some : {X : Type 0} (test : X → Bool) (xs : List X) → is_some (find test xs) ≡ list_any test xs
+pub find-some : {X : Type 0} (test : X → Bool) (xs : List X) → is_some (find test xs) ≡ list_any test xs
 find-some test [] = refl
 find-some test (x ∷ xs) = by (test x) (find-some test xs)
   where

@@ -77,7 +77,7 @@ is_same_kind Technical Technical = true
 is_same_kind _ _ = false
 
 abbrev pub is_same_link : Link → Link → Bool
-is_same_link a b = is_same_kind a.kind b.kind && (a.first == b.first) && (a.second == b.second)
+is_same_link a b = is_same_kind a.kind b.kind && ((a.first == b.first) && (a.second == b.second))
 
 -- a bid that a line puts into a group
 pub record Member : Type 0 where

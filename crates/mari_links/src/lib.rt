@@ -7,5 +7,6 @@ mod entries;
 mod groups;
 mod lines;
 mod links;
+mod so_far;
 
 pub use links::{BidLinks, LinkBook};

@@ -1,0 +1,88 @@
+//! What the lines so far say.
+ghost use Rattle.std.specs.Prelude.{◌≡◌, ◌<◌, ◌++◌, ◌∷◌, [], ◌==◌, ℕ, List, true, false, length, IfOk, OnOk};
+ghost use Rattle.std.specs.List.{list_any};
+ghost use Rattle.mari_units.specs.Names.{is_name};
+ghost use Rattle.mari_rows.specs.Books.{first_failing, TakesLine};
+ghost use Rattle.mari_rows.specs.declared.rows.Row.{Row as Line};
+ghost use Rattle.mari_links.specs.Links.{is_same_link, line_checks, said_by, Member, Said};
+ghost use Rattle.mari_links.specs.declared.lines.Link.{Link as TheLink};
+
+use crate::entries::Entry;
+use crate::groups::Groups;
+use crate::lines::{Link, LinkKind, least_of, quarter_of};
+use indexmap::IndexSet;
+use mari_bids::BidBook;
+use mari_rows::BookFault;
+use mari_units::Memory;
+use std::alloc::{AllocError, Global};
+
+/// The groups, the links to earlier quarters and what is said of each bid.
+#[derive(Drop)]
+pub struct LinksSoFar {
+    groups: Groups,
+    timed: IndexSet<Link>,
+    entries: Vec<Entry>,
+}
+
+impl LinksSoFar {
+    ghost use Rattle.mari_links.specs.SoFar.{HoldsLinks};
+
+    /// Nothing is said yet.
+    pub fn new(alloc: Global, bids: &BidBook) -> Result<Self, AllocError>
+        ensures { IfOk result (HoldsLinks bids.now (said_by bids.now [])) }
+    {
+        let mut entries = Vec::new(alloc);
+        for bid in 0..bids.ids.len() {
+            entries.push(Entry::new(alloc, least_of(bids, bid) > 0))?;
+        }
+        Ok(LinksSoFar {
+            groups: Groups::new(alloc),
+            timed: IndexSet::new(alloc),
+            entries,
+        })
+    }
+
+    // Puts a bid into a group.
+    fn join(
+        &mut self,
+        alloc: Global,
+        bids: &BidBook,
+        group: &[u8],
+        bid: u32,
+    ) -> Result<(), Memory>
+        requires room { length self.old.groups.names < 4294967295 }
+        requires group { is_name group.now ≡ true }
+        requires bid { bid < length bids.now.ids }
+        requires sized { length self.old.entries.items ≡ length bids.now.ids }
+        ensures { (said : Said) → HoldsLinks bids.now said self.old → list_any (λ (member : Member). member.bid == bid) said.members ≡ false
+            → OnOk result (HoldsLinks bids.now (record said { members = said.members ++ record { group = group.now; bid = bid } ∷ [] }) self.new) }
+    {
+        let group = self.groups.add(alloc, group, quarter_of(bids, bid))?;
+        self.entries[bid as usize].join(group);
+        Ok(())
+    }
+
+    // Gives a child its parent.
+    fn follow(&mut self, bids: &BidBook, link: Link)
+        requires child { link.first < length bids.now.ids }
+        requires parent { link.second < length bids.now.ids }
+        requires sized { length self.old.entries.items ≡ length bids.now.ids }
+        ensures { (said : Said) → HoldsLinks bids.now said self.old → list_any (λ (other : TheLink). other.first == link.first) said.children ≡ false
+            → HoldsLinks bids.now (record said { children = said.children ++ link ∷ [] }) self.new }
+    {
+        self.entries[link.first as usize].follow(link.second);
+        self.entries[link.second as usize].lead();
+    }
+
+    // Links a bid to one of an earlier quarter.
+    fn name(&mut self, bids: &BidBook, link: Link) -> Result<(), BookFault>
+        requires first { link.first < length bids.now.ids }
+        requires sized { length self.old.entries.items ≡ length bids.now.ids }
+        ensures { (said : Said) → HoldsLinks bids.now said self.old → list_any (is_same_link link) said.timed ≡ false
+            → OnOk result (HoldsLinks bids.now (record said { timed = said.timed ++ link ∷ [] }) self.new) }
+    {
+        self.timed.insert(link)?;
+        self.entries[link.first as usize].name(link.kind, link.second)?;
+        Ok(())
+    }
+}

@@ -51,7 +51,7 @@ itself n = by (eqb_tells n n)
 pub made-at : {Y : Type 0} (f : ℕ → Y) (n k : ℕ) (v : Y) → k < n → v ≡ get_or (map f (range_with_len 0 n)) k v → v ≡ f k
 made-at f n k v below read = read ∙ get_or-map-range_with_len f 0 n k k v below (zero-add k)
 
-or-no : (a : Bool) → (a || false) ≡ a
+pub or-no : (a : Bool) → (a || false) ≡ a
 or-no true = refl
 or-no false = refl
 

@@ -54,7 +54,7 @@ find-some test (x ∷ xs) = by (test x) (find-some test xs)
     by true more = refl
     by false more = more
 
-map-some : {X Y : Type 0} (f : X → Y) (o : Option X) → is_some (option_map f o) ≡ is_some o
+pub map-some : {X Y : Type 0} (f : X → Y) (o : Option X) → is_some (option_map f o) ≡ is_some o
 map-some f None = refl
 map-some f (Some x) = refl
 

@@ -4,7 +4,7 @@ ghost use Rattle.std.specs.List.{list_any};
 ghost use Rattle.mari_units.specs.Names.{is_name};
 ghost use Rattle.mari_rows.specs.Books.{first_failing, TakesLine};
 ghost use Rattle.mari_rows.specs.declared.rows.Row.{Row as Line};
-ghost use Rattle.mari_links.specs.Links.{is_same_link, line_checks, said_by, Member, Said};
+ghost use Rattle.mari_links.specs.Links.{has_wrong_quarter as has_wrong_quarter_in, is_repeated as is_repeated_in, is_same_link, kind_of, line_checks, link_of, said_by, Member, Said};
 ghost use Rattle.mari_links.specs.declared.lines.Link.{Link as TheLink};
 
 use crate::entries::Entry;
@@ -12,7 +12,7 @@ use crate::groups::Groups;
 use crate::lines::{Link, LinkKind, least_of, quarter_of};
 use indexmap::IndexSet;
 use mari_bids::BidBook;
-use mari_rows::BookFault;
+use mari_rows::{BookFault, Row};
 use mari_units::Memory;
 use std::alloc::{AllocError, Global};
 
@@ -84,5 +84,39 @@ impl LinksSoFar {
         self.timed.insert(link)?;
         self.entries[link.first as usize].name(link.kind, link.second)?;
         Ok(())
+    }
+
+    // Whether a line links bids of quarters that cannot be so linked.
+    fn has_wrong_quarter(&self, bids: &BidBook, line: &Row, link: Link) -> bool
+        requires kind { kind_of line.now ≡ Some link.kind }
+        requires link { link ≡ link_of bids.now line.now link.kind }
+        ensures { (said : Said) → HoldsLinks bids.now said self.now → result ≡ has_wrong_quarter_in bids.now said line.now link.kind }
+    {
+        let first = u64::from(quarter_of(bids, link.first));
+        let second = u64::from(quarter_of(bids, link.second));
+        match link.kind {
+            LinkKind::Group => match self.groups.quarter(line.field(1)) {
+                Some(quarter) => u64::from(quarter) != second,
+                None => false,
+            },
+            LinkKind::Child => first != second,
+            LinkKind::Technical => first != second + 1,
+            LinkKind::Needs | LinkKind::Bars => first != second + 1 && first != second + 2,
+        }
+    }
+
+    // Whether an earlier line puts the bid into a group, or gives the child a parent, or is equal.
+    fn is_repeated(&self, bids: &BidBook, line: &Row, link: Link) -> bool
+        requires first { link.first < length bids.now.ids }
+        requires second { link.second < length bids.now.ids }
+        requires sized { length self.now.entries.items ≡ length bids.now.ids }
+        requires link { link ≡ link_of bids.now line.now link.kind }
+        ensures { (said : Said) → HoldsLinks bids.now said self.now → result ≡ is_repeated_in bids.now said line.now link.kind }
+    {
+        match link.kind {
+            LinkKind::Group => self.entries[link.second as usize].group().is_some(),
+            LinkKind::Child => self.entries[link.first as usize].parent().is_some(),
+            LinkKind::Needs | LinkKind::Bars | LinkKind::Technical => self.timed.contains(&link),
+        }
     }
 }

@@ -1,3 +1,4 @@
 pub mod EntryLemmas
 pub mod GroupLemmas
 pub mod LinkEq
+pub mod SaidLemmas

@@ -1,5 +1,5 @@
 //! What a line says by itself.
-ghost use Rattle.std.specs.Prelude.{◌≡◌, true, false, IfOk, OnOk};
+ghost use Rattle.std.specs.Prelude.{◌≡◌, ◌<◌, length, true, false, IfOk, OnOk};
 ghost use Rattle.mari_units.specs.Names.{is_name};
 ghost use Rattle.mari_rows.specs.Books.{first_failing};
 ghost use Rattle.mari_rows.specs.First.{unless_fault};
@@ -70,7 +70,12 @@ pub fn least_of(bids: &BidBook, bid: u32) -> u32
 
 /// The link of a line that names what it should, or the first check that fails.
 pub fn link_of(bids: &BidBook, line: &Row) -> Result<Link, u8>
-    ensures { result ≡ unless_fault (first_failing (name_checks bids.now line.now)) (some_link bids.now line.now) }
+    ensures link { result ≡ unless_fault (first_failing (name_checks bids.now line.now)) (some_link bids.now line.now) }
+    ensures passes { OnOk result (first_failing (name_checks bids.now line.now) ≡ None) }
+    ensures kind { IfOk result (λ link. kind_in line.now ≡ Some link.kind) }
+    ensures says { IfOk result (λ link. link ≡ link_in bids.now line.now link.kind) }
+    ensures first { IfOk result (λ link. link.first < length bids.now.ids) }
+    ensures second { IfOk result (λ link. link.second < length bids.now.ids) }
 {
     let Some(kind) = kind_of(line.field(0)) else {
         return Err(11);

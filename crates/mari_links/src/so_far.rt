@@ -4,12 +4,12 @@ ghost use Rattle.std.specs.List.{list_any};
 ghost use Rattle.mari_units.specs.Names.{is_name};
 ghost use Rattle.mari_rows.specs.Books.{first_failing, TakesLine};
 ghost use Rattle.mari_rows.specs.declared.rows.Row.{Row as Line};
-ghost use Rattle.mari_links.specs.Links.{has_wrong_quarter as has_wrong_quarter_in, is_repeated as is_repeated_in, is_same_link, kind_of, line_checks, link_of, said_by, Member, Said};
+ghost use Rattle.mari_links.specs.Links.{has_wrong_quarter as has_wrong_quarter_in, is_repeated as is_repeated_in, is_same_link, kind_of, first_of, line_checks, link_of as link_of_line, place_checks, said_by, Member, Said};
 ghost use Rattle.mari_links.specs.declared.lines.Link.{Link as TheLink};
 
 use crate::entries::Entry;
 use crate::groups::Groups;
-use crate::lines::{Link, LinkKind, least_of, quarter_of};
+use crate::lines::{Link, LinkKind, least_of, link_of, quarter_of};
 use indexmap::IndexSet;
 use mari_bids::BidBook;
 use mari_rows::{BookFault, Row};
@@ -75,7 +75,7 @@ impl LinksSoFar {
     }
 
     // Links a bid to one of an earlier quarter.
-    fn name(&mut self, bids: &BidBook, link: Link) -> Result<(), BookFault>
+    fn name(&mut self, bids: &BidBook, link: Link) -> Result<(), Memory>
         requires first { link.first < length bids.now.ids }
         requires sized { length self.old.entries.items ≡ length bids.now.ids }
         ensures { (said : Said) → HoldsLinks bids.now said self.old → list_any (is_same_link link) said.timed ≡ false
@@ -89,7 +89,7 @@ impl LinksSoFar {
     // Whether a line links bids of quarters that cannot be so linked.
     fn has_wrong_quarter(&self, bids: &BidBook, line: &Row, link: Link) -> bool
         requires kind { kind_of line.now ≡ Some link.kind }
-        requires link { link ≡ link_of bids.now line.now link.kind }
+        requires link { link ≡ link_of_line bids.now line.now link.kind }
         ensures { (said : Said) → HoldsLinks bids.now said self.now → result ≡ has_wrong_quarter_in bids.now said line.now link.kind }
     {
         let first = u64::from(quarter_of(bids, link.first));
@@ -110,7 +110,7 @@ impl LinksSoFar {
         requires first { link.first < length bids.now.ids }
         requires second { link.second < length bids.now.ids }
         requires sized { length self.now.entries.items ≡ length bids.now.ids }
-        requires link { link ≡ link_of bids.now line.now link.kind }
+        requires link { link ≡ link_of_line bids.now line.now link.kind }
         ensures { (said : Said) → HoldsLinks bids.now said self.now → result ≡ is_repeated_in bids.now said line.now link.kind }
     {
         match link.kind {
@@ -118,5 +118,73 @@ impl LinksSoFar {
             LinkKind::Child => self.entries[link.first as usize].parent().is_some(),
             LinkKind::Needs | LinkKind::Bars | LinkKind::Technical => self.timed.contains(&link),
         }
+    }
+
+    // The first check that a link fails behind the lines so far.
+    fn failing_check(&self, bids: &BidBook, line: &Row, link: Link) -> Option<u8>
+        requires first { link.first < length bids.now.ids }
+        requires second { link.second < length bids.now.ids }
+        requires sized { length self.now.entries.items ≡ length bids.now.ids }
+        requires kind { kind_of line.now ≡ Some link.kind }
+        requires link { link ≡ link_of_line bids.now line.now link.kind }
+        ensures { (said : Said) → HoldsLinks bids.now said self.now → result ≡ first_failing (place_checks bids.now said line.now) }
+    {
+        if self.has_wrong_quarter(bids, line, link) {
+            Some(13)
+        } else if link.kind == LinkKind::Child && link.second >= link.first {
+            Some(14)
+        } else if self.is_repeated(bids, line, link) {
+            Some(15)
+        } else {
+            None
+        }
+    }
+
+    // Holds what a line says that fails no check.
+    fn hold(&mut self, alloc: Global, bids: &BidBook, line: &Row, link: Link) -> Result<(), Memory>
+        requires room { length self.old.groups.names < 4294967295 }
+        requires first { link.first < length bids.now.ids }
+        requires second { link.second < length bids.now.ids }
+        requires sized { length self.old.entries.items ≡ length bids.now.ids }
+        requires kind { kind_of line.now ≡ Some link.kind }
+        requires link { link ≡ link_of_line bids.now line.now link.kind }
+        requires group { link.kind ≡ LinkKind.Group → is_name (first_of line.now) ≡ true }
+        ensures { (earlier : List Line) → HoldsLinks bids.now (said_by bids.now earlier) self.old
+            → is_repeated_in bids.now (said_by bids.now earlier) line.now link.kind ≡ false
+            → OnOk result (HoldsLinks bids.now (said_by bids.now (earlier ++ line.now ∷ [])) self.new) }
+    {
+        match link.kind {
+            LinkKind::Group => self.join(alloc, bids, line.field(1), link.second)?,
+            LinkKind::Child => self.follow(bids, link),
+            LinkKind::Needs | LinkKind::Bars | LinkKind::Technical => self.name(bids, link)?,
+        }
+        Ok(())
+    }
+
+    /// Adds what a line says, or tells the first check that it fails.
+    pub fn add(&mut self, alloc: Global, bids: &BidBook, line: &Row) -> Result<(), BookFault>
+        requires room { length self.old.groups.names < 4294967295 }
+        requires sized { length self.old.entries.items ≡ length bids.now.ids }
+        ensures { (earlier : List Line) → HoldsLinks bids.now (said_by bids.now earlier) self.old
+            → TakesLine result line.now.line (first_failing (line_checks bids.now earlier line.now))
+            (λ _. HoldsLinks bids.now (said_by bids.now (earlier ++ line.now ∷ [])) self.new) }
+    {
+        let link = match link_of(bids, line) {
+            Ok(link) => link,
+            Err(number) => {
+                return Err(BookFault::At {
+                    line: line.line,
+                    number,
+                });
+            }
+        };
+        if let Some(number) = self.failing_check(bids, line, link) {
+            return Err(BookFault::At {
+                line: line.line,
+                number,
+            });
+        }
+        self.hold(alloc, bids, line, link)?;
+        Ok(())
     }
 }

@@ -1,6 +1,6 @@
 -- What is said of each bid, with one more line.
-use Rattle.std.proofs.Common.{◌≡◌, ◌≢◌, ◌∙◌, ◌<◌, ◌+◌, ◌==◌, ◌⊎◌, ℕ, Bool, true, false, List, [], ◌∷◌, ◌++◌, Option, Some, None, get_or, length, map, refl, sym, ap, arith, zero-add, inl, inr, if◌then◌else◌}
-use Rattle.std.specs.Prelude.{◌||◌, ◌&&◌, is_some, nat_lt, option_map, filter}
+use Rattle.std.proofs.Common.{◌≡◌, ◌≢◌, ◌∙◌, ◌<◌, ◌==◌, ◌⊎◌, ℕ, Bool, true, false, List, [], ◌∷◌, ◌++◌, Option, Some, None, get_or, map, refl, sym, ap, zero-add, inl, inr, if◌then◌else◌}
+use Rattle.std.specs.Prelude.{◌||◌, ◌&&◌, option_map, filter}
 use Rattle.std.specs.List.{find, list_any, range_with_len}
 use Rattle.std.specs.Option.{option_or}
 use Rattle.std.specs.Str.{bytes_eq}
@@ -10,12 +10,12 @@ use Rattle.std.proofs.lemmas.List.{append-nil, get_or-set_other, get_or-set_same
 use Rattle.std.proofs.lemmas.List.Elements.{filter-append}
 use Rattle.std.proofs.lemmas.List.Folds.{find-append, list_any-append}
 use Rattle.std.proofs.lemmas.List.FromFn.{get_or-map-range_with_len, length-map-range_with_len}
-use Rattle.mari_rows.specs.Names.{is_among, place_in, with_name}
+use Rattle.mari_rows.specs.Names.{is_among, place_in}
 use Rattle.mari_rows.proofs.NameLemmas.{bytes_eq-same, list_any-map}
 use Rattle.mari_rows.proofs.PlaceLemmas.{distinct-push, place-with}
 use Rattle.mari_bids.specs.declared.bids.BidBook.{BidBook}
 use Rattle.mari_links.specs.Entries.{with_named}
-use Rattle.mari_links.specs.Links.{group_of, groups_of, is_gated, is_same_kind, links_of, named_by, parent_of, quarter_of_group, Member, Said}
+use Rattle.mari_links.specs.Links.{group_of, groups_of, is_gated, is_same_kind, links_of, named_by, parent_of, Member, Said}
 use Rattle.mari_links.specs.declared.lines.Link.{Link}
 use Rattle.mari_links.specs.declared.lines.LinkKind.{LinkKind}
 use Rattle.mari_links.specs.declared.lines.LinkKind.TheVariants.{Group, Child, Needs, Bars, Technical}
@@ -55,7 +55,7 @@ pub or-no : (a : Bool) → (a || false) ≡ a
 or-no true = refl
 or-no false = refl
 
-or-yes : (a : Bool) → (a || true) ≡ true
+pub or-yes : (a : Bool) → (a || true) ≡ true
 or-yes true = refl
 or-yes false = refl
 

@@ -1,5 +1,5 @@
 -- When two links are equal.
-use Rattle.std.proofs.Common.{◌≡◌, Bool, List, refl, true, false, ap}
+use Rattle.std.proofs.Common.{◌≡◌, Bool, List, refl, ap}
 use Rattle.std.specs.Prelude.{◌&&◌, ◌==◌}
 use Rattle.std.specs.List.{list_any}
 use denote.Enum.Bare.{sameb}

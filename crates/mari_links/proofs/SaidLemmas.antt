@@ -1,7 +1,7 @@
 -- What lines say, with one more line.
-use Rattle.std.proofs.Common.{◌≡◌, ◌∙◌, Bool, true, false, List, [], ◌∷◌, ◌++◌, Option, Some, None, refl, sym, ap}
-use Rattle.std.specs.Prelude.{is_some, not, unwrap_or}
-use Rattle.std.specs.List.{filter_map}
+use Rattle.std.proofs.Common.{◌≡◌, ◌∙◌, ◌≤◌, length, arith, true, false, List, [], ◌∷◌, ◌++◌, Option, Some, None, refl, sym, ap}
+use Rattle.std.specs.Prelude.{is_some, unwrap_or}
+use Rattle.std.specs.List.{cons_option, filter_map}
 use Rattle.std.specs.Option.{option_and_then}
 use Rattle.std.proofs.lemmas.List.{append-nil}
 use Rattle.std.proofs.lemmas.List.Elements.{filter_map-append}
@@ -13,7 +13,7 @@ use Rattle.mari_links.specs.Entries.{some_link}
 use Rattle.mari_links.specs.Links.{bid_of, child_of, first_of, is_repeated, kind_of, link_of, member_of, name_checks, place_checks, said_by, second_of, timed_of, Member, Said}
 use Rattle.mari_links.specs.declared.lines.Link.{Link}
 use Rattle.mari_links.specs.declared.lines.LinkKind.{LinkKind}
-use Rattle.mari_links.specs.declared.lines.LinkKind.TheVariants.{Group, Child, Needs, Bars, Technical}
+use Rattle.mari_links.specs.declared.lines.LinkKind.TheVariants.{Group, Child}
 use Rattle.mari_links.proofs.EntryLemmas.{with_child, with_member, with_timed}
 
 -- one more item that gives something, or nothing
@@ -78,3 +78,16 @@ module _ (bids : BidBook) (row : Row) (link : Link) (passes : first_failing (nam
 pub not-repeated : (bids : BidBook) (said : Said) (row : Row) (kind : LinkKind) → kind_of row ≡ Some kind
     → first_failing (place_checks bids said row) ≡ None → is_repeated bids said row kind ≡ false
 not-repeated bids said row kind is passes = rw is at ((all-passed (place_checks bids said row) passes).1.1.0)
+
+-- what is given of a list is no longer
+length-filter_map : {X Y : Type 0} (h : X → Option Y) (xs : List X) → length (filter_map h xs) ≤ length xs
+length-filter_map h [] = omega arith
+length-filter_map h (x ∷ xs) = by (h x) (length-filter_map h xs)
+  where
+    by : (o : Option _) → length (filter_map h xs) ≤ length xs → length (cons_option o (filter_map h xs)) ≤ length (x ∷ xs)
+    by None few = omega (arith, few)
+    by (Some y) few = omega (arith, few)
+
+-- there are no more members than lines
+pub members-few : (bids : BidBook) (rows : List Row) → length (said_by bids rows).members ≤ length rows
+members-few bids rows = length-filter_map (λ row. option_and_then (member_of bids row) (kind_of row)) rows

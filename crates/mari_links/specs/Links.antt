@@ -10,6 +10,7 @@ use Rattle.mari_rows.specs.Rows.{field_of}
 use Rattle.mari_rows.specs.declared.rows.Row.{Row}
 use Rattle.mari_bids.specs.declared.bids.Bid.{Bid}
 use Rattle.mari_bids.specs.declared.bids.BidBook.{BidBook}
+use Rattle.mari_links.specs.Gates.{has_gate_at}
 use Rattle.mari_links.specs.declared.lines.Link.{Link}
 use Rattle.mari_links.specs.declared.lines.LinkKind.{LinkKind}
 use Rattle.mari_links.specs.declared.lines.LinkKind.TheVariants.{Group, Child, Needs, Bars, Technical}
@@ -239,7 +240,7 @@ link_grammar bids = record { columns = link_columns; line_checks = line_checks b
 
 -- whether the bid at a place has a gate
 abbrev pub has_gate : LinkBook → ℕ → Bool
-has_gate book bid = option_map_or (λ (links : BidLinks). links.gated) (slice_get book.links bid) false
+has_gate book bid = has_gate_at book.links bid
 
 -- a parent stands before its child, in the same quarter, and has a gate
 pub record IsParent (bids : BidBook) (book : LinkBook) (child parent : ℕ) : Type 0 where

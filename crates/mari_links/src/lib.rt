@@ -4,6 +4,7 @@
 #![tactic(auto)]
 
 mod entries;
+mod gates;
 mod groups;
 mod lines;
 mod links;

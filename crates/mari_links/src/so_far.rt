@@ -4,16 +4,18 @@ ghost use Rattle.std.specs.List.{list_any};
 ghost use Rattle.mari_units.specs.Names.{is_name};
 ghost use Rattle.mari_rows.specs.Books.{first_failing, TakesLine};
 ghost use Rattle.mari_rows.specs.declared.rows.Row.{Row as Line};
-ghost use Rattle.mari_links.specs.Links.{has_wrong_quarter as has_wrong_quarter_in, is_repeated as is_repeated_in, is_same_link, kind_of, first_of, line_checks, link_of as link_of_line, place_checks, said_by, Member, Said};
+ghost use Rattle.mari_links.specs.Links.{has_wrong_quarter as has_wrong_quarter_in, is_repeated as is_repeated_in, is_same_link, kind_of, first_of, line_checks, link_book, link_file_checks, link_of as link_of_line, place_checks, said_by, Member, Said};
 ghost use Rattle.mari_links.specs.declared.lines.Link.{Link as TheLink};
 
-use crate::entries::Entry;
+use crate::entries::{Entry, links_of};
+use crate::gates::has_too_many_gates;
 use crate::groups::Groups;
 use crate::lines::{Link, LinkKind, least_of, link_of, quarter_of};
+use crate::links::LinkBook;
 use indexmap::IndexSet;
 use mari_bids::BidBook;
 use mari_rows::{BookFault, Row};
-use mari_units::Memory;
+use mari_units::{Items, Memory};
 use std::alloc::{AllocError, Global};
 
 /// The groups, the links to earlier quarters and what is said of each bid.
@@ -186,5 +188,22 @@ impl LinksSoFar {
         }
         self.hold(alloc, bids, line, link)?;
         Ok(())
+    }
+
+    /// The book, or the refusal of a quarter with too many gates.
+    pub fn into_book(self, alloc: Global, bids: &BidBook) -> Result<LinkBook, BookFault>
+        requires { length self.entries.items ≡ length bids.now.ids }
+        ensures { (rows : List Line) → HoldsLinks bids.now (said_by bids.now rows) self
+            → TakesLine result 1 (first_failing (link_file_checks bids.now rows)) (λ book. book ≡ link_book bids.now rows) }
+    {
+        if has_too_many_gates(alloc, bids, self.entries.as_slice())? {
+            return Err(BookFault::At {
+                line: 1,
+                number: 17,
+            });
+        }
+        Ok(LinkBook {
+            links: Items::of(links_of(alloc, self.entries)?),
+        })
     }
 }

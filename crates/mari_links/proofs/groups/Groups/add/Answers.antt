@@ -1,9 +1,9 @@
-use Rattle.std.proofs.Common.{◌≡◌, ◌∙◌, ◌++◌, ◌∷◌, [], ap, sym, rules, true, false, is_some, refl, Result, Ok, Err, OnOk, List, ℕ}
+use Rattle.std.proofs.Common.{◌≡◌, ◌∙◌, ◌++◌, ◌∷◌, [], ap, sym, rules, false, is_some, refl, List, ℕ}
 use Rattle.std.specs.Prelude.{unwrap_or, map}
 use Rattle.std.proofs.lemmas.List.{map-append}
-use Rattle.mari_rows.specs.Names.{is_among, with_name}
+use Rattle.mari_rows.specs.Names.{with_name}
 use Rattle.mari_rows.proofs.PlaceLemmas.{distinct-push}
-use Rattle.mari_links.specs.Links.{groups_of, quarter_of, quarter_of_group, Member}
+use Rattle.mari_links.specs.Links.{groups_of, quarter_of_group, Member}
 use Rattle.mari_links.specs.SoFar.{HoldsGroups}
 use Rattle.mari_links.proofs.GroupLemmas.{group-there, on-ok, quarter-new, quarters-stay}
 use Rattle.mari_links.proofs.groups.Groups.add.Goals as goal

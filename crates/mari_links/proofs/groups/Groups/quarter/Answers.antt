@@ -1,4 +1,4 @@
-use Rattle.std.proofs.Common.{◌≡◌, ◌∙◌, ap, sym, rules, true, false, slice_get, is_some}
+use Rattle.std.proofs.Common.{◌≡◌, ◌∙◌, ap, sym, slice_get, is_some}
 use Rattle.std.specs.Prelude.{unwrap_or}
 use Rattle.mari_links.specs.Links.{groups_of, quarter_of_group}
 use Rattle.mari_links.proofs.GroupLemmas.{group-there, kept-none, kept-some, lent, made-at-place}

@@ -1,4 +1,4 @@
-use Rattle.std.proofs.Common.{◌≡◌, ◌∙◌, ◌++◌, ◌∷◌, [], Some, None, ap, sym, refl, rules}
+use Rattle.std.proofs.Common.{◌≡◌, ◌∙◌, Some, None, sym, refl, rules}
 use Rattle.mari_rows.specs.Books.{first_failing}
 use Rattle.mari_rows.proofs.BookLemmas.{first_failing-append}
 use Rattle.mari_links.specs.Links.{kind_of, name_checks, place_checks, said_by}

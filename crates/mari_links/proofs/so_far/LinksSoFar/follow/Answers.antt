@@ -1,4 +1,4 @@
-use Rattle.std.proofs.Common.{◌≡◌, ◌∙◌, ◌++◌, ◌∷◌, [], ap, sym, length}
+use Rattle.std.proofs.Common.{◌∙◌, sym, length}
 use Rattle.mari_links.specs.Links.{links_of}
 use Rattle.mari_links.proofs.EntryLemmas.{child-other, child-same, halfway, itself, made-at, parent-other, parent-same, set-made, with_child}
 use Rattle.mari_links.proofs.so_far.LinksSoFar.follow.Goals as goal

@@ -1,4 +1,4 @@
-use Rattle.std.proofs.Common.{◌≡◌, ◌∙◌, ◌++◌, ◌∷◌, ◌⊎◌, [], List, Some, None, false, ap, sym, refl, rules, subst, inl, inr}
+use Rattle.std.proofs.Common.{◌≡◌, ◌∙◌, ◌++◌, ◌∷◌, ◌⊎◌, [], List, Some, None, false, ap, sym, refl, subst, inl, inr}
 use Rattle.std.specs.List.{list_any}
 use Rattle.mari_rows.specs.declared.rows.Row.{Row}
 use Rattle.mari_links.specs.Links.{child_of, is_repeated, is_same_link, link_of, member_of, said_by, timed_of, Said}

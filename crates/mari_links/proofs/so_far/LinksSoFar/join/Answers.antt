@@ -1,4 +1,4 @@
-use Rattle.std.proofs.Common.{◌≡◌, ◌∙◌, ◌++◌, ◌∷◌, [], ap, sym, length}
+use Rattle.std.proofs.Common.{◌∙◌, sym, length}
 use Rattle.mari_links.specs.Links.{links_of, Member}
 use Rattle.mari_links.proofs.EntryLemmas.{itself, made-at, member-other, member-same, set-made, with_member}
 use Rattle.mari_links.proofs.so_far.LinksSoFar.join.Goals as goal

@@ -1,4 +1,4 @@
-use Rattle.std.proofs.Common.{◌≡◌, ◌∙◌, ◌<◌, ◌++◌, ◌∷◌, [], ap, sym, rules, true, false, refl, get_or, length}
+use Rattle.std.proofs.Common.{◌≡◌, ◌∙◌, ◌++◌, ◌∷◌, [], ap, sym, false, length}
 use Rattle.std.specs.List.{list_any}
 use Rattle.mari_links.specs.contracts.lines.LinkPartialEq.TheImpl.{eq-value}
 use Rattle.mari_links.specs.Links.{is_same_link, links_of}

@@ -8,7 +8,11 @@ use Rattle.mari_publish.specs.declared.publication.BorderLine.{BorderLine}
 use Rattle.mari_publish.specs.declared.publication.FullBlock.{FullBlock}
 use Rattle.mari_publish.specs.declared.publication.ZoneLine.{ZoneLine}
 use Rattle.mari_remain.specs.declared.books.Books.{Books}
-use Rattle.mari_remain.specs.RunMarket.{numbers_of}
+use Rattle.mari_remain.specs.RunMarket.{market_at, numbers_of}
+use Rattle.mari_market.specs.Area.{AreAreas}
+use Rattle.mari_market.specs.Interval.{AreLeastPrices, AreGreatestPrices, ArePublishedPrices}
+use Rattle.mari_market.specs.Optimal.{IsConsistent}
+use Rattle.mari_settle.specs.Ledger.{operator_lines, provider_amounts, rents_of}
 use Rattle.mari_settle.specs.declared.ledger.Ledger.{Ledger}
 use Rattle.mari_settle.specs.Conditions.{HasSmallNumbers}
 use Rattle.mari_day.specs.declared.pricing.Pricing.{Pricing}
@@ -60,4 +64,16 @@ pub record HasShapes (books : Books) (run : ℕ) (clearing : Clearing) (priced :
   pub mw : length (numbers_of books run) ≤ length clearing.activation.mw
   pub operators : length priced.ledger.operators ≡ length books.zones.operators
   pub providers : length priced.ledger.providers ≡ length books.bids.providers
+  pub small : HasSmallNumbers priced.ledger
+
+-- the prices, areas and ledger of a run's clearing
+pub record IsPriced (books : Books) (run : ℕ) (clearing : Clearing) (priced : Priced) : Type 0 where
+  pub published : ArePublishedPrices (market_at books run) clearing.activation priced.pricing.published.cents
+  pub consistent : IsConsistent (market_at books run) clearing.activation priced.pricing.published.cents
+  pub least : AreLeastPrices (market_at books run) clearing.activation priced.pricing.least.cents
+  pub greatest : AreGreatestPrices (market_at books run) clearing.activation priced.pricing.greatest.cents
+  pub areas : AreAreas (market_at books run) clearing.activation priced.areas.items
+  pub operators : priced.ledger.operators ≡ operator_lines books.zones (market_at books run) clearing.activation priced.pricing.published.cents
+  pub providers : priced.ledger.providers ≡ provider_amounts books.bids (numbers_of books run) clearing.activation priced.pricing.published.cents
+  pub rents : priced.ledger.rents ≡ rents_of (market_at books run) clearing.activation priced.pricing.published.cents
   pub small : HasSmallNumbers priced.ledger

@@ -5,4 +5,5 @@ pub mod Prices
 pub mod Run
 pub mod Money
 pub mod Published
+pub mod Dated
 pub mod Assembled

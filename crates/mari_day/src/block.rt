@@ -1,16 +1,19 @@
 //! The block of a run.
 
-ghost use Rattle.std.specs.Prelude.{◌≡◌, ◌≤◌, ◌<◌, ◌==◌, ℕ, List, IfOk, true, length, map};
+ghost use Rattle.std.specs.Prelude.{◌≡◌, ◌≤◌, ◌<◌, ◌==◌, ℕ, List, IfOk, OnOk, true, length, map};
 ghost use Rattle.std.specs.List.{All, list_any};
 ghost use Rattle.mari_units.specs.Names.{is_name};
 ghost use Rattle.mari_market.specs.Clearing.{IsClearing};
-ghost use Rattle.mari_market.specs.declared.clearing.Clearing.{Clearing as ClearingOf};
 ghost use Rattle.mari_market.specs.Market.{IsValid};
+ghost use Rattle.mari_market.specs.Optimal.{IsAdmissible, IsConsistent, IsFeasible, IsOptimal};
 ghost use Rattle.mari_publish.specs.Ranges.{FullFits};
 ghost use Rattle.mari_remain.specs.Accepted.{IsAccepted};
 ghost use Rattle.mari_remain.specs.RunMarket.{bid_at, numbers_of, run_market_of};
-ghost use Rattle.mari_day.specs.Assembled.{HasShapes, IsAssembled};
-ghost use Rattle.mari_day.specs.Money.{amount_line, providers_among};
+ghost use Rattle.mari_day.specs.Assembled.{HasShapes, IsAssembled, IsPriced};
+ghost use Rattle.mari_settle.specs.Conditions.{HasSmallNumbers};
+ghost use Rattle.mari_settle.specs.Ledger.{operator_lines, provider_amounts, rents_of};
+ghost use Rattle.mari_day.specs.Dated.{IsDated};
+ghost use Rattle.mari_day.specs.Money.{amount_line, providers_among, with_number};
 ghost use Rattle.mari_day.specs.Published.{IsPublishedRun};
 ghost use Rattle.mari_day.specs.Run.{heading_of};
 
@@ -19,7 +22,7 @@ use crate::lines::{
 };
 use crate::pricing::{Pricing, pricing_of};
 use mari_bids::{Bid, BidBook};
-use mari_market::{Activation, Clearing};
+use mari_market::{Activation, Clearing, Prices};
 use mari_prices::areas;
 use mari_publish::{AmountLine, FullBlock, Heading};
 use mari_remain::{Books, RunMarket, run_entry};
@@ -41,10 +44,7 @@ fn providers_of(alloc: Global, bids: &[Bid], numbers: &[u32]) -> Result<Vec<u32>
 {
     let mut places = Vec::new(alloc);
     for number in numbers {
-        let provider = provider_of(bids, *number);
-        if !is_listed(&places, provider) {
-            places.push(provider)?;
-        }
+        list_once(&mut places, provider_of(bids, *number))?;
     }
     Ok(places)
 }
@@ -57,6 +57,16 @@ fn provider_of(bids: &[Bid], number: u32) -> u32
         Some(bid) => bid.provider,
         None => 0,
     }
+}
+
+/// Lists a place behind others, unless it is listed.
+fn list_once(places: &mut Vec<u32>, place: u32) -> Result<(), Memory>
+    ensures { OnOk result (places.new.items ≡ with_number places.old.items place) }
+{
+    if is_listed(places, place) {
+        return Ok(());
+    }
+    Ok(places.push(place)?)
 }
 
 /// Whether a place is listed.
@@ -132,4 +142,81 @@ fn provider_lines(
 {
     let places = providers_of(alloc, bids.bids.as_slice(), numbers)?;
     amount_lines(alloc, &bids.providers, &places, amounts)
+}
+
+/// The ledger of a run's clearing at its published prices.
+fn ledger_of(
+    alloc: Global,
+    books: &Books,
+    made: &RunMarket,
+    prices: &Prices,
+    activation: &Activation,
+) -> Result<Ledger, Memory>
+    requires accepted { IsAccepted books.now }
+    requires run { (run : ℕ) × (made.now ≡ run_market_of books.now run) × IsValid made.now.market }
+    requires feasible { IsFeasible made.now.market activation.now }
+    requires consistent { IsConsistent made.now.market activation.now prices.now.cents }
+    ensures operators { IfOk result (λ ledger. ledger.operators ≡ operator_lines books.now.zones made.now.market activation.now prices.now.cents) }
+    ensures providers { IfOk result (λ ledger. ledger.providers ≡ provider_amounts books.now.bids made.now.bids activation.now prices.now.cents) }
+    ensures rents { IfOk result (λ ledger. ledger.rents ≡ rents_of made.now.market activation.now prices.now.cents) }
+    ensures small { IfOk result HasSmallNumbers }
+{
+    let mut ledger = Ledger::start(alloc, &books.zones, &books.borders, &books.bids)?;
+    settle_run(
+        &books.zones,
+        &books.bids,
+        &made.market,
+        made.bids.as_slice(),
+        prices,
+        activation,
+        &mut ledger,
+    );
+    Ok(ledger)
+}
+
+/// The prices, the areas and the ledger of a run's clearing.
+fn priced_of(
+    alloc: Global,
+    books: &Books,
+    run: u32,
+    made: &RunMarket,
+    clearing: &Clearing,
+) -> Result<Priced, Memory>
+    requires accepted { IsAccepted books.now }
+    requires run { (1 ≤ run) × (run ≤ length books.now.runs.runs) }
+    requires made { made.now ≡ run_market_of books.now run }
+    requires valid { IsValid made.now.market }
+    requires admissible { IsAdmissible made.now.market clearing.now.activation }
+    ensures { IfOk result (IsPriced books.now run clearing.now) }
+{
+    let activation = &clearing.activation;
+    let pricing = pricing_of(alloc, &made.market, activation)?;
+    let areas = areas(alloc, &made.market, activation)?;
+    let ledger = ledger_of(alloc, books, made, &pricing.published, activation)?;
+    Ok(Priced {
+        pricing,
+        areas,
+        ledger,
+    })
+}
+
+/// The block of a published run.
+pub fn full_block(
+    alloc: Global,
+    books: &Books,
+    run: u32,
+    made: &RunMarket,
+    clearing: Clearing,
+) -> Result<FullBlock, Memory>
+    requires accepted { IsAccepted books.now }
+    requires dated { IsDated books.now }
+    requires run { (1 ≤ run) × (run ≤ length books.now.runs.runs) }
+    requires made { made.now ≡ run_market_of books.now run }
+    requires valid { IsValid made.now.market }
+    requires optimal { IsOptimal made.now.market clearing.activation }
+    ensures published { (budget : ℕ) → IsClearing made.now.market budget clearing → IfOk result (IsPublishedRun books.now budget run) }
+    ensures fits { (budget : ℕ) → budget ≤ 50000 → IsClearing made.now.market budget clearing → IfOk result FullFits }
+{
+    let priced = priced_of(alloc, books, run, made, &clearing)?;
+    assemble(alloc, books, run, made.bids.as_slice(), clearing, &priced)
 }

@@ -65,3 +65,7 @@ module _ (books : Books) (budget run : ℕ) (clearing : Clearing) (priced : Pric
           (p.providers ∙ sym (same2 (provider_amounts books.bids (numbers_of books run)) a (activation_of b) ps (prices_of b) same_activation is.zones.prices));
         };
       }
+
+  -- the amounts of all providers are those of the block's activation at its prices
+  pub same_amounts : IsPriced books run clearing priced → priced.ledger.providers ≡ provider_amounts books.bids (numbers_of books run) (activation_of b) (prices_of b)
+  same_amounts p = p.providers ∙ sym (same2 (provider_amounts books.bids (numbers_of books run)) clearing.activation (activation_of b) priced.pricing.published.cents (prices_of b) same_activation is.zones.prices)

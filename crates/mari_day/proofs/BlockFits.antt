@@ -48,14 +48,14 @@ of-map f Q xs ys same all = λ k d l.
 as-many : {X Y : Type 0} (f : X → Y) (xs : List X) (ys : List Y) → map f xs ≡ ys → length xs ≡ length ys
 as-many f xs ys same = sym (length-map xs f) ∙ ap length same
 
-money : (q : Quarters) → IsSmall q → IsMoney q
+pub money : (q : Quarters) → IsSmall q → IsMoney q
 money q small = omega (arith, small)
 
 net : (l : OperatorLine) → IsSmallLine l → Within 4000000000000000000 (l.payment.0 -ℤ l.rent.0)
 net l small = grind (arith, ints, small.payment, small.rent)
 
 -- the lines of operators, from their names and small numbers
-lines-fit : (names : List (List ℕ)) (lines : List OperatorLine) → All IsName names → All IsSmallLine lines → All IsMoneyLine (map_along money_line names lines)
+pub lines-fit : (names : List (List ℕ)) (lines : List OperatorLine) → All IsName names → All IsSmallLine lines → All IsMoneyLine (map_along money_line names lines)
 lines-fit [] lines n s = All-nil IsMoneyLine
 lines-fit (name ∷ names) [] n s = All-nil IsMoneyLine
 lines-fit (name ∷ names) (l ∷ lines) n s =

@@ -6,3 +6,4 @@ pub mod TreeFits
 pub mod AreaFits
 pub mod BlockFits
 pub mod Shapes
+pub mod Days

@@ -1,5 +1,5 @@
 -- A published run: what its block promises.
-use Rattle.std.specs.Prelude.{◌≡◌, ◌≤◌, ◌+◌, ℕ, ℤ, pos, List, [], ◌∷◌, length, map}
+use Rattle.std.specs.Prelude.{◌≡◌, ◌≤◌, ◌+◌, ℕ, ℤ, pos, List, [], ◌∷◌, length, map, replicate}
 use Rattle.std.specs.List.{range_with_len}
 use Rattle.mari_units.specs.declared.numbers.Quarters.{Quarters}
 use Rattle.mari_market.specs.declared.clearing.Spent.{Spent}
@@ -16,6 +16,12 @@ use Rattle.mari_remain.specs.declared.books.Books.{Books}
 use Rattle.mari_remain.specs.RunMarket.{market_at, numbers_of}
 use Rattle.mari_settle.specs.Ledger.{operator_lines, provider_amounts, rents_of}
 use Rattle.mari_settle.specs.Lines.{no_line, nothing}
+use Rattle.mari_publish.specs.Lines.{published_in, unpublished_in}
+use Rattle.mari_publish.specs.Ranges.{HasText}
+use Rattle.mari_publish.specs.Spelling.{text_of}
+use Rattle.mari_settle.specs.Conditions.{HasSmallNumbers}
+use Rattle.mari_settle.specs.declared.ledger.Ledger.{Ledger}
+use Rattle.mari_day.specs.declared.day.PrintedDay.{PrintedDay}
 use Rattle.mari_day.specs.Run.{activation_of, clearing_of, heading_of, prices_of, HasPrices, NamesMarket}
 use Rattle.mari_day.specs.Money.{amount_line, money_line, money_lines_of, providers_among}
 
@@ -51,14 +57,19 @@ abbrev pub IsBlock : Books → ℕ → ℕ → Block → Type 0
 IsBlock books budget run (block.Published b) = IsPublishedRun books budget run b
 IsBlock books budget run (block.Unpublished heading count) = IsUnpublishedRun books budget run heading count
 
--- what an operator's and a provider's lines sum to over a day of one run: where it is published, what they are there
+-- what all operators' lines and all providers' amounts sum to over a day of one run: where it is published, what they are there,
+-- and else nothing
 abbrev pub operator_totals : Books → Block → List MoneyLine
 operator_totals books (block.Published b) = b.operators
-operator_totals books (block.Unpublished heading count) = map (λ name. money_line name no_line) books.zones.operators
+operator_totals books (block.Unpublished heading count) = money_lines_of books.zones.operators (replicate (length books.zones.operators) no_line)
 
-abbrev pub provider_totals : Books → ℕ → Block → List Quarters
-provider_totals books run (block.Published b) = amounts_of books run b
-provider_totals books run (block.Unpublished heading count) = map (λ provider. nothing) books.bids.providers
+abbrev pub amount_totals : Books → ℕ → Block → List Quarters
+amount_totals books run (block.Published b) = amounts_of books run b
+amount_totals books run (block.Unpublished heading count) = replicate (length books.bids.providers) nothing
+
+-- the lines of all providers, in their order
+abbrev pub provider_lines_of : Books → List Quarters → List AmountLine
+provider_lines_of books amounts = map (amount_line books.bids.providers amounts) (range_with_len 0 (length books.bids.providers))
 
 -- the day of books with one run, within a budget of so many nodes: its block, and the totals of all operators and providers
 pub record IsDay (books : Books) (nodes : ℕ) (p : Publication) : Type 0 where
@@ -69,4 +80,19 @@ pub record IsDay (books : Books) (nodes : ℕ) (p : Publication) : Type 0 where
   pub one : p.blocks ≡ block ∷ []
   pub run : IsBlock books nodes 1 block
   pub operators : p.operators ≡ operator_totals books block
-  pub providers : p.providers ≡ map (amount_line books.bids.providers (provider_totals books 1 block)) (range_with_len 0 (length books.bids.providers))
+  pub providers : p.providers ≡ provider_lines_of books (amount_totals books 1 block)
+
+-- a ledger with a line for each operator and an amount for each provider, all of them small
+pub record HasEntries (books : Books) (ledger : Ledger) : Type 0 where
+  pub operators : length ledger.operators ≡ length books.zones.operators
+  pub providers : length ledger.providers ≡ length books.bids.providers
+  pub small : HasSmallNumbers ledger
+
+-- the text of such a day, and how many of its blocks are published, and how many are not
+pub record IsPrintedDay (books : Books) (nodes : ℕ) (day : PrintedDay) : Type 0 where
+  pub publication : Publication
+  pub is_day : IsDay books nodes publication
+  pub in_range : HasText publication
+  pub text : day.text.items ≡ text_of publication
+  pub published : day.published ≡ published_in publication.blocks
+  pub unpublished : day.unpublished ≡ unpublished_in publication.blocks

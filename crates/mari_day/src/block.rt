@@ -13,8 +13,8 @@ ghost use Rattle.mari_day.specs.Assembled.{HasShapes, IsAssembled, IsPriced};
 ghost use Rattle.mari_settle.specs.Conditions.{HasSmallNumbers};
 ghost use Rattle.mari_settle.specs.Ledger.{operator_lines, provider_amounts, rents_of};
 ghost use Rattle.mari_day.specs.Dated.{IsDated};
-ghost use Rattle.mari_day.specs.Money.{amount_line, providers_among, with_number};
-ghost use Rattle.mari_day.specs.Published.{IsPublishedRun};
+ghost use Rattle.mari_day.specs.Money.{amount_line, money_lines_of, providers_among, with_number};
+ghost use Rattle.mari_day.specs.Published.{amounts_of, HasEntries, IsPublishedRun};
 ghost use Rattle.mari_day.specs.Run.{heading_of};
 
 use crate::lines::{
@@ -200,23 +200,37 @@ fn priced_of(
     })
 }
 
-/// The block of a published run.
-pub fn full_block(
+/// The block of a published run, and its ledger.
+#[derive(Drop)]
+pub struct PublishedRun {
+    pub block: FullBlock,
+    pub ledger: Ledger,
+}
+
+/// The block of a published run, and its ledger.
+pub fn published_run(
     alloc: Global,
     books: &Books,
     run: u32,
     made: &RunMarket,
     clearing: Clearing,
-) -> Result<FullBlock, Memory>
+) -> Result<PublishedRun, Memory>
     requires accepted { IsAccepted books.now }
     requires dated { IsDated books.now }
     requires run { (1 ≤ run) × (run ≤ length books.now.runs.runs) }
     requires made { made.now ≡ run_market_of books.now run }
     requires valid { IsValid made.now.market }
     requires optimal { IsOptimal made.now.market clearing.activation }
-    ensures published { (budget : ℕ) → IsClearing made.now.market budget clearing → IfOk result (IsPublishedRun books.now budget run) }
-    ensures fits { (budget : ℕ) → budget ≤ 50000 → IsClearing made.now.market budget clearing → IfOk result FullFits }
+    ensures published { (budget : ℕ) → IsClearing made.now.market budget clearing → IfOk result (λ p. IsPublishedRun books.now budget run p.block) }
+    ensures fits { (budget : ℕ) → budget ≤ 50000 → IsClearing made.now.market budget clearing → IfOk result (λ p. FullFits p.block) }
+    ensures operators { IfOk result (λ p. p.block.operators ≡ money_lines_of books.now.zones.operators p.ledger.operators) }
+    ensures providers { IfOk result (λ p. p.ledger.providers ≡ amounts_of books.now run p.block) }
+    ensures lengths { IfOk result (λ p. HasEntries books.now p.ledger) }
 {
     let priced = priced_of(alloc, books, run, made, &clearing)?;
-    assemble(alloc, books, run, made.bids.as_slice(), clearing, &priced)
+    let block = assemble(alloc, books, run, made.bids.as_slice(), clearing, &priced)?;
+    Ok(PublishedRun {
+        block,
+        ledger: priced.ledger,
+    })
 }

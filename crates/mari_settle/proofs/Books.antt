@@ -23,7 +23,7 @@ has_flows m a f = record { one_each = AllZip-long _ m.borders a.flow f.borders; 
 
 at_most : (state : ℕ → GateState) (gate : Option ℕ) (o : Order) → (span_of state gate o).hi ≤ o.greatest
 at_most state None o = omega arith
-at_most state (Some g) o = elim (state g) as (λ s. (span_of (λ (h : ℕ). s) (Some g) o).hi ≤ o.greatest) [ | Open ↦ omega arith | Closed ↦ omega arith | Free ↦ omega arith ]
+at_most state (Some g) o = elim (state g) as (λ s. (span_of (λ (h : ℕ). s) (Some g) o).hi ≤ o.greatest) [ Open ↦ omega arith | Closed ↦ omega arith | Free ↦ omega arith ]
 
 small_mw : (state : ℕ → GateState) (zones gates : ℕ) (os : List Order) (qs : List ℕ) → All (IsValidOrder zones gates) os → AllZip (λ o q. IsWithin (span_in state o) q) os qs → All (λ q. q ≤ 99999) qs
 small_mw state zones gates [] [] v f = λ k d h. absurd (omega arith)

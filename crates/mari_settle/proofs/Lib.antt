@@ -4,3 +4,4 @@ pub mod Lists
 pub mod Amounts
 pub mod Laws
 pub mod Books
+pub mod Sizes

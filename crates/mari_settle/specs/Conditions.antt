@@ -85,17 +85,17 @@ pub record LedgersAddUp (a b : Ledger) : Type 0 where
   pub providers : AllZip AddUp a.providers b.providers
   pub rents : AllZip AddUp a.rents b.rents
 
--- an amount within 10^17 quarter-cents of 0
-abbrev pub IsSmall : Quarters → Type 0
-IsSmall a = unsigned_abs a.0 ≤ 10 ^ 17
+-- an amount within so many quarter-cents of 0
+abbrev pub IsWithin : ℕ → Quarters → Type 0
+IsWithin most a = unsigned_abs a.0 ≤ most
 
 -- so are the two of an operator's line
-pub record IsSmallLine (line : OperatorLine) : Type 0 where
-  pub payment : IsSmall line.payment
-  pub rent : IsSmall line.rent
+pub record LineIsWithin (most : ℕ) (line : OperatorLine) : Type 0 where
+  pub payment : IsWithin most line.payment
+  pub rent : IsWithin most line.rent
 
 -- so is every number of a ledger
-pub record HasSmallNumbers (ledger : Ledger) : Type 0 where
-  pub operators : All IsSmallLine ledger.operators
-  pub providers : All IsSmall ledger.providers
-  pub rents : All IsSmall ledger.rents
+pub record LedgerIsWithin (most : ℕ) (ledger : Ledger) : Type 0 where
+  pub operators : All (LineIsWithin most) ledger.operators
+  pub providers : All (IsWithin most) ledger.providers
+  pub rents : All (IsWithin most) ledger.rents

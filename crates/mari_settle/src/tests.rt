@@ -1,6 +1,6 @@
 //! Ledgers of small runs: what borders earn, and what operators and providers get.
 
-ghost use Rattle.std.specs.Prelude.{◌≡◌, ◌↔◌, ◌^◌, IfOk, length, take, slice_get, IsTrue, IsSomeAnd};
+ghost use Rattle.std.specs.Prelude.{◌≡◌, ◌↔◌, ◌≤◌, ◌^◌, IfOk, length, take, slice_get, IsTrue, IsSomeAnd};
 ghost use Rattle.std.specs.List.{AllZip};
 ghost use Rattle.mari_settle.specs.Conditions.{HasOperators, HasProviders, IsOrderOf, LedgerIsWithin, NameOrders};
 

@@ -1,3 +1,4 @@
 pub mod Lists
 pub mod Wide
 pub mod Open
+pub mod Balance

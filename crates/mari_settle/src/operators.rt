@@ -19,9 +19,17 @@ fn lesser_half(rent: i128) -> i128
     requires { unsigned_abs rent ≤ 4000000000000 }
     ensures value { result ≡ half_of rent }
     ensures small { unsigned_abs result ≤ 4000000000000 }
-    ensures rest { unsigned_abs (rent -ℤ result) ≤ 4000000000000 }
 {
     rent.div_euclid(2)
+}
+
+// The other half, with an odd quarter-cent.
+fn greater_half(rent: i128) -> i128
+    requires { unsigned_abs rent ≤ 4000000000000 }
+    ensures value { result ≡ rent -ℤ half_of rent }
+    ensures small { unsigned_abs result ≤ 4000000000000 }
+{
+    rent - lesser_half(rent)
 }
 
 // A part of a rent for one to whom it is due, and nothing for another.
@@ -39,8 +47,7 @@ fn share(first: bool, second: bool, rent: i128) -> i128
     ensures value { result ≡ (if first then rent -ℤ half_of rent else pos 0) +ℤ (if second then half_of rent else pos 0) }
     ensures small { unsigned_abs result ≤ 8000000000000 }
 {
-    let half = lesser_half(rent);
-    part_if(first, rent - half) + part_if(second, half)
+    part_if(first, greater_half(rent)) + part_if(second, lesser_half(rent))
 }
 
 // The operator of a zone.

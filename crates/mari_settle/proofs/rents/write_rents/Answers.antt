@@ -1,4 +1,4 @@
-use Rattle.std.proofs.Common.{◌^◌, arith, ◌≡◌, ◌<◌, ℤ, pos, length, get_or, ap, to_z-of_z, w64, rules, refl}
+use Rattle.std.proofs.Common.{◌^◌, arith, ◌≡◌, ◌<◌, ℤ, pos, length, get_or, to_z-of_z, w64, rules, refl}
 use Rattle.std.specs.Int.{w128}
 use Rattle.std.specs.Prelude.{FitsSigned}
 use Rattle.std.proofs.lemmas.Int.{ints, fits_signed_from_abs}

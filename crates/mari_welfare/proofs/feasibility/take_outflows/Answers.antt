@@ -1,6 +1,5 @@
-use Rattle.std.proofs.Common.{◌≡◌, arith, pos, get_or, to_z-of_z, rules, refl, w64}
+use Rattle.std.proofs.Common.{arith, pos, get_or, to_z-of_z, rules, refl, w64}
 use Rattle.std.specs.Prelude.{FitsSigned}
-use Rattle.std.proofs.lemmas.Int.{ints}
 use Rattle.mari_market.specs.declared.market.Border.{Border}
 use Rattle.mari_market.specs.Activation.{carried_out}
 use Rattle.mari_welfare.proofs.Balance.{take_away_step}

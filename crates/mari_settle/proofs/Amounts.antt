@@ -1,5 +1,5 @@
 -- What bids earn their providers, as a loop pays it.
-use Rattle.std.proofs.Common.{◌≡◌, ◌==◌, if◌then◌else◌, Bool, true, false, inl, inr, subst, ℕ, ◌+◌, ◌<◌, ◌≤◌, ℤ, pos, ◌+ℤ◌, List, [], ◌∷◌, length, take, get_or, map, Option, Some, None, ap, sym, arith, refl, zero, suc, ◌∙◌}
+use Rattle.std.proofs.Common.{◌≡◌, ◌==◌, if◌then◌else◌, Bool, true, false, inl, inr, subst, ℕ, ◌<◌, ◌≤◌, ℤ, pos, ◌+ℤ◌, List, [], ◌∷◌, length, take, get_or, map, Option, ap, sym, arith, refl, zero, suc, ◌∙◌}
 use Rattle.std.specs.Prelude.{slice_get, IsSomeAnd, unsigned_abs}
 use Rattle.std.proofs.lemmas.Bool.{cases_lt}
 use Rattle.std.proofs.lemmas.Option.{slice_get-get_or, slice_get_past}

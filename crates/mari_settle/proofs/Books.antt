@@ -1,5 +1,5 @@
 -- What a feasible activation and numbers of bids give to the loops of a settlement.
-use Rattle.std.proofs.Common.{◌≡◌, ℕ, ◌<◌, ◌≤◌, List, [], ◌∷◌, length, take, get_or, Option, Some, None, inl, inr, arith, subst, refl}
+use Rattle.std.proofs.Common.{◌≡◌, ℕ, ◌<◌, ◌≤◌, List, [], ◌∷◌, length, take, Option, Some, None, inl, inr, arith, subst, refl}
 use Rattle.std.specs.Prelude.{slice_get, IsSomeAnd}
 use Rattle.std.specs.List.{All, AllZip}
 use Rattle.std.proofs.lemmas.Bool.{cases_lt}
@@ -12,7 +12,7 @@ use Rattle.mari_bids.specs.declared.bids.BidBook.{BidBook}
 use Rattle.mari_market.specs.declared.market.Order.{Order}
 use Rattle.mari_market.specs.declared.market.Market.{Market}
 use Rattle.mari_market.specs.declared.activation.Activation.{Activation}
-use Rattle.mari_market.specs.Bounds.{GateState, IsWithin, own_bounds, span_in, span_of}
+use Rattle.mari_market.specs.Bounds.{GateState, IsWithin, span_in, span_of}
 use Rattle.mari_market.specs.Bounds.GateState.{Open, Closed, Free}
 use Rattle.mari_market.specs.Market.{IsValid, IsValidOrder}
 use Rattle.mari_market.specs.Optimal.{IsFeasible}
@@ -23,7 +23,7 @@ has_flows m a f = record { one_each = AllZip-long _ m.borders a.flow f.borders; 
 
 at_most : (state : ℕ → GateState) (gate : Option ℕ) (o : Order) → (span_of state gate o).hi ≤ o.greatest
 at_most state None o = omega arith
-at_most state (Some g) o = elim (state g) as (λ s. (span_of (λ (h : ℕ). s) (Some g) o).hi ≤ o.greatest) [ | Open ↦ omega arith | Closed ↦ omega arith | Free ↦ omega arith ]
+at_most state (Some g) o = elim (state g) as (λ s. (span_of (λ (h : ℕ). s) (Some g) o).hi ≤ o.greatest) [ Open ↦ omega arith | Closed ↦ omega arith | Free ↦ omega arith ]
 
 small_mw : (state : ℕ → GateState) (zones gates : ℕ) (os : List Order) (qs : List ℕ) → All (IsValidOrder zones gates) os → AllZip (λ o q. IsWithin (span_in state o) q) os qs → All (λ q. q ≤ 99999) qs
 small_mw state zones gates [] [] v f = λ k d h. absurd (omega arith)

@@ -1,7 +1,7 @@
 -- The laws of a run's ledger: no rent is negative, and the nets of the operators sum to 0.
 use Rattle.std.proofs.Common.{◌≡◌, ◌==◌, if◌then◌else◌, ℕ, zero, suc, ◌+◌, ◌<◌, ℤ, pos, ◌+ℤ◌, ◌-ℤ◌, ◌*ℤ◌, ◌≤ℤ◌, List, [], ◌∷◌, length, map, arith, refl, sym, ap, ◌∙◌}
 use Rattle.std.proofs.lemmas.Int.{ints}
-use Rattle.std.proofs.lemmas.List.Elements.{All-cons, All-get_or, All-head, All-tail}
+use Rattle.std.proofs.lemmas.List.Elements.{All-cons}
 use Rattle.std.specs.List.{All, AllZip, range_with_len}
 use Rattle.mari_units.specs.declared.numbers.Cents.{Cents}
 use Rattle.mari_units.specs.declared.numbers.Quarters.{Quarters}
@@ -21,7 +21,7 @@ use Rattle.mari_settle.specs.Ledger.{rent_of, rents_of, half_of, operator_at, sh
 use Rattle.mari_settle.specs.Lines.{map_along}
 use Rattle.mari_settle.proofs.Lists.{range_sum_more}
 
-All-map_along : {X Y Z : Type 0} (f : X → Y → Z) (P : X → Y → Type 0) (Q : Z → Type 0) → ((x : X) (y : Y) → P x y → Q (f x y)) → (xs : List X) (ys : List Y) → AllZip P xs ys → All Q (map_along f xs ys)
+pub All-map_along : {X Y Z : Type 0} (f : X → Y → Z) (P : X → Y → Type 0) (Q : Z → Type 0) → ((x : X) (y : Y) → P x y → Q (f x y)) → (xs : List X) (ys : List Y) → AllZip P xs ys → All Q (map_along f xs ys)
 All-map_along f P Q h [] [] a = λ k d l. absurd (omega arith)
 All-map_along f P Q h (x ∷ xs) (y ∷ ys) a = All-cons Q (f x y) (map_along f xs ys) (h x y a.0) (All-map_along f P Q h xs ys a.1)
 All-map_along f P Q h [] (y ∷ ys) a = absurd a
@@ -73,9 +73,14 @@ int_sum-map g f (x ∷ xs) = ap (λ v. g (f x) +ℤ v) (int_sum-map g f xs)
 rent_by_zones : (ps : List Cents) (n : ℕ) (b : Border) (f : ℤ) → IsValidBorder n b → rent_of ps b f ≡ sum_below n (λ z. price_at ps z *ℤ carried_in z b f)
 rent_by_zones ps n b f v =
     let p = λ (z : ℕ). price_at ps z in
-    omega (arith, ints, sub-mul_z (p b.to) (p b.from) f,
+    omega (
+      arith,
+      ints,
+      sub-mul_z (p b.to) (p b.from) f,
       sum_below-- p (λ z. if b.to == z then f else pos 0) (λ z. if b.from == z then f else pos 0) n,
-      sum_below-place p b.to f n v.to, sum_below-place p b.from f n v.from)
+      sum_below-place p b.to f n v.to,
+      sum_below-place p b.from f n v.from,
+    )
 
 -- so all rents are the worth of all net imports
 rents_by_zones : (m : Market) (a : Activation) (ps : List Cents) → IsValid m → sum_along (rent_of ps) m.borders a.flow ≡ sum_below m.zones (λ z. price_at ps z *ℤ net_import m a z)
@@ -96,8 +101,13 @@ payments_by_zones zones m a ps h e =
 -- the shares of a rent make up the rent
 shares_sum : (first second n : ℕ) (rent : ℤ) → first < n → second < n → rent ≡ sum_below n (λ k. pos 1 *ℤ share_of first second k rent)
 shares_sum first second n rent h l =
-    omega (arith, ints, sum_below-+ (λ k. pos 1) (λ k. if first == k then rent -ℤ half_of rent else pos 0) (λ k. if second == k then half_of rent else pos 0) n,
-      sum_below-place (λ k. pos 1) first (rent -ℤ half_of rent) n h, sum_below-place (λ k. pos 1) second (half_of rent) n l)
+    omega (
+      arith,
+      ints,
+      sum_below-+ (λ k. pos 1) (λ k. if first == k then rent -ℤ half_of rent else pos 0) (λ k. if second == k then half_of rent else pos 0) n,
+      sum_below-place (λ k. pos 1) first (rent -ℤ half_of rent) n h,
+      sum_below-place (λ k. pos 1) second (half_of rent) n l,
+    )
 
 -- so all operators' rents are all rents
 rents_by_operators : (zones : ZoneBook) (m : Market) (a : Activation) (ps : List Cents) → HasOperators zones → m.zones ≡ length zones.zones → IsValid m → sum_along (rent_of ps) m.borders a.flow ≡ sum_below (length zones.operators) (operator_rent zones m a ps)

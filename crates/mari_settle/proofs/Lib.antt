@@ -4,3 +4,5 @@ pub mod Lists
 pub mod Amounts
 pub mod Laws
 pub mod Books
+pub mod Sizes
+pub mod Named

@@ -1,5 +1,5 @@
 -- What the calls of the ledger ask of what they are given, and how large its numbers are.
-use Rattle.std.specs.Prelude.{◌≡◌, ℕ, ◌<◌, ◌≤◌, ◌^◌, ℤ, ◌+ℤ◌, if◌then◌else◌, List, length, take, slice_get, unsigned_abs, IsSomeAnd}
+use Rattle.std.specs.Prelude.{◌≡◌, ℕ, ◌<◌, ◌≤◌, ◌^◌, ◌+ℤ◌, if◌then◌else◌, List, length, take, slice_get, unsigned_abs, IsSomeAnd}
 use Rattle.std.specs.List.{All, AllZip}
 use Rattle.mari_units.specs.declared.numbers.Quarters.{Quarters}
 use Rattle.mari_zones.specs.declared.zones.ZoneBook.{ZoneBook}
@@ -85,17 +85,17 @@ pub record LedgersAddUp (a b : Ledger) : Type 0 where
   pub providers : AllZip AddUp a.providers b.providers
   pub rents : AllZip AddUp a.rents b.rents
 
--- an amount within 10^17 quarter-cents of 0
-abbrev pub IsSmall : Quarters → Type 0
-IsSmall a = unsigned_abs a.0 ≤ 10 ^ 17
+-- an amount within so many quarter-cents of 0
+abbrev pub IsWithin : ℕ → Quarters → Type 0
+IsWithin most a = unsigned_abs a.0 ≤ most
 
 -- so are the two of an operator's line
-pub record IsSmallLine (line : OperatorLine) : Type 0 where
-  pub payment : IsSmall line.payment
-  pub rent : IsSmall line.rent
+pub record LineIsWithin (most : ℕ) (line : OperatorLine) : Type 0 where
+  pub payment : IsWithin most line.payment
+  pub rent : IsWithin most line.rent
 
 -- so is every number of a ledger
-pub record HasSmallNumbers (ledger : Ledger) : Type 0 where
-  pub operators : All IsSmallLine ledger.operators
-  pub providers : All IsSmall ledger.providers
-  pub rents : All IsSmall ledger.rents
+pub record LedgerIsWithin (most : ℕ) (ledger : Ledger) : Type 0 where
+  pub operators : All (LineIsWithin most) ledger.operators
+  pub providers : All (IsWithin most) ledger.providers
+  pub rents : All (IsWithin most) ledger.rents

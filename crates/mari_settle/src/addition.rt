@@ -1,8 +1,8 @@
 //! Sums of ledgers.
 
-ghost use Rattle.std.specs.Prelude.{◌≡◌, length};
+ghost use Rattle.std.specs.Prelude.{◌≡◌, ◌+◌, ℕ};
 ghost use Rattle.std.specs.List.{AllZip};
-ghost use Rattle.mari_settle.specs.Conditions.{AddUp, LedgersAddUp, LinesAddUp};
+ghost use Rattle.mari_settle.specs.Conditions.{AddUp, LedgerIsWithin, LedgersAddUp, LinesAddUp};
 ghost use Rattle.mari_settle.specs.Lines.{lines_together, map_along, together};
 
 use crate::ledger::{Ledger, OperatorLine};
@@ -56,6 +56,7 @@ impl Ledger {
         ensures operators { self.new.operators ≡ map_along lines_together self.old.operators other.now.operators }
         ensures providers { self.new.providers ≡ map_along together self.old.providers other.now.providers }
         ensures rents { self.new.rents ≡ map_along together self.old.rents other.now.rents }
+        ensures within { (m n : ℕ) → LedgerIsWithin m self.old → LedgerIsWithin n other.now → LedgerIsWithin (m + n) self.new }
     {
         add_lines(self.operators.as_mut_slice(), other.operators.as_slice());
         add_amounts(self.providers.as_mut_slice(), other.providers.as_slice());

@@ -27,6 +27,8 @@ pub struct Ledger {
 }
 
 impl Ledger {
+    ghost use Rattle.mari_settle.specs.Conditions.{LedgerIsWithin};
+
     /// The ledger in which every number is 0.
     pub fn start(
         alloc: Global,
@@ -37,6 +39,7 @@ impl Ledger {
         ensures operators { IfOk result (λ ledger. ledger.operators ≡ replicate (length zones.now.operators) no_line) }
         ensures providers { IfOk result (λ ledger. ledger.providers ≡ replicate (length bids.now.providers) nothing) }
         ensures rents { IfOk result (λ ledger. ledger.rents ≡ replicate (length borders.now.borders) nothing) }
+        ensures within { IfOk result (LedgerIsWithin 0) }
     {
         let line = OperatorLine {
             payment: Quarters(0),

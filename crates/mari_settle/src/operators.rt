@@ -1,11 +1,11 @@
 //! What operators get for the energy that their zones take in, and their parts of the rents.
 
-ghost use Rattle.std.specs.Prelude.{◌≡◌, ◌≤◌, ◌*◌, ◌<◌, ℕ, ℤ, length, IsTrue, if◌then◌else◌, pos, ◌-ℤ◌, ◌+ℤ◌, ◌*ℤ◌, unsigned_abs};
+ghost use Rattle.std.specs.Prelude.{◌≡◌, ◌≤◌, ◌*◌, ◌^◌, ◌<◌, ℕ, ℤ, length, IsTrue, if◌then◌else◌, pos, ◌-ℤ◌, ◌+ℤ◌, ◌*ℤ◌, unsigned_abs};
 ghost use Rattle.std.specs.List.{All};
 ghost use Rattle.mari_market.specs.Activation.{IsWithinLimits};
 ghost use Rattle.mari_market.specs.Market.{IsValid, IsValidBorder};
 ghost use Rattle.mari_market.specs.Price.{price_at};
-ghost use Rattle.mari_settle.specs.Conditions.{HasFlows, IsCapped, IsSmallLine, Settles};
+ghost use Rattle.mari_settle.specs.Conditions.{HasFlows, IsCapped, LineIsWithin, Settles};
 ghost use Rattle.mari_settle.specs.Ledger.{carried_in as carried_into, half_of, net_import as net_import_of, operator_at, operator_line as line_of, operator_lines, operator_payment as payment_of, payment_at, operator_rent as rent_of_operator, rent_of as rent_at, share_of};
 
 use crate::ledger::OperatorLine;
@@ -19,9 +19,17 @@ fn lesser_half(rent: i128) -> i128
     requires { unsigned_abs rent ≤ 4000000000000 }
     ensures value { result ≡ half_of rent }
     ensures small { unsigned_abs result ≤ 4000000000000 }
-    ensures rest { unsigned_abs (rent -ℤ result) ≤ 4000000000000 }
 {
     rent.div_euclid(2)
+}
+
+// The other half, with an odd quarter-cent.
+fn greater_half(rent: i128) -> i128
+    requires { unsigned_abs rent ≤ 4000000000000 }
+    ensures value { result ≡ rent -ℤ half_of rent }
+    ensures small { unsigned_abs result ≤ 4000000000000 }
+{
+    rent - lesser_half(rent)
 }
 
 // A part of a rent for one to whom it is due, and nothing for another.
@@ -39,8 +47,7 @@ fn share(first: bool, second: bool, rent: i128) -> i128
     ensures value { result ≡ (if first then rent -ℤ half_of rent else pos 0) +ℤ (if second then half_of rent else pos 0) }
     ensures small { unsigned_abs result ≤ 8000000000000 }
 {
-    let half = lesser_half(rent);
-    part_if(first, rent - half) + part_if(second, half)
+    part_if(first, greater_half(rent)) + part_if(second, lesser_half(rent))
 }
 
 // The operator of a zone.
@@ -181,7 +188,7 @@ pub(crate) fn write_lines(
     requires lengths { length lines.old ≡ length zones.now.operators }
     requires settles { Settles zones.now market.now activation.now prices.now }
     ensures value { lines.new ≡ operator_lines zones.now market.now activation.now prices.now }
-    ensures small { All IsSmallLine lines.new }
+    ensures small { All (LineIsWithin (10 ^ 17)) lines.new }
 {
     for operator in 0..lines.len() {
         lines[operator] = OperatorLine {

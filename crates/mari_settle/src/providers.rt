@@ -4,7 +4,7 @@ ghost use Rattle.std.specs.Prelude.{◌≡◌, ◌==◌, ◌≤◌, ◌<◌, ◌
 ghost use Rattle.std.specs.List.{All};
 ghost use Rattle.mari_market.specs.Price.{price_at};
 ghost use Rattle.mari_market.specs.Sums.{sum_along};
-ghost use Rattle.mari_settle.specs.Conditions.{IsCapped, IsSmall, NamesBid};
+ghost use Rattle.mari_settle.specs.Conditions.{IsCapped, IsWithin, NamesBid};
 ghost use Rattle.mari_settle.specs.Ledger.{bid_amount, earned as earned_by, provider_amounts};
 ghost use Rattle.mari_settle.specs.Lines.{amount_at};
 
@@ -80,7 +80,7 @@ pub(crate) fn write_amounts(
     requires prices { All IsCapped prices.now }
     requires numbers { All (NamesBid bids.now (length prices.now)) numbers.now }
     ensures value { amounts.new ≡ provider_amounts bids.now numbers.now activation.now prices.now }
-    ensures small { All IsSmall amounts.new }
+    ensures small { All (IsWithin (10 ^ 17)) amounts.new }
 {
     clear(amounts);
     pay_all(amounts, bids, numbers, activation.mw.as_slice(), prices);

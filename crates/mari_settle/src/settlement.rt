@@ -1,11 +1,11 @@
 //! The ledger of one run.
 
-ghost use Rattle.std.specs.Prelude.{◌≡◌, length, ℤ, pos, ◌≤ℤ◌};
+ghost use Rattle.std.specs.Prelude.{◌≡◌, ◌^◌, length, pos, ◌≤ℤ◌};
 ghost use Rattle.std.specs.List.{All};
 ghost use Rattle.mari_market.specs.Market.{IsValid};
 ghost use Rattle.mari_market.specs.Optimal.{IsConsistent, IsFeasible};
 ghost use Rattle.mari_market.specs.Sums.{int_sum};
-ghost use Rattle.mari_settle.specs.Conditions.{FitsRun, HasOperators, HasProviders, HasSmallNumbers, NameOrders};
+ghost use Rattle.mari_settle.specs.Conditions.{FitsRun, HasOperators, HasProviders, LedgerIsWithin, NameOrders};
 ghost use Rattle.mari_settle.specs.Ledger.{net_of, operator_lines, provider_amounts, rents_of};
 
 use crate::ledger::Ledger;
@@ -48,8 +48,8 @@ pub fn settle_run(
     ensures rents_at_least_0 { All (λ rent. pos 0 ≤ℤ rent.0) ledger.new.rents }
     ensures nets_sum_to_0 { int_sum net_of ledger.new.operators ≡ pos 0 }
 
-    // So a caller may add a day's ledgers up.
-    ensures small { HasSmallNumbers ledger.new }
+    // So a day's ledgers can be added up.
+    ensures within { LedgerIsWithin (10 ^ 17) ledger.new }
 {
     let prices = prices.cents.as_slice();
     write_rents(ledger.rents.as_mut_slice(), market, activation, prices);

@@ -1,3 +1,4 @@
+pub mod Balance
 pub mod Gates
 pub mod Parts
 pub mod Standings

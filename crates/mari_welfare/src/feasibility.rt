@@ -1,13 +1,14 @@
 //! Whether an activation is feasible.
 
-ghost use Rattle.std.specs.Prelude.{◌≡◌, ◌<◌, ◌≤◌, ◌*◌, ◌^◌, length, ℕ, ℤ, pos, neg_ℤ, ◌≤ℤ◌, IsTrue, ◌↔◌};
-ghost use Rattle.std.specs.List.{AllZip};
-ghost use Rattle.mari_market.specs.Activation.{IsWithinLimits, carried_out, put_into};
+ghost use Rattle.std.specs.Prelude.{◌≡◌, ◌==◌, ◌<◌, ◌≤◌, ◌^◌, if◌then◌else◌, length, ℕ, ℤ, pos, ◌+◌, ◌+ℤ◌, ◌-ℤ◌, unsigned_abs, IsTrue, ◌↔◌};
+ghost use Rattle.std.specs.List.{All, AllZip};
+ghost use Rattle.mari_market.specs.Activation.{IsWithinLimits, carried_out, put_in, put_into};
 ghost use Rattle.mari_market.specs.Bounds.{IsWithin};
 ghost use Rattle.mari_market.specs.Market.{IsValid};
 ghost use Rattle.mari_market.specs.Optimal.{IsFeasible};
 ghost use Rattle.mari_market.specs.Sums.{sum_along};
 ghost use Rattle.mari_welfare.specs.Gates.{bounds_by, opens_in};
+ghost use Rattle.mari_welfare.specs.Balance.{left_in};
 ghost use Rattle.mari_welfare.specs.Parts.{HasLengths, OrdersAndGatesFit, BordersAndZonesFit};
 
 use crate::gates::{OpenGates, keep_gate_rules};
@@ -55,73 +56,94 @@ fn flows_fit(borders: &[Border], flow: &[i64]) -> bool
     true
 }
 
-// What an order puts into a zone.
-fn injection_into(zone: u32, order: &Order, mw: u32) -> i128
-    ensures value { result ≡ put_into zone order.now mw }
-    ensures low { neg_ℤ (pos (2 ^ 32)) ≤ℤ result }
-    ensures high { result ≤ℤ pos (2 ^ 32) }
+// Adds to what is left over in a zone.
+fn add_to(left: &mut [i128; 64], zone: u32, mw: i128)
+    requires zone { zone < 64 }
+    requires so_far { unsigned_abs (left_in left.old zone) ≤ 2 ^ 80 }
+    requires mw { unsigned_abs mw ≤ 2 ^ 64 }
+    ensures { (z : ℕ) → left_in left.new z ≡ left_in left.old z +ℤ (if zone == z then mw else pos 0) }
 {
-    if order.zone != zone {
-        return 0;
-    }
+    left[zone as usize] += mw;
+}
+
+// What an order puts into its zone.
+fn put_in(order: &Order, mw: u32) -> i128
+    ensures value { result ≡ put_in order.now.side mw }
+    ensures small { unsigned_abs result ≤ 2 ^ 32 }
+{
     match order.side {
         Side::Inject => i128::from(mw),
         Side::Withdraw => -i128::from(mw),
     }
 }
 
-// Injections less withdrawals of a zone.
-fn net_injection(orders: &[Order], mw: &[u32], zone: u32) -> i128
+// Injections less withdrawals of each zone.
+fn net_injections(orders: &[Order], mw: &[u32]) -> [i128; 64]
     requires few { length orders.now ≤ 4608 }
     requires lengths { length mw.now ≡ length orders.now }
-    ensures { result ≡ sum_along (put_into zone) orders.now mw.now }
+    requires zones { All (λ o. o.zone < 64) orders.now }
+    ensures value { (z : ℕ) → left_in result z ≡ sum_along (put_into z) orders.now mw.now }
+    ensures small { (z : ℕ) → unsigned_abs (left_in result z) ≤ 2 ^ 48 }
 {
-    let mut total = 0;
+    let mut left = [0; 64];
     for (i, order) in orders.iter().enumerate() {
-        total += injection_into(zone, order, mw[i]);
+        add_to(&mut left, order.zone, put_in(order, mw[i]));
     }
-    total
+    left
 }
 
-// What a flow takes out of a zone.
-fn outflow_from(zone: u32, border: &Border, flow: i64) -> i128
-    ensures value { result ≡ carried_out zone border.now flow }
-    ensures low { neg_ℤ (pos (2 ^ 64)) ≤ℤ result }
-    ensures high { result ≤ℤ pos (2 ^ 64) }
+// Takes a flow from what is left over in the zone that it leaves, and adds it to the zone that it enters.
+fn carry(left: &mut [i128; 64], border: &Border, flow: i64)
+    requires from { border.now.from < 64 }
+    requires to { border.now.to < 64 }
+    requires so_far { (z : ℕ) → unsigned_abs (left_in left.old z) ≤ 2 ^ 79 }
+    ensures carried { (z : ℕ) → left_in left.new z ≡ left_in left.old z -ℤ carried_out z border.now flow }
+    ensures small { (z : ℕ) → unsigned_abs (left_in left.new z) ≤ unsigned_abs (left_in left.old z) + 2 ^ 65 }
 {
-    let flow = i128::from(flow);
-    let out = if border.from == zone { flow } else { 0 };
-    let back = if border.to == zone { flow } else { 0 };
-    out - back
+    add_to(left, border.from, -i128::from(flow));
+    add_to(left, border.to, i128::from(flow));
 }
 
-// The flows that leave a zone less those that enter it.
-fn net_outflow(borders: &[Border], flow: &[i64], zone: u32) -> i128
+// Takes the flows that leave each zone from what is left over there, and adds those that enter it.
+fn take_outflows(left: &mut [i128; 64], borders: &[Border], flow: &[i64])
     requires few { length borders.now ≤ 256 }
     requires lengths { length flow.now ≡ length borders.now }
-    ensures { result ≡ sum_along (carried_out zone) borders.now flow.now }
+    requires ends { All (λ b. (b.from < 64) × (b.to < 64)) borders.now }
+    requires small { (z : ℕ) → unsigned_abs (left_in left.old z) ≤ 2 ^ 48 }
+    ensures { (z : ℕ) → left_in left.new z ≡ left_in left.old z -ℤ sum_along (carried_out z) borders.now flow.now }
 {
-    let mut total = 0;
     for (i, border) in borders.iter().enumerate() {
-        total += outflow_from(zone, border, flow[i]);
+        carry(left, border, flow[i]);
     }
-    total
 }
 
-// Whether each of so many zones is in balance.
-fn is_balanced(zones: u32, orders: &[Order], mw: &[u32], borders: &[Border], flow: &[i64]) -> bool
-    requires few_orders { length orders.now ≤ 4608 }
-    requires few_borders { length borders.now ≤ 256 }
-    requires orders { length mw.now ≡ length orders.now }
-    requires borders { length flow.now ≡ length borders.now }
-    ensures { IsTrue result ↔ ((z : ℕ) → z < zones → sum_along (put_into z) orders.now mw.now ≡ sum_along (carried_out z) borders.now flow.now) }
+// Whether nothing is left over in the first zones.
+fn is_nothing_left(left: &[i128; 64], zones: u32) -> bool
+    requires { zones ≤ 64 }
+    ensures { IsTrue result ↔ ((z : ℕ) → z < zones → left_in left.now z ≡ pos 0) }
 {
     for zone in 0..zones {
-        if net_injection(orders, mw, zone) != net_outflow(borders, flow, zone) {
+        if left[zone as usize] != 0 {
             return false;
         }
     }
     true
+}
+
+// Whether each of so many zones is in balance.
+fn is_balanced(zones: u32, orders: &[Order], mw: &[u32], borders: &[Border], flow: &[i64]) -> bool
+    requires zones { zones ≤ 64 }
+    requires few_orders { length orders.now ≤ 4608 }
+    requires few_borders { length borders.now ≤ 256 }
+    requires orders { length mw.now ≡ length orders.now }
+    requires borders { length flow.now ≡ length borders.now }
+    requires places { All (λ o. o.zone < 64) orders.now }
+    requires ends { All (λ b. (b.from < 64) × (b.to < 64)) borders.now }
+    ensures { IsTrue result ↔ ((z : ℕ) → z < zones → sum_along (put_into z) orders.now mw.now ≡ sum_along (carried_out z) borders.now flow.now) }
+{
+    let mut left = net_injections(orders, mw);
+    take_outflows(&mut left, borders, flow);
+    is_nothing_left(&left, zones)
 }
 
 // Whether there are one quantity for each order and one flow for each border.
@@ -143,9 +165,8 @@ fn orders_and_gates_fit(market: &Market, activation: &Activation) -> bool
 }
 
 fn borders_and_zones_fit(market: &Market, activation: &Activation) -> bool
+    requires market { IsValid market.now }
     requires lengths { HasLengths market.now activation.now }
-    requires few_orders { length market.now.orders ≤ 4608 }
-    requires few_borders { length market.now.borders ≤ 256 }
     ensures { IsTrue result ↔ BordersAndZonesFit market.now activation.now }
 {
     let (orders, mw) = (market.orders.as_slice(), activation.mw.as_slice());

@@ -1,4 +1,4 @@
-use Rattle.std.proofs.Common.{arith, ◌≡◌, ◌<◌, ℤ, pos, length, get_or, ap, to_z, of_z, to_z-of_z, w64, rules, ◌∙◌, sym}
+use Rattle.std.proofs.Common.{arith, ◌≡◌, ◌<◌, pos, length, get_or, to_z-of_z, w64, rules}
 use Rattle.std.specs.Prelude.{FitsSigned}
 use Rattle.std.proofs.lemmas.Int.{ints}
 use Rattle.mari_market.proofs.Sums.{sum_along_step}

@@ -1,4 +1,4 @@
-use Rattle.std.proofs.Common.{◌≡◌, ◌*◌, ◌≤◌, ℕ, take, length}
+use Rattle.std.proofs.Common.{◌≡◌, ◌*◌, ◌≤◌, ℕ, take}
 use Rattle.std.specs.Prelude.{slice_get, unsigned_abs}
 use Rattle.mari_market.specs.Sums.{sum_along}
 use Rattle.mari_settle.specs.Ledger.{bid_amount}

@@ -1,2 +1,5 @@
 pub mod Counts
 pub mod Parts
+pub mod Printed
+pub mod Numbers
+pub mod Unread

@@ -4,8 +4,10 @@
 //! one text, its lines are the lines of that publication, and each part of it can be made on its own.
 #![tactic(auto)]
 
+mod cut;
 mod fault;
 mod line;
+mod number;
 mod publication;
 mod spelling;
 mod text;

@@ -3,3 +3,4 @@ pub mod Parts
 pub mod Printed
 pub mod Numbers
 pub mod Unread
+pub mod Splits

@@ -1,7 +1,8 @@
 -- What it means to read something by its form: it is what is written so, or nothing is.
-use Rattle.std.specs.Prelude.{◌≡◌, ℕ, ◌+◌, ◌*◌, ◌-◌, ◌/◌, ◌^◌, min, Bool, true, not, ◌==◌, List, [], ◌∷◌, fold, if◌then◌else◌, ℤ, Result, Ok, Err, ⊤}
+use Rattle.std.specs.Prelude.{◌≡◌, ℕ, ◌+◌, ◌*◌, ◌-◌, ◌/◌, ◌^◌, min, Bool, true, not, ◌==◌, List, [], ◌∷◌, fold, Option, Some, None, if◌then◌else◌, ℤ, Result, Ok, Err, ⊤}
+use Rattle.std.specs.Borrow.{Bor}
 use Rattle.std.specs.Char.{is_ascii_digit}
-use Rattle.std.specs.List.{list_all}
+use Rattle.std.specs.List.{list_all, slice_split}
 use Rattle.mari_units.specs.Numbers.{has_minus, with_sign}
 use Rattle.mari_publish.specs.declared.fault.Unread.{Unread}
 use Rattle.mari_publish.specs.declared.fault.Unread.TheVariants as unread
@@ -15,6 +16,17 @@ Reads InItsRange written t (Err unread.Memory) = ⊤
 -- no byte is the separator
 abbrev pub Lacks : ℕ → List ℕ → Type 0
 Lacks separator bytes = list_all (λ b. not (b == separator)) bytes ≡ true
+
+-- the words of a text, with a space between two; none where the text has come to its end
+abbrev pub words_in : Option (Bor (List ℕ)) → List (List ℕ)
+words_in None = []
+words_in (Some text) = slice_split (λ b. b == 32) text.now
+
+-- the first word is that of x, and the others are left; or it is that of nothing in range; or memory ran out
+abbrev pub ReadsFirst : {X : Type 0} → (X → Type 0) → (X → List ℕ) → List (List ℕ) → List (List ℕ) → Result X Unread → Type 0
+ReadsFirst InItsRange written words left (Ok x) = InItsRange x × (words ≡ written x ∷ left)
+ReadsFirst InItsRange written words left (Err unread.Formless) = (x : _) (others : List (List ℕ)) → InItsRange x → words ≡ written x ∷ others → ⊥
+ReadsFirst InItsRange written words left (Err unread.Memory) = ⊤
 
 -- one byte more of a number: a digit is its last digit, and any other byte changes nothing
 abbrev pub with_byte : ℕ → ℕ → ℕ

@@ -12,6 +12,7 @@ mod publication;
 mod spelling;
 mod text;
 mod tree;
+mod words;
 mod write;
 
 pub use fault::TextFault;

@@ -1,13 +1,15 @@
-//! Numbers, prices and money as they are printed.
+//! Names, numbers, prices and money as they are printed.
 
 ghost use Rattle.std.specs.Prelude.{◌≡◌, ◌≤◌, ◌<◌, ◌^◌, ◌≤ℤ◌, ◌↔◌, IsTrue, min, ◌-◌, pos, neg_ℤ};
 ghost use Rattle.std.specs.Fmt.{decimal, signed_decimal};
-ghost use Rattle.mari_publish.specs.Ranges.{Between, Within, IsPriceLine, IsMoney};
+ghost use Rattle.mari_publish.specs.Ranges.{Between, Within, IsName, IsPriceLine, IsMoney};
 ghost use Rattle.mari_publish.specs.Spelling.{price_text, money_text};
 ghost use Rattle.mari_publish.specs.Reading.{Reads, digits_in as digits_of, value_in};
 
 use crate::fault::Unread;
-use mari_units::{CAP, Cents, Quarters, cents_text, euros_text, whole_text};
+use mari_units::{
+    CAP, Cents, Name, NameFault, Quarters, cents_text, euros_text, read_name, whole_text,
+};
 use std::alloc::Global;
 
 /// The number that the digits of a text write, or the greatest of 128 bits where it is greater.
@@ -123,4 +125,15 @@ pub fn read_money(alloc: Global, text: &[u8]) -> Result<Quarters, Unread>
         return Err(Unread::Formless);
     }
     Ok(money)
+}
+
+/// The name that is written so.
+pub fn read_name_text(alloc: Global, text: &[u8]) -> Result<Name, Unread>
+    ensures { Reads IsName (λ name. name) text.now result }
+{
+    match read_name(alloc, text) {
+        Ok(name) => Ok(name),
+        Err(NameFault::NotAName) => Err(Unread::Formless),
+        Err(NameFault::Memory) => Err(Unread::Memory),
+    }
 }

@@ -22,6 +22,11 @@ abbrev pub kind_text : Bool → List ℕ
 kind_text true = codes "direct"
 kind_text false = codes "scheduled"
 
+-- whether a run is published
+abbrev pub published_text : Bool → List ℕ
+published_text true = codes "published"
+published_text false = codes "unpublished"
+
 -- whether a cut's zones have too much energy, or too little
 abbrev pub side_text : CutSide → List ℕ
 side_text Out = codes "out"
@@ -78,8 +83,8 @@ amount_fields a = a.name ∷ money_text a.amount ∷ []
 -- what stands behind the first word
 abbrev pub fields : Line → List (List ℕ)
 fields (line.Head date quarters budget) = codes "1" ∷ date ∷ decimal quarters ∷ decimal budget ∷ []
-fields (line.Run heading) = heading_fields heading ++ codes "published" ∷ []
-fields (line.Unpublished heading count) = heading_fields heading ++ codes "unpublished" ∷ decimal count ∷ []
+fields (line.Run heading) = heading_fields heading ++ published_text true ∷ []
+fields (line.Unpublished heading count) = heading_fields heading ++ published_text false ∷ decimal count ∷ []
 fields (line.Welfare welfare) = decimal welfare ∷ []
 fields (line.Zone z) = z.name ∷ price_text z.price ∷ price_text z.least ∷ price_text z.greatest ∷ decimal z.area ∷ []
 fields (line.Border b) = b.from ∷ b.to ∷ signed_decimal b.flow ∷ money_text b.rent ∷ []

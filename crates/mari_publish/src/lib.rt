@@ -7,6 +7,7 @@
 mod cut;
 mod fault;
 mod line;
+mod line_reading;
 mod number;
 mod publication;
 mod spelling;

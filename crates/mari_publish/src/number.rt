@@ -1,8 +1,10 @@
 //! Names, numbers, prices and money as they are printed.
 
 ghost use Rattle.std.specs.Prelude.{◌≡◌, ◌≤◌, ◌<◌, ◌^◌, ◌≤ℤ◌, ◌↔◌, IsTrue, min, ◌-◌, pos, neg_ℤ};
+ghost use Rattle.std.specs.Char.{is_ascii_digit};
+ghost use Rattle.std.specs.List.{list_all};
 ghost use Rattle.std.specs.Fmt.{decimal, signed_decimal};
-ghost use Rattle.mari_publish.specs.Ranges.{Between, Within, IsName, IsPriceLine, IsMoney};
+ghost use Rattle.mari_publish.specs.Ranges.{Between, Within, IsName, IsDate, IsPriceLine, IsMoney, is_date as is_date_text};
 ghost use Rattle.mari_publish.specs.Spelling.{price_text, money_text};
 ghost use Rattle.mari_publish.specs.Reading.{Reads, digits_in as digits_of, value_in};
 
@@ -40,7 +42,7 @@ fn value_of(text: &[u8], unit: u128) -> i128
 }
 
 /// Whether both are the same bytes.
-fn is_same(text: &[u8], other: &[u8]) -> bool
+pub fn is_same(text: &[u8], other: &[u8]) -> bool
     ensures { IsTrue result ↔ (text.now ≡ other.now) }
 {
     text == other
@@ -135,5 +137,34 @@ pub fn read_name_text(alloc: Global, text: &[u8]) -> Result<Name, Unread>
         Ok(name) => Ok(name),
         Err(NameFault::NotAName) => Err(Unread::Formless),
         Err(NameFault::Memory) => Err(Unread::Memory),
+    }
+}
+
+fn all_digits(text: &[u8]) -> bool
+    ensures { result ≡ list_all is_ascii_digit text.now }
+{
+    text.iter().all(|byte| byte.is_ascii_digit())
+}
+
+/// Whether a text has the form of a date.
+fn is_date(text: &[u8]) -> bool
+    ensures { result ≡ is_date_text text.now }
+{
+    text.len() == 10
+        && all_digits(&text[..4])
+        && text[4] == b'-'
+        && all_digits(&text[5..7])
+        && text[7] == b'-'
+        && all_digits(&text[8..])
+}
+
+/// The date that is written so.
+pub fn read_date(alloc: Global, text: &[u8]) -> Result<Name, Unread>
+    ensures { Reads IsDate (λ date. date) text.now result }
+{
+    if is_date(text) {
+        read_name_text(alloc, text)
+    } else {
+        Err(Unread::Formless)
     }
 }

@@ -1,16 +1,20 @@
 //! The words of a line, read one after the other.
 
-ghost use Rattle.std.specs.Prelude.{◌≡◌, ◌≢◌, ◌==◌, ◌∷◌, [], ◌<◌, ◌^◌, MatchOption, MatchResult};
+ghost use Rattle.std.specs.Prelude.{◌≡◌, ◌≢◌, ◌==◌, ◌∷◌, [], ◌<◌, ◌^◌, MatchOption, MatchResult, codes, ⊤};
 ghost use Rattle.std.specs.List.{slice_split};
 ghost use Rattle.std.specs.Fmt.{decimal, signed_decimal};
-ghost use Rattle.mari_publish.specs.Ranges.{Between, Within, IsName, IsPriceLine, IsMoney};
-ghost use Rattle.mari_publish.specs.Spelling.{price_text, money_text};
+ghost use Rattle.mari_publish.specs.Ranges.{Between, Within, IsName, IsDate, IsPriceLine, IsMoney};
+ghost use Rattle.mari_publish.specs.Spelling.{price_text, money_text, kind_text, published_text, side_text};
 ghost use Rattle.mari_publish.specs.Reading.{ReadsFirst};
 ghost use Rattle.mari_publish.specs.declared.fault.Unread.TheVariants as unread;
 
 use crate::cut::cut;
 use crate::fault::Unread;
-use crate::number::{read_flow, read_money, read_name_text, read_number, read_price, read_welfare};
+use crate::number::{
+    is_same, read_date, read_flow, read_money, read_name_text, read_number, read_price,
+    read_welfare,
+};
+use mari_market::CutSide;
 use mari_units::{Cents, Name, Quarters};
 use std::alloc::Global;
 use std::marker::Model;
@@ -121,5 +125,66 @@ impl<'a> Words<'a> {
     {
         let word = self.word()?;
         read_money(alloc, word)
+    }
+
+    /// Takes a date.
+    pub fn date(&mut self, alloc: Global) -> Result<Name, Unread>
+        ensures { ReadsFirst IsDate (λ date. date) self.old self.new result }
+    {
+        let word = self.word()?;
+        read_date(alloc, word)
+    }
+
+    /// Takes the number of the format, which is 1.
+    pub fn version(&mut self) -> Result<(), Unread>
+        ensures { ReadsFirst (λ _. ⊤) (λ _. codes "1") self.old self.new result }
+    {
+        let word = self.word()?;
+        if is_same(word, b"1") {
+            return Ok(());
+        }
+        Err(Unread::Formless)
+    }
+
+    /// Takes a run's kind: whether it is a direct run.
+    pub fn direct(&mut self) -> Result<bool, Unread>
+        ensures { ReadsFirst (λ _. ⊤) kind_text self.old self.new result }
+    {
+        let word = self.word()?;
+        if is_same(word, b"direct") {
+            return Ok(true);
+        }
+        if is_same(word, b"scheduled") {
+            return Ok(false);
+        }
+        Err(Unread::Formless)
+    }
+
+    /// Takes the word that says whether a run is published.
+    pub fn published(&mut self) -> Result<bool, Unread>
+        ensures { ReadsFirst (λ _. ⊤) published_text self.old self.new result }
+    {
+        let word = self.word()?;
+        if is_same(word, b"published") {
+            return Ok(true);
+        }
+        if is_same(word, b"unpublished") {
+            return Ok(false);
+        }
+        Err(Unread::Formless)
+    }
+
+    /// Takes the side of a cut.
+    pub fn side(&mut self) -> Result<CutSide, Unread>
+        ensures { ReadsFirst (λ _. ⊤) side_text self.old self.new result }
+    {
+        let word = self.word()?;
+        if is_same(word, b"out") {
+            return Ok(CutSide::Out);
+        }
+        if is_same(word, b"in") {
+            return Ok(CutSide::In);
+        }
+        Err(Unread::Formless)
     }
 }

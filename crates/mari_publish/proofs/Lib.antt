@@ -4,3 +4,4 @@ pub mod Printed
 pub mod Numbers
 pub mod Unread
 pub mod Splits
+pub mod Gathered

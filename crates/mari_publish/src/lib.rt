@@ -8,6 +8,7 @@ mod cut;
 mod fault;
 mod line;
 mod line_reading;
+mod lists;
 mod number;
 mod publication;
 mod spelling;

@@ -4,8 +4,8 @@ ghost use Rattle.std.specs.Prelude.{◌≡◌, ◌≤◌, ◌<◌, ◌^◌, ◌�
 ghost use Rattle.std.specs.Char.{is_ascii_digit};
 ghost use Rattle.std.specs.List.{list_all};
 ghost use Rattle.std.specs.Fmt.{decimal, signed_decimal};
-ghost use Rattle.mari_publish.specs.Ranges.{Between, Within, IsName, IsDate, IsPriceLine, IsMoney, is_date as is_date_text};
-ghost use Rattle.mari_publish.specs.Spelling.{price_text, money_text};
+ghost use Rattle.mari_publish.specs.Ranges.{Between, Within, IsName, IsDate, IsPriceLine, IsMoney, IsZone, is_date as is_date_text};
+ghost use Rattle.mari_publish.specs.Spelling.{price_text, money_text, zone_text};
 ghost use Rattle.mari_publish.specs.Reading.{Reads, digits_in as digits_of, value_in};
 
 use crate::fault::Unread;
@@ -167,4 +167,12 @@ pub fn read_date(alloc: Global, text: &[u8]) -> Result<Name, Unread>
     } else {
         Err(Unread::Formless)
     }
+}
+
+/// The zone that is written so: its number from 0.
+pub fn read_zone_number(alloc: Global, text: &[u8]) -> Result<u32, Unread>
+    ensures { Reads IsZone zone_text text.now result }
+{
+    let zone = read_number(alloc, text, 1, 64)?;
+    Ok(zone - 1)
 }

@@ -1,0 +1,14 @@
+use Rattle.std.proofs.Common.{[], ◌∷◌}
+use Rattle.std.specs.Fmt.{decimal, signed_decimal}
+use Rattle.std.proofs.lemmas.Result.{err_from_is_err_and}
+use Rattle.mari_publish.specs.Spelling.{price_text, money_text}
+use Rattle.mari_publish.proofs.Unread.{word_unread}
+use Rattle.mari_publish.proofs.line_reading.read_head.Goals as goal
+
+pub returns-in_err-quarters : goal.returns-in_err-quarters
+returns-in_err-quarters c = word_unread _ _ _ [] _ _ c.args.words.now _ c.from_residual-in_err-quarters.result (err_from_is_err_and c.from_residual-in_err-quarters.result c.from_residual-in_err-quarters.ensures.1) c.in_err-quarters.ensures
+    (λ z r e. (z.1, decimal z.2 ∷ [], r.1, cc (e, c.in_ok-version.ensures.1, c.in_ok-date.ensures.1)))
+
+pub returns-in_err-budget : goal.returns-in_err-budget
+returns-in_err-budget c = word_unread _ _ _ [] _ _ c.args.words.now _ c.from_residual-in_err-budget.result (err_from_is_err_and c.from_residual-in_err-budget.result c.from_residual-in_err-budget.ensures.1) c.in_err-budget.ensures
+    (λ z r e. (z.2, [], r.2, cc (e, c.in_ok-version.ensures.1, c.in_ok-date.ensures.1, c.in_ok-quarters.ensures.1)))

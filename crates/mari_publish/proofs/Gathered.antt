@@ -1,11 +1,15 @@
 -- A list that is gathered from words, one of each word.
-use Rattle.std.proofs.Common.{◌≡◌, ◌≤◌, ◌<◌, ℕ, suc, zero, ◌+◌, List, [], ◌∷◌, ◌++◌, map, length, get_or, Result, Ok, Err, refl, sym, ap, ◌∙◌, arith, append_assoc, length-append}
+use Rattle.std.proofs.Common.{◌≡◌, ◌≤◌, ◌<◌, ℕ, suc, zero, ◌+◌, ◌^◌, List, [], ◌∷◌, ◌++◌, map, length, get_or, Result, Ok, Err, refl, sym, ap, ◌∙◌, arith, append_assoc, length-append}
 use Rattle.std.specs.List.{All}
+use Rattle.std.specs.Fmt.{decimal}
+use Rattle.std.proofs.lemmas.Fmt.{decimal_injective}
+use Rattle.mari_market.specs.Cut.{IsRising}
 use Rattle.std.proofs.lemmas.List.{append-nil, map-append}
 use Rattle.std.proofs.lemmas.List.Elements.{All-nil, All-append}
 use Rattle.mari_publish.specs.declared.fault.Unread.{Unread}
 use Rattle.mari_publish.specs.declared.fault.Unread.TheVariants as unread
-use Rattle.mari_publish.specs.Ranges.{Listed}
+use Rattle.mari_publish.specs.Ranges.{Listed, IsZone}
+use Rattle.mari_publish.specs.Spelling.{zone_text}
 use Rattle.mari_publish.specs.Reading.{Reads}
 use Rattle.mari_publish.proofs.Unread.{part_unread, handed_on}
 
@@ -65,3 +69,30 @@ begun_few R f least most xs all b lt ys r same =
 
 pub begun_whole : {X : Type 0} (R : X → Type 0) (f : X → List ℕ) (least most : ℕ) (xs : List X) (all : List (List ℕ)) → Begun R f most xs [] all → least ≤ length xs → Listed least most R xs × (map f xs ≡ all)
 begun_whole R f least most xs all b le = (((le, b.few), b.ranges), sym (append-nil (map f xs)) ∙ sym b.whole)
+
+-- lists whose items are written alike are the same
+pub same_list : {X : Type 0} (R : X → Type 0) (f : X → List ℕ) → ((x y : X) → R x → R y → f x ≡ f y → x ≡ y) → (xs ys : List X) → All R xs → All R ys → map f xs ≡ map f ys → xs ≡ ys
+same_list R f inj [] [] a b e = refl
+same_list R f inj [] (y ∷ ys) a b e = absurd cc
+same_list R f inj (x ∷ xs) [] a b e = absurd cc
+same_list R f inj (x ∷ xs) (y ∷ ys) a b e =
+    let first : f x ≡ f y = cc in
+    let rest : map f xs ≡ map f ys = cc in
+    let same : x ≡ y = inj x y (head_of R x xs a) (head_of R y ys b) first in
+    let more = same_list R f inj xs ys (tail_of R x xs a) (tail_of R y ys b) rest in
+    cc
+
+pub same_number : (m n : ℕ) → m < 2 ^ 64 → n < 2 ^ 64 → decimal m ≡ decimal n → m ≡ n
+same_number m n lm ln e = decimal_injective m n lm ln e
+
+pub same_zone : (m n : ℕ) → m < 64 → n < 64 → zone_text m ≡ zone_text n → m ≡ n
+same_zone m n lm ln e = let same : m + 1 ≡ n + 1 = decimal_injective (m + 1) (n + 1) (omega arith) (omega arith) e in omega arith
+
+cons_all : {X : Type 0} (R : X → Type 0) (x : X) (xs : List X) → R x → All R xs → All R (x ∷ xs)
+cons_all R x xs r a zero d lt = r
+cons_all R x xs r a (suc k) d lt = a k d (omega arith)
+
+-- zones that rise below 64 are zones
+pub rising_zones : (least : ℕ) (zs : List ℕ) → IsRising least 64 zs → All IsZone zs
+rising_zones least [] r = All-nil IsZone
+rising_zones least (z ∷ zs) r = cons_all IsZone z zs r.1 (rising_zones (z + 1) zs r.2)

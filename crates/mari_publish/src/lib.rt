@@ -6,6 +6,7 @@
 
 mod cut;
 mod fault;
+mod keyword;
 mod line;
 mod line_reading;
 mod lists;

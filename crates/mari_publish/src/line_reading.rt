@@ -3,12 +3,14 @@
 ghost use Rattle.std.specs.Prelude.{◌≡◌, ◌↔◌, ◌∷◌, [], IsTrue};
 ghost use Rattle.mari_market.specs.Cut.{IsRising};
 ghost use Rattle.mari_publish.specs.Ranges.{InRange, IsMoneyLine, IsAmountLine};
-ghost use Rattle.mari_publish.specs.Spelling.{fields, money_fields, amount_fields};
+ghost use Rattle.mari_publish.specs.Spelling.{fields, money_fields, amount_fields, spelling, keyword_of as keyword_of_line};
 ghost use Rattle.mari_publish.specs.Reading.{Reads};
 ghost use Rattle.mari_publish.specs.declared.line.Line.TheVariants as line;
 
 use crate::fault::Unread;
-use crate::lists::read_zones;
+use crate::keyword::keyword_of;
+use crate::line::{Keyword, Line};
+use crate::lists::{read_flows, read_mws, read_prices, read_zones};
 use crate::publication::{AmountLine, BidLine, BorderLine, Heading, MoneyLine, ZoneLine};
 use crate::words::Words;
 use mari_market::Cut;
@@ -171,4 +173,81 @@ fn read_cut(alloc: Global, words: &mut Words<'_>) -> Result<Cut, Unread>
         return Err(Unread::Formless);
     }
     Ok(Cut { side, zones })
+}
+
+/// What stands behind `run`.
+fn read_run(alloc: Global, words: &mut Words<'_>) -> Result<Line, Unread>
+    ensures { Reads (λ l. InRange l × (keyword_of_line l ≡ Keyword.Run)) fields words.old result }
+{
+    let run = words.number(alloc, 1, 1_000)?;
+    let quarter = words.number(alloc, 1, 400)?;
+    let direct = words.direct()?;
+    let published = words.published()?;
+    let heading = Heading {
+        run,
+        quarter,
+        direct,
+    };
+    if published {
+        words.end()?;
+        return Ok(Line::Run(heading));
+    }
+    let count = words.number(alloc, 1, 50_000)?;
+    words.end()?;
+    Ok(Line::Unpublished(heading, count))
+}
+
+/// What stands behind a line's first word.
+fn read_fields(alloc: Global, keyword: Keyword, words: &mut Words<'_>) -> Result<Line, Unread>
+    ensures { Reads (λ l. InRange l × (keyword_of_line l ≡ keyword)) fields words.old result }
+{
+    match keyword {
+        Keyword::Mari => {
+            let (date, quarters, budget) = read_head(alloc, words)?;
+            Ok(Line::Head(date, quarters, budget))
+        }
+        Keyword::Run => read_run(alloc, words),
+        Keyword::Welfare => Ok(Line::Welfare(read_welfare(alloc, words)?)),
+        Keyword::Zone => Ok(Line::Zone(read_zone(alloc, words)?)),
+        Keyword::Border => Ok(Line::Border(read_border(alloc, words)?)),
+        Keyword::Bid => Ok(Line::Bid(read_bid(alloc, words)?)),
+        Keyword::Demand => {
+            let (place, mw) = read_demand(alloc, words)?;
+            Ok(Line::Demand(place, mw))
+        }
+        Keyword::Tree => Ok(Line::Tree(read_tree(alloc, words)?)),
+        Keyword::Branch => {
+            words.end()?;
+            Ok(Line::Branch)
+        }
+        Keyword::Bound => Ok(Line::Bound(read_prices(alloc, words)?)),
+        Keyword::Cut => Ok(Line::Cut(read_cut(alloc, words)?)),
+        Keyword::Conflict => Ok(Line::Conflict(read_zones(alloc, words)?)),
+        Keyword::At => Ok(Line::At(read_prices(alloc, words)?)),
+        Keyword::Flows => Ok(Line::Flows(read_flows(alloc, words)?)),
+        Keyword::Mws => Ok(Line::Mws(read_mws(alloc, words)?)),
+        Keyword::Operator => Ok(Line::Operator(read_operator(alloc, words)?)),
+        Keyword::Provider => Ok(Line::Provider(read_provider(alloc, words)?)),
+        Keyword::End => Ok(Line::End(read_end(alloc, words)?)),
+        Keyword::TotalOperator => Ok(Line::TotalOperator(read_operator(alloc, words)?)),
+        Keyword::TotalProvider => Ok(Line::TotalProvider(read_provider(alloc, words)?)),
+        Keyword::Done => {
+            let (published, unpublished) = read_done(alloc, words)?;
+            Ok(Line::Done(published, unpublished))
+        }
+    }
+}
+
+/// The line that is spelled so.
+pub fn read_line(alloc: Global, text: &[u8]) -> Result<Line, Unread>
+    ensures { Reads InRange spelling text.now result }
+{
+    let mut words = Words::of(text);
+    let Some(first) = words.next_word() else {
+        return Err(Unread::Formless);
+    };
+    let Some(keyword) = keyword_of(first) else {
+        return Err(Unread::Formless);
+    };
+    read_fields(alloc, keyword, &mut words)
 }

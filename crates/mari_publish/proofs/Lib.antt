@@ -5,3 +5,5 @@ pub mod Numbers
 pub mod Unread
 pub mod Splits
 pub mod Gathered
+pub mod Graphic
+pub mod FirstWords

@@ -11,13 +11,13 @@ use Rattle.std.proofs.lemmas.Fmt.{digits_decimal, digits_value-decimal, decimal_
 use Rattle.mari_units.specs.Numbers.{has_minus, sign_of, printed_cents, printed_euros, printed_ten_thousandths}
 use Rattle.mari_publish.specs.Reading.{with_byte, digits_in}
 
-abbrev AreDigits : List ℕ → Type 0
+abbrev pub AreDigits : List ℕ → Type 0
 AreDigits ds = list_all is_ascii_digit ds ≡ true
 
-abbrev value_from : ℕ → List ℕ → ℕ
+abbrev pub value_from : ℕ → List ℕ → ℕ
 value_from a ds = fold (λ n d. 10 * n + (d - 48)) a ds
 
-own : IsNumeralModel AreDigits (value_from 0)
+pub own : IsNumeralModel AreDigits (value_from 0)
 own = numerals_by_fold AreDigits (search rules) value_from (search rules)
 
 pub and_parts : (a b : Bool) → (a && b) ≡ true → (a ≡ true) × (b ≡ true)

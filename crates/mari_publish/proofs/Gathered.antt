@@ -34,10 +34,10 @@ begun_more R f most xs w left all x b r e lt = record {
   few = let n = length-append xs (x ∷ []) in omega (arith, n);
 }
 
-head_of : {X : Type 0} (R : X → Type 0) (x : X) (xs : List X) → All R (x ∷ xs) → R x
+pub head_of : {X : Type 0} (R : X → Type 0) (x : X) (xs : List X) → All R (x ∷ xs) → R x
 head_of R x xs a = a 0 x (omega arith)
 
-tail_of : {X : Type 0} (R : X → Type 0) (x : X) (xs : List X) → All R (x ∷ xs) → All R xs
+pub tail_of : {X : Type 0} (R : X → Type 0) (x : X) (xs : List X) → All R (x ∷ xs) → All R xs
 tail_of R x xs a k d lt = a (suc k) d (omega arith)
 
 -- the one that is written as the word behind those before it

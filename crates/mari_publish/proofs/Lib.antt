@@ -7,3 +7,4 @@ pub mod Splits
 pub mod Gathered
 pub mod Graphic
 pub mod FirstWords
+pub mod LineWords

@@ -12,4 +12,5 @@ returns-in_err-published c = word_unread _ _ _ [] _ fields c.args.words.now _ c.
 
 pub returns-in_err-count : goal.returns-in_err-count
 returns-in_err-count c = word_unread _ _ _ [] _ fields c.args.words.now _ c.from_residual-in_err-count.result (err_from_is_err_and c.from_residual-in_err-count.result c.from_residual-in_err-count.ensures.1) c.in_err-count.ensures
-    (λ l r e. ?)
+    (λ l r e. count_part l c.args.words.now c.published.new.self (decimal c.in_ok-run.run') (decimal c.in_ok-quarter.quarter) (kind_text c.in_ok-direct.direct) r.0 r.1 e
+    (cc (c.in_ok-run.ensures.1, c.in_ok-quarter.ensures.1, c.in_ok-direct.ensures.1, c.in_ok-published.ensures.1, ap published_text c.if-published.false)))

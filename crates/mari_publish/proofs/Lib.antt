@@ -8,3 +8,4 @@ pub mod Gathered
 pub mod Graphic
 pub mod FirstWords
 pub mod LineWords
+pub mod SameLine

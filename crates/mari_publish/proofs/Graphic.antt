@@ -82,7 +82,7 @@ pub split_spaced : (w : List ℕ) (ws : List (List ℕ)) → IsGraphic w → All
 split_spaced w [] g a = ap (λ (bs : List ℕ). slice_split (λ b. eqb b 32) bs) (append-nil w) ∙ only_split 32 w (lacks_space w g)
 split_spaced w (v ∷ vs) g a = first_split 32 w (v ++ spaced vs) (lacks_space w g) ∙ ap (λ (us : List (List ℕ)). w ∷ us) (split_spaced v vs a.0 a.1)
 
-abbrev spelled : List (List ℕ) → List ℕ
+abbrev pub spelled : List (List ℕ) → List ℕ
 spelled [] = []
 spelled (w ∷ ws) = w ++ spaced ws
 

@@ -20,9 +20,14 @@ use Rattle.mari_publish.specs.declared.publication.BidLine.{BidLine}
 use Rattle.mari_publish.specs.declared.publication.MoneyLine.{MoneyLine}
 use Rattle.mari_publish.specs.declared.publication.AmountLine.{AmountLine}
 use Rattle.mari_publish.specs.Ranges.{InRange, IsHeading, Between, Within, IsMoney, IsMoneyLine, IsAmountLine, IsZone, IsPriceLine}
-use Rattle.mari_publish.specs.Spelling.{fields, keyword_of, keyword_text, spelling, price_text, money_text, money_fields, amount_fields, heading_fields, zone_text, side_text, kind_text}
+use Rattle.mari_publish.specs.Spelling.{spaced, fields, keyword_of, keyword_text, spelling, price_text, money_text, money_fields, amount_fields, heading_fields, zone_text, side_text, kind_text}
 use Rattle.mari_publish.proofs.Numbers.{same_whole, same_price, same_money}
 use Rattle.mari_publish.proofs.Gathered.{same_list, same_zone, same_number, rising_zones}
+use Rattle.mari_publish.specs.declared.fault.Unread.{Unread}
+use Rattle.mari_publish.specs.declared.fault.Unread.TheVariants as unread
+use Rattle.mari_publish.specs.Reading.{Reads}
+use Rattle.mari_publish.proofs.Graphic.{spelled, spelled_split}
+use Rattle.mari_publish.proofs.Splits.{some_words}
 use Rattle.mari_publish.proofs.LineWords.{small_price, words_of_line}
 
 -- a number for each first word, and the first word of a number
@@ -217,3 +222,26 @@ same_line l m r s e =
     let first : keyword_text (keyword_of l) ≡ keyword_text (keyword_of m) = cc in
     let others : fields l ≡ fields m = cc in
     same_fields l m r s (same_keyword (keyword_of l) (keyword_of m) first) others
+
+-- a line whose first word and fields were read
+pub line_read : (keyword : Keyword) (text w : List ℕ) (ws : List (List ℕ)) (result : Result Line Unread) → slice_split (λ b. eqb b 32) text ≡ w ∷ ws → keyword_text keyword ≡ w
+    → Reads (λ l. InRange l × (keyword_of l ≡ keyword)) fields ws result → Reads InRange spelling text result
+unfolding spelling
+line_read keyword text w ws (Ok l) split k r =
+    (r.0.0, ap (λ (v : List ℕ). v ++ spaced (fields l)) (ap keyword_text r.0.1 ∙ k) ∙ ap (λ (vs : List (List ℕ)). w ++ spaced vs) r.1 ∙ sym (ap spelled split) ∙ spelled_split text)
+line_read keyword text w ws (Err unread.Formless) split k r = λ l range e.
+    let words : keyword_text (keyword_of l) ∷ fields l ≡ w ∷ ws = sym (words_of_line l range) ∙ ap (λ (t : List ℕ). slice_split (λ b. eqb b 32) t) e ∙ split in
+    let first : keyword_text (keyword_of l) ≡ w = cc in
+    let others : fields l ≡ ws = cc in
+    r l (range, same_keyword (keyword_of l) keyword (first ∙ sym k)) others
+line_read keyword text w ws (Err unread.Memory) split k r = tt
+
+-- a text without words, and one with another first word
+pub no_words : (text : List ℕ) → slice_split (λ b. eqb b 32) text ≡ [] → ⊥
+no_words text e = some_words 32 text e
+
+pub no_keyword : (text w : List ℕ) (ws : List (List ℕ)) → slice_split (λ b. eqb b 32) text ≡ w ∷ ws → ((k : Keyword) → keyword_text k ≡ w → ⊥) → (l : Line) → InRange l → spelling l ≡ text → ⊥
+no_keyword text w ws split none l range e =
+    let words : keyword_text (keyword_of l) ∷ fields l ≡ w ∷ ws = sym (words_of_line l range) ∙ ap (λ (t : List ℕ). slice_split (λ b. eqb b 32) t) e ∙ split in
+    let first : keyword_text (keyword_of l) ≡ w = cc in
+    none (keyword_of l) first

@@ -2,3 +2,4 @@ pub mod Lines
 pub mod Reading
 pub mod Ranges
 pub mod Spelling
+pub mod Order

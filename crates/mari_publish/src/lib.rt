@@ -6,6 +6,8 @@
 
 mod cut;
 mod fault;
+mod follow;
+mod held;
 mod keyword;
 mod line;
 mod line_reading;

@@ -9,3 +9,4 @@ pub mod Graphic
 pub mod FirstWords
 pub mod LineWords
 pub mod SameLine
+pub mod Steps

@@ -1,9 +1,12 @@
 -- Which line may follow what has come, and what has come then.
-use Rattle.std.specs.Prelude.{◌≡◌, ℕ, ◌+◌, ◌<◌, Bool, true, false, ◌&&◌, List, [], ◌∷◌, ◌++◌, map, length, nat_lt, ◌==◌, Option, Some, None, Result, Ok, Err, if◌then◌else◌, ⊤}
+use Rattle.std.specs.Prelude.{◌≡◌, ℕ, ◌+◌, ◌<◌, Bool, true, false, ◌&&◌, List, [], ◌∷◌, ◌++◌, map, length, nat_lt, ◌==◌, Option, Some, None, Result, Ok, Err, if◌then◌else◌, ⊤, ℤ}
 use Rattle.std.specs.List.{flat_map}
+use Rattle.mari_units.specs.declared.numbers.Cents.{Cents}
 use Rattle.mari_market.specs.declared.certificate.Leaf.TheVariants as leaves
 use Rattle.mari_market.specs.declared.certificate.TreeItem.{TreeItem}
 use Rattle.mari_market.specs.declared.certificate.TreeItem.TheVariants as items
+use Rattle.mari_publish.specs.declared.publication.AmountLine.{AmountLine}
+use Rattle.mari_publish.specs.declared.publication.MoneyLine.{MoneyLine}
 use Rattle.mari_publish.specs.declared.publication.Publication.{Publication}
 use Rattle.mari_publish.specs.declared.publication.Block.{Block}
 use Rattle.mari_publish.specs.declared.publication.Block.TheVariants as block
@@ -82,6 +85,10 @@ after_listing b (line.Tree n) = if nat_lt 0 (length b.zones)
     then Some (held.Growing (record { listing = b; count = n; tree = []; pending = Nothing })) else None
 after_listing b _ = None
 
+-- the item of a conflict's four lines
+abbrev pub conflict_item : List ℕ → List Cents → List ℤ → List ℕ → TreeItem
+conflict_item zones prices flows mws = items.Leaf (leaves.Conflict (record { chain = zones; potentials = record { cents = prices }; activation = record { mw = mws; flow = flows } }))
+
 -- in a tree: an item where one is due, and behind the last one an operator
 abbrev pub after_growing : Growing → Pending → Line → Option Held
 after_growing g Nothing line.Branch = if nat_lt (length g.tree) g.count then Some (with_item g items.Branch) else None
@@ -93,7 +100,7 @@ after_growing g Nothing (line.Operator o) = if length g.tree == g.count
 after_growing g (Zones zones) (line.At prices) = Some (with_pending g (At zones prices))
 after_growing g (At zones prices) (line.Flows flows) = Some (with_pending g (Flows zones prices flows))
 after_growing g (Flows zones prices flows) (line.Mws mws) =
-    Some (with_item g (items.Leaf (leaves.Conflict (record { chain = zones; potentials = record { cents = prices }; activation = record { mw = mws; flow = flows } }))))
+    Some (with_item g (conflict_item zones prices flows mws))
 after_growing g _ _ = None
 
 abbrev pub full_block : Ending → Block
@@ -130,6 +137,12 @@ starts_block k (line.Unpublished h count) = if nat_lt (k.published + k.unpublish
 starts_block k (line.TotalOperator o) = keeps k (Some (held.Totals (o ∷ []) []))
 starts_block k _ = None
 
+-- in the totals: operators, and then providers
+abbrev pub after_totals : List MoneyLine → List AmountLine → Line → Option Held
+after_totals os ps (line.TotalOperator o) = if empty ps && nat_lt (length os) 64 then Some (held.Totals (os ++ o ∷ []) ps) else None
+after_totals os ps (line.TotalProvider p) = if nat_lt (length ps) 1638400 then Some (held.Totals os (ps ++ p ∷ [])) else None
+after_totals os ps _ = None
+
 -- what is kept after a line, and the part that is whole with it
 abbrev pub after : Kept → Held → Line → Option (Kept × Option Part)
 after k held.Start (line.Head date quarters budget) = Some (record { held = held.Between; published = k.published; unpublished = k.unpublished }, Some (part.Head date quarters budget))
@@ -140,10 +153,9 @@ after k (held.Growing g) l = keeps k (after_growing g g.pending l)
 after k (held.Ending e) (line.End run) = if run == e.listing.heading.run
     then Some (record { held = held.Between; published = k.published + 1; unpublished = k.unpublished }, Some (part.Block (full_block e))) else None
 after k (held.Ending e) l = keeps k (after_ending e l)
-after k (held.Totals os ps) (line.TotalOperator o) = if empty ps && nat_lt (length os) 64 then keeps k (Some (held.Totals (os ++ o ∷ []) ps)) else None
-after k (held.Totals os ps) (line.TotalProvider p) = if nat_lt (length ps) 1638400 then keeps k (Some (held.Totals os (ps ++ p ∷ []))) else None
 after k (held.Totals os ps) (line.Done published unpublished) = if published == k.published && unpublished == k.unpublished
     then Some (record { held = held.Done; published = k.published; unpublished = k.unpublished }, Some (part.Totals os ps)) else None
+after k (held.Totals os ps) l = keeps k (after_totals os ps l)
 after k _ _ = None
 
 -- a publication with one part more

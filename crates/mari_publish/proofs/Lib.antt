@@ -10,3 +10,4 @@ pub mod FirstWords
 pub mod LineWords
 pub mod SameLine
 pub mod Steps
+pub mod Whole

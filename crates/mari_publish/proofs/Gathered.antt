@@ -88,7 +88,7 @@ same_number m n lm ln e = decimal_injective m n lm ln e
 pub same_zone : (m n : ℕ) → m < 64 → n < 64 → zone_text m ≡ zone_text n → m ≡ n
 same_zone m n lm ln e = let same : m + 1 ≡ n + 1 = decimal_injective (m + 1) (n + 1) (omega arith) (omega arith) e in omega arith
 
-cons_all : {X : Type 0} (R : X → Type 0) (x : X) (xs : List X) → R x → All R xs → All R (x ∷ xs)
+pub cons_all : {X : Type 0} (R : X → Type 0) (x : X) (xs : List X) → R x → All R xs → All R (x ∷ xs)
 cons_all R x xs r a zero d lt = r
 cons_all R x xs r a (suc k) d lt = a k d (omega arith)
 

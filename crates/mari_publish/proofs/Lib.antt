@@ -11,3 +11,4 @@ pub mod LineWords
 pub mod SameLine
 pub mod Steps
 pub mod Whole
+pub mod Fits

@@ -12,3 +12,4 @@ pub mod SameLine
 pub mod Steps
 pub mod Whole
 pub mod Fits
+pub mod Follows

@@ -3,3 +3,4 @@ pub mod Reading
 pub mod Ranges
 pub mod Spelling
 pub mod Order
+pub mod Faults

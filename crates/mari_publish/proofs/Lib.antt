@@ -13,3 +13,4 @@ pub mod Steps
 pub mod Whole
 pub mod Fits
 pub mod Follows
+pub mod Begun

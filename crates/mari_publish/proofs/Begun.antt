@@ -169,7 +169,7 @@ from_listing ls p k b [] is s fit =
     let no_demands : length b.demands ≡ 0 = none_of _ _ f.demand_later no_zones in
     let new : Listing = record { heading = b.heading; welfare = b.welfare; zones = b.zones ++ a_zone ∷ []; borders = b.borders; bids = b.bids; demands = b.demands } in
     let o : after_listing b (line.Zone a_zone) ≡ Some (held.Listing new) = if_true _ (held.Listing new)
-        (and_true _ _ (and_true _ _ (and_true _ _ (eq-eqb _ _ no_borders) (eq-eqb _ _ no_bids)) (eq-eqb _ _ no_demands)) (lt-ltb _ _ (omega (arith, no_zones)))) in
+    (and_true _ _ (and_true _ _ (and_true _ _ (eq-eqb _ _ no_borders) (eq-eqb _ _ no_bids)) (eq-eqb _ _ no_demands)) (lt-ltb _ _ (omega (arith, no_zones)))) in
     let len : length (b.zones ++ a_zone ∷ []) ≡ length b.zones + 1 = simp (length-append) in
     then_line ls p k (held.Listing b) (line.Zone a_zone) (kept_with k (held.Listing new), None) s fit (refl, free_price, free_price, free_price, (omega arith, omega arith)) (kept_some k _ (held.Listing new) o)
     (λ s2 fit2. from_zones (ls ++ line.Zone a_zone ∷ []) p (kept_with k (held.Listing new)) new s2 fit2 (omega (arith, len)))

@@ -114,7 +114,7 @@ full_in_range : (b : FullBlock) → FullFits b → Fit (full_lines b)
 full_in_range b f =
     let few = f.demands.0.1 in
     let market = all_join InRange (map line.Zone b.zones) _ (to_map line.Zone b.zones f.zones.1) (all_join InRange (map line.Border b.borders) _ (to_map line.Border b.borders f.borders.1)
-        (all_join InRange (map line.Bid b.bids) (demand_lines 1 b.demands) (to_map line.Bid b.bids f.bids.1) (to_demands 1 b.demands (omega arith) (omega (arith, few)) f.demands.1))) in
+    (all_join InRange (map line.Bid b.bids) (demand_lines 1 b.demands) (to_map line.Bid b.bids f.bids.1) (to_demands 1 b.demands (omega arith) (omega (arith, few)) f.demands.1))) in
     let run : Between 1 1000 b.heading.run = f.heading.0 in
     let ending = all_join InRange (map line.Operator b.operators) _ (to_map line.Operator b.operators f.operators.1) (all_join InRange (map line.Provider b.providers) (line.End b.heading.run ∷ []) (to_map line.Provider b.providers f.providers.1) (run, tt)) in
     (f.heading, (f.welfare, all_join InRange (market_lines b) (tree_lines b.tree ++ ending_lines b) market (all_join InRange (tree_lines b.tree) (ending_lines b) (f.tree.0, to_items b.tree f.tree.1) ending)))
@@ -131,10 +131,12 @@ pub lines_in_range : (p : Publication) → HasText p → Fit (lines_of p)
 lines_in_range p h =
     let c = counted p.blocks in
     let runs = h.totals.runs in
-    let done : InRange (line.Done (published_in p.blocks) (unpublished_in p.blocks)) = (omega (arith, c, runs), omega (arith, c, runs)) in
-    (h.head, all_join InRange (flat_map block_lines p.blocks) (closing_lines p) (blocks_in_range p.blocks h.blocks)
-    (all_join InRange (map line.TotalOperator p.operators) _ (to_map line.TotalOperator p.operators h.totals.operators.1)
-    (all_join InRange (map line.TotalProvider p.providers) _ (to_map line.TotalProvider p.providers h.totals.providers.1) (done, tt))))
+    let done : InRange (line.Done (published_in p.blocks) (unpublished_in p.blocks)) = (omega (arith, c, runs), omega (arith, c, runs)) in (
+      h.head,
+      all_join InRange (flat_map block_lines p.blocks) (closing_lines p) (blocks_in_range p.blocks h.blocks)
+          (all_join InRange (map line.TotalOperator p.operators) _ (to_map line.TotalOperator p.operators h.totals.operators.1)
+          (all_join InRange (map line.TotalProvider p.providers) _ (to_map line.TotalProvider p.providers h.totals.providers.1) (done, tt))),
+    )
 
 block_within : (b : Block) → BlockFits b → IsWithinLimits b
 block_within (block.Published b) f = (f.zones.0, f.borders.0.1, f.bids.0.1, f.operators.0, f.providers.0.1)

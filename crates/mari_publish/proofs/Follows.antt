@@ -183,10 +183,10 @@ ending_follows p m n b lb (o ∷ os) rest el eo some few =
     let ops = operators_follow p m n lb b.tree (o ∷ []) os tail (omega (arith, some.1)) in
     let provs = providers_follow p m n lb b.tree (o ∷ os) [] b.providers (line.End b.heading.run ∷ rest) (omega (arith, few)) in
     let is_b : ending lb b.tree (o ∷ os) b.providers ≡ ending (listing b.heading b.welfare b.zones b.borders b.bids b.demands) b.tree b.operators b.providers
-        = ap (λ x. ending x b.tree (o ∷ os) b.providers) el ∙ ap (λ (xs : List MoneyLine). ending (listing b.heading b.welfare b.zones b.borders b.bids b.demands) b.tree xs b.providers) eo in
+    = ap (λ x. ending x b.tree (o ∷ os) b.providers) el ∙ ap (λ (xs : List MoneyLine). ending (listing b.heading b.welfare b.zones b.borders b.bids b.demands) b.tree xs b.providers) eo in
     let made = ending (listing b.heading b.welfare b.zones b.borders b.bids b.demands) b.tree b.operators b.providers in
     let end = step p (at m n (held.Ending made)) (line.End b.heading.run) rest (at (m + 1) n held.Between, Some (part.Block (block.Published b)))
-        (if_true _ (at (m + 1) n held.Between, Some (part.Block (block.Published b))) (same b.heading.run)) in
+    (if_true _ (at (m + 1) n held.Between, Some (part.Block (block.Published b))) (same b.heading.run)) in
     start ∙ ops ∙ provs ∙ ap (λ x. after_all p (at m n (held.Ending x)) (line.End b.heading.run ∷ rest)) is_b ∙ end
 
 regrouped : (zs bs ds ms is os ps rest : List Line) (t e : Line)
@@ -226,7 +226,7 @@ block_follows p m n (block.Published b) rest within lt =
     let bids = bids_follow p m n b.heading b.welfare b.zones b.borders [] b.bids (ms ++ t4) some (omega (arith, within.2)) in
     let demands = demands_follow p m n b.heading b.welfare b.zones b.borders b.bids 1 [] b.demands t4 some (omega arith) in
     let tree = step p (at m n (held.Listing b4)) (line.Tree (length b.tree)) (is ++ t5) (at m n (held.Growing g0), None)
-        (kept_some (at m n (held.Listing b4)) _ (held.Growing g0) (if_true _ (held.Growing g0) (lt-ltb _ _ some))) in
+    (kept_some (at m n (held.Listing b4)) _ (held.Growing g0) (if_true _ (held.Growing g0) (lt-ltb _ _ some))) in
     let items = items_follow p m n b4 (length b.tree) [] b.tree t5 (omega arith) in
     let end = ending_follows p m n b b4 b.operators rest refl refl within.3 within.4 in
     run ∙ ap (λ (ls : List Line). after_all p (at m n (held.Listing b0)) ls) (regrouped zs bs ds ms is os ps rest (line.Tree (length b.tree)) (line.End b.heading.run))

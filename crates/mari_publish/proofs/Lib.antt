@@ -14,3 +14,4 @@ pub mod Whole
 pub mod Fits
 pub mod Follows
 pub mod Begun
+pub mod Progress

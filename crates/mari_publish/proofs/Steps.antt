@@ -257,27 +257,29 @@ ending_step p n (line.Operator o) h fits e =
     let room : length n.operators < 64 = ltb-true _ _ s.1 in
     let len = longer n.operators o in
     let lines : (ps : List AmountLine) → ps ≡ [] → listing_lines n.listing ++ line.Tree (length n.tree) ∷ (flat_map item_lines n.tree ++ (map line.Operator (n.operators ++ o ∷ []) ++ map line.Provider ps))
-        ≡ (listing_lines n.listing ++ line.Tree (length n.tree) ∷ (flat_map item_lines n.tree ++ (map line.Operator n.operators ++ map line.Provider ps))) ++ line.Operator o ∷ []
-        = λ ps none. subst (λ (qs : List AmountLine). listing_lines n.listing ++ line.Tree (length n.tree) ∷ (flat_map item_lines n.tree ++ (map line.Operator (n.operators ++ o ∷ []) ++ map line.Provider qs))
-        ≡ (listing_lines n.listing ++ line.Tree (length n.tree) ∷ (flat_map item_lines n.tree ++ (map line.Operator n.operators ++ map line.Provider qs))) ++ line.Operator o ∷ []) (sym none)
-        (ap (λ (xs : List Line). listing_lines n.listing ++ line.Tree (length n.tree) ∷ (flat_map item_lines n.tree ++ xs)) (push_nil (λ x. line.Operator x) n.operators o)
-        ∙ more_pending (listing_lines n.listing) (line.Tree (length n.tree)) (flat_map item_lines n.tree) (map line.Operator n.operators ++ []) (line.Operator o)) in
+    ≡ (listing_lines n.listing ++ line.Tree (length n.tree) ∷ (flat_map item_lines n.tree ++ (map line.Operator n.operators ++ map line.Provider ps))) ++ line.Operator o ∷ []
+    = λ ps none. subst (λ (qs : List AmountLine). listing_lines n.listing ++ line.Tree (length n.tree) ∷ (flat_map item_lines n.tree ++ (map line.Operator (n.operators ++ o ∷ []) ++ map line.Provider qs))
+    ≡ (listing_lines n.listing ++ line.Tree (length n.tree) ∷ (flat_map item_lines n.tree ++ (map line.Operator n.operators ++ map line.Provider qs))) ++ line.Operator o ∷ []) (sym none)
+    (ap (λ (xs : List Line). listing_lines n.listing ++ line.Tree (length n.tree) ∷ (flat_map item_lines n.tree ++ xs)) (push_nil (λ x. line.Operator x) n.operators o)
+    ∙ more_pending (listing_lines n.listing) (line.Tree (length n.tree)) (flat_map item_lines n.tree) (map line.Operator n.operators ++ []) (line.Operator o)) in
     let f = fits.1 in
     let few = f.operators.0 in
-    subst (λ x. Moves p (held.Ending n) (line.Operator o) x) t.1
-    (one_more (front_lines p) _ (ending_part n) (line.Operator o) (lines n.providers (none n.providers s.0)),
-    (fits.0, record { listing = f.listing; some = f.some; operators = (omega (arith, len, few), omega (arith, len, room)); providers = f.providers }))
+    subst (λ x. Moves p (held.Ending n) (line.Operator o) x) t.1 (
+      one_more (front_lines p) _ (ending_part n) (line.Operator o) (lines n.providers (none n.providers s.0)),
+      (fits.0, record { listing = f.listing; some = f.some; operators = (omega (arith, len, few), omega (arith, len, room)); providers = f.providers }),
+    )
 ending_step p n (line.Provider a) h fits e =
     let made = held.Ending (record { listing = n.listing; tree = n.tree; operators = n.operators; providers = n.providers ++ a ∷ [] }) in
     let t = some_if (ltb (length n.providers) 4096) made h e in
     let room : length n.providers < 4096 = ltb-true _ _ t.0 in
     let len = longer n.providers a in
     let f = fits.1 in
-    subst (λ x. Moves p (held.Ending n) (line.Provider a) x) t.1
-    (one_more (front_lines p) _ (ending_part n) (line.Provider a)
-    (ap (λ (xs : List Line). listing_lines n.listing ++ line.Tree (length n.tree) ∷ (flat_map item_lines n.tree ++ xs)) (one_more (map line.Operator n.operators) _ (map line.Provider n.providers) (line.Provider a) (map_push (λ x. line.Provider x) n.providers a))
-    ∙ more_pending (listing_lines n.listing) (line.Tree (length n.tree)) (flat_map item_lines n.tree) (map line.Operator n.operators ++ map line.Provider n.providers) (line.Provider a)),
-    (fits.0, record { listing = f.listing; some = f.some; operators = f.operators; providers = omega (arith, len, room) }))
+    subst (λ x. Moves p (held.Ending n) (line.Provider a) x) t.1 (
+      one_more (front_lines p) _ (ending_part n) (line.Provider a)
+          (ap (λ (xs : List Line). listing_lines n.listing ++ line.Tree (length n.tree) ∷ (flat_map item_lines n.tree ++ xs)) (one_more (map line.Operator n.operators) _ (map line.Provider n.providers) (line.Provider a) (map_push (λ x. line.Provider x) n.providers a))
+          ∙ more_pending (listing_lines n.listing) (line.Tree (length n.tree)) (flat_map item_lines n.tree) (map line.Operator n.operators ++ map line.Provider n.providers) (line.Provider a)),
+      (fits.0, record { listing = f.listing; some = f.some; operators = f.operators; providers = omega (arith, len, room) }),
+    )
 ending_step p n _ h fits e = absurd cc
 
 -- a line of the totals
@@ -288,8 +290,8 @@ totals_step p os ps (line.TotalOperator o) h fits e =
     let room : length os < 64 = ltb-true _ _ s.1 in
     let len = longer os o in
     let lines : (qs : List AmountLine) → qs ≡ [] → map line.TotalOperator (os ++ o ∷ []) ++ map line.TotalProvider qs ≡ (map line.TotalOperator os ++ map line.TotalProvider qs) ++ line.TotalOperator o ∷ []
-        = λ qs none. subst (λ (qs : List AmountLine). map line.TotalOperator (os ++ o ∷ []) ++ map line.TotalProvider qs ≡ (map line.TotalOperator os ++ map line.TotalProvider qs) ++ line.TotalOperator o ∷ []) (sym none)
-        (push_nil (λ x. line.TotalOperator x) os o) in
+    = λ qs none. subst (λ (qs : List AmountLine). map line.TotalOperator (os ++ o ∷ []) ++ map line.TotalProvider qs ≡ (map line.TotalOperator os ++ map line.TotalProvider qs) ++ line.TotalOperator o ∷ []) (sym none)
+    (push_nil (λ x. line.TotalOperator x) os o) in
     let few = fits.0.0 in
     subst (λ x. Moves p (held.Totals os ps) (line.TotalOperator o) x) t.1
     (one_more (front_lines p) _ (held_lines (held.Totals os ps)) (line.TotalOperator o) (lines ps (none ps s.0)), ((omega (arith, len, few), omega (arith, len, room)), fits.1))
@@ -297,7 +299,8 @@ totals_step p os ps (line.TotalProvider a) h fits e =
     let t = some_if (ltb (length ps) 1638400) (held.Totals os (ps ++ a ∷ [])) h e in
     let room : length ps < 1638400 = ltb-true _ _ t.0 in
     let len = longer ps a in
-    subst (λ x. Moves p (held.Totals os ps) (line.TotalProvider a) x) t.1
-    (one_more (front_lines p) _ (held_lines (held.Totals os ps)) (line.TotalProvider a) (one_more (map line.TotalOperator os) _ (map line.TotalProvider ps) (line.TotalProvider a) (map_push (λ x. line.TotalProvider x) ps a)),
-    (fits.0, omega (arith, len, room)))
+    subst (λ x. Moves p (held.Totals os ps) (line.TotalProvider a) x) t.1 (
+      one_more (front_lines p) _ (held_lines (held.Totals os ps)) (line.TotalProvider a) (one_more (map line.TotalOperator os) _ (map line.TotalProvider ps) (line.TotalProvider a) (map_push (λ x. line.TotalProvider x) ps a)),
+      (fits.0, omega (arith, len, room)),
+    )
 totals_step p os ps _ h fits e = absurd cc

@@ -143,7 +143,7 @@ end_step ls p k g run x s e =
     let same_run : run ≡ g.listing.heading.run = eqb-true _ _ t.0 in
     let b = g.listing in
     let goal1 = ended (front_lines p) (map line.Zone b.zones ++ (map line.Border b.borders ++ (map line.Bid b.bids ++ demand_lines 1 b.demands))) (flat_map item_lines g.tree) (map line.Operator g.operators) (map line.Provider g.providers)
-        (line.Run b.heading) (line.Welfare b.welfare) (line.Tree (length g.tree)) (line.End b.heading.run) in
+    (line.Run b.heading) (line.Welfare b.welfare) (line.Tree (length g.tree)) (line.End b.heading.run) in
     let goal2 = subst (λ n. (front_lines p ++ ending_part g) ++ line.End n ∷ [] ≡ front_lines p ++ block_lines (full_block g)) (sym same_run) goal1 in
     let f = s.fits.1 in
     let few : length g.listing.zones ≤ 64 = f.listing.zones in

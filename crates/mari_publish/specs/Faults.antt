@@ -1,5 +1,5 @@
 -- What a text is: that of a publication, or one with a first fault.
-use Rattle.std.specs.Prelude.{◌≡◌, ℕ, ◌+◌, List, [], ◌∷◌, ◌++◌, length, Result, Ok, Err, ⊤}
+use Rattle.std.specs.Prelude.{◌≡◌, ℕ, ◌+◌, List, [], ◌∷◌, ◌++◌, length, ◌⊎◌, Result, Ok, Err, ⊤}
 use Rattle.mari_publish.specs.declared.publication.Publication.{Publication}
 use Rattle.mari_publish.specs.declared.line.Line.{Line}
 use Rattle.mari_publish.specs.declared.fault.TextFault.{TextFault}
@@ -57,3 +57,7 @@ IsOutcome text (Err (fault.BadLine n)) = BadLineAt text n
 IsOutcome text (Err (fault.BadOrder n)) = BadOrderAt text n
 IsOutcome text (Err (fault.Truncated n)) = TruncatedAt text n
 IsOutcome text (Err fault.Memory) = ⊤
+
+-- the answer is this one, unless memory ran out
+abbrev pub Answers : Result Publication TextFault → Result Publication TextFault → Type 0
+Answers expected result = (result ≡ expected) ⊎ (result ≡ Err fault.Memory)

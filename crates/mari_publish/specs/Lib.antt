@@ -4,3 +4,4 @@ pub mod Ranges
 pub mod Spelling
 pub mod Order
 pub mod Faults
+pub mod Gathering

@@ -14,6 +14,7 @@ mod line_reading;
 mod lists;
 mod number;
 mod publication;
+mod reading;
 mod spelling;
 mod text;
 mod tree;

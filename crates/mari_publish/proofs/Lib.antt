@@ -15,3 +15,4 @@ pub mod Fits
 pub mod Follows
 pub mod Begun
 pub mod Progress
+pub mod Outcomes

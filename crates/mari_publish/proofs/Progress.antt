@@ -37,8 +37,11 @@ pub record Progress (bytes rest : List ℕ) (number : ℕ) (p : Publication) (k 
   pub came : Came before p k
   pub stands : Stands before p k k.held
 
-pub first_progress : (bytes : List ℕ) → Progress bytes bytes 1 nothing_read nothing_kept
+first_progress : (bytes : List ℕ) → Progress bytes bytes 1 nothing_read nothing_kept
 first_progress bytes = record { before = []; parts = refl; number_is = refl; fit = tt; came = refl; stands = stands_first }
+
+pub progress_of_nothing : (bytes : List ℕ) (p : Publication) → p ≡ nothing_read → Progress bytes bytes 1 p nothing_kept
+progress_of_nothing bytes p e = subst (λ q. Progress bytes bytes 1 q nothing_kept) (sym e) (first_progress bytes)
 
 -- a line's number is small
 pub number_fits : (bytes rest : List ℕ) (n : ℕ) (p : Publication) (k : Kept) → Progress bytes rest n p k → n < 2 ^ 31 + 1

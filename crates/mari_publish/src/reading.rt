@@ -1,7 +1,7 @@
 //! Reading a text.
 
 ghost use Rattle.std.specs.Prelude.{◌≡◌, ◌<◌, ◌≤◌, ◌+◌, ℕ, OnOk, Option, Some, Ok, Err};
-ghost use Rattle.mari_publish.specs.Order.{grown, HasRoom};
+ghost use Rattle.mari_publish.specs.Order.{grown, nothing_read, HasRoom};
 ghost use Rattle.mari_publish.specs.Faults.{IsText, BadLineAt, BadOrderAt, TruncatedAt, IsOutcome, Answers};
 ghost use Rattle.mari_publish.specs.Gathering.{seen, Took, Finishes};
 ghost use Rattle.mari_publish.specs.declared.publication.Publication.{Publication as PublicationValue};
@@ -34,6 +34,21 @@ pub struct Gathered {
     pub providers: Items<AmountLine>,
 }
 
+/// No part.
+fn nothing(alloc: Global) -> Gathered
+    ensures { seen result ≡ nothing_read }
+{
+    Gathered {
+        date: None,
+        quarters: 0,
+        budget: 0,
+        blocks: Vec::new(alloc),
+        operators: Items::of(Vec::new(alloc)),
+        providers: Items::of(Vec::new(alloc)),
+    }
+}
+
+/// The parts with one more.
 fn gather(alloc: Global, gathered: &mut Gathered, part: Part) -> Result<(), LineFault>
     ensures { OnOk result (seen gathered.new ≡ grown (seen gathered.old) (Some part)) }
 {
@@ -123,4 +138,42 @@ fn finish(
         operators,
         providers,
     })
+}
+
+/// The one publication whose text this is, or the first fault.
+fn read_lines(alloc: Global, bytes: &[u8]) -> Result<Publication, TextFault>
+    ensures { IsOutcome bytes.now result }
+{
+    let mut kept = Kept {
+        held: Held::Start,
+        published: 0,
+        unpublished: 0,
+    };
+    let mut gathered = nothing(alloc);
+    let mut rest = bytes;
+    let mut number = 1u32;
+    while let Some((here, after)) = cut(b'\n', rest) {
+        match take_line(alloc, &mut gathered, kept, here) {
+            Ok(next) => kept = next,
+            Err(LineFault::Form) => return Err(TextFault::BadLine(number)),
+            Err(LineFault::Order) => return Err(TextFault::BadOrder(number)),
+            Err(LineFault::Memory) => return Err(TextFault::Memory),
+        }
+        rest = after;
+        number += 1;
+    }
+    finish(gathered, kept.held, rest, number)
+}
+
+/// The one publication whose text this is, or the first fault: the number of its line from 1, the first line with a fault,
+/// and at one line `BadLine` before `BadOrder`.
+pub fn read_text(alloc: Global, bytes: &[u8]) -> Result<Publication, TextFault>
+    ensures outcome { IsOutcome bytes.now result }
+    ensures text { (p : PublicationValue) → IsText bytes.now p → Answers (Ok p) result }
+    ensures one { (p q : PublicationValue) → IsText bytes.now p → IsText bytes.now q → p ≡ q }
+    ensures bad_line { (n : ℕ) → BadLineAt bytes.now n → Answers (Err (TextFault.BadLine n)) result }
+    ensures bad_order { (n : ℕ) → BadOrderAt bytes.now n → Answers (Err (TextFault.BadOrder n)) result }
+    ensures truncated { (n : ℕ) → TruncatedAt bytes.now n → Answers (Err (TextFault.Truncated n)) result }
+{
+    read_lines(alloc, bytes)
 }

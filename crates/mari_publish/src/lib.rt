@@ -16,6 +16,8 @@ mod number;
 mod publication;
 mod reading;
 mod spelling;
+#[cfg(test)]
+mod tests;
 mod text;
 mod tree;
 mod words;

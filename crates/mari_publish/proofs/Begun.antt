@@ -1,6 +1,5 @@
 -- What has come can always become a publication.
-use Rattle.std.proofs.Common.{◌≡◌, ◌≤◌, ◌<◌, ℕ, suc, zero, ◌+◌, ◌-◌, Bool, true, cond, ◌&&◌, List, [], ◌∷◌, ◌++◌, length, Option, Some, None, ℤ, pos, neg_ℤ, ◌≤ℤ◌, refl, sym, ap, subst, ◌∙◌, append_assoc, length-append, arith}
-use Rattle.std.specs.List.{AllByRecursion, All}
+use Rattle.std.proofs.Common.{◌≡◌, ◌<◌, ℕ, suc, zero, ◌+◌, ◌-◌, List, [], ◌∷◌, ◌++◌, length, Option, Some, None, ℤ, pos, refl, sym, ap, subst, ◌∙◌, append_assoc, length-append, arith}
 use Rattle.std.proofs.lemmas.Bool.{lt-ltb, eq-eqb}
 use Rattle.std.proofs.lemmas.Int.{ints}
 use Rattle.std.proofs.lemmas.List.{append-nil}
@@ -26,8 +25,8 @@ use Rattle.mari_publish.specs.declared.held.Part.{Part}
 use Rattle.mari_publish.specs.declared.held.Part.TheVariants as part
 use Rattle.mari_publish.specs.declared.held.Kept.{Kept}
 use Rattle.mari_publish.specs.Faults.{Begins}
-use Rattle.mari_publish.specs.Ranges.{InRange, HasText, IsPriceLine, IsZone, IsMoneyLine, Listed}
-use Rattle.mari_publish.specs.Order.{is_nothing, with_item, conflict_item, after_listing, after_growing, full_block, after, grown, front_lines}
+use Rattle.mari_publish.specs.Ranges.{InRange, HasText, IsPriceLine, IsMoneyLine, Listed}
+use Rattle.mari_publish.specs.Order.{with_item, conflict_item, after_listing, after_growing, full_block, after, grown, front_lines}
 use Rattle.mari_publish.proofs.Counts.{counted}
 use Rattle.mari_publish.proofs.Gathered.{cons_all}
 use Rattle.mari_publish.proofs.Fits.{Fit, has_text}

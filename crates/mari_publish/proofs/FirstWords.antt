@@ -1,12 +1,11 @@
 -- The kinds of lines, by their first words.
-use Rattle.std.proofs.Common.{◌≡◌, ◌≤◌, ◌<◌, ◌^◌, ℕ, Bool, true, false, List, [], ◌∷◌, ◌++◌, map, ℤ, refl, sym, ap, ◌∙◌, arith}
+use Rattle.std.proofs.Common.{◌≡◌, ℕ, Bool, true, false, List, [], ◌∷◌, ◌++◌, refl}
 use Rattle.std.specs.Fmt.{decimal}
 use Rattle.mari_publish.specs.declared.publication.Heading.{Heading}
 use Rattle.mari_publish.specs.declared.line.Line.{Line}
 use Rattle.mari_publish.specs.declared.line.Line.TheVariants as line
-use Rattle.mari_publish.specs.declared.line.Keyword.{Keyword}
 use Rattle.mari_publish.specs.declared.line.Keyword.TheVariants as first
-use Rattle.mari_publish.specs.Ranges.{InRange, IsHeading, Between}
+use Rattle.mari_publish.specs.Ranges.{InRange, Between}
 use Rattle.mari_publish.specs.Spelling.{fields, keyword_of, heading_fields, published_text}
 
 -- a line that begins with `mari`

@@ -1,5 +1,5 @@
 -- A publication has a text where its lines are in range and none comes too often.
-use Rattle.std.proofs.Common.{◌≡◌, ◌≤◌, ◌<◌, ℕ, suc, zero, ◌+◌, List, [], ◌∷◌, ◌++◌, map, length, refl, sym, ap, subst, ◌∙◌, ◌*◌, ◌^◌, length-append, arith}
+use Rattle.std.proofs.Common.{◌≡◌, ◌≤◌, ◌<◌, ℕ, suc, ◌+◌, List, [], ◌∷◌, ◌++◌, map, length, refl, ap, ◌*◌, ◌^◌, length-append, arith}
 use Rattle.std.specs.List.{flat_map, AllByRecursion, All}
 use Rattle.std.proofs.lemmas.List.Elements.{All-nil}
 use Rattle.mari_market.specs.declared.certificate.Leaf.TheVariants as leaves
@@ -12,7 +12,7 @@ use Rattle.mari_publish.specs.declared.publication.Publication.{Publication}
 use Rattle.mari_publish.specs.declared.line.Line.{Line}
 use Rattle.mari_publish.specs.declared.line.Line.TheVariants as line
 use Rattle.mari_publish.specs.Lines.{item_lines, demand_lines, market_lines, tree_lines, ending_lines, full_lines, block_lines, closing_lines, published_in, unpublished_in, lines_of}
-use Rattle.mari_publish.specs.Ranges.{Between, Listed, InRange, IsHeading, ItemFits, FullFits, BlockFits, TotalsFit, HasText, IsMoneyLine, IsAmountLine}
+use Rattle.mari_publish.specs.Ranges.{Between, InRange, ItemFits, FullFits, BlockFits, HasText}
 use Rattle.mari_publish.proofs.Counts.{counted}
 use Rattle.mari_publish.proofs.Gathered.{head_of, tail_of, cons_all}
 use Rattle.mari_publish.proofs.Whole.{all_front, all_back, IsWithinLimits}

@@ -27,7 +27,7 @@ use Rattle.mari_publish.specs.declared.held.Held.TheVariants as held
 use Rattle.mari_publish.specs.declared.held.Part.{Part}
 use Rattle.mari_publish.specs.declared.held.Part.TheVariants as part
 use Rattle.mari_publish.specs.declared.held.Kept.{Kept}
-use Rattle.mari_publish.specs.Lines.{item_lines, demand_lines, market_lines, tree_lines, ending_lines, full_lines, block_lines, closing_lines, published_in, unpublished_in, lines_of}
+use Rattle.mari_publish.specs.Lines.{item_lines, demand_lines, market_lines, tree_lines, ending_lines, block_lines, closing_lines, published_in, unpublished_in, lines_of}
 use Rattle.mari_publish.specs.Ranges.{Between, HasText}
 use Rattle.mari_publish.specs.Faults.{Begins}
 use Rattle.mari_publish.specs.Order.{after_listing, after_ending, after_totals, keeps, after, grown, nothing_read, nothing_kept, and_then, after_all}

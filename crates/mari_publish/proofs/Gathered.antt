@@ -1,5 +1,5 @@
 -- A list that is gathered from words, one of each word.
-use Rattle.std.proofs.Common.{◌≡◌, ◌≤◌, ◌<◌, ℕ, suc, zero, ◌+◌, ◌^◌, List, [], ◌∷◌, ◌++◌, map, length, get_or, Result, Ok, Err, refl, sym, ap, ◌∙◌, arith, append_assoc, length-append}
+use Rattle.std.proofs.Common.{◌≡◌, ◌≤◌, ◌<◌, ℕ, suc, zero, ◌+◌, ◌^◌, List, [], ◌∷◌, ◌++◌, map, length, Result, Err, refl, sym, ap, ◌∙◌, arith, append_assoc, length-append}
 use Rattle.std.specs.List.{All}
 use Rattle.std.specs.Fmt.{decimal}
 use Rattle.std.proofs.lemmas.Fmt.{decimal_injective}
@@ -7,11 +7,10 @@ use Rattle.mari_market.specs.Cut.{IsRising}
 use Rattle.std.proofs.lemmas.List.{append-nil, map-append}
 use Rattle.std.proofs.lemmas.List.Elements.{All-nil, All-append}
 use Rattle.mari_publish.specs.declared.fault.Unread.{Unread}
-use Rattle.mari_publish.specs.declared.fault.Unread.TheVariants as unread
 use Rattle.mari_publish.specs.Ranges.{Listed, IsZone}
 use Rattle.mari_publish.specs.Spelling.{zone_text}
 use Rattle.mari_publish.specs.Reading.{Reads}
-use Rattle.mari_publish.proofs.Unread.{part_unread, handed_on}
+use Rattle.mari_publish.proofs.Unread.{handed_on}
 
 -- these were gathered, and these words are left of all
 pub record Begun {X : Type 0} (R : X → Type 0) (f : X → List ℕ) (most : ℕ) (xs : List X) (left all : List (List ℕ)) : Type 0 where

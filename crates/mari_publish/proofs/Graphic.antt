@@ -1,19 +1,18 @@
 -- Each byte of a line's words is above the space, so a line's words are its spelling's, and it has no line feed.
-use Rattle.std.proofs.Common.{◌≡◌, ◌≤◌, ◌<◌, ℕ, suc, zero, ◌+◌, ◌*◌, ◌/◌, ◌%◌, ◌^◌, Bool, true, false, cond, ◌&&◌, not, eqb, ltb, List, [], ◌∷◌, ◌++◌, map, length, ℤ, pos, negsuc, int_lt, refl, sym, ap, ◌∙◌, arith, codes, append_assoc}
+use Rattle.std.proofs.Common.{◌≡◌, ◌≤◌, ◌<◌, ℕ, suc, ◌+◌, ◌*◌, ◌/◌, ◌%◌, ◌^◌, Bool, true, false, cond, not, eqb, ltb, List, [], ◌∷◌, ◌++◌, ℤ, pos, negsuc, int_lt, refl, sym, ap, ◌∙◌, arith}
 use Rattle.std.specs.Char.{is_ascii_digit}
 use Rattle.std.specs.Int.RustNames.{unsigned_abs}
-use Rattle.std.specs.List.{list_all, slice_split, onto_first, AllByRecursion, All}
+use Rattle.std.specs.List.{list_all, slice_split, onto_first, AllByRecursion}
 use Rattle.std.specs.Fmt.{decimal, signed_decimal}
-use Rattle.std.proofs.lemmas.Bool.{lt-ltb, ltb-true, eq-eqb, eqb-true}
+use Rattle.std.proofs.lemmas.Bool.{lt-ltb, eqb-true}
 use Rattle.std.proofs.lemmas.Bool.Decides.{nat_tests}
 use Rattle.std.proofs.lemmas.List.{append-nil}
 use Rattle.std.proofs.lemmas.List.Folds.{list_all-append}
 use Rattle.std.proofs.lemmas.Fmt.{digits_decimal}
 use Rattle.mari_units.specs.Names.{is_name, is_name_byte}
 use Rattle.mari_units.specs.Numbers.{sign_of, printed_cents, printed_euros, printed_ten_thousandths}
-use Rattle.mari_market.specs.Price.{IsPrice}
 use Rattle.mari_publish.specs.Reading.{Lacks}
-use Rattle.mari_publish.specs.Spelling.{spaced, kind_text, published_text, side_text}
+use Rattle.mari_publish.specs.Spelling.{spaced, kind_text}
 use Rattle.mari_publish.proofs.Printed.{own, and_parts}
 use Rattle.mari_publish.proofs.Splits.{first_split, only_split, some_words}
 

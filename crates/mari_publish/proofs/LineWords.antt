@@ -1,5 +1,5 @@
 -- A line's words are its first word and its fields, and no other line has them.
-use Rattle.std.proofs.Common.{◌≡◌, ◌≤◌, ◌<◌, ◌^◌, ◌*◌, ◌+◌, ℕ, suc, zero, Bool, true, false, eqb, List, [], ◌∷◌, ◌++◌, map, length, ℤ, pos, negsuc, neg_ℤ, Result, Ok, Err, refl, sym, ap, ◌∙◌, arith}
+use Rattle.std.proofs.Common.{◌≡◌, ◌≤◌, ◌<◌, ◌^◌, ◌+◌, ℕ, eqb, List, [], ◌∷◌, map, ℤ, pos, neg_ℤ, refl, arith}
 use Rattle.std.specs.Int.RustNames.{unsigned_abs}
 use Rattle.std.specs.List.{slice_split, AllByRecursion, All}
 use Rattle.std.specs.Fmt.{decimal, signed_decimal}
@@ -8,21 +8,18 @@ use Rattle.mari_units.specs.Numbers.{printed_cents, printed_euros}
 use Rattle.mari_market.specs.Price.{IsPrice}
 use Rattle.mari_market.specs.declared.certificate.CutSide.{CutSide}
 use Rattle.mari_market.specs.declared.certificate.CutSide.TheVariants.{Out, In}
-use Rattle.mari_publish.specs.declared.fault.Unread.{Unread}
-use Rattle.mari_publish.specs.declared.fault.Unread.TheVariants as unread
 use Rattle.mari_publish.specs.declared.line.Line.{Line}
 use Rattle.mari_publish.specs.declared.line.Line.TheVariants as line
 use Rattle.mari_publish.specs.declared.line.Keyword.{Keyword}
 use Rattle.mari_publish.specs.declared.line.Keyword.TheVariants as first
 use Rattle.mari_publish.specs.declared.publication.MoneyLine.{MoneyLine}
 use Rattle.mari_publish.specs.declared.publication.AmountLine.{AmountLine}
-use Rattle.mari_publish.specs.Ranges.{InRange, IsHeading, Between, Within, IsMoney, IsMoneyLine, IsAmountLine, IsZone, IsPriceLine}
-use Rattle.mari_publish.specs.Reading.{Reads, Lacks}
-use Rattle.mari_publish.specs.Spelling.{fields, keyword_of, keyword_text, spelling, price_text, money_text, money_fields, amount_fields, zone_text, side_text}
+use Rattle.mari_publish.specs.Ranges.{InRange, Within, IsMoneyLine, IsAmountLine, IsZone, IsPriceLine}
+use Rattle.mari_publish.specs.Reading.{Lacks}
+use Rattle.mari_publish.specs.Spelling.{fields, keyword_of, keyword_text, spelling, price_text, money_fields, amount_fields, zone_text, side_text}
 use Rattle.mari_publish.proofs.Numbers.{size_between}
 use Rattle.mari_publish.proofs.Gathered.{head_of, tail_of, rising_zones}
-use Rattle.mari_publish.proofs.Graphic.{IsGraphic, graphic_name, graphic_decimal, graphic_signed, graphic_cents, graphic_euros, graphic_kind, split_spaced, spelled_split, spelling_lacks}
-use Rattle.mari_publish.proofs.Splits.{some_words}
+use Rattle.mari_publish.proofs.Graphic.{IsGraphic, graphic_name, graphic_decimal, graphic_signed, graphic_cents, graphic_euros, graphic_kind, split_spaced, spelling_lacks}
 
 pub graphic_keyword : (k : Keyword) → IsGraphic (keyword_text k)
 graphic_keyword first.Mari = refl

@@ -1,8 +1,8 @@
 -- A printed number is read as itself.
-use Rattle.std.proofs.Common.{◌≡◌, ◌≤◌, ◌<◌, ℕ, suc, zero, ◌+◌, ◌*◌, ◌-◌, ◌/◌, ◌^◌, min, Bool, true, false, List, ℤ, pos, negsuc, neg_ℤ, int_lt, ◌≤ℤ◌, ◌<ℤ◌, refl, sym, ap, ◌∙◌, arith}
+use Rattle.std.proofs.Common.{◌≡◌, ◌≤◌, ◌<◌, ℕ, ◌*◌, ◌-◌, ◌/◌, ◌^◌, min, Bool, List, ℤ, pos, negsuc, neg_ℤ, int_lt, ◌≤ℤ◌, ◌<ℤ◌, refl, sym, ap, ◌∙◌, arith}
 use Rattle.std.proofs.lemmas.Int.{ints}
 use Rattle.std.specs.Int.RustNames.{unsigned_abs}
-use Rattle.std.specs.Fmt.{decimal, signed_decimal}
+use Rattle.std.specs.Fmt.{signed_decimal}
 use Rattle.mari_units.specs.Numbers.{has_minus, with_sign, printed_cents, printed_euros}
 use Rattle.mari_publish.specs.Reading.{digits_in, value_in}
 use Rattle.mari_publish.proofs.Printed.{not_below, digits_in_signed, sign_in_signed, digits_in_cents, sign_in_cents, digits_in_euros, sign_in_euros}

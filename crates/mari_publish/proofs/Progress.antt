@@ -1,5 +1,5 @@
 -- The lines read so far, and what follows from the next one.
-use Rattle.std.proofs.Common.{◌≡◌, ◌≤◌, ◌<◌, ℕ, ◌+◌, ◌^◌, true, List, [], ◌∷◌, ◌++◌, length, Option, Some, None, Result, Ok, Err, refl, sym, ap, subst, ◌∙◌, append_assoc, length-append, arith}
+use Rattle.std.proofs.Common.{◌≡◌, ◌≤◌, ◌<◌, ℕ, ◌+◌, ◌^◌, true, List, [], ◌∷◌, ◌++◌, length, Option, Result, Ok, Err, refl, sym, ap, subst, ◌∙◌, append_assoc, length-append, arith}
 use Rattle.std.specs.Prelude.{unwrap_or}
 use Rattle.std.specs.List.{AllByRecursion}
 use Rattle.std.proofs.lemmas.List.{append-nil}
@@ -17,11 +17,11 @@ use Rattle.mari_publish.specs.declared.reading.LineFault.{LineFault}
 use Rattle.mari_publish.specs.declared.reading.LineFault.TheVariants as line_fault
 use Rattle.mari_publish.specs.Gathering.{seen, Took, Finishes}
 use Rattle.mari_publish.specs.Lines.{lines_of}
-use Rattle.mari_publish.specs.Ranges.{InRange, HasText}
+use Rattle.mari_publish.specs.Ranges.{InRange}
 use Rattle.mari_publish.specs.Reading.{Lacks}
 use Rattle.mari_publish.specs.Order.{after, grown, HasRoom, nothing_read, nothing_kept}
 use Rattle.mari_publish.specs.Spelling.{spelling, line_text, text_of_lines}
-use Rattle.mari_publish.specs.Faults.{Begins, IsText, BadLineAt, BadOrderAt, TruncatedAt, IsOutcome}
+use Rattle.mari_publish.specs.Faults.{IsText, BadLineAt, BadOrderAt, TruncatedAt, IsOutcome}
 use Rattle.mari_publish.proofs.Counts.{counted}
 use Rattle.mari_publish.proofs.Fits.{lines_few}
 use Rattle.mari_publish.proofs.Steps.{HeldFits}

@@ -1,11 +1,9 @@
 -- Lines that are spelled alike are the same.
-use Rattle.std.proofs.Common.{◌≡◌, ◌≤◌, ◌<◌, ◌^◌, ◌+◌, ℕ, Bool, true, false, eqb, ◌==◌, if◌then◌else◌, fold, ◌*◌, List, [], ◌∷◌, ◌++◌, map, ℤ, pos, Result, Ok, Err, refl, sym, ap, ◌∙◌, arith}
-use Rattle.std.specs.Int.RustNames.{unsigned_abs}
-use Rattle.std.specs.List.{slice_split, AllByRecursion, All}
+use Rattle.std.proofs.Common.{◌≡◌, ◌≤◌, ◌<◌, ◌^◌, ◌+◌, ℕ, Bool, true, false, eqb, ◌==◌, if◌then◌else◌, fold, ◌*◌, List, [], ◌∷◌, ◌++◌, map, ℤ, Result, Ok, Err, refl, sym, ap, ◌∙◌, arith}
+use Rattle.std.specs.List.{slice_split}
 use Rattle.std.specs.Fmt.{decimal, signed_decimal}
 use Rattle.mari_units.specs.declared.numbers.Cents.{Cents}
 use Rattle.mari_units.specs.declared.numbers.Quarters.{Quarters}
-use Rattle.mari_market.specs.Price.{IsPrice}
 use Rattle.mari_market.specs.declared.certificate.CutSide.{CutSide}
 use Rattle.mari_market.specs.declared.certificate.CutSide.TheVariants.{Out, In}
 use Rattle.mari_publish.specs.declared.line.Line.{Line}
@@ -19,8 +17,8 @@ use Rattle.mari_publish.specs.declared.publication.BorderLine.{BorderLine}
 use Rattle.mari_publish.specs.declared.publication.BidLine.{BidLine}
 use Rattle.mari_publish.specs.declared.publication.MoneyLine.{MoneyLine}
 use Rattle.mari_publish.specs.declared.publication.AmountLine.{AmountLine}
-use Rattle.mari_publish.specs.Ranges.{InRange, IsHeading, Between, Within, IsMoney, IsMoneyLine, IsAmountLine, IsZone, IsPriceLine}
-use Rattle.mari_publish.specs.Spelling.{spaced, fields, keyword_of, keyword_text, spelling, price_text, money_text, money_fields, amount_fields, heading_fields, zone_text, side_text, kind_text}
+use Rattle.mari_publish.specs.Ranges.{InRange, IsHeading, Within, IsMoney, IsMoneyLine, IsAmountLine, IsZone, IsPriceLine}
+use Rattle.mari_publish.specs.Spelling.{spaced, fields, keyword_of, keyword_text, spelling, price_text, money_text, money_fields, amount_fields, zone_text, side_text, kind_text}
 use Rattle.mari_publish.proofs.Numbers.{same_whole, same_price, same_money}
 use Rattle.mari_publish.proofs.Gathered.{same_list, same_zone, same_number, rising_zones}
 use Rattle.mari_publish.specs.declared.fault.Unread.{Unread}

@@ -1,5 +1,5 @@
 -- What is not read leaves what it is a part of unread.
-use Rattle.std.proofs.Common.{◌≡◌, ℕ, List, ◌∷◌, Result, Ok, Err, sym, subst}
+use Rattle.std.proofs.Common.{◌≡◌, ℕ, List, ◌∷◌, Result, Err, sym, subst}
 use Rattle.mari_publish.specs.declared.fault.Unread.{Unread}
 use Rattle.mari_publish.specs.declared.fault.Unread.TheVariants as unread
 use Rattle.mari_publish.specs.Reading.{Reads, ReadsFirst}

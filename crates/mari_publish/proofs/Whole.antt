@@ -7,21 +7,17 @@ use Rattle.std.proofs.lemmas.Grind.{flat_map-append}
 use Rattle.mari_publish.specs.declared.publication.Block.{Block}
 use Rattle.mari_publish.specs.declared.publication.Block.TheVariants as block
 use Rattle.mari_publish.specs.declared.publication.Publication.{Publication}
-use Rattle.mari_publish.specs.declared.publication.MoneyLine.{MoneyLine}
-use Rattle.mari_publish.specs.declared.publication.AmountLine.{AmountLine}
 use Rattle.mari_publish.specs.declared.line.Line.{Line}
 use Rattle.mari_publish.specs.declared.line.Line.TheVariants as line
-use Rattle.mari_publish.specs.declared.held.Listing.{Listing}
-use Rattle.mari_publish.specs.declared.held.Growing.{Growing}
 use Rattle.mari_publish.specs.declared.held.Ending.{Ending}
 use Rattle.mari_publish.specs.declared.held.Held.{Held}
 use Rattle.mari_publish.specs.declared.held.Held.TheVariants as held
 use Rattle.mari_publish.specs.declared.held.Part.{Part}
 use Rattle.mari_publish.specs.declared.held.Part.TheVariants as part
 use Rattle.mari_publish.specs.declared.held.Kept.{Kept}
-use Rattle.mari_publish.specs.Lines.{item_lines, demand_lines, market_lines, full_lines, block_lines, published_in, unpublished_in}
+use Rattle.mari_publish.specs.Lines.{item_lines, demand_lines, block_lines, published_in, unpublished_in}
 use Rattle.mari_publish.specs.Ranges.{Between}
-use Rattle.mari_publish.specs.Order.{listing_lines, ending_part, held_lines, after_listing, after_growing, after_ending, after_totals, full_block, keeps, starts_block, after, grown, front_lines, lines_so_far}
+use Rattle.mari_publish.specs.Order.{ending_part, after_listing, after_growing, after_ending, after_totals, full_block, keeps, starts_block, after, grown, front_lines, lines_so_far}
 use Rattle.mari_publish.proofs.Counts.{counted}
 use Rattle.mari_publish.proofs.Steps.{some_if, some_is, both, ListingFits, HeldFits, Moves, listing_step, growing_step, ending_step, totals_step}
 

@@ -1,5 +1,5 @@
 -- The ranges of the numbers in a line, and how many lines there may be: which publications have a text.
-use Rattle.std.specs.Prelude.{◌≡◌, ◌≤◌, ◌<◌, ℕ, ◌^◌, ℤ, Bool, true, ◌&&◌, ◌==◌, List, [], ◌∷◌, length, take, drop, slice_index, ⊤}
+use Rattle.std.specs.Prelude.{◌≡◌, ◌≤◌, ◌<◌, ℕ, ◌^◌, ℤ, Bool, true, ◌&&◌, ◌==◌, List, length, take, drop, slice_index, ⊤}
 use Rattle.std.specs.Char.{is_ascii_digit}
 use Rattle.std.specs.Int.RustNames.{unsigned_abs}
 use Rattle.std.specs.List.{All, AllByRecursion, list_all}

@@ -1,5 +1,5 @@
 -- What it means to read something by its form: it is what is written so, or nothing is.
-use Rattle.std.specs.Prelude.{◌≡◌, ℕ, ◌+◌, ◌*◌, ◌-◌, ◌/◌, ◌^◌, min, Bool, true, not, ◌==◌, List, [], ◌∷◌, fold, Option, Some, None, if◌then◌else◌, ℤ, Result, Ok, Err, ⊤}
+use Rattle.std.specs.Prelude.{◌≡◌, ℕ, ◌+◌, ◌*◌, ◌-◌, ◌/◌, ◌^◌, min, true, not, ◌==◌, List, [], ◌∷◌, fold, Option, Some, None, if◌then◌else◌, ℤ, Result, Ok, Err, ⊤}
 use Rattle.std.specs.Borrow.{Bor}
 use Rattle.std.specs.Char.{is_ascii_digit}
 use Rattle.std.specs.List.{list_all, slice_split}

@@ -1,7 +1,7 @@
 //! The day's text, both ways.
 //!
 //! The crate stands on the units and on the market's certificates. Its promise: a publication whose numbers are in range has
-//! one text, its lines are the lines of that publication, and each part of it can be made on its own.
+//! one text, which its parts make, and no other publication has that text; any other bytes have one first fault.
 #![tactic(auto)]
 
 mod cut;

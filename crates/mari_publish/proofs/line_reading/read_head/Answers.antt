@@ -1,7 +1,6 @@
 use Rattle.std.proofs.Common.{[], ◌∷◌}
-use Rattle.std.specs.Fmt.{decimal, signed_decimal}
+use Rattle.std.specs.Fmt.{decimal}
 use Rattle.std.proofs.lemmas.Result.{err_from_is_err_and}
-use Rattle.mari_publish.specs.Spelling.{price_text, money_text}
 use Rattle.mari_publish.proofs.Unread.{word_unread}
 use Rattle.mari_publish.proofs.line_reading.read_head.Goals as goal
 

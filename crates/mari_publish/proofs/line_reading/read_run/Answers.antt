@@ -1,4 +1,4 @@
-use Rattle.std.proofs.Common.{◌∙◌, ap, List, [], ℕ, ◌∷◌, sym, refl}
+use Rattle.std.proofs.Common.{ap, []}
 use Rattle.std.specs.Fmt.{decimal}
 use Rattle.std.proofs.lemmas.Result.{err_from_is_err_and}
 use Rattle.mari_publish.specs.Spelling.{fields, kind_text, published_text}

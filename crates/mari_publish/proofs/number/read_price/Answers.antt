@@ -1,4 +1,4 @@
-use Rattle.std.proofs.Common.{◌≡◌, ◌<◌, ◌^◌, ◌<ℤ◌, ap, ◌∙◌, arith, to_z, of_z, pos, neg_ℤ}
+use Rattle.std.proofs.Common.{◌≡◌, ◌<ℤ◌, ap, ◌∙◌, arith, to_z, of_z, pos, neg_ℤ}
 use mir.Syntax.{w64, w128}
 use Rattle.std.proofs.lemmas.Int.{ints}
 use Rattle.mari_units.specs.Numbers.{printed_cents}

@@ -1,11 +1,12 @@
 -- The ranges of the numbers in a line, and how many lines there may be: which publications have a text.
-use Rattle.std.specs.Prelude.{◌≡◌, ◌≤◌, ◌<◌, ℕ, ◌^◌, ℤ, Bool, true, ◌&&◌, ◌==◌, List, [], ◌∷◌, length, take, drop, slice_index, ⊤}
+use Rattle.std.specs.Prelude.{◌≡◌, ◌≤◌, ◌<◌, ℕ, ◌^◌, ℤ, Bool, true, ◌&&◌, ◌==◌, List, length, take, drop, slice_index, ⊤}
 use Rattle.std.specs.Char.{is_ascii_digit}
 use Rattle.std.specs.Int.RustNames.{unsigned_abs}
 use Rattle.std.specs.List.{All, AllByRecursion, list_all}
 use Rattle.mari_units.specs.Names.{is_name}
 use Rattle.mari_units.specs.declared.numbers.Cents.{Cents}
 use Rattle.mari_units.specs.declared.numbers.Quarters.{Quarters}
+use Rattle.mari_market.specs.Cut.{IsRising}
 use Rattle.mari_market.specs.Price.{IsPrice}
 use Rattle.mari_market.specs.declared.certificate.TreeItem.{TreeItem}
 use Rattle.mari_publish.specs.declared.publication.Heading.{Heading}
@@ -65,12 +66,6 @@ IsAmountLine a = IsName a.name × IsMoney a.amount
 abbrev pub Listed : {X : Type 0} → ℕ → ℕ → (X → Type 0) → List X → Type 0
 Listed least greatest P xs = Between least greatest (length xs) × All P xs
 
--- each number is greater than the one before it
-abbrev pub Rises : List ℕ → Type 0
-Rises [] = ⊤
-Rises (x ∷ []) = ⊤
-Rises (x ∷ y ∷ ys) = (x < y) × Rises (y ∷ ys)
-
 -- the ranges of the numbers in a line, and how many it may have
 abbrev pub InRange : Line → Type 0
 InRange (line.Head date quarters budget) = IsDate date × Between 1 400 quarters × Between 1 50000 budget
@@ -84,7 +79,7 @@ InRange (line.Demand place mw) = Between 1 512 place × (mw ≤ 99999)
 InRange (line.Tree count) = Between 1 50000 count
 InRange line.Branch = ⊤
 InRange (line.Bound prices) = Listed 1 64 IsPriceLine prices
-InRange (line.Cut cut) = Listed 1 64 IsZone cut.zones × Rises cut.zones
+InRange (line.Cut cut) = Between 1 64 (length cut.zones) × IsRising 0 64 cut.zones
 InRange (line.Conflict zones) = Listed 1 64 IsZone zones
 InRange (line.At prices) = Listed 1 64 IsPriceLine prices
 InRange (line.Flows flows) = Listed 0 256 (λ flow. Within 199998 flow) flows

@@ -13,6 +13,8 @@ use Rattle.mari_publish.specs.declared.publication.Block.{Block}
 use Rattle.mari_publish.specs.declared.publication.Heading.{Heading}
 use Rattle.mari_publish.specs.declared.publication.MoneyLine.{MoneyLine}
 use Rattle.mari_publish.specs.declared.publication.Publication.{Publication}
+use Rattle.mari_publish.specs.declared.line.Keyword.{Keyword}
+use Rattle.mari_publish.specs.declared.line.Keyword.TheVariants as first
 use Rattle.mari_publish.specs.declared.line.Line.{Line}
 use Rattle.mari_publish.specs.declared.line.Line.TheVariants as line
 use Rattle.mari_publish.specs.Lines.{block_lines, closing_lines, lines_of}
@@ -21,6 +23,11 @@ use Rattle.mari_publish.specs.Lines.{block_lines, closing_lines, lines_of}
 abbrev pub kind_text : Bool → List ℕ
 kind_text true = codes "direct"
 kind_text false = codes "scheduled"
+
+-- whether a run is published
+abbrev pub published_text : Bool → List ℕ
+published_text true = codes "published"
+published_text false = codes "unpublished"
 
 -- whether a cut's zones have too much energy, or too little
 abbrev pub side_text : CutSide → List ℕ
@@ -38,30 +45,54 @@ money_text q = printed_euros q.0
 abbrev pub zone_text : ℕ → List ℕ
 zone_text zone = decimal (zone + 1)
 
+-- which of the first words a line has
+abbrev pub keyword_of : Line → Keyword
+keyword_of (line.Head date quarters budget) = first.Mari
+keyword_of (line.Run heading) = first.Run
+keyword_of (line.Unpublished heading count) = first.Run
+keyword_of (line.Welfare welfare) = first.Welfare
+keyword_of (line.Zone zone) = first.Zone
+keyword_of (line.Border border) = first.Border
+keyword_of (line.Bid bid) = first.Bid
+keyword_of (line.Demand place mw) = first.Demand
+keyword_of (line.Tree count) = first.Tree
+keyword_of line.Branch = first.Branch
+keyword_of (line.Bound prices) = first.Bound
+keyword_of (line.Cut cut) = first.Cut
+keyword_of (line.Conflict zones) = first.Conflict
+keyword_of (line.At prices) = first.At
+keyword_of (line.Flows flows) = first.Flows
+keyword_of (line.Mws mws) = first.Mws
+keyword_of (line.Operator operator) = first.Operator
+keyword_of (line.Provider provider) = first.Provider
+keyword_of (line.End run) = first.End
+keyword_of (line.TotalOperator operator) = first.TotalOperator
+keyword_of (line.TotalProvider provider) = first.TotalProvider
+keyword_of (line.Done published unpublished) = first.Done
+
 -- the first word of a line
-abbrev pub keyword : Line → List ℕ
-keyword (line.Head date quarters budget) = codes "mari"
-keyword (line.Run heading) = codes "run"
-keyword (line.Unpublished heading count) = codes "run"
-keyword (line.Welfare welfare) = codes "welfare"
-keyword (line.Zone zone) = codes "zone"
-keyword (line.Border border) = codes "border"
-keyword (line.Bid bid) = codes "bid"
-keyword (line.Demand place mw) = codes "demand"
-keyword (line.Tree count) = codes "tree"
-keyword line.Branch = codes "branch"
-keyword (line.Bound prices) = codes "bound"
-keyword (line.Cut cut) = codes "cut"
-keyword (line.Conflict zones) = codes "conflict"
-keyword (line.At prices) = codes "at"
-keyword (line.Flows flows) = codes "flows"
-keyword (line.Mws mws) = codes "mws"
-keyword (line.Operator operator) = codes "operator"
-keyword (line.Provider provider) = codes "provider"
-keyword (line.End run) = codes "end"
-keyword (line.TotalOperator operator) = codes "total-operator"
-keyword (line.TotalProvider provider) = codes "total-provider"
-keyword (line.Done published unpublished) = codes "done"
+abbrev pub keyword_text : Keyword → List ℕ
+keyword_text first.Mari = codes "mari"
+keyword_text first.Run = codes "run"
+keyword_text first.Welfare = codes "welfare"
+keyword_text first.Zone = codes "zone"
+keyword_text first.Border = codes "border"
+keyword_text first.Bid = codes "bid"
+keyword_text first.Demand = codes "demand"
+keyword_text first.Tree = codes "tree"
+keyword_text first.Branch = codes "branch"
+keyword_text first.Bound = codes "bound"
+keyword_text first.Cut = codes "cut"
+keyword_text first.Conflict = codes "conflict"
+keyword_text first.At = codes "at"
+keyword_text first.Flows = codes "flows"
+keyword_text first.Mws = codes "mws"
+keyword_text first.Operator = codes "operator"
+keyword_text first.Provider = codes "provider"
+keyword_text first.End = codes "end"
+keyword_text first.TotalOperator = codes "total-operator"
+keyword_text first.TotalProvider = codes "total-provider"
+keyword_text first.Done = codes "done"
 
 -- an operator's name, payment, rent and net
 abbrev pub money_fields : MoneyLine → List (List ℕ)
@@ -78,8 +109,8 @@ amount_fields a = a.name ∷ money_text a.amount ∷ []
 -- what stands behind the first word
 abbrev pub fields : Line → List (List ℕ)
 fields (line.Head date quarters budget) = codes "1" ∷ date ∷ decimal quarters ∷ decimal budget ∷ []
-fields (line.Run heading) = heading_fields heading ++ codes "published" ∷ []
-fields (line.Unpublished heading count) = heading_fields heading ++ codes "unpublished" ∷ decimal count ∷ []
+fields (line.Run heading) = heading_fields heading ++ published_text true ∷ []
+fields (line.Unpublished heading count) = heading_fields heading ++ published_text false ∷ decimal count ∷ []
 fields (line.Welfare welfare) = decimal welfare ∷ []
 fields (line.Zone z) = z.name ∷ price_text z.price ∷ price_text z.least ∷ price_text z.greatest ∷ decimal z.area ∷ []
 fields (line.Border b) = b.from ∷ b.to ∷ signed_decimal b.flow ∷ money_text b.rent ∷ []
@@ -106,7 +137,7 @@ spaced texts = flat_map (λ text. 32 ∷ text) texts
 
 -- a line without its end
 unfoldable pub spelling : Line → List ℕ
-spelling l = keyword l ++ spaced (fields l)
+spelling l = keyword_text (keyword_of l) ++ spaced (fields l)
 
 -- a line with the line feed at its end
 abbrev pub line_text : Line → List ℕ

@@ -30,3 +30,29 @@ pub enum Line {
     TotalProvider(AmountLine),
     Done(u32, u32),
 }
+
+/// The first word of a line.
+#[derive(Clone, Copy, Debug, Drop, PartialEq, Eq)]
+pub enum Keyword {
+    Mari,
+    Run,
+    Welfare,
+    Zone,
+    Border,
+    Bid,
+    Demand,
+    Tree,
+    Branch,
+    Bound,
+    Cut,
+    Conflict,
+    At,
+    Flows,
+    Mws,
+    Operator,
+    Provider,
+    End,
+    TotalOperator,
+    TotalProvider,
+    Done,
+}

@@ -1,0 +1,183 @@
+-- A text has one outcome.
+use Rattle.std.proofs.Common.{◌≡◌, ℕ, ◌+◌, Bool, true, false, not, eqb, List, [], ◌∷◌, ◌++◌, length, Result, Ok, Err, ◌⊎◌, inl, inr, refl, sym, ap, subst, ◌∙◌, append_assoc}
+use Rattle.std.specs.List.{list_all}
+use Rattle.std.proofs.lemmas.Bool.{eq-eqb}
+use Rattle.std.proofs.lemmas.List.{append-nil}
+use Rattle.mari_publish.specs.declared.publication.Publication.{Publication}
+use Rattle.mari_publish.specs.declared.line.Line.{Line}
+use Rattle.mari_publish.specs.declared.fault.TextFault.{TextFault}
+use Rattle.mari_publish.specs.declared.fault.TextFault.TheVariants as fault
+use Rattle.mari_publish.specs.Lines.{lines_of}
+use Rattle.mari_publish.specs.Ranges.{InRange}
+use Rattle.mari_publish.specs.Reading.{Lacks}
+use Rattle.mari_publish.specs.Spelling.{spelling, line_text, text_of_lines}
+use Rattle.mari_publish.specs.Faults.{Begins, IsText, BadLineAt, BadOrderAt, TruncatedAt, IsOutcome, Answers}
+use Rattle.mari_publish.proofs.Printed.{and_parts}
+use Rattle.mari_publish.proofs.LineWords.{no_feed}
+use Rattle.mari_publish.proofs.SameLine.{same_line}
+use Rattle.mari_publish.proofs.Whole.{all_front, all_back}
+use Rattle.mari_publish.proofs.Fits.{Fit, lines_in_range}
+use Rattle.mari_publish.proofs.Follows.{one_publication}
+
+not_feed : (b : ℕ) → not (eqb b 10) ≡ true → b ≡ 10 → ⊥
+not_feed b e is = by_test (eqb b 10) (eq-eqb b 10 is) e
+  where
+    by_test : (t : Bool) → t ≡ true → not t ≡ true → ⊥
+    by_test true a e = absurd cc
+    by_test false a e = absurd cc
+
+-- bytes up to a line feed are those up to the first
+pub line_cut : (u v x y : List ℕ) → Lacks 10 u → Lacks 10 v → u ++ 10 ∷ x ≡ v ++ 10 ∷ y → (u ≡ v) × (x ≡ y)
+line_cut [] [] x y a b e = (refl, cc)
+line_cut [] (c ∷ v) x y a b e = let is : 10 ≡ c = cc in absurd (not_feed c (and_parts _ (list_all (λ b. not (eqb b 10)) v) b).0 (sym is))
+line_cut (c ∷ u) [] x y a b e = let is : c ≡ 10 = cc in absurd (not_feed c (and_parts _ (list_all (λ b. not (eqb b 10)) u) a).0 is)
+line_cut (c ∷ u) (d ∷ v) x y a b e =
+    let first : c ≡ d = cc in
+    let rest : u ++ 10 ∷ x ≡ v ++ 10 ∷ y = cc in
+    let more = line_cut u v x y (and_parts _ (list_all (λ b. not (eqb b 10)) u) a).1 (and_parts _ (list_all (λ b. not (eqb b 10)) v) b).1 rest in
+    (ap (λ z. z ∷ u) first ∙ ap (λ (w : List ℕ). d ∷ w) more.0, more.1)
+
+pub no_cut : (u x : List ℕ) → Lacks 10 (u ++ 10 ∷ x) → ⊥
+no_cut [] x a = not_feed 10 (and_parts _ (list_all (λ b. not (eqb b 10)) x) a).0 refl
+no_cut (c ∷ u) x a = no_cut u x (and_parts _ (list_all (λ b. not (eqb b 10)) (u ++ 10 ∷ x)) a).1
+
+-- the text of a first line, and of the others
+first_text : (l : Line) (ls : List Line) (y : List ℕ) → text_of_lines (l ∷ ls) ++ y ≡ spelling l ++ 10 ∷ (text_of_lines ls ++ y)
+first_text l ls y = append_assoc (line_text l) (text_of_lines ls) y ∙ append_assoc (spelling l) (10 ∷ []) (text_of_lines ls ++ y)
+
+abbrev Longer : List Line → List Line → List ℕ → List ℕ → Type 0
+Longer A B X Y = (C : List Line) × (B ≡ A ++ C) × (X ≡ text_of_lines C ++ Y)
+
+-- two ways to begin a text: one is longer
+compare : (A B : List Line) (X Y : List ℕ) → Fit A → Fit B → text_of_lines A ++ X ≡ text_of_lines B ++ Y → Longer A B X Y ⊎ Longer B A Y X
+compare [] B X Y a b e = inl (B, refl, e)
+compare (l ∷ A) [] X Y a b e = inr (l ∷ A, refl, sym e)
+compare (l ∷ A) (m ∷ B) X Y a b e =
+    let c = line_cut (spelling l) (spelling m) (text_of_lines A ++ X) (text_of_lines B ++ Y) (no_feed l a.0) (no_feed m b.0) (sym (first_text l A X) ∙ e ∙ first_text m B Y) in
+    let same : l ≡ m = same_line l m a.0 b.0 c.0 in
+    elim (compare A B X Y a.1 b.1 c.1) [
+      | inl h ↦ inl (h.0, ap (λ z. z ∷ B) (sym same) ∙ ap (λ (ls : List Line). l ∷ ls) h.1, h.2)
+      | inr h ↦ inr (h.0, ap (λ z. z ∷ A) same ∙ ap (λ (ls : List Line). m ∷ ls) h.1, h.2)
+    ]
+
+fit_begun : (ls : List Line) → Begins ls → Fit ls
+fit_begun ls b = all_front InRange ls b.1 (subst Fit b.3 (lines_in_range b.0 b.2))
+
+-- lines that begin a text, behind which no line goes on
+record Stop (text : List ℕ) (A : List Line) (R : List ℕ) : Type 0 where
+  parts : text ≡ text_of_lines A ++ R
+  begins : Begins A
+  stops : (c : Line) (C : List Line) (Y : List ℕ) → InRange c → Begins (A ++ c ∷ C) → R ≡ text_of_lines (c ∷ C) ++ Y → ⊥
+
+no_more : (text : List ℕ) (A B : List Line) (R S : List ℕ) → Stop text A R → Begins B → (C : List Line) → B ≡ A ++ C → R ≡ text_of_lines C ++ S → (A ≡ B) × (R ≡ S)
+no_more text A B R S s b [] e r = (sym (e ∙ append-nil A), r)
+no_more text A B R S s b (c ∷ C) e r =
+    let longer : Begins (A ++ c ∷ C) = subst Begins e b in
+    let range : InRange c = (all_back InRange A (c ∷ C) (fit_begun (A ++ c ∷ C) longer)).0 in
+    absurd (s.stops c C S range longer r)
+
+-- two stops of a text are one
+one_stop : (text : List ℕ) (A B : List Line) (R S : List ℕ) → Stop text A R → Stop text B S → (A ≡ B) × (R ≡ S)
+one_stop text A B R S s t = elim (compare A B R S (fit_begun A s.begins) (fit_begun B t.begins) (sym s.parts ∙ t.parts)) [
+  | inl h ↦ no_more text A B R S s t.begins h.0 h.1 h.2
+  | inr h ↦ (let q = no_more text B A S R t s.begins h.0 h.1 h.2 in (sym q.0, sym q.1))
+]
+
+not_empty : (u x : List ℕ) → [] ≡ u ++ 10 ∷ x → ⊥
+not_empty [] x e = absurd cc
+not_empty (b ∷ u) x e = absurd cc
+
+-- each outcome is a stop
+text_stop : (text : List ℕ) (p : Publication) → IsText text p → Stop text (lines_of p) []
+text_stop text p t = record {
+  parts = t.is ∙ sym (append-nil (text_of_lines (lines_of p)));
+  begins = (p, [], t.has, sym (append-nil (lines_of p)));
+  stops = λ c C Y r b e. not_empty (spelling c) (text_of_lines C ++ Y) (e ∙ first_text c C Y);
+}
+
+line_stop : (text : List ℕ) (n : ℕ) (a : BadLineAt text n) → Stop text a.before (a.here ++ 10 ∷ a.after)
+line_stop text n a = record {
+  parts = a.parts;
+  begins = a.begins;
+  stops = λ c C Y r b e. a.formless c r (sym (line_cut a.here (spelling c) a.after (text_of_lines C ++ Y) a.whole (no_feed c r) (e ∙ first_text c C Y)).0);
+}
+
+order_text : (l : Line) (after : List ℕ) → line_text l ++ after ≡ spelling l ++ 10 ∷ after
+order_text l after = append_assoc (spelling l) (10 ∷ []) after
+
+order_stop : (text : List ℕ) (n : ℕ) (a : BadOrderAt text n) → Stop text a.before (line_text a.here ++ a.after)
+order_stop text n a = record {
+  parts = a.parts;
+  begins = a.begins;
+  stops = λ c C Y r b e.
+      let same = (line_cut (spelling a.here) (spelling c) a.after (text_of_lines C ++ Y) (no_feed a.here a.in_range) (no_feed c r) (sym (order_text a.here a.after) ∙ e ∙ first_text c C Y)).0 in
+      let is : c ≡ a.here = sym (same_line a.here c a.in_range r same) in
+      a.misplaced (subst (λ z. Begins (a.before ++ z ∷ [])) is (b.0, C ++ b.1, b.2, b.3 ∙ append_assoc a.before (c ∷ C) b.1 ∙ sym (append_assoc a.before (c ∷ []) (C ++ b.1))));
+}
+
+truncated_stop : (text : List ℕ) (n : ℕ) (a : TruncatedAt text n) → Stop text a.before a.rest
+truncated_stop text n a = record {
+  parts = a.parts;
+  begins = a.begins;
+  stops = λ c C Y r b e. no_cut (spelling c) (text_of_lines C ++ Y) (subst (λ (w : List ℕ). Lacks 10 w) (e ∙ first_text c C Y) a.no_line);
+}
+
+pub one_text : (text : List ℕ) (p q : Publication) → IsText text p → IsText text q → p ≡ q
+one_text text p q a b = one_publication p q a.has b.has (one_stop text _ _ _ _ (text_stop text p a) (text_stop text q b)).0
+
+-- two outcomes of different kinds are none
+text_line : (text : List ℕ) (p : Publication) (n : ℕ) → IsText text p → BadLineAt text n → ⊥
+text_line text p n a b = not_empty b.here b.after (one_stop text _ _ _ _ (text_stop text p a) (line_stop text n b)).1
+
+text_order : (text : List ℕ) (p : Publication) (n : ℕ) → IsText text p → BadOrderAt text n → ⊥
+text_order text p n a b = not_empty (spelling b.here) b.after ((one_stop text _ _ _ _ (text_stop text p a) (order_stop text n b)).1 ∙ order_text b.here b.after)
+
+text_truncated : (text : List ℕ) (p : Publication) (n : ℕ) → IsText text p → TruncatedAt text n → ⊥
+text_truncated text p n a b = let s = one_stop text _ _ _ _ (text_stop text p a) (truncated_stop text n b) in b.unfinished (sym s.1) p a.has s.0
+
+line_order : (text : List ℕ) (m n : ℕ) → BadLineAt text m → BadOrderAt text n → ⊥
+line_order text m n a b =
+    let s = one_stop text _ _ _ _ (line_stop text m a) (order_stop text n b) in
+    a.formless b.here b.in_range (sym (line_cut a.here (spelling b.here) a.after b.after a.whole (no_feed b.here b.in_range) (s.1 ∙ order_text b.here b.after)).0)
+
+line_truncated : (text : List ℕ) (m n : ℕ) → BadLineAt text m → TruncatedAt text n → ⊥
+line_truncated text m n a b = let s = one_stop text _ _ _ _ (line_stop text m a) (truncated_stop text n b) in no_cut a.here a.after (subst (λ (w : List ℕ). Lacks 10 w) (sym s.1) b.no_line)
+
+order_truncated : (text : List ℕ) (m n : ℕ) → BadOrderAt text m → TruncatedAt text n → ⊥
+order_truncated text m n a b =
+    let s = one_stop text _ _ _ _ (order_stop text m a) (truncated_stop text n b) in
+    no_cut (spelling a.here) a.after (subst (λ (w : List ℕ). Lacks 10 w) (sym s.1 ∙ order_text a.here a.after) b.no_line)
+
+number : (A B : List Line) (m n : ℕ) → A ≡ B → m ≡ length A + 1 → n ≡ length B + 1 → m ≡ n
+number A B m n e em en = em ∙ ap (λ (ls : List Line). length ls + 1) e ∙ sym en
+
+abbrev bad : TextFault → Result Publication TextFault
+bad f = Err f
+
+pub text_answer : (text : List ℕ) (result : Result Publication TextFault) → IsOutcome text result → (p : Publication) → IsText text p → Answers (Ok p) result
+text_answer text (Ok q) o p t = inl (ap (λ (x : Publication). Ok x) (one_text text q p o t))
+text_answer text (Err (fault.BadLine n)) o p t = absurd (text_line text p n t o)
+text_answer text (Err (fault.BadOrder n)) o p t = absurd (text_order text p n t o)
+text_answer text (Err (fault.Truncated n)) o p t = absurd (text_truncated text p n t o)
+text_answer text (Err fault.Memory) o p t = inr refl
+
+pub line_answer : (text : List ℕ) (result : Result Publication TextFault) → IsOutcome text result → (m : ℕ) → BadLineAt text m → Answers (Err (fault.BadLine m)) result
+line_answer text (Ok q) o m t = absurd (text_line text q m o t)
+line_answer text (Err (fault.BadLine n)) o m t = inl (ap (λ k. bad (fault.BadLine k)) (number _ _ n m (one_stop text _ _ _ _ (line_stop text n o) (line_stop text m t)).0 o.number t.number))
+line_answer text (Err (fault.BadOrder n)) o m t = absurd (line_order text m n t o)
+line_answer text (Err (fault.Truncated n)) o m t = absurd (line_truncated text m n t o)
+line_answer text (Err fault.Memory) o m t = inr refl
+
+pub order_answer : (text : List ℕ) (result : Result Publication TextFault) → IsOutcome text result → (m : ℕ) → BadOrderAt text m → Answers (Err (fault.BadOrder m)) result
+order_answer text (Ok q) o m t = absurd (text_order text q m o t)
+order_answer text (Err (fault.BadLine n)) o m t = absurd (line_order text n m o t)
+order_answer text (Err (fault.BadOrder n)) o m t = inl (ap (λ k. bad (fault.BadOrder k)) (number _ _ n m (one_stop text _ _ _ _ (order_stop text n o) (order_stop text m t)).0 o.number t.number))
+order_answer text (Err (fault.Truncated n)) o m t = absurd (order_truncated text m n t o)
+order_answer text (Err fault.Memory) o m t = inr refl
+
+pub truncated_answer : (text : List ℕ) (result : Result Publication TextFault) → IsOutcome text result → (m : ℕ) → TruncatedAt text m → Answers (Err (fault.Truncated m)) result
+truncated_answer text (Ok q) o m t = absurd (text_truncated text q m o t)
+truncated_answer text (Err (fault.BadLine n)) o m t = absurd (line_truncated text n m o t)
+truncated_answer text (Err (fault.BadOrder n)) o m t = absurd (order_truncated text n m o t)
+truncated_answer text (Err (fault.Truncated n)) o m t = inl (ap (λ k. bad (fault.Truncated k)) (number _ _ n m (one_stop text _ _ _ _ (truncated_stop text n o) (truncated_stop text m t)).0 o.number t.number))
+truncated_answer text (Err fault.Memory) o m t = inr refl

@@ -1,0 +1,34 @@
+use Rattle.std.proofs.Common.{arith}
+use Rattle.mari_publish.specs.Gathering.{seen}
+use Rattle.mari_publish.proofs.Progress.{progress_of_nothing, number_fits, counts_fit, has_room, bad_line, bad_order, shorter, forward, finished}
+use Rattle.mari_publish.proofs.reading.read_lines.Goals as goal
+
+pub loop-here-init : goal.loop-here-init
+loop-here-init c = progress_of_nothing c.args.bytes.now (seen c.nothing-gathered.result) c.nothing-gathered.ensures
+
+pub take_line-requires-clause-counts : goal.take_line-requires-clause-counts
+take_line-requires-clause-counts c = counts_fit c.args.bytes.now c.loop-here.rest.now c.loop-here.number (seen c.loop-here.gathered) c.loop-here.kept c.loop-here.invariant
+
+pub take_line-requires-clause-room : goal.take_line-requires-clause-room
+take_line-requires-clause-room c = has_room c.args.bytes.now c.loop-here.rest.now c.loop-here.number (seen c.loop-here.gathered) c.loop-here.kept c.loop-here.invariant
+
+pub overflow_add-number : goal.overflow_add-number
+overflow_add-number c = let small = number_fits c.args.bytes.now c.loop-here.rest.now c.loop-here.number (seen c.loop-here.gathered) c.loop-here.kept c.loop-here.invariant in omega (arith, small)
+
+pub returns-in-Err-Form : goal.returns-in-Err-Form
+returns-in-Err-Form c = bad_line c.args.bytes.now c.loop-here.rest.now c.in-Some.here.now c.in-Some.after.now c.loop-here.number (seen c.loop-here.gathered) (seen c.take_line.new.gathered) c.loop-here.kept
+    c.loop-here.invariant c.in-Some.ensures.0 c.in-Some.ensures.1 _ c.in-Err-Form.field-0-is c.in-Err-Form.ensures
+
+pub returns-in-Err-Order : goal.returns-in-Err-Order
+returns-in-Err-Order c = bad_order c.args.bytes.now c.loop-here.rest.now c.in-Some.here.now c.in-Some.after.now c.loop-here.number (seen c.loop-here.gathered) (seen c.take_line.new.gathered) c.loop-here.kept
+    c.loop-here.invariant c.in-Some.ensures.1 _ c.in-Err-Order.field-0-is c.in-Err-Order.ensures
+
+pub loop-here-smaller : goal.loop-here-smaller
+loop-here-smaller c = shorter c.loop-here.rest.now c.in-Some.here.now c.in-Some.after.now c.in-Some.ensures.1
+
+pub loop-here-preserved : goal.loop-here-preserved
+loop-here-preserved c = forward c.args.bytes.now c.loop-here.rest.now c.in-Some.here.now c.in-Some.after.now c.loop-here.number (seen c.loop-here.gathered) (seen c.take_line.new.gathered) c.loop-here.kept c.in-Ok.next
+    c.loop-here.invariant c.in-Some.ensures.1 c.in-Ok.ensures
+
+pub returns : goal.returns
+returns c = finished c.args.bytes.now c.loop-here.rest.now c.loop-here.number c.loop-here.gathered c.loop-here.kept c.finish.result c.loop-here.invariant c.in_default.ensures c.finish.ensures

@@ -1,0 +1,209 @@
+-- Which line may follow what has come, and what has come then.
+use Rattle.std.specs.Prelude.{◌≡◌, ℕ, ◌+◌, ◌<◌, Bool, true, false, ◌&&◌, List, [], ◌∷◌, ◌++◌, map, length, nat_lt, ◌==◌, Option, Some, None, Result, Ok, Err, if◌then◌else◌, ⊤, ℤ}
+use Rattle.std.specs.List.{flat_map}
+use Rattle.mari_units.specs.declared.numbers.Cents.{Cents}
+use Rattle.mari_market.specs.declared.certificate.Leaf.TheVariants as leaves
+use Rattle.mari_market.specs.declared.certificate.TreeItem.{TreeItem}
+use Rattle.mari_market.specs.declared.certificate.TreeItem.TheVariants as items
+use Rattle.mari_publish.specs.declared.publication.AmountLine.{AmountLine}
+use Rattle.mari_publish.specs.declared.publication.MoneyLine.{MoneyLine}
+use Rattle.mari_publish.specs.declared.publication.Publication.{Publication}
+use Rattle.mari_publish.specs.declared.publication.Block.{Block}
+use Rattle.mari_publish.specs.declared.publication.Block.TheVariants as block
+use Rattle.mari_publish.specs.declared.line.Line.{Line}
+use Rattle.mari_publish.specs.declared.line.Line.TheVariants as line
+use Rattle.mari_publish.specs.declared.held.Pending.{Pending}
+use Rattle.mari_publish.specs.declared.held.Pending.TheVariants.{Nothing, Zones, At, Flows}
+use Rattle.mari_publish.specs.declared.held.Listing.{Listing}
+use Rattle.mari_publish.specs.declared.held.Growing.{Growing}
+use Rattle.mari_publish.specs.declared.held.Ending.{Ending}
+use Rattle.mari_publish.specs.declared.held.Held.{Held}
+use Rattle.mari_publish.specs.declared.held.Held.TheVariants as held
+use Rattle.mari_publish.specs.declared.held.Part.{Part}
+use Rattle.mari_publish.specs.declared.held.Part.TheVariants as part
+use Rattle.mari_publish.specs.declared.held.Kept.{Kept}
+use Rattle.mari_publish.specs.declared.follow.Refused.{Refused}
+use Rattle.mari_publish.specs.declared.follow.Refused.TheVariants as refused
+use Rattle.mari_publish.specs.Lines.{item_lines, demand_lines, block_lines, lines_of}
+
+-- the lines that have come of a conflict
+abbrev pub pending_lines : Pending → List Line
+pending_lines Nothing = []
+pending_lines (Zones zones) = line.Conflict zones ∷ []
+pending_lines (At zones prices) = line.Conflict zones ∷ line.At prices ∷ []
+pending_lines (Flows zones prices flows) = line.Conflict zones ∷ line.At prices ∷ line.Flows flows ∷ []
+
+-- of a block before its tree
+abbrev pub listing_lines : Listing → List Line
+listing_lines b = line.Run b.heading ∷ line.Welfare b.welfare ∷ (map line.Zone b.zones ++ (map line.Border b.borders ++ (map line.Bid b.bids ++ demand_lines 1 b.demands)))
+
+-- of a block in its tree
+abbrev pub growing_lines : Growing → List Line
+growing_lines g = listing_lines g.listing ++ line.Tree g.count ∷ (flat_map item_lines g.tree ++ pending_lines g.pending)
+
+-- of a block behind its tree
+abbrev pub ending_part : Ending → List Line
+ending_part e = listing_lines e.listing ++ line.Tree (length e.tree) ∷ (flat_map item_lines e.tree ++ (map line.Operator e.operators ++ map line.Provider e.providers))
+
+-- the lines of what is held
+abbrev pub held_lines : Held → List Line
+held_lines held.Start = []
+held_lines held.Between = []
+held_lines (held.Run h) = line.Run h ∷ []
+held_lines (held.Listing b) = listing_lines b
+held_lines (held.Growing g) = growing_lines g
+held_lines (held.Ending e) = ending_part e
+held_lines (held.Totals os ps) = map line.TotalOperator os ++ map line.TotalProvider ps
+held_lines held.Done = []
+
+abbrev pub is_nothing : Pending → Bool
+is_nothing Nothing = true
+is_nothing (Zones zones) = false
+is_nothing (At zones prices) = false
+is_nothing (Flows zones prices flows) = false
+
+abbrev pub with_item : Growing → TreeItem → Held
+with_item g i = held.Growing (record { listing = g.listing; count = g.count; tree = g.tree ++ i ∷ []; pending = Nothing })
+
+abbrev pub with_pending : Growing → Pending → Held
+with_pending g p = held.Growing (record { listing = g.listing; count = g.count; tree = g.tree; pending = p })
+
+abbrev pub empty : {X : Type 0} → List X → Bool
+empty xs = length xs == 0
+
+-- in a block before its tree: zones, borders, bids, demands, and then the tree
+abbrev pub after_listing : Listing → Line → Option Held
+after_listing b (line.Zone z) = if empty b.borders && empty b.bids && empty b.demands && nat_lt (length b.zones) 64
+    then Some (held.Listing (record { heading = b.heading; welfare = b.welfare; zones = b.zones ++ z ∷ []; borders = b.borders; bids = b.bids; demands = b.demands })) else None
+after_listing b (line.Border x) = if nat_lt 0 (length b.zones) && empty b.bids && empty b.demands && nat_lt (length b.borders) 256
+    then Some (held.Listing (record { heading = b.heading; welfare = b.welfare; zones = b.zones; borders = b.borders ++ x ∷ []; bids = b.bids; demands = b.demands })) else None
+after_listing b (line.Bid x) = if nat_lt 0 (length b.zones) && empty b.demands && nat_lt (length b.bids) 4096
+    then Some (held.Listing (record { heading = b.heading; welfare = b.welfare; zones = b.zones; borders = b.borders; bids = b.bids ++ x ∷ []; demands = b.demands })) else None
+after_listing b (line.Demand place mw) = if nat_lt 0 (length b.zones) && place == length b.demands + 1
+    then Some (held.Listing (record { heading = b.heading; welfare = b.welfare; zones = b.zones; borders = b.borders; bids = b.bids; demands = b.demands ++ mw ∷ [] })) else None
+after_listing b (line.Tree n) = if nat_lt 0 (length b.zones)
+    then Some (held.Growing (record { listing = b; count = n; tree = []; pending = Nothing })) else None
+after_listing b _ = None
+
+-- the item of a conflict's four lines
+abbrev pub conflict_item : List ℕ → List Cents → List ℤ → List ℕ → TreeItem
+conflict_item zones prices flows mws = items.Leaf (leaves.Conflict (record { chain = zones; potentials = record { cents = prices }; activation = record { mw = mws; flow = flows } }))
+
+-- in a tree: an item where one is due, and behind the last one an operator
+abbrev pub after_growing : Growing → Pending → Line → Option Held
+after_growing g Nothing line.Branch = if nat_lt (length g.tree) g.count then Some (with_item g items.Branch) else None
+after_growing g Nothing (line.Bound prices) = if nat_lt (length g.tree) g.count then Some (with_item g (items.Leaf (leaves.Bound (record { cents = prices })))) else None
+after_growing g Nothing (line.Cut cut) = if nat_lt (length g.tree) g.count then Some (with_item g (items.Leaf (leaves.Cut cut))) else None
+after_growing g Nothing (line.Conflict zones) = if nat_lt (length g.tree) g.count then Some (with_pending g (Zones zones)) else None
+after_growing g Nothing (line.Operator o) = if length g.tree == g.count
+    then Some (held.Ending (record { listing = g.listing; tree = g.tree; operators = o ∷ []; providers = [] })) else None
+after_growing g (Zones zones) (line.At prices) = Some (with_pending g (At zones prices))
+after_growing g (At zones prices) (line.Flows flows) = Some (with_pending g (Flows zones prices flows))
+after_growing g (Flows zones prices flows) (line.Mws mws) =
+    Some (with_item g (conflict_item zones prices flows mws))
+after_growing g _ _ = None
+
+abbrev pub full_block : Ending → Block
+full_block e = block.Published (record {
+  heading = e.listing.heading;
+  welfare = e.listing.welfare;
+  zones = e.listing.zones;
+  borders = e.listing.borders;
+  bids = e.listing.bids;
+  demands = e.listing.demands;
+  tree = e.tree;
+  operators = e.operators;
+  providers = e.providers;
+})
+
+-- behind a tree: operators, and then providers
+abbrev pub after_ending : Ending → Line → Option Held
+after_ending e (line.Operator o) = if empty e.providers && nat_lt (length e.operators) 64
+    then Some (held.Ending (record { listing = e.listing; tree = e.tree; operators = e.operators ++ o ∷ []; providers = e.providers })) else None
+after_ending e (line.Provider p) = if nat_lt (length e.providers) 4096
+    then Some (held.Ending (record { listing = e.listing; tree = e.tree; operators = e.operators; providers = e.providers ++ p ∷ [] })) else None
+after_ending e _ = None
+
+abbrev pub keeps : Kept → Option Held → Option (Kept × Option Part)
+keeps k None = None
+keeps k (Some h) = Some (record { held = h; published = k.published; unpublished = k.unpublished }, None)
+
+-- behind the head or a block
+abbrev pub starts_block : Kept → Line → Option (Kept × Option Part)
+starts_block k (line.Run h) = if nat_lt (k.published + k.unpublished) 1000
+    then Some (record { held = held.Run h; published = k.published; unpublished = k.unpublished }, None) else None
+starts_block k (line.Unpublished h count) = if nat_lt (k.published + k.unpublished) 1000
+    then Some (record { held = held.Between; published = k.published; unpublished = k.unpublished + 1 }, Some (part.Block (block.Unpublished h count))) else None
+starts_block k (line.TotalOperator o) = keeps k (Some (held.Totals (o ∷ []) []))
+starts_block k _ = None
+
+-- in the totals: operators, and then providers
+abbrev pub after_totals : List MoneyLine → List AmountLine → Line → Option Held
+after_totals os ps (line.TotalOperator o) = if empty ps && nat_lt (length os) 64 then Some (held.Totals (os ++ o ∷ []) ps) else None
+after_totals os ps (line.TotalProvider p) = if nat_lt (length ps) 1638400 then Some (held.Totals os (ps ++ p ∷ [])) else None
+after_totals os ps _ = None
+
+-- what is kept after a line, and the part that is whole with it
+abbrev pub after : Kept → Held → Line → Option (Kept × Option Part)
+after k held.Start (line.Head date quarters budget) = Some (record { held = held.Between; published = k.published; unpublished = k.unpublished }, Some (part.Head date quarters budget))
+after k held.Between l = starts_block k l
+after k (held.Run h) (line.Welfare n) = keeps k (Some (held.Listing (record { heading = h; welfare = n; zones = []; borders = []; bids = []; demands = [] })))
+after k (held.Listing b) l = keeps k (after_listing b l)
+after k (held.Growing g) l = keeps k (after_growing g g.pending l)
+after k (held.Ending e) (line.End run) = if run == e.listing.heading.run
+    then Some (record { held = held.Between; published = k.published + 1; unpublished = k.unpublished }, Some (part.Block (full_block e))) else None
+after k (held.Ending e) l = keeps k (after_ending e l)
+after k (held.Totals os ps) (line.Done published unpublished) = if published == k.published && unpublished == k.unpublished
+    then Some (record { held = held.Done; published = k.published; unpublished = k.unpublished }, Some (part.Totals os ps)) else None
+after k (held.Totals os ps) l = keeps k (after_totals os ps l)
+after k _ _ = None
+
+-- a publication with one part more
+abbrev pub grown : Publication → Option Part → Publication
+grown p None = p
+grown p (Some (part.Head date quarters budget)) = record { date = date; quarters = quarters; budget = budget; blocks = []; operators = []; providers = [] }
+grown p (Some (part.Block b)) = record { date = p.date; quarters = p.quarters; budget = p.budget; blocks = p.blocks ++ b ∷ []; operators = p.operators; providers = p.providers }
+grown p (Some (part.Totals os ps)) = record { date = p.date; quarters = p.quarters; budget = p.budget; blocks = p.blocks; operators = os; providers = ps }
+
+-- the lines of the head and the blocks
+abbrev pub front_lines : Publication → List Line
+front_lines p = line.Head p.date p.quarters p.budget ∷ flat_map block_lines p.blocks
+
+-- the lines of the parts so far, and of what is held
+abbrev pub lines_so_far : Publication → Held → List Line
+lines_so_far p held.Start = []
+lines_so_far p held.Done = lines_of p
+lines_so_far p h = front_lines p ++ held_lines h
+
+-- a reader before the first line
+abbrev pub nothing_read : Publication
+nothing_read = record { date = []; quarters = 0; budget = 0; blocks = []; operators = []; providers = [] }
+
+abbrev pub nothing_kept : Kept
+nothing_kept = record { held = held.Start; published = 0; unpublished = 0 }
+
+abbrev pub and_then : {A B : Type 0} → Option A → (A → Option B) → Option B
+and_then None f = None
+and_then (Some x) f = f x
+
+-- a publication so far and what is kept, after lines that may follow one another
+abbrev pub after_all : Publication → Kept → List Line → Option (Publication × Kept)
+after_all p k [] = Some (p, k)
+after_all p k (l ∷ ls) = and_then (after k k.held l) (λ x. after_all (grown p x.1) x.0 ls)
+
+-- what a step gives is what it should give, or memory ran out
+abbrev pub Follows : {A : Type 0} → Option A → Result A Refused → Type 0
+Follows expected (Ok x) = expected ≡ Some x
+Follows expected (Err refused.Order) = expected ≡ None
+Follows expected (Err refused.Memory) = ⊤
+
+-- in a block there is room for it among the runs
+abbrev pub HasRoom : Held → ℕ → ℕ → Type 0
+HasRoom (held.Run h) m n = m + n < 1000
+HasRoom (held.Listing b) m n = m + n < 1000
+HasRoom (held.Growing g) m n = m + n < 1000
+HasRoom (held.Ending e) m n = m + n < 1000
+HasRoom _ m n = ⊤
+
+abbrev pub counts : ℕ → ℕ → Kept
+counts m n = record { held = held.Done; published = m; unpublished = n }

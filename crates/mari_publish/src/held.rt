@@ -1,0 +1,72 @@
+//! A part of a text as far as it has come.
+
+use crate::publication::{AmountLine, BidLine, Block, BorderLine, Heading, MoneyLine, ZoneLine};
+use mari_market::TreeItem;
+use mari_units::{Cents, Items, Name};
+
+/// What has come of a conflict's four lines.
+#[derive(Drop)]
+pub enum Pending {
+    Nothing,
+    Zones(Items<u32>),
+    At(Items<u32>, Items<Cents>),
+    Flows(Items<u32>, Items<Cents>, Items<i64>),
+}
+
+/// A block before its tree.
+#[derive(Drop)]
+pub struct Listing {
+    pub heading: Heading,
+    pub welfare: u64,
+    pub zones: Items<ZoneLine>,
+    pub borders: Items<BorderLine>,
+    pub bids: Items<BidLine>,
+    pub demands: Items<u32>,
+}
+
+/// A block from its tree's first line on.
+#[derive(Drop)]
+pub struct Growing {
+    pub listing: Listing,
+    pub count: u32,
+    pub tree: Items<TreeItem>,
+    pub pending: Pending,
+}
+
+/// A block behind its tree.
+#[derive(Drop)]
+pub struct Ending {
+    pub listing: Listing,
+    pub tree: Items<TreeItem>,
+    pub operators: Items<MoneyLine>,
+    pub providers: Items<AmountLine>,
+}
+
+/// What has come of the part that is being read.
+#[derive(Drop)]
+pub enum Held {
+    Start,
+    Between,
+    Run(Heading),
+    Listing(Listing),
+    Growing(Growing),
+    Ending(Ending),
+    Totals(Items<MoneyLine>, Items<AmountLine>),
+    Done,
+}
+
+/// A part that is whole.
+#[derive(Drop)]
+pub enum Part {
+    Head(Name, u32, u32),
+    Block(Block),
+    Totals(Items<MoneyLine>, Items<AmountLine>),
+}
+
+/// What a reader keeps between two lines.
+#[derive(Drop)]
+pub struct Kept {
+    pub held: Held,
+    pub published: u32,
+    pub unpublished: u32,
+}

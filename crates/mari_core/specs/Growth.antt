@@ -149,11 +149,11 @@ return_refused k (Some (Closed leaf cutoff)) = Some NotTaken
 -- ---- what every growth keeps
 
 -- a branched node leaves a gate to decide, and the nodes that it names are its children, closed first
-abbrev pub HasChildren : Market → List TreeNode → List Bool → NodeState → Type 0
-HasChildren m nodes word Untaken = ⊤
-HasChildren m nodes word (Taken k) = ⊤
-HasChildren m nodes word (Branched closed opened) = (length word < length m.gates) × (map (λ x. slice_get (words_of nodes) x) (child_numbers (Branched closed opened)) ≡ map Some (children m.gates word))
-HasChildren m nodes word (Closed leaf cutoff) = ⊤
+abbrev pub HasChildren : Market → List (List Bool) → List Bool → NodeState → Type 0
+HasChildren m words word Untaken = ⊤
+HasChildren m words word (Taken k) = ⊤
+HasChildren m words word (Branched closed opened) = (length word < length m.gates) × (map (λ x. slice_get words x) (child_numbers (Branched closed opened)) ≡ map (λ w. Some w) (children m.gates word))
+HasChildren m words word (Closed leaf cutoff) = ⊤
 
 -- whether the node is branched
 abbrev pub is_branched : NodeState → Bool
@@ -197,7 +197,7 @@ pub record IsGrowth (g : Grown) : Type 0 where
   pub nodes_are : AreNodes g.market (words_of g.nodes)
   pub root : slice_get (words_of g.nodes) 0 ≡ Some []
   pub within_budget : length g.nodes ≤ g.budget
-  pub have_children : All (λ (n : TreeNode). HasChildren g.market g.nodes n.word n.state) g.nodes
+  pub have_children : All (λ (n : TreeNode). HasChildren g.market (words_of g.nodes) n.word n.state) g.nodes
   pub have_parents : All (λ (n : TreeNode). (n.word ≡ []) ⊎ HasParent g.nodes n.word) g.nodes
   pub hold : All (λ (n : TreeNode). HoldsAtCutoff g.market n.word n.state) g.nodes
   pub preorder : HasPreorder g.nodes

@@ -1,5 +1,5 @@
 -- The nodes of a search in preorder: after each node stand those below its closed child, and then those below its open child.
-use Rattle.std.specs.Prelude.{◌≡◌, ◌==◌, ℕ, zero, suc, Bool, true, false, if◌then◌else◌, nat_lt, List, [], ◌∷◌, ◌++◌, length, map, Option, Some, None, ⊤, count_by, All}
+use Rattle.std.specs.Prelude.{◌≡◌, ◌==◌, ℕ, ◌+◌, Bool, true, false, if◌then◌else◌, nat_lt, List, [], ◌∷◌, ◌++◌, length, map, Option, Some, None, ⊤, All}
 use Rattle.mari_market.specs.declared.certificate.TreeItem.{TreeItem}
 use Rattle.mari_market.specs.declared.certificate.TreeItem.TheVariants.{Branch as BranchItem, Leaf as LeafItem}
 use Rattle.mari_market.specs.declared.clearing.PartItem.{PartItem}
@@ -19,7 +19,8 @@ IsWalk nodes (w ∷ waiting) (x ∷ xs) = (w ≡ x) × IsWalk nodes (children_of
 
 -- how often the number occurs
 abbrev pub occurs : ℕ → List ℕ → ℕ
-occurs x numbers = count_by (λ y. y == x) numbers
+occurs x [] = 0
+occurs x (y ∷ ys) = (if y == x then 1 else 0) + occurs x ys
 
 -- the numbers of all nodes in preorder, each once
 pub record IsPreorder (nodes : List TreeNode) (numbers : List ℕ) : Type 0 where

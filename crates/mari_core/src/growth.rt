@@ -17,7 +17,7 @@ use crate::event::{FinishFault, StepFault};
 use crate::node::{Node, NodeState};
 use crate::preorder::{finished_items, part_items};
 use mari_gates::{child_of, empty_prefix, may_branch_up};
-use mari_market::{Finding, Leaf, Market, PartItem, Prefix, TreeItem};
+use mari_market::{Finding, Leaf, Market, PartItem, Prefix, Relaxed, TreeItem};
 use mari_units::Memory;
 use std::alloc::Global;
 use std::marker::Model;
@@ -74,11 +74,19 @@ fn closing_leaf(finding: Finding, cutoff: u64) -> Option<Leaf>
 {
     match finding {
         Finding::Empty(cut) => Some(Leaf::Cut(cut)),
-        Finding::Relaxed(relaxed) => match relaxed.conflict {
-            Some(conflict) => Some(Leaf::Conflict(conflict)),
-            None if relaxed.bound <= cutoff => Some(Leaf::Bound(relaxed.potentials)),
-            None => None,
-        },
+        Finding::Relaxed(relaxed) => {
+            let Relaxed {
+                potentials,
+                bound,
+                conflict,
+                best: _,
+            } = relaxed;
+            match conflict {
+                Some(conflict) => Some(Leaf::Conflict(conflict)),
+                None if bound <= cutoff => Some(Leaf::Bound(potentials)),
+                None => None,
+            }
+        }
     }
 }
 

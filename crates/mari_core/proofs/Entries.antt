@@ -1,0 +1,159 @@
+-- Each entry that is allowed keeps what a growth keeps, and the least node that waits.
+use Rattle.std.proofs.Common.{◌≡◌, ◌≢◌, ◌⊎◌, inl, inr, Bool, true, false, ℕ, zero, suc, ◌+◌, ◌-◌, ◌<◌, ◌≤◌, ◌==◌, min, pos, if◌then◌else◌, List, [], ◌∷◌, ◌++◌, length, map, Option, Some, None, arith, refl, sym, ap, subst, ◌∙◌, length-append}
+use Rattle.std.specs.Prelude.{slice_get}
+use Rattle.std.specs.Option.{option_map}
+use Rattle.std.proofs.lemmas.Bool.{cases_eq, cases_lt}
+use Rattle.std.proofs.lemmas.Bool.Decides.{nat_tests}
+use Rattle.std.proofs.lemmas.Option.{slice_get_within, slice_get_past}
+use Rattle.mari_market.specs.declared.market.Market.{Market}
+use Rattle.mari_market.specs.declared.certificate.Leaf.{Leaf}
+use Rattle.mari_market.specs.Prefix.{children, may_open}
+use Rattle.mari_market.specs.Tree.{LeafHolds}
+use Rattle.mari_core.specs.declared.node.NodeState.{NodeState}
+use Rattle.mari_core.specs.declared.node.NodeState.TheVariants.{Untaken, Taken, Branched, Closed}
+use Rattle.mari_core.specs.Nodes.{TreeNode, new_node, in_state, words_of, word_at, state_at, branch_of}
+use Rattle.mari_core.specs.Growth.{Grown, Entry, grown, with_state, branched, child_words, children_at, is_branched, IsGrowth, IsCrowded, IsAllowed, MayClose, MayBranch, take_refused, return_refused, IsNext, HoldsAtCutoff}
+use Rattle.mari_market.specs.SearchTree.{IsPromising}
+use Rattle.mari_core.specs.declared.event.StepFault.TheVariants.{NotTaken}
+use Rattle.mari_core.specs.Growth.Entry.{Take, Close, Branch, Full, GiveBack}
+use Rattle.mari_core.proofs.Lists.{changed_same, changed_other, get_front, get_back}
+use Rattle.mari_core.proofs.Changes.{IsAt, node_at, word_of_node, length-with_state, state_same, state_other}
+use Rattle.mari_core.proofs.Keeps.{leaf_kept, crowded_stays}
+use Rattle.mari_core.proofs.Children.{promising_by}
+use Rattle.mari_core.proofs.Branching.{branch_kept}
+
+-- ---- why a check lets pass
+
+pub take_passes : (o : Option NodeState) → take_refused o ≡ None → o ≡ Some Untaken
+take_passes None e = absurd (cc)
+take_passes (Some Untaken) e = refl
+take_passes (Some (Taken k)) e = absurd (cc)
+take_passes (Some (Branched closed opened)) e = absurd (cc)
+take_passes (Some (Closed leaf cutoff)) e = absurd (cc)
+
+same_actor : (j k : ℕ) → (j == k) ≡ true → j ≡ k
+same_actor j k e = grind (arith, nat_tests)
+
+pub return_passes : (k : ℕ) (o : Option NodeState) → return_refused k o ≡ None → o ≡ Some (Taken k)
+return_passes k None e = absurd (cc)
+return_passes k (Some Untaken) e = absurd (cc)
+return_passes k (Some (Taken j)) e = by_test (j == k) refl e
+  where
+    by_test : (b : Bool) → (j == k) ≡ b → (if b then None else Some NotTaken) ≡ None → Some (Taken j) ≡ Some (Taken k)
+    by_test true same h = ap (λ (i : ℕ). Some (Taken i)) (same_actor j k same)
+    by_test false same h = absurd (cc)
+return_passes k (Some (Branched closed opened)) e = absurd (cc)
+return_passes k (Some (Closed leaf cutoff)) e = absurd (cc)
+
+-- ---- the growth is kept
+
+pub leaf_of : (s t : NodeState) → s ≡ t → is_branched t ≡ false → is_branched s ≡ false
+leaf_of s t e h = ap is_branched e ∙ h
+
+-- an entry by which a leaf stays a leaf, and the mark stays
+stays : (g : Grown) (x : ℕ) (old new : NodeState) → IsGrowth g → state_at g.nodes x ≡ Some old → is_branched old ≡ false → is_branched new ≡ false → ((n : TreeNode) → slice_get g.nodes x ≡ Some n → HoldsAtCutoff g.market n.word new) → IsGrowth (record g { nodes = with_state new g.nodes x })
+stays g x old new k e was is holds =
+    let at : IsAt g.nodes x old = node_at g.nodes x old e in
+    leaf_kept new g x at.node g.full k at.there (leaf_of at.node.state old at.state_is was) is (holds at.node at.there) (λ full. crowded_stays new g x at.node g.full at.there is (k.crowded full))
+
+full_kept : (g : Grown) (k x cutoff : ℕ) → IsGrowth g → MayBranch g k x cutoff → g.budget < length g.nodes + length (children_at g x) → IsGrowth (record g { nodes = with_state Untaken g.nodes x; full = true })
+full_kept g k x cutoff grows may more =
+    let at : IsAt g.nodes x (Taken k) = node_at g.nodes x (Taken k) may.taken in
+    let word : word_at g.nodes x ≡ at.node.word = word_of_node g.nodes x at.node at.there in
+    leaf_kept Untaken g x at.node true grows at.there (leaf_of at.node.state (Taken k) at.state_is refl) refl tt (λ full. record {
+      number = x;
+      node = in_state Untaken at.node;
+      there = changed_same (in_state Untaken) g.nodes x at.node at.there;
+      leaf = refl;
+      undecided = subst (λ (w : List Bool). length w < length g.market.gates) word may.undecided;
+      promising = subst (λ (w : List Bool). IsPromising g.market w) word (promising_by g.market (word_at g.nodes x) cutoff may.exceeds may.cutoff_is);
+      more = omega (arith, more, length-with_state Untaken g.nodes x, ap (λ (w : List Bool). length (children g.market.gates w)) word);
+    })
+
+branching_kept : (g : Grown) (k x cutoff : ℕ) → IsGrowth g → MayBranch g k x cutoff → length g.nodes + length (children_at g x) ≤ g.budget → IsGrowth (record g { nodes = branched g x })
+branching_kept g k x cutoff grows may fits =
+    let at : IsAt g.nodes x (Taken k) = node_at g.nodes x (Taken k) may.taken in
+    let word : word_at g.nodes x ≡ at.node.word = word_of_node g.nodes x at.node at.there in
+    branch_kept g x at.node grows at.there (leaf_of at.node.state (Taken k) at.state_is refl)
+    (subst (λ (w : List Bool). length w < length g.market.gates) word may.undecided)
+    (subst (λ (w : List Bool). IsPromising g.market w) word (promising_by g.market (word_at g.nodes x) cutoff may.exceeds may.cutoff_is))
+    (omega (arith, fits, ap (λ (w : List Bool). length (children g.market.gates w)) word))
+
+-- each entry that is allowed keeps what a growth keeps
+pub entry_kept : (g : Grown) (e : Entry) → IsGrowth g → IsAllowed g e → IsGrowth (grown g e)
+entry_kept g (Take k x) grows h = stays g x Untaken (Taken k) grows h refl refl (λ n there. tt)
+entry_kept g (Close k x leaf cutoff) grows h =
+    stays g x (Taken k) (Closed leaf cutoff) grows h.taken refl refl (λ n there. subst (λ (w : List Bool). LeafHolds g.market (pos cutoff) w leaf) (word_of_node g.nodes x n there) h.holds)
+entry_kept g (Branch k x cutoff) grows h = branching_kept g k x cutoff grows h.0 h.1
+entry_kept g (Full k x cutoff) grows h = full_kept g k x cutoff grows h.0 h.1
+entry_kept g (GiveBack k x) grows h = stays g x (Taken k) Untaken grows h refl refl (λ n there. tt)
+
+-- ---- the least node that waits
+
+not_untaken : (s : NodeState) → (s ≡ Untaken → ⊥) → Some s ≡ Some Untaken → ⊥
+not_untaken s n e = n (cc)
+
+state_in : (s : NodeState) (nodes : List TreeNode) (x : ℕ) → x < length nodes → state_at (with_state s nodes x) x ≡ Some s
+state_in s [] x l = absurd (omega arith)
+state_in s (n ∷ nodes) zero l = refl
+state_in s (n ∷ nodes) (suc x) l = state_in s nodes x (omega arith)
+
+-- before the next node none waits, after a node got a state in which it doesn't wait
+pub none_before_still : (s : NodeState) (nodes : List TreeNode) (x next : ℕ) → (s ≡ Untaken → ⊥) → x < length nodes → IsNext nodes next → (y : ℕ) → y < next → state_at (with_state s nodes x) y ≡ Some Untaken → ⊥
+none_before_still s nodes x next n l h y below e = elim (cases_eq y x) [
+  | inl same ↦ not_untaken s n (sym (ap (state_at (with_state s nodes x)) same ∙ state_in s nodes x l) ∙ e)
+  | inr other ↦ h.none_before y below (sym (state_other s nodes x y other) ∙ e)
+]
+
+-- where a node that doesn't wait gets a state in which it doesn't either, the next is the same
+pub next_stays : (old s : NodeState) (nodes : List TreeNode) (x next : ℕ) → (old ≡ Untaken → ⊥) → (s ≡ Untaken → ⊥) → state_at nodes x ≡ Some old → x < length nodes → IsNext nodes next → IsNext (with_state s nodes x) next
+next_stays old s nodes x next was n e l h = record {
+  within = omega (arith, h.within, length-with_state s nodes x);
+  none_before = none_before_still s nodes x next n l h;
+  waits = λ there. elim (cases_eq next x) [
+      | inl same ↦ absurd (not_untaken old was (sym e ∙ ap (state_at nodes) (sym same) ∙ h.waits (omega (arith, there, length-with_state s nodes x))))
+      | inr other ↦ state_other s nodes x next other ∙ h.waits (omega (arith, there, length-with_state s nodes x))
+  ];
+}
+
+-- where a node waits again, it is the next, unless there is one before it
+pub next_back : (nodes : List TreeNode) (x next least : ℕ) → x < length nodes → least ≡ min next x → IsNext nodes next → IsNext (with_state Untaken nodes x) least
+next_back nodes x next least l e h = elim (cases_lt next x) [
+  | inl before ↦
+    let same : least ≡ next = omega (arith, e, before) in
+    record {
+      within = omega (arith, h.within, same, length-with_state Untaken nodes x);
+      none_before = λ y below is. h.none_before y (omega (arith, below, same)) (sym (state_other Untaken nodes x y (λ at. omega (arith, at, below, same, before))) ∙ is);
+      waits = λ there. ap (state_at (with_state Untaken nodes x)) same ∙ state_other Untaken nodes x next (λ at. omega (arith, at, before)) ∙ h.waits (omega (arith, l, before));
+    }
+  | inr after ↦
+    let same : least ≡ x = omega (arith, e, after) in
+    record {
+      within = omega (arith, l, same, length-with_state Untaken nodes x);
+      none_before = λ y below is. h.none_before y (omega (arith, below, same, after)) (sym (state_other Untaken nodes x y (λ at. omega (arith, at, below, same))) ∙ is);
+      waits = λ there. ap (state_at (with_state Untaken nodes x)) same ∙ state_in Untaken nodes x l;
+    }
+]
+
+first_new : (w : List Bool) (may : Bool) → state_at (map new_node (child_words w may)) 0 ≡ Some Untaken
+first_new w true = refl
+first_new w false = refl
+
+state_front : (xs ys : List TreeNode) (k : ℕ) → k < length xs → state_at (xs ++ ys) k ≡ state_at xs k
+state_front xs ys k l = ap (λ (o : Option TreeNode). option_map (λ (n : TreeNode). n.state) o) (get_front xs ys k l)
+
+state_back : (xs ys : List TreeNode) (k : ℕ) → k ≡ length xs → state_at (xs ++ ys) k ≡ state_at ys 0
+state_back [] ys k e = ap (state_at ys) e
+state_back (x ∷ xs) ys zero e = absurd (omega arith)
+state_back (x ∷ xs) ys (suc k) e = state_back xs ys k (omega arith)
+
+-- where new nodes wait behind the others, the next is the same
+pub next_with_new : (nodes : List TreeNode) (w : List Bool) (may : Bool) (next : ℕ) → IsNext nodes next → IsNext (nodes ++ map new_node (child_words w may)) next
+next_with_new nodes w may next h = record {
+  within = omega (arith, h.within, length-append nodes (map new_node (child_words w may)));
+  none_before = λ y below is. h.none_before y below (sym (state_front nodes (map new_node (child_words w may)) y (omega (arith, below, h.within))) ∙ is);
+  waits = λ there. elim (cases_lt next (length nodes)) [
+      | inl l ↦ state_front nodes (map new_node (child_words w may)) next l ∙ h.waits l
+      | inr l ↦ state_back nodes (map new_node (child_words w may)) next (omega (arith, l, h.within)) ∙ first_new w may
+  ];
+}

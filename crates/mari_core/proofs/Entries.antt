@@ -1,5 +1,5 @@
 -- Each entry that is allowed keeps what a growth keeps, and the least node that waits.
-use Rattle.std.proofs.Common.{◌≡◌, ◌≢◌, ◌⊎◌, inl, inr, Bool, true, false, ℕ, zero, suc, ◌+◌, ◌-◌, ◌<◌, ◌≤◌, ◌==◌, min, pos, if◌then◌else◌, List, [], ◌∷◌, ◌++◌, length, map, Option, Some, None, arith, refl, sym, ap, subst, ◌∙◌, length-append}
+use Rattle.std.proofs.Common.{◌≡◌, ◌≢◌, ◌⊎◌, inl, inr, Bool, true, false, ℕ, zero, suc, ◌+◌, ◌-◌, ◌<◌, ◌≤◌, ◌==◌, min, pos, if◌then◌else◌, List, [], ◌∷◌, ◌++◌, length, map, Option, Some, None, arith, refl, sym, ap, subst, ◌∙◌, length-append, append_assoc}
 use Rattle.std.specs.Prelude.{slice_get}
 use Rattle.std.specs.Option.{option_map}
 use Rattle.std.proofs.lemmas.Bool.{cases_eq, cases_lt}
@@ -12,7 +12,7 @@ use Rattle.mari_market.specs.Tree.{LeafHolds}
 use Rattle.mari_core.specs.declared.node.NodeState.{NodeState}
 use Rattle.mari_core.specs.declared.node.NodeState.TheVariants.{Untaken, Taken, Branched, Closed}
 use Rattle.mari_core.specs.Nodes.{TreeNode, new_node, in_state, words_of, word_at, state_at, branch_of}
-use Rattle.mari_core.specs.Growth.{Grown, Entry, grown, with_state, branched, child_words, children_at, is_branched, IsGrowth, IsCrowded, IsAllowed, MayClose, MayBranch, take_refused, return_refused, IsNext, HoldsAtCutoff}
+use Rattle.mari_core.specs.Growth.{Grown, Entry, grown, with_state, branched, child_words, children_at, is_branched, IsGrowth, IsCrowded, IsAllowed, MayClose, MayBranch, take_refused, return_refused, IsNext, HoldsAtCutoff, CanBranch}
 use Rattle.mari_market.specs.SearchTree.{IsPromising}
 use Rattle.mari_core.specs.declared.event.StepFault.TheVariants.{NotTaken}
 use Rattle.mari_core.specs.Growth.Entry.{Take, Close, Branch, Full, GiveBack}
@@ -157,3 +157,49 @@ next_with_new nodes w may next h = record {
       | inr l ↦ state_back nodes (map new_node (child_words w may)) next (omega (arith, l, h.within)) ∙ first_new w may
   ];
 }
+
+-- ---- the same, where the nodes are written another way
+
+pub within_nodes : (nodes : List TreeNode) (x : ℕ) (s : NodeState) → state_at nodes x ≡ Some s → x < length nodes
+within_nodes nodes x s e = let at : IsAt nodes x s = node_at nodes x s e in slice_get_within nodes x at.node at.there
+
+pub entry_kept_by : (g : Grown) (e : Entry) (items : List TreeNode) → IsGrowth g → IsAllowed g e → items ≡ (grown g e).nodes → IsGrowth (record (grown g e) { nodes = items })
+entry_kept_by g e items grows h same = subst (λ (ns : List TreeNode). IsGrowth (record (grown g e) { nodes = ns })) (sym same) (entry_kept g e grows h)
+
+-- a branch of a node, where its children are written by whether the next gate may be open
+pub record BranchKept (g : Grown) (x next : ℕ) (items : List TreeNode) : Type 0 where
+  pub grows : IsGrowth (record g { nodes = items })
+  pub next_is : IsNext items next
+  pub nodes_are : items ≡ branched g x
+
+branch_waits : (first : ℕ) (w : List Bool) (may : Bool) → branch_of first (child_words w may) ≡ Untaken → ⊥
+branch_waits first w true e = absurd (cc)
+branch_waits first w false e = absurd (cc)
+
+pub branch_entry : (g : Grown) (x next : ℕ) (w : List Bool) (may : Bool) (items : List TreeNode) → IsGrowth g → IsNext g.nodes next → CanBranch g x → children_at g x ≡ child_words w may → length g.nodes + length (children_at g x) ≤ g.budget → items ≡ with_state (branch_of (length g.nodes) (child_words w may)) g.nodes x ++ map new_node (child_words w may) → BranchKept g x next items
+branch_entry g x next w may items grows waits can kids fits is =
+    let same : items ≡ branched g x = is ∙ ap (λ (ws : List (List Bool)). with_state (branch_of (length g.nodes) ws) g.nodes x ++ map new_node ws) (sym kids) in
+    record {
+      grows = entry_kept_by g (Branch can.actor x can.cutoff) items grows (can.may, fits) same;
+      next_is = subst (λ (ns : List TreeNode). IsNext ns next) (sym is)
+          (next_with_new (with_state (branch_of (length g.nodes) (child_words w may)) g.nodes x) w may next
+          (next_stays (Taken can.actor) (branch_of (length g.nodes) (child_words w may)) g.nodes x next (λ e. absurd (cc)) (branch_waits (length g.nodes) w may) can.may.taken (within_nodes g.nodes x (Taken can.actor) can.may.taken) waits));
+      nodes_are = same;
+    }
+
+two_pushed : (s s' : List TreeNode) (a b a' b' : TreeNode) → s ≡ s' → a ≡ a' → b ≡ b' → (s ++ a ∷ []) ++ b ∷ [] ≡ s' ++ a' ∷ b' ∷ []
+two_pushed s s' a b a' b' e f h = append_assoc s (a ∷ []) (b ∷ []) ∙ ap (λ (ns : List TreeNode). ns ++ a ∷ b ∷ []) e ∙ ap (λ (n : TreeNode). s' ++ n ∷ b ∷ []) f ∙ ap (λ (n : TreeNode). s' ++ a' ∷ n ∷ []) h
+
+one_pushed : (s s' : List TreeNode) (a a' : TreeNode) → s ≡ s' → a ≡ a' → s ++ a ∷ [] ≡ s' ++ a' ∷ []
+one_pushed s s' a a' e f = ap (λ (ns : List TreeNode). ns ++ a ∷ []) e ∙ ap (λ (n : TreeNode). s' ++ n ∷ []) f
+
+-- the nodes where both children are pushed, and where the closed one is
+pub both_pushed : (nodes reserved states : List TreeNode) (x first : ℕ) (opened : Option ℕ) (w closed_word open_word : List Bool) → reserved ≡ nodes → first ≡ length nodes → opened ≡ Some (first + 1) → states ≡ with_state (Branched first opened) reserved x → closed_word ≡ w ++ false ∷ [] → open_word ≡ w ++ true ∷ [] → (states ++ new_node closed_word ∷ []) ++ new_node open_word ∷ [] ≡ with_state (branch_of (length nodes) (child_words w true)) nodes x ++ map new_node (child_words w true)
+both_pushed nodes reserved states x first opened w closed_word open_word same count made is f h =
+    two_pushed states (with_state (branch_of (length nodes) (child_words w true)) nodes x) (new_node closed_word) (new_node open_word) (new_node (w ++ false ∷ [])) (new_node (w ++ true ∷ []))
+    (is ∙ ap (λ (ns : List TreeNode). with_state (Branched first opened) ns x) same ∙ ap (λ (o : Option ℕ). with_state (Branched first o) nodes x) made ∙ ap (λ (i : ℕ). with_state (Branched i (Some (i + 1))) nodes x) count) (ap new_node f) (ap new_node h)
+
+pub closed_pushed : (nodes reserved states : List TreeNode) (x first : ℕ) (opened : Option ℕ) (w closed_word : List Bool) → reserved ≡ nodes → first ≡ length nodes → opened ≡ None → states ≡ with_state (Branched first opened) reserved x → closed_word ≡ w ++ false ∷ [] → states ++ new_node closed_word ∷ [] ≡ with_state (branch_of (length nodes) (child_words w false)) nodes x ++ map new_node (child_words w false)
+closed_pushed nodes reserved states x first opened w closed_word same count made is f =
+    one_pushed states (with_state (branch_of (length nodes) (child_words w false)) nodes x) (new_node closed_word) (new_node (w ++ false ∷ []))
+    (is ∙ ap (λ (ns : List TreeNode). with_state (Branched first opened) ns x) same ∙ ap (λ (o : Option ℕ). with_state (Branched first o) nodes x) made ∙ ap (λ (i : ℕ). with_state (Branched i None) nodes x) count) (ap new_node f)

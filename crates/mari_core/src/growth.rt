@@ -1,6 +1,6 @@
 //! A part of the search tree that grows node by node.
 
-ghost use Rattle.std.specs.Prelude.{◌≡◌, ℕ, ◌+◌, ◌<◌, ◌≤◌, pos, ◌∷◌, [], true, map, length, slice_get, IfSome, IfOk, IfErr, OnOk, OnErr, MatchOption, Some, None};
+ghost use Rattle.std.specs.Prelude.{◌≡◌, ℕ, ◌+◌, ◌<◌, ◌≤◌, pos, ◌∷◌, [], true, map, length, slice_get, IfSome, IfOk, IfErr, OnOk, OnErr, MatchOption, Some, None, vec_capacity, vec_len};
 ghost use Rattle.std.specs.Option.{option_map};
 ghost use Rattle.mari_market.specs.Clearing.{IsSpent, ArePartsOfSearch};
 ghost use Rattle.mari_gates.specs.Prefixes.{IsCleared};
@@ -62,7 +62,9 @@ fn next_untaken(nodes: &[Node], from: u32) -> u32
 /// Puts a node into another state.
 fn set_state(nodes: &mut Vec<Node>, node: u32, state: NodeState)
     requires { node < length nodes.old.items }
-    ensures { nodes.new.items ≡ with_state state nodes.old.items node }
+    ensures nodes { nodes.new.items ≡ with_state state nodes.old.items node }
+    ensures count { vec_len nodes.new ≡ vec_len nodes.old }
+    ensures room { vec_capacity nodes.new ≡ vec_capacity nodes.old }
 {
     let node = &mut nodes[node as usize];
     let _before = node.replace_state(state);

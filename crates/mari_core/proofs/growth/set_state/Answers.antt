@@ -9,7 +9,7 @@ use Rattle.mari_core.proofs.Children.{nodes_with_children}
 use Rattle.mari_core.proofs.Insertions.{walk_grows}
 use Rattle.mari_core.proofs.growth.set_state.Goals as goal
 
-pub returns : goal.returns
-returns c =
+pub returns-clause-nodes : goal.returns-clause-nodes
+returns-clause-nodes c =
     ap (λ (n : TreeNode). set c.args.nodes.now.items c.args.node n) (c.replace_state-before.ensures.node ∙ ap (in_state c.args.state) c.index_mut-node.ensures.value)
     ∙ set_is_changed (in_state c.args.state) c.args.nodes.now.items c.args.node c.index_mut-node.result.now c.requires

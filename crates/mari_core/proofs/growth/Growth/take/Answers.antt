@@ -1,36 +1,33 @@
-use Rattle.std.proofs.Common.{rules, ◌≡◌, ℕ, ◌+◌, ◌<◌, ◌≤◌, pos, ◌∷◌, [], true, map, length, slice_get, IfSome, IfOk, IfErr, OnOk, OnErr, MatchOption, Some, None, ◌-◌, ◌*◌, ◌/◌, ◌%◌, Bool, false, nat_eq, nat_lt, List, ◌++◌, slice_index_or, slice_set, bit_and, bit_or, Fits, w8, w32, w64, Bor, MutBor}
-use Rattle.std.specs.Option.{option_map}
-use Rattle.mari_market.specs.Clearing.{IsSpent, ArePartsOfSearch}
-use Rattle.mari_gates.specs.Prefixes.{IsCleared}
-use Rattle.mari_market.specs.Market.{IsValid}
-use Rattle.mari_market.specs.Prefix.{word_of, IsFeasiblePrefix}
-use Rattle.mari_market.specs.SearchTree.{IsLarger}
-use Rattle.mari_market.specs.Tree.{TreeHolds}
-use Rattle.mari_core.specs.Growth.{seed, grown, settling, closing_leaf, with_state, children_at, child_words, take_refused, return_refused, settling_by, MaySettle, CanClose, CanBranch, IsCutoff, IsGrowth, IsNext, IsLeastUntaken, IsRefusal, IsAnswer, NoneWaits, AreCutAt}
-use Rattle.mari_core.specs.Growth.Entry.{Take, Close, Branch, Full, GiveBack}
-use Rattle.mari_core.specs.Nodes.{words_of, word_at, state_at}
-use Rattle.mari_core.specs.Preorder.{IsPart, IsTree, IsOpenFault, shape_of}
+use Rattle.std.proofs.Common.{◌≡◌, ℕ, ◌<◌, ◌≤◌, Some, List, length, arith, ap, sym, subst, ◌∙◌}
+use Rattle.mari_core.specs.declared.node.NodeState.TheVariants.{Untaken, Taken}
+use Rattle.mari_core.specs.Nodes.{TreeNode, state_at}
+use Rattle.mari_core.specs.Growth.{Grown, IsGrowth, IsNext}
+use Rattle.mari_core.specs.Growth.Entry.{Take}
+use Rattle.mari_core.proofs.Changes.{length-with_state}
+use Rattle.mari_core.proofs.Entries.{take_passes, entry_kept_by, none_before_still, within_nodes}
 use Rattle.mari_core.proofs.growth.Growth.take.Goals as goal
 
--- src/growth.rt:177:21
-pub next_untaken-self-inside-requires-clause-within :
-    goal.next_untaken-self-inside-requires-clause-within
-next_untaken-self-inside-requires-clause-within c = ?
+pub next_untaken-self-inside-requires-clause-within : goal.next_untaken-self-inside-requires-clause-within
+next_untaken-self-inside-requires-clause-within c =
+    omega (arith, c.self.invariant.1.within, length-with_state (Taken c.args.actor) c.self.inside.nodes.items c.args.node, ap length c.set_state.ensures.nodes, ap length c.deref.ensures.value)
 
--- src/growth.rt:177:21
-pub next_untaken-self-inside-requires-clause-few :
-    goal.next_untaken-self-inside-requires-clause-few
-next_untaken-self-inside-requires-clause-few c = ?
+pub next_untaken-self-inside-requires-clause-few : goal.next_untaken-self-inside-requires-clause-few
+next_untaken-self-inside-requires-clause-few c =
+    omega (arith, c.self.invariant.0.within_budget, c.self.invariant.0.budget_is, length-with_state (Taken c.args.actor) c.self.inside.nodes.items c.args.node, ap length c.set_state.ensures.nodes, ap length c.deref.ensures.value)
 
--- src/growth.rt:177:21
-pub next_untaken-self-inside-requires-clause-none_before :
-    goal.next_untaken-self-inside-requires-clause-none_before
-next_untaken-self-inside-requires-clause-none_before c = ?
+pub next_untaken-self-inside-requires-clause-none_before : goal.next_untaken-self-inside-requires-clause-none_before
+next_untaken-self-inside-requires-clause-none_before c =
+    let waits : state_at c.self.inside.nodes.items c.args.node ≡ Some Untaken = ap (λ (g : Grown). state_at g.nodes c.args.node) c.self.view_is ∙ take_passes _ c.in_ok-check_untaken.ensures in
+    λ y l e. none_before_still (Taken c.args.actor) c.self.inside.nodes.items c.args.node c.self.inside.next (λ same. absurd (cc)) (within_nodes c.self.inside.nodes.items c.args.node Untaken waits) c.self.invariant.1 y l
+    (ap (λ (ns : List TreeNode). state_at ns y) (sym c.set_state.ensures.nodes) ∙ ap (λ (ns : List TreeNode). state_at ns y) (sym c.deref.ensures.value) ∙ e)
 
--- src/growth.rt:169:5
 pub invariant_of-self : goal.invariant_of-self
-invariant_of-self c = ?
+invariant_of-self c =
+    let waits : state_at c.self.inside.nodes.items c.args.node ≡ Some Untaken = ap (λ (g : Grown). state_at g.nodes c.args.node) c.self.view_is ∙ take_passes _ c.in_ok-check_untaken.ensures in
+    (entry_kept_by _ (Take c.args.actor c.args.node) c.set_state.new.nodes.items c.self.invariant.0 waits c.set_state.ensures.nodes,
+    subst (λ (ns : List TreeNode). IsNext ns c.next_untaken-self-inside.result) c.deref.ensures.value c.next_untaken-self-inside.ensures)
 
--- src/growth.rt:169:5
 pub returns-clause-facts : goal.returns-clause-facts
-returns-clause-facts c = ?
+returns-clause-facts c =
+    let waits : state_at c.self.inside.nodes.items c.args.node ≡ Some Untaken = ap (λ (g : Grown). state_at g.nodes c.args.node) c.self.view_is ∙ take_passes _ c.in_ok-check_untaken.ensures in
+    entry_kept_by _ (Take c.args.actor c.args.node) c.set_state.new.nodes.items c.self.invariant.0 waits c.set_state.ensures.nodes

@@ -1,19 +1,25 @@
 -- Each entry that is allowed keeps what a growth keeps, and the least node that waits.
-use Rattle.std.proofs.Common.{◌≡◌, ◌≢◌, ◌⊎◌, inl, inr, Bool, true, false, ℕ, zero, suc, ◌+◌, ◌-◌, ◌<◌, ◌≤◌, ◌==◌, min, pos, if◌then◌else◌, List, [], ◌∷◌, ◌++◌, length, map, Option, Some, None, arith, refl, sym, ap, subst, ◌∙◌, length-append, append_assoc}
+use Rattle.std.proofs.Common.{◌≡◌, ◌≢◌, ◌⊎◌, inl, inr, Bool, true, false, ℕ, zero, suc, ◌+◌, ◌-◌, ◌<◌, ◌≤◌, ◌==◌, min, pos, if◌then◌else◌, List, [], ◌∷◌, ◌++◌, length, map, get_or, Option, Some, None, arith, refl, sym, ap, subst, ◌∙◌, length-append, append_assoc}
+use Rattle.std.specs.Prelude.{nat_le}
+use Rattle.mari_market.specs.declared.prefix.Prefix.{Prefix}
+use Rattle.mari_gates.specs.Prefixes.{IsCleared}
+use Rattle.mari_core.specs.Growth.{settling_by}
+use Rattle.mari_core.proofs.Lists.{all_get}
+use Rattle.mari_core.proofs.Children.{word_of_number}
 use Rattle.std.specs.Prelude.{slice_get}
 use Rattle.std.specs.Option.{option_map}
 use Rattle.std.proofs.lemmas.Bool.{cases_eq, cases_lt}
 use Rattle.std.proofs.lemmas.Bool.Decides.{nat_tests}
-use Rattle.std.proofs.lemmas.Option.{slice_get_within, slice_get_past}
+use Rattle.std.proofs.lemmas.Option.{slice_get_within, slice_get_past, slice_get_read}
 use Rattle.mari_market.specs.declared.market.Market.{Market}
 use Rattle.mari_market.specs.declared.certificate.Leaf.{Leaf}
-use Rattle.mari_market.specs.Prefix.{children, may_open}
+use Rattle.mari_market.specs.Prefix.{children, may_open, word_of, IsFeasibleWord, IsFeasiblePrefix}
 use Rattle.mari_market.specs.Tree.{LeafHolds}
 use Rattle.mari_core.specs.declared.node.NodeState.{NodeState}
 use Rattle.mari_core.specs.declared.node.NodeState.TheVariants.{Untaken, Taken, Branched, Closed}
 use Rattle.mari_core.specs.Nodes.{TreeNode, new_node, in_state, words_of, word_at, state_at, branch_of}
 use Rattle.mari_core.specs.Growth.{Grown, Entry, grown, with_state, branched, child_words, children_at, is_branched, IsGrowth, IsCrowded, IsAllowed, MayClose, MayBranch, take_refused, return_refused, IsNext, HoldsAtCutoff, CanBranch}
-use Rattle.mari_market.specs.SearchTree.{IsPromising}
+use Rattle.mari_market.specs.SearchTree.{IsNode, IsPromising}
 use Rattle.mari_core.specs.declared.event.StepFault.TheVariants.{NotTaken}
 use Rattle.mari_core.specs.Growth.Entry.{Take, Close, Branch, Full, GiveBack}
 use Rattle.mari_core.proofs.Lists.{changed_same, changed_other, get_front, get_back}
@@ -203,3 +209,34 @@ pub closed_pushed : (nodes reserved states : List TreeNode) (x first : ℕ) (ope
 closed_pushed nodes reserved states x first opened w closed_word same count made is f =
     one_pushed states (with_state (branch_of (length nodes) (child_words w false)) nodes x) (new_node closed_word) (new_node (w ++ false ∷ []))
     (is ∙ ap (λ (ns : List TreeNode). with_state (Branched first opened) ns x) same ∙ ap (λ (o : Option ℕ). with_state (Branched first o) nodes x) made ∙ ap (λ (i : ℕ). with_state (Branched i None) nodes x) count) (ap new_node f)
+
+-- ---- reading a node
+
+pub there_by : (nodes : List TreeNode) (x : ℕ) (n : TreeNode) → x < length nodes → n ≡ get_or nodes x n → slice_get nodes x ≡ Some n
+there_by nodes x n l e = slice_get_read nodes (length nodes) x n refl l e
+
+pub feasible_word : (g : Grown) (x : ℕ) (n : TreeNode) → IsGrowth g → slice_get g.nodes x ≡ Some n → IsFeasibleWord g.market.gates n.word
+feasible_word g x n grows e = (all_get (IsNode g.market) (words_of g.nodes) x n.word grows.nodes_are.nodes (word_of_number g.nodes x n e)).feasible
+
+-- a prefix of a node's word is feasible
+pub feasible_prefix : (g : Grown) (x : ℕ) (n : TreeNode) (p : Prefix) → IsGrowth g → slice_get g.nodes x ≡ Some n → word_of p ≡ n.word → IsCleared p → IsFeasiblePrefix g.market p
+feasible_prefix g x n p grows e w cleared = record {
+  word = subst (λ (v : List Bool). IsFeasibleWord g.market.gates v) (sym w) (feasible_word g x n grows e);
+  rest = cleared;
+}
+
+test_le : (a b : ℕ) → a ≤ b → nat_le a b ≡ true
+test_le a b l = grind (arith, nat_tests)
+
+test_gt : (a b : ℕ) → b < a → nat_le a b ≡ false
+test_gt a b l = grind (arith, nat_tests)
+
+pub settles_by_branch : (g : Grown) (k x cutoff : ℕ) → length g.nodes + length (children_at g x) ≤ g.budget → settling_by g k x cutoff None ≡ Branch k x cutoff
+settles_by_branch g k x cutoff l = ap (λ (b : Bool). if b then Branch k x cutoff else Full k x cutoff) (test_le (length g.nodes + length (children_at g x)) g.budget l)
+
+pub settles_by_mark : (g : Grown) (k x cutoff : ℕ) → g.budget < length g.nodes + length (children_at g x) → settling_by g k x cutoff None ≡ Full k x cutoff
+settles_by_mark g k x cutoff l = ap (λ (b : Bool). if b then Branch k x cutoff else Full k x cutoff) (test_gt (length g.nodes + length (children_at g x)) g.budget l)
+
+pub child_count : (w : List Bool) (may : Bool) → length (child_words w may) ≡ (if may then 2 else 1)
+child_count w true = refl
+child_count w false = refl

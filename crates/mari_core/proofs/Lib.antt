@@ -6,3 +6,4 @@ pub mod Children
 pub mod Branching
 pub mod Seeds
 pub mod Entries
+pub mod Settling

@@ -143,7 +143,8 @@ impl<'m> Growth<'m> {
 
     /// Refuses a node that doesn't wait.
     fn check_untaken(&self, node: u32) -> Result<(), StepFault>
-        ensures { IsRefusal (take_refused (state_at self.now.nodes node)) result }
+        ensures answer { IsRefusal (take_refused (state_at self.now.nodes node)) result }
+        ensures facts { IsGrowth self.now }
     {
         if node as usize >= self.nodes.len() {
             return Err(StepFault::NoNode);
@@ -156,7 +157,8 @@ impl<'m> Growth<'m> {
 
     /// Refuses a node that isn't taken by the actor.
     fn check_taken(&self, actor: u32, node: u32) -> Result<(), StepFault>
-        ensures { IsRefusal (return_refused actor (state_at self.now.nodes node)) result }
+        ensures answer { IsRefusal (return_refused actor (state_at self.now.nodes node)) result }
+        ensures facts { IsGrowth self.now }
     {
         if node as usize >= self.nodes.len() {
             return Err(StepFault::NoNode);
@@ -235,6 +237,18 @@ impl<'m> Growth<'m> {
         self.full = true;
     }
 
+    /// The prefix of a node that leaves a gate to decide, and whether that gate may be open.
+    fn next_gate(&self, node: u32) -> (Prefix, bool)
+        requires { CanBranch self.now node }
+        ensures word { word_of result.0 ≡ word_at self.now.nodes node }
+        ensures cleared { IsCleared result.0 }
+        ensures children { children_at self.now node ≡ child_words (word_of result.0) result.1 }
+    {
+        let prefix = self.nodes[node as usize].prefix();
+        let may_open = may_branch_up(self.market, &prefix);
+        (prefix, may_open)
+    }
+
     /// Branches a taken node, where its children fit the budget, and else puts it back.
     fn branch_or_mark(&mut self, node: u32) -> Result<(), Memory>
         requires { CanBranch self.old node }
@@ -242,8 +256,7 @@ impl<'m> Growth<'m> {
         ensures same { OnErr result (self.new ≡ self.old) }
         ensures facts { IsGrowth self.new }
     {
-        let prefix = self.nodes[node as usize].prefix();
-        let may_open = may_branch_up(self.market, &prefix);
+        let (prefix, may_open) = self.next_gate(node);
         let made = if may_open { 2 } else { 1 };
         if self.nodes.len() + made <= self.budget as usize {
             self.branch(node, &prefix, may_open)

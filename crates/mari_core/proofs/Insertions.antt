@@ -16,7 +16,7 @@ is_same y x e = grind (arith, nat_tests)
 is_other : (y x : ℕ) → (y ≡ x → ⊥) → (y == x) ≡ false
 is_other y x n = grind (arith, nat_tests)
 
-occurs-append : (x : ℕ) (xs ys : List ℕ) → occurs x (xs ++ ys) ≡ occurs x xs + occurs x ys
+pub occurs-append : (x : ℕ) (xs ys : List ℕ) → occurs x (xs ++ ys) ≡ occurs x xs + occurs x ys
 occurs-append x [] ys = omega arith
 occurs-append x (y ∷ xs) ys = omega (arith, occurs-append x xs ys)
 
@@ -26,10 +26,10 @@ insert_here x y kids ys e = ap (λ (b : Bool). if b then y ∷ (kids ++ ys) else
 insert_later : (x y : ℕ) (kids ys : List ℕ) → (y ≡ x → ⊥) → insert_after x kids (y ∷ ys) ≡ y ∷ insert_after x kids ys
 insert_later x y kids ys n = ap (λ (b : Bool). if b then y ∷ (kids ++ ys) else y ∷ insert_after x kids ys) (is_other y x n)
 
-occurs_here : (x : ℕ) (ys : List ℕ) → occurs x (x ∷ ys) ≡ 1 + occurs x ys
+pub occurs_here : (x : ℕ) (ys : List ℕ) → occurs x (x ∷ ys) ≡ 1 + occurs x ys
 occurs_here x ys = ap (λ (b : Bool). (if b then 1 else 0) + occurs x ys) (is_same x x refl)
 
-occurs_later : (x y : ℕ) (ys : List ℕ) → (y ≡ x → ⊥) → occurs x (y ∷ ys) ≡ occurs x ys
+pub occurs_later : (x y : ℕ) (ys : List ℕ) → (y ≡ x → ⊥) → occurs x (y ∷ ys) ≡ occurs x ys
 occurs_later x y ys n = let e : 0 + occurs x ys ≡ occurs x ys = omega arith in ap (λ (b : Bool). (if b then 1 else 0) + occurs x ys) (is_other y x n) ∙ e
 
 pub occurs-insert_after : (x : ℕ) (kids xs : List ℕ) (z : ℕ) → 1 ≤ occurs x xs → occurs z (insert_after x kids xs) ≡ occurs z xs + occurs z kids

@@ -7,3 +7,6 @@ pub mod Branching
 pub mod Seeds
 pub mod Entries
 pub mod Settling
+pub mod Walks
+pub mod Finishing
+pub mod Parts

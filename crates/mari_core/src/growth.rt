@@ -14,7 +14,7 @@ ghost use Rattle.mari_core.specs.Nodes.{words_of, word_at, state_at};
 ghost use Rattle.mari_core.specs.Preorder.{IsPart, IsTree, IsOpenFault, shape_of};
 
 use crate::event::{FinishFault, StepFault};
-use crate::node::{Node, NodeState};
+use crate::node::{Node, NodeState, replace_state};
 use crate::preorder::{finished_items, part_items};
 use mari_gates::{child_of, empty_prefix, may_branch_up};
 use mari_market::{Finding, Leaf, Market, PartItem, Prefix, Relaxed, TreeItem};
@@ -66,8 +66,7 @@ fn set_state(nodes: &mut Vec<Node>, node: u32, state: NodeState)
     ensures count { vec_len nodes.new ≡ vec_len nodes.old }
     ensures room { vec_capacity nodes.new ≡ vec_capacity nodes.old }
 {
-    let node = &mut nodes[node as usize];
-    let _before = node.replace_state(state);
+    let _before = replace_state(nodes, node, state);
 }
 
 /// The certificate by which a finding closes its node at a cutoff, if it does.
@@ -308,7 +307,7 @@ impl<'m> Growth<'m> {
         ensures holds { IfOk result (λ v. (w : ℕ) → AreCutAt w self.entry.nodes → TreeHolds self.entry.market (pos w) v.items) }
         ensures search { IfOk result (λ v. ArePartsOfSearch self.entry.market ([] ∷ []) (map shape_of v.items)) }
         ensures within_budget { IfOk result (λ v. length v.items ≤ self.entry.budget) }
-        ensures open { IfErr result (IsOpenFault self.entry.nodes) }
+        ensures not_closed { IfErr result (IsOpenFault self.entry.nodes) }
     {
         let Growth { nodes, .. } = self;
         finished_items(alloc, nodes)

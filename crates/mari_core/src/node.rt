@@ -1,9 +1,10 @@
 //! The nodes of a search.
 
-ghost use Rattle.std.specs.Prelude.{◌≡◌, ◌↔◌, IsTrue};
+ghost use Rattle.std.specs.Prelude.{◌≡◌, ◌<◌, ◌↔◌, IsTrue, Some, length, vec_len, vec_capacity};
 ghost use Rattle.mari_market.specs.Prefix.{word_of};
 ghost use Rattle.mari_gates.specs.Prefixes.{IsCleared};
-ghost use Rattle.mari_core.specs.Nodes.{new_node, in_state};
+ghost use Rattle.mari_core.specs.Nodes.{new_node, in_state, state_at};
+ghost use Rattle.mari_core.specs.Growth.{with_state};
 
 use mari_market::{Leaf, Prefix};
 use std::marker::Model;
@@ -82,4 +83,16 @@ impl Node {
     {
         mem::replace(&mut self.state, state)
     }
+}
+
+/// Puts a node into another state, and hands back the state that it had.
+pub(crate) fn replace_state(nodes: &mut Vec<Node>, node: u32, state: NodeState) -> NodeState
+    requires { node < length nodes.old.items }
+    ensures before { state_at nodes.old.items node ≡ Some result }
+    ensures nodes { nodes.new.items ≡ with_state state nodes.old.items node }
+    ensures count { vec_len nodes.new ≡ vec_len nodes.old }
+    ensures room { vec_capacity nodes.new ≡ vec_capacity nodes.old }
+{
+    let at = &mut nodes[node as usize];
+    at.replace_state(state)
 }

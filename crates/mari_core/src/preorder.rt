@@ -5,7 +5,7 @@ ghost use Rattle.mari_core.specs.Preorder.{IsPreorder, HasPreorder, IsPart, IsTr
 ghost use Rattle.mari_core.specs.Nodes.{child_numbers};
 
 use crate::event::FinishFault;
-use crate::node::{Node, NodeState};
+use crate::node::{Node, NodeState, replace_state};
 use mari_market::{PartItem, TreeItem};
 use mari_units::Memory;
 use std::alloc::Global;
@@ -77,13 +77,13 @@ fn tree_item(state: NodeState) -> Option<TreeItem>
 pub(crate) fn finished_items(alloc: Global, mut nodes: Vec<Node>) -> Result<Vec<TreeItem>, FinishFault>
     requires { HasPreorder nodes.items }
     ensures tree { IfOk result (λ v. IsTree nodes.items v.items) }
-    ensures open { IfErr result (IsOpenFault nodes.items) }
+    ensures not_closed { IfErr result (IsOpenFault nodes.items) }
 {
     let order = preorder(alloc, &nodes)?;
     let mut items = Vec::with_capacity(alloc, order.len())?;
     for node in &order {
-        let at = &mut nodes[*node as usize];
-        let Some(item) = tree_item(at.replace_state(NodeState::Untaken)) else {
+        let state = replace_state(&mut nodes, *node, NodeState::Untaken);
+        let Some(item) = tree_item(state) else {
             return Err(FinishFault::NotClosed(*node));
         };
         items.push(item)?;

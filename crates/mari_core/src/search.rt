@@ -276,7 +276,7 @@ impl<'m> Search<'m> {
         ensures first { self.entry.word ≡ self.entry.first.welfare → IfOk result (λ c. c.activation ≡ self.entry.first.activation) }
         ensures tree { IfOk result (λ c. IsTree self.entry.tree.nodes c.tree) }
         ensures search { IfOk result (λ c. ArePartsOfSearch self.entry.tree.market ([] ∷ []) (map shape_of c.tree)) }
-        ensures open { IfErr result (IsOpenFault self.entry.tree.nodes) }
+        ensures not_closed { IfErr result (IsOpenFault self.entry.tree.nodes) }
     {
         let Search {
             tree,

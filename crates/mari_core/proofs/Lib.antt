@@ -10,3 +10,4 @@ pub mod Settling
 pub mod Walks
 pub mod Finishing
 pub mod Parts
+pub mod Machines

@@ -1,10 +1,11 @@
 -- What each event of the search machine keeps.
 use Rattle.std.proofs.Common.{◌≡◌, ◌≢◌, ◌⊎◌, inl, inr, Bool, true, false, ℕ, zero, suc, ◌+◌, ◌<◌, ◌≤◌, pos, max, if◌then◌else◌, nat_lt, List, [], ◌∷◌, ◌++◌, length, map, get_or, replicate, Option, Some, None, Result, Ok, Err, arith, refl, sym, ap, subst, ◌∙◌}
-use Rattle.std.specs.Prelude.{slice_get, nat_le, IfOk, IfErr, MatchOption}
+use Rattle.std.specs.Prelude.{slice_get, nat_le, IfOk, IfErr, IfSome, MatchOption}
 use Rattle.std.specs.List.{All}
+use Rattle.std.proofs.lemmas.Int.{ints}
 use Rattle.std.proofs.lemmas.Bool.Decides.{nat_tests}
 use Rattle.std.proofs.lemmas.List.Elements.{All-append, All-cons, All-nil, All-head, All-tail}
-use Rattle.std.proofs.lemmas.Option.{slice_get-get_or}
+use Rattle.std.proofs.lemmas.Option.{slice_get-get_or, slice_get_read}
 use Rattle.mari_market.specs.declared.market.Market.{Market}
 use Rattle.mari_market.specs.declared.certificate.Leaf.{Leaf}
 use Rattle.mari_market.specs.declared.finding.Attained.{Attained}
@@ -18,10 +19,11 @@ use Rattle.mari_core.specs.declared.event.StepFault.TheVariants.{NoActor, Memory
 use Rattle.mari_core.specs.declared.node.NodeState.{NodeState}
 use Rattle.mari_core.specs.declared.node.NodeState.TheVariants.{Untaken, Taken, Branched, Closed}
 use Rattle.mari_core.specs.Nodes.{TreeNode, new_node, in_state, changed, branch_of}
-use Rattle.mari_core.specs.Growth.{Grown, Entry, seed, grown, settling, settling_by, closing_leaf, children_at, IsGrowth, AreCutAt, IsCutAt, IsCutoff, IsRefusal, IsAnswer}
+use Rattle.mari_core.specs.Growth.{Grown, Entry, MaySettle, seed, grown, settling, settling_by, closing_leaf, children_at, IsGrowth, AreCutAt, IsCutAt, IsCutoff, IsRefusal, IsAnswer}
 use Rattle.mari_core.specs.Growth.Entry.{Take, Close, Branch, Full, GiveBack}
-use Rattle.mari_core.specs.Machine.{Machine, started, new_actor, seeing, offering, offered_to, by_actor, greatest, KeepsFacts, IsActor, IsBest}
-use Rattle.mari_core.proofs.Lists.{length-changed, all_changed, all_from}
+use Rattle.mari_core.specs.Machine.{Machine, started, new_actor, seeing, offering, offered_to, by_actor, greatest, seen_by, after, IsProper, KeepsFacts, IsActor, IsBest}
+use Rattle.mari_core.specs.declared.event.Event.TheVariants.{Settle}
+use Rattle.mari_core.proofs.Lists.{length-changed, all_changed, all_get}
 use Rattle.mari_core.proofs.Seeds.{seed_grows}
 
 -- ---- the actors
@@ -222,3 +224,22 @@ by_actor_there actors k refused l = ap (λ (o : Option Actor). by_actor o refuse
 
 pub answer_there : {X : Type 0} (actors : List Actor) (k : ℕ) (refused : Option StepFault) (r : Result X StepFault) → k < length actors → IsAnswer refused r → IsAnswer (by_actor (slice_get actors k) refused) r
 answer_there actors k refused r l h = subst (λ (o : Option StepFault). IsAnswer o r) (sym (by_actor_there actors k refused l)) h
+
+-- what an actor that is there saw
+pub actor_at : (s : Machine) (k : ℕ) (a : Actor) → KeepsFacts s → slice_get s.actors k ≡ Some a → IsActor s.tree.market s.first.welfare s.word a
+actor_at s k a h e = all_get (IsActor s.tree.market s.first.welfare s.word) s.actors k a h.actors_are e
+
+-- it is a cutoff
+pub seen_is_cutoff : (s : Machine) (k : ℕ) (a : Actor) → KeepsFacts s → slice_get s.actors k ≡ Some a → IsCutoff s.tree.market a.seen
+seen_is_cutoff s k a h e = record { closed = pos s.first.welfare; is_closed = h.closed; above = omega (arith, ints, (actor_at s k a h e).above) }
+
+pub settle_change : (s now : Machine) (k x cutoff : ℕ) (finding : Finding) (tree : Grown) (r : Result (Unit {0}) StepFault) → s ≡ now → seen_by (slice_get s.actors k) ≡ cutoff → IfOk r (λ _. tree ≡ grown s.tree (settling s.tree k x cutoff finding)) → IfOk r (λ _. record s { tree = tree } ≡ after now (Settle k x finding))
+settle_change s now k x cutoff finding tree (Ok u) same seen change =
+    ap (λ (t : Grown). record s { tree = t }) (change ∙ ap (λ (c : ℕ). grown s.tree (settling s.tree k x c finding)) (sym seen)) ∙ ap (λ (t : Machine). after t (Settle k x finding)) same
+settle_change s now k x cutoff finding tree (Err f) same seen change = tt
+
+pub may_settle_by : (s : Machine) (k x cutoff : ℕ) (finding : Finding) → seen_by (slice_get s.actors k) ≡ cutoff → IsProper s (Settle k x finding) → IfSome (slice_get s.tree.nodes x) (MaySettle s.tree.market cutoff finding)
+may_settle_by s k x cutoff finding seen h = subst (λ (c : ℕ). IfSome (slice_get s.tree.nodes x) (MaySettle s.tree.market c finding)) seen h
+
+pub actor_there_by : (actors : List Actor) (k : ℕ) (a : Actor) → k < length actors → a ≡ get_or actors k a → slice_get actors k ≡ Some a
+actor_there_by actors k a l e = slice_get_read actors (length actors) k a refl l e

@@ -11,3 +11,4 @@ pub mod Walks
 pub mod Finishing
 pub mod Parts
 pub mod Machines
+pub mod Replays

@@ -1,5 +1,5 @@
 -- What each event of the search machine keeps.
-use Rattle.std.proofs.Common.{◌≡◌, ◌≢◌, ◌⊎◌, inl, inr, Bool, true, false, ℕ, zero, suc, ◌+◌, ◌<◌, ◌≤◌, pos, max, if◌then◌else◌, nat_lt, List, [], ◌∷◌, ◌++◌, length, map, get_or, replicate, Option, Some, None, Result, Ok, Err, arith, refl, sym, ap, subst, ◌∙◌}
+use Rattle.std.proofs.Common.{◌≡◌, ◌≢◌, ◌⊎◌, inl, inr, Bool, true, false, ℕ, zero, suc, ◌+◌, ◌<◌, ◌≤◌, ◌==◌, ℤ, pos, max, if◌then◌else◌, nat_lt, List, [], ◌∷◌, ◌++◌, length, map, get_or, replicate, Option, Some, None, Result, Ok, Err, arith, refl, sym, ap, subst, ◌∙◌}
 use Rattle.std.specs.Prelude.{slice_get, nat_le, IfOk, IfErr, IfSome, MatchOption}
 use Rattle.std.specs.List.{All}
 use Rattle.std.proofs.lemmas.Int.{ints}
@@ -21,7 +21,13 @@ use Rattle.mari_core.specs.declared.node.NodeState.TheVariants.{Untaken, Taken, 
 use Rattle.mari_core.specs.Nodes.{TreeNode, new_node, in_state, changed, branch_of}
 use Rattle.mari_core.specs.Growth.{Grown, Entry, MaySettle, seed, grown, settling, settling_by, closing_leaf, children_at, IsGrowth, AreCutAt, IsCutAt, IsCutoff, IsRefusal, IsAnswer}
 use Rattle.mari_core.specs.Growth.Entry.{Take, Close, Branch, Full, GiveBack}
-use Rattle.mari_core.specs.Machine.{Machine, started, new_actor, seeing, offering, offered_to, by_actor, greatest, seen_by, after, IsProper, KeepsFacts, IsActor, IsBest}
+use Rattle.mari_core.specs.Machine.{Machine, started, new_actor, seeing, offering, offered_to, by_actor, greatest, seen_by, after, IsProper, KeepsFacts, IsActor, IsBest, best_or, best_of}
+use Rattle.mari_market.specs.declared.clearing.Clearing.{Clearing}
+use Rattle.mari_market.specs.Activation.{welfare_of}
+use Rattle.mari_market.specs.Clearing.{IsClearing}
+use Rattle.mari_market.specs.Optimal.{IsAdmissible}
+use Rattle.mari_market.specs.Tree.{TreeHolds}
+use Rattle.mari_market.proofs.Search.{optimal_by_tree}
 use Rattle.mari_core.specs.declared.event.Event.TheVariants.{Settle}
 use Rattle.mari_core.proofs.Lists.{length-changed, all_changed, all_get}
 use Rattle.mari_core.proofs.Seeds.{seed_grows}
@@ -243,3 +249,63 @@ may_settle_by s k x cutoff finding seen h = subst (λ (c : ℕ). IfSome (slice_g
 
 pub actor_there_by : (actors : List Actor) (k : ℕ) (a : Actor) → k < length actors → a ≡ get_or actors k a → slice_get actors k ≡ Some a
 actor_there_by actors k a l e = slice_get_read actors (length actors) k a refl l e
+
+-- ---- the end
+
+-- an admissible activation with the word as its welfare
+pub record IsBestOf (m : Market) (word : ℕ) (a : Attained) : Type 0 where
+  pub attained : IsAttained m a
+  pub welfare_is : a.welfare ≡ word
+
+best_of_actor : (m : Market) (word : ℕ) (first : Attained) (offered : ℕ) (best : Option Attained) → IsBestOf m first.welfare first → offered ≡ word → IsBest m first.welfare offered best → IsBestOf m word (best_or first best)
+best_of_actor m word first offered None f e h = record { attained = f.attained; welfare_is = omega (arith, e, h) }
+best_of_actor m word first offered (Some b) f e h = record { attained = h.0; welfare_is = h.1 ∙ e }
+
+same_by_test : (a b : ℕ) → (a == b) ≡ true → a ≡ b
+same_by_test a b e = grind (arith, nat_tests)
+
+other_by_test : (a b : ℕ) → (a == b) ≡ false → a ≡ b → ⊥
+other_by_test a b e h = grind (arith, nat_tests)
+
+rest_is_greatest : (word offered g : ℕ) → word ≡ max offered g → (offered ≡ word → ⊥) → word ≡ g
+rest_is_greatest word offered g e n = omega (arith, e, n)
+
+best_among : (m : Market) (word seen : ℕ) (first : Attained) (actors : List Actor) → IsBestOf m first.welfare first → All (IsActor m first.welfare seen) actors → word ≡ greatest first.welfare actors → IsBestOf m word (best_of word first actors)
+best_among m word seen first [] f h e = record { attained = f.attained; welfare_is = sym e }
+best_among m word seen first (a ∷ others) f h e = by_test (a.offered == word) refl (best_among m word seen first others f (All-tail (IsActor m first.welfare seen) a others h))
+  where
+    by_test : (b : Bool) → (a.offered == word) ≡ b → (word ≡ greatest first.welfare others → IsBestOf m word (best_of word first others)) → IsBestOf m word (if b then best_or first a.best else best_of word first others)
+    by_test true is rest = best_of_actor m word first a.offered a.best f (same_by_test a.offered word is) (All-head (IsActor m first.welfare seen) a others h).best
+    by_test false is rest = rest (rest_is_greatest word a.offered (greatest first.welfare others) e (other_by_test a.offered word is))
+
+pub best_is : (s : Machine) → KeepsFacts s → IsBestOf s.tree.market s.word (best_of s.word s.first s.actors)
+best_is s h = best_among s.tree.market s.word s.word s.first s.actors (record { attained = h.attained; welfare_is = refl }) h.actors_are h.word_is
+
+first_of_actor : (m : Market) (word : ℕ) (first : Attained) (offered : ℕ) (best : Option Attained) → word ≡ first.welfare → offered ≡ word → IsBest m first.welfare offered best → best_or first best ≡ first
+first_of_actor m word first offered None e o h = refl
+first_of_actor m word first offered (Some b) e o h = absurd (omega (arith, e, o, h.2))
+
+first_among : (m : Market) (word seen : ℕ) (first : Attained) (actors : List Actor) → word ≡ first.welfare → All (IsActor m first.welfare seen) actors → best_of word first actors ≡ first
+first_among m word seen first [] e h = refl
+first_among m word seen first (a ∷ others) e h = by_test (a.offered == word) refl (first_among m word seen first others e (All-tail (IsActor m first.welfare seen) a others h))
+  where
+    by_test : (b : Bool) → (a.offered == word) ≡ b → best_of word first others ≡ first → (if b then best_or first a.best else best_of word first others) ≡ first
+    by_test true is rest = first_of_actor m word first a.offered a.best e (same_by_test a.offered word is) (All-head (IsActor m first.welfare seen) a others h).best
+    by_test false is rest = rest
+
+-- where nothing better than the first was offered, it is the best
+pub first_is_best : (s : Machine) → KeepsFacts s → s.word ≡ s.first.welfare → best_of s.word s.first s.actors ≡ s.first
+first_is_best s h e = first_among s.tree.market s.word s.word s.first s.actors e h.actors_are
+
+-- with a tree that holds at the word, the best is optimal
+pub clearing_by : (s : Machine) (c : Clearing) → KeepsFacts s → c.activation ≡ (best_of s.word s.first s.actors).activation → c.welfare ≡ s.word → TreeHolds s.tree.market (pos s.word) c.tree → length c.tree ≤ s.tree.budget → IsClearing s.tree.market s.tree.budget c
+clearing_by s c h a w t l =
+    let best : IsBestOf s.tree.market s.word (best_of s.word s.first s.actors) = best_is s h in
+    let welfare : welfare_of s.tree.market c.activation ≡ pos c.welfare = ap (welfare_of s.tree.market) a ∙ best.attained.welfare ∙ ap pos best.welfare_is ∙ ap pos (sym w) in
+    let holds : TreeHolds s.tree.market (pos c.welfare) c.tree = subst (λ (v : ℕ). TreeHolds s.tree.market (pos v) c.tree) (sym w) t in
+    record {
+      optimal = optimal_by_tree s.tree.market c.activation c.tree h.tree.valid (subst (IsAdmissible s.tree.market) (sym a) best.attained.admissible) (subst (λ (v : ℤ). TreeHolds s.tree.market v c.tree) (sym welfare) holds);
+      welfare = welfare;
+      tree = holds;
+      within_budget = l;
+    }

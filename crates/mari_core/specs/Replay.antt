@@ -11,14 +11,15 @@ abbrev pub after_all : Machine → List Event → Machine
 after_all s [] = s
 after_all s (event ∷ events) = after_all (after s event) events
 
+-- the refusal of the event at this place, if there is one, or else a later one
+abbrev pub refused_or : ℕ → Option StepFault → Option ReplayFault → Option ReplayFault
+refused_or place None later = later
+refused_or place (Some fault) later = Some (record { place = place; fault = fault })
+
 -- the first of these events that is refused, where they are counted on from this number, and why
 abbrev pub first_refusal : ℕ → Machine → List Event → Option ReplayFault
 first_refusal n s [] = None
 first_refusal n s (event ∷ events) = refused_or (n + 1) (refusal s event) (first_refusal (n + 1) (after s event) events)
-  where
-    refused_or : ℕ → Option StepFault → Option ReplayFault → Option ReplayFault
-    refused_or place None later = later
-    refused_or place (Some fault) later = Some (record { place = place; fault = fault })
 
 -- each event up to the first that is refused is proper where those before it lead
 abbrev pub AreProper : Machine → List Event → Type 0

@@ -12,3 +12,4 @@ pub mod Finishing
 pub mod Parts
 pub mod Machines
 pub mod Replays
+pub mod ExampleSearch

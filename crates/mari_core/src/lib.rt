@@ -11,6 +11,8 @@ mod node;
 mod preorder;
 
 mod search;
+#[cfg(test)]
+mod tests;
 
 pub use event::{Event, FinishFault, ReplayFault, StepFault};
 pub use growth::Growth;

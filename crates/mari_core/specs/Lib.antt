@@ -3,3 +3,4 @@ pub mod Preorder
 pub mod Growth
 pub mod Machine
 pub mod Replay
+pub mod Example

@@ -11,8 +11,6 @@ mod node;
 mod preorder;
 
 mod search;
-#[cfg(test)]
-mod tests;
 
 pub use event::{Event, FinishFault, ReplayFault, StepFault};
 pub use growth::Growth;

@@ -1,9 +1,9 @@
 -- A leaf that branches.
-use Rattle.std.proofs.Common.{◌≡◌, ◌≢◌, ◌⊎◌, inl, inr, Bool, true, false, ℕ, zero, suc, ◌+◌, ◌-◌, ◌<◌, ◌≤◌, ◌==◌, nat_lt, if◌then◌else◌, List, [], ◌∷◌, ◌++◌, length, map, Option, Some, None, arith, refl, sym, ap, subst, ◌∙◌, length-append}
+use Rattle.std.proofs.Common.{◌≡◌, ◌⊎◌, inl, inr, Bool, true, false, ℕ, zero, suc, ◌+◌, ◌-◌, ◌<◌, ◌≤◌, nat_lt, if◌then◌else◌, List, [], ◌∷◌, ◌++◌, length, map, Option, Some, None, arith, refl, sym, ap, subst, ◌∙◌, length-append}
 use Rattle.std.specs.Prelude.{slice_get}
 use Rattle.std.specs.List.{All}
 use Rattle.std.specs.Option.{option_map}
-use Rattle.std.proofs.lemmas.Bool.{cases_eq, cases_lt}
+use Rattle.std.proofs.lemmas.Bool.{cases_lt}
 use Rattle.std.proofs.lemmas.Bool.Decides.{nat_tests}
 use Rattle.std.proofs.lemmas.List.{map-append, length-map}
 use Rattle.std.proofs.lemmas.List.Elements.{All-append, All-cons, All-nil}
@@ -13,11 +13,11 @@ use Rattle.mari_market.specs.Prefix.{children, may_open}
 use Rattle.mari_market.specs.SearchTree.{IsPromising, AreNodes}
 use Rattle.mari_core.specs.declared.node.NodeState.{NodeState}
 use Rattle.mari_core.specs.declared.node.NodeState.TheVariants.{Untaken, Taken, Branched, Closed}
-use Rattle.mari_core.specs.Nodes.{TreeNode, new_node, in_state, changed, words_of, word_at, state_at, child_numbers, numbers_below, children_of, branch_of}
-use Rattle.mari_core.specs.Preorder.{IsWalk, IsPreorder, HasPreorder, occurs}
+use Rattle.mari_core.specs.Nodes.{TreeNode, new_node, in_state, words_of, state_at, child_numbers, numbers_below, children_of, branch_of}
+use Rattle.mari_core.specs.Preorder.{HasPreorder, occurs}
 use Rattle.mari_core.specs.Growth.{Grown, with_state, branched, child_words, is_branched, IsGrowth, IsCrowded, HasChildren, HasParent, HoldsAtCutoff}
-use Rattle.mari_core.proofs.Lists.{length-changed, changed_same, changed_other, all_changed, all_get, all_from, get_front, get_back}
-use Rattle.mari_core.proofs.Changes.{words-with_state, length-with_state, state_of_node, state_same, state_other, leaf_has_none, word_of_node}
+use Rattle.mari_core.proofs.Lists.{changed_same, changed_other, all_changed, get_front, get_back}
+use Rattle.mari_core.proofs.Changes.{words-with_state, length-with_state, leaf_has_none, word_of_node}
 use Rattle.mari_core.proofs.Keeps.{parent_stays}
 use Rattle.mari_core.proofs.Insertions.{insert_after, occurs-insert_after, length-insert_after, walk_grows, AreLeaves}
 use Rattle.mari_core.proofs.Children.{nodes_with_children}
@@ -68,13 +68,17 @@ get_second (x ∷ xs) y z zero e = absurd (omega arith)
 get_second (x ∷ xs) y z (suc k) e = get_second xs y z k (omega arith)
 
 made_children : (m : Market) (words : List (List Bool)) (w : List Bool) (first : ℕ) (may : Bool) → may_open m.gates w (length w) ≡ may → first ≡ length words → length w < length m.gates → HasChildren m (words ++ child_words w may) w (branch_of first (child_words w may))
-made_children m words w first true e l u = (u,
-    ap (λ (o : Option (List Bool)). o ∷ slice_get (words ++ child_words w true) (first + 1) ∷ []) (get_first words (w ++ false ∷ []) ((w ++ true ∷ []) ∷ []) first l)
-    ∙ ap (λ (o : Option (List Bool)). Some (w ++ false ∷ []) ∷ o ∷ []) (get_second words (w ++ false ∷ []) (w ++ true ∷ []) (first + 1) (omega arith))
-    ∙ ap (λ (b : Bool). map (λ (v : List Bool). Some v) (child_words w b)) (sym e))
-made_children m words w first false e l u = (u,
-    ap (λ (o : Option (List Bool)). o ∷ []) (get_first words (w ++ false ∷ []) [] first l)
-    ∙ ap (λ (b : Bool). map (λ (v : List Bool). Some v) (child_words w b)) (sym e))
+made_children m words w first true e l u = (
+  u,
+  ap (λ (o : Option (List Bool)). o ∷ slice_get (words ++ child_words w true) (first + 1) ∷ []) (get_first words (w ++ false ∷ []) ((w ++ true ∷ []) ∷ []) first l)
+      ∙ ap (λ (o : Option (List Bool)). Some (w ++ false ∷ []) ∷ o ∷ []) (get_second words (w ++ false ∷ []) (w ++ true ∷ []) (first + 1) (omega arith))
+      ∙ ap (λ (b : Bool). map (λ (v : List Bool). Some v) (child_words w b)) (sym e),
+)
+made_children m words w first false e l u = (
+  u,
+  ap (λ (o : Option (List Bool)). o ∷ []) (get_first words (w ++ false ∷ []) [] first l)
+      ∙ ap (λ (b : Bool). map (λ (v : List Bool). Some v) (child_words w b)) (sym e),
+)
 
 more_words : (words more : List (List Bool)) (numbers : List ℕ) (kids : List (List Bool)) → map (λ x. slice_get words x) numbers ≡ map (λ v. Some v) kids → map (λ x. slice_get (words ++ more) x) numbers ≡ map (λ v. Some v) kids
 more_words words more [] kids e = e
@@ -126,13 +130,13 @@ others_keep nodes x w may y n =
     let long : length (with_state s nodes x) ≡ length nodes = length-with_state s nodes x in
     elim (cases_lt y (length nodes)) [
       | inl l ↦
-        option_of (grown_by nodes x w may) y (slice_get nodes y) (get_front (with_state s nodes x) (map new_node (child_words w may)) y (omega arith) ∙ changed_other (in_state s) nodes x y n)
+          option_of (grown_by nodes x w may) y (slice_get nodes y) (get_front (with_state s nodes x) (map new_node (child_words w may)) y (omega arith) ∙ changed_other (in_state s) nodes x y n)
       | inr l ↦
-        let there : y ≡ length (with_state s nodes x) + (y - length nodes) = omega arith in
-        ap (children_of (grown_by nodes x w may)) there
-        ∙ option_of (grown_by nodes x w may) (length (with_state s nodes x) + (y - length nodes)) (slice_get (map new_node (child_words w may)) (y - length nodes)) (get_back (with_state s nodes x) (map new_node (child_words w may)) (y - length nodes))
-        ∙ new_are_leaves (child_words w may) (y - length nodes)
-        ∙ sym (past_none nodes y l)
+          let there : y ≡ length (with_state s nodes x) + (y - length nodes) = omega arith in
+          ap (children_of (grown_by nodes x w may)) there
+          ∙ option_of (grown_by nodes x w may) (length (with_state s nodes x) + (y - length nodes)) (slice_get (map new_node (child_words w may)) (y - length nodes)) (get_back (with_state s nodes x) (map new_node (child_words w may)) (y - length nodes))
+          ∙ new_are_leaves (child_words w may) (y - length nodes)
+          ∙ sym (past_none nodes y l)
     ]
 
 x_has_children : (nodes : List TreeNode) (x : ℕ) (n : TreeNode) (w : List Bool) (may : Bool) → slice_get nodes x ≡ Some n → children_of (grown_by nodes x w may) x ≡ numbers_from (length nodes) may
@@ -147,9 +151,10 @@ new_leaves nodes x n w false e =
     let l : x < length nodes = slice_get_within nodes x n e in
     (others_keep nodes x w false (length nodes) (λ same. omega (arith, l, same)) ∙ past_none nodes (length nodes) (omega arith), tt)
 new_leaves nodes x n w true e =
-    let l : x < length nodes = slice_get_within nodes x n e in
-    (others_keep nodes x w true (length nodes) (λ same. omega (arith, l, same)) ∙ past_none nodes (length nodes) (omega arith),
-    (others_keep nodes x w true (length nodes + 1) (λ same. omega (arith, l, same)) ∙ past_none nodes (length nodes + 1) (omega arith), tt))
+    let l : x < length nodes = slice_get_within nodes x n e in (
+      others_keep nodes x w true (length nodes) (λ same. omega (arith, l, same)) ∙ past_none nodes (length nodes) (omega arith),
+      (others_keep nodes x w true (length nodes + 1) (λ same. omega (arith, l, same)) ∙ past_none nodes (length nodes + 1) (omega arith), tt),
+    )
 
 counted : (z first : ℕ) (w : List Bool) (may : Bool) → (if nat_lt z first then 1 else 0) + occurs z (numbers_from first may) ≡ (if nat_lt z (first + length (child_words w may)) then 1 else 0)
 counted z first w false = grind (arith, nat_tests)

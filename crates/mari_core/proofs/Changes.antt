@@ -1,11 +1,11 @@
 -- What changes where a node gets another state.
-use Rattle.std.proofs.Common.{◌≡◌, ◌≢◌, ◌⊎◌, inl, inr, Bool, true, false, ℕ, zero, suc, ◌+◌, ◌<◌, ◌≤◌, List, [], ◌∷◌, ◌++◌, length, map, Option, Some, None, arith, refl, sym, ap, subst, ◌∙◌}
+use Rattle.std.proofs.Common.{◌≡◌, ◌≢◌, ◌⊎◌, inl, inr, false, ℕ, List, [], length, Option, Some, None, refl, sym, ap, ◌∙◌}
 use Rattle.std.specs.Prelude.{slice_get}
 use Rattle.std.specs.Option.{option_map}
 use Rattle.std.proofs.lemmas.Bool.{cases_eq}
 use Rattle.mari_core.specs.declared.node.NodeState.{NodeState}
 use Rattle.mari_core.specs.declared.node.NodeState.TheVariants.{Untaken, Taken, Branched, Closed}
-use Rattle.mari_core.specs.Nodes.{TreeNode, in_state, changed, words_of, word_in, word_at, state_at, child_numbers, numbers_below, children_of}
+use Rattle.mari_core.specs.Nodes.{TreeNode, in_state, words_of, word_in, word_at, state_at, child_numbers, numbers_below, children_of}
 use Rattle.mari_core.specs.Growth.{with_state, is_branched}
 use Rattle.mari_core.proofs.Lists.{length-changed, map-changed, changed_same, changed_other}
 

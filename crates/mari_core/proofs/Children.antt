@@ -1,19 +1,17 @@
 -- The children of a leaf are new nodes of the search tree.
-use Rattle.std.proofs.Common.{◌≡◌, ◌≢◌, ◌⊎◌, inl, inr, Bool, true, false, ℕ, zero, suc, ◌+◌, ◌<◌, ◌≤◌, ℤ, pos, ◌≤ℤ◌, ◌<ℤ◌, if◌then◌else◌, List, [], ◌∷◌, ◌++◌, length, map, take, get_or, Option, Some, None, arith, refl, sym, ap, subst, ◌∙◌, append_assoc, length-append}
+use Rattle.std.proofs.Common.{◌≡◌, ◌≢◌, ◌⊎◌, inl, inr, Bool, true, false, ℕ, zero, suc, ◌<◌, ◌≤◌, List, [], ◌∷◌, ◌++◌, length, take, get_or, Option, Some, None, arith, refl, sym, ap, subst, ◌∙◌, append_assoc, length-append}
 use Rattle.std.specs.Prelude.{slice_get, AllPairs}
 use Rattle.std.specs.List.{All}
 use Rattle.std.specs.Option.{option_map}
 use Rattle.std.proofs.lemmas.Int.{ints}
 use Rattle.std.proofs.lemmas.Bool.{cases_eq, cases_lt}
-use Rattle.std.proofs.lemmas.List.{take_all, take-append-le, append-nil}
+use Rattle.std.proofs.lemmas.List.{take_all, take-append-le}
 use Rattle.std.proofs.lemmas.List.Elements.{All-append, All-cons, All-nil}
 use Rattle.std.proofs.lemmas.List.Quantifiers.{all_pairs_push}
 use Rattle.std.proofs.lemmas.Option.{slice_get-map, slice_get_within, get_or_from_slice_get, slice_get-get_or}
 use Rattle.mari_market.specs.declared.market.Market.{Market}
-use Rattle.mari_market.specs.declared.market.GateInfo.{GateInfo}
 use Rattle.mari_market.specs.Prefix.{children, may_open, IsFeasibleWord}
 use Rattle.mari_market.specs.SearchTree.{IsNode, IsPromising, AreNodes}
-use Rattle.mari_market.specs.Relaxation.{IsRelaxedWelfare, IsClosedWelfare}
 use Rattle.mari_market.proofs.Prefixes.{closed_child, open_child}
 use Rattle.mari_core.specs.Nodes.{TreeNode, words_of}
 use Rattle.mari_core.specs.Growth.{Grown, IsGrowth, HasParent, is_branched, child_words, Exceeds, IsCutoff}
@@ -75,10 +73,10 @@ child_is_node : (m : Market) (w : List Bool) (b : Bool) → IsNode m w → IsPro
 child_is_node m w b n p f = record {
   feasible = f;
   prefixes = λ k l. elim (cases_eq k (length w)) [
-      | inl same ↦
+    | inl same ↦
         let all : take k (w ++ b ∷ []) ≡ w = take-append-le k w (b ∷ []) (omega arith) ∙ take_all k w (omega arith) in
         subst (IsPromising m) (sym all) p
-      | inr other ↦
+    | inr other ↦
         let shorter : k < length w = omega (arith, other, l, length-append w (b ∷ [])) in
         subst (IsPromising m) (sym (take-append-le k w (b ∷ []) (omega arith))) (n.prefixes k shorter)
   ];

@@ -1,5 +1,5 @@
 -- Each entry that is allowed keeps what a growth keeps, and the least node that waits.
-use Rattle.std.proofs.Common.{◌≡◌, ◌≢◌, ◌⊎◌, inl, inr, Bool, true, false, ℕ, zero, suc, ◌+◌, ◌-◌, ◌<◌, ◌≤◌, ◌==◌, min, pos, if◌then◌else◌, List, [], ◌∷◌, ◌++◌, length, map, get_or, Option, Some, None, arith, refl, sym, ap, subst, ◌∙◌, length-append, append_assoc}
+use Rattle.std.proofs.Common.{◌≡◌, inl, inr, Bool, true, false, ℕ, zero, suc, ◌+◌, ◌<◌, ◌≤◌, ◌==◌, min, pos, if◌then◌else◌, List, [], ◌∷◌, ◌++◌, length, map, get_or, Option, Some, None, arith, refl, sym, ap, subst, ◌∙◌, length-append, append_assoc}
 use Rattle.std.specs.Prelude.{nat_le}
 use Rattle.mari_market.specs.declared.prefix.Prefix.{Prefix}
 use Rattle.mari_gates.specs.Prefixes.{IsCleared}
@@ -10,20 +10,18 @@ use Rattle.std.specs.Prelude.{slice_get}
 use Rattle.std.specs.Option.{option_map}
 use Rattle.std.proofs.lemmas.Bool.{cases_eq, cases_lt}
 use Rattle.std.proofs.lemmas.Bool.Decides.{nat_tests}
-use Rattle.std.proofs.lemmas.Option.{slice_get_within, slice_get_past, slice_get_read}
-use Rattle.mari_market.specs.declared.market.Market.{Market}
-use Rattle.mari_market.specs.declared.certificate.Leaf.{Leaf}
-use Rattle.mari_market.specs.Prefix.{children, may_open, word_of, IsFeasibleWord, IsFeasiblePrefix}
+use Rattle.std.proofs.lemmas.Option.{slice_get_within, slice_get_read}
+use Rattle.mari_market.specs.Prefix.{children, word_of, IsFeasibleWord, IsFeasiblePrefix}
 use Rattle.mari_market.specs.Tree.{LeafHolds}
 use Rattle.mari_core.specs.declared.node.NodeState.{NodeState}
 use Rattle.mari_core.specs.declared.node.NodeState.TheVariants.{Untaken, Taken, Branched, Closed}
 use Rattle.mari_core.specs.Nodes.{TreeNode, new_node, in_state, words_of, word_at, state_at, branch_of}
-use Rattle.mari_core.specs.Growth.{Grown, Entry, grown, with_state, branched, child_words, children_at, is_branched, IsGrowth, IsCrowded, IsAllowed, MayClose, MayBranch, take_refused, return_refused, IsNext, HoldsAtCutoff, CanBranch}
+use Rattle.mari_core.specs.Growth.{Grown, Entry, grown, with_state, branched, child_words, children_at, is_branched, IsGrowth, IsAllowed, MayBranch, take_refused, return_refused, IsNext, HoldsAtCutoff, CanBranch}
 use Rattle.mari_market.specs.SearchTree.{IsNode, IsPromising}
 use Rattle.mari_core.specs.declared.event.StepFault.TheVariants.{NotTaken}
 use Rattle.mari_core.specs.Growth.Entry.{Take, Close, Branch, Full, GiveBack}
-use Rattle.mari_core.proofs.Lists.{changed_same, changed_other, get_front, get_back}
-use Rattle.mari_core.proofs.Changes.{IsAt, node_at, word_of_node, length-with_state, state_same, state_other}
+use Rattle.mari_core.proofs.Lists.{changed_same, get_front}
+use Rattle.mari_core.proofs.Changes.{IsAt, node_at, word_of_node, length-with_state, state_other}
 use Rattle.mari_core.proofs.Keeps.{leaf_kept, crowded_stays}
 use Rattle.mari_core.proofs.Children.{promising_by}
 use Rattle.mari_core.proofs.Branching.{branch_kept}
@@ -117,8 +115,8 @@ next_stays old s nodes x next was n e l h = record {
   within = omega (arith, h.within, length-with_state s nodes x);
   none_before = none_before_still s nodes x next n l h;
   waits = λ there. elim (cases_eq next x) [
-      | inl same ↦ absurd (not_untaken old was (sym e ∙ ap (state_at nodes) (sym same) ∙ h.waits (omega (arith, there, length-with_state s nodes x))))
-      | inr other ↦ state_other s nodes x next other ∙ h.waits (omega (arith, there, length-with_state s nodes x))
+    | inl same ↦ absurd (not_untaken old was (sym e ∙ ap (state_at nodes) (sym same) ∙ h.waits (omega (arith, there, length-with_state s nodes x))))
+    | inr other ↦ state_other s nodes x next other ∙ h.waits (omega (arith, there, length-with_state s nodes x))
   ];
 }
 
@@ -126,19 +124,19 @@ next_stays old s nodes x next was n e l h = record {
 pub next_back : (nodes : List TreeNode) (x next least : ℕ) → x < length nodes → least ≡ min next x → IsNext nodes next → IsNext (with_state Untaken nodes x) least
 next_back nodes x next least l e h = elim (cases_lt next x) [
   | inl before ↦
-    let same : least ≡ next = omega (arith, e, before) in
-    record {
-      within = omega (arith, h.within, same, length-with_state Untaken nodes x);
-      none_before = λ y below is. h.none_before y (omega (arith, below, same)) (sym (state_other Untaken nodes x y (λ at. omega (arith, at, below, same, before))) ∙ is);
-      waits = λ there. ap (state_at (with_state Untaken nodes x)) same ∙ state_other Untaken nodes x next (λ at. omega (arith, at, before)) ∙ h.waits (omega (arith, l, before));
-    }
+      let same : least ≡ next = omega (arith, e, before) in
+      record {
+        within = omega (arith, h.within, same, length-with_state Untaken nodes x);
+        none_before = λ y below is. h.none_before y (omega (arith, below, same)) (sym (state_other Untaken nodes x y (λ at. omega (arith, at, below, same, before))) ∙ is);
+        waits = λ there. ap (state_at (with_state Untaken nodes x)) same ∙ state_other Untaken nodes x next (λ at. omega (arith, at, before)) ∙ h.waits (omega (arith, l, before));
+      }
   | inr after ↦
-    let same : least ≡ x = omega (arith, e, after) in
-    record {
-      within = omega (arith, l, same, length-with_state Untaken nodes x);
-      none_before = λ y below is. h.none_before y (omega (arith, below, same, after)) (sym (state_other Untaken nodes x y (λ at. omega (arith, at, below, same))) ∙ is);
-      waits = λ there. ap (state_at (with_state Untaken nodes x)) same ∙ state_in Untaken nodes x l;
-    }
+      let same : least ≡ x = omega (arith, e, after) in
+      record {
+        within = omega (arith, l, same, length-with_state Untaken nodes x);
+        none_before = λ y below is. h.none_before y (omega (arith, below, same, after)) (sym (state_other Untaken nodes x y (λ at. omega (arith, at, below, same))) ∙ is);
+        waits = λ there. ap (state_at (with_state Untaken nodes x)) same ∙ state_in Untaken nodes x l;
+      }
 ]
 
 first_new : (w : List Bool) (may : Bool) → state_at (map new_node (child_words w may)) 0 ≡ Some Untaken
@@ -159,8 +157,8 @@ next_with_new nodes w may next h = record {
   within = omega (arith, h.within, length-append nodes (map new_node (child_words w may)));
   none_before = λ y below is. h.none_before y below (sym (state_front nodes (map new_node (child_words w may)) y (omega (arith, below, h.within))) ∙ is);
   waits = λ there. elim (cases_lt next (length nodes)) [
-      | inl l ↦ state_front nodes (map new_node (child_words w may)) next l ∙ h.waits l
-      | inr l ↦ state_back nodes (map new_node (child_words w may)) next (omega (arith, l, h.within)) ∙ first_new w may
+    | inl l ↦ state_front nodes (map new_node (child_words w may)) next l ∙ h.waits l
+    | inr l ↦ state_back nodes (map new_node (child_words w may)) next (omega (arith, l, h.within)) ∙ first_new w may
   ];
 }
 

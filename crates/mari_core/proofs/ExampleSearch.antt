@@ -1,12 +1,12 @@
 -- The events of the example are proper.
-use Rattle.std.proofs.Common.{◌≡◌, ℕ, zero, suc, ◌≤◌, List, [], ◌∷◌, take, pos, refl, arith}
+use Rattle.std.proofs.Common.{ℕ, zero, suc, List, [], ◌∷◌, take, pos, refl, arith}
 use Rattle.mari_market.specs.Finding.{IsAttained}
 use Rattle.mari_market.specs.Market.{IsValid}
 use Rattle.mari_market.specs.Relaxation.{IsClosedWelfare}
 use Rattle.mari_market.proofs.ExampleOversizedBid.{valid, closed, admissible, found_at_root, found_closed, found_open}
 use Rattle.mari_core.specs.declared.event.Event.{Event}
 use Rattle.mari_core.specs.Example.{oversized, first, all_events, taken_twice}
-use Rattle.mari_core.specs.Machine.{Machine, started, after, refusal}
+use Rattle.mari_core.specs.Machine.{Machine, started, after}
 use Rattle.mari_core.specs.Replay.{AreProper}
 
 pub is_valid : IsValid oversized
@@ -19,10 +19,25 @@ pub is_attained : IsAttained oversized first
 is_attained = record { admissible = admissible; welfare = refl }
 
 all_proper : AreProper (started oversized 2 first 3) all_events
-all_proper =
-    (tt, λ _. (record { finding_is = found_at_root; reached = λ e. absurd (cc) },
-    λ _. (tt, λ _. (tt, λ _. (tt, λ _. (record { finding_is = found_closed; reached = λ e n. omega arith },
-    λ _. (record { finding_is = found_open; reached = tt }, λ _. tt)))))))
+all_proper = (
+  tt,
+  λ _. (
+    record { finding_is = found_at_root; reached = λ e. absurd (cc) },
+    λ _. (
+      tt,
+      λ _. (
+        tt,
+        λ _. (
+          tt,
+          λ _. (
+            record { finding_is = found_closed; reached = λ e n. omega arith },
+            λ _. (record { finding_is = found_open; reached = tt }, λ _. tt),
+          ),
+        ),
+      ),
+    ),
+  ),
+)
 
 proper_take : (n : ℕ) (s : Machine) (events : List Event) → AreProper s events → AreProper s (take n events)
 proper_take zero s events p = tt

@@ -1,7 +1,6 @@
 -- Certificates that are moved out of the nodes in preorder.
-use Rattle.std.proofs.Common.{◌≡◌, ◌≢◌, ◌⊎◌, inl, inr, Bool, true, false, ℕ, zero, suc, ◌+◌, ◌<◌, ◌≤◌, ◌==◌, if◌then◌else◌, nat_lt, List, [], ◌∷◌, ◌++◌, length, map, take, drop, get_or, Option, Some, None, arith, refl, sym, ap, subst, ◌∙◌, length-append}
+use Rattle.std.proofs.Common.{◌≡◌, ◌≢◌, true, false, ℕ, zero, suc, ◌+◌, ◌<◌, ◌≤◌, if◌then◌else◌, nat_lt, List, [], ◌∷◌, ◌++◌, length, map, take, drop, get_or, Some, arith, refl, sym, ap, subst, ◌∙◌}
 use Rattle.std.specs.List.{All}
-use Rattle.std.proofs.lemmas.Bool.{cases_eq}
 use Rattle.std.proofs.lemmas.Bool.Decides.{nat_tests}
 use Rattle.std.proofs.lemmas.List.{take_more, take_all}
 use Rattle.std.proofs.lemmas.List.Elements.{All-append, All-cons, All-nil}
@@ -12,8 +11,8 @@ use Rattle.mari_core.specs.Nodes.{TreeNode, state_at}
 use Rattle.mari_core.specs.Preorder.{IsPreorder, IsTree, IsFirstOpen, occurs, is_done, tree_item}
 use Rattle.mari_core.specs.Growth.{with_state}
 use Rattle.mari_core.proofs.Changes.{length-with_state, state_other}
-use Rattle.mari_core.proofs.Insertions.{occurs-append, occurs_here, occurs_later}
-use Rattle.mari_core.proofs.Walks.{occurs_at, item_within, map_more, map_all}
+use Rattle.mari_core.proofs.Insertions.{occurs-append, occurs_here}
+use Rattle.mari_core.proofs.Walks.{occurs_at, map_more, map_all}
 
 -- what was visited is done and in the items, and what wasn't is as it was
 pub record Visited (original nodes : List TreeNode) (items : List TreeItem) (visited : List ℕ) : Type 0 where

@@ -1,9 +1,9 @@
 -- A preorder after a node got children.
-use Rattle.std.proofs.Common.{◌≡◌, ◌≢◌, ◌⊎◌, inl, inr, Bool, true, false, ℕ, zero, suc, ◌+◌, ◌<◌, ◌≤◌, ◌==◌, if◌then◌else◌, nat_lt, List, [], ◌∷◌, ◌++◌, length, Option, Some, None, arith, refl, sym, ap, subst, ◌∙◌, append_assoc, length-append}
+use Rattle.std.proofs.Common.{◌≡◌, inl, inr, Bool, true, false, ℕ, ◌+◌, ◌≤◌, ◌==◌, if◌then◌else◌, List, [], ◌∷◌, ◌++◌, length, arith, refl, sym, ap, subst, ◌∙◌, length-append}
 use Rattle.std.proofs.lemmas.Bool.{cases_eq}
 use Rattle.std.proofs.lemmas.Bool.Decides.{nat_tests}
 use Rattle.mari_core.specs.Nodes.{TreeNode, children_of}
-use Rattle.mari_core.specs.Preorder.{IsWalk, IsPreorder, occurs}
+use Rattle.mari_core.specs.Preorder.{IsWalk, occurs}
 
 -- the numbers with others after the first x
 abbrev pub insert_after : ℕ → List ℕ → List ℕ → List ℕ
@@ -36,23 +36,21 @@ pub occurs-insert_after : (x : ℕ) (kids xs : List ℕ) (z : ℕ) → 1 ≤ occ
 occurs-insert_after x kids [] z h = absurd (omega arith)
 occurs-insert_after x kids (y ∷ ys) z h = elim (cases_eq y x) [
   | inl same ↦
-        let first : insert_after x kids (y ∷ ys) ≡ y ∷ (kids ++ ys) = insert_here x y kids ys same in
-        omega (arith, ap (occurs z) first, occurs-append z kids ys)
+      let first : insert_after x kids (y ∷ ys) ≡ y ∷ (kids ++ ys) = insert_here x y kids ys same in
+      omega (arith, ap (occurs z) first, occurs-append z kids ys)
   | inr other ↦
-        omega (arith, ap (occurs z) (insert_later x y kids ys other), occurs_later x y ys other, h, occurs-insert_after x kids ys z (omega (arith, occurs_later x y ys other, h)))
+      omega (arith, ap (occurs z) (insert_later x y kids ys other), occurs_later x y ys other, h, occurs-insert_after x kids ys z (omega (arith, occurs_later x y ys other, h)))
 ]
-
 
 pub length-insert_after : (x : ℕ) (kids xs : List ℕ) → 1 ≤ occurs x xs → length (insert_after x kids xs) ≡ length xs + length kids
 length-insert_after x kids [] h = absurd (omega arith)
 length-insert_after x kids (y ∷ ys) h = elim (cases_eq y x) [
   | inl same ↦
-        let first : insert_after x kids (y ∷ ys) ≡ y ∷ (kids ++ ys) = insert_here x y kids ys same in
-        omega (arith, ap length first, length-append kids ys)
+      let first : insert_after x kids (y ∷ ys) ≡ y ∷ (kids ++ ys) = insert_here x y kids ys same in
+      omega (arith, ap length first, length-append kids ys)
   | inr other ↦
-        omega (arith, ap length (insert_later x y kids ys other), length-insert_after x kids ys (omega (arith, occurs_later x y ys other, h)))
+      omega (arith, ap length (insert_later x y kids ys other), length-insert_after x kids ys (omega (arith, occurs_later x y ys other, h)))
 ]
-
 
 -- a walk past x is a walk where only x got children
 walk_without : (nodes nodes' : List TreeNode) (x : ℕ) → ((y : ℕ) → (y ≡ x → ⊥) → children_of nodes' y ≡ children_of nodes y) → (waiting xs : List ℕ) → occurs x xs ≡ 0 → IsWalk nodes waiting xs → IsWalk nodes' waiting xs
@@ -80,13 +78,13 @@ walk_grows nodes nodes' x kids h before after l [] (y ∷ ys) e w = absurd w
 walk_grows nodes nodes' x kids h before after l (v ∷ waiting) [] e w = absurd w
 walk_grows nodes nodes' x kids h before after l (v ∷ waiting) (y ∷ ys) e w = elim (cases_eq y x) [
   | inl same ↦
-        let first : insert_after x kids (y ∷ ys) ≡ y ∷ (kids ++ ys) = insert_here x y kids ys same in
-        let none : occurs x ys ≡ 0 = omega (arith, occurs_here x ys, e, ap (λ (i : ℕ). occurs x (i ∷ ys)) same) in
-        let rest : IsWalk nodes waiting ys = subst (λ (zs : List ℕ). IsWalk nodes (zs ++ waiting) ys) (ap (children_of nodes) same ∙ before) w.1 in
-        let here : children_of nodes' y ≡ kids = ap (children_of nodes') same ∙ after in
-        subst (λ (zs : List ℕ). IsWalk nodes' (v ∷ waiting) zs) (sym first)
-        (w.0, subst (λ (zs : List ℕ). IsWalk nodes' (zs ++ waiting) (kids ++ ys)) (sym here) (walk_leaves nodes' kids waiting ys l (walk_without nodes nodes' x h waiting ys none rest)))
+      let first : insert_after x kids (y ∷ ys) ≡ y ∷ (kids ++ ys) = insert_here x y kids ys same in
+      let none : occurs x ys ≡ 0 = omega (arith, occurs_here x ys, e, ap (λ (i : ℕ). occurs x (i ∷ ys)) same) in
+      let rest : IsWalk nodes waiting ys = subst (λ (zs : List ℕ). IsWalk nodes (zs ++ waiting) ys) (ap (children_of nodes) same ∙ before) w.1 in
+      let here : children_of nodes' y ≡ kids = ap (children_of nodes') same ∙ after in
+      subst (λ (zs : List ℕ). IsWalk nodes' (v ∷ waiting) zs) (sym first)
+      (w.0, subst (λ (zs : List ℕ). IsWalk nodes' (zs ++ waiting) (kids ++ ys)) (sym here) (walk_leaves nodes' kids waiting ys l (walk_without nodes nodes' x h waiting ys none rest)))
   | inr other ↦
-        subst (λ (zs : List ℕ). IsWalk nodes' (v ∷ waiting) zs) (sym (insert_later x y kids ys other))
-        (w.0, subst (λ (zs : List ℕ). IsWalk nodes' (zs ++ waiting) (insert_after x kids ys)) (sym (h y other)) (walk_grows nodes nodes' x kids h before after l (children_of nodes y ++ waiting) ys (omega (arith, occurs_later x y ys other, e)) w.1))
+      subst (λ (zs : List ℕ). IsWalk nodes' (v ∷ waiting) zs) (sym (insert_later x y kids ys other))
+      (w.0, subst (λ (zs : List ℕ). IsWalk nodes' (zs ++ waiting) (insert_after x kids ys)) (sym (h y other)) (walk_grows nodes nodes' x kids h before after l (children_of nodes y ++ waiting) ys (omega (arith, occurs_later x y ys other, e)) w.1))
 ]

@@ -1,17 +1,16 @@
 -- A leaf of a growth that gets another state and stays a leaf.
-use Rattle.std.proofs.Common.{◌≡◌, ◌≢◌, ◌⊎◌, inl, inr, Bool, true, false, ℕ, zero, suc, ◌+◌, ◌<◌, ◌≤◌, pos, ◌==◌, if◌then◌else◌, nat_lt, List, [], ◌∷◌, ◌++◌, length, map, Option, Some, None, arith, refl, sym, ap, subst, ◌∙◌}
+use Rattle.std.proofs.Common.{◌≡◌, ◌≢◌, ◌⊎◌, inl, inr, Bool, true, false, ℕ, ◌+◌, ◌<◌, if◌then◌else◌, nat_lt, List, [], ◌∷◌, ◌++◌, length, Some, arith, sym, ap, subst, ◌∙◌}
 use Rattle.std.specs.Prelude.{slice_get}
-use Rattle.std.specs.List.{All}
 use Rattle.std.proofs.lemmas.Bool.{cases_eq}
 use Rattle.mari_market.specs.declared.market.Market.{Market}
 use Rattle.mari_market.specs.Prefix.{children}
 use Rattle.mari_market.specs.SearchTree.{AreNodes}
 use Rattle.mari_core.specs.declared.node.NodeState.{NodeState}
 use Rattle.mari_core.specs.declared.node.NodeState.TheVariants.{Untaken, Taken, Branched, Closed}
-use Rattle.mari_core.specs.Nodes.{TreeNode, in_state, changed, words_of, word_in, word_at, state_at, children_of}
-use Rattle.mari_core.specs.Preorder.{IsWalk, IsPreorder, HasPreorder, occurs}
+use Rattle.mari_core.specs.Nodes.{TreeNode, in_state, words_of, children_of}
+use Rattle.mari_core.specs.Preorder.{IsWalk, HasPreorder}
 use Rattle.mari_core.specs.Growth.{Grown, with_state, is_branched, IsGrowth, IsCrowded, HasChildren, HasParent, HoldsAtCutoff}
-use Rattle.mari_core.proofs.Lists.{length-changed, changed_same, changed_other, all_changed, all_get}
+use Rattle.mari_core.proofs.Lists.{changed_same, changed_other, all_changed}
 use Rattle.mari_core.proofs.Changes.{words-with_state, length-with_state, children_stay}
 
 -- a walk rests on the children alone

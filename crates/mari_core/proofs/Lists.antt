@@ -1,9 +1,8 @@
 -- Lists with one item changed, and what holds of each item.
-use Rattle.std.proofs.Common.{◌≡◌, ◌≢◌, ◌⊎◌, inl, inr, ℕ, zero, suc, ◌+◌, ◌<◌, ◌≤◌, List, [], ◌∷◌, ◌++◌, length, map, set, get_or, Option, Some, None, arith, refl, sym, ap, subst, ◌∙◌, length-append}
-use Rattle.std.specs.Prelude.{slice_get, slice_index_or}
+use Rattle.std.proofs.Common.{◌≡◌, ◌≢◌, ◌⊎◌, inl, inr, ℕ, zero, suc, ◌+◌, ◌<◌, List, [], ◌∷◌, ◌++◌, length, map, set, get_or, Option, Some, None, arith, refl, sym, ap, subst, ◌∙◌}
+use Rattle.std.specs.Prelude.{slice_get}
 use Rattle.std.specs.List.{All}
-use Rattle.std.specs.Option.{option_map}
-use Rattle.std.proofs.lemmas.Option.{slice_get_within, slice_get-get_or, get_or_from_slice_get, slice_get_past}
+use Rattle.std.proofs.lemmas.Option.{slice_get_within, slice_get-get_or, get_or_from_slice_get}
 use Rattle.std.proofs.lemmas.Bool.{cases_eq}
 use Rattle.mari_core.specs.Nodes.{changed}
 

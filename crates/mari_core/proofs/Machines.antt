@@ -1,5 +1,5 @@
 -- What each event of the search machine keeps.
-use Rattle.std.proofs.Common.{◌≡◌, ◌≢◌, ◌⊎◌, inl, inr, Bool, true, false, ℕ, zero, suc, ◌+◌, ◌<◌, ◌≤◌, ◌==◌, ℤ, pos, max, if◌then◌else◌, nat_lt, List, [], ◌∷◌, ◌++◌, length, map, get_or, replicate, Option, Some, None, Result, Ok, Err, arith, refl, sym, ap, subst, ◌∙◌}
+use Rattle.std.proofs.Common.{◌≡◌, Bool, true, false, ℕ, zero, suc, ◌+◌, ◌<◌, ◌≤◌, ◌==◌, ℤ, pos, max, if◌then◌else◌, nat_lt, List, [], ◌∷◌, length, map, get_or, replicate, Option, Some, None, Result, Ok, Err, arith, refl, sym, ap, subst, ◌∙◌}
 use Rattle.std.specs.Prelude.{slice_get, nat_le, IfOk, IfErr, IfSome, MatchOption}
 use Rattle.std.specs.List.{All}
 use Rattle.std.proofs.lemmas.Int.{ints}
@@ -19,9 +19,9 @@ use Rattle.mari_core.specs.declared.event.StepFault.TheVariants.{NoActor, Memory
 use Rattle.mari_core.specs.declared.node.NodeState.{NodeState}
 use Rattle.mari_core.specs.declared.node.NodeState.TheVariants.{Untaken, Taken, Branched, Closed}
 use Rattle.mari_core.specs.Nodes.{TreeNode, new_node, in_state, changed, branch_of}
-use Rattle.mari_core.specs.Growth.{Grown, Entry, MaySettle, seed, grown, settling, settling_by, closing_leaf, children_at, IsGrowth, AreCutAt, IsCutAt, IsCutoff, IsRefusal, IsAnswer}
+use Rattle.mari_core.specs.Growth.{Grown, Entry, MaySettle, grown, settling, settling_by, closing_leaf, children_at, IsGrowth, AreCutAt, IsCutAt, IsCutoff, IsRefusal, IsAnswer}
 use Rattle.mari_core.specs.Growth.Entry.{Take, Close, Branch, Full, GiveBack}
-use Rattle.mari_core.specs.Machine.{Machine, started, new_actor, seeing, offering, offered_to, by_actor, greatest, seen_by, after, IsProper, KeepsFacts, IsActor, IsBest, best_or, best_of}
+use Rattle.mari_core.specs.Machine.{Machine, started, new_actor, seeing, offering, by_actor, greatest, seen_by, after, IsProper, KeepsFacts, IsActor, IsBest, best_or, best_of}
 use Rattle.mari_market.specs.declared.clearing.Clearing.{Clearing}
 use Rattle.mari_market.specs.Activation.{welfare_of}
 use Rattle.mari_market.specs.Clearing.{IsClearing}

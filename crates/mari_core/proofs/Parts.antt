@@ -1,6 +1,6 @@
 -- What the nodes in preorder are: a part of the search tree, and a certificate tree where each is done.
-use Rattle.std.proofs.Common.{◌≡◌, ◌≢◌, ◌⊎◌, inl, inr, Bool, true, false, ℕ, zero, suc, ◌+◌, ◌<◌, ◌≤◌, ℤ, pos, ◌≤ℤ◌, List, [], ◌∷◌, ◌++◌, length, map, get_or, nat_lt, if◌then◌else◌, Option, Some, None, arith, refl, sym, ap, subst, ◌∙◌}
-use Rattle.std.specs.Prelude.{slice_get, slice_index_or, Contains}
+use Rattle.std.proofs.Common.{◌≡◌, inl, inr, Bool, true, false, ℕ, zero, suc, ◌<◌, ◌≤◌, pos, List, [], ◌∷◌, ◌++◌, length, map, get_or, nat_lt, if◌then◌else◌, Option, Some, None, arith, refl, sym, ap, subst, ◌∙◌}
+use Rattle.std.specs.Prelude.{slice_get, Contains}
 use Rattle.std.specs.List.{All}
 use Rattle.std.proofs.lemmas.Int.{ints}
 use Rattle.std.proofs.lemmas.Bool.{cases_eq}
@@ -12,10 +12,10 @@ use Rattle.mari_market.specs.declared.market.Market.{Market}
 use Rattle.mari_market.specs.declared.certificate.TreeItem.{TreeItem}
 use Rattle.mari_market.specs.declared.certificate.TreeItem.TheVariants.{Leaf}
 use Rattle.mari_market.specs.declared.clearing.PartItem.{PartItem}
-use Rattle.mari_market.specs.Clearing.{ArePartsOfSearch, leaves_of, Overflows, IsSpent}
+use Rattle.mari_market.specs.Clearing.{ArePartsOfSearch, leaves_of, IsSpent}
 use Rattle.mari_market.specs.Prefix.{children}
 use Rattle.mari_market.specs.SearchTree.{IsNode}
-use Rattle.mari_market.specs.Tree.{AreParts, TreeHolds, LeafHolds}
+use Rattle.mari_market.specs.Tree.{AreParts, TreeHolds}
 use Rattle.mari_market.proofs.Search.{parts_rise}
 use Rattle.mari_core.specs.declared.node.NodeState.{NodeState}
 use Rattle.mari_core.specs.declared.node.NodeState.TheVariants.{Untaken, Taken, Branched, Closed}
@@ -25,7 +25,7 @@ use Rattle.mari_core.specs.Growth.{Grown, IsGrowth, IsCrowded, HasChildren, Hold
 use Rattle.mari_core.proofs.Lists.{all_get}
 use Rattle.mari_core.proofs.Changes.{word_of_node, state_of_node}
 use Rattle.mari_core.proofs.Children.{word_of_number}
-use Rattle.mari_core.proofs.Insertions.{occurs_here, occurs_later}
+use Rattle.mari_core.proofs.Insertions.{occurs_later}
 use Rattle.mari_core.proofs.Seeds.{crowded_is_larger}
 use Rattle.mari_core.proofs.Walks.{item_within}
 
@@ -97,8 +97,8 @@ walk_parts g k (v ∷ waiting) (x ∷ xs) within w =
     let at : NodeAt g x = node_of g x k (All-head (λ y. y < length g.nodes) x xs within) in
     let rest : ArePartsOfSearch g.market (words_at g.nodes (children_of g.nodes x ++ waiting)) (map (λ y. part_item (state_at g.nodes y)) xs) = walk_parts g k (children_of g.nodes x ++ waiting) xs (All-tail (λ y. y < length g.nodes) x xs within) w.1 in
     let split : ArePartsOfSearch g.market (words_at g.nodes (child_numbers at.node.state) ++ words_at g.nodes waiting) (map (λ y. part_item (state_at g.nodes y)) xs) =
-        subst (λ (ws : List (List Bool)). ArePartsOfSearch g.market ws (map (λ y. part_item (state_at g.nodes y)) xs))
-        (map-append (word_at g.nodes) (children_of g.nodes x) waiting ∙ ap (λ (o : Option NodeState). words_at g.nodes (numbers_below o) ++ words_at g.nodes waiting) at.state) rest in
+    subst (λ (ws : List (List Bool)). ArePartsOfSearch g.market ws (map (λ y. part_item (state_at g.nodes y)) xs))
+    (map-append (word_at g.nodes) (children_of g.nodes x) waiting ∙ ap (λ (o : Option NodeState). words_at g.nodes (numbers_below o) ++ words_at g.nodes waiting) at.state) rest in
     subst (λ (y : ℕ). ArePartsOfSearch g.market (word_at g.nodes y ∷ words_at g.nodes waiting) (map (λ z. part_item (state_at g.nodes z)) (x ∷ xs))) (sym w.0)
     (subst (λ (o : Option NodeState). ArePartsOfSearch g.market (word_at g.nodes x ∷ words_at g.nodes waiting) (part_item o ∷ map (λ z. part_item (state_at g.nodes z)) xs)) (sym at.state)
     (part_step g.market g.nodes at.node.state (word_at g.nodes x) (words_at g.nodes waiting) (map (λ y. part_item (state_at g.nodes y)) xs) at.is_node at.children split))
@@ -147,15 +147,15 @@ walk_leaf g k z n e leaf (v ∷ waiting) (x ∷ xs) o within w =
     (subst (λ (o : Option NodeState). Contains (leaves_of g.market (word_at g.nodes x ∷ words_at g.nodes waiting) (part_item o ∷ map (λ y. part_item (state_at g.nodes y)) xs)) n.word) (sym at.state)
     (elim (cases_eq x z) [
       | inl same ↦
-        let one : at.node ≡ n = cc (at.there, e, ap (λ (i : ℕ). slice_get g.nodes i) same) in
-        let word : word_at g.nodes x ≡ n.word = at.word ∙ ap (λ (i : TreeNode). i.word) one in
-        subst (Contains (leaves_of g.market (word_at g.nodes x ∷ words_at g.nodes waiting) (part_item (Some at.node.state) ∷ map (λ y. part_item (state_at g.nodes y)) xs))) word
-        (leaf_here g.market at.node.state (word_at g.nodes x) (words_at g.nodes waiting) (map (λ y. part_item (state_at g.nodes y)) xs) (ap (λ (i : TreeNode). is_branched i.state) one ∙ leaf))
+          let one : at.node ≡ n = cc (at.there, e, ap (λ (i : ℕ). slice_get g.nodes i) same) in
+          let word : word_at g.nodes x ≡ n.word = at.word ∙ ap (λ (i : TreeNode). i.word) one in
+          subst (Contains (leaves_of g.market (word_at g.nodes x ∷ words_at g.nodes waiting) (part_item (Some at.node.state) ∷ map (λ y. part_item (state_at g.nodes y)) xs))) word
+          (leaf_here g.market at.node.state (word_at g.nodes x) (words_at g.nodes waiting) (map (λ y. part_item (state_at g.nodes y)) xs) (ap (λ (i : TreeNode). is_branched i.state) one ∙ leaf))
       | inr other ↦
-        leaf_later g.market g.nodes at.node.state (word_at g.nodes x) (words_at g.nodes waiting) (map (λ y. part_item (state_at g.nodes y)) xs) n.word at.children
-        (subst (λ (ws : List (List Bool)). Contains (leaves_of g.market ws (map (λ y. part_item (state_at g.nodes y)) xs)) n.word)
-        (map-append (word_at g.nodes) (children_of g.nodes x) waiting ∙ ap (λ (o : Option NodeState). words_at g.nodes (numbers_below o) ++ words_at g.nodes waiting) at.state)
-        (walk_leaf g k z n e leaf (children_of g.nodes x ++ waiting) xs (omega (arith, o, occurs_later z x xs other)) (All-tail (λ y. y < length g.nodes) x xs within) w.1))
+          leaf_later g.market g.nodes at.node.state (word_at g.nodes x) (words_at g.nodes waiting) (map (λ y. part_item (state_at g.nodes y)) xs) n.word at.children
+          (subst (λ (ws : List (List Bool)). Contains (leaves_of g.market ws (map (λ y. part_item (state_at g.nodes y)) xs)) n.word)
+          (map-append (word_at g.nodes) (children_of g.nodes x) waiting ∙ ap (λ (o : Option NodeState). words_at g.nodes (numbers_below o) ++ words_at g.nodes waiting) at.state)
+          (walk_leaf g k z n e leaf (children_of g.nodes x ++ waiting) xs (omega (arith, o, occurs_later z x xs other)) (All-tail (λ y. y < length g.nodes) x xs within) w.1))
     ]))
 
 is_one : (x n : ℕ) → x < n → (k : ℕ) → k ≡ (if nat_lt x n then 1 else 0) → 1 ≤ k
@@ -197,10 +197,10 @@ walk_tree g cutoff k cut (v ∷ waiting) [] within done w = absurd w
 walk_tree g cutoff k cut (v ∷ waiting) (x ∷ xs) within done w =
     let at : NodeAt g x = node_of g x k (All-head (λ y. y < length g.nodes) x xs within) in
     let rest : AreParts g.market (pos cutoff) (words_at g.nodes (children_of g.nodes x ++ waiting)) (map (λ y. tree_item (state_at g.nodes y)) xs) =
-        walk_tree g cutoff k cut (children_of g.nodes x ++ waiting) xs (All-tail (λ y. y < length g.nodes) x xs within) (All-tail (λ y. is_done (state_at g.nodes y) ≡ true) x xs done) w.1 in
+    walk_tree g cutoff k cut (children_of g.nodes x ++ waiting) xs (All-tail (λ y. y < length g.nodes) x xs within) (All-tail (λ y. is_done (state_at g.nodes y) ≡ true) x xs done) w.1 in
     let split : AreParts g.market (pos cutoff) (words_at g.nodes (child_numbers at.node.state) ++ words_at g.nodes waiting) (map (λ y. tree_item (state_at g.nodes y)) xs) =
-        subst (λ (ws : List (List Bool)). AreParts g.market (pos cutoff) ws (map (λ y. tree_item (state_at g.nodes y)) xs))
-        (map-append (word_at g.nodes) (children_of g.nodes x) waiting ∙ ap (λ (o : Option NodeState). words_at g.nodes (numbers_below o) ++ words_at g.nodes waiting) at.state) rest in
+    subst (λ (ws : List (List Bool)). AreParts g.market (pos cutoff) ws (map (λ y. tree_item (state_at g.nodes y)) xs))
+    (map-append (word_at g.nodes) (children_of g.nodes x) waiting ∙ ap (λ (o : Option NodeState). words_at g.nodes (numbers_below o) ++ words_at g.nodes waiting) at.state) rest in
     subst (λ (y : ℕ). AreParts g.market (pos cutoff) (word_at g.nodes y ∷ words_at g.nodes waiting) (map (λ z. tree_item (state_at g.nodes z)) (x ∷ xs))) (sym w.0)
     (subst (λ (o : Option NodeState). AreParts g.market (pos cutoff) (word_at g.nodes x ∷ words_at g.nodes waiting) (tree_item o ∷ map (λ z. tree_item (state_at g.nodes z)) xs)) (sym at.state)
     (tree_step g.market g.nodes cutoff at.node.state (word_at g.nodes x) (words_at g.nodes waiting) (map (λ y. tree_item (state_at g.nodes y)) xs)

@@ -1,11 +1,9 @@
 -- A list of events, at the next of them.
-use Rattle.std.proofs.Common.{◌≡◌, ◌⊎◌, inl, inr, ℕ, ◌+◌, ◌≤◌, List, [], ◌∷◌, length, Option, Some, None, Result, Ok, Err, arith, refl, sym, ap, subst, ◌∙◌}
+use Rattle.std.proofs.Common.{◌≡◌, inl, inr, ℕ, ◌+◌, ◌≤◌, List, [], ◌∷◌, length, Option, Some, None, Ok, Err, arith, refl, sym, ap, subst, ◌∙◌}
 use Rattle.std.specs.Prelude.{MatchOption}
 use Rattle.mari_core.specs.declared.event.Event.{Event}
 use Rattle.mari_core.specs.declared.event.StepFault.{StepFault}
 use Rattle.mari_core.specs.declared.event.StepFault.TheVariants.{Memory}
-use Rattle.mari_core.specs.declared.event.ReplayFault.{ReplayFault}
-use Rattle.mari_core.specs.Growth.{IsAnswer}
 use Rattle.mari_core.specs.Machine.{Machine, after, refusal, IsProper, KeepsFacts}
 use Rattle.mari_core.specs.Replay.{after_all, first_refusal, refused_or, AreProper, IsReplayed}
 

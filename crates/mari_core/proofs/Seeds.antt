@@ -1,18 +1,16 @@
 -- A growth at its start, and one whose mark is on.
-use Rattle.std.proofs.Common.{◌≡◌, ◌≢◌, ◌⊎◌, inl, inr, Bool, true, false, ℕ, zero, suc, ◌+◌, ◌<◌, ◌≤◌, ◌==◌, nat_lt, if◌then◌else◌, List, [], ◌∷◌, ◌++◌, length, map, take, get_or, Option, Some, None, arith, refl, sym, ap, subst, ◌∙◌, length-append}
-use Rattle.std.specs.Prelude.{slice_get, AllPairs}
+use Rattle.std.proofs.Common.{◌≡◌, ◌≢◌, ◌⊎◌, inl, Bool, false, ℕ, zero, suc, ◌<◌, ◌≤◌, nat_lt, if◌then◌else◌, List, [], ◌∷◌, ◌++◌, length, take, get_or, arith, refl, sym, subst, length-append}
+use Rattle.std.specs.Prelude.{AllPairs}
 use Rattle.std.specs.List.{All}
 use Rattle.std.proofs.lemmas.Bool.Decides.{nat_tests}
 use Rattle.std.proofs.lemmas.List.{get_or-take, length-map, length-take-le}
 use Rattle.std.proofs.lemmas.List.Elements.{All-cons, All-nil}
 use Rattle.mari_market.specs.declared.market.Market.{Market}
-use Rattle.mari_market.specs.declared.market.GateInfo.{GateInfo}
-use Rattle.mari_market.specs.Gates.{KeepsGateRules}
 use Rattle.mari_market.specs.Market.{IsValid}
-use Rattle.mari_market.specs.Prefix.{children, opens_in, IsFeasibleWord}
-use Rattle.mari_market.specs.SearchTree.{IsNode, IsPromising, AreNodes, IsLarger}
+use Rattle.mari_market.specs.Prefix.{children}
+use Rattle.mari_market.specs.SearchTree.{IsNode, AreNodes, IsLarger}
 use Rattle.mari_core.specs.Nodes.{TreeNode, new_node, words_of}
-use Rattle.mari_core.specs.Preorder.{HasPreorder, occurs}
+use Rattle.mari_core.specs.Preorder.{occurs}
 use Rattle.mari_core.specs.Growth.{Grown, seed, IsGrowth, IsCrowded, IsNext, HasChildren, HasParent, HoldsAtCutoff}
 use Rattle.mari_core.proofs.Children.{nodes_with_children}
 

@@ -1,8 +1,7 @@
 -- What a finding allows: to close its node, or to branch it.
-use Rattle.std.proofs.Common.{◌≡◌, ◌≢◌, ◌⊎◌, inl, inr, Bool, true, false, ℕ, ◌<◌, ◌≤◌, ℤ, pos, ◌≤ℤ◌, ◌<ℤ◌, if◌then◌else◌, List, length, Option, Some, None, arith, refl, sym, ap, subst, ◌∙◌}
+use Rattle.std.proofs.Common.{◌≡◌, ◌⊎◌, inl, inr, Bool, true, false, ℕ, ◌<◌, ◌≤◌, pos, if◌then◌else◌, List, length, Option, Some, None, arith, refl, sym, subst}
 use Rattle.std.specs.Prelude.{slice_get, nat_le, IfSome, MatchOption, IsSomeAnd}
-use Rattle.std.specs.Int.{int_max}
-use Rattle.std.proofs.lemmas.Bool.{cases_eq, cases_lt}
+use Rattle.std.proofs.lemmas.Bool.{cases_eq}
 use Rattle.std.proofs.lemmas.Bool.Decides.{nat_tests}
 use Rattle.std.proofs.lemmas.Int.{ints, clamps}
 use Rattle.mari_market.specs.declared.market.Market.{Market}
@@ -74,8 +73,8 @@ branch_of_relaxed m word r cutoff f l reached e = by_conflict r.conflict refl e
         let above : cutoff < r.bound = gt_by_test r.bound cutoff low in
         record {
           undecided = elim (cases_eq (length word) (length m.gates)) [
-              | inl full ↦ let within : r.bound ≤ cutoff = reached full none in absurd (omega (arith, above, within))
-              | inr other ↦ omega (arith, other, l)
+            | inl full ↦ let within : r.bound ≤ cutoff = reached full none in absurd (omega (arith, above, within))
+            | inr other ↦ omega (arith, other, l)
           ];
           exceeds = record { relaxed = value_of m word r; is_relaxed = f.value; above = omega (arith, ints, clamps, f.bound, above) };
         }

@@ -12,11 +12,19 @@ use std::alloc::{AllocError, AllocFailed};
 #[derive(Drop)]
 pub enum Event {
     /// The actor looks at the word.
-    Look { actor: u32 },
+    Look {
+        actor: u32,
+    },
     /// The actor offers an admissible activation of this welfare.
-    Offer { actor: u32, attained: Attained },
+    Offer {
+        actor: u32,
+        attained: Attained,
+    },
     /// The actor takes a node that waits.
-    Take { actor: u32, node: u32 },
+    Take {
+        actor: u32,
+        node: u32,
+    },
     /// The actor says what it found of a node that it has taken.
     Settle {
         actor: u32,
@@ -24,7 +32,10 @@ pub enum Event {
         finding: Finding,
     },
     /// The actor gives a node back that it has taken.
-    GiveBack { actor: u32, node: u32 },
+    GiveBack {
+        actor: u32,
+        node: u32,
+    },
 }
 
 /// Why a step was refused.

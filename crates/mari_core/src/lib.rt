@@ -9,11 +9,10 @@ mod growth;
 mod history;
 mod node;
 mod preorder;
-
 mod search;
 
 pub use event::{Event, FinishFault, ReplayFault, StepFault};
 pub use growth::Growth;
-pub use node::{Node, NodeState};
 pub use history::replay;
+pub use node::{Node, NodeState};
 pub use search::{Actor, Search};

@@ -74,7 +74,10 @@ fn tree_item(state: NodeState) -> Option<TreeItem>
 }
 
 /// The items of a certificate tree, in preorder, which are moved out of the nodes.
-pub(crate) fn finished_items(alloc: Global, mut nodes: Vec<Node>) -> Result<Vec<TreeItem>, FinishFault>
+pub(crate) fn finished_items(
+    alloc: Global,
+    mut nodes: Vec<Node>,
+) -> Result<Vec<TreeItem>, FinishFault>
     requires { HasPreorder nodes.items }
     ensures tree { IfOk result (λ v. IsTree nodes.items v.items) }
     ensures not_closed { IfErr result (IsOpenFault nodes.items) }

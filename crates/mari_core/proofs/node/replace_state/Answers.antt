@@ -1,4 +1,4 @@
-use Rattle.std.proofs.Common.{◌≡◌, ap, ◌∙◌, set, sym}
+use Rattle.std.proofs.Common.{ap, ◌∙◌, set, sym}
 use Rattle.mari_core.specs.declared.node.NodeState.{NodeState}
 use Rattle.std.specs.Prelude.{Some}
 use Rattle.mari_core.specs.Nodes.{TreeNode, in_state}

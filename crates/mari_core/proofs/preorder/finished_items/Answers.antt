@@ -1,4 +1,4 @@
-use Rattle.std.proofs.Common.{◌≡◌, ◌<◌, ◌≤◌, ℕ, List, get_or, length, Some, true, arith, sym, ap, subst, ◌∙◌}
+use Rattle.std.proofs.Common.{ℕ, List, arith, sym, subst}
 use Rattle.mari_core.specs.Nodes.{TreeNode}
 use Rattle.mari_core.specs.Preorder.{IsPreorder}
 use Rattle.mari_core.proofs.Walks.{item_within}

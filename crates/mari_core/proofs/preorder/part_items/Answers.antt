@@ -1,8 +1,8 @@
-use Rattle.std.proofs.Common.{◌≡◌, ◌+◌, ◌<◌, ◌≤◌, ℕ, List, [], ◌∷◌, ◌++◌, map, take, get_or, length, Some, arith, sym, ap, subst, ◌∙◌}
+use Rattle.std.proofs.Common.{◌≡◌, ◌<◌, ℕ, List, [], ◌∷◌, ◌++◌, map, take, get_or, length, Some, arith, sym, ap, subst, ◌∙◌}
 use Rattle.mari_market.specs.declared.clearing.PartItem.{PartItem}
 use Rattle.mari_core.specs.declared.node.NodeState.{NodeState}
-use Rattle.mari_core.specs.Nodes.{TreeNode, state_at}
-use Rattle.mari_core.specs.Preorder.{IsPreorder, IsPart, part_item}
+use Rattle.mari_core.specs.Nodes.{state_at}
+use Rattle.mari_core.specs.Preorder.{IsPreorder, part_item}
 use Rattle.mari_core.proofs.Changes.{state_of_node}
 use Rattle.mari_core.proofs.Entries.{there_by}
 use Rattle.mari_core.proofs.Walks.{item_within, map_more, map_all}
@@ -21,8 +21,8 @@ loop-node-preserved c =
     let nodes = c.args.nodes.now in
     let x : ℕ = get_or c.deref-node-items.result.now c.loop-node.node-index 0 in
     let within : x < length nodes =
-        subst (λ (ns : List ℕ). get_or ns c.loop-node.node-index 0 < length c.args.nodes.now) (sym c.deref-node-items.ensures.value)
-        (item_within c.args.nodes.now c.in_ok-order.order.items c.loop-node.node-index 0 c.in_ok-order.ensures (omega (arith, c.loop-node-test.true, ap length c.deref-node-items.ensures.value))) in
+    subst (λ (ns : List ℕ). get_or ns c.loop-node.node-index 0 < length c.args.nodes.now) (sym c.deref-node-items.ensures.value)
+    (item_within c.args.nodes.now c.in_ok-order.order.items c.loop-node.node-index 0 c.in_ok-order.ensures (omega (arith, c.loop-node-test.true, ap length c.deref-node-items.ensures.value))) in
     let state : state_at nodes x ≡ Some c.state.result.now = state_of_node nodes x c.index-nodes-node.result (there_by nodes x c.index-nodes-node.result within c.index-nodes-node.is) ∙ ap (λ (s : NodeState). Some s) (sym c.state.ensures) in
     c.in_ok-push.ensures.items
     ∙ ap (λ (ps : List PartItem). ps ++ c.part_item.result ∷ []) c.loop-node.invariant

@@ -1,9 +1,9 @@
-use Rattle.std.proofs.Common.{◌≡◌, List, ℕ, [], ◌∷◌, ◌++◌, reverse, Some, sym, ap, subst, ◌∙◌}
+use Rattle.std.proofs.Common.{◌≡◌, List, ℕ, [], ◌∷◌, ◌++◌, Some, sym, ap, subst, ◌∙◌}
 use Rattle.mari_core.specs.declared.node.NodeState.{NodeState}
-use Rattle.mari_core.specs.Nodes.{TreeNode, state_at, child_numbers}
+use Rattle.mari_core.specs.Nodes.{state_at}
 use Rattle.mari_core.proofs.Changes.{state_of_node}
 use Rattle.mari_core.proofs.Entries.{there_by}
-use Rattle.mari_core.proofs.Walks.{AtWalk, AtNumber, next_number, number_within, walk_goes}
+use Rattle.mari_core.proofs.Walks.{AtWalk, next_number, number_within, walk_goes}
 use Rattle.mari_core.proofs.preorder.preorder.Goals as goal
 
 pub bounds-nodes-node : goal.bounds-nodes-node

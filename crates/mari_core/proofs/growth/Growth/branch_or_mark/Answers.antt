@@ -1,7 +1,7 @@
-use Rattle.std.proofs.Common.{◌≡◌, ◌+◌, ◌<◌, ◌≤◌, ℕ, Bool, true, false, None, length, arith, ap, sym, subst, ◌∙◌}
+use Rattle.std.proofs.Common.{◌≡◌, ◌+◌, ◌<◌, ◌≤◌, ℕ, Bool, length, arith, ap, sym, ◌∙◌}
 use Rattle.std.proofs.lemmas.Result.{on_ok_weaker}
 use Rattle.mari_market.specs.Prefix.{word_of}
-use Rattle.mari_core.specs.Growth.{Grown, Entry, children_at, child_words, grown, settling_by}
+use Rattle.mari_core.specs.Growth.{Grown, children_at, child_words, grown}
 use Rattle.mari_core.specs.Growth.Entry.{Branch}
 use Rattle.mari_core.proofs.Entries.{settles_by_branch, settles_by_mark}
 use Rattle.mari_core.proofs.growth.Growth.branch_or_mark.Goals as goal

@@ -1,4 +1,4 @@
-use Rattle.std.proofs.Common.{ℕ, pos, [], ◌∷◌, map, sym, subst}
+use Rattle.std.proofs.Common.{ℕ, pos, [], ◌∷◌, map, subst}
 use Rattle.std.specs.Prelude.{IfOk}
 use Rattle.std.proofs.lemmas.Result.{IfOk-weaker}
 use Rattle.mari_market.specs.Clearing.{ArePartsOfSearch}

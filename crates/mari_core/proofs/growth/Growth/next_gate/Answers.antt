@@ -1,8 +1,6 @@
-use Rattle.std.proofs.Common.{◌≡◌, Some, slice_get, length, arith, ap, sym, subst, ◌∙◌}
-use Rattle.mari_market.specs.Prefix.{children}
+use Rattle.std.proofs.Common.{◌≡◌, Some, slice_get, length, arith, ap, sym, subst}
 use Rattle.mari_gates.proofs.Decisions.{length-decisions}
-use Rattle.mari_core.specs.Nodes.{word_at}
-use Rattle.mari_core.specs.Growth.{Grown, CanBranch, children_at}
+use Rattle.mari_core.specs.Growth.{Grown, CanBranch}
 use Rattle.mari_core.proofs.Changes.{word_of_node}
 use Rattle.mari_core.proofs.Entries.{there_by, feasible_prefix, within_nodes}
 use Rattle.mari_core.proofs.growth.Growth.next_gate.Goals as goal

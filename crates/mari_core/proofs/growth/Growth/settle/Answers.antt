@@ -1,4 +1,4 @@
-use Rattle.std.proofs.Common.{◌≡◌, ap, sym, ◌∙◌}
+use Rattle.std.proofs.Common.{ap, sym, ◌∙◌}
 use Rattle.mari_core.specs.Growth.{grown, settling_by}
 use Rattle.mari_core.proofs.Entries.{return_passes}
 use Rattle.mari_core.proofs.Settling.{may_close, may_branch}

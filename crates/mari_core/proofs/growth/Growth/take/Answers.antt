@@ -1,7 +1,7 @@
-use Rattle.std.proofs.Common.{◌≡◌, ℕ, ◌<◌, ◌≤◌, Some, List, length, arith, ap, sym, subst, ◌∙◌}
+use Rattle.std.proofs.Common.{◌≡◌, Some, List, length, arith, ap, sym, subst, ◌∙◌}
 use Rattle.mari_core.specs.declared.node.NodeState.TheVariants.{Untaken, Taken}
 use Rattle.mari_core.specs.Nodes.{TreeNode, state_at}
-use Rattle.mari_core.specs.Growth.{Grown, IsGrowth, IsNext}
+use Rattle.mari_core.specs.Growth.{Grown, IsNext}
 use Rattle.mari_core.specs.Growth.Entry.{Take}
 use Rattle.mari_core.proofs.Changes.{length-with_state}
 use Rattle.mari_core.proofs.Entries.{take_passes, entry_kept_by, none_before_still, within_nodes}
@@ -23,9 +23,10 @@ next_untaken-self-inside-requires-clause-none_before c =
 
 pub invariant_of-self : goal.invariant_of-self
 invariant_of-self c =
-    let waits : state_at c.self.inside.nodes.items c.args.node ≡ Some Untaken = ap (λ (g : Grown). state_at g.nodes c.args.node) c.self.view_is ∙ take_passes _ c.in_ok-check_untaken.ensures.answer in
-    (entry_kept_by _ (Take c.args.actor c.args.node) c.set_state.new.nodes.items c.self.invariant.0 waits c.set_state.ensures.nodes,
-    subst (λ (ns : List TreeNode). IsNext ns c.next_untaken-self-inside.result) c.deref.ensures.value c.next_untaken-self-inside.ensures)
+    let waits : state_at c.self.inside.nodes.items c.args.node ≡ Some Untaken = ap (λ (g : Grown). state_at g.nodes c.args.node) c.self.view_is ∙ take_passes _ c.in_ok-check_untaken.ensures.answer in (
+      entry_kept_by _ (Take c.args.actor c.args.node) c.set_state.new.nodes.items c.self.invariant.0 waits c.set_state.ensures.nodes,
+      subst (λ (ns : List TreeNode). IsNext ns c.next_untaken-self-inside.result) c.deref.ensures.value c.next_untaken-self-inside.ensures,
+    )
 
 pub returns-clause-facts : goal.returns-clause-facts
 returns-clause-facts c =

@@ -3,7 +3,7 @@ use Rattle.mari_market.specs.declared.certificate.TreeItem.{TreeItem}
 use Rattle.mari_market.specs.declared.finding.Attained.{Attained}
 use Rattle.mari_market.specs.Clearing.{IsClearing}
 use Rattle.mari_market.specs.Tree.{TreeHolds}
-use Rattle.mari_core.specs.Machine.{Machine, best_of}
+use Rattle.mari_core.specs.Machine.{Machine}
 use Rattle.mari_core.proofs.Machines.{clearing_by, first_is_best}
 use Rattle.mari_core.proofs.search.Search.finish.Goals as goal
 

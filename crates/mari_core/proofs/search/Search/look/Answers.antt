@@ -1,4 +1,4 @@
-use Rattle.std.proofs.Common.{◌≡◌, ◌<◌, List, set, length, None, arith, ap, sym, subst, ◌∙◌}
+use Rattle.std.proofs.Common.{◌≡◌, ◌<◌, List, set, length, None, arith, ap, ◌∙◌}
 use Rattle.mari_core.specs.declared.search.Actor.{Actor}
 use Rattle.mari_core.specs.Nodes.{changed}
 use Rattle.mari_core.specs.Machine.{Machine, seeing}

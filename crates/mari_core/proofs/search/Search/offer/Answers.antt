@@ -11,8 +11,8 @@ pub invariant_of-self : goal.invariant_of-self
 invariant_of-self c =
     let l : c.args.actor < length c.self.inside.actors.items = omega (arith, c.if-actor-len.false, c.len.ensures, c.self.inside.actors.ok.0) in
     let is : set c.self.inside.actors.items c.args.actor c.offer.new.self ≡ changed (offering c.max-self-inside.result c.args.attained) c.self.inside.actors.items c.args.actor =
-        ap (λ (a : Actor). set c.self.inside.actors.items c.args.actor a) (c.offer.ensures ∙ ap (offering c.max-self-inside.result c.args.attained) c.index_mut-by.ensures.value)
-        ∙ set_is_changed (offering c.max-self-inside.result c.args.attained) c.self.inside.actors.items c.args.actor c.index_mut-by.result.now l in
+    ap (λ (a : Actor). set c.self.inside.actors.items c.args.actor a) (c.offer.ensures ∙ ap (offering c.max-self-inside.result c.args.attained) c.index_mut-by.ensures.value)
+    ∙ set_is_changed (offering c.max-self-inside.result c.args.attained) c.self.inside.actors.items c.args.actor c.index_mut-by.result.now l in
     let at = subst (λ (s : Machine). IsAttained s.tree.market c.args.attained) (sym c.self.view_is) c.requires in
     offer_kept _ c.args.actor c.max-self-inside.result c.args.attained _ c.self.invariant at l c.max-self-inside.ensures is
 
@@ -20,8 +20,8 @@ pub returns-clause-facts : goal.returns-clause-facts
 returns-clause-facts c =
     let l : c.args.actor < length c.self.inside.actors.items = omega (arith, c.if-actor-len.false, c.len.ensures, c.self.inside.actors.ok.0) in
     let is : set c.self.inside.actors.items c.args.actor c.offer.new.self ≡ changed (offering c.max-self-inside.result c.args.attained) c.self.inside.actors.items c.args.actor =
-        ap (λ (a : Actor). set c.self.inside.actors.items c.args.actor a) (c.offer.ensures ∙ ap (offering c.max-self-inside.result c.args.attained) c.index_mut-by.ensures.value)
-        ∙ set_is_changed (offering c.max-self-inside.result c.args.attained) c.self.inside.actors.items c.args.actor c.index_mut-by.result.now l in
+    ap (λ (a : Actor). set c.self.inside.actors.items c.args.actor a) (c.offer.ensures ∙ ap (offering c.max-self-inside.result c.args.attained) c.index_mut-by.ensures.value)
+    ∙ set_is_changed (offering c.max-self-inside.result c.args.attained) c.self.inside.actors.items c.args.actor c.index_mut-by.result.now l in
     let at = subst (λ (s : Machine). IsAttained s.tree.market c.args.attained) (sym c.self.view_is) c.requires in
     offer_kept _ c.args.actor c.max-self-inside.result c.args.attained _ c.self.invariant at l c.max-self-inside.ensures is
 
@@ -29,8 +29,8 @@ pub returns-clause-change : goal.returns-clause-change
 returns-clause-change c =
     let l : c.args.actor < length c.self.inside.actors.items = omega (arith, c.if-actor-len.false, c.len.ensures, c.self.inside.actors.ok.0) in
     let is : set c.self.inside.actors.items c.args.actor c.offer.new.self ≡ changed (offering c.max-self-inside.result c.args.attained) c.self.inside.actors.items c.args.actor =
-        ap (λ (a : Actor). set c.self.inside.actors.items c.args.actor a) (c.offer.ensures ∙ ap (offering c.max-self-inside.result c.args.attained) c.index_mut-by.ensures.value)
-        ∙ set_is_changed (offering c.max-self-inside.result c.args.attained) c.self.inside.actors.items c.args.actor c.index_mut-by.result.now l in
+    ap (λ (a : Actor). set c.self.inside.actors.items c.args.actor a) (c.offer.ensures ∙ ap (offering c.max-self-inside.result c.args.attained) c.index_mut-by.ensures.value)
+    ∙ set_is_changed (offering c.max-self-inside.result c.args.attained) c.self.inside.actors.items c.args.actor c.index_mut-by.result.now l in
     ap (λ (others : List Actor). record { tree = c.self.inside.tree; word = c.max-self-inside.result; actors = others; first = c.self.inside.first }) is
     ∙ ap (λ (w : ℕ). offered_to (record { tree = c.self.inside.tree; word = c.self.inside.word; actors = c.self.inside.actors.items; first = c.self.inside.first }) c.args.actor c.args.attained w) c.max-self-inside.ensures
     ∙ ap (λ (s : Machine). offered_to s c.args.actor c.args.attained (max s.word c.args.attained.welfare)) c.self.view_is

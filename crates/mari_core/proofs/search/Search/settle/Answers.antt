@@ -1,4 +1,4 @@
-use Rattle.std.proofs.Common.{◌≡◌, ◌<◌, ℕ, Some, slice_get, length, arith, ap, sym, subst, ◌∙◌}
+use Rattle.std.proofs.Common.{◌≡◌, Some, slice_get, length, arith, ap, sym, subst}
 use Rattle.mari_core.specs.declared.event.Event.TheVariants.{Settle}
 use Rattle.mari_core.specs.Nodes.{state_at}
 use Rattle.mari_core.specs.Growth.{return_refused, settling, IsAnswer}

@@ -1,8 +1,8 @@
-use Rattle.std.proofs.Common.{◌≡◌, ◌<◌, length, arith, ap, subst}
+use Rattle.std.proofs.Common.{length, arith, ap, subst}
 use Rattle.mari_core.specs.Nodes.{state_at}
 use Rattle.mari_core.specs.Growth.{take_refused, IsAnswer}
 use Rattle.mari_core.specs.Growth.Entry.{Take}
-use Rattle.mari_core.specs.Machine.{Machine, by_actor}
+use Rattle.mari_core.specs.Machine.{Machine}
 use Rattle.mari_core.proofs.Machines.{entry_step_kept, answer_there, answer_by_refusal}
 use Rattle.mari_core.proofs.search.Search.take.Goals as goal
 

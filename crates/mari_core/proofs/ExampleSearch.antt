@@ -1,5 +1,7 @@
 -- The events of the example are proper.
-use Rattle.std.proofs.Common.{ℕ, zero, suc, List, [], ◌∷◌, take, pos, refl, arith}
+use Rattle.std.proofs.Common.{ℕ, zero, suc, List, [], ◌∷◌, take, pos, refl, arith, subst, sym, ◌≡◌}
+use Rattle.mari_market.specs.declared.market.Market.{Market}
+use Rattle.mari_market.specs.declared.finding.Attained.{Attained}
 use Rattle.mari_market.specs.Finding.{IsAttained}
 use Rattle.mari_market.specs.Market.{IsValid}
 use Rattle.mari_market.specs.Relaxation.{IsClosedWelfare}
@@ -54,3 +56,18 @@ two_proper = (tt, λ _. (record { finding_is = found_at_root; reached = λ e. ab
 
 pub taken_twice_proper : AreProper (started oversized 2 first 3) taken_twice
 taken_twice_proper = (tt, λ _. (record { finding_is = found_at_root; reached = λ e. absurd (cc) }, λ _. (tt, λ _. (tt, λ _. (tt, λ _. tt)))))
+
+-- ---- the same, where the market, the first activation and the events are written another way
+
+pub market_valid : (m : Market) → m ≡ oversized → IsValid m
+market_valid m e = subst IsValid (sym e) is_valid
+
+pub market_closed : (m : Market) (a : Attained) → m ≡ oversized → a ≡ first → IsClosedWelfare m (pos a.welfare)
+market_closed m a e f = subst (λ (n : Market). IsClosedWelfare n (pos a.welfare)) (sym e) (subst (λ (b : Attained). IsClosedWelfare oversized (pos b.welfare)) (sym f) is_closed)
+
+pub first_attained : (m : Market) (a : Attained) → m ≡ oversized → a ≡ first → IsAttained m a
+first_attained m a e f = subst (λ (n : Market). IsAttained n a) (sym e) (subst (IsAttained oversized) (sym f) is_attained)
+
+pub events_proper : (m : Market) (a : Attained) (events own : List Event) (budget : ℕ) → m ≡ oversized → a ≡ first → events ≡ own → AreProper (started oversized 2 first budget) own → AreProper (started m 2 a budget) events
+events_proper m a events own budget e f h p =
+    subst (λ (n : Market). AreProper (started n 2 a budget) events) (sym e) (subst (λ (b : Attained). AreProper (started oversized 2 b budget) events) (sym f) (subst (λ (es : List Event). AreProper (started oversized 2 first budget) es) (sym h) p))

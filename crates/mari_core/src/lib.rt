@@ -10,6 +10,8 @@ mod history;
 mod node;
 mod preorder;
 mod search;
+#[cfg(test)]
+mod tests;
 
 pub use event::{Event, FinishFault, ReplayFault, StepFault};
 pub use growth::Growth;

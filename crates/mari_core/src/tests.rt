@@ -6,8 +6,8 @@ ghost use Rattle.mari_core.specs.Example.{oversized, first, at_root, at_closed, 
 
 use crate::{Event, FinishFault, ReplayFault, Search, StepFault, replay};
 use mari_market::{
-    Activation, Attained, Cut, CutSide, Finding, GateInfo, Leaf, Market, Order, PartItem, Prices, Relaxed,
-    Side, TreeItem,
+    Activation, Attained, Cut, CutSide, Finding, GateInfo, Leaf, Market, Order, PartItem, Prices,
+    Relaxed, Side, TreeItem,
 };
 use mari_units::{Cents, Items};
 use std::alloc::Global;
@@ -199,7 +199,11 @@ fn refusal(alloc: Global, market: &Market) -> Result<Option<ReplayFault>, Fail>
 /// Whether the tree has the one bound at 50.00 and the one cut.
 fn is_published_tree(tree: &[TreeItem]) -> bool {
     match tree {
-        [TreeItem::Branch, TreeItem::Leaf(Leaf::Bound(prices)), TreeItem::Leaf(Leaf::Cut(cut))] => {
+        [
+            TreeItem::Branch,
+            TreeItem::Leaf(Leaf::Bound(prices)),
+            TreeItem::Leaf(Leaf::Cut(cut)),
+        ] => {
             prices.cents.as_slice() == [Cents(5000)].as_slice()
                 && cut.side == CutSide::Out
                 && cut.zones.as_slice() == [0].as_slice()
@@ -226,7 +230,10 @@ fn a_leaf_that_is_not_closed_is_named(rt: HostRuntime) -> Result<(), Fail> {
     let market = market(alloc)?;
     let search = search_after(alloc, &market, 6)?;
     let part = search.part(alloc)?;
-    assert_eq!(rt; part.as_slice(), [PartItem::Branch, PartItem::Closed, PartItem::Pending].as_slice());
+    assert_eq!(rt;
+        part.as_slice(),
+        [PartItem::Branch, PartItem::Closed, PartItem::Pending].as_slice()
+    );
     assert_eq!(rt; search.finish(alloc).err(), Some(FinishFault::NotClosed(2)));
     Ok(())
 }
@@ -236,7 +243,10 @@ fn a_node_is_not_taken_twice(rt: HostRuntime) -> Result<(), Fail> {
     let alloc = rt.alloc();
     let market = market(alloc)?;
     let fault = StepFault::NotUntaken;
-    assert_eq!(rt; refusal(alloc, &market)?, Some(ReplayFault { place: 4, fault }));
+    assert_eq!(rt;
+        refusal(alloc, &market)?,
+        Some(ReplayFault { place: 4, fault })
+    );
     Ok(())
 }
 

@@ -1,0 +1,15 @@
+pub mod Lists
+pub mod Changes
+pub mod Keeps
+pub mod Insertions
+pub mod Children
+pub mod Branching
+pub mod Seeds
+pub mod Entries
+pub mod Settling
+pub mod Walks
+pub mod Finishing
+pub mod Parts
+pub mod Machines
+pub mod Replays
+pub mod ExampleSearch

@@ -1,0 +1,58 @@
+use Rattle.std.proofs.Common.{◌≡◌, ◌+◌, ◌<◌, ◌≤◌, ℕ, Bool, length, arith, ap, sym, ◌∙◌}
+use Rattle.std.proofs.lemmas.Result.{on_ok_weaker}
+use Rattle.mari_market.specs.Prefix.{word_of}
+use Rattle.mari_core.specs.Growth.{Grown, children_at, child_words, grown}
+use Rattle.mari_core.specs.Growth.Entry.{Branch}
+use Rattle.mari_core.proofs.Entries.{settles_by_branch, settles_by_mark}
+use Rattle.mari_core.proofs.growth.Growth.branch_or_mark.Goals as goal
+use Rattle.mari_core.proofs.growth.Growth.branch_or_mark.Goals.{then-may_open, else-may_open}
+
+pub branch-self-requires-clause-fits : goal.branch-self-requires-clause-fits
+branch-self-requires-clause-fits c =
+    let p = c.next_gate-may_open.result.0 in
+    let made : c.if-may_open.made ≡ length (child_words (word_of p) c.next_gate-may_open.result.1) = elim c.if-may_open.branch [
+      | then-may_open w ↦ w.made-is ∙ sym (ap (λ (b : Bool). length (child_words (word_of p) b)) w.if-may_open.true)
+      | else-may_open w ↦ w.made-is ∙ sym (ap (λ (b : Bool). length (child_words (word_of p) b)) w.if-may_open.false)
+    ] in
+    let count : length (children_at c.args.self.now c.args.node) ≡ c.if-may_open.made = ap length c.next_gate-may_open.ensures.children ∙ sym made in
+    let nodes : c.len.result ≡ length c.args.self.now.nodes = c.len.ensures ∙ c.self.inside.nodes.ok.0 ∙ ap (λ (g : Grown). length g.nodes) c.self.view_is in
+    let budget : c.self.inside.budget ≡ c.args.self.now.budget = ap (λ (g : Grown). g.budget) c.self.view_is in
+    omega (arith, count, nodes, budget, c.if-len-made.true)
+
+pub mark-requires-clause-full : goal.mark-requires-clause-full
+mark-requires-clause-full c =
+    let p = c.next_gate-may_open.result.0 in
+    let made : c.if-may_open.made ≡ length (child_words (word_of p) c.next_gate-may_open.result.1) = elim c.if-may_open.branch [
+      | then-may_open w ↦ w.made-is ∙ sym (ap (λ (b : Bool). length (child_words (word_of p) b)) w.if-may_open.true)
+      | else-may_open w ↦ w.made-is ∙ sym (ap (λ (b : Bool). length (child_words (word_of p) b)) w.if-may_open.false)
+    ] in
+    let count : length (children_at c.args.self.now c.args.node) ≡ c.if-may_open.made = ap length c.next_gate-may_open.ensures.children ∙ sym made in
+    let nodes : c.len.result ≡ length c.args.self.now.nodes = c.len.ensures ∙ c.self.inside.nodes.ok.0 ∙ ap (λ (g : Grown). length g.nodes) c.self.view_is in
+    let budget : c.self.inside.budget ≡ c.args.self.now.budget = ap (λ (g : Grown). g.budget) c.self.view_is in
+    omega (arith, count, nodes, budget, c.if-len-made.false)
+
+pub returns-then-len-made-clause-change : goal.returns-then-len-made-clause-change
+returns-then-len-made-clause-change c =
+    let p = c.next_gate-may_open.result.0 in
+    let made : c.if-may_open.made ≡ length (child_words (word_of p) c.next_gate-may_open.result.1) = elim c.if-may_open.branch [
+      | then-may_open w ↦ w.made-is ∙ sym (ap (λ (b : Bool). length (child_words (word_of p) b)) w.if-may_open.true)
+      | else-may_open w ↦ w.made-is ∙ sym (ap (λ (b : Bool). length (child_words (word_of p) b)) w.if-may_open.false)
+    ] in
+    let count : length (children_at c.args.self.now c.args.node) ≡ c.if-may_open.made = ap length c.next_gate-may_open.ensures.children ∙ sym made in
+    let nodes : c.len.result ≡ length c.args.self.now.nodes = c.len.ensures ∙ c.self.inside.nodes.ok.0 ∙ ap (λ (g : Grown). length g.nodes) c.self.view_is in
+    let budget : c.self.inside.budget ≡ c.args.self.now.budget = ap (λ (g : Grown). g.budget) c.self.view_is in
+    let fits : length c.args.self.now.nodes + length (children_at c.args.self.now c.args.node) ≤ c.args.self.now.budget = omega (arith, count, nodes, budget, c.if-len-made.true) in
+    on_ok_weaker c.branch-self.result (λ (h : (k w : ℕ) → c.branch-self.new.self ≡ grown c.args.self.now (Branch k c.args.node w)) actor cutoff. h actor cutoff ∙ ap (grown c.args.self.now) (sym (settles_by_branch c.args.self.now actor c.args.node cutoff fits))) c.branch-self.ensures.change
+
+pub returns-else-len-made-clause-change : goal.returns-else-len-made-clause-change
+returns-else-len-made-clause-change c =
+    let p = c.next_gate-may_open.result.0 in
+    let made : c.if-may_open.made ≡ length (child_words (word_of p) c.next_gate-may_open.result.1) = elim c.if-may_open.branch [
+      | then-may_open w ↦ w.made-is ∙ sym (ap (λ (b : Bool). length (child_words (word_of p) b)) w.if-may_open.true)
+      | else-may_open w ↦ w.made-is ∙ sym (ap (λ (b : Bool). length (child_words (word_of p) b)) w.if-may_open.false)
+    ] in
+    let count : length (children_at c.args.self.now c.args.node) ≡ c.if-may_open.made = ap length c.next_gate-may_open.ensures.children ∙ sym made in
+    let nodes : c.len.result ≡ length c.args.self.now.nodes = c.len.ensures ∙ c.self.inside.nodes.ok.0 ∙ ap (λ (g : Grown). length g.nodes) c.self.view_is in
+    let budget : c.self.inside.budget ≡ c.args.self.now.budget = ap (λ (g : Grown). g.budget) c.self.view_is in
+    let more : c.args.self.now.budget < length c.args.self.now.nodes + length (children_at c.args.self.now c.args.node) = omega (arith, count, nodes, budget, c.if-len-made.false) in
+    λ actor cutoff. c.mark.ensures.change actor cutoff ∙ ap (grown c.args.self.now) (sym (settles_by_mark c.args.self.now actor c.args.node cutoff more))

@@ -1,0 +1,20 @@
+use Rattle.std.proofs.Common.{length, arith, ap, subst}
+use Rattle.mari_core.specs.Nodes.{state_at}
+use Rattle.mari_core.specs.Growth.{return_refused, IsAnswer}
+use Rattle.mari_core.specs.Growth.Entry.{GiveBack}
+use Rattle.mari_core.specs.Machine.{Machine}
+use Rattle.mari_core.proofs.Machines.{entry_step_kept, answer_there, answer_by_refusal}
+use Rattle.mari_core.proofs.search.Search.give_back.Goals as goal
+
+pub invariant_of-self : goal.invariant_of-self
+invariant_of-self c = entry_step_kept _ (GiveBack c.args.actor c.args.node) c.give_back.new.self c.give_back.result c.self.invariant c.give_back.ensures.facts tt c.give_back.ensures.change c.give_back.ensures.same
+
+pub returns-clause-facts : goal.returns-clause-facts
+returns-clause-facts c = entry_step_kept _ (GiveBack c.args.actor c.args.node) c.give_back.new.self c.give_back.result c.self.invariant c.give_back.ensures.facts tt c.give_back.ensures.change c.give_back.ensures.same
+
+pub returns-clause-answer : goal.returns-clause-answer
+returns-clause-answer c =
+    let refused = answer_by_refusal (return_refused c.args.actor (state_at c.self.inside.tree.nodes c.args.node)) c.give_back.result c.give_back.ensures.answer in
+    answer_there c.args.self.now.actors c.args.actor (return_refused c.args.actor (state_at c.args.self.now.tree.nodes c.args.node)) c.give_back.result
+    (omega (arith, c.if-actor-len.false, c.len.ensures, c.self.inside.actors.ok.0, ap (λ (s : Machine). length s.actors) c.self.view_is))
+    (subst (λ (s : Machine). IsAnswer (return_refused c.args.actor (state_at s.tree.nodes c.args.node)) c.give_back.result) c.self.view_is refused)

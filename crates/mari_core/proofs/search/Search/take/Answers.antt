@@ -1,0 +1,20 @@
+use Rattle.std.proofs.Common.{length, arith, ap, subst}
+use Rattle.mari_core.specs.Nodes.{state_at}
+use Rattle.mari_core.specs.Growth.{take_refused, IsAnswer}
+use Rattle.mari_core.specs.Growth.Entry.{Take}
+use Rattle.mari_core.specs.Machine.{Machine}
+use Rattle.mari_core.proofs.Machines.{entry_step_kept, answer_there, answer_by_refusal}
+use Rattle.mari_core.proofs.search.Search.take.Goals as goal
+
+pub invariant_of-self : goal.invariant_of-self
+invariant_of-self c = entry_step_kept _ (Take c.args.actor c.args.node) c.take.new.self c.take.result c.self.invariant c.take.ensures.facts tt c.take.ensures.change c.take.ensures.same
+
+pub returns-clause-facts : goal.returns-clause-facts
+returns-clause-facts c = entry_step_kept _ (Take c.args.actor c.args.node) c.take.new.self c.take.result c.self.invariant c.take.ensures.facts tt c.take.ensures.change c.take.ensures.same
+
+pub returns-clause-answer : goal.returns-clause-answer
+returns-clause-answer c =
+    let refused = answer_by_refusal (take_refused (state_at c.self.inside.tree.nodes c.args.node)) c.take.result c.take.ensures.answer in
+    answer_there c.args.self.now.actors c.args.actor (take_refused (state_at c.args.self.now.tree.nodes c.args.node)) c.take.result
+    (omega (arith, c.if-actor-len.false, c.len.ensures, c.self.inside.actors.ok.0, ap (λ (s : Machine). length s.actors) c.self.view_is))
+    (subst (λ (s : Machine). IsAnswer (take_refused (state_at s.tree.nodes c.args.node)) c.take.result) c.self.view_is refused)

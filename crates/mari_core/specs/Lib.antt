@@ -1,0 +1,6 @@
+pub mod Nodes
+pub mod Preorder
+pub mod Growth
+pub mod Machine
+pub mod Replay
+pub mod Example

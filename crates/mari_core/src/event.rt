@@ -1,0 +1,102 @@
+//! What may happen in a search, and why it may be refused.
+
+ghost use Rattle.std.specs.Prelude.{◌≡◌};
+ghost use Rattle.mari_core.specs.declared.event.StepFault.TheVariants.{Memory as NoStepMemory};
+ghost use Rattle.mari_core.specs.declared.event.FinishFault.TheVariants.{Memory as NoFinishMemory};
+
+use mari_market::{Attained, Finding};
+use mari_units::Memory;
+use std::alloc::{AllocError, AllocFailed};
+
+/// One step of a search. Actors and nodes count from 0.
+#[derive(Drop)]
+pub enum Event {
+    /// The actor looks at the word.
+    Look {
+        actor: u32,
+    },
+    /// The actor offers an admissible activation of this welfare.
+    Offer {
+        actor: u32,
+        attained: Attained,
+    },
+    /// The actor takes a node that waits.
+    Take {
+        actor: u32,
+        node: u32,
+    },
+    /// The actor says what it found of a node that it has taken.
+    Settle {
+        actor: u32,
+        node: u32,
+        finding: Finding,
+    },
+    /// The actor gives a node back that it has taken.
+    GiveBack {
+        actor: u32,
+        node: u32,
+    },
+}
+
+/// Why a step was refused.
+#[derive(Clone, Copy, Debug, Drop, PartialEq, Eq)]
+pub enum StepFault {
+    /// There is no actor of that number.
+    NoActor,
+    /// There is no node of that number.
+    NoNode,
+    /// The node that was to be taken doesn't wait.
+    NotUntaken,
+    /// The node isn't taken by that actor.
+    NotTaken,
+    /// Want of memory.
+    Memory,
+}
+
+/// The first step of a list that was refused, counted from 1, and why. Want of memory before the first step has place 0.
+#[derive(Clone, Copy, Debug, Drop, PartialEq, Eq)]
+pub struct ReplayFault {
+    pub place: usize,
+    pub fault: StepFault,
+}
+
+/// Why a search has no clearing yet.
+#[derive(Clone, Copy, Debug, Drop, PartialEq, Eq)]
+pub enum FinishFault {
+    /// This node is, in preorder, the first leaf that isn't closed.
+    NotClosed(u32),
+    /// Want of memory.
+    Memory,
+}
+
+impl From<Memory> for StepFault {
+    ghost from_gives = { λ _ fault. fault ≡ NoStepMemory };
+
+    fn from(_: Memory) -> Self {
+        StepFault::Memory
+    }
+}
+
+impl From<Memory> for FinishFault {
+    ghost from_gives = { λ _ fault. fault ≡ NoFinishMemory };
+
+    fn from(_: Memory) -> Self {
+        FinishFault::Memory
+    }
+}
+
+impl From<AllocError> for FinishFault {
+    ghost from_gives = { λ _ fault. fault ≡ NoFinishMemory };
+
+    fn from(_: AllocError) -> Self {
+        FinishFault::Memory
+    }
+}
+
+impl<T: Drop> From<AllocFailed<T>> for FinishFault {
+    ghost from_gives = { λ _ fault. fault ≡ NoFinishMemory };
+
+    fn from(_: AllocFailed<T>) -> Self {
+        FinishFault::Memory
+    }
+}

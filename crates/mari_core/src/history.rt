@@ -1,0 +1,50 @@
+//! A list of events, one after the other.
+
+ghost use Rattle.std.specs.Prelude.{◌≡◌, ◌≤◌, pos, IfOk};
+ghost use Rattle.mari_market.specs.Finding.{IsAttained};
+ghost use Rattle.mari_market.specs.Market.{IsValid};
+ghost use Rattle.mari_market.specs.Relaxation.{IsClosedWelfare};
+ghost use Rattle.mari_core.specs.Machine.{started, KeepsFacts};
+ghost use Rattle.mari_core.specs.Replay.{AreProper, IsReplayed};
+
+use crate::event::{Event, ReplayFault, StepFault};
+use crate::search::Search;
+use mari_market::{Attained, Market};
+use std::alloc::Global;
+
+/// The search after a list of events, or the first of them that is refused.
+///
+/// The conditions are those of `Search::start`, and of `Search::step` for each event up to the first that is refused.
+pub fn replay<'m>(
+    alloc: Global,
+    market: &'m Market,
+    actors: u32,
+    first: Attained,
+    budget: u32,
+    events: Vec<Event>,
+) -> Result<Search<'m>, ReplayFault>
+    requires market { IsValid market.now }
+    requires actors { 1 ≤ actors }
+    requires attained { IsAttained market.now first }
+    requires closed { IsClosedWelfare market.now (pos first.welfare) }
+    requires budget { (1 ≤ budget) × (budget ≤ 50000) }
+    requires events { AreProper (started market.now actors first budget) events.items }
+    ensures replayed { IsReplayed (started market.now actors first budget) events.items result }
+    ensures facts { IfOk result KeepsFacts }
+{
+    let mut search = match Search::start(alloc, market, actors, first, budget) {
+        Ok(search) => search,
+        Err(_) => return Err(ReplayFault {
+            place: 0,
+            fault: StepFault::Memory,
+        }),
+    };
+    let mut place = 0;
+    for event in events {
+        place += 1;
+        if let Err(fault) = search.step(event) {
+            return Err(ReplayFault { place, fault });
+        }
+    }
+    Ok(search)
+}

@@ -1,0 +1,20 @@
+//! The pure search machine of branch and bound: what actors do, in any order, to a word and to a tree of nodes.
+//!
+//! It stands on markets and on prefixes of gates. `Search` carries the promise: whatever list of events leads to it, its facts
+//! hold; and where every node is branched or closed, `finish` gives an optimal activation with a tree that shows it.
+#![tactic(auto)]
+
+mod event;
+mod growth;
+mod history;
+mod node;
+mod preorder;
+mod search;
+#[cfg(test)]
+mod tests;
+
+pub use event::{Event, FinishFault, ReplayFault, StepFault};
+pub use growth::Growth;
+pub use history::replay;
+pub use node::{Node, NodeState};
+pub use search::{Actor, Search};

@@ -1,0 +1,295 @@
+//! The search machine.
+
+ghost use Rattle.std.specs.Prelude.{◌≡◌, ℕ, ◌<◌, ◌≤◌, pos, ◌∷◌, [], true, map, length, replicate, slice_get, IfSome, IfOk, IfErr, MatchOption};
+ghost use Rattle.std.specs.Option.{option_map};
+ghost use Rattle.mari_market.specs.Clearing.{IsClearing, IsSpent, ArePartsOfSearch};
+ghost use Rattle.mari_market.specs.Finding.{IsAttained};
+ghost use Rattle.mari_market.specs.Market.{IsValid};
+ghost use Rattle.mari_market.specs.Prefix.{word_of, IsFeasiblePrefix};
+ghost use Rattle.mari_market.specs.Relaxation.{IsClosedWelfare};
+ghost use Rattle.mari_market.specs.SearchTree.{IsLarger};
+ghost use Rattle.mari_core.specs.Growth.{NoneWaits, IsLeastUntaken, IsAnswer};
+ghost use Rattle.mari_core.specs.Machine.{started, new_actor, seeing, offering, after, refusal, IsProper, KeepsFacts, best_of};
+ghost use Rattle.mari_core.specs.declared.event.Event.TheVariants.{Look, Offer, Take, Settle, GiveBack};
+ghost use Rattle.mari_core.specs.Nodes.{words_of};
+ghost use Rattle.mari_core.specs.Preorder.{IsPart, IsTree, IsOpenFault, shape_of};
+
+use crate::event::{Event, FinishFault, StepFault};
+use crate::growth::Growth;
+use mari_market::{Attained, Clearing, Finding, Market, PartItem, Prefix};
+use mari_units::{Items, Memory};
+use std::alloc::Global;
+use std::marker::Model;
+
+/// What an actor saw and offered, in quarter-cents, and the best activation that it has.
+#[derive(Drop)]
+pub struct Actor {
+    pub seen: u64,
+    pub offered: u64,
+    pub best: Option<Attained>,
+}
+
+/// A search by branch and bound: actors look at the word, offer activations, and take and settle the nodes of a tree.
+///
+/// The word is the greatest welfare that is known, in quarter-cents. Actors and nodes count from 0.
+#[derive(Drop)]
+pub struct Search<'m> {
+    tree: Growth<'m>,
+    word: u64,
+    actors: Vec<Actor>,
+    first: Attained,
+}
+
+impl<'m> Model for Search<'m> {
+    ghost use Rattle.mari_core.specs.Machine.{Machine, KeepsFacts};
+
+    ghost Value = { Machine };
+
+    ghost view = { λ s. record { tree = s.tree; word = s.word; actors = s.actors.items; first = s.first } };
+
+    ghost invariant = { λ s. KeepsFacts (record { tree = s.tree; word = s.word; actors = s.actors.items; first = s.first }) };
+}
+
+/// Actors that saw and offered nothing above this welfare.
+fn new_actors(alloc: Global, count: u32, welfare: u64) -> Result<Vec<Actor>, Memory>
+    ensures { IfOk result (λ v. v.items ≡ replicate count (new_actor welfare)) }
+{
+    let mut actors = Vec::new(alloc);
+    for _ in 0..count {
+        actors.push(Actor {
+            seen: welfare,
+            offered: welfare,
+            best: None,
+        })?;
+    }
+    Ok(actors)
+}
+
+/// The best of the first actor that offered the word, or the first activation where none did.
+fn best_of(word: u64, first: Attained, actors: Vec<Actor>) -> Attained
+    ensures { result ≡ best_of word first actors.items }
+{
+    for actor in actors {
+        if actor.offered == word {
+            return actor.best.unwrap_or(first);
+        }
+    }
+    first
+}
+
+impl Actor {
+    /// It looks at the word.
+    fn look(&mut self, word: u64)
+        ensures { self.new ≡ seeing word self.old }
+    {
+        self.seen = word;
+    }
+
+    /// It offers an activation, by which the word rises to this one.
+    fn offer(&mut self, word: u64, attained: Attained)
+        ensures { self.new ≡ offering word attained self.old }
+    {
+        self.seen = word;
+        if self.offered < attained.welfare {
+            self.offered = attained.welfare;
+            self.best = Some(attained);
+        }
+    }
+}
+
+impl<'m> Search<'m> {
+    /// A search whose one node waits, by so many actors, that knows `first`, the best activation with all gates closed.
+    pub fn start(
+        alloc: Global,
+        market: &'m Market,
+        actors: u32,
+        first: Attained,
+        budget: u32,
+    ) -> Result<Search<'m>, Memory>
+        requires market { IsValid market.now }
+        requires actors { 1 ≤ actors }
+        requires attained { IsAttained market.now first }
+        requires closed { IsClosedWelfare market.now (pos first.welfare) }
+        requires budget { (1 ≤ budget) × (budget ≤ 50000) }
+        ensures started { IfOk result (λ s. s ≡ started market.now actors first budget) }
+        ensures facts { IfOk result KeepsFacts }
+    {
+        let word = first.welfare;
+        let tree = Growth::start(alloc, market, budget)?;
+        let actors = new_actors(alloc, actors, word)?;
+        Ok(Search {
+            tree,
+            word,
+            actors,
+            first,
+        })
+    }
+
+    /// One step of an actor. After a refusal the search is as before.
+    ///
+    /// An offer is an admissible activation with its welfare. A finding is one that `mari_node::examine` gives for that node,
+    /// and where the node decides every gate and no conflict was found the actor has seen at least its bound, as after an
+    /// offer of what was found. Only making the children of a node takes memory.
+    pub fn step(&mut self, event: Event) -> Result<(), StepFault>
+        requires { IsProper self.old event }
+        ensures change { IfOk result (λ _. self.new ≡ after self.old event) }
+        ensures same { IfErr result (λ _. self.new ≡ self.old) }
+        ensures answer { IsAnswer (refusal self.old event) result }
+        ensures facts { KeepsFacts self.new }
+    {
+        match event {
+            Event::Look { actor } => self.look(actor),
+            Event::Offer { actor, attained } => self.offer(actor, attained),
+            Event::Take { actor, node } => self.take(actor, node),
+            Event::Settle {
+                actor,
+                node,
+                finding,
+            } => self.settle(actor, node, finding),
+            Event::GiveBack { actor, node } => self.give_back(actor, node),
+        }
+    }
+
+    /// An actor looks at the word.
+    fn look(&mut self, actor: u32) -> Result<(), StepFault>
+        ensures change { IfOk result (λ _. self.new ≡ after self.old (Look actor)) }
+        ensures same { IfErr result (λ _. self.new ≡ self.old) }
+        ensures answer { IsAnswer (refusal self.old (Look actor)) result }
+        ensures facts { KeepsFacts self.new }
+    {
+        if actor as usize >= self.actors.len() {
+            return Err(StepFault::NoActor);
+        }
+        let by = &mut self.actors[actor as usize];
+        by.look(self.word);
+        Ok(())
+    }
+
+    /// An actor offers an admissible activation.
+    fn offer(&mut self, actor: u32, attained: Attained) -> Result<(), StepFault>
+        requires { IsAttained self.old.tree.market attained }
+        ensures change { IfOk result (λ _. self.new ≡ after self.old (Offer actor attained)) }
+        ensures same { IfErr result (λ _. self.new ≡ self.old) }
+        ensures answer { IsAnswer (refusal self.old (Offer actor attained)) result }
+        ensures facts { KeepsFacts self.new }
+    {
+        if actor as usize >= self.actors.len() {
+            return Err(StepFault::NoActor);
+        }
+        self.word = self.word.max(attained.welfare);
+        let by = &mut self.actors[actor as usize];
+        by.offer(self.word, attained);
+        Ok(())
+    }
+
+    /// An actor takes a node that waits.
+    fn take(&mut self, actor: u32, node: u32) -> Result<(), StepFault>
+        ensures change { IfOk result (λ _. self.new ≡ after self.old (Take actor node)) }
+        ensures same { IfErr result (λ _. self.new ≡ self.old) }
+        ensures answer { IsAnswer (refusal self.old (Take actor node)) result }
+        ensures facts { KeepsFacts self.new }
+    {
+        if actor as usize >= self.actors.len() {
+            return Err(StepFault::NoActor);
+        }
+        self.tree.take(actor, node)
+    }
+
+    /// An actor settles a node that it has taken, at what it saw of the word.
+    fn settle(&mut self, actor: u32, node: u32, finding: Finding) -> Result<(), StepFault>
+        requires { IsProper self.old (Settle actor node finding) }
+        ensures change { IfOk result (λ _. self.new ≡ after self.old (Settle actor node finding)) }
+        ensures same { IfErr result (λ _. self.new ≡ self.old) }
+        ensures answer { IsAnswer (refusal self.old (Settle actor node finding)) result }
+        ensures facts { KeepsFacts self.new }
+    {
+        if actor as usize >= self.actors.len() {
+            return Err(StepFault::NoActor);
+        }
+        let cutoff = self.actors[actor as usize].seen;
+        self.tree.settle(actor, node, finding, cutoff)
+    }
+
+    /// An actor gives back a node that it has taken.
+    fn give_back(&mut self, actor: u32, node: u32) -> Result<(), StepFault>
+        ensures change { IfOk result (λ _. self.new ≡ after self.old (GiveBack actor node)) }
+        ensures same { IfErr result (λ _. self.new ≡ self.old) }
+        ensures answer { IsAnswer (refusal self.old (GiveBack actor node)) result }
+        ensures facts { KeepsFacts self.new }
+    {
+        if actor as usize >= self.actors.len() {
+            return Err(StepFault::NoActor);
+        }
+        self.tree.give_back(actor, node)
+    }
+
+    /// The least number of a node that waits.
+    pub fn untaken(&self) -> Option<u32>
+        ensures { MatchOption result (NoneWaits self.now.tree.nodes) (IsLeastUntaken self.now.tree.nodes) }
+    {
+        self.tree.untaken()
+    }
+
+    /// The prefix of a node, if there is one of that number.
+    pub fn prefix_of(&self, node: u32) -> Option<Prefix>
+        ensures word { option_map (λ p. word_of p) result ≡ slice_get (words_of self.now.tree.nodes) node }
+        ensures feasible { IfSome result (IsFeasiblePrefix self.now.tree.market) }
+    {
+        self.tree.prefix_of(node)
+    }
+
+    /// What an actor saw of the word, in quarter-cents, if there is one of that number.
+    pub fn seen(&self, actor: u32) -> Option<u64>
+        ensures { result ≡ option_map (λ a. a.seen) (slice_get self.now.actors actor) }
+    {
+        if (actor as usize) < self.actors.len() {
+            Some(self.actors[actor as usize].seen)
+        } else {
+            None
+        }
+    }
+
+    /// Whether some node could not branch within the budget.
+    pub fn is_full(&self) -> bool
+        ensures full { result ≡ self.now.tree.full }
+        ensures larger { result ≡ true → IsLarger self.now.tree.market self.now.tree.budget }
+    {
+        self.tree.is_full()
+    }
+
+    /// The nodes in preorder: branched, closed, or neither. Where the search is full they are a part of the search tree that the
+    /// budget can't extend.
+    pub fn part(&self, alloc: Global) -> Result<Vec<PartItem>, Memory>
+        ensures part { IfOk result (λ v. IsPart self.now.tree.nodes v.items) }
+        ensures search { IfOk result (λ v. ArePartsOfSearch self.now.tree.market ([] ∷ []) v.items) }
+        ensures count { IfOk result (λ v. length v.items ≡ length self.now.tree.nodes) }
+        ensures spent { self.now.tree.full ≡ true → IfOk result (λ v. IsSpent self.now.tree.market self.now.tree.budget (record { items = v.items })) }
+    {
+        self.tree.part(alloc)
+    }
+
+    /// An optimal activation and the tree that shows it, where each node is branched or closed. The search is gone then.
+    pub fn finish(self, alloc: Global) -> Result<Clearing, FinishFault>
+        ensures clearing { IfOk result (λ c. IsClearing self.entry.tree.market self.entry.tree.budget c) }
+        ensures welfare { IfOk result (λ c. c.welfare ≡ self.entry.word) }
+        ensures activation { IfOk result (λ c. c.activation ≡ (best_of self.entry.word self.entry.first self.entry.actors).activation) }
+        ensures first { self.entry.word ≡ self.entry.first.welfare → IfOk result (λ c. c.activation ≡ self.entry.first.activation) }
+        ensures tree { IfOk result (λ c. IsTree self.entry.tree.nodes c.tree) }
+        ensures search { IfOk result (λ c. ArePartsOfSearch self.entry.tree.market ([] ∷ []) (map shape_of c.tree)) }
+        ensures not_closed { IfErr result (IsOpenFault self.entry.tree.nodes) }
+    {
+        let Search {
+            tree,
+            word,
+            actors,
+            first,
+        } = self;
+        let tree = tree.finish(alloc)?;
+        let best = best_of(word, first, actors);
+        Ok(Clearing {
+            activation: best.activation,
+            welfare: word,
+            tree: Items::of(tree),
+        })
+    }
+}

@@ -1,6 +1,6 @@
 -- The book of borders.
-use Rattle.std.specs.Prelude.{ℕ, Bool, List, [], ◌∷◌, Option, not, ◌&&◌, ◌||◌, ◌==◌, nat_le, length, map, codes, position, is_some, unwrap_or}
-use Rattle.std.specs.List.{list_any}
+use Rattle.std.specs.Prelude.{◌≢◌, ◌≤◌, ◌<◌, ℕ, Bool, List, [], ◌∷◌, Option, not, ◌&&◌, ◌||◌, ◌==◌, nat_le, length, map, codes, position, is_some, unwrap_or}
+use Rattle.std.specs.List.{All, list_any}
 use Rattle.std.specs.Str.{bytes_eq}
 use Rattle.mari_rows.specs.Books.{Checks, Grammar}
 use Rattle.mari_rows.specs.Fields.{number_in}
@@ -53,3 +53,16 @@ border_columns = codes "from,to,limit,back"
 -- what makes a page a book of borders between these zones
 abbrev pub border_grammar : ZoneBook → Grammar BorderBook
 border_grammar zones = record { columns = border_columns; line_checks = border_checks zones; file_checks = λ rows. []; book = border_book zones }
+
+-- a border between two zones, with its limits in range
+pub record IsBorder (zones : ZoneBook) (border : BorderEnds) : Type 0 where
+  pub from : border.from < length zones.zones
+  pub to : border.to < length zones.zones
+  pub apart : border.from ≢ border.to
+  pub limit : border.limit ≤ 99999
+  pub back : border.back ≤ 99999
+
+-- what holds of every book of borders that is read
+pub record IsBorderBook (zones : ZoneBook) (book : BorderBook) : Type 0 where
+  pub few : length book.borders ≤ 256
+  pub borders : All (IsBorder zones) book.borders

@@ -1,5 +1,6 @@
 -- The book of zones.
-use Rattle.std.specs.Prelude.{ℕ, List, [], ◌∷◌, not, ◌&&◌, ◌==◌, nat_le, length, map, codes}
+use Rattle.std.specs.Prelude.{◌≡◌, ◌≢◌, ◌≤◌, ◌<◌, ℕ, List, [], ◌∷◌, not, ◌&&◌, ◌==◌, nat_le, length, map, codes}
+use Rattle.std.specs.List.{All, AllPairs}
 use Rattle.mari_units.specs.Names.{is_name}
 use Rattle.mari_rows.specs.Books.{Checks, Grammar}
 use Rattle.mari_rows.specs.Names.{distinct, is_among, place_in}
@@ -50,3 +51,11 @@ zone_columns = codes "zone,operator"
 -- what makes a page a book of zones
 abbrev pub zone_grammar : Grammar ZoneBook
 zone_grammar = record { columns = zone_columns; line_checks = zone_checks; file_checks = zone_file_checks; book = zone_book }
+
+-- what holds of every book of zones that is read: it has 1 to 64 zones, each with a name of its own and an operator
+pub record IsZoneBook (book : ZoneBook) : Type 0 where
+  pub some : 1 ≤ length book.zones
+  pub most : length book.zones ≤ 64
+  pub distinct : AllPairs (λ a b. a ≢ b) book.zones
+  pub one_each : length book.operator_of ≡ length book.zones
+  pub operators : All (λ operator. operator < length book.operators) book.operator_of

@@ -1,10 +1,10 @@
 //! The borders between zones and their limits.
-ghost use Rattle.std.specs.Prelude.{◌≡◌, ◌≤◌, List, length, map};
+ghost use Rattle.std.specs.Prelude.{◌≡◌, ◌≤◌, List, length, map, IfOk};
 ghost use Rattle.std.specs.List.{list_any};
 ghost use Rattle.mari_rows.specs.Books.{book_in, book_of_rows, first_failing, GivesBook};
 ghost use Rattle.mari_rows.specs.First.{unless_fault};
 ghost use Rattle.mari_rows.specs.declared.rows.Row.{Row as Line};
-ghost use Rattle.mari_zones.specs.Borders.{border_checks, border_columns, border_grammar, border_of as border_in, is_between_same as is_between_same_in, limit_in};
+ghost use Rattle.mari_zones.specs.Borders.{border_checks, border_columns, border_grammar, border_of as border_in, is_between_same as is_between_same_in, limit_in, IsBorderBook};
 
 use crate::zones::ZoneBook;
 use mari_rows::{BookFault, Row, RowReader, number_of, read_rows};
@@ -36,7 +36,8 @@ impl BorderBook {
     /// The book of a page, or its first refusal.
     pub fn read(alloc: Global, borders: &[u8], zones: &ZoneBook) -> Result<BorderBook, BookFault>
         requires { length borders.now ≤ 268435456 }
-        ensures { GivesBook result (book_in (border_grammar zones.now) borders.now) }
+        ensures book { GivesBook result (book_in (border_grammar zones.now) borders.now) }
+        ensures borders { IfOk result (IsBorderBook zones.now) }
     {
         let mut lines = read_rows(alloc, borders, COLUMNS)?;
         book_of(alloc, &mut lines, zones)

@@ -4,7 +4,7 @@ ghost use Rattle.mari_units.specs.Names.{is_name};
 ghost use Rattle.mari_rows.specs.Books.{book_in, book_of_rows, first_failing, GivesBook};
 ghost use Rattle.mari_rows.specs.Names.{is_among};
 ghost use Rattle.mari_rows.specs.declared.rows.Row.{Row as Line};
-ghost use Rattle.mari_zones.specs.Zones.{operator_of, zone_checks, zone_columns, zone_grammar, zone_of, zones_of};
+ghost use Rattle.mari_zones.specs.Zones.{operator_of, zone_checks, zone_columns, zone_grammar, zone_of, zones_of, IsZoneBook};
 
 use mari_rows::{AddFault, BookFault, NameIndex, Row, RowReader, read_rows};
 use mari_units::{Items, Memory, NameFault, is_name_text, read_name};
@@ -28,7 +28,8 @@ impl ZoneBook {
     /// The book of a page, or its first refusal.
     pub fn read(alloc: Global, zones: &[u8]) -> Result<ZoneBook, BookFault>
         requires { length zones.now ≤ 268435456 }
-        ensures { GivesBook result (book_in zone_grammar zones.now) }
+        ensures book { GivesBook result (book_in zone_grammar zones.now) }
+        ensures zones { IfOk result IsZoneBook }
     {
         let mut lines = read_rows(alloc, zones, COLUMNS)?;
         book_of(alloc, &mut lines)

@@ -1,0 +1,2 @@
+pub mod DemandFacts
+pub mod RunFacts

@@ -1,9 +1,11 @@
 -- The book of demands.
-use Rattle.std.specs.Prelude.{ℕ, ◌==◌, ℤ, pos, neg_ℤ, Bool, List, [], ◌∷◌, ◌++◌, Option, Some, None, not, ◌&&◌, ◌||◌, nat_le, int_le, length, map, codes, is_some, unwrap_or, count_by, if◌then◌else◌}
+use Rattle.std.specs.Prelude.{◌≡◌, ◌≤◌, ◌<◌, ◌≤ℤ◌, ℕ, ◌==◌, ℤ, pos, neg_ℤ, Bool, List, [], ◌∷◌, ◌++◌, Option, Some, None, not, ◌&&◌, ◌||◌, nat_le, int_le, length, map, codes, is_some, unwrap_or, count_by, if◌then◌else◌}
+use Rattle.std.specs.List.{All}
 use Rattle.std.specs.Option.{option_and_then}
+use Rattle.mari_units.specs.declared.numbers.Cents.{Cents}
 use Rattle.mari_units.specs.Numbers.{price_of, whole_of}
 use Rattle.mari_rows.specs.Books.{Checks, Grammar}
-use Rattle.mari_rows.specs.Fields.{cents_in, number_in}
+use Rattle.mari_rows.specs.Fields.{cents_in, number_in, IsWithinCap}
 use Rattle.mari_rows.specs.Rows.{field_of}
 use Rattle.mari_rows.specs.declared.rows.Row.{Row}
 use Rattle.mari_zones.specs.Borders.{zone_named}
@@ -76,3 +78,17 @@ demand_grammar zones runs = record {
   file_checks = λ rows. [];
   book = demand_book zones runs;
 }
+
+-- a demand of one of so many runs, in a zone of the day, with its quantity and its price, if it has one, in range
+pub record IsDemand (zones : ZoneBook) (runs : ℕ) (demand : Demand) : Type 0 where
+  pub first_run : 1 ≤ demand.run
+  pub last_run : demand.run ≤ runs
+  pub zone : demand.zone < length zones.zones
+  pub least : neg_ℤ (pos 99999) ≤ℤ demand.mw
+  pub most : demand.mw ≤ℤ pos 99999
+  pub price : (price : Cents) → demand.price ≡ Some price → IsWithinCap price.0
+
+-- what holds of every book of demands that is read: no run has more than 512
+pub record IsDemandBook (zones : ZoneBook) (runs : ℕ) (book : DemandBook) : Type 0 where
+  pub demands : All (IsDemand zones runs) book.demands
+  pub of_run : (run : ℕ) → count_by (λ (demand : Demand). demand.run == run) book.demands ≤ 512

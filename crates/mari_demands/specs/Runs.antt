@@ -1,9 +1,10 @@
 -- The book of runs.
-use Rattle.std.specs.Prelude.{ℕ, ◌+◌, ℤ, pos, negsuc, Bool, true, false, List, [], ◌∷◌, Option, Some, None, not, ◌&&◌, ◌||◌, nat_le, nat_lt, length, map, codes, fold, is_some, unwrap_or}
+use Rattle.std.specs.Prelude.{◌≡◌, ◌≤◌, ℕ, ◌+◌, ℤ, pos, negsuc, Bool, true, false, List, [], ◌∷◌, Option, Some, None, not, ◌&&◌, ◌||◌, nat_le, nat_lt, length, map, codes, fold, is_some, unwrap_or}
+use Rattle.std.specs.List.{All, AllPairs}
 use Rattle.mari_units.specs.Numbers.{price_of, whole_of}
 use Rattle.mari_units.specs.declared.numbers.Cents.{Cents}
 use Rattle.mari_rows.specs.Books.{Checks, Grammar}
-use Rattle.mari_rows.specs.Fields.{cents_in, is_first_of, number_in}
+use Rattle.mari_rows.specs.Fields.{cents_in, is_first_of, number_in, IsWithinCap}
 use Rattle.mari_rows.specs.Rows.{field_of}
 use Rattle.mari_rows.specs.declared.rows.Row.{Row}
 use Rattle.mari_demands.specs.declared.runs.Run.{Run}
@@ -77,3 +78,17 @@ run_columns = codes "run,quarter,kind,reference"
 -- what makes a page a book of runs, on a day of so many quarters
 abbrev pub run_grammar : ℕ → Grammar RunBook
 run_grammar quarters = record { columns = run_columns; line_checks = run_checks quarters; file_checks = λ rows. []; book = run_book quarters }
+
+-- a run in one of so many quarters, with its reference price in range
+pub record IsRun (quarters : ℕ) (run : Run) : Type 0 where
+  pub first_quarter : 1 ≤ run.quarter
+  pub last_quarter : run.quarter ≤ quarters
+  pub reference : IsWithinCap run.reference.0
+
+-- what holds of every book of runs that is read: no run is of an earlier quarter than one before it, and of the runs of a
+-- quarter all but the first are direct
+pub record IsRunBook (quarters : ℕ) (book : RunBook) : Type 0 where
+  pub few : length book.runs ≤ 1000
+  pub runs : All (IsRun quarters) book.runs
+  pub rise : AllPairs (λ (a b : Run). a.quarter ≤ b.quarter) book.runs
+  pub direct : AllPairs (λ (a b : Run). a.quarter ≡ b.quarter → b.direct ≡ true) book.runs

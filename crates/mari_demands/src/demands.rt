@@ -4,7 +4,7 @@ ghost use Rattle.mari_rows.specs.Books.{book_in, book_of_rows, first_failing, Gi
 ghost use Rattle.mari_rows.specs.First.{unless_fault};
 ghost use Rattle.mari_rows.specs.declared.rows.Row.{Row as Line};
 ghost use Rattle.mari_zones.specs.declared.zones.ZoneBook.{ZoneBook as Zones};
-ghost use Rattle.mari_demands.specs.Demands.{demand_checks, demand_columns, demand_grammar, demand_of as demand_in, line_checks, mw_in};
+ghost use Rattle.mari_demands.specs.Demands.{demand_checks, demand_columns, demand_grammar, demand_of as demand_in, line_checks, mw_in, IsDemandBook};
 
 use crate::runs::RunBook;
 use mari_rows::{
@@ -44,7 +44,8 @@ impl DemandBook {
     ) -> Result<DemandBook, BookFault>
         requires page { length demands.now ≤ 268435456 }
         requires runs { length runs.now.runs ≤ 1000 }
-        ensures { GivesBook result (book_in (demand_grammar zones.now (length runs.now.runs)) demands.now) }
+        ensures book { GivesBook result (book_in (demand_grammar zones.now (length runs.now.runs)) demands.now) }
+        ensures demands { IfOk result (IsDemandBook zones.now (length runs.now.runs)) }
     {
         let mut lines = read_rows(alloc, demands, COLUMNS)?;
         book_of(alloc, &mut lines, runs.runs.as_slice().len() as u32, zones)

@@ -4,7 +4,7 @@ ghost use Rattle.mari_units.specs.Numbers.{whole_of};
 ghost use Rattle.mari_rows.specs.Books.{book_in, book_of_rows, first_failing, GivesBook};
 ghost use Rattle.mari_rows.specs.First.{unless_fault};
 ghost use Rattle.mari_rows.specs.declared.rows.Row.{Row as Line};
-ghost use Rattle.mari_demands.specs.Runs.{comes_too_late as comes_too_late_in, is_direct as is_direct_in, is_number_below, last_quarter, run_checks, run_columns, run_grammar, run_of as run_in};
+ghost use Rattle.mari_demands.specs.Runs.{comes_too_late as comes_too_late_in, is_direct as is_direct_in, is_number_below, last_quarter, run_checks, run_columns, run_grammar, run_of as run_in, IsRunBook};
 
 use mari_rows::{
     BookFault, Row, RowReader, cents_of, is_first_of, is_price, is_whole, number_of, read_rows,
@@ -35,6 +35,7 @@ impl RunBook {
     pub fn read(alloc: Global, runs: &[u8], quarters: u32) -> Result<RunBook, BookFault>
         requires { length runs.now ≤ 268435456 }
         ensures book { GivesBook result (book_in (run_grammar quarters) runs.now) }
+        ensures runs { IfOk result (IsRunBook quarters) }
         ensures few { IfOk result (λ book. length book.runs ≤ 1000) }
     {
         let mut lines = read_rows(alloc, runs, COLUMNS)?;

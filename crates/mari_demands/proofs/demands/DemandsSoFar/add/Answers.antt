@@ -1,11 +1,11 @@
-use Rattle.std.proofs.Common.{◌≡◌, ◌∙◌, ◌++◌, ◌∷◌, [], ◌<◌, get_or, false, true, refl, sym, ap, arith, length, rules}
-use Rattle.std.specs.Prelude.{nat_le, nat_lt}
+use Rattle.std.proofs.Common.{◌≡◌, ◌∙◌, ◌++◌, ◌∷◌, [], get_or, false, true, refl, sym, ap, arith, length, rules}
+use Rattle.std.specs.Prelude.{nat_le}
 use Rattle.std.proofs.lemmas.List.{length-set, map-append}
 use Rattle.mari_rows.specs.Books.{first_failing}
 use Rattle.mari_rows.proofs.BookLemmas.{first_failing-append}
 use Rattle.mari_rows.proofs.CountLemmas.{below, counts-push, not-below, written-back}
 use Rattle.mari_rows.proofs.FirstLemmas.{fault-first, value-no-fault}
-use Rattle.mari_demands.specs.Demands.{count_of, demand_checks, demand_of, line_checks, run_at}
+use Rattle.mari_demands.specs.Demands.{count_of, demand_checks, demand_of, run_at}
 use Rattle.mari_demands.specs.declared.demands.Demand.{Demand}
 use Rattle.mari_demands.proofs.demands.DemandsSoFar.add.Goals as goal
 

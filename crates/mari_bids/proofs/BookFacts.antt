@@ -40,13 +40,13 @@ module _ (zones : ZoneBook) (quarters : ℕ) where
       let first = both-parts (is_some (price_in line)) (is_some (greatest_in line)) numbers.0 in
       record {
         lines = All-push IsLine before line so_far.lines
-        (record {
-          zone = not-false _ all.1.1.0;
-          quarter = not-false _ all.1.1.1.0;
-          price = first.0;
-          greatest = first.1;
-          least = all.1.1.1.1.1.0;
-        });
+            (record {
+              zone = not-false _ all.1.1.0;
+              quarter = not-false _ all.1.1.1.0;
+              price = first.0;
+              greatest = first.1;
+              least = all.1.1.1.1.1.0;
+            });
         distinct = rw (map-append id_of before (line ∷ [])) (distinct-more (map id_of before) (id_of line) so_far.distinct all.1.0);
         counts = counts-at-most (quarter_at quarters) 4096 before line all.1.1.1.1.1.1.0 so_far.counts;
       }
@@ -82,7 +82,7 @@ module _ (zones : ZoneBook) (quarters : ℕ) where
         named = length-map rows id_of ∙ sym (length-map rows make);
         distinct = are.distinct;
         bids = All-map (IsBid zones (length providers) quarters) make rows
-        (λ k d below. is-bid (place_in providers (provider_of (get_or rows k d))) (length providers) (get_or rows k d) (places-below provider_of rows k d below) (are.lines k d below));
+            (λ k d below. is-bid (place_in providers (provider_of (get_or rows k d))) (length providers) (get_or rows k d) (places-below provider_of rows k d below) (are.lines k d below));
         of_quarter = λ quarter. rw (count_by-map make (λ (bid : Bid). bid.quarter == quarter) rows) (are.counts quarter);
       } in
       rw is.says whole

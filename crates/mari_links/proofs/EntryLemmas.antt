@@ -176,7 +176,7 @@ module _ (bids : BidBook) (said : Said) (link : Link) where
   pub parent-same : (link.second == link.second) ≡ true → links_of bids with_child link.second ≡ record (halfway link.second) { gated = true }
   parent-same itself =
       let gated = gated-child link.second ∙ ap (λ b. is_gated bids said link.second || ((link.first == link.second) || b)) itself
-          ∙ ap (λ b. is_gated bids said link.second || b) (or-yes (link.first == link.second)) ∙ or-yes (is_gated bids said link.second) in
+      ∙ ap (λ b. is_gated bids said link.second || b) (or-yes (link.first == link.second)) ∙ or-yes (is_gated bids said link.second) in
       λ i. record (links_of bids with_child link.second) { gated = gated i }
 
 -- one more link to an earlier quarter

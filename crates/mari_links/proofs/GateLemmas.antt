@@ -49,9 +49,9 @@ module _ (bids : BidBook) where
       let most : 512 ≤ count_of bids (filter p (range_with_len 0 i)) (quarter_of bids i) = grind (arith, nat_tests, full) in
       let length-rest : (i + 1) + (n - (i + 1)) ≡ n = omega (arith, below) in
       let parts : range_with_len 0 n ≡ range_with_len 0 (i + 1) ++ range_with_len (i + 1) (n - (i + 1)) =
-          rw length-rest at (range-split 0 (i + 1) (n - (i + 1)) (i + 1) (zero-add (i + 1))) in
+      rw length-rest at (range-split 0 (i + 1) (n - (i + 1)) (i + 1) (zero-add (i + 1))) in
       let whole : filter p (range_with_len 0 n) ≡ (filter p (range_with_len 0 i) ++ i ∷ []) ++ filter p (range_with_len (i + 1) (n - (i + 1))) =
-          rw parts (filter-append p (range_with_len 0 (i + 1)) (range_with_len (i + 1) (n - (i + 1))) ∙ rw (range-yes p i passes) refl) in
+      rw parts (filter-append p (range_with_len 0 (i + 1)) (range_with_len (i + 1) (n - (i + 1))) ∙ rw (range-yes p i passes) refl) in
       rw whole (found (filter p (range_with_len 0 i)) (filter p (range_with_len (i + 1) (n - (i + 1)))) most)
     where
       found : (before behind : List ℕ) → 512 ≤ count_of bids before (quarter_of bids i) → has_too_many bids ((before ++ i ∷ []) ++ behind) ≡ true
@@ -60,8 +60,8 @@ module _ (bids : BidBook) where
           let quarter = quarter_of bids i in
           let test = λ (bid : ℕ). nat_lt 512 (count_of bids all (quarter_of bids bid)) in
           let count : count_of bids all quarter ≡ (count_of bids before quarter + 1) + count_of bids behind quarter =
-              count-append (before ++ i ∷ []) behind quarter
-              ∙ ap (λ n. n + count_of bids behind quarter) (count_by-push (λ bid. quarter_of bids bid == quarter) before i ∙ rw itself refl) in
+          count-append (before ++ i ∷ []) behind quarter
+          ∙ ap (λ n. n + count_of bids behind quarter) (count_by-push (λ bid. quarter_of bids bid == quarter) before i ∙ rw itself refl) in
           let here : test i ≡ true = rw count (grind (arith, nat_tests, most)) in
           list_any-append test (before ++ i ∷ []) behind
           ∙ ap (λ b. b || list_any test behind) (list_any-append test before (i ∷ []) ∙ ap (λ b. list_any test before || (b || false)) here ∙ or-yes (list_any test before))

@@ -137,5 +137,5 @@ module _ (bids : BidBook) (members : List Member) where
   quarters-stay member =
       map-alike (λ name. unwrap_or (quarter_of_group bids (members ++ member ∷ []) name) 0) (λ name. unwrap_or (quarter_of_group bids members name) 0) (groups_of members)
       (λ k d within.
-          let name : List ℕ = get_or (groups_of members) k d in
-          ap (λ o. unwrap_or o 0) (quarter-stays member name (sym (group-there name) ∙ names-among (groups_of members) k d within)))
+      let name : List ℕ = get_or (groups_of members) k d in
+      ap (λ o. unwrap_or o 0) (quarter-stays member name (sym (group-there name) ∙ names-among (groups_of members) k d within)))

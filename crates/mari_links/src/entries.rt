@@ -25,12 +25,12 @@ impl Model for Entry {
     ghost Value = { BidLinks };
 
     ghost view = { λ e. record {
-        gated = e.gated;
-        group = e.group;
-        parent = e.parent;
-        needs = e.needs.items;
-        bars = e.bars.items;
-        technical = e.technical.items;
+      gated = e.gated;
+      group = e.group;
+      parent = e.parent;
+      needs = e.needs.items;
+      bars = e.bars.items;
+      technical = e.technical.items;
     } };
 }
 

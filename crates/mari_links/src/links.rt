@@ -45,11 +45,7 @@ impl LinkBook {
 }
 
 // The book of these lines, or their first refusal.
-fn book_of(
-    alloc: Global,
-    lines: &mut RowReader<'_>,
-    bids: &BidBook,
-) -> Result<LinkBook, BookFault>
+fn book_of(alloc: Global, lines: &mut RowReader<'_>, bids: &BidBook) -> Result<LinkBook, BookFault>
     requires { length lines.old ≤ 268435456 }
     ensures { GivesBook result (book_of_rows (link_grammar bids.now) lines.old) }
 {

@@ -45,13 +45,7 @@ impl LinksSoFar {
     }
 
     // Puts a bid into a group.
-    fn join(
-        &mut self,
-        alloc: Global,
-        bids: &BidBook,
-        group: &[u8],
-        bid: u32,
-    ) -> Result<(), Memory>
+    fn join(&mut self, alloc: Global, bids: &BidBook, group: &[u8], bid: u32) -> Result<(), Memory>
         requires room { length self.old.groups.names < 4294967295 }
         requires group { is_name group.now ≡ true }
         requires bid { bid < length bids.now.ids }

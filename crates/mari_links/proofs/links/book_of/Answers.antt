@@ -39,8 +39,15 @@ add-requires-clause-room c =
     let members = (said_by c.args.bids.now inv.earlier).members in
     let all = ap length inv.read.whole in
     rw inv.holds.groups.names
-    (omega (arith, length-distinct (map (λ (member : Member). member.group) members), length-map members (λ (member : Member). member.group), members-few c.args.bids.now inv.earlier,
-    length-append inv.earlier c.lines.lines, all, c.requires))
+    (omega (
+      arith,
+      length-distinct (map (λ (member : Member). member.group) members),
+      length-map members (λ (member : Member). member.group),
+      members-few c.args.bids.now inv.earlier,
+      length-append inv.earlier c.lines.lines,
+      all,
+      c.requires,
+    ))
 
 pub add-requires-clause-sized : goal.add-requires-clause-sized
 add-requires-clause-sized c =

@@ -18,5 +18,5 @@ returns c = λ said holds new.
       groups = holds.groups;
       timed = holds.timed;
       entries = rw (holds.entries, first) (set-made (halfway bids said link) (links_of bids (with_child bids said link)) count link.second c.lead.new.self c.requires.parent
-      (parent-same bids said link (itself link.second) ∙ sym led) (parent-other bids said link));
+          (parent-same bids said link (itself link.second) ∙ sym led) (parent-other bids said link));
     }

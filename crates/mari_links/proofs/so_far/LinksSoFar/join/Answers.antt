@@ -15,5 +15,5 @@ returns c = λ said holds new.
       groups = c.in_ok-group.ensures.groups bids said.members bid holds.groups c.quarter_of.ensures;
       timed = holds.timed;
       entries = rw holds.entries (set-made (links_of bids said) (links_of bids (with_member bids said member)) (length bids.ids) bid c.join.new.self c.requires.bid
-      (member-same bids said member new (itself bid) ∙ sym joined) (member-other bids said member));
+          (member-same bids said member new (itself bid) ∙ sym joined) (member-other bids said member));
     }

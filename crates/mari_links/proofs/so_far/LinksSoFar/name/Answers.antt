@@ -18,5 +18,5 @@ returns c = λ said holds new.
       groups = holds.groups;
       timed = rw absent at c.in_ok-insert.ensures.keys ∙ ap (λ keys. keys ++ link ∷ []) holds.timed;
       entries = rw holds.entries (set-made (links_of bids said) (links_of bids (with_timed bids said link)) (length bids.ids) link.first c.name.new.self c.requires.first
-      (timed-same bids said link (itself link.first) ∙ sym named) (timed-other bids said link));
+          (timed-same bids said link (itself link.first) ∙ sym named) (timed-other bids said link));
     }

@@ -13,6 +13,7 @@ use Rattle.mari_rows.specs.declared.faults.BookFault.{BookFault}
 use Rattle.mari_rows.specs.declared.rows.Row.{Row}
 use Rattle.mari_rows.proofs.BookLemmas.{book-rows}
 use Rattle.mari_rows.proofs.BookFacts.{all-distinct, all-passed, along-lines, both-parts, count_by-map, counts-at-most, distinct-more, found-below, not-false, number-bounds, places-below, read-within}
+use Rattle.mari_rows.proofs.PlaceLemmas.{length-distinct}
 use Rattle.mari_zones.specs.declared.zones.ZoneBook.{ZoneBook}
 use Rattle.mari_bids.specs.Bids.{IsBid, IsBidBook, bid_at, bid_book, bid_grammar, greatest_in, id_of, least_in, line_checks, price_in, provider_of, providers_of, quarter_at, quarter_in, zone_in}
 use Rattle.mari_units.specs.Names.{is_name}
@@ -89,6 +90,7 @@ module _ (zones : ZoneBook) (quarters : ℕ) where
         named = length-map rows id_of ∙ sym (length-map rows make);
         ids = All-map (λ id. is_name id ≡ true) id_of rows (λ k d below. (are.lines k d below).id);
         providers = all-distinct (λ provider. is_name provider ≡ true) (map provider_of rows) (All-map (λ provider. is_name provider ≡ true) provider_of rows (λ k d below. (are.lines k d below).provider));
+        few_providers = simp length-map (omega (arith, length-distinct (map provider_of rows), length-map rows provider_of));
         few = simp length-map few;
         distinct = are.distinct;
         bids = All-map (IsBid zones (length providers) quarters) make rows

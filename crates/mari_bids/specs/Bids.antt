@@ -153,6 +153,7 @@ pub record IsBidBook (zones : ZoneBook) (quarters : ℕ) (book : BidBook) : Type
   pub named : length book.ids ≡ length book.bids
   pub ids : All (λ id. is_name id ≡ true) book.ids
   pub providers : All (λ provider. is_name provider ≡ true) book.providers
+  pub few_providers : length book.providers ≤ length book.bids
   pub few : length book.bids ≤ 268435456
   pub distinct : AllPairs (λ a b. a ≢ b) book.ids
   pub bids : All (IsBid zones (length book.providers) quarters) book.bids

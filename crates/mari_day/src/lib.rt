@@ -4,9 +4,14 @@
 //! those of the pages, or the first refusal; and the text is that of a day of these books.
 #![tactic(auto)]
 
+mod block;
+mod day;
 mod files;
+mod lines;
 mod pages;
+mod pricing;
 mod reading;
 
-pub use files::{FILES, File};
+pub use day::{PrintedDay, day_of};
+pub use files::file_name;
 pub use reading::{BooksFault, read_books};

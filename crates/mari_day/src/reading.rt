@@ -1,12 +1,11 @@
 //! The books of a folder, or the first refusal.
 
-ghost use Rattle.std.specs.Prelude.{◌≡◌, ◌≤◌, ℕ, IfOk, IfErr, Some, Result as Res, length};
+ghost use Rattle.std.specs.Prelude.{◌≡◌, ◌≤◌, IfOk, IfErr, Some, Result as Res, length};
 ghost use Rattle.mari_io.specs.Outside.{Counts, Pages};
 ghost use Rattle.mari_io.specs.declared.shelf.Fetch.TheVariants as fetch;
 ghost use Rattle.mari_rows.specs.Books.{book_in, GivesBook};
 ghost use Rattle.mari_rows.specs.declared.faults.BookFault.{BookFault as Fault};
 ghost use Rattle.mari_zones.specs.Zones.{zone_grammar, IsZoneBook};
-ghost use Rattle.mari_zones.specs.declared.zones.ZoneBook.{ZoneBook as Zones};
 ghost use Rattle.mari_zones.specs.Borders.{border_grammar, IsBorderBook};
 ghost use Rattle.mari_bids.specs.Bids.{bid_grammar, IsBidBook};
 ghost use Rattle.mari_links.specs.Links.{link_grammar, IsLinkBook};
@@ -137,7 +136,7 @@ fn read_bids(alloc: Global, folder: &Folder, zones: &ZoneBook) -> Result<BidBook
 fn read_links(alloc: Global, folder: &Folder, bids: &BidBook) -> Result<LinkBook, BooksFault>
     ensures reads { Reads result (of_file File.Links (book_in (link_grammar bids.now) (page_of folder.now File.Links))) }
     ensures file { NamesAFile result }
-    ensures facts { (zones : Zones) (quarters : ℕ) → IsBidBook zones quarters bids.now → IfOk result (IsLinkBook bids.now) }
+    ensures facts { IfOk result (IsLinkBook bids.now) }
 {
     named(
         File::Links,

@@ -1,2 +1,4 @@
 pub mod Entries
+pub mod Gates
 pub mod Links
+pub mod SoFar

@@ -10,6 +10,7 @@ use Rattle.mari_rows.specs.Rows.{field_of}
 use Rattle.mari_rows.specs.declared.rows.Row.{Row}
 use Rattle.mari_bids.specs.declared.bids.Bid.{Bid}
 use Rattle.mari_bids.specs.declared.bids.BidBook.{BidBook}
+use Rattle.mari_links.specs.Gates.{has_gate_at}
 use Rattle.mari_links.specs.declared.lines.Link.{Link}
 use Rattle.mari_links.specs.declared.lines.LinkKind.{LinkKind}
 use Rattle.mari_links.specs.declared.lines.LinkKind.TheVariants.{Group, Child, Needs, Bars, Technical}
@@ -77,7 +78,7 @@ is_same_kind Technical Technical = true
 is_same_kind _ _ = false
 
 abbrev pub is_same_link : Link → Link → Bool
-is_same_link a b = is_same_kind a.kind b.kind && (a.first == b.first) && (a.second == b.second)
+is_same_link a b = is_same_kind a.kind b.kind && ((a.first == b.first) && (a.second == b.second))
 
 -- a bid that a line puts into a group
 pub record Member : Type 0 where
@@ -193,14 +194,18 @@ name_checks bids row =
     ∷ (of_kind (names_no_bid bids row) row, 12)
     ∷ []
 
--- and for a wrong quarter, for a parent that does not stand before its child, and for what an earlier line says
-abbrev pub line_checks : BidBook → List Row → Row → Checks
-line_checks bids earlier row =
-    name_checks bids row
-    ++ (of_kind (has_wrong_quarter bids (said_by bids earlier) row) row, 13)
+-- and, behind lines that say this, for a wrong quarter, for a parent that does not stand before its child, and for what an
+-- earlier line says
+abbrev pub place_checks : BidBook → Said → Row → Checks
+place_checks bids said row =
+    (of_kind (has_wrong_quarter bids said row) row, 13)
     ∷ (of_kind (has_later_parent bids row) row, 14)
-    ∷ (of_kind (is_repeated bids (said_by bids earlier) row) row, 15)
+    ∷ (of_kind (is_repeated bids said row) row, 15)
     ∷ []
+
+-- in this order
+abbrev pub line_checks : BidBook → List Row → Row → Checks
+line_checks bids earlier row = name_checks bids row ++ place_checks bids (said_by bids earlier) row
 
 -- whether one of these bids is of a quarter that has more than 512 of them
 abbrev pub has_too_many : BidBook → List ℕ → Bool
@@ -235,7 +240,7 @@ link_grammar bids = record { columns = link_columns; line_checks = line_checks b
 
 -- whether the bid at a place has a gate
 abbrev pub has_gate : LinkBook → ℕ → Bool
-has_gate book bid = option_map_or (λ (links : BidLinks). links.gated) (slice_get book.links bid) false
+has_gate book bid = has_gate_at book.links bid
 
 -- a parent stands before its child, in the same quarter, and has a gate
 pub record IsParent (bids : BidBook) (book : LinkBook) (child parent : ℕ) : Type 0 where

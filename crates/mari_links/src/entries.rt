@@ -127,3 +127,13 @@ impl Entry {
         }
     }
 }
+
+/// The links of each bid, as they are given.
+pub fn links_of(alloc: Global, entries: Vec<Entry>) -> Result<Vec<BidLinks>, AllocError>
+    ensures { IfOk result (λ links. links.items ≡ entries.items) }
+{
+    entries
+        .into_iter()
+        .map(|entry| entry.into_links())
+        .collect(alloc)
+}

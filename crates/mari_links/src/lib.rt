@@ -4,8 +4,10 @@
 #![tactic(auto)]
 
 mod entries;
+mod gates;
 mod groups;
 mod lines;
 mod links;
+mod so_far;
 
 pub use links::{BidLinks, LinkBook};

@@ -1,4 +1,14 @@
 //! What a line says by itself.
+ghost use Rattle.std.specs.Prelude.{◌≡◌, ◌<◌, length, true, false, IfOk, OnOk};
+ghost use Rattle.mari_units.specs.Names.{is_name};
+ghost use Rattle.mari_rows.specs.Books.{first_failing};
+ghost use Rattle.mari_rows.specs.First.{unless_fault};
+ghost use Rattle.mari_links.specs.Links.{bid_named, kind_named, kind_of as kind_in, least_of as least_in, link_of as link_in, name_checks, quarter_of as quarter_in};
+ghost use Rattle.mari_links.specs.Entries.{some_link};
+
+use mari_bids::BidBook;
+use mari_rows::Row;
+use mari_units::is_name_text;
 
 /// How a line links bids.
 #[derive(Clone, Copy, Debug, PartialEq, Eq, Hash)]
@@ -21,4 +31,66 @@ pub struct Link {
     pub kind: LinkKind,
     pub first: u32,
     pub second: u32,
+}
+
+// The kind that a word names.
+#[tactic(auto, unfolding(crate::specs::Links::group_word, crate::specs::Links::child_word, crate::specs::Links::needs_word, crate::specs::Links::bars_word, crate::specs::Links::technical_word))]
+fn kind_of(word: &[u8]) -> Option<LinkKind>
+    ensures { result ≡ kind_named word.now }
+{
+    match word {
+        b"group" => Some(LinkKind::Group),
+        b"child" => Some(LinkKind::Child),
+        b"needs" => Some(LinkKind::Needs),
+        b"bars" => Some(LinkKind::Bars),
+        b"technical" => Some(LinkKind::Technical),
+        _ => None,
+    }
+}
+
+/// The quarter of the bid at a place.
+pub fn quarter_of(bids: &BidBook, bid: u32) -> u32
+    ensures { result ≡ quarter_in bids.now bid }
+{
+    match bids.bids.as_slice().get(bid as usize) {
+        Some(bid) => bid.quarter,
+        None => 0,
+    }
+}
+
+/// The least quantity of the bid at a place.
+pub fn least_of(bids: &BidBook, bid: u32) -> u32
+    ensures { result ≡ least_in bids.now bid }
+{
+    match bids.bids.as_slice().get(bid as usize) {
+        Some(bid) => bid.least,
+        None => 0,
+    }
+}
+
+/// The link of a line that names what it should, or the first check that fails.
+pub fn link_of(bids: &BidBook, line: &Row) -> Result<Link, u8>
+    ensures link { result ≡ unless_fault (first_failing (name_checks bids.now line.now)) (some_link bids.now line.now) }
+    ensures passes { OnOk result (first_failing (name_checks bids.now line.now) ≡ None) }
+    ensures kind { IfOk result (λ link. kind_in line.now ≡ Some link.kind) }
+    ensures says { IfOk result (λ link. link ≡ link_in bids.now line.now link.kind) }
+    ensures first { IfOk result (λ link. link.first < length bids.now.ids) }
+    ensures second { IfOk result (λ link. link.second < length bids.now.ids) }
+{
+    let Some(kind) = kind_of(line.field(0)) else {
+        return Err(11);
+    };
+    if kind == LinkKind::Group && !is_name_text(line.field(1)) {
+        return Err(16);
+    }
+    let first = bids.ids.find(line.field(1));
+    let second = bids.ids.find(line.field(2));
+    if second.is_none() || (kind != LinkKind::Group && first.is_none()) {
+        return Err(12);
+    }
+    Ok(Link {
+        kind,
+        first: first.unwrap_or(0),
+        second: second.unwrap_or(0),
+    })
 }

@@ -1,10 +1,9 @@
 //! The links of a day.
-ghost use Rattle.std.specs.Prelude.{◌≡◌, ◌≤◌, ◌<◌, ◌++◌, ◌∷◌, [], List, length, IfOk};
-ghost use Rattle.mari_rows.specs.Books.{book_in, book_of_rows, first_failing, GivesBook, TakesLine};
-ghost use Rattle.mari_bids.specs.Bids.{IsBidBook};
-ghost use Rattle.mari_zones.specs.declared.zones.ZoneBook.{ZoneBook as Zones};
+ghost use Rattle.std.specs.Prelude.{◌≤◌, length, IfOk};
+ghost use Rattle.mari_rows.specs.Books.{book_in, book_of_rows, GivesBook};
 ghost use Rattle.mari_links.specs.Links.{link_columns, link_grammar, IsLinkBook};
 
+use crate::so_far::LinksSoFar;
 use mari_bids::BidBook;
 use mari_rows::{BookFault, RowReader, read_rows};
 use mari_units::Items;
@@ -31,4 +30,32 @@ pub struct BidLinks {
 #[derive(Debug, Drop)]
 pub struct LinkBook {
     pub links: Items<BidLinks>,
+}
+
+impl LinkBook {
+    /// The book of a page of links between these bids, or its first refusal.
+    pub fn read(alloc: Global, links: &[u8], bids: &BidBook) -> Result<LinkBook, BookFault>
+        requires { length links.now ≤ 268435456 }
+        ensures book { GivesBook result (book_in (link_grammar bids.now) links.now) }
+        ensures links { IfOk result (IsLinkBook bids.now) }
+    {
+        let mut lines = read_rows(alloc, links, COLUMNS)?;
+        book_of(alloc, &mut lines, bids)
+    }
+}
+
+// The book of these lines, or their first refusal.
+fn book_of(
+    alloc: Global,
+    lines: &mut RowReader<'_>,
+    bids: &BidBook,
+) -> Result<LinkBook, BookFault>
+    requires { length lines.old ≤ 268435456 }
+    ensures { GivesBook result (book_of_rows (link_grammar bids.now) lines.old) }
+{
+    let mut so_far = LinksSoFar::new(alloc, bids)?;
+    'lines: while let Some(line) = lines.next(alloc)? {
+        so_far.add(alloc, bids, &line)?;
+    }
+    so_far.into_book(alloc, bids)
 }

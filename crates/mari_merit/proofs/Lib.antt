@@ -2,4 +2,3 @@ pub mod Rungs
 pub mod Sorted
 pub mod Filling
 pub mod Clears
-pub mod Sizes

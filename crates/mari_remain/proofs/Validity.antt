@@ -100,10 +100,10 @@ module _ (books : Books) (run : ℕ) (ok : IsAccepted books) where
   rise : AllPairs (λ i j. i < j) (gated_of books run)
   rise = AllPairs-filter (λ i j. i < j) (has_gate books.links) (numbers_of books run) (places-rise (λ (b : Bid). b.quarter == (run_at books run).quarter) 0 books.bids.bids)
 
-  there : All (λ i. i < length books.bids.bids) (numbers_of books run)
+  pub there : All (λ i. i < length books.bids.bids) (numbers_of books run)
   there = All-weaker (IsPlace 0 (length books.bids.bids)) (λ i. i < length books.bids.bids) (λ i l. omega (arith, l.below)) (numbers_of books run) (places-within (λ (b : Bid). b.quarter == (run_at books run).quarter) 0 books.bids.bids)
 
-  few_numbers : length (numbers_of books run) ≤ 4096
+  pub few_numbers : length (numbers_of books run) ≤ 4096
   few_numbers = omega (arith, length-places (λ (b : Bid). b.quarter == (run_at books run).quarter) 0 books.bids.bids, ok.bids.of_quarter (run_at books run).quarter)
 
   pub few : length (demands_of_run books.demands.demands run) ≤ 512

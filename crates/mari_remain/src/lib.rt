@@ -8,4 +8,4 @@ mod books;
 mod market;
 
 pub use books::Books;
-pub use market::{RunMarket, market_of};
+pub use market::{RunMarket, market_of, run_entry};

@@ -5,7 +5,7 @@ ghost use Rattle.std.specs.List.{All};
 ghost use Rattle.mari_market.specs.Market.{IsValid};
 ghost use Rattle.mari_links.specs.Links.{has_gate};
 ghost use Rattle.mari_remain.specs.Accepted.{IsAccepted};
-ghost use Rattle.mari_remain.specs.RunMarket.{bid_at, bid_order as bid_order_of, bids_of_quarter, border_of as border_in, demand_order as demand_order_of, demands_of_run as demands_in, gate_at, gate_of as gate_in, gates_of as gates_in, group_at, inelastic_price as inelastic_price_of, orders_of as orders_in, parent_at, run_market_of};
+ghost use Rattle.mari_remain.specs.RunMarket.{bid_at, bid_order as bid_order_of, bids_of_quarter, border_of as border_in, demand_order as demand_order_of, demands_of_run as demands_in, gate_at, gate_of as gate_in, gates_of as gates_in, group_at, inelastic_price as inelastic_price_of, orders_of as orders_in, parent_at, run_at, run_market_of};
 
 use crate::books::Books;
 use mari_bids::Bid;
@@ -242,14 +242,22 @@ fn orders_of(
     Ok(orders)
 }
 
+/// What the book of runs says of a run, counted from 1.
+pub fn run_entry(books: &Books, run: u32) -> Run
+    requires { 1 ≤ run }
+    ensures { result ≡ run_at books.now run }
+{
+    let entry = books.runs.runs.as_slice().get(run as usize - 1);
+    entry.copied().unwrap_or(NO_RUN)
+}
+
 /// The market of a run, from its entry.
 fn made_of(alloc: Global, books: &Books, run: u32) -> Result<RunMarket, Memory>
     requires accepted { IsAccepted books.now }
     requires first { 1 ≤ run }
     ensures { IfOk result (λ made. made ≡ run_market_of books.now run) }
 {
-    let entry = books.runs.runs.as_slice().get(run as usize - 1);
-    let entry = entry.copied().unwrap_or(NO_RUN);
+    let entry = run_entry(books, run);
     let bids = numbers_of(alloc, books.bids.bids.as_slice(), entry.quarter)?;
     let gated = gated_of(alloc, &books.links, &bids)?;
     let demands = demands_of(alloc, books.demands.demands.as_slice(), run)?;

@@ -71,6 +71,13 @@ module _ {Book : Type 0} (g : Grammar Book) where
       let whole = read-all earlier all (rw ended at so_far) in
       rw (whole.1, whole.0, fails) refl
 
+  -- an answer to the end of the file
+  pub gives-file : (earlier lines all : List Row) (result : Result Book BookFault) → IsReadTo earlier lines all → lines ≡ []
+      → TakesLine result 1 (first_failing (g.file_checks earlier)) (λ book. book ≡ g.book earlier) → GivesBook result (book_of_rows g all)
+  gives-file earlier lines all (Ok book) so_far ended takes = rw takes.1 (read-whole earlier lines all so_far ended takes.0)
+  gives-file earlier lines all (Err refused.Memory) so_far ended takes = tt
+  gives-file earlier lines all (Err (refused.At at number)) so_far ended takes = rw takes.0 (refused-file earlier lines all number so_far ended takes.1)
+
   -- rows that were read
   pub gives-rows : (page : List ℕ) (rows : List Row) (result : Result Book BookFault) → rows_in g.columns page ≡ Ok rows
       → GivesBook result (book_of_rows g rows) → GivesBook result (book_in g page)

@@ -36,7 +36,8 @@ place-with names name other there = by (is_among names other)
     by true = refl
     by false = place-stays names name other there
 
-among-push : (names : List (List ℕ)) (name other : List ℕ) → is_among (names ++ other ∷ []) name ≡ (is_among names name || bytes_eq name other)
+-- a name is among others with one put last
+pub among-push : (names : List (List ℕ)) (name other : List ℕ) → is_among (names ++ other ∷ []) name ≡ (is_among names name || bytes_eq name other)
 among-push [] name other = by (bytes_eq name other)
   where
     by : (b : Bool) → (b || false) ≡ (false || b)

@@ -14,6 +14,7 @@ use Rattle.mari_rows.specs.declared.faults.BookFault.{BookFault}
 use Rattle.mari_rows.specs.declared.rows.Row.{Row}
 use Rattle.mari_rows.proofs.BookLemmas.{book-rows}
 use Rattle.mari_rows.proofs.BookFacts.{all-distinct, all-passed, along-lines, both-parts, distinct-more, found-below, not-false, number-bounds, places-below}
+use Rattle.mari_rows.proofs.PlaceLemmas.{length-distinct}
 use Rattle.mari_zones.specs.Zones.{IsZoneBook, operator_of, operators_of, zone_book, zone_checks, zone_grammar, zone_of, zones_of}
 use Rattle.mari_zones.specs.Borders.{IsBorder, IsBorderBook, border_book, border_checks, border_grammar, border_of, limit_in, zone_named}
 use Rattle.mari_zones.specs.declared.zones.ZoneBook.{ZoneBook}
@@ -58,6 +59,7 @@ zone-facts rows (Ok book) gives =
       zones = All-map (λ zone. is_name zone ≡ true) zone_of rows are.zones;
       distinct = are.distinct;
       operators = all-distinct (λ operator. is_name operator ≡ true) (map operator_of rows) (All-map (λ operator. is_name operator ≡ true) operator_of rows are.operators);
+      few_operators = omega (arith, length-distinct (map operator_of rows), length-map rows operator_of, are.few);
       one_each = length-map rows place ∙ sym (length-map rows zone_of);
       operator_of = All-map (λ operator. operator < length (operators_of rows)) place rows (places-below operator_of rows);
     } in

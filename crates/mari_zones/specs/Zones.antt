@@ -59,5 +59,6 @@ pub record IsZoneBook (book : ZoneBook) : Type 0 where
   pub zones : All (λ zone. is_name zone ≡ true) book.zones
   pub distinct : AllPairs (λ a b. a ≢ b) book.zones
   pub operators : All (λ operator. is_name operator ≡ true) book.operators
+  pub few_operators : length book.operators ≤ 64
   pub one_each : length book.operator_of ≡ length book.zones
   pub operator_of : All (λ operator. operator < length book.operators) book.operator_of

@@ -5,7 +5,7 @@ returns-clause-accepted c = record {
   zones = c.in_ok-zones.ensures.facts;
   borders = c.in_ok-borders.ensures.facts;
   bids = c.in_ok-bids.ensures.facts;
-  links = c.in_ok-links.ensures.facts _ _ c.in_ok-bids.ensures.facts;
+  links = c.in_ok-links.ensures.facts;
   runs = c.in_ok-runs.ensures.facts;
   demands = c.in_ok-demands.ensures.facts;
 }

@@ -26,7 +26,7 @@ gated_at_most : (b : Bool) (o : Order) (q : ℕ) → IsWithin (gated_span (if b 
 gated_at_most true o q w = w.most
 gated_at_most false o q w = omega (arith, w.most)
 
-at_most : (opens : ℕ → Bool) (gate : Option ℕ) (o : Order) (q : ℕ) → IsWithin (span_of (λ g. if opens g then Open else Closed) gate o) q → q ≤ o.greatest
+pub at_most : (opens : ℕ → Bool) (gate : Option ℕ) (o : Order) (q : ℕ) → IsWithin (span_of (λ g. if opens g then Open else Closed) gate o) q → q ≤ o.greatest
 at_most opens None o q w = w.most
 at_most opens (Some g) o q w = gated_at_most (opens g) o q w
 

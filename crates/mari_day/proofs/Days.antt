@@ -1,0 +1,115 @@
+-- The numbers of a day's text are in range.
+use Rattle.std.proofs.Common.{◌≡◌, ◌≢◌, ◌∙◌, ℕ, zero, suc, ◌+◌, ◌*◌, ◌-◌, ◌<◌, ◌≤◌, ◌==◌, Bool, true, false, List, [], ◌∷◌, length, map, filter, get_or, slice_index_or, cond, refl, sym, ap, arith}
+use Rattle.std.specs.Prelude.{not, count_by}
+use Rattle.std.specs.List.{All, range_with_len}
+use Rattle.std.proofs.lemmas.Bool.Decides.{nat_tests}
+use Rattle.std.proofs.lemmas.List.{length-map}
+use Rattle.std.proofs.lemmas.List.FromFn.{get_or-range_with_len, length-range_with_len}
+use Rattle.std.proofs.lemmas.List.Elements.{All-cons, All-filter, All-map, All-nil, filter_passes}
+use Rattle.std.proofs.lemmas.List.Filters.{length-filter_both}
+use Rattle.std.proofs.lemmas.List.Sums.{length-filter, count_by-le-length}
+use Rattle.mari_bids.specs.declared.bids.Bid.{Bid}
+use Rattle.mari_units.specs.declared.numbers.Quarters.{Quarters}
+use Rattle.mari_market.specs.Clearing.{ArePartsOfSearch, IsSpent}
+use Rattle.mari_market.specs.declared.clearing.PartItem.{PartItem}
+use Rattle.mari_market.specs.declared.clearing.Spent.{Spent}
+use Rattle.mari_market.specs.declared.market.Market.{Market}
+use Rattle.mari_publish.specs.Ranges.{Between, BlockFits, HasText, IsAmountLine, IsDate, IsHeading, IsMoneyLine, IsName, Listed, TotalsFit}
+use Rattle.mari_publish.specs.declared.publication.Block.{Block}
+use Rattle.mari_publish.specs.declared.publication.Publication.{Publication}
+use Rattle.mari_remain.specs.Accepted.{IsAccepted}
+use Rattle.mari_remain.specs.RunMarket.{market_at}
+use Rattle.mari_remain.specs.declared.books.Books.{Books}
+use Rattle.mari_settle.specs.Lines.{nothing}
+use Rattle.mari_settle.specs.declared.ledger.Ledger.{Ledger}
+use Rattle.mari_day.specs.Dated.{IsDated}
+use Rattle.mari_day.specs.Money.{amount_line, money_line, money_lines_of}
+use Rattle.mari_day.specs.Published.{HasEntries, provider_lines_of}
+use Rattle.mari_day.specs.Run.{heading_of}
+use Rattle.mari_day.proofs.BlockFits.{lines-fit, money}
+use Rattle.mari_day.proofs.Shapes.{along-length}
+
+module _ {X : Type 0} where
+  -- a filter of a list leaves no more that pass a test
+  fewer : (b : Bool) (x : X) (xs ys : List X) → length xs ≤ length ys → length (cond b (x ∷ xs) xs) ≤ length (cond b (x ∷ ys) ys)
+  fewer true x xs ys l = omega (arith, l)
+  fewer false x xs ys l = l
+
+  skipped : (b : Bool) (x : X) (xs ys : List X) → length xs ≤ length ys → length xs ≤ length (cond b (x ∷ ys) ys)
+  skipped true x xs ys l = omega (arith, l)
+  skipped false x xs ys l = l
+
+  filtered : (p q : X → Bool) (xs : List X) → length (filter p (filter q xs)) ≤ length (filter p xs)
+  filtered p q [] = omega arith
+  filtered p q (x ∷ xs) = elim (q x) as (λ b. length (filter p (cond b (x ∷ filter q xs) (filter q xs))) ≤ length (cond (p x) (x ∷ filter p xs) (filter p xs))) [
+      true ↦ fewer (p x) x (filter p (filter q xs)) (filter p xs) (filtered p q xs)
+    | false ↦ skipped (p x) x (filter p (filter q xs)) (filter p xs) (filtered p q xs)
+    ]
+
+  -- where each item has one of n numbers, and at most c have the same, there are at most c * n
+  pub at-most-each : (number : X → ℕ) (c n : ℕ) (xs : List X) → All (λ x. Between 1 n (number x)) xs → ((k : ℕ) → count_by (λ x. number x == k) xs ≤ c) → length xs ≤ c * n
+  at-most-each number c zero [] all few = omega arith
+  at-most-each number c zero (x ∷ xs) all few = let none = all 0 x (omega arith) in absurd (omega (arith, none.0, none.1))
+  at-most-each number c (suc n) xs all few =
+      let last : X → Bool = λ x. number x == suc n in
+      let rest : List X = filter (λ x. not (last x)) xs in
+      let both = length-filter_both last (λ x. not (last x)) (λ x. refl) xs in
+      let own : length (filter last xs) ≤ c = omega (arith, length-filter last xs, few (suc n)) in
+      let below : All (λ x. Between 1 n (number x)) rest = λ k d l.
+          let within = All-filter (λ x. not (last x)) (λ x. Between 1 (suc n) (number x)) xs all k d l in
+          let passes = filter_passes (λ x. not (last x)) xs k d l in
+          (within.0, other (number _) n passes within.1) in
+      let less = at-most-each number c n rest below (λ k. omega (arith, filtered (λ x. number x == k) (λ x. not (last x)) xs, length-filter (λ x. number x == k) rest, length-filter (λ x. number x == k) xs, few k)) in
+      grind (arith, both, own, less)
+    where
+      other : (m n : ℕ) → not (m == suc n) ≡ true → m ≤ suc n → m ≤ n
+      other m n differs l = grind (arith, nat_tests, differs, l)
+
+module _ (books : Books) (ok : IsAccepted books) (dated : IsDated books) where
+  few-bids : length books.bids.bids ≤ 1638400
+  few-bids =
+      let most = at-most-each (λ (b : Bid). b.quarter) 4096 books.quarters books.bids.bids (λ k d l. let b = ok.bids.bids k d l in (b.first_quarter, b.last_quarter)) ok.bids.of_quarter in
+      omega (arith, most, dated.quarters.1)
+
+  pub heading-fits : (run : ℕ) → 1 ≤ run → run ≤ length books.runs.runs → IsHeading (heading_of books run)
+  heading-fits run first last =
+      let own = ok.runs.runs (run - 1) _ (omega arith) in
+      ((first, omega (arith, last, ok.runs.few)), (own.first_quarter, omega (arith, own.last_quarter, dated.quarters.1)))
+
+  some-part : (m : Market) (items : List PartItem) → ArePartsOfSearch m ([] ∷ []) items → 1 ≤ length items
+  some-part m [] h = absurd h
+  some-part m (item ∷ items) h = omega arith
+
+  -- what isn't published is in range
+  pub spent-fits : (m : Market) (budget : ℕ) (spent : Spent) → budget ≤ 50000 → IsSpent m budget spent → Between 1 50000 (length spent.items)
+  spent-fits m budget spent small is = (some-part m spent.items is.part, omega (arith, is.within_budget))
+
+  operators-fit : (ledger : Ledger) → HasEntries books ledger → Listed 1 64 IsMoneyLine (money_lines_of books.zones.operators ledger.operators)
+  operators-fit ledger e =
+      let many = along-length money_line books.zones.operators ledger.operators e.operators in
+      let some : 0 < length books.zones.operators = omega (arith, ok.zones.operator_of 0 0 (omega (arith, ok.zones.one_each, ok.zones.some))) in
+      ((omega (arith, many, some), omega (arith, many, ok.zones.few_operators)), lines-fit books.zones.operators ledger.operators ok.zones.operators e.small.operators)
+
+  providers-fit : (ledger : Ledger) → HasEntries books ledger → Listed 0 1638400 IsAmountLine (provider_lines_of books ledger.providers)
+  providers-fit ledger e =
+      let places = range_with_len 0 (length books.bids.providers) in
+      let many = length-map places (amount_line books.bids.providers ledger.providers) in
+      let all = length-range_with_len 0 (length books.bids.providers) in
+      ((omega arith, omega (arith, many, all, ok.bids.few_providers, few-bids)),
+      All-map IsAmountLine (amount_line books.bids.providers ledger.providers) places (λ k d l.
+          let there : k < length books.bids.providers = omega (arith, all) in
+          let place = get_or-range_with_len 0 (length books.bids.providers) k d there in
+          (ok.bids.providers (get_or places k d) [] (omega (arith, place)), money (slice_index_or ledger.providers (get_or places k d) nothing) (e.small.providers (get_or places k d) nothing (omega (arith, place, e.providers))))))
+
+  -- the day of a block in range and a ledger has a text
+  pub day-fits : (p : Publication) (block : Block) (ledger : Ledger) → IsDate p.date → p.quarters ≡ books.quarters → Between 1 50000 p.budget → p.blocks ≡ block ∷ [] → BlockFits block
+      → HasEntries books ledger → p.operators ≡ money_lines_of books.zones.operators ledger.operators → p.providers ≡ provider_lines_of books ledger.providers → HasText p
+  day-fits p block ledger date quarters budget one fits e operators providers = record {
+    head = (date, (omega (arith, quarters, dated.quarters.0), omega (arith, quarters, dated.quarters.1)), budget);
+    blocks = rw one (All-cons BlockFits block [] fits (All-nil BlockFits));
+    totals = record {
+      runs = rw one (omega arith);
+      operators = rw operators (operators-fit ledger e);
+      providers = rw providers (providers-fit ledger e);
+    };
+  }

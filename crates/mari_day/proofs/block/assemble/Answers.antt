@@ -1,0 +1,42 @@
+use Rattle.std.proofs.Common.{◌≡◌, ◌≤◌, ◌<◌, ◌∙◌, length, arith, refl}
+use Rattle.std.specs.List.{All}
+use Rattle.mari_remain.proofs.Validity.{there}
+use Rattle.mari_day.proofs.Money.{providers-there}
+use Rattle.mari_day.proofs.block.assemble.Goals as goal
+
+pub bid_lines-requires-clause-there : goal.bid_lines-requires-clause-there
+bid_lines-requires-clause-there c = rw (c.requires.numbers, c.requires.accepted.bids.named) (there c.args.books.now c.args.run c.requires.accepted)
+
+pub money_lines-requires-clause-few : goal.money_lines-requires-clause-few
+money_lines-requires-clause-few c = c.requires.accepted.zones.few_operators
+
+pub provider_lines-requires-clause-there : goal.provider_lines-requires-clause-there
+provider_lines-requires-clause-there c =
+    rw c.requires.numbers (providers-there c.args.books.now.bids.bids _ _ (λ k d l. (c.requires.accepted.bids.bids k d l).provider) (there c.args.books.now c.args.run c.requires.accepted))
+
+pub returns : goal.returns
+returns c = record {
+  heading = c.heading.ensures;
+  welfare = refl;
+  tree = refl;
+  zones = record {
+    names = rw c.of.ensures c.in_ok-zones.ensures.names;
+    prices = rw c.of.ensures c.in_ok-zones.ensures.prices;
+    least = rw c.of.ensures c.in_ok-zones.ensures.least;
+    greatest = rw c.of.ensures c.in_ok-zones.ensures.greatest;
+    areas = rw c.of.ensures (c.in_ok-zones.ensures.areas ∙ c.deref.ensures.value);
+  };
+  borders = record {
+    from = rw c.of-2.ensures (rw c.as_slice-ends.ensures at c.in_ok-borders.ensures.from);
+    to = rw c.of-2.ensures (rw c.as_slice-ends.ensures at c.in_ok-borders.ensures.to);
+    flow = rw c.of-2.ensures (c.in_ok-borders.ensures.flow ∙ c.as_slice-flow.ensures);
+    rents = rw c.of-2.ensures (c.in_ok-borders.ensures.rents ∙ c.as_slice.ensures);
+  };
+  orders = record {
+    ids = rw c.of-3.ensures (rw c.requires.numbers at c.in_ok-bids.ensures.ids);
+    mw = rw c.of-3.ensures (rw (c.requires.numbers, c.as_slice-mw.ensures) at c.in_ok-bids.ensures.mw);
+    demands = rw c.of-4.ensures (rw (c.requires.numbers, c.as_slice-mw.ensures) at c.in_ok-demands.ensures);
+  };
+  operators = c.of-5.ensures ∙ rw c.as_slice-2.ensures at c.in_ok-operators.ensures;
+  providers = c.of-6.ensures ∙ rw (c.as_slice-3.ensures, c.requires.numbers) at c.in_ok-providers.ensures;
+}

@@ -1,0 +1,8 @@
+-- Books of a date that a text may state.
+use Rattle.mari_publish.specs.Ranges.{Between, IsDate}
+use Rattle.mari_remain.specs.declared.books.Books.{Books}
+
+-- a date in digits, and 1 to 400 quarter hours
+pub record IsDated (books : Books) : Type 0 where
+  pub date : IsDate books.date
+  pub quarters : Between 1 400 books.quarters

@@ -1,5 +1,5 @@
 pub mod Lists
 pub mod Wide
 pub mod Open
-pub mod Sizes
 pub mod Balance
+pub mod Sizes

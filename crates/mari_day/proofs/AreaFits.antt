@@ -22,13 +22,13 @@ module _ (m : Market) (a : Activation) where
   -- so the area of a zone is at most its place, counted from 1
   area-most : (areas : List ℕ) → AreAreas m a areas → (bound z : ℕ) → z ≤ bound → z < m.zones → area_at areas z ≤ z + 1
   area-most areas is zero z within there = elim (cases_lt 1 (area_at areas z)) [
-      inl more ↦ (let b = behind areas is z there more in absurd (omega (arith, b.1)))
+    | inl more ↦ (let b = behind areas is z there more in absurd (omega (arith, b.1)))
     | inr one ↦ omega arith
-    ]
+  ]
   area-most areas is (suc bound) z within there = elim (cases_lt 1 (area_at areas z)) [
-      inl more ↦ (let b = behind areas is z there more in omega (arith, b.1, b.2, area-most areas is bound b.0 (omega (arith, b.1)) (omega (arith, b.1))))
+    | inl more ↦ (let b = behind areas is z there more in omega (arith, b.1, b.2, area-most areas is bound b.0 (omega (arith, b.1)) (omega (arith, b.1))))
     | inr one ↦ omega arith
-    ]
+  ]
 
   pub areas-fit : (areas : List ℕ) → AreAreas m a areas → m.zones ≤ 64 → All (Between 1 64) areas
   areas-fit areas is few = All-from_get_or (Between 1 64) areas 0 (λ z l.

@@ -62,7 +62,7 @@ module _ (books : Books) (budget run : ℕ) (clearing : Clearing) (priced : Pric
           rents = is.borders.rents ∙ p.rents ∙ sym (same2 (rents_of m) a (activation_of b) ps (prices_of b) same_activation is.zones.prices);
           operators = is.operators ∙ ap (money_lines_of books.zones.operators) (p.operators ∙ sym (same2 (operator_lines books.zones m) a (activation_of b) ps (prices_of b) same_activation is.zones.prices));
           providers = is.providers ∙ ap (λ amounts. map (amount_line books.bids.providers amounts) (providers_among books.bids.bids (numbers_of books run)))
-          (p.providers ∙ sym (same2 (provider_amounts books.bids (numbers_of books run)) a (activation_of b) ps (prices_of b) same_activation is.zones.prices));
+              (p.providers ∙ sym (same2 (provider_amounts books.bids (numbers_of books run)) a (activation_of b) ps (prices_of b) same_activation is.zones.prices));
         };
       }
 

@@ -116,8 +116,10 @@ module _ (books : Books) (ok : IsAccepted books) (dated : IsDated books) (budget
       let places = providers_among books.bids.bids (numbers_of books run) in
       let below : All (λ place. place < length books.bids.providers) places = providers-there books.bids.bids (numbers_of books run) (length books.bids.providers) (λ k d l. (ok.bids.bids k d l).provider) (there books run ok) in
       let many = length-map places (amount_line books.bids.providers priced.ledger.providers) in
-      rw is.providers ((omega arith, omega (arith, many, few-providers books.bids.bids (numbers_of books run), few_numbers books run ok)),
-      All-map IsAmountLine (amount_line books.bids.providers priced.ledger.providers) places (λ k d l. amount-fits _ (below k d l)))
+      rw is.providers (
+        (omega arith, omega (arith, many, few-providers books.bids.bids (numbers_of books run), few_numbers books run ok)),
+        All-map IsAmountLine (amount_line books.bids.providers priced.ledger.providers) places (λ k d l. amount-fits _ (below k d l)),
+      )
 
   pub block-fits : 1 ≤ run → run ≤ length books.runs.runs → clearing.welfare < 2 ^ 63 → budget ≤ 50000 → IsClearing (market_at books run) budget clearing
       → length b.demands ≡ length (demands_of_run books.demands.demands run) → FullFits b

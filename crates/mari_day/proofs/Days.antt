@@ -42,9 +42,9 @@ module _ {X : Type 0} where
   filtered : (p q : X → Bool) (xs : List X) → length (filter p (filter q xs)) ≤ length (filter p xs)
   filtered p q [] = omega arith
   filtered p q (x ∷ xs) = elim (q x) as (λ b. length (filter p (cond b (x ∷ filter q xs) (filter q xs))) ≤ length (cond (p x) (x ∷ filter p xs) (filter p xs))) [
-      true ↦ fewer (p x) x (filter p (filter q xs)) (filter p xs) (filtered p q xs)
+    | true ↦ fewer (p x) x (filter p (filter q xs)) (filter p xs) (filtered p q xs)
     | false ↦ skipped (p x) x (filter p (filter q xs)) (filter p xs) (filtered p q xs)
-    ]
+  ]
 
   -- where each item has one of n numbers, and at most c have the same, there are at most c * n
   pub at-most-each : (number : X → ℕ) (c n : ℕ) (xs : List X) → All (λ x. Between 1 n (number x)) xs → ((k : ℕ) → count_by (λ x. number x == k) xs ≤ c) → length xs ≤ c * n
@@ -56,9 +56,9 @@ module _ {X : Type 0} where
       let both = length-filter_both last (λ x. not (last x)) (λ x. refl) xs in
       let own : length (filter last xs) ≤ c = omega (arith, length-filter last xs, few (suc n)) in
       let below : All (λ x. Between 1 n (number x)) rest = λ k d l.
-          let within = All-filter (λ x. not (last x)) (λ x. Between 1 (suc n) (number x)) xs all k d l in
-          let passes = filter_passes (λ x. not (last x)) xs k d l in
-          (within.0, other (number _) n passes within.1) in
+      let within = All-filter (λ x. not (last x)) (λ x. Between 1 (suc n) (number x)) xs all k d l in
+      let passes = filter_passes (λ x. not (last x)) xs k d l in
+      (within.0, other (number _) n passes within.1) in
       let less = at-most-each number c n rest below (λ k. omega (arith, filtered (λ x. number x == k) (λ x. not (last x)) xs, length-filter (λ x. number x == k) rest, length-filter (λ x. number x == k) xs, few k)) in
       grind (arith, both, own, less)
     where
@@ -94,12 +94,13 @@ module _ (books : Books) (ok : IsAccepted books) (dated : IsDated books) where
   providers-fit ledger e =
       let places = range_with_len 0 (length books.bids.providers) in
       let many = length-map places (amount_line books.bids.providers ledger.providers) in
-      let all = length-range_with_len 0 (length books.bids.providers) in
-      ((omega arith, omega (arith, many, all, ok.bids.few_providers, few-bids)),
-      All-map IsAmountLine (amount_line books.bids.providers ledger.providers) places (λ k d l.
-          let there : k < length books.bids.providers = omega (arith, all) in
-          let place = get_or-range_with_len 0 (length books.bids.providers) k d there in
-          (ok.bids.providers (get_or places k d) [] (omega (arith, place)), money (slice_index_or ledger.providers (get_or places k d) nothing) (e.small.providers (get_or places k d) nothing (omega (arith, place, e.providers))))))
+      let all = length-range_with_len 0 (length books.bids.providers) in (
+        (omega arith, omega (arith, many, all, ok.bids.few_providers, few-bids)),
+        All-map IsAmountLine (amount_line books.bids.providers ledger.providers) places (λ k d l.
+            let there : k < length books.bids.providers = omega (arith, all) in
+            let place = get_or-range_with_len 0 (length books.bids.providers) k d there in
+            (ok.bids.providers (get_or places k d) [] (omega (arith, place)), money (slice_index_or ledger.providers (get_or places k d) nothing) (e.small.providers (get_or places k d) nothing (omega (arith, place, e.providers))))),
+      )
 
   -- the day of a block in range and a ledger has a text
   pub day-fits : (p : Publication) (block : Block) (ledger : Ledger) → IsDate p.date → p.quarters ≡ books.quarters → Between 1 50000 p.budget → p.blocks ≡ block ∷ [] → BlockFits block

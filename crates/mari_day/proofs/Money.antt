@@ -11,9 +11,9 @@ use Rattle.mari_day.specs.Money.{each_once, providers_among, with_number}
 module _ (P : ℕ → Type 0) where
   one-more : (ns : List ℕ) (n : ℕ) → All P ns → P n → All P (with_number ns n)
   one-more ns n all here = elim (list_any (λ m. m == n) ns) as (λ b. All P (cond b ns (ns ++ n ∷ []))) [
-      true ↦ all
+    | true ↦ all
     | false ↦ All-push P ns n all here
-    ]
+  ]
 
   more : (ns xs : List ℕ) → All P ns → All P xs → All P (fold with_number ns xs)
   more ns [] all rest = all
@@ -24,9 +24,9 @@ module _ (P : ℕ → Type 0) where
 
 one-longer : (ns : List ℕ) (n : ℕ) → length (with_number ns n) ≤ length ns + 1
 one-longer ns n = elim (list_any (λ m. m == n) ns) as (λ b. length (cond b ns (ns ++ n ∷ [])) ≤ length ns + 1) [
-    true ↦ omega arith
+  | true ↦ omega arith
   | false ↦ simp length-append (omega arith)
-  ]
+]
 
 longer : (ns xs : List ℕ) → length (fold with_number ns xs) ≤ length ns + length xs
 longer ns [] = omega arith

@@ -50,7 +50,7 @@ module _ (books : Books) (run : ℕ) (ok : IsAccepted books) where
       let each : All (λ i. R i (order i)) (numbers_of books run) = λ k d l. rw (slice_get-get_or books.bids.bids (get_or (numbers_of books run) k d) no_bid (there books run ok k d l)) (record { zone = refl; side = refl }) in
       let rest : List Order = map demand_order (demands_of_run books.demands.demands run) in
       let front : take (length (numbers_of books run)) (map order (numbers_of books run) ++ rest) ≡ map order (numbers_of books run) =
-          ap (λ n. take n (map order (numbers_of books run) ++ rest)) (sym (length-map (numbers_of books run) order)) ∙ take-front (map order (numbers_of books run)) rest in
+      ap (λ n. take n (map order (numbers_of books run) ++ rest)) (sym (length-map (numbers_of books run) order)) ∙ take-front (map order (numbers_of books run)) rest in
       rw front (zip-map R order (numbers_of books run) each)
 
   pub shapes : (clearing : Clearing) (priced : Priced) → IsPriced books run clearing priced → IsFeasible (market_at books run) clearing.activation → HasShapes books run clearing priced

@@ -51,16 +51,18 @@ module _ (m : Market) (v : IsValid m) where
   -- the quantities and flows of a feasible activation are in range
   pub mws-fit : (a : Activation) → IsFeasible m a → Listed 0 4608 (λ mw. mw ≤ 99999) a.mw
   mws-fit a f =
-      let same = as_many m a f in
-      ((omega arith, omega (arith, same, v.few_orders)),
-      beside (IsValidOrder m.zones (length m.gates)) (λ (o : Order) (q : ℕ). IsWithin (own_bounds m a o) q) (λ mw. mw ≤ 99999)
-      (λ o q valid within. omega (arith, valid.small, at_most (is_open m a) o.gate o q within)) m.orders a.mw v.orders f.orders)
+      let same = as_many m a f in (
+        (omega arith, omega (arith, same, v.few_orders)),
+        beside (IsValidOrder m.zones (length m.gates)) (λ (o : Order) (q : ℕ). IsWithin (own_bounds m a o) q) (λ mw. mw ≤ 99999)
+            (λ o q valid within. omega (arith, valid.small, at_most (is_open m a) o.gate o q within)) m.orders a.mw v.orders f.orders,
+      )
 
   pub flows-fit : (a : Activation) → IsFeasible m a → Listed 0 256 (λ flow. Within 199998 flow) a.flow
   flows-fit a f =
-      let same = as_long IsWithinLimits m.borders a.flow f.borders in
-      ((omega arith, omega (arith, same, v.few_borders)),
-      beside (IsValidBorder m.zones) IsWithinLimits (λ flow. Within 199998 flow) (flow-fits m.zones) m.borders a.flow v.borders f.borders)
+      let same = as_long IsWithinLimits m.borders a.flow f.borders in (
+        (omega arith, omega (arith, same, v.few_borders)),
+        beside (IsValidBorder m.zones) IsWithinLimits (λ flow. Within 199998 flow) (flow-fits m.zones) m.borders a.flow v.borders f.borders,
+      )
 
   pub prices-fit : (ps : List Cents) → ArePrices m ps → Listed 1 64 IsPriceLine ps
   prices-fit ps p = ((omega (arith, p.one_each, v.zones.0), omega (arith, p.one_each, v.zones.1)), p.capped)
@@ -96,9 +98,10 @@ module _ (m : Market) (v : IsValid m) where
   leaf-fits cutoff word (Bound ps) h = (prices-fit ps.cents h.prices, tt)
   leaf-fits cutoff word (Cut cut) h = (cut-fits word cut h, tt)
   leaf-fits cutoff word (Conflict k) h =
-      let zones : All IsZone k.chain = All-weaker (λ z. z < m.zones) IsZone (λ z l. omega (arith, l, v.zones.1)) k.chain h.zones in
-      (((chain-some k.activation k.chain h.chain, omega (arith, h.short, v.zones.1)), zones),
-      (prices-fit k.potentials.cents h.prices, (flows-fit k.activation h.feasible, (mws-fit k.activation h.feasible, tt))))
+      let zones : All IsZone k.chain = All-weaker (λ z. z < m.zones) IsZone (λ z l. omega (arith, l, v.zones.1)) k.chain h.zones in (
+        ((chain-some k.activation k.chain h.chain, omega (arith, h.short, v.zones.1)), zones),
+        (prices-fit k.potentials.cents h.prices, (flows-fit k.activation h.feasible, (mws-fit k.activation h.feasible, tt))),
+      )
 
   parts-fit : (cutoff : ℤ) (words : List (List Bool)) (items : List TreeItem) → AreParts m cutoff words items → All ItemFits items
   parts-fit cutoff [] [] h = All-nil ItemFits

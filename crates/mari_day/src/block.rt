@@ -17,9 +17,7 @@ ghost use Rattle.mari_day.specs.Money.{amount_line, money_lines_of, providers_am
 ghost use Rattle.mari_day.specs.Published.{amounts_of, HasEntries, IsPublishedRun};
 ghost use Rattle.mari_day.specs.Run.{heading_of};
 
-use crate::lines::{
-    amount_lines, bid_lines, border_lines, demand_mws, money_lines, zone_lines,
-};
+use crate::lines::{amount_lines, bid_lines, border_lines, demand_mws, money_lines, zone_lines};
 use crate::pricing::{Pricing, pricing_of};
 use mari_bids::{Bid, BidBook};
 use mari_market::{Activation, Clearing, Prices};

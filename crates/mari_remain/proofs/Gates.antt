@@ -27,9 +27,9 @@ gate-is gated g rise l =
 
 not_before : (gated : List ℕ) (i j g h : ℕ) → AllPairs (λ i j. i < j) gated → get_or gated g 0 ≡ i → (h < length gated) × (get_or gated h 0 ≡ j) → get_or gated h 0 ≡ j → g ≤ h → j < i → ⊥
 not_before gated i j g h rise a b e at_least l = elim (cases_lt g h) [
-    inl less ↦ omega (arith, rise g h 0 less b.0)
+  | inl less ↦ omega (arith, rise g h 0 less b.0)
   | inr more ↦ (let same : g ≡ h = omega arith in let one : get_or gated g 0 ≡ get_or gated h 0 = ap (λ k. get_or gated k 0) same in omega arith)
-  ]
+]
 
 -- of two gated bids the earlier has the smaller gate
 pub gate-less : (gated : List ℕ) (i j g h : ℕ) → AllPairs (λ i j. i < j) gated → gate_of gated i ≡ Some g → gate_of gated j ≡ Some h → j < i → h < g

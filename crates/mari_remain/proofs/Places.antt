@@ -16,8 +16,8 @@ module _ {X : Type 0} (p : X → Bool) where
   either b x k is n h =
       let more : All (IsPlace k (suc n)) is = All-weaker (IsPlace (k + 1) n) (IsPlace k (suc n)) (λ i l. record { from = omega (arith, l.from); below = omega (arith, l.below) }) is h in
       elim b as (λ v. All (IsPlace k (suc n)) (cond v (k ∷ is) is)) [
-        true ↦ All-cons (IsPlace k (suc n)) k is (record { from = omega arith; below = omega arith }) more
-      | false ↦ more
+        | true ↦ All-cons (IsPlace k (suc n)) k is (record { from = omega arith; below = omega arith }) more
+        | false ↦ more
       ]
 
   -- each place is one of the list's
@@ -28,8 +28,8 @@ module _ {X : Type 0} (p : X → Bool) where
   above : (b : Bool) (k n : ℕ) (is : List ℕ) → All (IsPlace (k + 1) n) is → AllPairs (λ i j. i < j) is → AllPairs (λ i j. i < j) (cond b (k ∷ is) is)
   above b k n is h rise =
       elim b as (λ v. AllPairs (λ (i j : ℕ). i < j) (cond v (k ∷ is) is)) [
-        true ↦ AllPairs-cons (λ i j. i < j) k is (All-weaker (IsPlace (k + 1) n) (λ j. k < j) (λ i l. omega (arith, l.from)) is h) rise
-      | false ↦ rise
+        | true ↦ AllPairs-cons (λ i j. i < j) k is (All-weaker (IsPlace (k + 1) n) (λ j. k < j) (λ i l. omega (arith, l.from)) is h) rise
+        | false ↦ rise
       ]
 
   -- places rise

@@ -56,8 +56,8 @@ inelastic mw =
     let low : Cents = record { 0 = neg_ℤ (pos 9999900) } in
     let high : Cents = record { 0 = pos 9999900 } in
     elim (int_lt mw (pos 0)) as (λ v. IsPrice (cond v low high).0) [
-      true ↦ record { low = omega (arith, ints); high = omega (arith, ints) }
-    | false ↦ record { low = omega (arith, ints); high = omega (arith, ints) }
+      | true ↦ record { low = omega (arith, ints); high = omega (arith, ints) }
+      | false ↦ record { low = omega (arith, ints); high = omega (arith, ints) }
     ]
 
 demand_price : (price : Option Cents) (mw : ℤ) → IfSome price (λ (p : Cents). IsWithinCap p.0) → IsPrice (unwrap_or price (inelastic_price mw)).0
@@ -136,7 +136,7 @@ module _ (books : Books) (run : ℕ) (ok : IsAccepted books) where
       let gated : List ℕ = gated_of books run in
       let zones : ℕ = length books.zones.zones in
       let valid : (i : ℕ) → i < length books.bids.bids → IsValidOrder (length books.zones.zones) (length (gated_of books run)) (bid_order (bid_at books.bids.bids i) (gate_of (gated_of books run) i)) =
-          λ i l. bid books.zones (length books.bids.providers) books.quarters (length (gated_of books run)) (bid_at books.bids.bids i) (gate_of (gated_of books run) i) (ok.bids.bids i _ l) (λ g e. (gate-at (gated_of books run) i g e).0) in
+      λ i l. bid books.zones (length books.bids.providers) books.quarters (length (gated_of books run)) (bid_at books.bids.bids i) (gate_of (gated_of books run) i) (ok.bids.bids i _ l) (λ g e. (gate-at (gated_of books run) i g e).0) in
       All-map (IsValidOrder (length books.zones.zones) (length (gated_of books run))) (λ i. bid_order (bid_at books.bids.bids i) (gate_of (gated_of books run) i)) (numbers_of books run)
       (All-weaker (λ i. i < length books.bids.bids) (λ i. IsValidOrder (length books.zones.zones) (length (gated_of books run)) (bid_order (bid_at books.bids.bids i) (gate_of (gated_of books run) i))) valid (numbers_of books run) there)
 

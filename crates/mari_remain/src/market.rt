@@ -129,7 +129,11 @@ fn demand_order(demand: &Demand) -> Order
 {
     Order {
         zone: demand.zone,
-        side: if demand.mw < 0 { Side::Inject } else { Side::Withdraw },
+        side: if demand.mw < 0 {
+            Side::Inject
+        } else {
+            Side::Withdraw
+        },
         price: demand.price.unwrap_or(inelastic_price(demand.mw)),
         least: 0,
         greatest: demand.mw.unsigned_abs() as u32,

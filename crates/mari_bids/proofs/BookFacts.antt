@@ -46,15 +46,15 @@ module _ (zones : ZoneBook) (quarters : ℕ) where
       let names = good-names line all.0 in
       record {
         lines = All-push IsLine before line so_far.lines
-        (record {
-          id = names.0;
-          provider = names.1;
-          zone = not-false _ all.1.1.0;
-          quarter = not-false _ all.1.1.1.0;
-          price = first.0;
-          greatest = first.1;
-          least = all.1.1.1.1.1.0;
-        });
+            (record {
+              id = names.0;
+              provider = names.1;
+              zone = not-false _ all.1.1.0;
+              quarter = not-false _ all.1.1.1.0;
+              price = first.0;
+              greatest = first.1;
+              least = all.1.1.1.1.1.0;
+            });
         distinct = rw (map-append id_of before (line ∷ [])) (distinct-more (map id_of before) (id_of line) so_far.distinct all.1.0);
         counts = counts-at-most (quarter_at quarters) 4096 before line all.1.1.1.1.1.1.0 so_far.counts;
       }
@@ -94,7 +94,7 @@ module _ (zones : ZoneBook) (quarters : ℕ) where
         few = simp length-map few;
         distinct = are.distinct;
         bids = All-map (IsBid zones (length providers) quarters) make rows
-        (λ k d below. is-bid (place_in providers (provider_of (get_or rows k d))) (length providers) (get_or rows k d) (places-below provider_of rows k d below) (are.lines k d below));
+            (λ k d below. is-bid (place_in providers (provider_of (get_or rows k d))) (length providers) (get_or rows k d) (places-below provider_of rows k d below) (are.lines k d below));
         of_quarter = λ quarter. rw (count_by-map make (λ (bid : Bid). bid.quarter == quarter) rows) (are.counts quarter);
       } in
       rw is.says whole

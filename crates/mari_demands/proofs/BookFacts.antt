@@ -38,7 +38,7 @@ module _ (quarters : ℕ) where
       record {
         few = simp length-append (omega (arith, room));
         runs = All-push (λ row. IsRun quarters (run_of quarters row)) before line so_far.runs
-        (record { first_quarter = quarter.0; last_quarter = quarter.1; reference = read-within (field_of line 3) (record { 0 = pos 0 }) (not-false _ all.1.1.1.1.0) });
+            (record { first_quarter = quarter.0; last_quarter = quarter.1; reference = read-within (field_of line 3) (record { 0 = pos 0 }) (not-false _ all.1.1.1.1.0) });
       }
 
   -- what is read is such a book of runs
@@ -88,13 +88,13 @@ module _ (zones : ZoneBook) (runs : ℕ) where
       let numbers = both-parts (is_some (mw_in line)) (is_inelastic line || is_some (cents_in (field_of line 3))) (not-false _ all.1.1.1.0) in
       record {
         demands = All-push (λ row. IsDemand zones runs (demand_of zones runs row)) before line so_far.demands
-        (record {
-          first_run = run.0;
-          last_run = run.1;
-          zone = found-below (bytes_eq (field_of line 1)) zones.zones (not-false _ all.1.1.0);
-          mw = mw-within line numbers.0;
-          price = stated-price (field_of line 3);
-        });
+            (record {
+              first_run = run.0;
+              last_run = run.1;
+              zone = found-below (bytes_eq (field_of line 1)) zones.zones (not-false _ all.1.1.0);
+              mw = mw-within line numbers.0;
+              price = stated-price (field_of line 3);
+            });
         counts = counts-at-most (run_at runs) 512 before line all.1.1.1.1.0 so_far.counts;
       }
 

@@ -172,9 +172,9 @@ count_by-map f test xs = from 0 xs
 module _ (P : List ℕ → Type 0) where
   one-name : (names : List (List ℕ)) (name : List ℕ) → All P names → P name → All P (with_name names name)
   one-name names name all here = elim (is_among names name) as (λ b. All P (if b then names else names ++ name ∷ [])) [
-      true ↦ all
+    | true ↦ all
     | false ↦ All-push P names name all here
-    ]
+  ]
 
   each-name : (names xs : List (List ℕ)) → All P names → All P xs → All P (fold with_name names xs)
   each-name names [] all more = all

@@ -83,13 +83,13 @@ module _ (zones : ZoneBook) where
       record {
         few = simp length-append (omega (arith, room));
         borders = All-push (λ row. IsBorder zones (border_of zones row)) before line so_far.borders
-        (record {
-          from = found-below (bytes_eq (field_of line 0)) zones.zones ends.0;
-          to = found-below (bytes_eq (field_of line 1)) zones.zones ends.1;
-          apart = differ _ _ all.1.1.0;
-          limit = (number-bounds 0 99999 (field_of line 2) limits.0).1;
-          back = (number-bounds 0 99999 (field_of line 3) limits.1).1;
-        });
+            (record {
+              from = found-below (bytes_eq (field_of line 0)) zones.zones ends.0;
+              to = found-below (bytes_eq (field_of line 1)) zones.zones ends.1;
+              apart = differ _ _ all.1.1.0;
+              limit = (number-bounds 0 99999 (field_of line 2) limits.0).1;
+              back = (number-bounds 0 99999 (field_of line 3) limits.1).1;
+            });
       }
 
   -- what is read is such a book of borders

@@ -1,5 +1,5 @@
 -- The seven market files of a folder, and which of them are missing or too long.
-use Rattle.std.specs.Prelude.{ℕ, nat_lt, ◌≡◌, List, [], ◌∷◌, ◌++◌, length, map, Option, Some, None, if◌then◌else◌}
+use Rattle.std.specs.Prelude.{◌-◌, slice_index_or, ℕ, nat_lt, ◌≡◌, List, [], ◌∷◌, ◌++◌, length, map, Option, Some, None, if◌then◌else◌}
 use lib.Chars.{codes}
 use Rattle.mari_io.specs.Outside.{Pages, page_of}
 use Rattle.mari_day.specs.declared.files.File.{File}
@@ -28,6 +28,10 @@ place_of Demands = 6
 -- the files in the order in which they are fetched and read
 abbrev pub files : List File
 files = Day ∷ Zones ∷ Borders ∷ Bids ∷ Links ∷ Runs ∷ Demands ∷ []
+
+-- the name of the file of a number, counted from 1
+abbrev pub file_named : ℕ → List ℕ
+file_named number = name_of (slice_index_or files (number - 1) Day)
 
 -- the path of a file
 abbrev pub path_of : List ℕ → File → List ℕ

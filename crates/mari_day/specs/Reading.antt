@@ -1,5 +1,5 @@
 -- The books of a folder, or its first refusal.
-use Rattle.std.specs.Prelude.{ℕ, ◌+◌, ◌≡◌, List, [], length, Result, Ok, Err, Some, slice_index_or, if◌then◌else◌, ⊤}
+use Rattle.std.specs.Prelude.{ℕ, ◌+◌, ◌≡◌, ◌≤◌, List, [], length, Result, Ok, Err, Some, slice_index_or, if◌then◌else◌, ⊤}
 use lib.Chars.{codes}
 use Rattle.std.specs.Str.{bytes_eq}
 use Rattle.mari_units.specs.declared.faults.Refusal.{Refusal}
@@ -107,9 +107,9 @@ IsFetchFault fault (Err (why.Fetch number f)) = f ≡ fault
 IsFetchFault fault (Err (why.Refused refusal)) = ⊥
 IsFetchFault fault (Err why.Memory) = ⊥
 
--- a fault of a fetch names one of the seven files
+-- a fault of a fetch and a refusal are of one of the seven files, by its number from 1
 abbrev pub NamesAFile : {T : Type 0} → Result T BooksFault → Type 0
 NamesAFile (Ok x) = ⊤
-NamesAFile (Err (why.Fetch number f)) = (file : File) × (number ≡ place_of file + 1)
-NamesAFile (Err (why.Refused refusal)) = (file : File) × (refusal.file ≡ place_of file + 1)
+NamesAFile (Err (why.Fetch number f)) = (1 ≤ number) × (number ≤ 7)
+NamesAFile (Err (why.Refused refusal)) = (1 ≤ refusal.file) × (refusal.file ≤ 7)
 NamesAFile (Err why.Memory) = ⊤

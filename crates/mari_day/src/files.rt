@@ -1,7 +1,7 @@
 //! The seven market files of a folder.
 
-ghost use Rattle.std.specs.Prelude.{◌≡◌, ◌+◌, ◌<◌};
-ghost use Rattle.mari_day.specs.Files.{name_of, place_of};
+ghost use Rattle.std.specs.Prelude.{◌≡◌, ◌≤◌, ◌+◌, ◌<◌};
+ghost use Rattle.mari_day.specs.Files.{file_named, name_of, place_of};
 
 /// A market file, in the order in which the files are fetched and read.
 #[derive(Clone, Copy, Debug, PartialEq, Eq)]
@@ -60,8 +60,17 @@ impl File {
 
     /// The file's number, from 1.
     pub fn number(self) -> u8
-        ensures { result ≡ place_of self + 1 }
+        ensures number { result ≡ place_of self + 1 }
+        ensures within { (1 ≤ result) × (result ≤ 7) }
     {
         self.place() as u8 + 1
     }
+}
+
+/// The name of the file of a number, from 1.
+pub fn file_name(number: u8) -> &'static str
+    requires { (1 ≤ number) × (number ≤ 7) }
+    ensures { result.now ≡ file_named number }
+{
+    FILES[number as usize - 1].name()
 }

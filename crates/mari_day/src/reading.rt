@@ -12,7 +12,8 @@ ghost use Rattle.mari_links.specs.Links.{link_grammar, IsLinkBook};
 ghost use Rattle.mari_demands.specs.Demands.{demand_grammar, IsDemandBook};
 ghost use Rattle.mari_demands.specs.Runs.{run_grammar, IsRunBook};
 ghost use Rattle.mari_remain.specs.Accepted.{IsAccepted};
-ghost use Rattle.mari_day.specs.Files.{place_of};
+ghost use Rattle.mari_publish.specs.Ranges.{IsDate};
+ghost use Rattle.mari_day.specs.Dated.{IsDated};
 ghost use Rattle.mari_day.specs.Reading.{books_at, day_at, day_page as day_page_of, date_text, of_file, page_of, refusal_at, BooksTell, IsFetchFault, NamesAFile, Reads};
 
 use crate::files::File;
@@ -40,7 +41,8 @@ pub enum BooksFault {
 
 /// The refusal of a file.
 fn refusal_of(file: File, line: u32, number: u8) -> Refusal
-    ensures { result ≡ refusal_at file line number }
+    ensures refusal { result ≡ refusal_at file line number }
+    ensures file { (1 ≤ result.file) × (result.file ≤ 7) }
 {
     Refusal {
         file: file.number(),
@@ -88,6 +90,7 @@ fn read_day(folder: &Folder) -> Result<(), BooksFault>
 #[tactic(auto, unfolding(crate::specs::Reading::date_text))]
 fn date_of(alloc: Global) -> Result<Name, BooksFault>
     ensures date { IfOk result (λ date. date ≡ date_text) }
+    ensures is_date { IfOk result IsDate }
     ensures memory { IfErr result (λ fault. fault ≡ BooksFault.Memory) }
 {
     match read_name(alloc, b"2025-03-12") {
@@ -178,6 +181,7 @@ fn books_of(alloc: Global, folder: &Folder) -> Result<Books, BooksFault>
     ensures reads { Reads result (books_at folder.now) }
     ensures file { NamesAFile result }
     ensures accepted { IfOk result IsAccepted }
+    ensures dated { IfOk result IsDated }
 {
     read_day(folder)?;
     let date = date_of(alloc)?;
@@ -212,6 +216,7 @@ pub fn read_books<S: Shelf>(
     // What was read.
     ensures told { (told : Pages) → S.pages shelf.old ≡ Some told → BooksTell told folder.now result }
     ensures accepted { IfOk result IsAccepted }
+    ensures dated { IfOk result IsDated }
 
     // Why nothing was.
     ensures file { NamesAFile result }

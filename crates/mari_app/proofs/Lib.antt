@@ -1,5 +1,5 @@
-pub mod Fetched
-pub mod Markets
-pub mod Intervals
 pub mod Reporting
+pub mod Reading
+pub mod Bounded
+pub mod Saying
 pub mod Answers

@@ -1,42 +1,50 @@
 -- What each answer of the program says.
-use Rattle.std.specs.Prelude.{ℕ, ◌+◌, ◌≡◌, ◌⊎◌, List, Option, Some, None, Ok, take}
+use Rattle.std.specs.Prelude.{ℕ, ◌≤◌, ◌≡◌, ◌⊎◌, List, Option, Some, None, Ok, take}
 use lib.Chars.{codes}
-use Rattle.mari_units.specs.declared.Refusal.{Refusal}
+use Rattle.mari_units.specs.declared.faults.Refusal.{Refusal}
 use Rattle.mari_io.specs.Outside.{Pages}
-use Rattle.mari_app.specs.declared.files.File.{File}
+use Rattle.mari_day.specs.Files.{AreHeld, Gap}
+use Rattle.mari_day.specs.Files.Gap.{NotHeld, OverLimit}
+use Rattle.mari_market.specs.SearchTree.{HasSize}
+use Rattle.mari_remain.specs.RunMarket.{market_at}
+use Rattle.mari_remain.specs.declared.books.Books.{Books}
 use Rattle.mari_app.specs.declared.outcome.Outcome.{Outcome}
 use Rattle.mari_app.specs.declared.status.Status.{Status}
 use Rattle.mari_app.specs.declared.status.Status.TheVariants as status
-use Rattle.mari_app.specs.Files.{AreHeld, place_of, Gap}
-use Rattle.mari_app.specs.Files.Gap.{NotHeld, OverLimit}
-use Rattle.mari_app.specs.Form.{Input, input_at}
-use Rattle.mari_app.specs.Outcome.{HasGap, RefusesFile, Says, IsNoCommand, printed_of}
-use Rattle.mari_app.specs.Printing.{file_line, not_built_line, then_took}
-use Rattle.mari_app.specs.Words.{folder_at}
+use Rattle.mari_app.specs.Built.{accepted_at}
+use Rattle.mari_app.specs.Outcome.{LacksPage, RefusesPages, Says, IsNoCommand, printed_of}
+use Rattle.mari_app.specs.Printing.{file_line, refused_line, then_took}
+use Rattle.mari_app.specs.Words.{Command, command_at}
 
--- the words name a folder whose pages are held and in their first form
+-- the words name a folder whose pages are held and give books
 pub record IsAccepted (words : List (List ℕ)) (pages : Pages) : Type 0 where
-  pub folder : List ℕ
+  pub command : Command
   pub texts : List (List ℕ)
-  pub input : Input
-  pub command : folder_at words ≡ Some folder
-  pub held : AreHeld pages folder texts
-  pub read : input_at texts ≡ Ok input
+  pub books : Books
+  pub asked : command_at words ≡ Some command
+  pub held : AreHeld pages command.folder texts
+  pub read : accepted_at texts ≡ Ok books
 
--- the refusal of a file that isn't in its first form
-abbrev pub not_built_at : File → Refusal
-not_built_at file = record { file = place_of file + 1; line = 1; number = 20 }
+-- and the budget holds the search tree of the run's market
+pub record HasBudget (words : List (List ℕ)) (pages : Pages) : Type 0 where
+  pub command : Command
+  pub texts : List (List ℕ)
+  pub books : Books
+  pub size : ℕ
+  pub asked : command_at words ≡ Some command
+  pub held : AreHeld pages command.folder texts
+  pub read : accepted_at texts ≡ Ok books
+  pub is_size : HasSize (market_at books 1) size
+  pub enough : size ≤ command.nodes
 
--- a file is refused: where the pages are told, it is the first that isn't in its first form; and its line is taken
+-- the pages are refused: where they are told, this is their first refusal; and its line is taken
 pub record IsRefused (words : List (List ℕ)) (pages : Option Pages) (before after : Option (List ℕ)) (refusal : Refusal) : Type 0 where
-  pub file : File
-  pub at : refusal ≡ not_built_at file
-  pub first : (told : Pages) → pages ≡ Some told → RefusesFile words told file
-  pub line : after ≡ then_took before (not_built_line file)
+  pub first : (told : Pages) → pages ≡ Some told → RefusesPages words told refusal
+  pub line : after ≡ then_took before (refused_line refusal)
 
 -- a fetch failed, and the line of its file is taken
 pub record IsReadFault (before after : Option (List ℕ)) : Type 0 where
-  pub file : File
+  pub file : ℕ
   pub line : after ≡ then_took before (file_line (codes "readfault") file)
 
 -- the word of a line that names a file whose page can't be had
@@ -51,15 +59,15 @@ gap_status OverLimit = status.TooLong
 
 -- a page can't be had: where the pages are told, it is that of the first such file; and the line of its file is taken
 pub record Lacks (words : List (List ℕ)) (pages : Option Pages) (before after : Option (List ℕ)) (gap : Gap) : Type 0 where
-  pub file : File
-  pub first : (told : Pages) → pages ≡ Some told → HasGap words told file gap
+  pub file : ℕ
+  pub first : (told : Pages) → pages ≡ Some told → LacksPage words told file gap
   pub line : after ≡ then_took before (file_line (gap_word gap) file)
 
 -- a text that may be printed: that of an outcome to which these words and pages may come
 pub record MayPrint (words : List (List ℕ)) (pages : Pages) (text : List ℕ) : Type 0 where
   pub outcome : Outcome
   pub says : Says words pages outcome
-  pub command : IsNoCommand outcome → folder_at words ≡ None
+  pub command : IsNoCommand outcome → command_at words ≡ None
   pub printed : text ≡ printed_of outcome
 
 -- a first part of a text is taken: where the pages are told, of one that may be printed

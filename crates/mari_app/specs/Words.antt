@@ -8,9 +8,14 @@ abbrev pub is_folder : List ℕ → Bool
 is_folder [] = false
 is_folder (b ∷ bs) = not (b == 45)
 
--- the folder that the words ask to clear
-abbrev pub folder_at : List (List ℕ) → Option (List ℕ)
-folder_at [] = None
-folder_at (command ∷ []) = None
-folder_at (command ∷ folder ∷ []) = if bytes_eq command (codes "clear") && is_folder folder then Some folder else None
-folder_at (command ∷ folder ∷ more ∷ words) = None
+-- a folder to clear, and how many nodes each run's search may make
+pub record Command : Type 0 where
+  pub folder : List ℕ
+  pub nodes : ℕ
+
+-- what the words ask for, if they are a command
+abbrev pub command_at : List (List ℕ) → Option Command
+command_at [] = None
+command_at (command ∷ []) = None
+command_at (command ∷ folder ∷ []) = if bytes_eq command (codes "clear") && is_folder folder then Some (record { folder = folder; nodes = 10000 }) else None
+command_at (command ∷ folder ∷ more ∷ words) = None

@@ -1,23 +1,15 @@
 //! Clears a folder of market files: `mari clear FOLDER`.
 //!
-//! `run_program` is the whole program over any shelf and sink: words, pages in order, a market, its clearing, its prices, and
-//! bytes. Its contract carries the headline (`specs/Headline.antt`). `main` calls it over real files and standard output.
+//! `run_program` is the whole program over any shelf and sink: words, the books of a folder, the text of their day, and bytes. Its contract carries the headline (`specs/Headline.antt`). `main` calls it over real files and standard output.
 #![tactic(auto)]
 
 mod arguments;
-mod block;
-mod day;
-mod files;
-mod form;
+mod books;
 mod outcome;
-mod pages;
-mod pricing;
+mod plain;
 mod program;
-mod records;
+mod refusals;
 mod status;
-#[cfg(test)]
-mod tests;
-mod text;
 mod words;
 mod writing;
 

@@ -1,54 +1,61 @@
 //! The top call.
 
 ghost use Rattle.std.specs.Prelude.{◌≡◌, ◌↔◌, ◌≢◌, ◌⊎◌, ℕ, None, Some, map, string_bytes};
-ghost use Rattle.mari_units.specs.declared.Refusal.{Refusal};
+ghost use Rattle.std.specs.Prelude.{◌≤◌, true, false};
+ghost use Rattle.mari_units.specs.declared.faults.Refusal.{Refusal};
 ghost use Rattle.mari_io.specs.Outside.{Counts, Pages, Rose};
 ghost use Rattle.mari_io.specs.declared.shelf.Fetch.TheVariants as fetch;
-ghost use Rattle.mari_app.specs.declared.files.File.{File};
-ghost use Rattle.mari_app.specs.Files.{Gap};
-ghost use Rattle.mari_app.specs.Files.Gap.{NotHeld, OverLimit};
+ghost use Rattle.mari_day.specs.Files.{Gap};
+ghost use Rattle.mari_day.specs.Files.Gap.{NotHeld, OverLimit};
 ghost use Rattle.mari_app.specs.Headline.{WroteDay};
-ghost use Rattle.mari_app.specs.Outcome.{HasGap, RefusesFile, Says, IsNoCommand, IsNoPage, Reports, Reported, fetch_line, fetch_status};
-ghost use Rattle.mari_app.specs.Printing.{file_line as file_text, usage_line as usage_text, then_took};
-ghost use Rattle.mari_app.specs.Program.{IsAccepted, not_built_at, IsRefused, IsReadFault, gap_status, Lacks, IsCutOff, Or};
-ghost use Rattle.mari_app.specs.Words.{folder_at};
+ghost use Rattle.mari_app.specs.Outcome.{day_comes_to, LacksPage, RefusesPages, Says, IsNoCommand, IsNoPage, NamesAPage, Reports, Reported, fetch_line, fetch_status};
+ghost use Rattle.mari_app.specs.Printing.{file_line as file_text, refused_line as refused_text, usage_line as usage_text, then_took};
+ghost use Rattle.mari_app.specs.Program.{HasBudget, IsAccepted, IsRefused, IsReadFault, gap_status, Lacks, IsCutOff, Or};
+ghost use Rattle.mari_app.specs.Words.{command_at};
 
-use crate::day::day_of;
-use crate::files::File;
-use crate::form::read_pages;
+use crate::books::accepted_books;
 use crate::outcome::Outcome;
-use crate::pages::{PagesFault, fetch_pages};
+use crate::plain::Plain;
 use crate::status::Status;
-use crate::words::folder_of;
-use crate::writing::{file_line, not_built_line, usage_line, write_all};
+use crate::words::command_of;
+use crate::writing::{file_line, refused_line, usage_line, write_all};
+use mari_day::{BooksFault, PrintedDay, day_of};
 use mari_io::{Fetch, Shelf, Sink};
 use mari_units::Refusal;
 use std::alloc::Global;
 
+/// What the text of a day comes to.
+fn day_outcome(day: PrintedDay) -> Outcome
+    ensures { result ≡ day_comes_to day }
+{
+    if day.unpublished == 0 {
+        Outcome::Day(day.text)
+    } else {
+        Outcome::PartOfDay(day.text)
+    }
+}
+
 /// What the words and the shelf's pages come to.
 fn outcome_of<S: Shelf>(alloc: Global, words: &[String], shelf: &mut S) -> Outcome
     ensures same { S.pages shelf.new ≡ S.pages shelf.old }
-    ensures command { IsNoCommand result ↔ (folder_at (map string_bytes words.now) ≡ None) }
+    ensures command { IsNoCommand result ↔ (command_at (map string_bytes words.now) ≡ None) }
     ensures told { (told : Pages) → S.pages shelf.old ≡ Some told → Says (map string_bytes words.now) told result }
+    ensures file { NamesAPage result }
     ensures failed { Counts (IsNoPage fetch.Failed result) (S.faults shelf.old) (S.faults shelf.new) }
     ensures missing { Counts (IsNoPage fetch.Missing result) (S.misses shelf.old) (S.misses shelf.new) }
     ensures too_long { Counts (IsNoPage fetch.TooLong result) (S.overs shelf.old) (S.overs shelf.new) }
 {
-    let Some(folder) = folder_of(words) else {
+    let Some(command) = command_of(words) else {
         return Outcome::NoCommand;
     };
-    let pages = match fetch_pages(alloc, shelf, folder) {
-        Ok(pages) => pages,
-        Err(PagesFault::Of(file, why)) => return Outcome::NoPage(file, why),
-        Err(PagesFault::NoMemory) => return Outcome::NoMemory,
-    };
-    let read = match read_pages(&pages) {
-        Ok(read) => read,
-        Err(file) => return Outcome::NotBuilt(file),
-    };
-    match day_of(alloc, &read) {
-        Ok(text) => Outcome::Day(text),
-        Err(_) => Outcome::NoMemory,
+    match accepted_books(alloc, shelf, command.folder) {
+        Ok(books) => match day_of(alloc, &books, command.nodes, &mut Plain) {
+            Ok(day) => day_outcome(day),
+            Err(_) => Outcome::NoMemory,
+        },
+        Err(BooksFault::Fetch(file, why)) => Outcome::NoPage(file, why),
+        Err(BooksFault::Refused(refusal)) => Outcome::Refused(refusal),
+        Err(BooksFault::Memory) => Outcome::NoMemory,
     }
 }
 
@@ -65,8 +72,9 @@ fn say<K: Sink>(sink: &mut K, text: &[u8], status: Status) -> Status
 }
 
 /// Writes a line that names a file.
-fn say_file<K: Sink>(alloc: Global, sink: &mut K, word: &[u8], file: File, status: Status) -> Status
-    requires { status ≢ Status.WriteFault }
+fn say_file<K: Sink>(alloc: Global, sink: &mut K, word: &[u8], file: u8, status: Status) -> Status
+    requires number { (1 ≤ file) × (file ≤ 7) }
+    requires status { status ≢ Status.WriteFault }
     ensures reports { Reports (file_text word.now file) status (K.taken sink.old) (K.taken sink.new) result }
     ensures cause { Counts (result ≡ Status.WriteFault) (K.faults sink.old) (K.faults sink.new) }
 {
@@ -77,7 +85,8 @@ fn say_file<K: Sink>(alloc: Global, sink: &mut K, word: &[u8], file: File, statu
 }
 
 /// Writes the line of a file whose page can't be had.
-fn say_no_page<K: Sink>(alloc: Global, sink: &mut K, file: File, why: Fetch) -> Status
+fn say_no_page<K: Sink>(alloc: Global, sink: &mut K, file: u8, why: Fetch) -> Status
+    requires { (1 ≤ file) × (file ≤ 7) }
     ensures reports { Reports (fetch_line file why) (fetch_status why) (K.taken sink.old) (K.taken sink.new) result }
     ensures cause { Counts (result ≡ Status.WriteFault) (K.faults sink.old) (K.faults sink.new) }
 {
@@ -89,17 +98,13 @@ fn say_no_page<K: Sink>(alloc: Global, sink: &mut K, file: File, why: Fetch) -> 
     }
 }
 
-/// Writes the line of a file that isn't in its first form.
-fn say_not_built<K: Sink>(alloc: Global, sink: &mut K, file: File) -> Status
-    ensures reports { Reported (Outcome.NotBuilt file) (K.taken sink.old) (K.taken sink.new) result }
+/// Writes the line of a refusal.
+fn say_refused<K: Sink>(alloc: Global, sink: &mut K, refusal: Refusal) -> Status
+    requires { (1 ≤ refusal.file) × (refusal.file ≤ 7) }
+    ensures reports { Reported (Outcome.Refused refusal) (K.taken sink.old) (K.taken sink.new) result }
     ensures cause { Counts (result ≡ Status.WriteFault) (K.faults sink.old) (K.faults sink.new) }
 {
-    let refusal = Refusal {
-        file: file.number(),
-        line: 1,
-        number: 20,
-    };
-    match not_built_line(alloc, file) {
+    match refused_line(alloc, refusal) {
         Ok(line) => say(sink, &line, Status::Refused(refusal)),
         Err(_) => Status::Memory,
     }
@@ -107,14 +112,16 @@ fn say_not_built<K: Sink>(alloc: Global, sink: &mut K, file: File) -> Status
 
 /// Writes what is printed of an outcome, and answers its status.
 fn report<K: Sink>(alloc: Global, sink: &mut K, outcome: &Outcome) -> Status
+    requires { NamesAPage outcome.now }
     ensures reported { Reported outcome.now (K.taken sink.old) (K.taken sink.new) result }
     ensures cause { Counts (result ≡ Status.WriteFault) (K.faults sink.old) (K.faults sink.new) }
 {
     match outcome {
         Outcome::NoCommand => say(sink, usage_line(), Status::Usage),
         Outcome::Day(text) => say(sink, text, Status::Done),
+        Outcome::PartOfDay(text) => say(sink, text, Status::Unpublished),
         Outcome::NoPage(file, why) => say_no_page(alloc, sink, *file, *why),
-        Outcome::NotBuilt(file) => say_not_built(alloc, sink, *file),
+        Outcome::Refused(refusal) => say_refused(alloc, sink, *refusal),
         Outcome::NoMemory => Status::Memory,
     }
 }
@@ -122,31 +129,35 @@ fn report<K: Sink>(alloc: Global, sink: &mut K, outcome: &Outcome) -> Status
 /// Does all that the program does: clears the folder that the words name, and prints its day, or says why not.
 ///
 /// `clear FOLDER` fetches the seven market files of the folder in their order and then reads them in that order. At this stage
-/// a file that isn't in its first form is refused as not built; the first form has one zone, at most one upward bid and at
-/// most one inelastic demand.
+/// the day has one form, no bid has a gate, no link goes to another quarter, and there is one scheduled run; what is in another
+/// form is refused as not built, after all other refusals.
 pub fn run_program<S: Shelf, K: Sink>(
     alloc: Global,
     words: &[String],
     shelf: &mut S,
     sink: &mut K,
 ) -> Status
-    // The headline: what is printed is a day of the pages.
+    // The headline: what is printed is a day of the pages, each run of which is published.
     ensures done { result ≡ Status.Done → (told : Pages) → S.pages shelf.old ≡ Some told
-        → WroteDay (map string_bytes words.now) told (K.taken sink.old) (K.taken sink.new) }
+        → WroteDay (map string_bytes words.now) told true (K.taken sink.old) (K.taken sink.new) }
+
+    // Or a day of the pages with a run that isn't, whose search tree is larger than the budget.
+    ensures unpublished { result ≡ Status.Unpublished → (told : Pages) → S.pages shelf.old ≡ Some told
+        → WroteDay (map string_bytes words.now) told false (K.taken sink.old) (K.taken sink.new) }
 
     ensures same { S.pages shelf.new ≡ S.pages shelf.old }
 
     // Words that are no command, and nothing else, are answered by the usage line.
-    ensures usage { result ≡ Status.Usage → folder_at (map string_bytes words.now) ≡ None }
+    ensures usage { result ≡ Status.Usage → command_at (map string_bytes words.now) ≡ None }
     ensures usage_line { result ≡ Status.Usage → K.taken sink.new ≡ then_took (K.taken sink.old) usage_text }
-    ensures no_command { folder_at (map string_bytes words.now) ≡ None
+    ensures no_command { command_at (map string_bytes words.now) ≡ None
         → (result ≡ Status.Usage) ⊎ (result ≡ Status.WriteFault) ⊎ (result ≡ Status.Memory) }
 
-    // The first file that isn't in its first form is refused.
+    // The first refusal of the pages: its file, line and check.
     ensures refused { (refusal : Refusal) → result ≡ Status.Refused refusal
         → IsRefused (map string_bytes words.now) (S.pages shelf.old) (K.taken sink.old) (K.taken sink.new) refusal }
-    ensures refuses { (told : Pages) (file : File) → S.pages shelf.old ≡ Some told → RefusesFile (map string_bytes words.now) told file
-        → Or (Status.Refused (not_built_at file)) result }
+    ensures refuses { (told : Pages) (refusal : Refusal) → S.pages shelf.old ≡ Some told → RefusesPages (map string_bytes words.now) told refusal
+        → Or (Status.Refused refusal) result }
 
     // A fetch that failed, and the first file whose page is missing or too long.
     ensures read_fault { Counts (result ≡ Status.ReadFault) (S.faults shelf.old) (S.faults shelf.new) }
@@ -157,7 +168,7 @@ pub fn run_program<S: Shelf, K: Sink>(
     ensures too_long { Counts (result ≡ Status.TooLong) (S.overs shelf.old) (S.overs shelf.new) }
     ensures too_long_file { result ≡ Status.TooLong
         → Lacks (map string_bytes words.now) (S.pages shelf.old) (K.taken sink.old) (K.taken sink.new) OverLimit }
-    ensures gaps { (told : Pages) (file : File) (gap : Gap) → S.pages shelf.old ≡ Some told → HasGap (map string_bytes words.now) told file gap
+    ensures gaps { (told : Pages) (file : ℕ) (gap : Gap) → S.pages shelf.old ≡ Some told → LacksPage (map string_bytes words.now) told file gap
         → Or (gap_status gap) result }
 
     // A write that failed, and want of memory, which leaves the sink as it was.
@@ -166,12 +177,14 @@ pub fn run_program<S: Shelf, K: Sink>(
         → IsCutOff (map string_bytes words.now) (S.pages shelf.old) (K.taken sink.old) (K.taken sink.new) }
     ensures memory { result ≡ Status.Memory → K.taken sink.new ≡ K.taken sink.old }
 
-    // Nothing is unpublished, and nothing is checked yet.
-    ensures published { result ≢ Status.Unpublished }
+    // Nothing is checked yet.
     ensures unchecked { (run fault : ℕ) → result ≢ Status.Invalid run fault }
 
-    // Pages that are accepted are cleared, where no count rose.
-    ensures complete { (told : Pages) → S.pages shelf.old ≡ Some told → IsAccepted (map string_bytes words.now) told
+    // Pages that are accepted are cleared, where no count rose; and wholly where the budget holds the run's search tree.
+    ensures cleared { (told : Pages) → S.pages shelf.old ≡ Some told → IsAccepted (map string_bytes words.now) told
+        → ((result ≡ Status.Done) ⊎ (result ≡ Status.Unpublished)) ⊎ Rose (S.faults shelf.old) (S.faults shelf.new) ⊎ Rose (K.faults sink.old) (K.faults sink.new)
+        ⊎ (result ≡ Status.Memory) }
+    ensures complete { (told : Pages) → S.pages shelf.old ≡ Some told → HasBudget (map string_bytes words.now) told
         → (result ≡ Status.Done) ⊎ Rose (S.faults shelf.old) (S.faults shelf.new) ⊎ Rose (K.faults sink.old) (K.faults sink.new)
         ⊎ (result ≡ Status.Memory) }
 {

@@ -1,13 +1,14 @@
 //! Writing a text until the sink has taken it whole, and the lines that name a file.
 
-ghost use Rattle.std.specs.Prelude.{◌≡◌, ◌≤◌, ◌≢◌, ◌⊎◌, ℕ, take, OnOk, OnErr, IsErr, IfOk};
+ghost use Rattle.std.specs.Prelude.{◌≡◌, ◌≤◌, ◌≢◌, ◌⊎◌, ℕ, take, OnOk, OnErr, IsErr, IfOk, ◌++◌};
+ghost use Rattle.std.specs.Fmt.{decimal};
 ghost use Rattle.mari_io.specs.Outside.{Counts};
-ghost use Rattle.mari_app.specs.Printing.{then_took, usage_line as usage_text, file_line as file_text, not_built_line as not_built_text};
+ghost use Rattle.mari_app.specs.Printing.{then_took, usage_line as usage_text, file_line as file_text, refused_line as refused_text};
 
-use crate::files::File;
-use crate::text::put;
+use crate::refusals::check_name;
+use mari_day::file_name;
 use mari_io::{Failed, Sink};
-use mari_units::Memory;
+use mari_units::{Memory, Refusal};
 use std::alloc::Global;
 
 /// Writes the whole text. After an error the sink has taken a first part of it.
@@ -35,25 +36,50 @@ pub fn usage_line() -> &'static [u8]
     b"usage: mari clear FOLDER\n"
 }
 
-/// The line of a file whose page can't be had.
-pub fn file_line(alloc: Global, word: &[u8], file: File) -> Result<Vec<u8>, Memory>
+/// Appends a piece.
+fn put(out: &mut Vec<u8>, piece: &[u8]) -> Result<(), Memory>
+    ensures { OnOk result (out.new.items ≡ out.old.items ++ piece.now) }
+{
+    Ok(out.extend_from_slice(piece)?)
+}
+
+/// Appends a number.
+fn put_number(alloc: Global, out: &mut Vec<u8>, number: u32) -> Result<(), Memory>
+    ensures { OnOk result (out.new.items ≡ out.old.items ++ decimal number) }
+{
+    put(out, number.to_string(alloc)?.as_bytes())
+}
+
+/// The line of a file, by its number from 1, whose page can't be had.
+pub fn file_line(alloc: Global, word: &[u8], file: u8) -> Result<Vec<u8>, Memory>
+    requires { (1 ≤ file) × (file ≤ 7) }
     ensures { IfOk result (λ line. line.items ≡ file_text word.now file) }
 {
     let mut line = Vec::new(alloc);
     put(&mut line, word)?;
     put(&mut line, b" ")?;
-    put(&mut line, file.name().as_bytes())?;
+    put(&mut line, file_name(file).as_bytes())?;
     put(&mut line, b"\n")?;
     Ok(line)
 }
 
-/// The line of a file that isn't in its first form.
-pub fn not_built_line(alloc: Global, file: File) -> Result<Vec<u8>, Memory>
-    ensures { IfOk result (λ line. line.items ≡ not_built_text file) }
+/// The line of a refusal.
+pub fn refused_line(alloc: Global, refusal: Refusal) -> Result<Vec<u8>, Memory>
+    requires { (1 ≤ refusal.file) × (refusal.file ≤ 7) }
+    ensures { IfOk result (λ line. line.items ≡ refused_text refusal) }
 {
     let mut line = Vec::new(alloc);
     put(&mut line, b"refused ")?;
-    put(&mut line, file.name().as_bytes())?;
-    put(&mut line, b" 1 20 NotBuilt\n")?;
+    put(&mut line, file_name(refusal.file).as_bytes())?;
+    put(&mut line, b" ")?;
+    put_number(alloc, &mut line, refusal.line)?;
+    put(&mut line, b" ")?;
+    put_number(alloc, &mut line, u32::from(refusal.number))?;
+    put(&mut line, b" ")?;
+    put(
+        &mut line,
+        check_name(refusal.file, refusal.number).as_bytes(),
+    )?;
+    put(&mut line, b"\n")?;
     Ok(line)
 }

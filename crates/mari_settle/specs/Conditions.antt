@@ -99,3 +99,13 @@ pub record LedgerIsWithin (most : ℕ) (ledger : Ledger) : Type 0 where
   pub operators : All (LineIsWithin most) ledger.operators
   pub providers : All (IsWithin most) ledger.providers
   pub rents : All (IsWithin most) ledger.rents
+
+-- the numbers of one run's ledger are small: within 10^17 quarter-cents of 0
+abbrev pub IsSmall : Quarters → Type 0
+IsSmall a = IsWithin (10 ^ 17) a
+
+abbrev pub IsSmallLine : OperatorLine → Type 0
+IsSmallLine line = LineIsWithin (10 ^ 17) line
+
+abbrev pub HasSmallNumbers : Ledger → Type 0
+HasSmallNumbers ledger = LedgerIsWithin (10 ^ 17) ledger

@@ -1,11 +1,11 @@
 //! The ledger of one run.
 
-ghost use Rattle.std.specs.Prelude.{◌≡◌, ◌^◌, length, pos, ◌≤ℤ◌};
+ghost use Rattle.std.specs.Prelude.{◌≡◌, length, pos, ◌≤ℤ◌};
 ghost use Rattle.std.specs.List.{All};
 ghost use Rattle.mari_market.specs.Market.{IsValid};
 ghost use Rattle.mari_market.specs.Optimal.{IsConsistent, IsFeasible};
 ghost use Rattle.mari_market.specs.Sums.{int_sum};
-ghost use Rattle.mari_settle.specs.Conditions.{FitsRun, HasOperators, HasProviders, LedgerIsWithin, NameOrders};
+ghost use Rattle.mari_settle.specs.Conditions.{FitsRun, HasOperators, HasProviders, HasSmallNumbers, NameOrders};
 ghost use Rattle.mari_settle.specs.Ledger.{net_of, operator_lines, provider_amounts, rents_of};
 
 use crate::ledger::Ledger;
@@ -49,7 +49,7 @@ pub fn settle_run(
     ensures nets_sum_to_0 { int_sum net_of ledger.new.operators ≡ pos 0 }
 
     // So a day's ledgers can be added up.
-    ensures within { LedgerIsWithin (10 ^ 17) ledger.new }
+    ensures small { HasSmallNumbers ledger.new }
 {
     let prices = prices.cents.as_slice();
     write_rents(ledger.rents.as_mut_slice(), market, activation, prices);

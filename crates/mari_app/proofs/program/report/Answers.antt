@@ -10,5 +10,8 @@ returns-in-Day-clause-reported g c = rw c.in-Day.is (same_text _ _ _ _ _ _ c.der
 pub returns-in-NoPage-clause-reported : goal.returns-in-NoPage-clause-reported
 returns-in-NoPage-clause-reported g c = rw c.in-NoPage.is c.say_no_page.ensures.reports
 
-pub returns-in-NotBuilt-clause-reported : goal.returns-in-NotBuilt-clause-reported
-returns-in-NotBuilt-clause-reported g c = rw c.in-NotBuilt.is c.say_not_built.ensures.reports
+pub returns-in-Refused-clause-reported : goal.returns-in-Refused-clause-reported
+returns-in-Refused-clause-reported g c = rw c.in-Refused.is c.say_refused.ensures.reports
+
+pub returns-in-PartOfDay-clause-reported : goal.returns-in-PartOfDay-clause-reported
+returns-in-PartOfDay-clause-reported g c = rw c.in-PartOfDay.is (same_text _ _ _ _ _ _ c.deref-in-PartOfDay.ensures.value c.say-in-PartOfDay.ensures.reports)

@@ -1,0 +1,126 @@
+//! The names of the checks by which a file may be refused.
+
+ghost use Rattle.std.specs.Prelude.{◌≡◌, ℕ};
+ghost use Rattle.mari_app.specs.Refusals.{check_name as check_named, zone_check as zone_checks, border_check as border_checks, bid_check as bid_checks, link_check as link_checks, run_check as run_checks, demand_check as demand_checks, own_check as own_checks};
+
+/// A check of zones.csv.
+#[tactic(auto, unfolding(crate::specs::Refusals::zone_check))]
+fn zone_check(number: u8) -> &'static str
+    ensures { result.now ≡ zone_checks number }
+{
+    match number {
+        11 => "TooManyZones",
+        12 => "BadField",
+        13 => "Repeated",
+        14 => "NoZone",
+        _ => "",
+    }
+}
+
+/// A check of borders.csv.
+#[tactic(auto, unfolding(crate::specs::Refusals::border_check))]
+fn border_check(number: u8) -> &'static str
+    ensures { result.now ≡ border_checks number }
+{
+    match number {
+        11 => "TooManyBorders",
+        12 => "Unknown",
+        13 => "SelfBorder",
+        14 => "Repeated",
+        15 => "Range",
+        _ => "",
+    }
+}
+
+/// A check of bids.csv.
+#[tactic(auto, unfolding(crate::specs::Refusals::bid_check))]
+fn bid_check(number: u8) -> &'static str
+    ensures { result.now ≡ bid_checks number }
+{
+    match number {
+        11 => "BadField",
+        12 => "Repeated",
+        13 => "UnknownZone",
+        14 => "Quarter",
+        15 => "Range",
+        16 => "LeastAboveGreatest",
+        17 => "TooMany",
+        _ => "",
+    }
+}
+
+/// A check of links.csv.
+#[tactic(auto, unfolding(crate::specs::Refusals::link_check))]
+fn link_check(number: u8) -> &'static str
+    ensures { result.now ≡ link_checks number }
+{
+    match number {
+        11 => "BadKind",
+        12 => "UnknownBid",
+        13 => "WrongQuarter",
+        14 => "ParentNotEarlier",
+        15 => "Repeated",
+        16 => "BadField",
+        17 => "TooManyGates",
+        _ => "",
+    }
+}
+
+/// A check of runs.csv.
+#[tactic(auto, unfolding(crate::specs::Refusals::run_check))]
+fn run_check(number: u8) -> &'static str
+    ensures { result.now ≡ run_checks number }
+{
+    match number {
+        11 => "BadField",
+        12 => "RunsOutOfOrder",
+        13 => "Quarter",
+        14 => "Range",
+        15 => "TooMany",
+        _ => "",
+    }
+}
+
+/// A check of demands.csv.
+#[tactic(auto, unfolding(crate::specs::Refusals::demand_check))]
+fn demand_check(number: u8) -> &'static str
+    ensures { result.now ≡ demand_checks number }
+{
+    match number {
+        11 => "BadField",
+        12 => "UnknownRun",
+        13 => "UnknownZone",
+        14 => "Range",
+        15 => "TooMany",
+        _ => "",
+    }
+}
+
+/// A check of one file's own book, by the file's number from 1.
+fn own_check(file: u8, number: u8) -> &'static str
+    ensures { result.now ≡ own_checks file number }
+{
+    match file {
+        2 => zone_check(number),
+        3 => border_check(number),
+        4 => bid_check(number),
+        5 => link_check(number),
+        6 => run_check(number),
+        7 => demand_check(number),
+        _ => "",
+    }
+}
+
+/// The name of a check, by its file's number from 1 and its own.
+#[tactic(auto, unfolding(crate::specs::Refusals::check_name))]
+pub fn check_name(file: u8, number: u8) -> &'static str
+    ensures { result.now ≡ check_named file number }
+{
+    match number {
+        1 => "BadHeader",
+        2 => "BadRow",
+        3 => "NotUtf8",
+        20 => "NotBuilt",
+        _ => own_check(file, number),
+    }
+}

@@ -10,6 +10,8 @@ mod plain;
 mod program;
 mod refusals;
 mod status;
+#[cfg(test)]
+mod tests;
 mod words;
 mod writing;
 

@@ -39,7 +39,9 @@ fn clear_relaxed(alloc: Global, market: &Market) -> Result<Clearing, Memory>
         return Err(Memory);
     };
     let Relaxed {
-        potentials, best, ..
+        potentials,
+        best,
+        ..
     } = relaxed;
     match best {
         Some(best) => clearing_of(alloc, best, potentials),

@@ -1,5 +1,5 @@
 use Rattle.std.proofs.Common.{◌⊎◌, [], inl, inr}
-use Rattle.mari_app.proofs.Answers.{done, read_fault, missing, too_long, refusal_answer, accepted_answer}
+use Rattle.mari_app.proofs.Answers.{done, part, read_fault, missing, too_long, refusal_answer, accepted_answer, complete_answer}
 use Rattle.mari_app.proofs.program.run_program.Goals as goal
 
 -- the answers that are left, with the causes of two of them
@@ -24,7 +24,15 @@ returns-clause-missing_file g c = λ e. missing _ c.outcome_of-outcome.result _ 
 pub returns-clause-too_long_file : goal.returns-clause-too_long_file
 returns-clause-too_long_file g c = λ e. too_long _ c.outcome_of-outcome.result _ _ _ _ c.outcome_of-outcome.ensures.told c.report.ensures.reported e
 
+pub returns-clause-unpublished : goal.returns-clause-unpublished
+returns-clause-unpublished g c = λ e told t. part _ c.outcome_of-outcome.result told _ _ _ (c.outcome_of-outcome.ensures.told told t) c.report.ensures.reported e
+
+pub returns-clause-cleared : goal.returns-clause-cleared
+returns-clause-cleared g c = λ told t h.
+    with_causes c.outcome_of-outcome.ensures.failed.rose c.report.ensures.cause.rose
+    (accepted_answer _ c.outcome_of-outcome.result told _ _ _ (c.outcome_of-outcome.ensures.told told t) c.outcome_of-outcome.ensures.command.0 c.report.ensures.reported h)
+
 pub returns-clause-complete : goal.returns-clause-complete
 returns-clause-complete g c = λ told t h.
     with_causes c.outcome_of-outcome.ensures.failed.rose c.report.ensures.cause.rose
-    (accepted_answer _ c.outcome_of-outcome.result told _ _ _ (c.outcome_of-outcome.ensures.told told t) c.outcome_of-outcome.ensures.command.0 c.report.ensures.reported h)
+    (complete_answer _ c.outcome_of-outcome.result told _ _ _ (c.outcome_of-outcome.ensures.told told t) c.outcome_of-outcome.ensures.command.0 c.report.ensures.reported h)

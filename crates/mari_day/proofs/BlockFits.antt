@@ -24,7 +24,7 @@ use Rattle.mari_remain.specs.Accepted.{IsAccepted}
 use Rattle.mari_remain.specs.RunMarket.{market_at, numbers_of, demands_of_run, run_at}
 use Rattle.mari_remain.specs.declared.books.Books.{Books}
 use Rattle.mari_remain.proofs.Validity.{there, few, few_numbers}
-use Rattle.mari_settle.specs.Conditions.{IsWithin, LineIsWithin}
+use Rattle.mari_settle.specs.Conditions.{IsSmall, IsSmallLine}
 use Rattle.mari_settle.specs.Lines.{map_along, nothing}
 use Rattle.mari_settle.specs.declared.ledger.OperatorLine.{OperatorLine}
 use Rattle.mari_day.specs.Assembled.{HasShapes, IsAssembled, IsPriced}
@@ -48,20 +48,20 @@ of-map f Q xs ys same all = λ k d l.
 as-many : {X Y : Type 0} (f : X → Y) (xs : List X) (ys : List Y) → map f xs ≡ ys → length xs ≡ length ys
 as-many f xs ys same = sym (length-map xs f) ∙ ap length same
 
-pub money : (q : Quarters) → IsWithin (10 ^ 17) q → IsMoney q
+pub money : (q : Quarters) → IsSmall q → IsMoney q
 money q small = omega (arith, small)
 
-net : (l : OperatorLine) → LineIsWithin (10 ^ 17) l → Within 4000000000000000000 (l.payment.0 -ℤ l.rent.0)
+net : (l : OperatorLine) → IsSmallLine l → Within 4000000000000000000 (l.payment.0 -ℤ l.rent.0)
 net l small = grind (arith, ints, small.payment, small.rent)
 
 -- the lines of operators, from their names and small numbers
-pub lines-fit : (names : List (List ℕ)) (lines : List OperatorLine) → All IsName names → All (LineIsWithin (10 ^ 17)) lines → All IsMoneyLine (map_along money_line names lines)
+pub lines-fit : (names : List (List ℕ)) (lines : List OperatorLine) → All IsName names → All IsSmallLine lines → All IsMoneyLine (map_along money_line names lines)
 lines-fit [] lines n s = All-nil IsMoneyLine
 lines-fit (name ∷ names) [] n s = All-nil IsMoneyLine
 lines-fit (name ∷ names) (l ∷ lines) n s =
-    let own = All-head (LineIsWithin (10 ^ 17)) l lines s in
+    let own = All-head IsSmallLine l lines s in
     All-cons IsMoneyLine (money_line name l) _ (All-head IsName name names n, money l.payment own.payment, money l.rent own.rent, net l own)
-    (lines-fit names lines (All-tail IsName name names n) (All-tail (LineIsWithin (10 ^ 17)) l lines s))
+    (lines-fit names lines (All-tail IsName name names n) (All-tail IsSmallLine l lines s))
 
 module _ (books : Books) (ok : IsAccepted books) (dated : IsDated books) (budget run : ℕ) (clearing : Clearing) (priced : Priced) (b : FullBlock) (is : IsAssembled books run clearing priced b)
     (shapes : HasShapes books run clearing priced) (p : IsPriced books run clearing priced) (valid : IsValid (market_at books run)) (feasible : IsFeasible (market_at books run) clearing.activation) where
@@ -84,7 +84,7 @@ module _ (books : Books) (ok : IsAccepted books) (dated : IsDated books) (budget
       let to = of-map (λ (l : BorderLine). l.to) IsName b.borders _ is.borders.to (ends-named (λ x. x.to) (λ x h. h.to)) in
       let flows = flows-fit (market_at books run) valid clearing.activation feasible in
       let flow = of-map (λ (l : BorderLine). l.flow) (λ f. Within 199998 f) b.borders _ is.borders.flow flows.1 in
-      let rents = of-map (λ (l : BorderLine). l.rent) IsMoney b.borders _ is.borders.rents (All-weaker (IsWithin (10 ^ 17)) IsMoney money priced.ledger.rents p.small.rents) in
+      let rents = of-map (λ (l : BorderLine). l.rent) IsMoney b.borders _ is.borders.rents (All-weaker IsSmall IsMoney money priced.ledger.rents p.small.rents) in
       let many = as-many (λ (l : BorderLine). l.flow) b.borders _ is.borders.flow in
       ((omega arith, omega (arith, many, flows.0.1)), λ k d l. (from k d l, to k d l, flow k d l, rents k d l))
 

@@ -1,5 +1,5 @@
 -- A block put together from what was computed of a run.
-use Rattle.std.specs.Prelude.{◌≡◌, ◌≤◌, ◌^◌, ℕ, List, length, map, take, drop}
+use Rattle.std.specs.Prelude.{◌≡◌, ◌≤◌, ℕ, List, length, map, take, drop}
 use Rattle.mari_units.specs.declared.numbers.Cents.{Cents}
 use Rattle.mari_zones.specs.declared.borders.BorderEnds.{BorderEnds}
 use Rattle.mari_market.specs.declared.clearing.Clearing.{Clearing}
@@ -14,7 +14,7 @@ use Rattle.mari_market.specs.Interval.{AreLeastPrices, AreGreatestPrices, ArePub
 use Rattle.mari_market.specs.Optimal.{IsConsistent}
 use Rattle.mari_settle.specs.Ledger.{operator_lines, provider_amounts, rents_of}
 use Rattle.mari_settle.specs.declared.ledger.Ledger.{Ledger}
-use Rattle.mari_settle.specs.Conditions.{LedgerIsWithin}
+use Rattle.mari_settle.specs.Conditions.{HasSmallNumbers}
 use Rattle.mari_day.specs.declared.pricing.Pricing.{Pricing}
 use Rattle.mari_day.specs.declared.block.Priced.{Priced}
 use Rattle.mari_day.specs.Money.{amount_line, money_lines_of, providers_among}
@@ -64,7 +64,7 @@ pub record HasShapes (books : Books) (run : ℕ) (clearing : Clearing) (priced :
   pub mw : length (numbers_of books run) ≤ length clearing.activation.mw
   pub operators : length priced.ledger.operators ≡ length books.zones.operators
   pub providers : length priced.ledger.providers ≡ length books.bids.providers
-  pub small : LedgerIsWithin (10 ^ 17) priced.ledger
+  pub small : HasSmallNumbers priced.ledger
 
 -- the prices, areas and ledger of a run's clearing
 pub record IsPriced (books : Books) (run : ℕ) (clearing : Clearing) (priced : Priced) : Type 0 where
@@ -76,4 +76,4 @@ pub record IsPriced (books : Books) (run : ℕ) (clearing : Clearing) (priced : 
   pub operators : priced.ledger.operators ≡ operator_lines books.zones (market_at books run) clearing.activation priced.pricing.published.cents
   pub providers : priced.ledger.providers ≡ provider_amounts books.bids (numbers_of books run) clearing.activation priced.pricing.published.cents
   pub rents : priced.ledger.rents ≡ rents_of (market_at books run) clearing.activation priced.pricing.published.cents
-  pub small : LedgerIsWithin (10 ^ 17) priced.ledger
+  pub small : HasSmallNumbers priced.ledger

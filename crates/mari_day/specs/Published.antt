@@ -1,5 +1,5 @@
 -- A published run: what its block promises.
-use Rattle.std.specs.Prelude.{◌≡◌, ◌^◌, ℕ, List, [], ◌∷◌, length, map, replicate}
+use Rattle.std.specs.Prelude.{◌≡◌, ◌≤◌, ◌+◌, ℕ, ℤ, pos, List, [], ◌∷◌, length, map, replicate}
 use Rattle.std.specs.List.{range_with_len}
 use Rattle.mari_units.specs.declared.numbers.Quarters.{Quarters}
 use Rattle.mari_market.specs.declared.clearing.Spent.{Spent}
@@ -19,7 +19,7 @@ use Rattle.mari_settle.specs.Lines.{no_line, nothing}
 use Rattle.mari_publish.specs.Lines.{published_in, unpublished_in}
 use Rattle.mari_publish.specs.Ranges.{HasText}
 use Rattle.mari_publish.specs.Spelling.{text_of}
-use Rattle.mari_settle.specs.Conditions.{LedgerIsWithin}
+use Rattle.mari_settle.specs.Conditions.{HasSmallNumbers}
 use Rattle.mari_settle.specs.declared.ledger.Ledger.{Ledger}
 use Rattle.mari_day.specs.declared.day.PrintedDay.{PrintedDay}
 use Rattle.mari_day.specs.Run.{activation_of, clearing_of, heading_of, prices_of, HasPrices, NamesMarket}
@@ -86,7 +86,7 @@ pub record IsDay (books : Books) (nodes : ℕ) (p : Publication) : Type 0 where
 pub record HasEntries (books : Books) (ledger : Ledger) : Type 0 where
   pub operators : length ledger.operators ≡ length books.zones.operators
   pub providers : length ledger.providers ≡ length books.bids.providers
-  pub small : LedgerIsWithin (10 ^ 17) ledger
+  pub small : HasSmallNumbers ledger
 
 -- the text of such a day, and how many of its blocks are published, and how many are not
 pub record IsPrintedDay (books : Books) (nodes : ℕ) (day : PrintedDay) : Type 0 where

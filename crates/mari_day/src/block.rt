@@ -1,6 +1,6 @@
 //! The block of a run.
 
-ghost use Rattle.std.specs.Prelude.{◌≡◌, ◌≤◌, ◌<◌, ◌==◌, ◌^◌, ℕ, List, IfOk, OnOk, true, length, map};
+ghost use Rattle.std.specs.Prelude.{◌≡◌, ◌≤◌, ◌<◌, ◌==◌, ℕ, List, IfOk, OnOk, true, length, map};
 ghost use Rattle.std.specs.List.{All, list_any};
 ghost use Rattle.mari_units.specs.Names.{is_name};
 ghost use Rattle.mari_market.specs.Clearing.{IsClearing};
@@ -10,7 +10,7 @@ ghost use Rattle.mari_publish.specs.Ranges.{FullFits};
 ghost use Rattle.mari_remain.specs.Accepted.{IsAccepted};
 ghost use Rattle.mari_remain.specs.RunMarket.{bid_at, numbers_of, run_market_of};
 ghost use Rattle.mari_day.specs.Assembled.{HasShapes, IsAssembled, IsPriced};
-ghost use Rattle.mari_settle.specs.Conditions.{LedgerIsWithin};
+ghost use Rattle.mari_settle.specs.Conditions.{HasSmallNumbers};
 ghost use Rattle.mari_settle.specs.Ledger.{operator_lines, provider_amounts, rents_of};
 ghost use Rattle.mari_day.specs.Dated.{IsDated};
 ghost use Rattle.mari_day.specs.Money.{amount_line, money_lines_of, providers_among, with_number};
@@ -157,7 +157,7 @@ fn ledger_of(
     ensures operators { IfOk result (λ ledger. ledger.operators ≡ operator_lines books.now.zones made.now.market activation.now prices.now.cents) }
     ensures providers { IfOk result (λ ledger. ledger.providers ≡ provider_amounts books.now.bids made.now.bids activation.now prices.now.cents) }
     ensures rents { IfOk result (λ ledger. ledger.rents ≡ rents_of made.now.market activation.now prices.now.cents) }
-    ensures small { IfOk result (LedgerIsWithin (10 ^ 17)) }
+    ensures small { IfOk result HasSmallNumbers }
 {
     let mut ledger = Ledger::start(alloc, &books.zones, &books.borders, &books.bids)?;
     settle_run(

@@ -28,7 +28,7 @@ use Rattle.mari_market.specs.Prefix.{bounds_of_word, children}
 use Rattle.mari_market.specs.Price.{ArePrices}
 use Rattle.mari_market.specs.Sums.{int_sum}
 use Rattle.mari_market.specs.Tree.{AreParts, LeafHolds, TreeHolds}
-use Rattle.mari_publish.specs.Ranges.{InRange, IsPriceLine, IsZone, ItemFits, Listed, Rises, Within}
+use Rattle.mari_publish.specs.Ranges.{InRange, IsPriceLine, IsZone, ItemFits, Listed, Within}
 use Rattle.mari_publish.specs.declared.line.Line.TheVariants as line
 
 -- side by side, and each of the first list has a property too
@@ -77,18 +77,14 @@ module _ (m : Market) (v : IsValid m) where
   rising-length least [] r = omega arith
   rising-length least (z ∷ zs) r = omega (arith, r.0, r.1, rising-length (z + 1) zs r.2)
 
-  rising-zones : (least : ℕ) (zones : List ℕ) → IsRising least m.zones zones → All IsZone zones
-  rising-zones least [] r = All-nil IsZone
-  rising-zones least (z ∷ zs) r = All-cons IsZone z zs (omega (arith, r.1, v.zones.1)) (rising-zones (z + 1) zs r.2)
-
-  rises : (least : ℕ) (zones : List ℕ) → IsRising least m.zones zones → Rises zones
-  rises least [] r = tt
-  rises least (z ∷ []) r = tt
-  rises least (z ∷ y ∷ ys) r = (omega (arith, r.2.0), rises (z + 1) (y ∷ ys) r.2)
+  -- numbers below those of the market's zones are below 64
+  rising-within : (least : ℕ) (zones : List ℕ) → IsRising least m.zones zones → IsRising least 64 zones
+  rising-within least [] r = tt
+  rising-within least (z ∷ zs) r = (r.0, omega (arith, r.1, v.zones.1), rising-within (z + 1) zs r.2)
 
   cut-fits : (word : List Bool) (cut : CutRecord) → IsCut (bounds_of_word m word) m cut → InRange (line.Cut cut)
   cut-fits word cut c =
-      (((cut-some (bounds_of_word m word) cut.side cut.zones c.side, omega (arith, rising-length 0 cut.zones c.zones, v.zones.1)), rising-zones 0 cut.zones c.zones), rises 0 cut.zones c.zones)
+      ((cut-some (bounds_of_word m word) cut.side cut.zones c.side, omega (arith, rising-length 0 cut.zones c.zones, v.zones.1)), rising-within 0 cut.zones c.zones)
 
   chain-some : (a : Activation) (zones : List ℕ) → IsContradiction m a zones → 1 ≤ length zones
   chain-some a [] c = absurd c

@@ -100,6 +100,21 @@ fn a_text_that_is_cut_off_is_truncated(rt: HostRuntime) -> Result<(), Fail> {
 }
 
 #[test]
+fn a_text_cut_at_any_byte_is_truncated_in_its_last_line(rt: HostRuntime) -> Result<(), Fail> {
+    let alloc = rt.alloc();
+    let text = TWO_ZONES.as_bytes();
+    let mut line: u32 = 1;
+    for (count, byte) in text.iter().enumerate() {
+        let fault = read_text(alloc, &text[..count]).err();
+        assert_eq!(rt; fault, Some(TextFault::Truncated(line)));
+        if *byte == b'\n' {
+            line = line.wrapping_add(1);
+        }
+    }
+    Ok(())
+}
+
+#[test]
 fn a_line_of_no_form_is_a_bad_line(rt: HostRuntime) -> Result<(), Fail> {
     let alloc = rt.alloc();
     for line in [

@@ -1,0 +1,43 @@
+-- A search of one actor that visits nodes in the order in which they are made.
+use Rattle.std.specs.Prelude.{◌≡◌, ℕ, ◌<◌, ◌≤◌, Bool, true, List, length, Option, Some, None}
+use Rattle.mari_market.specs.declared.market.Market.{Market}
+use Rattle.mari_market.specs.declared.finding.Attained.{Attained}
+use Rattle.mari_market.specs.declared.finding.Finding.{Finding}
+use Rattle.mari_market.specs.declared.finding.Finding.TheVariants.{Empty, Relaxed}
+use Rattle.mari_market.specs.Finding.{IsFinding}
+use Rattle.mari_core.specs.declared.event.Event.TheVariants.{Offer, Take, Settle}
+use Rattle.mari_core.specs.declared.node.NodeState.TheVariants.{Untaken}
+use Rattle.mari_core.specs.Machine.{Machine, after, KeepsFacts}
+use Rattle.mari_core.specs.Nodes.{TreeNode, state_at}
+use Rattle.mari_core.specs.Preorder.{is_done}
+
+-- the nodes below this number are branched or closed, and those from it on wait
+pub record IsSwept (nodes : List TreeNode) (n : ℕ) : Type 0 where
+  pub done : (x : ℕ) → x < n → is_done (state_at nodes x) ≡ true
+  pub waits : (x : ℕ) → n ≤ x → x < length nodes → state_at nodes x ≡ Some Untaken
+
+-- a search of the market that has visited the nodes below this number
+pub record IsUnderWay (m : Market) (s : Machine) (n : ℕ) : Type 0 where
+  pub market : s.tree.market ≡ m
+  pub facts : KeepsFacts s
+  pub swept : IsSwept s.tree.nodes n
+
+-- the activation that a finding has, if it has one
+abbrev pub best_in : Finding → Option Attained
+best_in (Empty cut) = None
+best_in (Relaxed r) = r.best
+
+-- the search after the one actor's offer, if there is one
+abbrev pub after_offer : Machine → Option Attained → Machine
+after_offer s None = s
+after_offer s (Some best) = after s (Offer 0 best)
+
+-- the search after a node is taken, what is found there is offered, and the node is settled with it
+abbrev pub visited : Machine → ℕ → Finding → Machine
+visited s x finding = after (after_offer (after s (Take 0 x)) (best_in finding)) (Settle 0 x finding)
+
+-- the search has visited the node of this number and word, with what may be found there
+pub record IsVisited (m : Market) (old new : Machine) (x : ℕ) (word : List Bool) : Type 0 where
+  pub finding : Finding
+  pub is_finding : IsFinding m word finding
+  pub change : new ≡ visited old x finding

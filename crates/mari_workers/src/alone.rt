@@ -1,0 +1,146 @@
+//! The search of one actor.
+
+ghost use Rattle.std.specs.Prelude.{◌≡◌, ◌≤◌, None, Some, slice_get, IfOk, IfSome, OnOk};
+ghost use Rattle.mari_core.specs.Machine.{after, refusal, IsProper, KeepsFacts};
+ghost use Rattle.mari_core.specs.Nodes.{words_of};
+ghost use Rattle.mari_market.specs.Clearing.{Clears};
+ghost use Rattle.mari_market.specs.Finding.{IsAttained};
+ghost use Rattle.mari_market.specs.Market.{IsValid};
+ghost use Rattle.mari_market.specs.Prefix.{word_of, IsFeasiblePrefix};
+ghost use Rattle.mari_workers.specs.Alone.{best_in, after_offer, IsUnderWay, IsVisited};
+
+use crate::first::first_of;
+use mari_core::{Event, FinishFault, Search};
+use mari_market::{Cleared, Clearer, Finding, Market, Prefix, Relaxed, Spent};
+use mari_node::examine;
+use mari_units::{Items, Memory};
+use std::alloc::Global;
+
+/// The number of the one actor.
+const ACTOR: u32 = 0;
+
+/// Takes a step that nothing but want of memory can refuse.
+fn step(search: &mut Search<'_>, event: Event) -> Result<(), Memory>
+    requires proper { IsProper search.old event }
+    requires accepted { refusal search.old event ≡ None }
+    ensures change { OnOk result (search.new ≡ after search.old event) }
+    ensures facts { KeepsFacts search.new }
+{
+    match search.step(event) {
+        Ok(()) => Ok(()),
+        Err(_) => Err(Memory),
+    }
+}
+
+/// Offers the best activation of a finding, if it has one.
+fn offer_best(search: &mut Search<'_>, finding: &Finding) -> Result<(), Memory>
+    requires facts { KeepsFacts search.old }
+    requires attained { IfSome (best_in finding.now) (IsAttained search.old.tree.market) }
+    ensures offered { OnOk result (search.new ≡ after_offer search.old (best_in finding.now)) }
+    ensures facts { KeepsFacts search.new }
+{
+    match finding {
+        Finding::Relaxed(
+            Relaxed {
+                best: Some(best),
+                ..
+            },
+        ) => {
+            let attained = best.clone()?;
+            step(
+                search,
+                Event::Offer {
+                    actor: ACTOR,
+                    attained,
+                },
+            )
+        }
+        Finding::Relaxed(_) | Finding::Empty(_) => Ok(()),
+    }
+}
+
+/// Takes a node, and settles it with what is found there.
+///
+/// What is found is offered first, so the node is settled at the greatest welfare that is known by then.
+fn visit(
+    alloc: Global,
+    market: &Market,
+    search: &mut Search<'_>,
+    node: u32,
+    prefix: &Prefix,
+) -> Result<(), Memory>
+    requires under_way { IsUnderWay market.now search.old node }
+    requires word { slice_get (words_of search.old.tree.nodes) node ≡ Some (word_of prefix.now) }
+    requires feasible { IsFeasiblePrefix market.now prefix.now }
+    ensures visited { OnOk result (IsVisited market.now search.old search.new node (word_of prefix.now)) }
+    ensures facts { KeepsFacts search.new }
+{
+    step(search, Event::Take { actor: ACTOR, node })?;
+    let finding = examine(alloc, market, prefix)?;
+    offer_best(search, &finding)?;
+    step(
+        search,
+        Event::Settle {
+            actor: ACTOR,
+            node,
+            finding,
+        },
+    )
+}
+
+/// Visits the nodes of a search in the order in which they are made, until none waits or one can't branch within the budget.
+fn visit_all(alloc: Global, market: &Market, mut search: Search<'_>) -> Result<Cleared, Memory>
+    requires { IsUnderWay market.now search 0 }
+    ensures { IfOk result (Clears market.now search.entry.tree.budget) }
+{
+    let mut node = 0;
+    while let Some(prefix) = search.prefix_of(node) {
+        visit(alloc, market, &mut search, node, &prefix)?;
+        if search.is_full() {
+            let items = Items::of(search.part(alloc)?);
+            return Ok(Cleared::Spent(Spent { items }));
+        }
+        node += 1;
+    }
+    match search.finish(alloc) {
+        Ok(clearing) => Ok(Cleared::Published(clearing)),
+        Err(FinishFault::Memory) => Err(Memory),
+        Err(FinishFault::NotClosed(_)) => unreachable!(),
+    }
+}
+
+/// Clears a market from its best activation with every gate closed.
+fn cleared(alloc: Global, market: &Market, budget: u32) -> Result<Cleared, Memory>
+    requires market { IsValid market.now }
+    requires budget { (1 ≤ budget) × (budget ≤ 50000) }
+    ensures { IfOk result (Clears market.now budget) }
+{
+    let first = first_of(alloc, market)?;
+    let search = Search::start(alloc, market, ACTOR + 1, first, budget)?;
+    visit_all(alloc, market, search)
+}
+
+/// Clears a market by branch and bound on this thread, within a budget of 1 to 50,000 nodes.
+///
+/// An optimal activation comes with its welfare in quarter-cents and a certificate tree of at most the budget's items. Spent
+/// comes only where the search tree is larger than the budget, with a part of it that the budget can't extend.
+pub fn search_alone(alloc: Global, market: &Market, budget: u32) -> Cleared
+    requires market { IsValid market.now }
+    requires budget { (1 ≤ budget) × (budget ≤ 50000) }
+    ensures { Clears market.now budget result }
+{
+    match cleared(alloc, market, budget) {
+        Ok(cleared) => cleared,
+        Err(Memory) => Cleared::Memory,
+    }
+}
+
+/// Clears markets by `search_alone`.
+#[derive(Clone, Copy, Debug)]
+pub struct Alone;
+
+impl Clearer for Alone {
+    fn clear(&mut self, alloc: Global, market: &Market, budget: u32) -> Cleared {
+        search_alone(alloc, market, budget)
+    }
+}

@@ -1,0 +1,42 @@
+//! The best activation with every gate closed, from which a search starts.
+
+ghost use Rattle.std.specs.Prelude.{◌≡◌, ◌≤◌, pos, length, IfOk};
+ghost use Rattle.mari_gates.specs.Prefixes.{IsCleared};
+ghost use Rattle.mari_market.specs.Finding.{IsAttained};
+ghost use Rattle.mari_market.specs.Market.{IsValid};
+ghost use Rattle.mari_market.specs.Prefix.{word_of};
+ghost use Rattle.mari_market.specs.Relaxation.{all_closed, IsClosedWelfare};
+
+use mari_market::{Attained, Finding, Market, Prefix, Relaxed};
+use mari_node::examine;
+use mari_units::Memory;
+use std::alloc::Global;
+
+/// The prefix that closes every gate.
+fn closed_prefix(market: &Market) -> Prefix
+    requires { length market.now.gates ≤ 512 }
+    ensures word { word_of result ≡ all_closed market.now }
+    ensures cleared { IsCleared result }
+{
+    Prefix {
+        length: market.gates.as_slice().len() as u32,
+        bits: [0; 8],
+    }
+}
+
+/// The best activation with every gate closed. There always is one, and its welfare is the closed welfare.
+pub(crate) fn first_of(alloc: Global, market: &Market) -> Result<Attained, Memory>
+    requires { IsValid market.now }
+    ensures attained { IfOk result (IsAttained market.now) }
+    ensures closed { IfOk result (λ first. IsClosedWelfare market.now (pos first.welfare)) }
+{
+    match examine(alloc, market, &closed_prefix(market))? {
+        Finding::Relaxed(
+            Relaxed {
+                best: Some(first),
+                ..
+            },
+        ) => Ok(first),
+        Finding::Relaxed(_) | Finding::Empty(_) => unreachable!(),
+    }
+}

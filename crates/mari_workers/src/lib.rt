@@ -1,0 +1,12 @@
+//! Clearing a market by branch and bound.
+//!
+//! It stands on the findings of `mari_node` and on the search machine of `mari_core`. `search_alone` carries the promise: an
+//! optimal activation with a certificate tree within the budget, or a part of the search tree that the budget can't extend.
+#![tactic(auto)]
+
+mod alone;
+mod first;
+#[cfg(test)]
+mod tests;
+
+pub use alone::{Alone, search_alone};

@@ -1,6 +1,7 @@
 //! The search of one actor.
 
 ghost use Rattle.std.specs.Prelude.{◌≡◌, ◌≤◌, None, Some, slice_get, IfOk, IfSome, OnOk};
+ghost use Rattle.std.specs.Option.{option_copied};
 ghost use Rattle.mari_core.specs.Machine.{after, refusal, IsProper, KeepsFacts};
 ghost use Rattle.mari_core.specs.Nodes.{words_of};
 ghost use Rattle.mari_market.specs.Clearing.{Clears};
@@ -11,10 +12,10 @@ ghost use Rattle.mari_workers.specs.Alone.{best_in, after_offer, IsUnderWay, IsV
 
 use crate::first::first_of;
 use mari_core::{Event, FinishFault, Search};
-use mari_market::{Cleared, Clearer, Finding, Market, Prefix, Relaxed, Spent};
+use mari_market::{Attained, Cleared, Clearer, Finding, Market, Prefix, Spent};
 use mari_node::examine;
 use mari_units::{Items, Memory};
-use std::alloc::Global;
+use std::alloc::{AllocError, Global};
 
 /// The number of the one actor.
 const ACTOR: u32 = 0;
@@ -32,21 +33,33 @@ fn step(search: &mut Search<'_>, event: Event) -> Result<(), Memory>
     }
 }
 
-/// Offers the best activation of a finding, if it has one.
+/// The activation of a finding, if it has one.
+fn best_of(finding: &Finding) -> Option<&Attained>
+    ensures { option_copied result ≡ best_in finding.now }
+{
+    match finding {
+        Finding::Relaxed(relaxed) => relaxed.best.as_ref(),
+        Finding::Empty(_) => None,
+    }
+}
+
+/// A copy of an activation and its welfare.
+fn copy_of(attained: &Attained) -> Result<Attained, AllocError>
+    ensures { IfOk result (λ copy. copy ≡ attained.now) }
+{
+    attained.clone()
+}
+
+/// Offers the activation of a finding, if it has one.
 fn offer_best(search: &mut Search<'_>, finding: &Finding) -> Result<(), Memory>
     requires facts { KeepsFacts search.old }
     requires attained { IfSome (best_in finding.now) (IsAttained search.old.tree.market) }
     ensures offered { OnOk result (search.new ≡ after_offer search.old (best_in finding.now)) }
     ensures facts { KeepsFacts search.new }
 {
-    match finding {
-        Finding::Relaxed(
-            Relaxed {
-                best: Some(best),
-                ..
-            },
-        ) => {
-            let attained = best.clone()?;
+    match best_of(finding) {
+        Some(best) => {
+            let attained = copy_of(best)?;
             step(
                 search,
                 Event::Offer {
@@ -55,7 +68,7 @@ fn offer_best(search: &mut Search<'_>, finding: &Finding) -> Result<(), Memory>
                 },
             )
         }
-        Finding::Relaxed(_) | Finding::Empty(_) => Ok(()),
+        None => Ok(()),
     }
 }
 

@@ -7,6 +7,7 @@ ghost use Rattle.mari_market.specs.Market.{IsValid};
 ghost use Rattle.mari_market.specs.Prefix.{word_of};
 ghost use Rattle.mari_market.specs.Relaxation.{all_closed, IsClosedWelfare};
 
+use mari_gates::empty_prefix;
 use mari_market::{Attained, Finding, Market, Prefix, Relaxed};
 use mari_node::examine;
 use mari_units::Memory;
@@ -18,10 +19,9 @@ fn closed_prefix(market: &Market) -> Prefix
     ensures word { word_of result ≡ all_closed market.now }
     ensures cleared { IsCleared result }
 {
-    Prefix {
-        length: market.gates.as_slice().len() as u32,
-        bits: [0; 8],
-    }
+    let mut prefix = empty_prefix();
+    prefix.length = market.gates.as_slice().len() as u32;
+    prefix
 }
 
 /// The best activation with every gate closed. There always is one, and its welfare is the closed welfare.
@@ -30,13 +30,12 @@ pub(crate) fn first_of(alloc: Global, market: &Market) -> Result<Attained, Memor
     ensures attained { IfOk result (IsAttained market.now) }
     ensures closed { IfOk result (λ first. IsClosedWelfare market.now (pos first.welfare)) }
 {
-    match examine(alloc, market, &closed_prefix(market))? {
-        Finding::Relaxed(
-            Relaxed {
-                best: Some(first),
-                ..
-            },
-        ) => Ok(first),
-        Finding::Relaxed(_) | Finding::Empty(_) => unreachable!(),
+    let Finding::Relaxed(relaxed) = examine(alloc, market, &closed_prefix(market))? else {
+        unreachable!()
+    };
+    let Relaxed { best, .. } = relaxed;
+    match best {
+        Some(first) => Ok(first),
+        None => unreachable!(),
     }
 }

@@ -5,20 +5,15 @@ use Rattle.std.specs.List.{AllZip}
 use Rattle.mari_market.specs.declared.market.Border.{Border}
 use Rattle.mari_market.specs.Sums.{sum_along}
 use Rattle.mari_market.specs.Activation.{IsWithinLimits, carried_out}
-use Rattle.mari_market.proofs.Sums.{sum_along-set, AllZip-set}
+use Rattle.mari_market.proofs.Sums.{sum_along-set, AllZip-set, AllZip-at}
 use Rattle.mari_market.proofs.Ints.{mul-add_z, mul-neg_z, pos_mul_lt}
-use Rattle.mari_market.proofs.Duality.{pushed}
+use Rattle.mari_market.proofs.Duality.{pushed, if_sum}
 use Rattle.mari_flow.specs.declared.slots.Slot.{Slot}
 use Rattle.mari_flow.specs.declared.chain.Hop.{Hop}
 use Rattle.mari_flow.specs.Slots.{slot_at, no_slot, amount_at, at_zone, slot_into, worth, IsWithinSlot}
 use Rattle.mari_flow.specs.Network.{no_border, border_at}
-use Rattle.mari_flow.proofs.Lists.{zip_at}
 use Rattle.mari_flow.specs.Chain.{hop_at, tail_of, head_of, room_of, more_flow, hop_room, IsHop, HasRoom}
 use Rattle.mari_flow.specs.Chain.HasRoom.{begins, goes_on}
-
-if_sum : (b : Bool) (f d : ℤ) → (if b then f +ℤ d else pos 0) ≡ (if b then f else pos 0) +ℤ (if b then d else pos 0)
-if_sum true f d = refl
-if_sum false f d = refl
 
 pub if_neg : (b : Bool) (d : ℤ) → (if b then neg_ℤ d else pos 0) ≡ neg_ℤ (if b then d else pos 0)
 if_neg true d = refl
@@ -49,7 +44,7 @@ pub hop_carried : (z : ℕ) (bs : List Border) (fs : List ℤ) (h : Hop) (d : �
 hop_carried z bs fs h d there l = omega (arith, ints, pushed z bs fs h.border (more_flow h.forth d) no_border there l, hop_carries z h.forth (border_at bs h.border) d)
 
 pub hop_within : (bs : List Border) (fs : List ℤ) (h : Hop) (d : ℤ) → h.border < length bs → AllZip IsWithinLimits bs fs → pos 0 ≤ℤ d → d ≤ℤ hop_room bs fs h → IsWithinLimits (border_at bs h.border) (get_or fs h.border (pos 0) +ℤ more_flow h.forth d)
-hop_within bs fs h d there a n r = flow_within h.forth (border_at bs h.border) (get_or fs h.border (pos 0)) d (zip_at IsWithinLimits bs fs h.border no_border (pos 0) there a) n r
+hop_within bs fs h d there a n r = flow_within h.forth (border_at bs h.border) (get_or fs h.border (pos 0)) d (AllZip-at IsWithinLimits bs fs h.border no_border (pos 0) there a) n r
 
 pub hop_all_within : (bs : List Border) (fs : List ℤ) (h : Hop) (d : ℤ) → h.border < length bs → AllZip IsWithinLimits bs fs → pos 0 ≤ℤ d → d ≤ℤ hop_room bs fs h → AllZip IsWithinLimits bs (set fs h.border (get_or fs h.border (pos 0) +ℤ more_flow h.forth d))
 hop_all_within bs fs h d there a n r = AllZip-set IsWithinLimits bs fs h.border (get_or fs h.border (pos 0) +ℤ more_flow h.forth d) no_border there (hop_within bs fs h d there a n r) a

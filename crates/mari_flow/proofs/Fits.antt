@@ -15,7 +15,8 @@ use Rattle.mari_market.specs.Cut.{least_put, most_put}
 use Rattle.mari_flow.specs.declared.slots.Slot.{Slot}
 use Rattle.mari_flow.specs.Slots.{no_slot, IsSmallSlot}
 use Rattle.mari_flow.specs.Orders.{no_order, slot_of, slots_of, extra_if, extra_of, extras, CanPut, IsOrderSlot, AreOrderSlots}
-use Rattle.mari_flow.proofs.Lists.{map_at, zip_at, zip_of}
+use Rattle.mari_flow.proofs.Lists.{map_at, zip_of}
+use Rattle.mari_market.proofs.Sums.{AllZip-at}
 
 -- a span in order, within the limit of an order
 pub record IsFineSpan (s : Span) : Type 0 where
@@ -25,7 +26,7 @@ pub record IsFineSpan (s : Span) : Type 0 where
 pub fine_spans : (spans : Order → Span) (os : List Order) → AllZip (λ lo hi. (lo ≤ hi) × (hi ≤ 99999)) (map (λ (o : Order). (spans o).lo) os) (map (λ (o : Order). (spans o).hi) os) → All (λ (o : Order). IsFineSpan (spans o)) os
 fine_spans spans os a = λ k d l.
     let there : k < length (map (λ (o : Order). (spans o).lo) os) = omega (arith, length-map os (λ (o : Order). (spans o).lo), l) in
-    let pair = zip_at (λ lo hi. (lo ≤ hi) × (hi ≤ 99999)) (map (λ (o : Order). (spans o).lo) os) (map (λ (o : Order). (spans o).hi) os) k 0 0 there a in
+    let pair = AllZip-at (λ lo hi. (lo ≤ hi) × (hi ≤ 99999)) (map (λ (o : Order). (spans o).lo) os) (map (λ (o : Order). (spans o).hi) os) k 0 0 there a in
     let lo = map_at (λ (o : Order). (spans o).lo) os k d 0 l in
     let hi = map_at (λ (o : Order). (spans o).hi) os k d 0 l in
     record { in_order = omega (arith, pair.0, lo, hi); small = omega (arith, pair.1, hi) }

@@ -15,12 +15,6 @@ all_zip P (x ∷ xs) (y ∷ ys) e a = (All-head P x xs a, all_zip P xs ys (omega
 all_zip P [] (y ∷ ys) e a = absurd (omega arith)
 all_zip P (x ∷ xs) [] e a = absurd (omega arith)
 
-pub zip_at : {X Y : Type 0} (P : X → Y → Type 0) (xs : List X) (ys : List Y) (i : ℕ) (d : X) (e : Y) → i < length xs → AllZip P xs ys → P (get_or xs i d) (get_or ys i e)
-zip_at P [] ys i d e h a = absurd (omega arith)
-zip_at P (x ∷ xs) [] i d e h a = absurd a
-zip_at P (x ∷ xs) (y ∷ ys) zero d e h a = a.0
-zip_at P (x ∷ xs) (y ∷ ys) (suc i) d e h a = zip_at P xs ys i d e (omega arith) a.1
-
 pub zip_of : {X Y : Type 0} (P : X → Y → Type 0) (xs : List X) (ys : List Y) (d : X) (e : Y) → length xs ≡ length ys → ((k : ℕ) → k < length xs → P (get_or xs k d) (get_or ys k e)) → AllZip P xs ys
 zip_of P [] [] d e l h = tt
 zip_of P (x ∷ xs) (y ∷ ys) d e l h = (h 0 (omega arith), zip_of P xs ys d e (omega arith) (λ k m. h (suc k) (omega arith)))

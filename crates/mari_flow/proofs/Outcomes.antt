@@ -19,10 +19,11 @@ use Rattle.mari_flow.specs.Slots.{beyond, no_slot, slot_at, amount_at, slot_into
 use Rattle.mari_flow.specs.Levels.{IsTightFlow, AreTight}
 use Rattle.mari_flow.specs.Orders.{no_order, slot_of, slots_of, extras, ArePuts, capped, extra_of}
 use Rattle.mari_flow.specs.Network.{no_border}
-use Rattle.mari_flow.proofs.Lists.{all_zip, zip_at, zip_of, zip_long, zip_first, zip_rest, at_drop, map_at}
+use Rattle.mari_flow.proofs.Lists.{all_zip, zip_of, zip_long, zip_first, zip_rest, at_drop, map_at}
 use Rattle.mari_flow.proofs.Shortfalls.{IsExtra, RunsSlot, RunsFlow, IsReal, AreLowest, AreHighest, counts, paid_slot, cost_flow, paid_is_cost, shortfall_out, shortfall_in}
 use Rattle.mari_flow.proofs.Starts.{if_none, extra_fits, shortfall_is_cut_out, shortfall_is_cut_in}
 use Rattle.mari_flow.proofs.Transfers.{IsOptimum, optimum_from}
+use Rattle.mari_market.proofs.Sums.{AllZip-at}
 
 sum_split : {X Y : Type 0} (f : X → Y → ℤ) (P : X → Y → Type 0) (ss rs : List X) (ys : List Y) → AllZip P (ss ++ rs) ys → sum_along f (ss ++ rs) ys ≡ sum_along f ss (take (length ss) ys) +ℤ sum_along f rs (drop (length ss) ys)
 sum_split f P [] rs ys a = omega (arith, ints)
@@ -59,7 +60,7 @@ runs bounds m xs fs p e =
     zip_of (RunsSlot m.zones p) (slots_of bounds m.orders ++ extras (slots_of bounds m.orders)) xs no_slot (pos 0) (zip_long IsWithinSlot (slots_of bounds m.orders ++ extras (slots_of bounds m.orders)) xs e.running.amounts)
     (λ k l. record {
       zone = e.zones k no_slot l;
-      within = zip_at IsWithinSlot (slots_of bounds m.orders ++ extras (slots_of bounds m.orders)) xs k no_slot (pos 0) l e.running.amounts;
+      within = AllZip-at IsWithinSlot (slots_of bounds m.orders ++ extras (slots_of bounds m.orders)) xs k no_slot (pos 0) l e.running.amounts;
       tight = e.tight.slots_tight k l;
     })
 
@@ -80,8 +81,8 @@ flow_runs bounds m xs fs p e =
     (λ k l. let b_valid = e.valid.borders k no_border l in record {
       from = b_valid.from;
       to = b_valid.to;
-      within = zip_at IsWithinLimits m.borders fs k no_border (pos 0) l e.running.flows;
-      tight = zip_at (IsTightFlow p) m.borders fs k no_border (pos 0) l e.tight.flows_tight;
+      within = AllZip-at IsWithinLimits m.borders fs k no_border (pos 0) l e.running.flows;
+      tight = AllZip-at (IsTightFlow p) m.borders fs k no_border (pos 0) l e.tight.flows_tight;
     })
 
 ends_paid : (bounds : Order → Span) (m : Market) (xs fs : List ℤ) (p q : ℕ → ℤ) → Ends bounds m xs fs p → (sum_along (paid_slot q) (slots_of bounds m.orders) (take (length (slots_of bounds m.orders)) xs) +ℤ sum_along (paid_slot q) (extras (slots_of bounds m.orders)) (drop (length (slots_of bounds m.orders)) xs)) ≡ sum_along (cost_flow q) m.borders fs

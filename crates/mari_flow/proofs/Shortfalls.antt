@@ -5,11 +5,10 @@ use Rattle.std.specs.List.{All, AllZip}
 use Rattle.mari_market.specs.declared.market.Border.{Border}
 use Rattle.mari_market.specs.Sums.{int_sum, sum_along}
 use Rattle.mari_market.specs.Activation.{carried_out, IsWithinLimits}
-use Rattle.mari_market.proofs.Sums.{sum_below, sum_below-same, sum_below--, sum_below-place, spread, sum_along-same, AllZip-both, int_sum-neg}
+use Rattle.mari_market.proofs.Sums.{sum_below, sum_below-same, sum_below--, sum_below-place, spread, sum_along-same, AllZip-both, int_sum-neg, AllZip-at}
 use Rattle.mari_flow.specs.declared.slots.Slot.{Slot}
 use Rattle.mari_flow.specs.Slots.{slot_into, IsWithinSlot, IsTightSlot}
 use Rattle.mari_flow.specs.Levels.{IsTightFlow}
-use Rattle.mari_flow.proofs.Lists.{zip_at}
 
 -- slots that stand in where a zone can't be balanced: one of the least price only takes energy, one of the greatest gives it
 abbrev pub IsExtra : ℤ → Slot → Type 0
@@ -140,8 +139,8 @@ shortfall_out n m p inside reals extras xs ws bs fs k d h low rs real es extra f
     let a = sum_along-same (paid_slot (λ z. counts (inside z))) (least_in inside) reals xs (AllZip-both (RunsSlot n p) (λ s x. IsReal m s) _ zone reals xs rs real) in
     let b = sum_along-same (cost_flow (λ z. counts (inside z))) (out_of inside) bs fs (zip_map (RunsFlow n p) _ (λ b f r. low_flow (inside b.from) (inside b.to) m (p b.from) (p b.to) f b.limit b.back (low.yes b.from r.from) (low.no b.from r.from) (low.yes b.to r.to) (low.no b.to r.to) r.within.back r.within.limit r.tight.more r.tight.less) bs fs flows) in
     let none : AllZip (λ s x. paid_slot (λ z. counts (inside z)) s x ≤ℤ pos 0) extras ws = AllZip-both (RunsSlot n p) (λ s x. IsExtra m s) _ (λ s x r e. low_extra (inside s.zone) m (p s.zone) x s h e (low.yes s.zone r.zone) r.within r.tight.less) extras ws es extra in
-    let one = zip_at (RunsSlot n p) extras ws k d (pos 0) there es in
-    let kind = zip_at (λ (s : Slot) (x : ℤ). IsExtra m s) extras ws k d (pos 0) there extra in
+    let one = AllZip-at (RunsSlot n p) extras ws k d (pos 0) there es in
+    let kind = AllZip-at (λ (s : Slot) (x : ℤ). IsExtra m s) extras ws k d (pos 0) there extra in
     let less = low_short (inside (get_or extras k d).zone) m (p (get_or extras k d).zone) (get_or ws k (pos 0)) (get_or extras k d) kind (low.no (get_or extras k d).zone one.zone) one.within one.tight.more short in
     omega (arith, ints, a, b, paid, sum_below_none (paid_slot (λ z. counts (inside z))) extras ws k d (pos 0) none there less)
 
@@ -194,7 +193,7 @@ shortfall_in n m p inside reals extras xs ws bs fs k d h high rs real es extra f
     let a = sum_along-same (paid_slot (λ z. counts (inside z))) (most_in_slot inside) reals xs (AllZip-both (RunsSlot n p) (λ s x. IsReal m s) _ zone reals xs rs real) in
     let b = sum_along-same (cost_flow (λ z. counts (inside z))) (λ b. neg_ℤ (into_of inside b)) bs fs (zip_map (RunsFlow n p) _ (λ b f r. high_flow (inside b.from) (inside b.to) m (p b.from) (p b.to) f b.limit b.back (high.yes b.from r.from) (high.no b.from r.from) (high.yes b.to r.to) (high.no b.to r.to) r.within.back r.within.limit r.tight.more r.tight.less) bs fs flows) in
     let none : AllZip (λ s x. pos 0 ≤ℤ paid_slot (λ z. counts (inside z)) s x) extras ws = AllZip-both (RunsSlot n p) (λ s x. IsExtra m s) _ (λ s x r e. high_extra (inside s.zone) m (p s.zone) x s h e (high.yes s.zone r.zone) r.within r.tight.more) extras ws es extra in
-    let one = zip_at (RunsSlot n p) extras ws k d (pos 0) there es in
-    let kind = zip_at (λ (s : Slot) (x : ℤ). IsExtra m s) extras ws k d (pos 0) there extra in
+    let one = AllZip-at (RunsSlot n p) extras ws k d (pos 0) there es in
+    let kind = AllZip-at (λ (s : Slot) (x : ℤ). IsExtra m s) extras ws k d (pos 0) there extra in
     let more = high_short (inside (get_or extras k d).zone) m (p (get_or extras k d).zone) (get_or ws k (pos 0)) (get_or extras k d) kind (high.no (get_or extras k d).zone one.zone) one.within one.tight.less short in
     omega (arith, ints, a, b, paid, int_sum-neg (into_of inside) bs, sum_above_none (paid_slot (λ z. counts (inside z))) extras ws k d (pos 0) none there more)

@@ -12,7 +12,7 @@ use Rattle.mari_market.specs.declared.prefix.Prefix.{Prefix}
 use Rattle.mari_market.specs.Gates.{group_of, parent_of}
 use Rattle.mari_market.specs.Prefix.{bit_of, word_of, opens_in, is_group, group_taken, is_taken, may_open, parent_opens, children, IsFeasibleWord}
 use Rattle.mari_market.proofs.Words.{Found, found}
-use Rattle.mari_market.proofs.Prefixes.{open_child, closed_child, open_child_only}
+use Rattle.mari_market.proofs.Prefixes.{open_child, closed_child, open_child_only, in_group, or_right, taken_by, opened_get}
 use Rattle.mari_gates.specs.Prefixes.{decisions, ParentsEarlier}
 
 pub length-decisions : (x : Prefix) (n : ℕ) → length (decisions x n) ≡ n
@@ -50,27 +50,6 @@ opened_within x n g e = elim (cases_lt g n) [
   where
     no : false ≡ true → ⊥
     no e = absurd (cc)
-
-in_group : (k : ℕ) (group : Option ℕ) (b c : Bool) → group ≡ Some k → b ≡ true → ((b && is_group k group) || c) ≡ true
-in_group k None b c e h = absurd (cc)
-in_group k (Some j) true c e h = let same : j ≡ k = cc in let test : is_group k (Some j) ≡ true = grind (arith, nat_tests) in rw test refl
-in_group k (Some j) false c e h = absurd (cc)
-
-or_right : (a b : Bool) → b ≡ true → (a || b) ≡ true
-or_right true b e = refl
-or_right false b e = e
-
--- an open gate of the group takes it
-pub taken_by : (k : ℕ) (gates : List GateInfo) (word : List Bool) (g : ℕ) → group_of gates g ≡ Some k → opens_in word g ≡ true → group_taken k gates word ≡ true
-taken_by k [] word g e o = absurd (cc)
-taken_by k (i ∷ gs) [] g e o = absurd (cc)
-taken_by k (i ∷ gs) (b ∷ bs) zero e o = in_group k i.group b (group_taken k gs bs) e o
-taken_by k (i ∷ gs) (b ∷ bs) (suc g) e o = or_right (b && is_group k i.group) (group_taken k gs bs) (taken_by k gs bs g e o)
-
-opened_get : (word : List Bool) (g : ℕ) → slice_get word g ≡ Some true → opens_in word g ≡ true
-opened_get [] g e = absurd (cc)
-opened_get (b ∷ bs) zero e = let same : b ≡ true = cc in same
-opened_get (b ∷ bs) (suc g) e = opened_get bs g e
 
 is_false : (b : Bool) → (b ≡ true → ⊥) → b ≡ false
 is_false true n = absurd (n refl)

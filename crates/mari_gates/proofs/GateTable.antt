@@ -12,7 +12,7 @@ use Rattle.mari_market.specs.Bounds.{GateState, span_of, span_in, gated_span}
 use Rattle.mari_market.specs.Bounds.GateState.{Open, Closed, Free}
 use Rattle.mari_market.specs.Gates.{group_of, parent_of}
 use Rattle.mari_market.specs.Prefix.{bit_of, word_of, is_taken, is_closed, below_parent, undecided, decided, state_of, bounds_of_word, bounds_at}
-use Rattle.mari_market.proofs.Prefixes.{state_rule}
+use Rattle.mari_market.proofs.Prefixes.{state_rule, same_below}
 use Rattle.mari_gates.specs.declared.states.GateState.{GateState as TableState}
 use Rattle.mari_gates.specs.declared.states.GateState.TheVariants.{Free as TableFree}
 use Rattle.mari_gates.specs.Prefixes.{ParentsEarlier}
@@ -38,10 +38,6 @@ undecided_closed gates word up g d taken l e t = sym (undecided_read gates word 
 
 pub undecided_below : (gates : List GateInfo) (word : List Bool) (up : ℕ → GateState) (g : ℕ) (d : GateInfo) (taken : Bool) (answer : GateState) → g < length gates → taken ≡ is_taken (get_or gates g d).group gates word → taken ≡ false → answer ≡ below_parent up (get_or gates g d).parent → answer ≡ undecided gates word up g
 undecided_below gates word up g d taken answer l e t below = below ∙ sym (undecided_read gates word up g d taken l e ∙ ap (λ (b : Bool). if b then Closed else below_parent up (get_or gates g d).parent) t)
-
-same_below : (up low : ℕ → GateState) (parent : Option ℕ) → ((h : ℕ) → parent ≡ Some h → up h ≡ low h) → below_parent up parent ≡ below_parent low parent
-same_below up low None e = refl
-same_below up low (Some h) e = ap (λ (s : GateState). if is_closed s then Closed else Free) (e h refl)
 
 -- a gate past the prefix is as its group and its parent leave it
 pub state_past : (gates : List GateInfo) (x : Prefix) (states : List TableState) (g : ℕ) → ParentsEarlier gates → AreStatesBelow gates (word_of x) states g → g < length gates → x.length ≤ g → state_of gates (word_of x) g ≡ undecided gates (word_of x) (state_in states) g

@@ -22,6 +22,7 @@ use Rattle.mari_market.specs.Prefix.{opens_in, undecided, decided, state_within,
 use Rattle.mari_market.specs.Price.{price_at}
 use Rattle.mari_market.specs.Relaxation.{IsWithinBounds}
 use Rattle.mari_market.proofs.Sums.{AllZip-both, AllZip-with}
+use Rattle.mari_market.proofs.Conflicts.{none_past}
 
 -- ---- states of decided gates
 
@@ -101,18 +102,6 @@ open_runs z n state g (o ∷ os) (q ∷ qs) zero x v w l at its e =
 open_runs z n state g (o ∷ os) (q ∷ qs) (suc k) x v w l at its e =
     or_second (is_gate g o.gate && nat_lt 0 q) (runs_gate g os qs) (open_runs z n state g os qs k x (All-tail (IsValidOrder z n) o os v) w.1 (omega arith) at its e)
 
--- an order of a gate that is there isn't of one past the last
-past_idle : (n g : ℕ) (gate : Option ℕ) (least q : ℕ) → MatchOption gate (least ≡ 0) (λ h. (h < n) × (1 ≤ least)) → n ≤ g → (is_gate g gate && nat_lt 0 q) ≡ false
-past_idle n g None least q v l = refl
-past_idle n g (Some h) least q v l = and_shut (h == g) (nat_lt 0 q) (λ same. absurd (omega (arith, same_gate h g same, v.0)))
-
-past_runs : (z n g : ℕ) (os : List Order) (qs : List ℕ) → All (IsValidOrder z n) os → n ≤ g → runs_gate g os qs ≡ false
-past_runs z n g [] qs v l = refl
-past_runs z n g (o ∷ os) [] v l = refl
-past_runs z n g (o ∷ os) (q ∷ qs) v l =
-    let first = All-head (IsValidOrder z n) o os v in
-    shut_or (is_gate g o.gate && nat_lt 0 q) (runs_gate g os qs) (past_idle n g o.gate o.least q first.gate l) (past_runs z n g os qs (All-tail (IsValidOrder z n) o os v) l)
-
 runs_as : (m : Market) (a : Activation) (word : List Bool) (g : ℕ) (b : Bool) → IsValid m → IsWithinBounds (bounds_of_word m word) m a → g < length m.gates → state_of m.gates word g ≡ (if b then Open else Closed) → is_open m a g ≡ b
 runs_as m a word g true v w l e =
     let used = (v.gates g l).used in
@@ -126,7 +115,7 @@ state_as m word g full l = state_decided (length m.gates) m.gates word g (opens_
 pub opens_as_word : (m : Market) (a : Activation) (word : List Bool) → IsValid m → length word ≡ length m.gates → IsWithinBounds (bounds_of_word m word) m a → (g : ℕ) → is_open m a g ≡ opens_in word g
 opens_as_word m a word v full w g = elim (cases_lt g (length m.gates)) [
   | inl l ↦ runs_as m a word g (opens_in word g) v w l (state_as m word g full l)
-  | inr l ↦ past_runs m.zones (length m.gates) g m.orders a.mw v.orders l ∙ sym (get_or_past word g false (omega arith))
+  | inr l ↦ none_past m.zones (length m.gates) g m.orders a.mw v.orders l ∙ sym (get_or_past word g false (omega arith))
 ]
 
 -- ---- what is so of the activation

@@ -10,43 +10,7 @@ use Rattle.mari_market.specs.Sums.{AnyZip}
 use Rattle.mari_prices.specs.declared.bounds.End.{End}
 use Rattle.mari_prices.specs.Spread.{value_in}
 use Rattle.mari_prices.specs.Tightest.{SetsAt, SetsAtEnd, IsBoundBy, IsTightest, IsRaised, own_standing, signed}
-
-⊎_map : {A B C : Type 0} → A ⊎ B → (B → C) → A ⊎ C
-⊎_map (inl a) f = inl a
-⊎_map (inr b) f = inr (f b)
-
-⊎_second : {A B C : Type 0} → B ⊎ C → (A ⊎ B) ⊎ C
-⊎_second (inl b) = inl (inr b)
-⊎_second (inr c) = inr c
-
-⊎_assoc : {A B C D : Type 0} → A ⊎ D → (D → B ⊎ C) → (A ⊎ B) ⊎ C
-⊎_assoc (inl a) f = inl (inl a)
-⊎_assoc (inr d) f = ⊎_second (f d)
-
-AnyZip_kept : {X Y : Type 0} (P : X → Y → Type 0) (xs : List X) (ys : List Y) (i : ℕ) → AnyZip P (take i xs) (take i ys) → AnyZip P (take (i + 1) xs) (take (i + 1) ys)
-AnyZip_kept P xs ys zero p = absurd p
-AnyZip_kept P [] ys (suc i) p = absurd p
-AnyZip_kept P (x ∷ xs) [] (suc i) p = absurd p
-AnyZip_kept P (x ∷ xs) (y ∷ ys) (suc i) p =
-    let k : suc (i + 1) ≡ suc i + 1 = omega arith in
-    subst (λ (n : ℕ). AnyZip P (take n (x ∷ xs)) (take n (y ∷ ys))) k (⊎_map p (λ a. AnyZip_kept P xs ys i a))
-
-AnyZip_here : {X Y : Type 0} (P : X → Y → Type 0) (xs : List X) (ys : List Y) (i : ℕ) (d : X) (e : Y) → i < length xs → i < length ys → P (get_or xs i d) (get_or ys i e) → AnyZip P (take (i + 1) xs) (take (i + 1) ys)
-AnyZip_here P [] ys i d e h l p = absurd (omega arith)
-AnyZip_here P (x ∷ xs) [] i d e h l p = absurd (omega arith)
-AnyZip_here P (x ∷ xs) (y ∷ ys) zero d e h l p = inl p
-AnyZip_here P (x ∷ xs) (y ∷ ys) (suc i) d e h l p =
-    let k : suc (i + 1) ≡ suc i + 1 = omega arith in
-    subst (λ (n : ℕ). AnyZip P (take n (x ∷ xs)) (take n (y ∷ ys))) k (inr (AnyZip_here P xs ys i d e (omega arith) (omega arith) p))
-
-AnyZip_less : {X Y : Type 0} (P : X → Y → Type 0) (xs : List X) (ys : List Y) (i : ℕ) (d : X) (e : Y) → i < length xs → i < length ys → AnyZip P (take (i + 1) xs) (take (i + 1) ys) → AnyZip P (take i xs) (take i ys) ⊎ P (get_or xs i d) (get_or ys i e)
-AnyZip_less P [] ys i d e h l p = absurd (omega arith)
-AnyZip_less P (x ∷ xs) [] i d e h l p = absurd (omega arith)
-AnyZip_less P (x ∷ xs) (y ∷ ys) zero d e h l (inl p) = inr p
-AnyZip_less P (x ∷ xs) (y ∷ ys) zero d e h l (inr p) = absurd p
-AnyZip_less P (x ∷ xs) (y ∷ ys) (suc i) d e h l p =
-    let k : suc i + 1 ≡ suc (i + 1) = omega arith in
-    ⊎_assoc (subst (λ (n : ℕ). AnyZip P (take n (x ∷ xs)) (take n (y ∷ ys))) k p) (λ a. AnyZip_less P xs ys i d e (omega arith) (omega arith) a)
+use Rattle.mari_market.proofs.Sums.{AnyZip_cases, AnyZip_kept, AnyZip_new}
 
 -- no order yet
 pub tightest_none : (end : End) (os : List Order) (qs : List ℕ) (z : ℕ) (c : ℤ) → c ≡ neg_ℤ cap → IsTightest end (take 0 os) (take 0 qs) z c
@@ -66,7 +30,7 @@ tightest_more end os qs i z d old new h l t r = record { bound = bound r.from; t
 
     bound : (new ≡ old) ⊎ SetsAt end z new (get_or os i d) (get_or qs i 0) → IsBoundBy end (take (i + 1) os) (take (i + 1) qs) z new
     bound (inl e) = subst (λ (c : ℤ). IsBoundBy end (take (i + 1) os) (take (i + 1) qs) z c) (sym e) (lifted old t.bound)
-    bound (inr s) = inr (AnyZip_here (SetsAt end z new) os qs i d 0 h l s)
+    bound (inr s) = inr (AnyZip_new (SetsAt end z new) os qs i d 0 h l s)
 
     by : (c : ℤ) → AnyZip (SetsAt end z c) (take i os) (take i qs) ⊎ SetsAt end z c (get_or os i d) (get_or qs i 0) → c ≤ℤ new
     by c (inl a) = omega (arith, ints, t.tightest c (inr a), r.kept)
@@ -74,7 +38,7 @@ tightest_more end os qs i z d old new h l t r = record { bound = bound r.from; t
 
     tightest : (c : ℤ) → IsBoundBy end (take (i + 1) os) (take (i + 1) qs) z c → c ≤ℤ new
     tightest c (inl e) = omega (arith, ints, t.tightest c (inl e), r.kept)
-    tightest c (inr a) = by c (AnyZip_less (SetsAt end z c) os qs i d 0 h l a)
+    tightest c (inr a) = by c (AnyZip_cases (SetsAt end z c) os qs i d 0 h l a)
 
 pub tightest_all : (end : End) (os : List Order) (qs : List ℕ) (i z : ℕ) (c : ℤ) → length os ≤ i → length qs ≤ i → IsTightest end (take i os) (take i qs) z c → IsTightest end os qs z c
 tightest_all end os qs i z c h l t = subst (λ (ys : List ℕ). IsTightest end os ys z c) (take_all i qs l) (subst (λ (xs : List Order). IsTightest end xs (take i qs) z c) (take_all i os h) t)

@@ -18,11 +18,13 @@ use Rattle.mari_market.specs.Bounds.GateState.{Open, Closed}
 use Rattle.mari_market.specs.Market.{IsValid, IsValidOrder}
 use Rattle.mari_market.specs.Optimal.{IsFeasible}
 use Rattle.mari_market.specs.Prefix.{word_of, bit_of, opens_in}
-use Rattle.mari_market.proofs.Sums.{AllZip-both, AllZip-with}
+use Rattle.mari_market.proofs.Sums.{AllZip-both, AllZip-with, AllZip-at}
 use Rattle.mari_gates.proofs.Decisions.{opens-decisions}
-use Rattle.mari_welfare.proofs.Lists.{AllZip-at}
 use Rattle.mari_welfare.proofs.Open.{runs_here}
 use Rattle.mari_proofs.specs.Conflicts.{decides, RunsAsDecided, HasDecidedGate}
+use Rattle.mari_market.proofs.Conflicts.{none_past}
+use Rattle.mari_market.proofs.Words.{and_both}
+use Rattle.std.specs.Cmp.Derive.{both_true}
 
 same_map : (f g : ℕ → Bool) (n : ℕ) → ((k : ℕ) → k < n → f k ≡ g k) → map f (range_with_len 0 n) ≡ map g (range_with_len 0 n)
 same_map f g zero e = refl
@@ -46,15 +48,11 @@ gate_is g (Some h) e = let same : h ≡ g = cc in grind (arith, nat_tests)
 runs_test : (opens : ℕ → Bool) (g : ℕ) (gate : Option ℕ) (q : ℕ) → gate ≡ Some g → RunsAsDecided opens gate q → opens g ≡ nat_lt 0 q
 runs_test opens g gate q e r = let at : RunsAsDecided opens (Some g) q = subst (λ (o : Option ℕ). RunsAsDecided opens o q) e r in at
 
-both_true : (a b : Bool) → (a && b) ≡ true → (a ≡ true) × (b ≡ true)
-both_true true b e = (refl, e)
-both_true false b e = absurd (cc)
-
 runs_at : (opens : ℕ → Bool) (g : ℕ) (gate : Option ℕ) (q : ℕ) (rest : Bool) → RunsAsDecided opens gate q → (rest ≡ true → opens g ≡ true) → ((is_gate g gate && nat_lt 0 q) || rest) ≡ true → opens g ≡ true
 runs_at opens g gate q rest r later e = by_test (is_gate g gate && nat_lt 0 q) refl e
   where
     by_test : (b : Bool) → (is_gate g gate && nat_lt 0 q) ≡ b → (b || rest) ≡ true → opens g ≡ true
-    by_test true is h = let both = both_true (is_gate g gate) (nat_lt 0 q) is in runs_test opens g gate q (of_gate g gate both.0) r ∙ both.1
+    by_test true is h = let both = and_both (is_gate g gate) (nat_lt 0 q) is in runs_test opens g gate q (of_gate g gate both.0) r ∙ both.1
     by_test false is h = later h
 
 -- a gate that an order runs for is decided open
@@ -62,10 +60,6 @@ runs_open : (opens : ℕ → Bool) (g : ℕ) (os : List Order) (qs : List ℕ) �
 runs_open opens g [] qs a e = absurd (cc)
 runs_open opens g (o ∷ os) [] a e = absurd a
 runs_open opens g (o ∷ os) (q ∷ qs) a e = runs_at opens g o.gate q (runs_gate g os qs) a.0 (runs_open opens g os qs a.1) e
-
-and_both : (a b : Bool) → a ≡ true → b ≡ true → (a && b) ≡ true
-and_both true b e h = h
-and_both false b e h = absurd (cc)
 
 -- and a gate of some order that is decided open runs
 open_runs : (opens : ℕ → Bool) (g : ℕ) (os : List Order) (qs : List ℕ) → length qs ≡ length os → Any (λ (o : Order). o.gate ≡ Some g) os → AllZip (λ (o : Order) q. RunsAsDecided opens o.gate q) os qs → opens g ≡ true → runs_gate g os qs ≡ true
@@ -75,7 +69,7 @@ open_runs opens g os qs l some a e =
     let within : i < length os = some.2 in
     let gate : (get_or os i o).gate ≡ Some g = ap (λ (x : Order). x.gate) some.3 ∙ some.4 in
     let at = AllZip-at (λ (x : Order) q. RunsAsDecided opens x.gate q) os qs i o 0 within a in
-    runs_here g os qs i o within (omega arith) (and_both (is_gate g (get_or os i o).gate) (nat_lt 0 (get_or qs i 0)) (gate_is g (get_or os i o).gate gate) (sym (runs_test opens g (get_or os i o).gate (get_or qs i 0) gate at) ∙ e))
+    runs_here g os qs i o within (omega arith) (both_true (gate_is g (get_or os i o).gate gate) (sym (runs_test opens g (get_or os i o).gate (get_or qs i 0) gate at) ∙ e))
 
 same_tests : (a b : Bool) → (a ≡ true → b ≡ true) → (b ≡ true → a ≡ true) → a ≡ b
 same_tests true b f g = sym (f refl)
@@ -102,17 +96,6 @@ word_where_run m x a v full run =
 pub open_at : (m : Market) (x : Prefix) (a : Activation) (g : ℕ) → g < length m.gates → gate_word_of m a ≡ word_of x → is_open m a g ≡ decides x g
 open_at m x a g h e =
     sym (get_or-map-range_with_len (is_open m a) 0 (length m.gates) g g false h (omega arith)) ∙ ap (λ (w : List Bool). opens_in w g) e
-
-not_of : (g n : ℕ) (gate : Option ℕ) (least : ℕ) → MatchOption gate (least ≡ 0) (λ h. (h < n) × (1 ≤ least)) → n ≤ g → is_gate g gate ≡ false
-not_of g n None least h l = refl
-not_of g n (Some k) least h l = let lt : k < n = h.0 in grind (arith, nat_tests)
-
-none_past : (z n g : ℕ) (os : List Order) (qs : List ℕ) → All (IsValidOrder z n) os → n ≤ g → runs_gate g os qs ≡ false
-none_past z n g [] qs v l = refl
-none_past z n g (o ∷ os) [] v l = refl
-none_past z n g (o ∷ os) (q ∷ qs) v l =
-    let first = All-head (IsValidOrder z n) o os v in
-    ap (λ b. (b && nat_lt 0 q) || runs_gate g os qs) (not_of g n o.gate o.least first.gate l) ∙ none_past z n g os qs (All-tail (IsValidOrder z n) o os v) l
 
 pub length_of_word : (m : Market) (x : Prefix) (a : Activation) → gate_word_of m a ≡ word_of x → x.length ≡ length m.gates
 length_of_word m x a e = sym (length-map-range_with_len (bit_of x) 0 x.length) ∙ sym (ap length e) ∙ length-map-range_with_len (is_open m a) 0 (length m.gates)

@@ -15,19 +15,14 @@ use Rattle.mari_market.proofs.Words.{Begins, BeginsFrom, begins_own}
 use Rattle.mari_market.proofs.Duality.{weak_duality}
 use Rattle.mari_market.proofs.Cuts.{cut_is_empty}
 use Rattle.mari_market.proofs.Conflicts.{conflict_is_empty}
-use Rattle.mari_market.proofs.Search.{within_word}
+use Rattle.mari_market.proofs.Search.{within_word, leaf_sound}
 
 begins_take : (k n : ℕ) (word : List Bool) (opens : ℕ → Bool) → BeginsFrom k word opens → BeginsFrom k (take n word) opens
 begins_take k zero word opens b = tt
 begins_take k (suc n) [] opens b = tt
 begins_take k (suc n) (c ∷ cs) opens b = (b.0, begins_take (suc k) n cs opens b.1)
 
-leaf_bounds : (m : Market) (w : ℤ) (word : List Bool) (leaf : LeafRecord) (a : Activation) → IsValid m → LeafHolds m w word leaf → IsAdmissible m a → Begins word (is_open m a) → welfare_of m a ≤ℤ w
-leaf_bounds m w word (Bound ps) a v h adm begun = omega (arith, ints, weak_duality (bounds_of_word m word) m a ps.cents v (within_word m a word adm.feasible begun), h.value)
-leaf_bounds m w word (Cut cut) a v h adm begun = absurd (cut_is_empty (bounds_of_word m word) m a cut.side cut.zones v (within_word m a word adm.feasible begun) h.side)
-leaf_bounds m w word (Conflict conflict) a v h adm begun = absurd (conflict_is_empty m word conflict a v h adm begun)
-
 -- no admissible activation whose gates begin as the prefix says is better than the cutoff
 pub leaf_bounds_below : (m : Market) (w : ℤ) (x : Prefix) (n : ℕ) (leaf : LeafRecord) (a : Activation) → IsValid m → LeafHolds m w (word_of x) leaf → IsAdmissible m a → take n (gate_word_of m a) ≡ word_of x → welfare_of m a ≤ℤ w
 leaf_bounds_below m w x n leaf a v h adm e =
-    leaf_bounds m w (word_of x) leaf a v h adm (subst (λ (word : List Bool). Begins word (is_open m a)) e (begins_take 0 n (gate_word_of m a) (is_open m a) (begins_own m a)))
+    leaf_sound m w (word_of x) leaf a v h adm (subst (λ (word : List Bool). Begins word (is_open m a)) e (begins_take 0 n (gate_word_of m a) (is_open m a) (begins_own m a)))

@@ -4,7 +4,7 @@ use Rattle.std.proofs.lemmas.Int.{ints}
 use Rattle.mari_market.specs.declared.market.Order.{Order}
 use Rattle.mari_market.specs.Consistent.{SetsLowerAt, SetsUpperAt}
 use Rattle.mari_proofs.specs.Conflicts.{IsLowerOf, IsUpperOf, IsGreatestLower, IsLeastUpper}
-use Rattle.mari_proofs.proofs.Pairs.{AnyZip_cases, AnyZip_kept, AnyZip_new}
+use Rattle.mari_market.proofs.Sums.{AnyZip_cases, AnyZip_kept, AnyZip_new}
 
 -- a loop's step
 pub lower_more : (opens : ℕ → Bool) (z : ℕ) (os : List Order) (qs : List ℕ) (i : ℕ) (d : Order) (bound new : ℤ) → i < length os → i < length qs → IsGreatestLower opens z (take i os) (take i qs) bound → bound ≤ℤ new → ((c : ℤ) → SetsLowerAt opens z c (get_or os i d) (get_or qs i 0) → c ≤ℤ new) → (new ≡ bound) ⊎ SetsLowerAt opens z new (get_or os i d) (get_or qs i 0) → IsGreatestLower opens z (take (i + 1) os) (take (i + 1) qs) new

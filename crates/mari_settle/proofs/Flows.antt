@@ -4,7 +4,7 @@ use Rattle.std.specs.Prelude.{FitsSigned}
 use Rattle.std.specs.List.{AllZip}
 use Rattle.mari_market.specs.declared.market.Border.{Border}
 use Rattle.mari_market.specs.Activation.{IsWithinLimits}
-use Rattle.mari_welfare.proofs.Lists.{AllZip-at}
+use Rattle.mari_market.proofs.Sums.{AllZip-at}
 
 -- a border, where there is none
 abbrev pub no_border : Border

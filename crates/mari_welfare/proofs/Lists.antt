@@ -4,6 +4,7 @@ use Rattle.std.specs.Prelude.{◌↔◌}
 use Rattle.std.proofs.lemmas.Bool.{false≢true, both_ways}
 use Rattle.std.proofs.lemmas.List.{take_all}
 use Rattle.std.specs.List.{AllZip}
+use Rattle.mari_market.proofs.Sums.{AllZip-at}
 
 -- one more pair, for a loop's step
 pub AllZip_more : {X Y : Type 0} (P : X → Y → Type 0) (xs : List X) (ys : List Y) (i : ℕ) (d : X) (e : Y) → i < length xs → i < length ys → AllZip P (take i xs) (take i ys) → P (get_or xs i d) (get_or ys i e) → AllZip P (take (i + 1) xs) (take (i + 1) ys)
@@ -13,12 +14,6 @@ AllZip_more P (x ∷ xs) (y ∷ ys) zero d e h l a p = (p, tt)
 AllZip_more P (x ∷ xs) (y ∷ ys) (suc i) d e h l a p =
     let k : suc (i + 1) ≡ suc i + 1 = omega arith in
     subst (λ (n : ℕ). AllZip P (take n (x ∷ xs)) (take n (y ∷ ys))) k (a.0, AllZip_more P xs ys i d e (omega arith) (omega arith) a.1 p)
-
-pub AllZip-at : {X Y : Type 0} (P : X → Y → Type 0) (xs : List X) (ys : List Y) (i : ℕ) (d : X) (e : Y) → i < length xs → AllZip P xs ys → P (get_or xs i d) (get_or ys i e)
-AllZip-at P [] ys i d e h a = absurd (omega arith)
-AllZip-at P (x ∷ xs) [] i d e h a = absurd a
-AllZip-at P (x ∷ xs) (y ∷ ys) zero d e h a = a.0
-AllZip-at P (x ∷ xs) (y ∷ ys) (suc i) d e h a = AllZip-at P xs ys i d e (omega arith) a.1
 
 -- a loop that tests each pair: where the test of one passes, and where it fails
 pub passes_more : {X Y : Type 0} (P : X → Y → Type 0) (xs : List X) (ys : List Y) (i : ℕ) (d : X) (e y : Y) (b : Bool) → i < length xs → i < length ys → y ≡ get_or ys i e → ((b ≡ true) ↔ P (get_or xs i d) y) → b ≡ true → AllZip P (take i xs) (take i ys) → AllZip P (take (i + 1) xs) (take (i + 1) ys)

@@ -32,6 +32,7 @@ use Rattle.mari_core.specs.Nodes.{TreeNode, branch_of, in_state, new_node, state
 use Rattle.mari_core.specs.Preorder.{is_done, IsFirstOpen, IsPreorder}
 use Rattle.mari_core.proofs.Changes.{IsAt, length-with_state, node_at, state_of_node, state_other, state_same}
 use Rattle.mari_core.proofs.Lists.{changed_same, get_back, get_front, length-changed}
+use Rattle.mari_core.proofs.Machines.{actor_there, by_actor_there}
 use Rattle.mari_core.proofs.Walks.{number_within}
 use Rattle.mari_workers.specs.Alone.{after_offer, best_in, visited, IsSwept, IsUnderWay, IsVisited}
 
@@ -183,13 +184,8 @@ visit_same m old new x word u l v =
 
 -- ---- what each step asks for
 
-actor_there : (actors : List Actor) → 1 ≤ length actors → (a : Actor) × (slice_get actors 0 ≡ Some a)
-actor_there [] l = absurd (omega arith)
-actor_there (a ∷ others) l = (a, refl)
-
 by_actor_none : (actors : List Actor) (refused : Option StepFault) → 1 ≤ length actors → refused ≡ None → by_actor (slice_get actors 0) refused ≡ None
-by_actor_none [] refused l e = absurd (omega arith)
-by_actor_none (a ∷ others) refused l e = e
+by_actor_none actors refused l e = by_actor_there actors 0 refused l ∙ e
 
 pub take_accepted : (m : Market) (s : Machine) (x : ℕ) → IsUnderWay m s x → x < length s.tree.nodes → refusal s (TakeEvent 0 x) ≡ None
 take_accepted m s x u l = by_actor_none s.actors (take_refused (state_at s.tree.nodes x)) u.facts.some_actor (ap take_refused (u.swept.waits x (omega arith) l))
@@ -218,10 +214,10 @@ seen_of_offer word best a = by_test (nat_lt a.offered best.welfare)
 
 offer_seen : (s : Machine) (best : Attained) → 1 ≤ length s.actors → best.welfare ≤ seen_by (slice_get (after_offer s (Some best)).actors 0)
 offer_seen s best l =
-    let there = actor_there s.actors l in
+    let first = actor_there s.actors 0 l in
     let word = max s.word best.welfare in
-    let same : slice_get (after_offer s (Some best)).actors 0 ≡ Some (offering word best there.0) = changed_same (offering word best) s.actors 0 there.0 there.1 in
-    let seen : seen_by (slice_get (after_offer s (Some best)).actors 0) ≡ max s.word best.welfare = ap seen_by same ∙ seen_of_offer word best there.0 in
+    let same : slice_get (after_offer s (Some best)).actors 0 ≡ Some (offering word best first.actor) = changed_same (offering word best) s.actors 0 first.actor first.there in
+    let seen : seen_by (slice_get (after_offer s (Some best)).actors 0) ≡ max s.word best.welfare = ap seen_by same ∙ seen_of_offer word best first.actor in
     omega (arith, seen)
 
 settled_bound : (m : Market) (word : List Bool) (r : RelaxedRecord) (best : Attained) → IsRelaxedFinding m word r → IsSettled m word r best → r.bound ≡ best.welfare

@@ -1,18 +1,18 @@
 use Rattle.std.proofs.Common.{◌≡◌, pos, ◌-ℤ◌, to_z-of_z, rules, FitsSigned, w64, arith}
 use Rattle.std.proofs.lemmas.Int.{ints, clamps}
 use Rattle.mari_flow.specs.Slots.{no_slot, slot_at, amount_at, IsWithinSlot}
-use Rattle.mari_flow.proofs.Lists.{zip_at}
 use Rattle.mari_flow.proofs.chain.most_along.Goals as goal
+use Rattle.mari_market.proofs.Sums.{AllZip-at}
 
 pub room_below-below-requires-clause-within : goal.room_below-below-requires-clause-within
 room_below-below-requires-clause-within c =
     let fits : FitsSigned w64 (amount_at c.args.amounts.now c.args.chain.now.sink) = search rules in
-    rw to_z-of_z (zip_at IsWithinSlot c.args.network.now.slots.now c.args.amounts.now c.args.chain.now.sink no_slot (pos 0) c.requires.chain.less.0 c.requires.runs.amounts)
+    rw to_z-of_z (AllZip-at IsWithinSlot c.args.network.now.slots.now c.args.amounts.now c.args.chain.now.sink no_slot (pos 0) c.requires.chain.less.0 c.requires.runs.amounts)
 
 pub room_above-above-requires-clause-within : goal.room_above-above-requires-clause-within
 room_above-above-requires-clause-within c =
     let fits : FitsSigned w64 (amount_at c.args.amounts.now c.args.chain.now.source) = search rules in
-    rw to_z-of_z (zip_at IsWithinSlot c.args.network.now.slots.now c.args.amounts.now c.args.chain.now.source no_slot (pos 0) c.requires.chain.more.0 c.requires.runs.amounts)
+    rw to_z-of_z (AllZip-at IsWithinSlot c.args.network.now.slots.now c.args.amounts.now c.args.chain.now.source no_slot (pos 0) c.requires.chain.more.0 c.requires.runs.amounts)
 
 pub room-requires-clause-most : goal.room-requires-clause-most
 room-requires-clause-most c =

@@ -4,15 +4,15 @@ use Rattle.mari_market.specs.Sums.{sum_along}
 use Rattle.mari_market.specs.Activation.{IsWithinLimits, carried_out}
 use Rattle.mari_flow.specs.Network.{no_border}
 use Rattle.mari_flow.specs.Chain.{more_flow}
-use Rattle.mari_flow.proofs.Lists.{zip_at}
 use Rattle.mari_flow.proofs.Chains.{hop_all_within, hop_carried}
 use Rattle.mari_flow.proofs.chain.push_hop.Goals as goal
+use Rattle.mari_market.proofs.Sums.{AllZip-at}
 
 pub flow_after-requires-clause-within : goal.flow_after-requires-clause-within
 flow_after-requires-clause-within c =
     let old : ℤ = get_or c.args.flows.now c.args.hop.border (pos 0) in
     let fits : FitsSigned w64 old = search rules in
-    rw to_z-of_z (zip_at IsWithinLimits c.args.borders.now c.args.flows.now c.args.hop.border no_border (pos 0) c.requires.there c.requires.within)
+    rw to_z-of_z (AllZip-at IsWithinLimits c.args.borders.now c.args.flows.now c.args.hop.border no_border (pos 0) c.requires.there c.requires.within)
 
 pub returns-clause-within : goal.returns-clause-within
 returns-clause-within c =

@@ -2,14 +2,14 @@ use Rattle.std.proofs.Common.{ℤ, pos, to_z-of_z, ap, ◌∙◌, rules, FitsSig
 use Rattle.mari_market.specs.Activation.{IsWithinLimits}
 use Rattle.mari_flow.specs.Network.{no_border, border_at}
 use Rattle.mari_flow.specs.Chain.{room_of}
-use Rattle.mari_flow.proofs.Lists.{zip_at}
 use Rattle.mari_flow.proofs.chain.room_at.Goals as goal
+use Rattle.mari_market.proofs.Sums.{AllZip-at}
 
 pub room_over-requires : goal.room_over-requires
 room_over-requires c =
     let old : ℤ = get_or c.args.flows.now c.args.hop.border (pos 0) in
     let fits : FitsSigned w64 old = search rules in
-    rw to_z-of_z (zip_at IsWithinLimits c.args.borders.now c.args.flows.now c.args.hop.border no_border (pos 0) c.requires.there c.requires.within)
+    rw to_z-of_z (AllZip-at IsWithinLimits c.args.borders.now c.args.flows.now c.args.hop.border no_border (pos 0) c.requires.there c.requires.within)
 
 pub returns : goal.returns
 returns c =

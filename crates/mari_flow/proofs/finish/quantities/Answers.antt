@@ -6,14 +6,14 @@ use Rattle.mari_market.specs.declared.market.Order.{Order}
 use Rattle.mari_flow.specs.Slots.{amount_at}
 use Rattle.mari_flow.specs.Orders.{no_order, CanPut, ArePuts}
 use Rattle.mari_flow.proofs.Lists.{at_take}
-use Rattle.mari_flow.proofs.Lists.{zip_at}
 use Rattle.mari_flow.proofs.Transfers.{puts_more}
 use Rattle.mari_flow.proofs.finish.quantities.Goals as goal
+use Rattle.mari_market.proofs.Sums.{AllZip-at}
 
 pub quantity-requires : goal.quantity-requires
 quantity-requires c =
     let fits : FitsSigned w64 (amount_at c.args.amounts.now c.loop-i.i) = search rules in
-    let can = zip_at (λ (o : Order) (x : ℤ). CanPut o.side x) c.args.orders.now (take (length c.args.orders.now) c.args.amounts.now) c.loop-i.i no_order (pos 0) c.loop-i-test.true c.requires.fits in
+    let can = AllZip-at (λ (o : Order) (x : ℤ). CanPut o.side x) c.args.orders.now (take (length c.args.orders.now) c.args.amounts.now) c.loop-i.i no_order (pos 0) c.loop-i-test.true c.requires.fits in
     subst (λ (x : ℤ). CanPut (get_or c.args.orders.now c.loop-i.i no_order).side x) (at_take (length c.args.orders.now) c.args.amounts.now c.loop-i.i (pos 0) c.loop-i-test.true ∙ sym (to_z-of_z fits)) can
 
 pub loop-i-preserved : goal.loop-i-preserved

@@ -6,14 +6,15 @@ use Rattle.mari_flow.specs.Slots.{amount_at}
 use Rattle.mari_flow.specs.Network.{no_border, border_at}
 use Rattle.mari_flow.specs.Chain.{no_hop, room_of}
 use Rattle.mari_flow.specs.Spread.{IsSpread, is_marked}
-use Rattle.mari_flow.proofs.Lists.{zip_at, same_default}
+use Rattle.mari_flow.proofs.Lists.{same_default}
 use Rattle.mari_flow.proofs.Spread.{spread_more}
 use Rattle.mari_flow.proofs.search.reach_over.Goals as goal
+use Rattle.mari_market.proofs.Sums.{AllZip-at}
 
 pub is_new-requires-clause-flow : goal.is_new-requires-clause-flow
 is_new-requires-clause-flow c =
     let fits : FitsSigned w64 (amount_at c.args.flows.now c.args.hop.border) = search rules in
-    rw to_z-of_z (zip_at IsWithinLimits c.args.borders.now c.args.flows.now c.args.hop.border no_border (pos 0) c.requires.border c.requires.limits)
+    rw to_z-of_z (AllZip-at IsWithinLimits c.args.borders.now c.args.flows.now c.args.hop.border no_border (pos 0) c.requires.border c.requires.limits)
 
 pub returns-clause-spread : goal.returns-clause-spread
 returns-clause-spread c = λ old start s.

@@ -1,10 +1,10 @@
 use Rattle.std.proofs.Common.{arith, ℤ, pos, get_or, to_z-of_z, to_z, of_z, FitsSigned, w64, rules, ◌≡◌, subst}
 use Rattle.mari_market.specs.declared.market.Border.{Border}
-use Rattle.mari_market.proofs.Sums.{AnyZip-meets}
+use Rattle.mari_market.proofs.Sums.{AnyZip-meets, AnyZip-at}
 use Rattle.mari_prices.specs.Along.{LeadsOver}
 use Rattle.mari_prices.specs.Spread.{NoneOver, IsLedOver}
 use Rattle.mari_welfare.proofs.Lists.{AllZip_more}
-use Rattle.mari_prices.proofs.Lists.{AllZip_all, AnyZip-at}
+use Rattle.mari_prices.proofs.Lists.{AllZip_all}
 use Rattle.mari_prices.proofs.spread.next_led.Goals as goal
 
 pub loop-i-preserved : goal.loop-i-preserved

@@ -3,15 +3,16 @@ use Rattle.std.specs.Prelude.{FitsSigned}
 use Rattle.std.proofs.lemmas.Bool.{both_ways}
 use Rattle.mari_market.specs.declared.market.Border.{Border}
 use Rattle.mari_market.specs.Consistent.{LeadsBy}
-use Rattle.mari_proofs.proofs.Pairs.{AnyZip_here, nowhere_more}
+use Rattle.mari_proofs.proofs.Pairs.{nowhere_more}
 use Rattle.mari_proofs.proofs.conflicts.leads.Goals as goal
+use Rattle.mari_market.proofs.Sums.{AnyZip-at}
 
 pub returns-then-leads_by : goal.returns-then-leads_by
 returns-then-leads_by c =
     let none : Border = record { from = 0; to = 0; limit = 0; back = 0 } in
     let fits : FitsSigned w64 (get_or c.args.flow.now c.loop-i.i (pos 0)) = search rules in
     let test = rw (to_z-of_z fits) at c.leads_by.ensures in
-    (λ t. AnyZip_here (LeadsBy c.args.first c.args.second) c.args.borders.now c.args.flow.now c.loop-i.i none (pos 0) c.loop-i-test.true (omega arith) (test.0 c.if-leads_by.true), λ a. refl)
+    (λ t. AnyZip-at (LeadsBy c.args.first c.args.second) c.args.borders.now c.args.flow.now c.loop-i.i none (pos 0) c.loop-i-test.true (omega arith) (test.0 c.if-leads_by.true), λ a. refl)
 
 pub loop-i-preserved : goal.loop-i-preserved
 loop-i-preserved c =

@@ -1,5 +1,5 @@
 -- Words read gate by gate, and the groups that they take.
-use Rattle.std.proofs.Common.{◌≡◌, Bool, true, false, ℕ, ◌+◌, ◌<◌, ◌≤◌, List, [], ◌∷◌, ◌++◌, length, take, Option, Some, None, get_or, arith, refl, sym, ap, ◌∙◌, inl, inr, ◌&&◌, ◌||◌, not, zero, suc, subst}
+use Rattle.std.proofs.Common.{◌≡◌, Bool, true, false, ℕ, ◌+◌, ◌<◌, ◌≤◌, List, [], ◌∷◌, ◌++◌, length, take, Option, Some, None, get_or, arith, refl, sym, ap, ◌∙◌, inl, inr, ◌&&◌, not, zero, suc, subst}
 use Rattle.std.specs.Prelude.{slice_get, option_and_then, nat_eq, if◌then◌else◌}
 use Rattle.std.specs.Option.{option_eq}
 use Rattle.std.proofs.lemmas.Bool.{cases_lt}
@@ -10,9 +10,9 @@ use Rattle.std.proofs.lemmas.Option.{slice_get-get_or, slice_get_past}
 use Rattle.mari_market.specs.declared.market.GateInfo.{GateInfo}
 use Rattle.mari_market.specs.declared.prefix.Prefix.{Prefix}
 use Rattle.mari_market.specs.Gates.{group_of, parent_of}
-use Rattle.mari_market.specs.Prefix.{bit_of, word_of, opens_in, is_group, group_taken, is_taken, may_open, parent_opens, children, IsFeasibleWord}
+use Rattle.mari_market.specs.Prefix.{bit_of, word_of, opens_in, group_taken, is_taken, may_open, parent_opens, children, IsFeasibleWord}
 use Rattle.mari_market.proofs.Words.{Found, found}
-use Rattle.mari_market.proofs.Prefixes.{open_child, closed_child, open_child_only, in_group, or_right, taken_by, opened_get}
+use Rattle.mari_market.proofs.Prefixes.{open_child, closed_child, open_child_only, taken_by, opened_get}
 use Rattle.mari_gates.specs.Prefixes.{decisions, ParentsEarlier}
 
 pub length-decisions : (x : Prefix) (n : ℕ) → length (decisions x n) ≡ n

@@ -1,8 +1,7 @@
 -- Facts on two lists side by side, place by place.
-use Rattle.std.proofs.Common.{ℕ, ◌<◌, ◌≤◌, List, [], ◌∷◌, length, take, get_or, arith, subst, inl, inr, zero, suc}
+use Rattle.std.proofs.Common.{ℕ, ◌≤◌, List, length, take, subst}
 use Rattle.std.specs.List.{AllZip}
 use Rattle.std.proofs.lemmas.List.{take_all}
-use Rattle.mari_market.specs.Sums.{AnyZip}
 
 -- a loop that is done
 pub AllZip_all : {X Y : Type 0} (P : X → Y → Type 0) (xs : List X) (ys : List Y) (i : ℕ) → length xs ≤ i → length ys ≤ i → AllZip P (take i xs) (take i ys) → AllZip P xs ys

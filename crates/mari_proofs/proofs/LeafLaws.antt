@@ -1,21 +1,16 @@
 -- What a certificate that holds says of the activations below its prefix.
-use Rattle.std.proofs.Common.{◌≡◌, Bool, ℕ, ℤ, ◌≤ℤ◌, List, [], ◌∷◌, take, zero, suc, arith, subst}
-use Rattle.std.proofs.lemmas.Int.{ints}
+use Rattle.std.proofs.Common.{◌≡◌, Bool, ℕ, ℤ, ◌≤ℤ◌, List, [], ◌∷◌, take, zero, suc, subst}
 use Rattle.mari_market.specs.declared.market.Market.{Market}
 use Rattle.mari_market.specs.declared.activation.Activation.{Activation}
 use Rattle.mari_market.specs.declared.prefix.Prefix.{Prefix}
 use Rattle.mari_market.specs.declared.certificate.Leaf.{Leaf as LeafRecord}
-use Rattle.mari_market.specs.declared.certificate.Leaf.TheVariants.{Bound, Cut, Conflict}
 use Rattle.mari_market.specs.Activation.{is_open, welfare_of, gate_word_of}
 use Rattle.mari_market.specs.Market.{IsValid}
 use Rattle.mari_market.specs.Optimal.{IsAdmissible}
-use Rattle.mari_market.specs.Prefix.{word_of, bounds_of_word}
+use Rattle.mari_market.specs.Prefix.{word_of}
 use Rattle.mari_market.specs.Tree.{LeafHolds}
 use Rattle.mari_market.proofs.Words.{Begins, BeginsFrom, begins_own}
-use Rattle.mari_market.proofs.Duality.{weak_duality}
-use Rattle.mari_market.proofs.Cuts.{cut_is_empty}
-use Rattle.mari_market.proofs.Conflicts.{conflict_is_empty}
-use Rattle.mari_market.proofs.Search.{within_word, leaf_sound}
+use Rattle.mari_market.proofs.Search.{leaf_sound}
 
 begins_take : (k n : ℕ) (word : List Bool) (opens : ℕ → Bool) → BeginsFrom k word opens → BeginsFrom k (take n word) opens
 begins_take k zero word opens b = tt

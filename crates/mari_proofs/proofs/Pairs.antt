@@ -1,5 +1,5 @@
 -- What holds somewhere in two lists side by side, pair by pair.
-use Rattle.std.proofs.Common.{◌≡◌, ◌⊎◌, ℕ, ◌+◌, ◌<◌, List, [], ◌∷◌, length, take, get_or, arith, subst, sym, zero, suc, inl, inr}
+use Rattle.std.proofs.Common.{ℕ, ◌+◌, ◌<◌, List, length, take, get_or, inl, inr}
 use Rattle.mari_market.specs.Sums.{AnyZip}
 use Rattle.mari_market.proofs.Sums.{AnyZip_cases}
 

@@ -1,10 +1,8 @@
 -- What a visit keeps, and what is so in the end.
-use Rattle.std.proofs.Common.{◌≡◌, ◌≢◌, ◌⊎◌, ◌∙◌, inl, inr, if◌then◌else◌, Bool, true, false, ℕ, zero, suc, ◌+◌, ◌-◌, ◌<◌, ◌≤◌, pos, max, List, [], ◌∷◌, ◌++◌, length, map, get_or, Result, Option, Some, None, arith, refl, sym, ap, subst}
+use Rattle.std.proofs.Common.{◌≡◌, ◌≢◌, ◌⊎◌, ◌∙◌, inl, inr, if◌then◌else◌, Bool, true, false, ℕ, zero, suc, ◌+◌, ◌-◌, ◌<◌, ◌≤◌, max, List, [], ◌∷◌, ◌++◌, length, map, get_or, Result, Option, Some, None, arith, refl, sym, ap, subst}
 use Rattle.std.specs.Prelude.{nat_le, nat_lt, slice_get, IfSome, IsSomeAnd, MatchOption, OnOk}
-use Rattle.std.specs.List.{All}
 use Rattle.std.specs.Option.{option_map}
 use Rattle.std.proofs.lemmas.Bool.{cases_eq, cases_lt}
-use Rattle.std.proofs.lemmas.Bool.Decides.{nat_tests}
 use Rattle.std.proofs.lemmas.Int.{ints, clamps}
 use Rattle.std.proofs.lemmas.Option.{slice_get_within, slice_get-get_or, slice_get-map}
 use Rattle.std.proofs.lemmas.List.{length-append}
@@ -18,20 +16,19 @@ use Rattle.mari_market.specs.declared.market.Market.{Market}
 use Rattle.mari_market.specs.declared.clearing.PartItem.{PartItem}
 use Rattle.mari_market.specs.Clearing.{IsSpent}
 use Rattle.mari_market.specs.Conflict.{IsConflict}
-use Rattle.mari_market.specs.Finding.{IsAttained, IsFinding, IsRefuted, IsRelaxedFinding, IsSettled, value_of}
+use Rattle.mari_market.specs.Finding.{IsAttained, IsFinding, IsRefuted, IsRelaxedFinding, IsSettled}
 use Rattle.mari_core.specs.declared.event.Event.TheVariants.{Offer, Take as TakeEvent, Settle}
-use Rattle.mari_core.specs.declared.event.FinishFault.TheVariants.{NotClosed}
 use Rattle.mari_core.specs.declared.event.StepFault.{StepFault}
 use Rattle.mari_core.specs.declared.node.NodeState.{NodeState}
-use Rattle.mari_core.specs.declared.node.NodeState.TheVariants.{Untaken, Taken, Branched, Closed}
+use Rattle.mari_core.specs.declared.node.NodeState.TheVariants.{Untaken, Taken, Closed}
 use Rattle.mari_core.specs.declared.search.Actor.{Actor}
 use Rattle.mari_core.specs.Growth.{Entry, Grown, MaySettle, IsReached, children_at, closing_leaf, grown, settling, settling_by, take_refused, return_refused, seed, with_state}
 use Rattle.mari_core.specs.Growth.Entry.{Take, Close, Branch, Full, GiveBack}
 use Rattle.mari_core.specs.Machine.{Machine, after, by_actor, offering, refusal, seen_by, IsProper, KeepsFacts}
 use Rattle.mari_core.specs.Nodes.{TreeNode, branch_of, in_state, new_node, state_at, words_of}
-use Rattle.mari_core.specs.Preorder.{is_done, IsFirstOpen, IsPreorder}
-use Rattle.mari_core.proofs.Changes.{IsAt, length-with_state, node_at, state_of_node, state_other, state_same}
-use Rattle.mari_core.proofs.Lists.{changed_same, get_back, get_front, length-changed}
+use Rattle.mari_core.specs.Preorder.{is_done, IsFirstOpen}
+use Rattle.mari_core.proofs.Changes.{length-with_state, state_other, state_same}
+use Rattle.mari_core.proofs.Lists.{changed_same, get_back, get_front}
 use Rattle.mari_core.proofs.Machines.{actor_there, by_actor_there}
 use Rattle.mari_core.proofs.Walks.{number_within}
 use Rattle.mari_workers.specs.Alone.{after_offer, best_in, visited, IsSwept, IsUnderWay, IsVisited}

@@ -12,4 +12,5 @@ pub mod Finishing
 pub mod Parts
 pub mod Machines
 pub mod Replays
+pub mod EventsKept
 pub mod ExampleSearch

@@ -1,5 +1,5 @@
 -- A list of events, one after the other.
-use Rattle.std.specs.Prelude.{◌≡◌, ℕ, ◌+◌, ◌≤◌, ◌⊎◌, List, [], ◌∷◌, length, Option, Some, None, Result, Ok, Err, ⊤}
+use Rattle.std.specs.Prelude.{◌≡◌, ℕ, ◌+◌, ◌≤◌, ◌⊎◌, List, [], ◌∷◌, length, take, Option, Some, None, Result, Ok, Err, ⊤}
 use Rattle.mari_core.specs.declared.event.Event.{Event}
 use Rattle.mari_core.specs.declared.event.StepFault.{StepFault}
 use Rattle.mari_core.specs.declared.event.StepFault.TheVariants.{Memory}
@@ -26,7 +26,14 @@ abbrev pub AreProper : Machine → List Event → Type 0
 AreProper s [] = ⊤
 AreProper s (event ∷ events) = IsProper s event × (refusal s event ≡ None → AreProper (after s event) events)
 
--- the answer to a list of events is the search after them, where none is refused, or the first refusal; want of memory is free
+-- memory was wanting before the first event, at place 0, or at an event that isn't refused, and before which none is
+pub record IsStarved (s : Machine) (events : List Event) (fault : ReplayFault) : Type 0 where
+  pub memory : fault.fault ≡ Memory
+  pub within : fault.place ≤ length events
+  pub none_refused : first_refusal 0 s (take fault.place events) ≡ None
+
+-- the answer to a list of events is the search after them, where none is refused, or the first refusal; want of memory is free,
+-- but doesn't pass over a refusal
 abbrev pub IsReplayed : Machine → List Event → Result Machine ReplayFault → Type 0
 IsReplayed s events (Ok last) = (first_refusal 0 s events ≡ None) × (last ≡ after_all s events)
-IsReplayed s events (Err fault) = (first_refusal 0 s events ≡ Some fault) ⊎ ((fault.fault ≡ Memory) × (fault.place ≤ length events))
+IsReplayed s events (Err fault) = (first_refusal 0 s events ≡ Some fault) ⊎ IsStarved s events fault

@@ -7,6 +7,7 @@
 mod event;
 mod growth;
 mod history;
+mod laws;
 mod node;
 mod preorder;
 mod search;
@@ -16,5 +17,6 @@ mod tests;
 pub use event::{Event, FinishFault, ReplayFault, StepFault};
 pub use growth::Growth;
 pub use history::replay;
+pub use laws::facts_are_kept;
 pub use node::{Node, NodeState};
 pub use search::{Actor, Search};

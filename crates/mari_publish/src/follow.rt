@@ -363,6 +363,71 @@ fn keep(
     ))
 }
 
+/// The heading of a run that is published, behind the head or a block.
+fn run_line(
+    published: u32,
+    unpublished: u32,
+    heading: Heading,
+) -> Result<(Kept, Option<Part>), Refused>
+    requires { published + unpublished ≤ 1000 }
+    ensures { Follows (starts_block (counts published unpublished) (Line.Run heading)) result }
+{
+    if published + unpublished >= 1000 {
+        return Err(Refused::Order);
+    }
+    Ok((
+        Kept {
+            held: Held::Run(heading),
+            published,
+            unpublished,
+        },
+        None,
+    ))
+}
+
+/// The line of a run that isn't published, behind the head or a block.
+fn unpublished_line(
+    published: u32,
+    unpublished: u32,
+    heading: Heading,
+    count: u32,
+) -> Result<(Kept, Option<Part>), Refused>
+    requires { published + unpublished ≤ 1000 }
+    ensures { Follows (starts_block (counts published unpublished) (Line.Unpublished heading count)) result }
+{
+    if published + unpublished >= 1000 {
+        return Err(Refused::Order);
+    }
+    Ok((
+        Kept {
+            held: Held::Between,
+            published,
+            unpublished: unpublished + 1,
+        },
+        Some(Part::Block(Block::Unpublished(heading, count))),
+    ))
+}
+
+/// The first operator's line of the totals, behind the head or a block.
+fn first_total(
+    alloc: Global,
+    published: u32,
+    unpublished: u32,
+    operator: MoneyLine,
+) -> Result<(Kept, Option<Part>), Refused>
+    ensures { Follows (starts_block (counts published unpublished) (Line.TotalOperator operator)) result }
+{
+    let operators = pushed(empty(alloc), operator)?;
+    Ok((
+        Kept {
+            held: Held::Totals(operators, empty(alloc)),
+            published,
+            unpublished,
+        },
+        None,
+    ))
+}
+
 /// A line behind the head or a block.
 fn block_line(
     alloc: Global,
@@ -374,43 +439,11 @@ fn block_line(
     ensures { Follows (starts_block (counts published unpublished) line) result }
 {
     match line {
-        Line::Run(heading) => {
-            if published + unpublished >= 1000 {
-                return Err(Refused::Order);
-            }
-            Ok((
-                Kept {
-                    held: Held::Run(heading),
-                    published,
-                    unpublished,
-                },
-                None,
-            ))
-        }
+        Line::Run(heading) => run_line(published, unpublished, heading),
         Line::Unpublished(heading, count) => {
-            if published + unpublished >= 1000 {
-                return Err(Refused::Order);
-            }
-            Ok((
-                Kept {
-                    held: Held::Between,
-                    published,
-                    unpublished: unpublished + 1,
-                },
-                Some(Part::Block(Block::Unpublished(heading, count))),
-            ))
+            unpublished_line(published, unpublished, heading, count)
         }
-        Line::TotalOperator(operator) => {
-            let operators = pushed(empty(alloc), operator)?;
-            Ok((
-                Kept {
-                    held: Held::Totals(operators, empty(alloc)),
-                    published,
-                    unpublished,
-                },
-                None,
-            ))
-        }
+        Line::TotalOperator(operator) => first_total(alloc, published, unpublished, operator),
         _ => Err(Refused::Order),
     }
 }

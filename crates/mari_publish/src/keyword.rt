@@ -5,74 +5,33 @@ ghost use Rattle.mari_publish.specs.Spelling.{keyword_text};
 ghost use Rattle.mari_publish.specs.declared.line.Keyword.{Keyword as KeywordValue};
 
 use crate::line::Keyword;
-use crate::number::is_same;
 
 /// The keyword that is written so.
 pub fn keyword_of(text: &[u8]) -> Option<Keyword>
     ensures { MatchOption result ((keyword : KeywordValue) → keyword_text keyword ≡ text.now → ⊥) (λ keyword. keyword_text keyword ≡ text.now) }
 {
-    if is_same(text, b"mari") {
-        return Some(Keyword::Mari);
+    match text {
+        b"mari" => Some(Keyword::Mari),
+        b"run" => Some(Keyword::Run),
+        b"welfare" => Some(Keyword::Welfare),
+        b"zone" => Some(Keyword::Zone),
+        b"border" => Some(Keyword::Border),
+        b"bid" => Some(Keyword::Bid),
+        b"demand" => Some(Keyword::Demand),
+        b"tree" => Some(Keyword::Tree),
+        b"branch" => Some(Keyword::Branch),
+        b"bound" => Some(Keyword::Bound),
+        b"cut" => Some(Keyword::Cut),
+        b"conflict" => Some(Keyword::Conflict),
+        b"at" => Some(Keyword::At),
+        b"flows" => Some(Keyword::Flows),
+        b"mws" => Some(Keyword::Mws),
+        b"operator" => Some(Keyword::Operator),
+        b"provider" => Some(Keyword::Provider),
+        b"end" => Some(Keyword::End),
+        b"total-operator" => Some(Keyword::TotalOperator),
+        b"total-provider" => Some(Keyword::TotalProvider),
+        b"done" => Some(Keyword::Done),
+        _ => None,
     }
-    if is_same(text, b"run") {
-        return Some(Keyword::Run);
-    }
-    if is_same(text, b"welfare") {
-        return Some(Keyword::Welfare);
-    }
-    if is_same(text, b"zone") {
-        return Some(Keyword::Zone);
-    }
-    if is_same(text, b"border") {
-        return Some(Keyword::Border);
-    }
-    if is_same(text, b"bid") {
-        return Some(Keyword::Bid);
-    }
-    if is_same(text, b"demand") {
-        return Some(Keyword::Demand);
-    }
-    if is_same(text, b"tree") {
-        return Some(Keyword::Tree);
-    }
-    if is_same(text, b"branch") {
-        return Some(Keyword::Branch);
-    }
-    if is_same(text, b"bound") {
-        return Some(Keyword::Bound);
-    }
-    if is_same(text, b"cut") {
-        return Some(Keyword::Cut);
-    }
-    if is_same(text, b"conflict") {
-        return Some(Keyword::Conflict);
-    }
-    if is_same(text, b"at") {
-        return Some(Keyword::At);
-    }
-    if is_same(text, b"flows") {
-        return Some(Keyword::Flows);
-    }
-    if is_same(text, b"mws") {
-        return Some(Keyword::Mws);
-    }
-    if is_same(text, b"operator") {
-        return Some(Keyword::Operator);
-    }
-    if is_same(text, b"provider") {
-        return Some(Keyword::Provider);
-    }
-    if is_same(text, b"end") {
-        return Some(Keyword::End);
-    }
-    if is_same(text, b"total-operator") {
-        return Some(Keyword::TotalOperator);
-    }
-    if is_same(text, b"total-provider") {
-        return Some(Keyword::TotalProvider);
-    }
-    if is_same(text, b"done") {
-        return Some(Keyword::Done);
-    }
-    None
 }

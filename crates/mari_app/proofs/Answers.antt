@@ -1,17 +1,15 @@
 -- What an outcome and its report say of each answer.
-use Rattle.std.proofs.Common.{◌≡◌, ◌⊎◌, inl, inr, ℕ, List, [], ◌∷◌, ◌++◌, Option, Some, None, Ok, Err, refl, sym, ◌∙◌, subst, ap, map, arith}
+use Rattle.std.proofs.Common.{◌≡◌, ◌⊎◌, inl, inr, ℕ, List, [], ◌∷◌, Option, Some, None, refl, sym, ◌∙◌, subst, ap, map, arith}
 use Rattle.std.proofs.lemmas.Bool.Decides.{nat_tests}
 use Rattle.std.proofs.lemmas.List.{append-nil}
-use Rattle.std.specs.Prelude.{◌==◌, Bool, true, false, ◌<◌, ◌≤◌}
+use Rattle.std.specs.Prelude.{◌==◌, Bool, true, false, ◌<◌}
 use Rattle.mari_units.specs.declared.faults.Refusal.{Refusal}
-use Rattle.mari_io.specs.declared.shelf.Fetch.{Fetch}
 use Rattle.mari_io.specs.declared.shelf.Fetch.TheVariants as fetch
 use Rattle.mari_io.specs.Outside.{Pages}
-use Rattle.mari_market.specs.SearchTree.{HasSize, IsLarger}
+use Rattle.mari_market.specs.SearchTree.{IsLarger}
 use Rattle.mari_market.proofs.SearchTrees.{larger_than_budget}
 use Rattle.mari_publish.specs.declared.publication.Block.{Block}
 use Rattle.mari_publish.specs.declared.publication.Block.TheVariants as block
-use Rattle.mari_publish.specs.declared.publication.Publication.{Publication}
 use Rattle.mari_publish.specs.Lines.{unpublished_in}
 use Rattle.mari_remain.specs.RunMarket.{market_at}
 use Rattle.mari_remain.specs.declared.books.Books.{Books}
@@ -27,10 +25,10 @@ use Rattle.mari_app.specs.declared.status.Status.{Status}
 use Rattle.mari_app.specs.declared.status.Status.TheVariants as status
 use Rattle.mari_app.specs.Built.{accepted_at}
 use Rattle.mari_app.specs.Headline.{HasDay, WroteDay}
-use Rattle.mari_app.specs.Outcome.{LacksPage, RefusesPages, FetchSays, Says, IsNoCommand, IsNoPage, Reports, Reported, status_of, fetch_status, printed_of}
+use Rattle.mari_app.specs.Outcome.{LacksPage, RefusesPages, Says, IsNoCommand, IsNoPage, Reported, status_of, printed_of}
 use Rattle.mari_app.specs.Outcome.Reports.{Printed, CutOff, Starved}
 use Rattle.mari_app.specs.Printing.{usage_line, then_took}
-use Rattle.mari_app.specs.Program.{HasBudget, IsAccepted, IsRefused, IsReadFault, gap_word, gap_status, Lacks, MayPrint, IsCutOff, Or}
+use Rattle.mari_app.specs.Program.{HasBudget, IsAccepted, IsRefused, IsReadFault, gap_status, Lacks, IsCutOff, Or}
 use Rattle.mari_app.specs.Words.{Command, command_at}
 
 -- the answer is the outcome's, or a write fault, or want of memory

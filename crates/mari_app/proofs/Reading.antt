@@ -1,11 +1,10 @@
 -- What reading the books of a folder says, from what the reader of books says.
-use Rattle.std.proofs.Common.{◌≡◌, ◌∙◌, ℕ, List, [], ◌∷◌, length, Option, Some, None, Ok, Err, refl, ap, if◌then◌else◌}
-use Rattle.std.specs.Prelude.{◌==◌, Bool, true, false, not, ◌||◌}
+use Rattle.std.proofs.Common.{◌≡◌, ◌∙◌, ℕ, List, [], ◌∷◌, length, Some, None, Ok, Err, refl, ap, if◌then◌else◌}
+use Rattle.std.specs.Prelude.{Bool, true, false}
 use Rattle.mari_units.specs.declared.faults.Refusal.{Refusal}
 use Rattle.mari_io.specs.declared.shelf.Fetch.TheVariants as fetch
 use Rattle.mari_io.specs.Outside.{Pages}
 use Rattle.std.specs.List.{list_any}
-use Rattle.mari_links.specs.declared.links.BidLinks.{BidLinks}
 use Rattle.mari_demands.specs.declared.runs.Run.{Run}
 use Rattle.mari_remain.specs.declared.books.Books.{Books}
 use Rattle.mari_day.specs.declared.reading.BooksFault.{BooksFault}
@@ -45,10 +44,9 @@ one (run ∷ more ∷ runs) e = cc e
 
 -- what is built has one run
 pub one-run : (books : Books) → not_built_in books ≡ None → length books.runs.runs ≡ 1
-one-run books none = by (list_any (λ (l : BidLinks). l.gated) books.links.links) (list_any is_linked books.links.links) (is_one_scheduled books.runs.runs) refl none
+one-run books none = by (list_any is_linked books.links.links) (is_one_scheduled books.runs.runs) refl none
   where
-    by : (a b c : Bool) → is_one_scheduled books.runs.runs ≡ c → (if a then Some (not_built 4) else if b then Some (not_built 5) else if c then None else Some (not_built 6)) ≡ None → length books.runs.runs ≡ 1
-    by true b c e n = cc n
-    by false true c e n = cc n
-    by false false true e n = one books.runs.runs e
-    by false false false e n = cc n
+    by : (a b : Bool) → is_one_scheduled books.runs.runs ≡ b → (if a then Some (not_built 5) else if b then None else Some (not_built 6)) ≡ None → length books.runs.runs ≡ 1
+    by true b e n = cc n
+    by false true e n = one books.runs.runs e
+    by false false e n = cc n

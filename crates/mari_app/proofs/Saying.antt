@@ -8,7 +8,7 @@ use Rattle.mari_day.specs.Published.{IsPrintedDay}
 use Rattle.mari_app.specs.declared.outcome.Outcome.TheVariants.{Day, PartOfDay}
 use Rattle.mari_app.specs.Books.{Gives}
 use Rattle.mari_app.specs.Headline.{HasDay}
-use Rattle.mari_app.specs.Outcome.{day_comes_to, LacksPage, NamesAPage, RefusesPages, IsNoCommand, Says}
+use Rattle.mari_app.specs.Outcome.{day_comes_to, Says}
 use Rattle.mari_app.specs.Words.{Command, command_at}
 
 module _ (words : List (List ℕ)) (pages : Pages) (command : Command) (asked : command_at words ≡ Some command) where

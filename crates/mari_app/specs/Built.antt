@@ -1,5 +1,5 @@
 -- The books that this stage of the program clears, and those that it refuses as not built.
-use Rattle.std.specs.Prelude.{ℕ, ◌==◌, Bool, true, false, not, ◌&&◌, ◌||◌, List, [], ◌∷◌, length, Option, Some, None, Result, Ok, Err, if◌then◌else◌}
+use Rattle.std.specs.Prelude.{ℕ, ◌==◌, Bool, false, not, ◌||◌, List, [], ◌∷◌, length, Option, Some, None, Result, Ok, Err, if◌then◌else◌}
 use Rattle.std.specs.List.{list_any}
 use Rattle.mari_units.specs.declared.faults.Refusal.{Refusal}
 use Rattle.mari_links.specs.declared.links.BidLinks.{BidLinks}
@@ -21,10 +21,9 @@ is_one_scheduled (run ∷ more ∷ runs) = false
 abbrev pub not_built : ℕ → Refusal
 not_built file = record { file = file; line = 1; number = 20 }
 
--- bids with a gate, then links to other quarters, then runs that aren't one scheduled run
+-- links to other quarters, then runs that aren't one scheduled run
 abbrev pub not_built_in : Books → Option Refusal
 not_built_in books =
-    if list_any (λ (l : BidLinks). l.gated) books.links.links then Some (not_built 4) else
     if list_any is_linked books.links.links then Some (not_built 5) else
     if is_one_scheduled books.runs.runs then None else Some (not_built 6)
 

@@ -1,6 +1,6 @@
 -- The headline: what is promised of each day that the program prints. Read this file first; it stands on `Published` of
 -- `mari_day`, and that on the definitions of `mari_market` (`Optimal`, `Clearing`, `Interval`) and `mari_settle` (`Ledger`).
-use Rattle.std.specs.Prelude.{ℕ, ◌≡◌, ◌≤◌, ◌==◌, Bool, List, Option, Some, Ok}
+use Rattle.std.specs.Prelude.{ℕ, ◌≡◌, ◌==◌, Bool, List, Option, Some, Ok}
 use Rattle.mari_io.specs.Outside.{Pages}
 use Rattle.mari_remain.specs.declared.books.Books.{Books}
 use Rattle.mari_day.specs.declared.day.PrintedDay.{PrintedDay}

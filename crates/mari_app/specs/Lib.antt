@@ -8,4 +8,3 @@ pub mod Built
 pub mod Words
 pub mod Views
 pub mod Status
-pub mod Plain

@@ -27,12 +27,6 @@ fn is_linked(links: &BidLinks) -> bool
         || !links.technical.as_slice().is_empty()
 }
 
-fn has_gates(links: &[BidLinks]) -> bool
-    ensures { result ≡ list_any (λ l. l.gated) links.now }
-{
-    links.iter().any(|links| links.gated)
-}
-
 fn has_links(links: &[BidLinks]) -> bool
     ensures { result ≡ list_any is_linked_to links.now }
 {
@@ -59,15 +53,11 @@ fn not_built(file: u8) -> Refusal
     }
 }
 
-/// What of these books this stage doesn't clear: a bid with a gate, a link to another quarter, or runs that aren't one
-/// scheduled run.
+/// What of these books this stage doesn't clear: a link to another quarter, or runs that aren't one scheduled run.
 fn unbuilt(books: &Books) -> Option<Refusal>
     ensures { result ≡ not_built_in books.now }
 {
-    let links = books.links.links.as_slice();
-    if has_gates(links) {
-        Some(not_built(4))
-    } else if has_links(links) {
+    if has_links(books.links.links.as_slice()) {
         Some(not_built(5))
     } else if is_one_scheduled(books.runs.runs.as_slice()) {
         None

@@ -1,4 +1,4 @@
-//! Clears a folder of market files: `mari clear FOLDER`.
+//! Clears a folder of market files: `mari clear FOLDER [--nodes N]`.
 //!
 //! `run_program` is the whole program over any shelf and sink: words, the books of a folder, the text of their day, and bytes. Its contract carries the headline (`specs/Headline.antt`). `main` calls it over real files and standard output.
 #![tactic(auto)]
@@ -6,7 +6,6 @@
 mod arguments;
 mod books;
 mod outcome;
-mod plain;
 mod program;
 mod refusals;
 mod status;

@@ -15,13 +15,13 @@ ghost use Rattle.mari_app.specs.Words.{command_at};
 
 use crate::books::accepted_books;
 use crate::outcome::Outcome;
-use crate::plain::Plain;
 use crate::status::Status;
 use crate::words::command_of;
 use crate::writing::{file_line, refused_line, usage_line, write_all};
 use mari_day::{BooksFault, PrintedDay, day_of};
 use mari_io::{Fetch, Shelf, Sink};
 use mari_units::Refusal;
+use mari_workers::Alone;
 use std::alloc::Global;
 
 /// What the text of a day comes to.
@@ -49,7 +49,7 @@ fn outcome_of<S: Shelf>(alloc: Global, words: &[String], shelf: &mut S) -> Outco
         return Outcome::NoCommand;
     };
     match accepted_books(alloc, shelf, command.folder) {
-        Ok(books) => match day_of(alloc, &books, command.nodes, &mut Plain) {
+        Ok(books) => match day_of(alloc, &books, command.nodes, &mut Alone) {
             Ok(day) => day_outcome(day),
             Err(_) => Outcome::NoMemory,
         },
@@ -128,9 +128,10 @@ fn report<K: Sink>(alloc: Global, sink: &mut K, outcome: &Outcome) -> Status
 
 /// Does all that the program does: clears the folder that the words name, and prints its day, or says why not.
 ///
-/// `clear FOLDER` fetches the seven market files of the folder in their order and then reads them in that order. At this stage
-/// the day has one form, no bid has a gate, no link goes to another quarter, and there is one scheduled run; what is in another
-/// form is refused as not built, after all other refusals.
+/// `clear FOLDER` fetches the seven market files of the folder in their order and then reads them in that order. With
+/// `--nodes N` behind it a run's search makes at most N nodes, 1 to 50,000, and without it 10,000. At this stage the day has
+/// one form, no link goes to another quarter, and there is one scheduled run; what is in another form is refused as not built,
+/// after all other refusals.
 pub fn run_program<S: Shelf, K: Sink>(
     alloc: Global,
     words: &[String],

@@ -1,5 +1,9 @@
 //! Worked folders and words, with the lines that they print.
 
+mod gated_bids;
+mod node_option;
+mod not_built;
+
 use crate::run_program;
 use mari_io::{FaultPlan, MemoryShelf, MemorySink, Name64, Page};
 use mari_units::Items;
@@ -128,6 +132,38 @@ fn clears(
 ) -> Result<(), Fail> {
     let shelf = shelf(alloc, folder, &[])?;
     compare(rt, alloc, &["clear", "F"], shelf, code, printed)
+}
+
+/// Clears folder F within a number of nodes, and compares the exit code and what is printed.
+fn clears_within(
+    rt: &impl Abort,
+    alloc: Global,
+    folder: Folder<'_>,
+    nodes: &str,
+    code: u8,
+    printed: &str,
+) -> Result<(), Fail> {
+    let shelf = shelf(alloc, folder, &[])?;
+    let words = ["clear", "F", "--nodes", nodes];
+    compare(rt, alloc, &words, shelf, code, printed)
+}
+
+/// Clears folder F, and compares the day that is printed with what stands before and behind its certificate.
+fn prints_around(
+    rt: &impl Abort,
+    alloc: Global,
+    folder: Folder<'_>,
+    before: &str,
+    after: &str,
+) -> Result<(), Fail> {
+    let mut shelf = shelf(alloc, folder, &[])?;
+    let mut sink = MemorySink::new(alloc, 100, 10_000, plan(alloc, &[])?)?;
+    let words = words(alloc, &["clear", "F"])?;
+    let status = run_program(alloc, &words, &mut shelf, &mut sink);
+    assert_eq!(rt; status.code(), 0);
+    assert!(rt; sink.bytes().starts_with(before.as_bytes()));
+    assert!(rt; sink.bytes().ends_with(after.as_bytes()));
+    Ok(())
 }
 
 /// Clears folder F, and looks for lines in the day that is printed.
@@ -276,7 +312,7 @@ fn first_refusal_of_each_file_by_its_name(rt: HostRuntime) -> Result<(), Fail> {
 }
 
 #[test]
-fn refusals_of_runs_demands_and_what_is_not_built(rt: HostRuntime) -> Result<(), Fail> {
+fn refusals_of_runs_and_demands(rt: HostRuntime) -> Result<(), Fail> {
     let alloc = rt.alloc();
     let runs = Folder {
         runs: "run,quarter,kind,reference\n2,1,scheduled,40.00\n",
@@ -285,7 +321,7 @@ fn refusals_of_runs_demands_and_what_is_not_built(rt: HostRuntime) -> Result<(),
     };
     refuses(&rt, alloc, runs, "refused runs.csv 2 12 RunsOutOfOrder\n")?;
     let demands = Folder {
-        links: "kind,first,second\ngroup,g1,u1\n",
+        runs: "run,quarter,kind,reference\n1,1,direct,40.00\n",
         demands: "run,zone,mw,price\n1,Y,60,\n",
         ..ONE_ZONE
     };
@@ -294,25 +330,13 @@ fn refusals_of_runs_demands_and_what_is_not_built(rt: HostRuntime) -> Result<(),
         alloc,
         demands,
         "refused demands.csv 2 13 UnknownZone\n",
-    )?;
-    let gated = Folder {
-        links: "kind,first,second\ngroup,g1,u1\n",
-        runs: "run,quarter,kind,reference\n",
-        demands: DEMANDS,
-        ..ONE_ZONE
-    };
-    refuses(&rt, alloc, gated, "refused bids.csv 1 20 NotBuilt\n")?;
-    let direct = Folder {
-        runs: "run,quarter,kind,reference\n1,1,direct,40.00\n",
-        ..ONE_ZONE
-    };
-    refuses(&rt, alloc, direct, "refused runs.csv 1 20 NotBuilt\n")
+    )
 }
 
 /// The usage line answers these words.
 fn compare_usage(rt: &impl Abort, alloc: Global, texts: &[&str]) -> Result<(), Fail> {
     let shelf = shelf(alloc, ONE_ZONE, &[])?;
-    let printed = "usage: mari clear FOLDER\n";
+    let printed = "usage: mari clear FOLDER [--nodes N]\n";
     compare(rt, alloc, texts, shelf, 2, printed)
 }
 

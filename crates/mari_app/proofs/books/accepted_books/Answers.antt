@@ -1,4 +1,4 @@
-use Rattle.std.proofs.Common.{◌≡◌, ◌∙◌, sym}
+use Rattle.std.proofs.Common.{◌∙◌, sym}
 use Rattle.mari_app.proofs.Reading.{gives-books, gives-refusal, one-run, tells-fault}
 use Rattle.mari_app.proofs.books.accepted_books.Goals as goal
 

@@ -1,0 +1,362 @@
+//! Folders with gated bids, and the days that they print.
+//!
+//! Where the market leaves a bound's price open, or which node closes the tree, the text is compared around the certificate.
+
+use super::{DEMANDS, Folder, ONE_ZONE, clears, clears_within, prints, prints_around, refuses};
+use std::test::Fail;
+
+/// A bid of 40 MW or none, for which a demand of 30 MW is too small.
+const OVERSIZED: Folder<'static> = Folder {
+    bids: "id,provider,zone,quarter,direction,price,least,greatest,kind\ni1,P,Z,1,up,30.00,40,40,both\nu1,P,Z,1,up,50.00,0,100,both\n",
+    demands: "run,zone,mw,price\n1,Z,30,\n",
+    ..ONE_ZONE
+};
+
+/// An expensive bid that is the parent of a cheap one.
+const FAMILY: Folder<'static> = Folder {
+    bids: "id,provider,zone,quarter,direction,price,least,greatest,kind\npa,P,Z,1,up,60.00,10,10,both\nch,P,Z,1,up,10.00,0,20,both\np1,P,Z,1,up,50.00,0,100,both\n",
+    links: "kind,first,second\nchild,ch,pa\n",
+    demands: "run,zone,mw,price\n1,Z,40,\n",
+    ..ONE_ZONE
+};
+
+#[test]
+fn an_oversized_bid_is_rejected_by_a_cut(rt: HostRuntime) -> Result<(), Fail> {
+    let printed = "\
+mari 1 2025-03-12 96 10000
+run 1 1 scheduled published
+welfare 299847000
+zone Z 50.00 50.00 50.00 1
+bid i1 0
+bid u1 30
+demand 1 30
+tree 3
+branch
+bound 50.00
+cut out 1
+operator T 0.0000 0.0000 0.0000
+provider P 375.0000
+end 1
+total-operator T 0.0000 0.0000 0.0000
+total-provider P 375.0000
+done 1 0
+";
+    clears(&rt, rt.alloc(), OVERSIZED, 0, printed)
+}
+
+#[test]
+fn a_paradox_bid_is_rejected_by_a_conflict(rt: HostRuntime) -> Result<(), Fail> {
+    let folder = Folder {
+        bids: "id,provider,zone,quarter,direction,price,least,greatest,kind\np1,P,Z,1,up,10.00,0,40,both\ni1,P,Z,1,up,20.00,20,20,both\n",
+        demands: "run,zone,mw,price\n1,Z,50,\n",
+        ..ONE_ZONE
+    };
+    let printed = "\
+mari 1 2025-03-12 96 10000
+run 1 1 scheduled published
+welfare 399956000
+zone Z 99999.00 99999.00 99999.00 1
+bid p1 40
+bid i1 0
+demand 1 40
+tree 3
+branch
+bound 99999.00
+conflict 1
+at 10.00
+flows
+mws 30 20 50
+operator T 0.0000 0.0000 0.0000
+provider P 999990.0000
+end 1
+total-operator T 0.0000 0.0000 0.0000
+total-provider P 999990.0000
+done 1 0
+";
+    clears(&rt, rt.alloc(), folder, 0, printed)
+}
+
+// Every potential from 50.00 to 99999.00 has the dual value 499825000 at the empty prefix, so the bound isn't compared.
+#[test]
+fn the_price_is_at_the_end_of_its_interval(rt: HostRuntime) -> Result<(), Fail> {
+    let folder = Folder {
+        bids: "id,provider,zone,quarter,direction,price,least,greatest,kind\np1,P,Z,1,up,10.00,0,20,both\ni1,P,Z,1,up,50.00,30,30,both\n",
+        demands: "run,zone,mw,price\n1,Z,50,\n",
+        ..ONE_ZONE
+    };
+    let before = "\
+mari 1 2025-03-12 96 10000
+run 1 1 scheduled published
+welfare 499825000
+zone Z 50.00 50.00 99999.00 1
+bid p1 20
+bid i1 30
+demand 1 50
+tree 1
+bound ";
+    let after = "
+operator T 0.0000 0.0000 0.0000
+provider P 625.0000
+end 1
+total-operator T 0.0000 0.0000 0.0000
+total-provider P 625.0000
+done 1 0
+";
+    prints_around(&rt, rt.alloc(), folder, before, after)
+}
+
+#[test]
+fn one_bid_of_a_group_runs(rt: HostRuntime) -> Result<(), Fail> {
+    let folder = Folder {
+        bids: "id,provider,zone,quarter,direction,price,least,greatest,kind\ng1,P,Z,1,up,10.00,0,10,both\ng2,P,Z,1,up,20.00,0,20,both\ng3,P,Z,1,up,30.00,0,30,both\np1,P,Z,1,up,50.00,0,100,both\n",
+        links: "kind,first,second\ngroup,g,g1\ngroup,g,g2\ngroup,g,g3\n",
+        demands: "run,zone,mw,price\n1,Z,25,\n",
+        ..ONE_ZONE
+    };
+    let printed = "\
+mari 1 2025-03-12 96 10000
+run 1 1 scheduled published
+welfare 249932500
+zone Z 50.00 50.00 50.00 1
+bid g1 0
+bid g2 20
+bid g3 0
+bid p1 5
+demand 1 25
+tree 5
+branch
+branch
+bound 30.00
+bound 50.00
+bound 50.00
+operator T 0.0000 0.0000 0.0000
+provider P 312.5000
+end 1
+total-operator T 0.0000 0.0000 0.0000
+total-provider P 312.5000
+done 1 0
+";
+    clears(&rt, rt.alloc(), folder, 0, printed)
+}
+
+#[test]
+fn a_parent_at_a_loss_stays_out_with_its_child(rt: HostRuntime) -> Result<(), Fail> {
+    let printed = "\
+mari 1 2025-03-12 96 10000
+run 1 1 scheduled published
+welfare 399796000
+zone Z 50.00 50.00 50.00 1
+bid pa 0
+bid ch 0
+bid p1 40
+demand 1 40
+tree 5
+branch
+bound 50.00
+branch
+conflict 1
+at 50.00
+flows
+mws 10 0 30 40
+conflict 1
+at 50.00
+flows
+mws 10 20 10 40
+operator T 0.0000 0.0000 0.0000
+provider P 500.0000
+end 1
+total-operator T 0.0000 0.0000 0.0000
+total-provider P 500.0000
+done 1 0
+";
+    clears(&rt, rt.alloc(), FAMILY, 0, printed)
+}
+
+// At the empty prefix the parent and p1 cost the same, so whether the tree ends there depends on which of them is chosen.
+#[test]
+fn a_parent_in_the_money_runs_with_its_child(rt: HostRuntime) -> Result<(), Fail> {
+    let folder = Folder {
+        bids: "id,provider,zone,quarter,direction,price,least,greatest,kind\npa,P,Z,1,up,60.00,10,10,both\nch,P,Z,1,up,10.00,0,20,both\np1,P,Z,1,up,60.00,0,100,both\n",
+        ..FAMILY
+    };
+    let before = "\
+mari 1 2025-03-12 96 10000
+run 1 1 scheduled published
+welfare 399856000
+zone Z 60.00 60.00 60.00 1
+bid pa 10
+bid ch 20
+bid p1 10
+demand 1 40
+tree ";
+    let after = "
+operator T 0.0000 0.0000 0.0000
+provider P 600.0000
+end 1
+total-operator T 0.0000 0.0000 0.0000
+total-provider P 600.0000
+done 1 0
+";
+    prints_around(&rt, rt.alloc(), folder, before, after)
+}
+
+#[test]
+fn a_budget_of_one_node_leaves_the_run_unpublished(rt: HostRuntime) -> Result<(), Fail> {
+    let printed = "\
+mari 1 2025-03-12 96 1
+run 1 1 scheduled unpublished 1
+total-operator T 0.0000 0.0000 0.0000
+total-provider P 0.0000
+done 0 1
+";
+    clears_within(&rt, rt.alloc(), OVERSIZED, "1", 1, printed)
+}
+
+#[test]
+fn a_budget_of_two_nodes_leaves_the_run_unpublished(rt: HostRuntime) -> Result<(), Fail> {
+    let printed = "\
+mari 1 2025-03-12 96 2
+run 1 1 scheduled unpublished 1
+total-operator T 0.0000 0.0000 0.0000
+total-provider P 0.0000
+done 0 1
+";
+    clears_within(&rt, rt.alloc(), OVERSIZED, "2", 1, printed)
+}
+
+#[test]
+fn a_budget_of_three_nodes_publishes_the_run(rt: HostRuntime) -> Result<(), Fail> {
+    let printed = "\
+mari 1 2025-03-12 96 3
+run 1 1 scheduled published
+welfare 299847000
+zone Z 50.00 50.00 50.00 1
+bid i1 0
+bid u1 30
+demand 1 30
+tree 3
+branch
+bound 50.00
+cut out 1
+operator T 0.0000 0.0000 0.0000
+provider P 375.0000
+end 1
+total-operator T 0.0000 0.0000 0.0000
+total-provider P 375.0000
+done 1 0
+";
+    clears_within(&rt, rt.alloc(), OVERSIZED, "3", 0, printed)
+}
+
+#[test]
+fn twelve_indivisible_bids_run_within_the_default_budget(rt: HostRuntime) -> Result<(), Fail> {
+    let folder = Folder {
+        bids: "id,provider,zone,quarter,direction,price,least,greatest,kind\ni1,P,Z,1,up,30.00,1,1,both\ni2,P,Z,1,up,30.00,1,1,both\ni3,P,Z,1,up,30.00,1,1,both\ni4,P,Z,1,up,30.00,1,1,both\ni5,P,Z,1,up,30.00,1,1,both\ni6,P,Z,1,up,30.00,1,1,both\ni7,P,Z,1,up,30.00,1,1,both\ni8,P,Z,1,up,30.00,1,1,both\ni9,P,Z,1,up,30.00,1,1,both\ni10,P,Z,1,up,30.00,1,1,both\ni11,P,Z,1,up,30.00,1,1,both\ni12,P,Z,1,up,30.00,1,1,both\np1,P,Z,1,up,50.00,0,100,both\n",
+        demands: "run,zone,mw,price\n1,Z,30,\n",
+        ..ONE_ZONE
+    };
+    let printed = "\
+mari 1 2025-03-12 96 10000
+run 1 1 scheduled published
+welfare 299871000
+zone Z 50.00 50.00 50.00 1
+bid i1 1
+bid i2 1
+bid i3 1
+bid i4 1
+bid i5 1
+bid i6 1
+bid i7 1
+bid i8 1
+bid i9 1
+bid i10 1
+bid i11 1
+bid i12 1
+bid p1 18
+demand 1 30
+tree 1
+bound 50.00
+operator T 0.0000 0.0000 0.0000
+provider P 375.0000
+end 1
+total-operator T 0.0000 0.0000 0.0000
+total-provider P 375.0000
+done 1 0
+";
+    clears(&rt, rt.alloc(), folder, 0, printed)
+}
+
+#[test]
+fn a_bid_alone_in_a_group_is_cleared_whole(rt: HostRuntime) -> Result<(), Fail> {
+    let folder = Folder {
+        links: "kind,first,second\ngroup,g1,u1\n",
+        ..ONE_ZONE
+    };
+    let printed = "\
+mari 1 2025-03-12 96 10000
+run 1 1 scheduled published
+welfare 599694000
+zone Z 50.00 50.00 50.00 1
+bid u1 60
+demand 1 60
+tree 1
+bound 50.00
+operator T 0.0000 0.0000 0.0000
+provider P 750.0000
+end 1
+total-operator T 0.0000 0.0000 0.0000
+total-provider P 750.0000
+done 1 0
+";
+    clears(&rt, rt.alloc(), folder, 0, printed)
+}
+
+// The conflict runs 1 MW of u1, which states no least: its open gate runs that at least.
+#[test]
+fn a_bid_alone_in_a_group_runs_at_least_1(rt: HostRuntime) -> Result<(), Fail> {
+    let folder = Folder {
+        bids: "id,provider,zone,quarter,direction,price,least,greatest,kind\nu1,P,Z,1,up,20.00,0,100,both\ni1,P,Z,1,up,5.00,40,40,both\np1,P,Z,1,up,10.00,0,100,both\n",
+        links: "kind,first,second\ngroup,g1,u1\n",
+        demands: "run,zone,mw,price\n1,Z,30,\n",
+        ..ONE_ZONE
+    };
+    let lines = "\
+welfare 299967000
+zone Z 10.00 10.00 10.00 1
+bid u1 0
+bid i1 0
+bid p1 30
+demand 1 30
+tree 7
+branch
+branch
+bound 10.00
+cut out 1
+branch
+conflict 1
+at 10.00
+flows
+mws 1 0 29 30
+cut out 1
+operator T 0.0000 0.0000 0.0000
+provider P 75.0000
+";
+    prints(&rt, rt.alloc(), folder, lines)
+}
+
+// A plain bid that doesn't run bounds the price at 50.00 from above; one whose gate is closed doesn't.
+#[test]
+fn a_closed_gate_bounds_no_price(rt: HostRuntime) -> Result<(), Fail> {
+    let plain = Folder {
+        demands: DEMANDS,
+        ..ONE_ZONE
+    };
+    let lines = "zone Z 40.00 -99999.00 50.00 1\nbid u1 0\ntree 1\n";
+    prints(&rt, rt.alloc(), plain, lines)?;
+    let gated = Folder {
+        links: "kind,first,second\ngroup,g1,u1\n",
+        ..plain
+    };
+    let lines = "zone Z 40.00 -99999.00 99999.00 1\nbid u1 0\ntree 1\n";
+    prints(&rt, rt.alloc(), gated, lines)
+}

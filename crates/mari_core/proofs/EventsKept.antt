@@ -20,7 +20,7 @@ use Rattle.mari_core.specs.Replay.{after_all, first_refusal, refused_or, AreProp
 use Rattle.mari_core.proofs.Seeds.{crowded_is_larger}
 use Rattle.mari_core.proofs.Entries.{take_passes, return_passes, entry_kept}
 use Rattle.mari_core.proofs.Settling.{may_close, may_branch}
-use Rattle.mari_core.proofs.Machines.{EntryCut, look_kept, offer_kept, settling_cut, entry_step_kept, actor_at, seen_is_cutoff}
+use Rattle.mari_core.proofs.Machines.{EntryCut, may_settle_by, look_kept, offer_kept, settling_cut, entry_step_kept, actor_at, seen_is_cutoff}
 
 -- ---- entries
 
@@ -66,9 +66,10 @@ settle_event : (s : Machine) (k x : ℕ) (finding : Finding) → KeepsFacts s �
 settle_event s k x finding h proper p =
     let seen : seen_by (slice_get s.actors k) ≡ p.actor.seen = ap seen_by p.there in
     let above : IsCutoff s.tree.market (seen_by (slice_get s.actors k)) = subst (IsCutoff s.tree.market) (sym seen) (seen_is_cutoff s k p.actor h p.there) in
+    let may : IfSome (slice_get s.tree.nodes x) (MaySettle s.tree.market (seen_by (slice_get s.actors k)) finding) = subst (λ (w : ℕ). IfSome (slice_get s.tree.nodes x) (MaySettle s.tree.market w finding)) (sym seen) (may_settle_by s k x p.actor finding p.there proper) in
     let below : seen_by (slice_get s.actors k) ≤ s.word = subst (λ (w : ℕ). w ≤ s.word) (sym seen) (actor_at s k p.actor h p.there).below in
     entry_event s (settling s.tree k x (seen_by (slice_get s.actors k)) finding) h
-    (settle_allowed s.tree k x (seen_by (slice_get s.actors k)) finding h.tree above proper (return_passes k (state_at s.tree.nodes x) p.none))
+    (settle_allowed s.tree k x (seen_by (slice_get s.actors k)) finding h.tree above may (return_passes k (state_at s.tree.nodes x) p.none))
     (settling_cut s.tree k x (seen_by (slice_get s.actors k)) s.word finding below)
 
 -- each event that is proper and isn't refused keeps all

@@ -244,8 +244,8 @@ settle_change s now k x cutoff finding tree (Ok u) same seen change =
     ap (λ (t : Grown). record s { tree = t }) (change ∙ ap (λ (c : ℕ). grown s.tree (settling s.tree k x c finding)) (sym seen)) ∙ ap (λ (t : Machine). after t (Settle k x finding)) same
 settle_change s now k x cutoff finding tree (Err f) same seen change = tt
 
-pub may_settle_by : (s : Machine) (k x cutoff : ℕ) (finding : Finding) → seen_by (slice_get s.actors k) ≡ cutoff → IsProper s (Settle k x finding) → IfSome (slice_get s.tree.nodes x) (MaySettle s.tree.market cutoff finding)
-may_settle_by s k x cutoff finding seen h = subst (λ (c : ℕ). IfSome (slice_get s.tree.nodes x) (MaySettle s.tree.market c finding)) seen h
+pub may_settle_by : (s : Machine) (k x : ℕ) (a : Actor) (finding : Finding) → slice_get s.actors k ≡ Some a → IsProper s (Settle k x finding) → IfSome (slice_get s.tree.nodes x) (MaySettle s.tree.market a.seen finding)
+may_settle_by s k x a finding there h = subst (λ (o : Option Actor). IfSome o (λ (b : Actor). IfSome (slice_get s.tree.nodes x) (MaySettle s.tree.market b.seen finding))) there h
 
 pub actor_there_by : (actors : List Actor) (k : ℕ) (a : Actor) → k < length actors → a ≡ get_or actors k a → slice_get actors k ≡ Some a
 actor_there_by actors k a l e = slice_get_read actors (length actors) k a refl l e

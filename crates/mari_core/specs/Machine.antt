@@ -2,7 +2,7 @@
 --
 -- Its tree is read on in `Growth` (how nodes are taken, closed, branched and given back) and `Preorder`; an event is what one
 -- actor does in one step.
-use Rattle.std.specs.Prelude.{◌≡◌, ℕ, ◌≤◌, ◌<◌, ◌==◌, pos, max, nat_lt, if◌then◌else◌, List, [], ◌∷◌, length, replicate, Option, Some, None, slice_get, IfSome, ⊤, All}
+use Rattle.std.specs.Prelude.{◌≡◌, ℕ, ◌≤◌, ◌<◌, ◌==◌, pos, max, nat_lt, Bool, true, false, if◌then◌else◌, List, [], ◌∷◌, length, replicate, Option, Some, None, slice_get, IfSome, ⊤, All}
 use Rattle.mari_market.specs.declared.market.Market.{Market}
 use Rattle.mari_market.specs.declared.finding.Attained.{Attained}
 use Rattle.mari_market.specs.Finding.{IsAttained}
@@ -74,13 +74,21 @@ refusal s (Take k x) = by_actor (slice_get s.actors k) (take_refused (state_at s
 refusal s (Settle k x finding) = by_actor (slice_get s.actors k) (return_refused k (state_at s.tree.nodes x))
 refusal s (GiveBack k x) = by_actor (slice_get s.actors k) (return_refused k (state_at s.tree.nodes x))
 
+-- whether the event settles a node: no other takes memory
+abbrev pub settles : Event → Bool
+settles (Look k) = false
+settles (Offer k attained) = false
+settles (Take k x) = false
+settles (Settle k x finding) = true
+settles (GiveBack k x) = false
+
 -- what may be handed in: an offer is an admissible activation with its welfare; a finding is one of that node, and where the
 -- node decides every gate the actor has seen at least its bound, unless there is a conflict
 abbrev pub IsProper : Machine → Event → Type 0
 IsProper s (Look k) = ⊤
 IsProper s (Offer k attained) = IsAttained s.tree.market attained
 IsProper s (Take k x) = ⊤
-IsProper s (Settle k x finding) = IfSome (slice_get s.tree.nodes x) (MaySettle s.tree.market (seen_by (slice_get s.actors k)) finding)
+IsProper s (Settle k x finding) = IfSome (slice_get s.actors k) (λ a. IfSome (slice_get s.tree.nodes x) (MaySettle s.tree.market a.seen finding))
 IsProper s (GiveBack k x) = ⊤
 
 -- ---- what every event keeps

@@ -1,6 +1,6 @@
 //! A part of the search tree that grows node by node.
 
-ghost use Rattle.std.specs.Prelude.{◌≡◌, ℕ, ◌+◌, ◌<◌, ◌≤◌, pos, ◌∷◌, [], true, map, length, slice_get, IfSome, IfOk, IfErr, OnOk, OnErr, MatchOption, Some, None, vec_capacity, vec_len};
+ghost use Rattle.std.specs.Prelude.{◌≡◌, ◌≢◌, ℕ, ◌+◌, ◌<◌, ◌≤◌, pos, ◌∷◌, [], true, map, length, slice_get, IfSome, IfOk, IfErr, OnOk, OnErr, MatchOption, Some, None, vec_capacity, vec_len};
 ghost use Rattle.std.specs.Option.{option_map};
 ghost use Rattle.mari_market.specs.Clearing.{IsSpent, ArePartsOfSearch};
 ghost use Rattle.mari_gates.specs.Prefixes.{IsCleared};
@@ -10,6 +10,7 @@ ghost use Rattle.mari_market.specs.SearchTree.{IsLarger};
 ghost use Rattle.mari_market.specs.Tree.{TreeHolds};
 ghost use Rattle.mari_core.specs.Growth.{seed, grown, settling, closing_leaf, with_state, children_at, child_words, take_refused, return_refused, settling_by, MaySettle, CanClose, CanBranch, IsCutoff, IsGrowth, IsNext, IsLeastUntaken, IsRefusal, IsAnswer, NoneWaits, AreCutAt};
 ghost use Rattle.mari_core.specs.Growth.Entry.{Take, Close, Branch, Full, GiveBack};
+ghost use Rattle.mari_core.specs.declared.event.StepFault.TheVariants.{Memory as NoStepMemory};
 ghost use Rattle.mari_core.specs.Nodes.{words_of, word_at, state_at};
 ghost use Rattle.mari_core.specs.Preorder.{IsPart, IsTree, IsOpenFault, shape_of};
 
@@ -143,6 +144,7 @@ impl<'m> Growth<'m> {
     /// Refuses a node that doesn't wait.
     fn check_untaken(&self, node: u32) -> Result<(), StepFault>
         ensures answer { IsRefusal (take_refused (state_at self.now.nodes node)) result }
+        ensures memory { IfErr result (λ fault. fault ≢ NoStepMemory) }
         ensures facts { IsGrowth self.now }
     {
         if node as usize >= self.nodes.len() {
@@ -157,6 +159,7 @@ impl<'m> Growth<'m> {
     /// Refuses a node that isn't taken by the actor.
     fn check_taken(&self, actor: u32, node: u32) -> Result<(), StepFault>
         ensures answer { IsRefusal (return_refused actor (state_at self.now.nodes node)) result }
+        ensures memory { IfErr result (λ fault. fault ≢ NoStepMemory) }
         ensures facts { IsGrowth self.now }
     {
         if node as usize >= self.nodes.len() {
@@ -173,6 +176,7 @@ impl<'m> Growth<'m> {
         ensures change { IfOk result (λ _. self.new ≡ grown self.old (Take actor node)) }
         ensures same { IfErr result (λ _. self.new ≡ self.old) }
         ensures answer { IsRefusal (take_refused (state_at self.old.nodes node)) result }
+        ensures memory { IfErr result (λ fault. fault ≢ NoStepMemory) }
         ensures facts { IsGrowth self.new }
     {
         self.check_untaken(node)?;
@@ -186,6 +190,7 @@ impl<'m> Growth<'m> {
         ensures change { IfOk result (λ _. self.new ≡ grown self.old (GiveBack actor node)) }
         ensures same { IfErr result (λ _. self.new ≡ self.old) }
         ensures answer { IsRefusal (return_refused actor (state_at self.old.nodes node)) result }
+        ensures memory { IfErr result (λ fault. fault ≢ NoStepMemory) }
         ensures facts { IsGrowth self.new }
     {
         self.check_taken(actor, node)?;

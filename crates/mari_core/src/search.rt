@@ -1,6 +1,6 @@
 //! The search machine.
 
-ghost use Rattle.std.specs.Prelude.{◌≡◌, ℕ, ◌<◌, ◌≤◌, pos, ◌∷◌, [], true, map, length, replicate, slice_get, IfSome, IfOk, IfErr, MatchOption};
+ghost use Rattle.std.specs.Prelude.{◌≡◌, ◌≢◌, ℕ, ◌<◌, ◌≤◌, pos, ◌∷◌, [], true, map, length, replicate, slice_get, IfSome, IfOk, IfErr, MatchOption};
 ghost use Rattle.std.specs.Option.{option_map};
 ghost use Rattle.mari_market.specs.Clearing.{IsClearing, IsSpent, ArePartsOfSearch};
 ghost use Rattle.mari_market.specs.Finding.{IsAttained};
@@ -9,8 +9,9 @@ ghost use Rattle.mari_market.specs.Prefix.{word_of, IsFeasiblePrefix};
 ghost use Rattle.mari_market.specs.Relaxation.{IsClosedWelfare};
 ghost use Rattle.mari_market.specs.SearchTree.{IsLarger};
 ghost use Rattle.mari_core.specs.Growth.{NoneWaits, IsLeastUntaken, IsAnswer};
-ghost use Rattle.mari_core.specs.Machine.{started, new_actor, seeing, offering, after, refusal, IsProper, KeepsFacts, best_of};
+ghost use Rattle.mari_core.specs.Machine.{started, settles, new_actor, seeing, offering, after, refusal, IsProper, KeepsFacts, best_of};
 ghost use Rattle.mari_core.specs.declared.event.Event.TheVariants.{Look, Offer, Take, Settle, GiveBack};
+ghost use Rattle.mari_core.specs.declared.event.StepFault.TheVariants.{Memory as NoStepMemory};
 ghost use Rattle.mari_core.specs.Nodes.{words_of};
 ghost use Rattle.mari_core.specs.Preorder.{IsPart, IsTree, IsOpenFault, shape_of};
 
@@ -129,12 +130,13 @@ impl<'m> Search<'m> {
     ///
     /// An offer is an admissible activation with its welfare. A finding is one that `mari_node::examine` gives for that node,
     /// and where the node decides every gate and no conflict was found the actor has seen at least its bound, as after an
-    /// offer of what was found. Only making the children of a node takes memory.
+    /// offer of what was found. Only to settle takes memory, where the children of a node are made.
     pub fn step(&mut self, event: Event) -> Result<(), StepFault>
         requires { IsProper self.old event }
         ensures change { IfOk result (λ _. self.new ≡ after self.old event) }
         ensures same { IfErr result (λ _. self.new ≡ self.old) }
         ensures answer { IsAnswer (refusal self.old event) result }
+        ensures memory { IfErr result (λ fault. fault ≡ NoStepMemory → settles event ≡ true) }
         ensures facts { KeepsFacts self.new }
     {
         match event {
@@ -155,6 +157,7 @@ impl<'m> Search<'m> {
         ensures change { IfOk result (λ _. self.new ≡ after self.old (Look actor)) }
         ensures same { IfErr result (λ _. self.new ≡ self.old) }
         ensures answer { IsAnswer (refusal self.old (Look actor)) result }
+        ensures memory { IfErr result (λ fault. fault ≢ NoStepMemory) }
         ensures facts { KeepsFacts self.new }
     {
         if actor as usize >= self.actors.len() {
@@ -171,6 +174,7 @@ impl<'m> Search<'m> {
         ensures change { IfOk result (λ _. self.new ≡ after self.old (Offer actor attained)) }
         ensures same { IfErr result (λ _. self.new ≡ self.old) }
         ensures answer { IsAnswer (refusal self.old (Offer actor attained)) result }
+        ensures memory { IfErr result (λ fault. fault ≢ NoStepMemory) }
         ensures facts { KeepsFacts self.new }
     {
         if actor as usize >= self.actors.len() {
@@ -187,6 +191,7 @@ impl<'m> Search<'m> {
         ensures change { IfOk result (λ _. self.new ≡ after self.old (Take actor node)) }
         ensures same { IfErr result (λ _. self.new ≡ self.old) }
         ensures answer { IsAnswer (refusal self.old (Take actor node)) result }
+        ensures memory { IfErr result (λ fault. fault ≢ NoStepMemory) }
         ensures facts { KeepsFacts self.new }
     {
         if actor as usize >= self.actors.len() {
@@ -215,6 +220,7 @@ impl<'m> Search<'m> {
         ensures change { IfOk result (λ _. self.new ≡ after self.old (GiveBack actor node)) }
         ensures same { IfErr result (λ _. self.new ≡ self.old) }
         ensures answer { IsAnswer (refusal self.old (GiveBack actor node)) result }
+        ensures memory { IfErr result (λ fault. fault ≢ NoStepMemory) }
         ensures facts { KeepsFacts self.new }
     {
         if actor as usize >= self.actors.len() {

@@ -262,16 +262,19 @@ settle_by_offer m s x word finding o u e f within some =
     let n = node_of_word s.tree.nodes x word e in
     let tree : t.tree ≡ grown s.tree (Take 0 x) = offer_tree (after s (TakeEvent 0 x)) o in
     let there : slice_get (with_state (Taken 0) s.tree.nodes x) x ≡ Some (in_state (Taken 0) n.0) = changed_same (in_state (Taken 0)) s.tree.nodes x n.0 n.1 in
-    let cutoff = seen_by (slice_get t.actors 0) in
+    let first = actor_there t.actors 0 some in
+    let cutoff = first.actor.seen in
+    let reached_by_it : IsReached m word cutoff finding = subst (λ (c : ℕ). IsReached m word c finding) (ap seen_by first.there) within in
     let may : MaySettle m cutoff finding (in_state (Taken 0) n.0) = record {
       finding_is = subst (λ (w : List Bool). IsFinding m w finding) (sym n.2) f;
-      reached = subst (λ (w : List Bool). IsReached m w cutoff finding) (sym n.2) within;
+      reached = subst (λ (w : List Bool). IsReached m w cutoff finding) (sym n.2) reached_by_it;
     } in
     record {
       proper =
-          subst (λ (g : Grown). IfSome (slice_get g.nodes x) (MaySettle g.market cutoff finding)) (sym tree)
+          subst (λ (o : Option Actor). IfSome o (λ (a : Actor). IfSome (slice_get t.tree.nodes x) (MaySettle t.tree.market a.seen finding))) (sym first.there)
+          (subst (λ (g : Grown). IfSome (slice_get g.nodes x) (MaySettle g.market cutoff finding)) (sym tree)
           (subst (λ (k : Market). IfSome (slice_get (with_state (Taken 0) s.tree.nodes x) x) (MaySettle k cutoff finding)) (sym u.market)
-          (subst (λ (p : Option TreeNode). IfSome p (MaySettle m cutoff finding)) (sym there) may));
+          (subst (λ (p : Option TreeNode). IfSome p (MaySettle m cutoff finding)) (sym there) may)));
       accepted = by_actor_none t.actors (return_refused 0 (state_at t.tree.nodes x)) some
           (ap (λ (g : Grown). return_refused 0 (state_at g.nodes x)) tree ∙ ap (return_refused 0) (state_same (Taken 0) s.tree.nodes x n.0 n.1));
     }

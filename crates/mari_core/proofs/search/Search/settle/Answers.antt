@@ -14,8 +14,7 @@ settle-requires-clause-cutoff c =
 pub settle-requires-clause-finding : goal.settle-requires-clause-finding
 settle-requires-clause-finding c =
     let there : slice_get c.self.inside.actors.items c.args.actor ≡ Some c.index.result.now = actor_there_by c.self.inside.actors.items c.args.actor c.index.result.now (omega (arith, c.if-actor-len.false, c.len.ensures, c.self.inside.actors.ok.0)) c.index.ensures in
-    let seen : seen_by (slice_get c.self.inside.actors.items c.args.actor) ≡ c.index.result.now.seen = ap seen_by there in
-    may_settle_by (record { tree = c.self.inside.tree; word = c.self.inside.word; actors = c.self.inside.actors.items; first = c.self.inside.first }) c.args.actor c.args.node c.index.result.now.seen c.args.finding seen (subst (λ (s : Machine). IsProper s (Settle c.args.actor c.args.node c.args.finding)) (sym c.self.view_is) c.requires)
+    may_settle_by (record { tree = c.self.inside.tree; word = c.self.inside.word; actors = c.self.inside.actors.items; first = c.self.inside.first }) c.args.actor c.args.node c.index.result.now c.args.finding there (subst (λ (s : Machine). IsProper s (Settle c.args.actor c.args.node c.args.finding)) (sym c.self.view_is) c.requires)
 
 pub invariant_of-self : goal.invariant_of-self
 invariant_of-self c =

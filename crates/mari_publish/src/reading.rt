@@ -12,7 +12,7 @@ use crate::follow::{Refused, follow};
 use crate::held::{Held, Kept, Part};
 use crate::line_reading::read_line;
 use crate::publication::{AmountLine, Block, MoneyLine, Publication};
-use mari_units::{Items, Name};
+use mari_units::{Items, Memory, Name};
 use std::alloc::Global;
 
 /// Why a line is no next line.
@@ -49,7 +49,7 @@ fn nothing(alloc: Global) -> Gathered
 }
 
 /// The parts with one more.
-fn gather(alloc: Global, gathered: &mut Gathered, part: Part) -> Result<(), LineFault>
+fn gather(alloc: Global, gathered: &mut Gathered, part: Part) -> Result<(), Memory>
     ensures { OnOk result (seen gathered.new ≡ grown (seen gathered.old) (Some part)) }
 {
     match part {
@@ -62,10 +62,10 @@ fn gather(alloc: Global, gathered: &mut Gathered, part: Part) -> Result<(), Line
             gathered.providers = Items::of(Vec::new(alloc));
             Ok(())
         }
-        Part::Block(block) => match gathered.blocks.push(block) {
-            Ok(()) => Ok(()),
-            Err(_) => Err(LineFault::Memory),
-        },
+        Part::Block(block) => {
+            gathered.blocks.push(block)?;
+            Ok(())
+        }
         Part::Totals(operators, providers) => {
             gathered.operators = operators;
             gathered.providers = providers;
@@ -99,7 +99,7 @@ fn take_line(
         None => Ok(kept),
         Some(part) => match gather(alloc, gathered, part) {
             Ok(()) => Ok(kept),
-            Err(_) => Err(LineFault::Memory),
+            Err(Memory) => Err(LineFault::Memory),
         },
     }
 }

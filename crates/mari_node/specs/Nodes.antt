@@ -11,7 +11,10 @@ use Rattle.mari_market.specs.Dual.{IsTight, dual_value_of}
 use Rattle.mari_market.specs.Prefix.{bounds_of_word, IsFeasibleWord}
 use Rattle.mari_market.specs.Price.{ArePrices}
 use Rattle.mari_market.specs.Relaxation.{IsWithinBounds, IsRelaxedWelfare}
+use Rattle.mari_market.specs.declared.finding.Finding.{Finding}
+use Rattle.mari_market.specs.declared.finding.Finding.TheVariants.{Empty, Relaxed as RelaxedFinding}
 use Rattle.mari_flow.specs.declared.optimum.Solved.{Solved}
+use Rattle.mari_flow.specs.Solving.{NoneWithin}
 
 -- the solved optimum as the best activation of its node
 abbrev pub best_found : Solved → Relaxed
@@ -50,3 +53,13 @@ pub record IsLastNode (m : Market) (word : List Bool) (s : Solved) : Type 0 wher
 pub record IsInnerNode (m : Market) (word : List Bool) (s : Solved) : Type 0 where
   pub optimum : IsRelaxedOptimum m word s
   pub undecided : length word < length m.gates
+
+-- some activation lies within the word's bounds
+pub record SomeWithin (m : Market) (word : List Bool) : Type 0 where
+  pub activation : Activation
+  pub within : IsWithinBounds (bounds_of_word m word) m activation
+
+-- a cut is found exactly where nothing lies within the word's bounds
+abbrev pub IsEmptyWhereNone : Market → List Bool → Finding → Type 0
+IsEmptyWhereNone m word (Empty cut) = NoneWithin (bounds_of_word m word) m
+IsEmptyWhereNone m word (RelaxedFinding r) = SomeWithin m word

@@ -5,7 +5,7 @@ ghost use Rattle.mari_market.specs.Finding.{IsFinding, IsRelaxedFinding};
 ghost use Rattle.mari_market.specs.Market.{IsValid};
 ghost use Rattle.mari_market.specs.Optimal.{IsFeasible};
 ghost use Rattle.mari_market.specs.Prefix.{word_of, IsFeasiblePrefix};
-ghost use Rattle.mari_node.specs.Nodes.{best_found, bound_found, conflict_found, IsInnerNode, IsLastNode, IsRelaxedOptimum};
+ghost use Rattle.mari_node.specs.Nodes.{best_found, bound_found, conflict_found, IsEmptyWhereNone, IsInnerNode, IsLastNode, IsRelaxedOptimum};
 
 use crate::admissibility::{contradiction, is_admissible};
 use mari_flow::{SolveFault, Solved, solve};
@@ -106,11 +106,13 @@ fn relaxed_node(
 /// Where no activation lies within the prefix's bounds the finding is a cut that shows it. Else it has potentials, one for
 /// each zone in cents per MWh, whose dual value is the relaxed welfare of the prefix; that value in quarter-cents, or 0
 /// where it is negative; and it may have an admissible activation. At a prefix that decides every gate the activation is the
-/// best of that gate word, or a conflict shows that the word has no admissible activation.
+/// best of that gate word, or a conflict shows that the word has no admissible activation. At any other prefix there is no
+/// conflict, and no activation only where some optimum of that welfare isn't admissible.
 pub fn examine(alloc: Global, market: &Market, prefix: &Prefix) -> Result<Finding, Memory>
     requires valid { IsValid market.now }
     requires prefix { IsFeasiblePrefix market.now prefix.now }
-    ensures { IfOk result (IsFinding market.now (word_of prefix.now)) }
+    ensures finding { IfOk result (IsFinding market.now (word_of prefix.now)) }
+    ensures empty { IfOk result (IsEmptyWhereNone market.now (word_of prefix.now)) }
 {
     match solve(alloc, market, prefix) {
         Ok(solved) => Ok(Finding::Relaxed(relaxed_node(alloc, market, prefix, solved)?)),

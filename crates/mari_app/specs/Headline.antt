@@ -11,8 +11,8 @@ use Rattle.mari_app.specs.Printing.{then_took}
 use Rattle.mari_app.specs.Words.{Command, command_at}
 
 -- the text of a day of the folder that the words name: its pages are held and give books, and the text is that of their day
--- within the budget of nodes, so each published run has an optimal activation of its market, with its welfare, the prices of its
--- zones, its ledger, and a certificate tree that holds; all of its runs are published, or not
+-- within the budget of nodes, so each published run has a first activation of its market, with its welfare, the prices of its
+-- zones, its ledger, and a certificate tree that holds for its gate word; all of its runs are published, or not
 pub record HasDay (words : List (List ℕ)) (pages : Pages) (whole : Bool) (text : List ℕ) : Type 0 where
   pub command : Command
   pub texts : List (List ℕ)

@@ -69,7 +69,7 @@ no_child_yet g x n k e leaf j b (inr p) is =
 -- ---- the children are nodes
 
 -- a feasible word one gate longer than a promising node is a node
-child_is_node : (m : Market) (w : List Bool) (b : Bool) → IsNode m w → IsPromising m w → IsFeasibleWord m.gates (w ++ b ∷ []) → IsNode m (w ++ b ∷ [])
+pub child_is_node : (m : Market) (w : List Bool) (b : Bool) → IsNode m w → IsPromising m w → IsFeasibleWord m.gates (w ++ b ∷ []) → IsNode m (w ++ b ∷ [])
 child_is_node m w b n p f = record {
   feasible = f;
   prefixes = λ k l. elim (cases_eq k (length w)) [

@@ -24,7 +24,7 @@ use Rattle.mari_core.specs.Growth.Entry.{Take, Close, Branch, Full, GiveBack}
 use Rattle.mari_core.specs.Machine.{Machine, started, new_actor, seeing, offering, by_actor, greatest, seen_by, after, IsProper, KeepsFacts, IsActor, IsBest, best_or, best_of}
 use Rattle.mari_market.specs.declared.clearing.Clearing.{Clearing}
 use Rattle.mari_market.specs.Activation.{welfare_of}
-use Rattle.mari_market.specs.Clearing.{IsClearing}
+use Rattle.mari_market.specs.Clearing.{IsOptimalClearing}
 use Rattle.mari_market.specs.Optimal.{IsAdmissible}
 use Rattle.mari_market.specs.Tree.{TreeHolds}
 use Rattle.mari_market.proofs.Search.{optimal_by_tree}
@@ -298,7 +298,7 @@ pub first_is_best : (s : Machine) → KeepsFacts s → s.word ≡ s.first.welfar
 first_is_best s h e = first_among s.tree.market s.word s.word s.first s.actors e h.actors_are
 
 -- with a tree that holds at the word, the best is optimal
-pub clearing_by : (s : Machine) (c : Clearing) → KeepsFacts s → c.activation ≡ (best_of s.word s.first s.actors).activation → c.welfare ≡ s.word → TreeHolds s.tree.market (pos s.word) c.tree → length c.tree ≤ s.tree.budget → IsClearing s.tree.market s.tree.budget c
+pub clearing_by : (s : Machine) (c : Clearing) → KeepsFacts s → c.activation ≡ (best_of s.word s.first s.actors).activation → c.welfare ≡ s.word → TreeHolds s.tree.market (pos s.word) c.tree → length c.tree ≤ s.tree.budget → IsOptimalClearing s.tree.market s.tree.budget c
 clearing_by s c h a w t l =
     let best : IsBestOf s.tree.market s.word (best_of s.word s.first s.actors) = best_is s h in
     let welfare : welfare_of s.tree.market c.activation ≡ pos c.welfare = ap (welfare_of s.tree.market) a ∙ best.attained.welfare ∙ ap pos best.welfare_is ∙ ap pos (sym w) in

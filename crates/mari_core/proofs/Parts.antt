@@ -15,7 +15,7 @@ use Rattle.mari_market.specs.declared.clearing.PartItem.{PartItem}
 use Rattle.mari_market.specs.Clearing.{ArePartsOfSearch, leaves_of, IsSpent}
 use Rattle.mari_market.specs.Prefix.{children}
 use Rattle.mari_market.specs.SearchTree.{IsNode}
-use Rattle.mari_market.specs.Tree.{AreParts, TreeHolds}
+use Rattle.mari_market.specs.Tree.{AreParts, LeafHolds, TreeHolds}
 use Rattle.mari_market.proofs.Search.{parts_rise}
 use Rattle.mari_core.specs.declared.node.NodeState.{NodeState}
 use Rattle.mari_core.specs.declared.node.NodeState.TheVariants.{Untaken, Taken, Branched, Closed}
@@ -184,33 +184,33 @@ part_is_spent g items k p full =
 
 -- ---- a certificate tree
 
-tree_step : (m : Market) (nodes : List TreeNode) (cutoff : ℕ) (s : NodeState) (word : List Bool) (words : List (List Bool)) (items : List TreeItem) → IsCutAt cutoff s → HasChildren m (words_of nodes) word s → HoldsAtCutoff m word s → is_done (Some s) ≡ true → AreParts m (pos cutoff) (words_at nodes (child_numbers s) ++ words) items → AreParts m (pos cutoff) (word ∷ words) (tree_item (Some s) ∷ items)
+tree_step : (m : Market) (nodes : List TreeNode) (cutoff : ℕ) (s : NodeState) (word : List Bool) (words : List (List Bool)) (items : List TreeItem) → IsCutAt cutoff s → HasChildren m (words_of nodes) word s → HoldsAtCutoff m word s → is_done (Some s) ≡ true → AreParts m (LeafHolds m (pos cutoff)) (words_at nodes (child_numbers s) ++ words) items → AreParts m (LeafHolds m (pos cutoff)) (word ∷ words) (tree_item (Some s) ∷ items)
 tree_step m nodes cutoff Untaken word words items c h l d a = absurd (cc)
 tree_step m nodes cutoff (Taken k) word words items c h l d a = absurd (cc)
-tree_step m nodes cutoff (Branched closed opened) word words items c h l d a = (h.0, subst (λ (ws : List (List Bool)). AreParts m (pos cutoff) (ws ++ words) items) (read_words nodes (child_numbers (Branched closed opened)) (children m.gates word) h.1) a)
+tree_step m nodes cutoff (Branched closed opened) word words items c h l d a = (h.0, subst (λ (ws : List (List Bool)). AreParts m (LeafHolds m (pos cutoff)) (ws ++ words) items) (read_words nodes (child_numbers (Branched closed opened)) (children m.gates word) h.1) a)
 tree_step m nodes cutoff (Closed leaf own) word words items c h l d a = ((parts_rise m (pos own) (pos cutoff) (omega (arith, ints, c)) (word ∷ []) (Leaf leaf ∷ []) (l, tt)).0, a)
 
-walk_tree : (g : Grown) (cutoff : ℕ) → IsGrowth g → AreCutAt cutoff g.nodes → (waiting ns : List ℕ) → AreWithin g.nodes ns → All (λ x. is_done (state_at g.nodes x) ≡ true) ns → IsWalk g.nodes waiting ns → AreParts g.market (pos cutoff) (words_at g.nodes waiting) (map (λ x. tree_item (state_at g.nodes x)) ns)
+walk_tree : (g : Grown) (cutoff : ℕ) → IsGrowth g → AreCutAt cutoff g.nodes → (waiting ns : List ℕ) → AreWithin g.nodes ns → All (λ x. is_done (state_at g.nodes x) ≡ true) ns → IsWalk g.nodes waiting ns → AreParts g.market (LeafHolds g.market (pos cutoff)) (words_at g.nodes waiting) (map (λ x. tree_item (state_at g.nodes x)) ns)
 walk_tree g cutoff k cut [] [] within done w = tt
 walk_tree g cutoff k cut [] (x ∷ xs) within done w = absurd w
 walk_tree g cutoff k cut (v ∷ waiting) [] within done w = absurd w
 walk_tree g cutoff k cut (v ∷ waiting) (x ∷ xs) within done w =
     let at : NodeAt g x = node_of g x k (All-head (λ y. y < length g.nodes) x xs within) in
-    let rest : AreParts g.market (pos cutoff) (words_at g.nodes (children_of g.nodes x ++ waiting)) (map (λ y. tree_item (state_at g.nodes y)) xs) =
+    let rest : AreParts g.market (LeafHolds g.market (pos cutoff)) (words_at g.nodes (children_of g.nodes x ++ waiting)) (map (λ y. tree_item (state_at g.nodes y)) xs) =
     walk_tree g cutoff k cut (children_of g.nodes x ++ waiting) xs (All-tail (λ y. y < length g.nodes) x xs within) (All-tail (λ y. is_done (state_at g.nodes y) ≡ true) x xs done) w.1 in
-    let split : AreParts g.market (pos cutoff) (words_at g.nodes (child_numbers at.node.state) ++ words_at g.nodes waiting) (map (λ y. tree_item (state_at g.nodes y)) xs) =
-    subst (λ (ws : List (List Bool)). AreParts g.market (pos cutoff) ws (map (λ y. tree_item (state_at g.nodes y)) xs))
+    let split : AreParts g.market (LeafHolds g.market (pos cutoff)) (words_at g.nodes (child_numbers at.node.state) ++ words_at g.nodes waiting) (map (λ y. tree_item (state_at g.nodes y)) xs) =
+    subst (λ (ws : List (List Bool)). AreParts g.market (LeafHolds g.market (pos cutoff)) ws (map (λ y. tree_item (state_at g.nodes y)) xs))
     (map-append (word_at g.nodes) (children_of g.nodes x) waiting ∙ ap (λ (o : Option NodeState). words_at g.nodes (numbers_below o) ++ words_at g.nodes waiting) at.state) rest in
-    subst (λ (y : ℕ). AreParts g.market (pos cutoff) (word_at g.nodes y ∷ words_at g.nodes waiting) (map (λ z. tree_item (state_at g.nodes z)) (x ∷ xs))) (sym w.0)
-    (subst (λ (o : Option NodeState). AreParts g.market (pos cutoff) (word_at g.nodes x ∷ words_at g.nodes waiting) (tree_item o ∷ map (λ z. tree_item (state_at g.nodes z)) xs)) (sym at.state)
+    subst (λ (y : ℕ). AreParts g.market (LeafHolds g.market (pos cutoff)) (word_at g.nodes y ∷ words_at g.nodes waiting) (map (λ z. tree_item (state_at g.nodes z)) (x ∷ xs))) (sym w.0)
+    (subst (λ (o : Option NodeState). AreParts g.market (LeafHolds g.market (pos cutoff)) (word_at g.nodes x ∷ words_at g.nodes waiting) (tree_item o ∷ map (λ z. tree_item (state_at g.nodes z)) xs)) (sym at.state)
     (tree_step g.market g.nodes cutoff at.node.state (word_at g.nodes x) (words_at g.nodes waiting) (map (λ y. tree_item (state_at g.nodes y)) xs)
     (all_get (λ (n : TreeNode). IsCutAt cutoff n.state) g.nodes x at.node cut at.there) at.children at.holds (ap is_done (sym at.state) ∙ All-head (λ y. is_done (state_at g.nodes y) ≡ true) x xs done) split))
 
 -- where every node is branched or closed, the tree holds at what no cutoff exceeds
 pub tree_holds : (g : Grown) (items : List TreeItem) (cutoff : ℕ) → IsGrowth g → IsTree g.nodes items → AreCutAt cutoff g.nodes → TreeHolds g.market (pos cutoff) items
 tree_holds g items cutoff k t cut =
-    subst (λ (is : List TreeItem). AreParts g.market (pos cutoff) ([] ∷ []) is) (sym t.items_are)
-    (subst (λ (ws : List (List Bool)). AreParts g.market (pos cutoff) ws (map (λ x. tree_item (state_at g.nodes x)) t.numbers)) (root_word g k)
+    subst (λ (is : List TreeItem). AreParts g.market (LeafHolds g.market (pos cutoff)) ([] ∷ []) is) (sym t.items_are)
+    (subst (λ (ws : List (List Bool)). AreParts g.market (LeafHolds g.market (pos cutoff)) ws (map (λ x. tree_item (state_at g.nodes x)) t.numbers)) (root_word g k)
     (walk_tree g cutoff k cut (0 ∷ []) t.numbers (are_within g.nodes t.numbers t.preorder) t.done t.preorder.walk))
 
 shape_done : (o : Option NodeState) → is_done o ≡ true → shape_of (tree_item o) ≡ part_item o

@@ -24,7 +24,7 @@ use Rattle.mari_core.proofs.Entries.{feasible_word}
 le_by_test : (a b : ℕ) → nat_le a b ≡ true → a ≤ b
 le_by_test a b e = grind (arith, nat_tests)
 
-gt_by_test : (a b : ℕ) → nat_le a b ≡ false → b < a
+pub gt_by_test : (a b : ℕ) → nat_le a b ≡ false → b < a
 gt_by_test a b e = grind (arith, nat_tests)
 
 -- a conflict is found only where every gate is decided, and it holds there
@@ -55,12 +55,12 @@ leaf_of_relaxed m word r cutoff leaf f l e = by_conflict r.conflict refl e
     by_conflict None same h = by_test (nat_le r.bound cutoff) refl h
 
 -- the certificate by which a finding closes its node holds at the cutoff
-closing_leaf_holds : (m : Market) (word : List Bool) (cutoff : ℕ) (finding : Finding) (leaf : Leaf) → IsFinding m word finding → length word ≤ length m.gates → closing_leaf cutoff finding ≡ Some leaf → LeafHolds m (pos cutoff) word leaf
+pub closing_leaf_holds : (m : Market) (word : List Bool) (cutoff : ℕ) (finding : Finding) (leaf : Leaf) → IsFinding m word finding → length word ≤ length m.gates → closing_leaf cutoff finding ≡ Some leaf → LeafHolds m (pos cutoff) word leaf
 closing_leaf_holds m word cutoff (Empty cut) leaf f l e = let is : Cut cut ≡ leaf = cc in subst (λ (k : Leaf). LeafHolds m (pos cutoff) word k) is f
 closing_leaf_holds m word cutoff (Relaxed r) leaf f l e = leaf_of_relaxed m word r cutoff leaf f l e
 
 -- what is left where a finding doesn't close its node
-record MustBranch (m : Market) (word : List Bool) (cutoff : ℕ) : Type 0 where
+pub record MustBranch (m : Market) (word : List Bool) (cutoff : ℕ) : Type 0 where
   pub undecided : length word < length m.gates
   pub exceeds : Exceeds m word cutoff
 
@@ -83,7 +83,7 @@ branch_of_relaxed m word r cutoff f l reached e = by_conflict r.conflict refl e
     by_conflict (Some c) same h = absurd (cc)
     by_conflict None same h = by_test (nat_le r.bound cutoff) refl same h
 
-must_branch : (m : Market) (word : List Bool) (cutoff : ℕ) (finding : Finding) → IsFinding m word finding → length word ≤ length m.gates → IsReached m word cutoff finding → closing_leaf cutoff finding ≡ None → MustBranch m word cutoff
+pub must_branch : (m : Market) (word : List Bool) (cutoff : ℕ) (finding : Finding) → IsFinding m word finding → length word ≤ length m.gates → IsReached m word cutoff finding → closing_leaf cutoff finding ≡ None → MustBranch m word cutoff
 must_branch m word cutoff (Empty cut) f l reached e = absurd (cc)
 must_branch m word cutoff (Relaxed r) f l reached e = branch_of_relaxed m word r cutoff f l reached e
 

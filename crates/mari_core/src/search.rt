@@ -2,7 +2,7 @@
 
 ghost use Rattle.std.specs.Prelude.{◌≡◌, ◌≢◌, ℕ, ◌<◌, ◌≤◌, pos, ◌∷◌, [], true, map, length, replicate, slice_get, IfSome, IfOk, IfErr, MatchOption};
 ghost use Rattle.std.specs.Option.{option_map};
-ghost use Rattle.mari_market.specs.Clearing.{IsClearing, IsSpent, ArePartsOfSearch};
+ghost use Rattle.mari_market.specs.Clearing.{IsOptimalClearing, IsSpent, ArePartsOfSearch};
 ghost use Rattle.mari_market.specs.Finding.{IsAttained};
 ghost use Rattle.mari_market.specs.Market.{IsValid};
 ghost use Rattle.mari_market.specs.Prefix.{word_of, IsFeasiblePrefix};
@@ -276,7 +276,7 @@ impl<'m> Search<'m> {
 
     /// An optimal activation and the tree that shows it, where each node is branched or closed. The search is gone then.
     pub fn finish(self, alloc: Global) -> Result<Clearing, FinishFault>
-        ensures clearing { IfOk result (λ c. IsClearing self.entry.tree.market self.entry.tree.budget c) }
+        ensures clearing { IfOk result (λ c. IsOptimalClearing self.entry.tree.market self.entry.tree.budget c) }
         ensures welfare { IfOk result (λ c. c.welfare ≡ self.entry.word) }
         ensures activation { IfOk result (λ c. c.activation ≡ (best_of self.entry.word self.entry.first self.entry.actors).activation) }
         ensures first { self.entry.word ≡ self.entry.first.welfare → IfOk result (λ c. c.activation ≡ self.entry.first.activation) }

@@ -8,7 +8,9 @@ use Rattle.mari_units.specs.Names.{is_name}
 use Rattle.mari_units.specs.declared.numbers.Quarters.{Quarters}
 use Rattle.mari_zones.specs.Borders.{IsBorder}
 use Rattle.mari_zones.specs.declared.borders.BorderEnds.{BorderEnds}
+use Rattle.mari_market.specs.Activation.{gate_word_of}
 use Rattle.mari_market.specs.Clearing.{IsClearing}
+use Rattle.mari_market.proofs.Ties.{tree_holds_plain}
 use Rattle.mari_market.specs.Market.{IsValid}
 use Rattle.mari_market.specs.Optimal.{IsFeasible}
 use Rattle.mari_market.specs.declared.clearing.Clearing.{Clearing}
@@ -132,7 +134,7 @@ module _ (books : Books) (ok : IsAccepted books) (dated : IsDated books) (budget
         borders = borders-fit;
         bids = bids-fit;
         demands = demands-fit many;
-        tree = rw is.tree (tree-fits (market_at books run) valid (pos clearing.welfare) clearing.tree clears.tree (omega (arith, clears.within_budget)));
+        tree = rw is.tree (tree-fits (market_at books run) valid (pos clearing.welfare) clearing.tree (tree_holds_plain (market_at books run) (pos clearing.welfare) (gate_word_of (market_at books run) clearing.activation) clearing.tree clears.tree) (omega (arith, clears.within_budget)));
         operators = operators-fit;
         providers = providers-fit;
       }

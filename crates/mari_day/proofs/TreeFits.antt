@@ -99,7 +99,7 @@ module _ (m : Market) (v : IsValid m) where
         (prices-fit k.potentials.cents h.prices, (flows-fit k.activation h.feasible, (mws-fit k.activation h.feasible, tt))),
       )
 
-  parts-fit : (cutoff : ℤ) (words : List (List Bool)) (items : List TreeItem) → AreParts m cutoff words items → All ItemFits items
+  parts-fit : (cutoff : ℤ) (words : List (List Bool)) (items : List TreeItem) → AreParts m (LeafHolds m cutoff) words items → All ItemFits items
   parts-fit cutoff [] [] h = All-nil ItemFits
   parts-fit cutoff [] (item ∷ items) h = absurd h
   parts-fit cutoff (word ∷ words) [] h = absurd h

@@ -36,8 +36,8 @@ pub record HasLedger (books : Books) (run : ℕ) (b : FullBlock) : Type 0 where
   pub operators : b.operators ≡ money_lines_of books.zones.operators (operator_lines books.zones (market_at books run) (activation_of b) (prices_of b))
   pub providers : b.providers ≡ map (amount_line books.bids.providers (amounts_of books run b)) (providers_among books.bids.bids (numbers_of books run))
 
--- a published run: an activation of its market that is optimal, with its welfare and a certificate tree of at most so many items
--- that holds at it; the prices, intervals and areas; and the ledger
+-- a published run: a first activation of its market, with its welfare and a certificate tree of at most so many items that holds
+-- at it for its gate word; the prices, intervals and areas; and the ledger
 pub record IsPublishedRun (books : Books) (budget run : ℕ) (b : FullBlock) : Type 0 where
   pub heading : b.heading ≡ heading_of books run
   pub names : NamesMarket books run b

@@ -1,2 +1,4 @@
 pub mod Decisions
 pub mod GateTable
+pub mod GateWords
+pub mod WaitingWords

@@ -1,2 +1,4 @@
 pub mod Prefixes
 pub mod GateTable
+pub mod GateWords
+pub mod Preorder

@@ -5,11 +5,15 @@
 #![tactic(auto)]
 
 pub mod bounds;
+pub mod gate_words;
 pub mod prefixes;
+pub mod preorder;
 pub mod states;
 #[cfg(test)]
 mod tests;
 
 pub use bounds::{bound_of, bounds_of};
+pub use gate_words::{comes_before, gate_word};
 pub use prefixes::{child_of, empty_prefix, may_branch_up, opens, prefix_feasible, without_last};
+pub use preorder::next_after;
 pub use states::{GateState, GateStates, states_at};

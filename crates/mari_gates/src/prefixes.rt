@@ -134,7 +134,7 @@ fn with_bit(word: u64, place: u32, set: bool) -> u64
 }
 
 /// Writes the bit of one gate.
-fn set_bit(prefix: &mut Prefix, gate: u32, opened: bool)
+pub(crate) fn set_bit(prefix: &mut Prefix, gate: u32, opened: bool)
     requires { gate < 512 }
     ensures same { bit_of prefix.new gate ≡ opened }
     ensures others { (g : ℕ) → g ≢ gate → bit_of prefix.new g ≡ bit_of prefix.old g }

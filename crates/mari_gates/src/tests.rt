@@ -1,6 +1,6 @@
 //! Groups and parents, each in one small market.
 
-use crate::{bound_of, bounds_of, may_branch_up, prefix_feasible};
+use crate::{bound_of, bounds_of, comes_before, may_branch_up, prefix_feasible};
 use mari_market::{Bounds, GateInfo, Market, Order, Prefix, Side};
 use mari_units::{Cents, Items};
 use std::alloc::Global;
@@ -126,5 +126,31 @@ fn prefixes_that_are_not_feasible(rt: HostRuntime) -> Result<(), Fail> {
     assert_eq!(rt; bound(&market, bit_past_the_end, 0), None);
     let longer_than_the_gates = prefix(3, 0);
     assert_eq!(rt; bound(&market, longer_than_the_gates, 0), None);
+    Ok(())
+}
+
+/// Whether a prefix comes before a word, where both are feasible.
+fn before(market: &Market, first: Prefix, word: Prefix) -> Option<bool> {
+    if market.valid()
+        && prefix_feasible(market, &first)
+        && prefix_feasible(market, &word)
+        && word.length <= 512
+    {
+        Some(comes_before(&first, &word))
+    } else {
+        None
+    }
+}
+
+#[test]
+fn closed_comes_before_open_at_the_first_gate_that_differs(rt: HostRuntime) -> Result<(), Fail> {
+    let market = exclusive_group(rt.alloc())?;
+    let first_open = prefix(2, 1);
+    let second_open = prefix(2, 2);
+    assert_eq!(rt; before(&market, second_open, first_open), Some(true));
+    assert_eq!(rt; before(&market, first_open, second_open), Some(false));
+    assert_eq!(rt; before(&market, first_open, first_open), Some(false));
+    assert_eq!(rt; before(&market, prefix(0, 0), second_open), Some(true));
+    assert_eq!(rt; before(&market, prefix(1, 1), first_open), Some(false));
     Ok(())
 }

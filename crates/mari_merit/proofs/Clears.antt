@@ -28,6 +28,7 @@ use Rattle.mari_market.specs.Relaxation.{IsWithinBounds}
 use Rattle.mari_market.specs.Sums.{sum_along}
 use Rattle.mari_market.specs.Tree.{TreeHolds}
 use Rattle.mari_market.proofs.Search.{optimal_by_tree}
+use Rattle.mari_market.proofs.Ties.{first_without_gates, tree_holds_without_gates}
 use Rattle.mari_market.proofs.Sums.{AllZip-both}
 use Rattle.mari_market.proofs.Tight.{tight_is_equal}
 use Rattle.mari_merit.specs.Merit.{rung_of, room_below, room_at, withdrawn_in, quantities_at, bound_tree, IsMarginal, IsFilled}
@@ -137,9 +138,9 @@ module _ (m : Market) (p : ℤ) (mw : List ℕ) (l : IsLone m) (f : IsFilled m.o
 
   pub clearing : (w : ℕ) → welfare_of m (runs mw) ≡ pos w → IsClearing m 1 (record { activation = runs mw; welfare = w; tree = bound_tree p })
   clearing w e = record {
-    optimal = optimal_by_tree m (runs mw) (bound_tree p) l.valid admissible (holds _ refl);
+    first = first_without_gates m (runs mw) (ap length l.gates) (optimal_by_tree m (runs mw) (bound_tree p) l.valid admissible (holds _ refl));
     welfare = e;
-    tree = holds (pos w) e;
+    tree = tree_holds_without_gates m (runs mw) (pos w) (bound_tree p) (ap length l.gates) (holds (pos w) e);
     within_budget = omega arith;
   }
 

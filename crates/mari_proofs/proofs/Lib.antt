@@ -5,5 +5,5 @@ pub mod PriceBounds
 pub mod GateWords
 pub mod ConflictTests
 pub mod LeafLaws
-pub mod WaitingWords
 pub mod TreeWalk
+pub mod TreeLaws

@@ -1,10 +1,13 @@
 //! Laws of activations that certificates rest on.
 
-ghost use Rattle.std.specs.Prelude.{◌≡◌, List};
+ghost use Rattle.std.specs.Prelude.{◌≡◌, ◌<◌, ℕ, ℤ, List};
 ghost use Rattle.mari_units.specs.declared.numbers.Cents.{Cents};
 ghost use Rattle.mari_market.specs.declared.activation.Activation.{Activation};
 ghost use Rattle.mari_market.specs.Activation.{welfare_of, gate_word_of};
+ghost use Rattle.mari_market.specs.First.{IsFirst};
+ghost use Rattle.mari_market.specs.Interval.{ArePublishedPrices, IsGreatestPrice, IsLeastPrice};
 ghost use Rattle.mari_market.specs.Market.{IsValid};
+ghost use Rattle.mari_market.specs.Price.{price_at};
 ghost use Rattle.mari_market.specs.Optimal.{IsAdmissible, IsConsistent};
 
 use mari_market::Market;
@@ -16,4 +19,17 @@ pub fn one_gate_word(market: &Market)
     requires { IsValid market.now }
     ensures welfare { (a b : Activation) → IsAdmissible market.now a → IsAdmissible market.now b → gate_word_of market.now a ≡ gate_word_of market.now b → welfare_of market.now a ≡ welfare_of market.now b }
     ensures prices { (a b : Activation) → IsAdmissible market.now a → IsAdmissible market.now b → gate_word_of market.now a ≡ gate_word_of market.now b → (ps : List Cents) → IsConsistent market.now a ps → IsConsistent market.now b ps }
+{}
+
+/// The first activations of a market have one gate word and one welfare, and the same consistent and published prices.
+///
+/// The call does nothing: its contract is the law.
+pub fn one_first(market: &Market)
+    requires { IsValid market.now }
+    ensures word { (a b : Activation) → IsFirst market.now a → IsFirst market.now b → gate_word_of market.now a ≡ gate_word_of market.now b }
+    ensures welfare { (a b : Activation) → IsFirst market.now a → IsFirst market.now b → welfare_of market.now a ≡ welfare_of market.now b }
+    ensures prices { (a b : Activation) → IsFirst market.now a → IsFirst market.now b → (ps : List Cents) → IsConsistent market.now a ps → IsConsistent market.now b ps }
+    ensures least { (a b : Activation) → IsFirst market.now a → IsFirst market.now b → (z : ℕ) (c : ℤ) → IsLeastPrice market.now a z c → IsLeastPrice market.now b z c }
+    ensures greatest { (a b : Activation) → IsFirst market.now a → IsFirst market.now b → (z : ℕ) (c : ℤ) → IsGreatestPrice market.now a z c → IsGreatestPrice market.now b z c }
+    ensures published { (a b : Activation) → IsFirst market.now a → IsFirst market.now b → (ps qs : List Cents) → ArePublishedPrices market.now a ps → ArePublishedPrices market.now b qs → (z : ℕ) → z < market.now.zones → price_at ps z ≡ price_at qs z }
 {}

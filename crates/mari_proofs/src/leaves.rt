@@ -1,17 +1,18 @@
 //! The test of one certificate.
 
-ghost use Rattle.std.specs.Prelude.{◌≡◌, ◌↔◌, ℕ, ℤ, ◌≤ℤ◌, IsTrue, take};
+ghost use Rattle.std.specs.Prelude.{◌≡◌, ◌↔◌, ℕ, ℤ, ◌≤ℤ◌, ◌-ℤ◌, pos, IsTrue, take};
 ghost use Rattle.mari_market.specs.declared.activation.Activation.{Activation};
 ghost use Rattle.mari_market.specs.Activation.{welfare_of, gate_word_of};
 ghost use Rattle.mari_market.specs.Market.{IsValid};
 ghost use Rattle.mari_market.specs.Optimal.{IsAdmissible};
 ghost use Rattle.mari_market.specs.Prefix.{word_of, IsFeasiblePrefix};
-ghost use Rattle.mari_market.specs.Tree.{IsBound, LeafHolds};
+ghost use Rattle.mari_market.specs.Tree.{IsBound, LeafHolds, LeafHoldsFor};
 ghost use Rattle.mari_proofs.specs.Leaves.{ExcludesWord};
 
 use crate::conflicts::is_conflict;
 use crate::cuts::is_cut;
 use crate::dual::{are_potentials, dual_value};
+use mari_gates::comes_before;
 use mari_market::{Leaf, Market, Prefix, Prices};
 use mari_units::Quarters;
 
@@ -44,5 +45,49 @@ pub fn check_leaf(market: &Market, prefix: &Prefix, leaf: &Leaf, cutoff: Quarter
         Leaf::Bound(potentials) => is_bound(market, prefix, potentials, cutoff),
         Leaf::Cut(cut) => is_cut(market, prefix, cut),
         Leaf::Conflict(conflict) => is_conflict(market, prefix, conflict),
+    }
+}
+
+/// Whether potentials bound a prefix below a cutoff.
+fn is_bound_below(market: &Market, prefix: &Prefix, potentials: &Prices, cutoff: Quarters) -> bool
+    requires market { IsValid market.now }
+    requires prefix { IsFeasiblePrefix market.now prefix.now }
+    ensures { IsTrue result ↔ IsBound market.now (cutoff.0 -ℤ pos 1) (word_of prefix.now) potentials.now.cents }
+{
+    are_potentials(market, potentials.cents.as_slice())
+        && dual_value(market, prefix, potentials).0 < cutoff.0
+}
+
+/// Whether a certificate holds at a prefix at the cutoff less 1, which may be no number of the type.
+fn check_leaf_below(market: &Market, prefix: &Prefix, leaf: &Leaf, cutoff: Quarters) -> bool
+    requires market { IsValid market.now }
+    requires prefix { IsFeasiblePrefix market.now prefix.now }
+    ensures { IsTrue result ↔ LeafHolds market.now (cutoff.0 -ℤ pos 1) (word_of prefix.now) leaf.now }
+{
+    match leaf {
+        Leaf::Bound(potentials) => is_bound_below(market, prefix, potentials, cutoff),
+        Leaf::Cut(cut) => is_cut(market, prefix, cut),
+        Leaf::Conflict(conflict) => is_conflict(market, prefix, conflict),
+    }
+}
+
+/// Whether a certificate holds at a prefix and a cutoff for a gate word: where the prefix is early for it, it is to hold
+/// even at the cutoff less 1.
+pub(crate) fn check_leaf_for(
+    market: &Market,
+    prefix: &Prefix,
+    leaf: &Leaf,
+    cutoff: Quarters,
+    word: &Prefix,
+) -> bool
+    requires market { IsValid market.now }
+    requires prefix { IsFeasiblePrefix market.now prefix.now }
+    requires word { IsFeasiblePrefix market.now word.now }
+    ensures { IsTrue result ↔ LeafHoldsFor market.now cutoff.0 (word_of word.now) (word_of prefix.now) leaf.now }
+{
+    if comes_before(prefix, word) {
+        check_leaf_below(market, prefix, leaf, cutoff)
+    } else {
+        check_leaf(market, prefix, leaf, cutoff)
     }
 }

@@ -98,13 +98,26 @@ fn holds(market: &Market, prefix: Prefix, leaf: &Leaf, cutoff: i128) -> Option<b
     }
 }
 
-/// The verdict on a tree, where the market is valid.
-fn verdict(market: &Market, tree: &[TreeItem], cutoff: i128) -> Option<TreeVerdict> {
-    if market.valid() {
-        Some(check_tree(market, tree, Quarters(cutoff)))
+/// The verdict on a tree for the gate word of this many gates with these bits, where the market and the word are valid.
+fn verdict_for(
+    market: &Market,
+    tree: &[TreeItem],
+    cutoff: i128,
+    word: Prefix,
+) -> Option<TreeVerdict> {
+    if market.valid()
+        && prefix_feasible(market, &word)
+        && word.length as usize == market.gates.as_slice().len()
+    {
+        Some(check_tree(market, tree, Quarters(cutoff), &word))
     } else {
         None
     }
+}
+
+/// The verdict on a tree for the word that closes the one gate.
+fn verdict(market: &Market, tree: &[TreeItem], cutoff: i128) -> Option<TreeVerdict> {
+    verdict_for(market, tree, cutoff, CLOSED)
 }
 
 #[test]
@@ -214,5 +227,47 @@ fn a_tree_with_an_item_left_over(rt: HostRuntime) -> Result<(), Fail> {
         verdict(&market, &two, 499_999_999_999),
         Some(TreeVerdict::BadShape(1))
     );
+    Ok(())
+}
+
+/// The word of two gates with these bits.
+fn of_two(bits: u64) -> Prefix {
+    Prefix {
+        length: 2,
+        bits: [bits, 0, 0, 0, 0, 0, 0, 0],
+    }
+}
+
+#[test]
+fn of_two_equal_bids_the_later_is_the_first(rt: HostRuntime) -> Result<(), Fail> {
+    let alloc = rt.alloc();
+    let orders = vec![in alloc;
+        order(Side::Inject, 3000, 30, 30, Some(0)),
+        order(Side::Inject, 3000, 30, 30, Some(1)),
+        order(Side::Inject, 5000, 0, 100, None),
+        order(Side::Withdraw, 9_999_900, 0, 30, None),
+    ]?;
+    let free = GateInfo {
+        group: None,
+        parent: None,
+    };
+    let market = Market {
+        zones: 1,
+        borders: Items::of(Vec::new(alloc)),
+        orders: Items::of(orders),
+        gates: Items::of(vec![in alloc; free, free]?),
+        reference: Cents(4000),
+    };
+    let tree = vec![in alloc;
+        TreeItem::Branch,
+        TreeItem::Branch,
+        TreeItem::Leaf(bound(alloc, 5000)?),
+        TreeItem::Leaf(bound(alloc, 3000)?),
+        TreeItem::Leaf(bound(alloc, 3000)?),
+    ]?;
+    let first = verdict_for(&market, &tree, 299_907_000, of_two(2));
+    assert_eq!(rt; first, Some(TreeVerdict::Holds));
+    let other = verdict_for(&market, &tree, 299_907_000, of_two(1));
+    assert_eq!(rt; other, Some(TreeVerdict::BadLeaf(3)));
     Ok(())
 }

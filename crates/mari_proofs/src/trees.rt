@@ -1,17 +1,18 @@
 //! The test of a certificate tree.
 
-ghost use Rattle.std.specs.Prelude.{◌≡◌, ◌↔◌, ℕ, ℤ, ◌+◌, ◌≤ℤ◌, ◌≤◌, ◌<◌, IsTrue, IfSome, [], ◌∷◌, length, take};
+ghost use Rattle.std.specs.Prelude.{◌≡◌, ◌↔◌, ℤ, pos, ◌-ℤ◌, ◌≤ℤ◌, length};
 ghost use Rattle.mari_market.specs.declared.activation.Activation.{Activation};
-ghost use Rattle.mari_market.specs.Activation.{welfare_of};
+ghost use Rattle.mari_market.specs.Activation.{gate_word_of, welfare_of};
+ghost use Rattle.mari_market.specs.First.{ComesBefore, IsFirst};
 ghost use Rattle.mari_market.specs.Market.{IsValid};
 ghost use Rattle.mari_market.specs.Optimal.{IsAdmissible, IsOptimal};
 ghost use Rattle.mari_market.specs.Prefix.{word_of, IsFeasiblePrefix};
-ghost use Rattle.mari_market.specs.Tree.{TreeHolds};
-ghost use Rattle.mari_proofs.specs.Places.{IsVerdict, left_at, waiting_after};
+ghost use Rattle.mari_market.specs.Tree.{LeafHoldsFor, TreeHoldsFor};
+ghost use Rattle.mari_proofs.specs.Places.{IsVerdict};
 ghost use Rattle.mari_proofs.specs.Steps.{IsStep};
 
-use crate::leaves::check_leaf;
-use mari_gates::{child_of, empty_prefix, may_branch_up, opens, without_last};
+use crate::leaves::check_leaf_for;
+use mari_gates::{child_of, empty_prefix, next_after};
 use mari_market::{Market, Prefix, TreeItem};
 use mari_units::Quarters;
 
@@ -26,24 +27,6 @@ pub enum TreeVerdict {
     BadLeaf(usize),
 }
 
-/// The prefix that comes after all those below this one: the open child of the last closed gate that may be open.
-fn next_after(market: &Market, prefix: &Prefix) -> Option<Prefix>
-    requires market { IsValid market.now }
-    requires prefix { IsFeasiblePrefix market.now prefix.now }
-    ensures left { left_at market.now.gates result ≡ waiting_after market.now.gates (word_of prefix.now) }
-    ensures feasible { IfSome result (IsFeasiblePrefix market.now) }
-{
-    let mut at = *prefix;
-    while at.length > 0 {
-        let was_open = opens(&at, at.length - 1);
-        at = without_last(&at);
-        if !was_open && may_branch_up(market, &at) {
-            return Some(child_of(&at, true));
-        }
-    }
-    None
-}
-
 /// What one item does to a walk: the next prefix or the end of the tree, or a fault.
 enum Step {
     On(Option<Prefix>),
@@ -52,16 +35,23 @@ enum Step {
 }
 
 /// Takes one item at a prefix.
-fn take_item(market: &Market, prefix: &Prefix, item: &TreeItem, cutoff: Quarters) -> Step
+fn take_item(
+    market: &Market,
+    prefix: &Prefix,
+    item: &TreeItem,
+    cutoff: Quarters,
+    word: &Prefix,
+) -> Step
     requires market { IsValid market.now }
     requires prefix { IsFeasiblePrefix market.now prefix.now }
-    ensures { IsStep market.now cutoff.0 prefix.now item.now result }
+    requires word { IsFeasiblePrefix market.now word.now }
+    ensures { IsStep market.now (LeafHoldsFor market.now cutoff.0 (word_of word.now)) prefix.now item.now result }
 {
     match item {
         TreeItem::Branch if prefix.length as usize >= market.gates.as_slice().len() =>
             Step::BadShape,
         TreeItem::Branch => Step::On(Some(child_of(prefix, false))),
-        TreeItem::Leaf(leaf) if check_leaf(market, prefix, leaf, cutoff) => {
+        TreeItem::Leaf(leaf) if check_leaf_for(market, prefix, leaf, cutoff, word) => {
             Step::On(next_after(market, prefix))
         }
         TreeItem::Leaf(_) => Step::BadLeaf,
@@ -69,16 +59,17 @@ fn take_item(market: &Market, prefix: &Prefix, item: &TreeItem, cutoff: Quarters
 }
 
 /// Walks through a tree item by item, up to its end or its first fault.
-fn walk(market: &Market, tree: &[TreeItem], cutoff: Quarters) -> TreeVerdict
-    requires { IsValid market.now }
-    ensures { IsVerdict market.now cutoff.0 tree.now result }
+fn walk(market: &Market, tree: &[TreeItem], cutoff: Quarters, word: &Prefix) -> TreeVerdict
+    requires market { IsValid market.now }
+    requires word { IsFeasiblePrefix market.now word.now }
+    ensures { IsVerdict market.now (LeafHoldsFor market.now cutoff.0 (word_of word.now)) tree.now result }
 {
     let mut next = Some(empty_prefix());
     for (place, item) in tree.iter().enumerate() {
         let Some(prefix) = next else {
             return TreeVerdict::BadShape(place);
         };
-        match take_item(market, &prefix, item, cutoff) {
+        match take_item(market, &prefix, item, cutoff, word) {
             Step::On(following) => next = following,
             Step::BadShape => return TreeVerdict::BadShape(place),
             Step::BadLeaf => return TreeVerdict::BadLeaf(place),
@@ -90,17 +81,31 @@ fn walk(market: &Market, tree: &[TreeItem], cutoff: Quarters) -> TreeVerdict
     }
 }
 
-/// Whether a tree holds for the market at a cutoff, in quarter-cents; else the first place at which it doesn't.
+/// Whether a tree holds for the market at a cutoff, in quarter-cents, for a gate word; else the first place at which it
+/// doesn't.
 ///
-/// A tree that holds at the welfare of an admissible activation shows that the activation is optimal.
-pub fn check_tree(market: &Market, tree: &[TreeItem], cutoff: Quarters) -> TreeVerdict
-    requires { IsValid market.now }
-    ensures verdict { IsVerdict market.now cutoff.0 tree.now result }
-    ensures holds { (result ≡ TreeVerdict.Holds) ↔ TreeHolds market.now cutoff.0 tree.now }
+/// The gate word is a feasible prefix that decides every gate. The leaves that are early for it are to hold even at the
+/// cutoff less 1, so a tree that holds at the welfare of an admissible activation for its gate word shows that it is the
+/// first activation. The word that closes every gate has no early leaf.
+pub fn check_tree(
+    market: &Market,
+    tree: &[TreeItem],
+    cutoff: Quarters,
+    word: &Prefix,
+) -> TreeVerdict
+    requires market { IsValid market.now }
+    requires word { IsFeasiblePrefix market.now word.now }
+    requires full { word.now.length ≡ length market.now.gates }
+    ensures verdict { IsVerdict market.now (LeafHoldsFor market.now cutoff.0 (word_of word.now)) tree.now result }
+    ensures holds { (result ≡ TreeVerdict.Holds) ↔ TreeHoldsFor market.now cutoff.0 (word_of word.now) tree.now }
 
     // A tree that holds bounds every admissible welfare, so that an activation which reaches the cutoff is optimal.
     ensures bounds { result ≡ TreeVerdict.Holds → (a : Activation) → IsAdmissible market.now a → welfare_of market.now a ≤ℤ cutoff.0 }
     ensures optimal { result ≡ TreeVerdict.Holds → (a : Activation) → IsAdmissible market.now a → welfare_of market.now a ≡ cutoff.0 → IsOptimal market.now a }
+
+    // Gate words that come before the word have less welfare, so an activation of the word which reaches the cutoff is the first.
+    ensures earlier { result ≡ TreeVerdict.Holds → (a : Activation) → IsAdmissible market.now a → ComesBefore (gate_word_of market.now a) (word_of word.now) → welfare_of market.now a ≤ℤ (cutoff.0 -ℤ pos 1) }
+    ensures first { result ≡ TreeVerdict.Holds → (a : Activation) → IsAdmissible market.now a → welfare_of market.now a ≡ cutoff.0 → gate_word_of market.now a ≡ word_of word.now → IsFirst market.now a }
 {
-    walk(market, tree, cutoff)
+    walk(market, tree, cutoff, word)
 }

@@ -1,5 +1,5 @@
 -- With every gate closed: something lies within the bounds, and no conflict holds, so there is a best activation.
-use Rattle.std.proofs.Common.{◌≡◌, ◌∙◌, ◌==◌, ◌⊎◌, inl, inr, if◌then◌else◌, Bool, true, false, ℕ, zero, suc, ◌+◌, ◌<◌, ◌≤◌, ℤ, pos, neg_ℤ, ◌≤ℤ◌, List, [], ◌∷◌, length, map, replicate, Option, Some, None, arith, refl, sym, ap, subst, zero-add, add-zero}
+use Rattle.std.proofs.Common.{◌≡◌, ◌∙◌, ◌==◌, ◌⊎◌, inl, inr, if◌then◌else◌, Bool, true, false, ℕ, zero, suc, ◌+◌, ◌<◌, ◌≤◌, ℤ, pos, List, [], ◌∷◌, length, map, replicate, Option, Some, None, arith, refl, sym, ap, subst, zero-add, add-zero}
 use Rattle.std.proofs.lemmas.Bool.{cases_lt}
 use Rattle.std.proofs.lemmas.Int.{ints}
 use Rattle.std.proofs.lemmas.List.{get_or_past, get_or-replicate, length-replicate}
@@ -8,7 +8,6 @@ use Rattle.std.proofs.lemmas.List.FromFn.{length-map-range_with_len}
 use Rattle.std.proofs.lemmas.Option.{slice_get-get_or}
 use Rattle.std.specs.Prelude.{slice_get, IfSome, IsSomeAnd, MatchOption}
 use Rattle.std.specs.List.{All, AllZip, range_with_len}
-use Rattle.mari_units.specs.declared.Cents.{Cents}
 use Rattle.mari_market.specs.declared.activation.Activation.{Activation}
 use Rattle.mari_market.specs.declared.certificate.Conflict.{Conflict as ConflictRecord}
 use Rattle.mari_market.specs.declared.certificate.Cut.{Cut as CutRecord}
@@ -22,16 +21,16 @@ use Rattle.mari_market.specs.declared.market.Order.{Order}
 use Rattle.mari_market.specs.declared.market.Side.{Side}
 use Rattle.mari_market.specs.declared.market.Side.TheVariants.{Inject, Withdraw}
 use Rattle.mari_market.specs.declared.prefix.Prefix.{Prefix}
-use Rattle.mari_market.specs.Activation.{carried_out, is_open, put_in, put_into, gate_word_of, IsBalanced, IsWithinLimits}
+use Rattle.mari_market.specs.Activation.{carried_out, is_open, put_in, put_into, gate_word_of, IsWithinLimits}
 use Rattle.mari_market.specs.Bounds.{IsWithin, GateState, gated_span, own_bounds, span_in, span_of}
 use Rattle.mari_market.specs.Bounds.GateState.{Open, Closed}
 use Rattle.mari_market.specs.Conflict.{IsConflict}
-use Rattle.mari_market.specs.Consistent.{IsConsistentOrder, IsConsistentTrade, Standing, standing_of}
+use Rattle.mari_market.specs.Consistent.{IsConsistentOrder, IsConsistentTrade, standing_of}
 use Rattle.mari_market.specs.Consistent.Standing.{InOpen, InClosed, Plain}
 use Rattle.mari_market.specs.Cut.{IsCut}
 use Rattle.mari_market.specs.Dual.{IsTightOrder, IsTightTrade}
 use Rattle.mari_market.specs.Finding.{IsAttained, IsFinding, IsRefuted, IsRelaxedFinding, IsSettled}
-use Rattle.mari_market.specs.Market.{GateFits, IsValid, IsValidOrder}
+use Rattle.mari_market.specs.Market.{IsValid, IsValidOrder}
 use Rattle.mari_market.specs.Optimal.{IsAdmissible}
 use Rattle.mari_market.specs.Prefix.{bit_of, bounds_of_word, decided, opens_in, state_of, undecided, word_of, IsFeasiblePrefix, IsFeasibleWord}
 use Rattle.mari_market.specs.Price.{price_at}
@@ -163,6 +162,12 @@ closed_welfare m r best f e =
     let P : Option Attained → Type 0 = λ o. MatchOption o (IsRefuted m (all_closed m) r) (IsSettled m (all_closed m) r) in
     let settled : IsSettled m (all_closed m) r best = subst P e (f.at_the_end (length-all_closed m)) in
     subst (IsRelaxedWelfare m (all_closed m)) (sym settled.value) f.value
+
+pub closed_gates : (m : Market) (r : RelaxedRecord) (best : Attained) → IsRelaxedFinding m (all_closed m) r → r.best ≡ Some best → gate_word_of m best.activation ≡ all_closed m
+closed_gates m r best f e =
+    let P : Option Attained → Type 0 = λ o. MatchOption o (IsRefuted m (all_closed m) r) (IsSettled m (all_closed m) r) in
+    let settled : IsSettled m (all_closed m) r best = subst P e (f.at_the_end (length-all_closed m)) in
+    settled.gates
 
 -- what is found there isn't a cut
 pub closed_is_relaxed : (m : Market) (word : List Bool) (f : Finding) → IsValid m → word ≡ all_closed m → IsFinding m word f → ((r : RelaxedRecord) → f ≡ Relaxed r → ⊥) → ⊥

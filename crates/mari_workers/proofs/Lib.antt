@@ -1,2 +1,6 @@
 pub mod Closed
 pub mod Visits
+pub mod TreeWalks
+pub mod Fates
+pub mod Refined
+pub mod Turns

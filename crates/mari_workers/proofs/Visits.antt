@@ -1,5 +1,5 @@
 -- What a visit keeps, and what is so in the end.
-use Rattle.std.proofs.Common.{◌≡◌, ◌≢◌, ◌⊎◌, ◌∙◌, inl, inr, if◌then◌else◌, Bool, true, false, ℕ, zero, suc, ◌+◌, ◌-◌, ◌<◌, ◌≤◌, max, List, [], ◌∷◌, ◌++◌, length, map, get_or, Result, Option, Some, None, arith, refl, sym, ap, subst}
+use Rattle.std.proofs.Common.{pos, ◌≡◌, ◌≢◌, ◌⊎◌, ◌∙◌, inl, inr, if◌then◌else◌, Bool, true, false, ℕ, zero, suc, ◌+◌, ◌-◌, ◌<◌, ◌≤◌, max, List, [], ◌∷◌, ◌++◌, length, map, get_or, Result, Option, Some, None, arith, refl, sym, ap, subst}
 use Rattle.std.specs.Prelude.{nat_le, nat_lt, slice_get, IfSome, IsSomeAnd, MatchOption, OnOk}
 use Rattle.std.specs.Option.{option_map}
 use Rattle.std.proofs.lemmas.Bool.{cases_eq, cases_lt}
@@ -14,7 +14,10 @@ use Rattle.mari_market.specs.declared.finding.Finding.TheVariants.{Empty, Relaxe
 use Rattle.mari_market.specs.declared.finding.Relaxed.{Relaxed as RelaxedRecord}
 use Rattle.mari_market.specs.declared.market.Market.{Market}
 use Rattle.mari_market.specs.declared.clearing.PartItem.{PartItem}
-use Rattle.mari_market.specs.Clearing.{IsSpent}
+use Rattle.mari_market.specs.declared.clearing.Clearing.{Clearing}
+use Rattle.mari_market.specs.Activation.{gate_word_of}
+use Rattle.mari_market.specs.Clearing.{ArePartsOfSearch, IsOptimalClearing, IsSpent}
+use Rattle.mari_market.specs.Relaxation.{all_closed, IsClosedWelfare}
 use Rattle.mari_market.specs.Conflict.{IsConflict}
 use Rattle.mari_market.specs.Finding.{IsAttained, IsFinding, IsRefuted, IsRelaxedFinding, IsSettled}
 use Rattle.mari_core.specs.declared.event.Event.TheVariants.{Offer, Take as TakeEvent, Settle}
@@ -24,14 +27,15 @@ use Rattle.mari_core.specs.declared.node.NodeState.TheVariants.{Untaken, Taken, 
 use Rattle.mari_core.specs.declared.search.Actor.{Actor}
 use Rattle.mari_core.specs.Growth.{Entry, Grown, MaySettle, IsReached, children_at, closing_leaf, grown, settling, settling_by, take_refused, return_refused, seed, with_state}
 use Rattle.mari_core.specs.Growth.Entry.{Take, Close, Branch, Full, GiveBack}
-use Rattle.mari_core.specs.Machine.{Machine, after, by_actor, offering, refusal, seen_by, IsProper, KeepsFacts}
+use Rattle.mari_core.specs.Machine.{Machine, after, by_actor, greatest, offering, refusal, seen_by, IsProper, KeepsFacts}
 use Rattle.mari_core.specs.Nodes.{TreeNode, branch_of, in_state, new_node, state_at, words_of}
-use Rattle.mari_core.specs.Preorder.{is_done, IsFirstOpen}
+use Rattle.mari_core.specs.Preorder.{is_done, shape_of, IsFirstOpen}
 use Rattle.mari_core.proofs.Changes.{length-with_state, state_other, state_same}
 use Rattle.mari_core.proofs.Lists.{changed_same, get_back, get_front}
 use Rattle.mari_core.proofs.Machines.{actor_there, by_actor_there}
 use Rattle.mari_core.proofs.Walks.{number_within}
 use Rattle.mari_workers.specs.Alone.{after_offer, best_in, visited, IsSwept, IsUnderWay, IsVisited}
+use Rattle.mari_workers.specs.Refine.{MayRefine}
 
 -- ---- the nodes
 
@@ -159,6 +163,11 @@ visit_by_offer s x finding (Some best) swept l =
     (swept_by_settling s.tree x cutoff finding swept l, record { market = same.market; budget = same.budget })
 
 -- after a visit the search is under way at the next node, unless the mark is on
+-- a visit keeps the first activation
+first_stays : (s : Machine) (x : ℕ) (finding : Finding) (o : Option Attained) → (after (after_offer (after s (TakeEvent 0 x)) o) (Settle 0 x finding)).first ≡ s.first
+first_stays s x finding None = refl
+first_stays s x finding (Some best) = refl
+
 pub visit_keeps : (m : Market) (old new : Machine) (x : ℕ) (word : List Bool) → IsUnderWay m old x → x < length old.tree.nodes → IsVisited m old new x word → KeepsFacts new → (new.tree.full ≡ true → ⊥) → IsUnderWay m new (x + 1)
 visit_keeps m old new x word u l v facts not_full =
     let h = visit_by_offer old x v.finding (best_in v.finding) u.swept l in
@@ -167,6 +176,7 @@ visit_keeps m old new x word u l v facts not_full =
       market = ap (λ (g : Grown). g.market) tree ∙ h.1.market ∙ u.market;
       facts = facts;
       swept = by_mark h.0 tree;
+      from_closed = ap (λ (s : Machine). gate_word_of m s.first.activation) v.change ∙ ap (λ (a : Attained). gate_word_of m a.activation) (first_stays old x v.finding (best_in v.finding)) ∙ u.from_closed;
     }
   where
     by_mark : IsSweptOrFull (visited old x v.finding).tree (x + 1) → new.tree ≡ (visited old x v.finding).tree → IsSwept new.tree.nodes (x + 1)
@@ -334,13 +344,33 @@ spent_of m budget old new x word items told h e v spent is =
 
 -- ---- the start
 
-pub start_swept : (m : Market) (s : Machine) (budget : ℕ) → s.tree ≡ seed m budget → KeepsFacts s → IsUnderWay m s 0
-start_swept m s budget e facts = record {
+pub start_swept : (m : Market) (s : Machine) (budget : ℕ) → s.tree ≡ seed m budget → KeepsFacts s → gate_word_of m s.first.activation ≡ all_closed m → IsUnderWay m s 0
+start_swept m s budget e facts closed = record {
   market = ap (λ (g : Grown). g.market) e;
   facts = facts;
   swept = subst (λ (g : Grown). IsSwept g.nodes 0) (sym e) (record { done = λ x l. absurd (omega arith); waits = waits });
+  from_closed = closed;
 }
   where
     waits : (x : ℕ) → 0 ≤ x → x < length (seed m budget).nodes → state_at (seed m budget).nodes x ≡ Some Untaken
     waits zero l h = refl
     waits (suc x) l h = absurd (omega arith)
+
+-- ---- the end of a search
+
+above_first : (w : ℕ) (actors : List Actor) → w ≤ greatest w actors
+above_first w [] = omega arith
+above_first w (a ∷ others) = omega (arith, above_first w others)
+
+-- what a search comes to may be refined
+pub may_refine : (m : Market) (budget : ℕ) (s : Machine) (n : ℕ) (c : Clearing) → IsStill m budget s n → IsOptimalClearing s.tree.market s.tree.budget c → c.welfare ≡ s.word → (s.word ≡ s.first.welfare → c.activation ≡ s.first.activation) → ArePartsOfSearch s.tree.market ([] ∷ []) (map shape_of c.tree) → MayRefine m budget c
+may_refine m budget s n c h clearing w first parts = record {
+  clearing = subst (λ (b : ℕ). IsOptimalClearing m b c) h.budget_is (subst (λ (k : Market). IsOptimalClearing k s.tree.budget c) h.under_way.market clearing);
+  nodes = subst (λ (k : Market). ArePartsOfSearch k ([] ∷ []) (map shape_of c.tree)) h.under_way.market parts;
+  closed = s.first.welfare;
+  is_closed = subst (λ (k : Market). IsClosedWelfare k (pos s.first.welfare)) h.under_way.market h.under_way.facts.closed;
+  above = elim (cases_eq s.word s.first.welfare) [
+    | inl e ↦ inl (ap (gate_word_of m) (first e) ∙ h.under_way.from_closed)
+    | inr other ↦ inr (omega (arith, other, w, h.under_way.facts.word_is, above_first s.first.welfare s.actors))
+  ];
+}

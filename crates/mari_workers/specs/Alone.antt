@@ -4,7 +4,9 @@ use Rattle.mari_market.specs.declared.market.Market.{Market}
 use Rattle.mari_market.specs.declared.finding.Attained.{Attained}
 use Rattle.mari_market.specs.declared.finding.Finding.{Finding}
 use Rattle.mari_market.specs.declared.finding.Finding.TheVariants.{Empty, Relaxed}
+use Rattle.mari_market.specs.Activation.{gate_word_of}
 use Rattle.mari_market.specs.Finding.{IsFinding}
+use Rattle.mari_market.specs.Relaxation.{all_closed}
 use Rattle.mari_core.specs.declared.event.Event.TheVariants.{Offer, Take, Settle}
 use Rattle.mari_core.specs.declared.node.NodeState.TheVariants.{Untaken}
 use Rattle.mari_core.specs.Machine.{Machine, after, KeepsFacts}
@@ -16,11 +18,12 @@ pub record IsSwept (nodes : List TreeNode) (n : ℕ) : Type 0 where
   pub done : (x : ℕ) → x < n → is_done (state_at nodes x) ≡ true
   pub waits : (x : ℕ) → n ≤ x → x < length nodes → state_at nodes x ≡ Some Untaken
 
--- a search of the market that has visited the nodes below this number
+-- a search of the market that has visited the nodes below this number, and began with an activation that opens no gate
 pub record IsUnderWay (m : Market) (s : Machine) (n : ℕ) : Type 0 where
   pub market : s.tree.market ≡ m
   pub facts : KeepsFacts s
   pub swept : IsSwept s.tree.nodes n
+  pub from_closed : gate_word_of m s.first.activation ≡ all_closed m
 
 -- the activation that a finding has, if it has one
 abbrev pub best_in : Finding → Option Attained

@@ -9,8 +9,10 @@ ghost use Rattle.mari_market.specs.Finding.{IsAttained};
 ghost use Rattle.mari_market.specs.Market.{IsValid};
 ghost use Rattle.mari_market.specs.Prefix.{word_of, IsFeasiblePrefix};
 ghost use Rattle.mari_workers.specs.Alone.{best_in, after_offer, IsUnderWay, IsVisited};
+ghost use Rattle.mari_workers.specs.Refine.{IsSearched};
 
 use crate::first::first_of;
+use crate::refining::refine;
 use mari_core::{Event, FinishFault, Search};
 use mari_market::{Attained, Cleared, Clearer, Finding, Market, Prefix, Spent};
 use mari_node::examine;
@@ -102,9 +104,11 @@ fn visit(
 }
 
 /// Visits the nodes of a search in the order in which they are made, until none waits or one can't branch within the budget.
+///
+/// Where none waits any more there is an optimal clearing, which may be refined.
 fn visit_all(alloc: Global, market: &Market, mut search: Search<'_>) -> Result<Cleared, Memory>
     requires { IsUnderWay market.now search 0 }
-    ensures { IfOk result (Clears market.now search.entry.tree.budget) }
+    ensures { IfOk result (IsSearched market.now search.entry.tree.budget) }
 {
     let mut node = 0;
     while let Some(prefix) = search.prefix_of(node) {
@@ -122,7 +126,7 @@ fn visit_all(alloc: Global, market: &Market, mut search: Search<'_>) -> Result<C
     }
 }
 
-/// Clears a market from its best activation with every gate closed.
+/// Clears a market from its best activation with every gate closed, and refines what is found.
 fn cleared(alloc: Global, market: &Market, budget: u32) -> Result<Cleared, Memory>
     requires market { IsValid market.now }
     requires budget { (1 ≤ budget) × (budget ≤ 50000) }
@@ -130,12 +134,15 @@ fn cleared(alloc: Global, market: &Market, budget: u32) -> Result<Cleared, Memor
 {
     let first = first_of(alloc, market)?;
     let search = Search::start(alloc, market, ACTOR + 1, first, budget)?;
-    visit_all(alloc, market, search)
+    match visit_all(alloc, market, search)? {
+        Cleared::Published(found) => Ok(refine(alloc, market, found, budget)),
+        spent => Ok(spent),
+    }
 }
 
 /// Clears a market by branch and bound on this thread, within a budget of 1 to 50,000 nodes.
 ///
-/// An optimal activation comes with its welfare in quarter-cents and a certificate tree of at most the budget's items. Spent
+/// The first activation comes with its welfare in quarter-cents and a certificate tree of at most the budget's items. Spent
 /// comes only where the search tree is larger than the budget, with a part of it that the budget can't extend.
 pub fn search_alone(alloc: Global, market: &Market, budget: u32) -> Cleared
     requires market { IsValid market.now }

@@ -2,6 +2,7 @@
 
 ghost use Rattle.std.specs.Prelude.{◌≡◌, ◌≤◌, pos, length, IfOk};
 ghost use Rattle.mari_gates.specs.Prefixes.{IsCleared};
+ghost use Rattle.mari_market.specs.Activation.{gate_word_of};
 ghost use Rattle.mari_market.specs.Finding.{IsAttained};
 ghost use Rattle.mari_market.specs.Market.{IsValid};
 ghost use Rattle.mari_market.specs.Prefix.{word_of};
@@ -29,6 +30,7 @@ pub(crate) fn first_of(alloc: Global, market: &Market) -> Result<Attained, Memor
     requires { IsValid market.now }
     ensures attained { IfOk result (IsAttained market.now) }
     ensures closed { IfOk result (λ first. IsClosedWelfare market.now (pos first.welfare)) }
+    ensures gates { IfOk result (λ first. gate_word_of market.now first.activation ≡ all_closed market.now) }
 {
     let Finding::Relaxed(relaxed) = examine(alloc, market, &closed_prefix(market))? else {
         unreachable!()

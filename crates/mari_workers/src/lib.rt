@@ -6,7 +6,9 @@
 
 mod alone;
 mod first;
+mod refining;
 #[cfg(test)]
 mod tests;
 
 pub use alone::{Alone, search_alone};
+pub use refining::refine;

@@ -167,6 +167,79 @@ fn the_best_of_all_gate_words_is_found(rt: HostRuntime) -> Result<(), Fail> {
     Ok(())
 }
 
+/// Whether the items are two branches and three bounds, in preorder.
+fn is_two_branches_and_three_bounds(tree: &[TreeItem]) -> bool {
+    matches!(
+        tree,
+        [
+            TreeItem::Branch,
+            TreeItem::Branch,
+            TreeItem::Leaf(Leaf::Bound(_)),
+            TreeItem::Leaf(Leaf::Bound(_)),
+            TreeItem::Leaf(Leaf::Bound(_)),
+        ]
+    )
+}
+
+#[test]
+fn of_two_equal_bids_the_later_is_published(rt: HostRuntime) -> Result<(), Fail> {
+    let orders = [
+        gated(0, 3000, 30, 30),
+        gated(1, 3000, 30, 30),
+        bid(5000, 100),
+        demand(30),
+    ];
+    let market = market(rt.alloc(), &orders, &[gate(None), gate(None)])?;
+    for budget in [5, 7, 50_000] {
+        let Cleared::Published(clearing) = searched(rt.alloc(), &market, budget)? else {
+            return Err("it is published".into());
+        };
+        assert_eq!(rt; clearing.welfare, 299_907_000);
+        assert_eq!(rt;
+            clearing.activation.mw.as_slice(),
+            [0, 30, 0, 30].as_slice()
+        );
+        assert!(rt; clearing.tree.as_slice().len() <= 7);
+        if budget == 5 {
+            assert!(rt; is_two_branches_and_three_bounds(clearing.tree.as_slice()));
+        }
+    }
+    Ok(())
+}
+
+/// What is published of four equal bids of 10 MW, for a demand of so many MW.
+fn published_of_four(alloc: Global, wanted: u32) -> Result<Vec<u32>, Fail> {
+    let orders = [
+        gated(0, 3000, 10, 10),
+        gated(1, 3000, 10, 10),
+        gated(2, 3000, 10, 10),
+        gated(3, 3000, 10, 10),
+        bid(5000, 100),
+        demand(wanted),
+    ];
+    let gates = [gate(None), gate(None), gate(None), gate(None)];
+    let market = market(alloc, &orders, &gates)?;
+    let cleared = searched(alloc, &market, 31)?;
+    Ok(published_mw(&cleared).to_vec(alloc)?)
+}
+
+#[test]
+fn of_equal_bids_the_last_ones_are_opened(rt: HostRuntime) -> Result<(), Fail> {
+    assert_eq!(rt;
+        published_of_four(rt.alloc(), 10)?.as_slice(),
+        [0, 0, 0, 10, 0, 10].as_slice()
+    );
+    assert_eq!(rt;
+        published_of_four(rt.alloc(), 20)?.as_slice(),
+        [0, 0, 10, 10, 0, 20].as_slice()
+    );
+    assert_eq!(rt;
+        published_of_four(rt.alloc(), 30)?.as_slice(),
+        [0, 10, 10, 10, 0, 30].as_slice()
+    );
+    Ok(())
+}
+
 #[test]
 fn a_clearer_on_one_thread_searches(rt: HostRuntime) -> Result<(), Fail> {
     let market = market(rt.alloc(), &[bid(5000, 100), demand(60)], &[])?;

@@ -16,7 +16,7 @@ use Rattle.mari_day.proofs.block.published_run.Goals as goal
 
 -- the welfare of a clearing fits 63 bits
 small-welfare : (m : Market) (budget : ℕ) (k : Clearing) → IsValid m → IsClearing m budget k → k.welfare < 2 ^ 63
-small-welfare m budget k v clears = omega (arith, ints, clears.welfare, welfare_at_most m k.activation v clears.optimal.admissible.feasible)
+small-welfare m budget k v clears = omega (arith, ints, clears.welfare, welfare_at_most m k.activation v clears.first.optimal.admissible.feasible)
 
 pub assemble-requires-clause-shapes : goal.assemble-requires-clause-shapes
 assemble-requires-clause-shapes c =

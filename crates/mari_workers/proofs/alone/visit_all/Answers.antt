@@ -1,4 +1,4 @@
-use Rattle.std.proofs.Common.{◌≡◌, ◌<◌, ◌∙◌, true, arith, sym, subst}
+use Rattle.std.proofs.Common.{◌∙◌, arith, sym, subst}
 use Rattle.mari_market.specs.Prefix.{word_of}
 use Rattle.mari_core.specs.declared.event.FinishFault.{FinishFault}
 use Rattle.mari_core.specs.Preorder.{IsOpenFault}

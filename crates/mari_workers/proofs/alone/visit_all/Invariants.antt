@@ -1,5 +1,4 @@
-use Rattle.std.proofs.Common.{◌≡◌, ◌-◌}
-use Rattle.mari_workers.specs.Alone.{IsUnderWay}
+use Rattle.std.proofs.Common.{◌-◌}
 use Rattle.mari_workers.proofs.Visits.{IsStill}
 use Rattle.mari_workers.proofs.alone.visit_all.Given as goal
 

@@ -1,7 +1,7 @@
 use Rattle.std.proofs.Common.{◌≡◌, List, arith, refl, length, pos, sym, ap, subst, ◌∙◌}
 use Rattle.mari_market.specs.declared.certificate.TreeItem.{TreeItem}
 use Rattle.mari_market.specs.declared.finding.Attained.{Attained}
-use Rattle.mari_market.specs.Clearing.{IsClearing}
+use Rattle.mari_market.specs.Clearing.{IsOptimalClearing}
 use Rattle.mari_market.specs.Tree.{TreeHolds}
 use Rattle.mari_core.specs.Machine.{Machine}
 use Rattle.mari_core.proofs.Machines.{clearing_by, first_is_best}
@@ -9,7 +9,7 @@ use Rattle.mari_core.proofs.search.Search.finish.Goals as goal
 
 pub returns-clause-clearing : goal.returns-clause-clearing
 returns-clause-clearing c =
-    subst (λ (s : Machine). IsClearing s.tree.market s.tree.budget (record { activation = c.best_of-best.result.activation; welfare = c.self.inside.word; tree = c.of.result })) c.self.view_is
+    subst (λ (s : Machine). IsOptimalClearing s.tree.market s.tree.budget (record { activation = c.best_of-best.result.activation; welfare = c.self.inside.word; tree = c.of.result })) c.self.view_is
     (clearing_by (record { tree = c.self.inside.tree; word = c.self.inside.word; actors = c.self.inside.actors.items; first = c.self.inside.first }) _ c.self.invariant
     (ap (λ (a : Attained). a.activation) c.best_of-best.ensures) refl
     (subst (λ (items : List TreeItem). TreeHolds c.self.inside.tree.market (pos c.self.inside.word) items) (sym c.of.ensures) (c.in_ok-tree.ensures.holds c.self.inside.word c.self.invariant.cutoffs))

@@ -1,7 +1,7 @@
 use Rattle.std.proofs.Common.{◌≡◌}
 use Rattle.mari_market.specs.Prefix.{word_of, IsFeasiblePrefix}
-use Rattle.mari_proofs.specs.Places.{waiting_after}
-use Rattle.mari_proofs.proofs.trees.next_after.Given as goal
+use Rattle.mari_gates.specs.Preorder.{waiting_after}
+use Rattle.mari_gates.proofs.preorder.next_after.Given as goal
 
 abbrev pub invariant-loop-at : goal.invariant-loop-at
 invariant-loop-at l = record {

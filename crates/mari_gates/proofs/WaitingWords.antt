@@ -9,7 +9,7 @@ use Rattle.mari_market.proofs.Search.{parents_earlier}
 use Rattle.mari_market.specs.Market.{IsValid}
 use Rattle.mari_gates.specs.Prefixes.{IsCleared, ParentsEarlier}
 use Rattle.mari_gates.proofs.Decisions.{length-decisions}
-use Rattle.mari_proofs.specs.Places.{opened_child, waiting, waiting_after, left_at}
+use Rattle.mari_gates.specs.Preorder.{opened_child, waiting, waiting_after, left_at}
 
 opens_front : (w v : List Bool) (n : ℕ) → n < length w → opens_in (w ++ v) n ≡ opens_in w n
 opens_front [] v n h = absurd (omega arith)

@@ -2,10 +2,10 @@ use Rattle.std.proofs.Common.{◌≡◌, ◌+◌, ◌-◌, ℕ, ◌∷◌, ◌++
 use Rattle.std.specs.Prelude.{if◌then◌else◌}
 use Rattle.mari_market.specs.declared.prefix.Prefix.{Prefix}
 use Rattle.mari_market.specs.Prefix.{word_of, bit_of}
-use Rattle.mari_proofs.specs.Places.{opened_child}
-use Rattle.mari_proofs.proofs.WaitingWords.{waiting_up, waiting_sibling, parent_feasible, opened_read, length_feasible}
-use Rattle.mari_proofs.proofs.trees.next_after.Goals as goal
-use Rattle.mari_proofs.proofs.trees.next_after.Goals.{else-not-was_open-via-then-not-was_open+else-may_branch_up, else-not-was_open-via-else-not-was_open}
+use Rattle.mari_gates.specs.Preorder.{opened_child}
+use Rattle.mari_gates.proofs.WaitingWords.{waiting_up, waiting_sibling, parent_feasible, opened_read, length_feasible}
+use Rattle.mari_gates.proofs.preorder.next_after.Goals as goal
+use Rattle.mari_gates.proofs.preorder.next_after.Goals.{else-not-was_open-via-then-not-was_open+else-may_branch_up, else-not-was_open-via-else-not-was_open}
 
 pub opens-was_open-requires : goal.opens-was_open-requires
 opens-was_open-requires c = omega (arith, length_feasible c.args.market.now c.loop-at.at c.loop-at.invariant.feasible, c.requires.market.few_gates)

@@ -1,0 +1,146 @@
+-- The gate word of an activation, marked order by order.
+use Rattle.std.proofs.Common.{◌≡◌, ◌||◌, Bool, true, false, ℕ, zero, suc, ◌+◌, ◌<◌, ◌≤◌, List, [], ◌∷◌, ◌++◌, length, map, take, get_or, Option, Some, None, arith, refl, sym, ap, ◌∙◌, subst, not, ◌⊎◌, inl, inr}
+use mathlib.Core.Bool.{beq}
+use Rattle.std.specs.Prelude.{MatchOption, IfSome, IsTrue, ◌↔◌}
+use Rattle.std.specs.List.{AllZip, range_with_len}
+use Rattle.std.proofs.Math.Bool.{or_comm}
+use Rattle.std.proofs.lemmas.Bool.{cases_lt}
+use Rattle.std.proofs.lemmas.List.{take_all, get_or_past}
+use Rattle.std.proofs.lemmas.List.FromFn.{length-map-range_with_len, map-range_with_len_more}
+use Rattle.mari_market.specs.declared.activation.Activation.{Activation}
+use Rattle.mari_market.specs.declared.market.Market.{Market}
+use Rattle.mari_market.specs.declared.market.Order.{Order}
+use Rattle.mari_market.specs.declared.prefix.Prefix.{Prefix}
+use Rattle.mari_market.specs.Activation.{gate_word_of, is_open, runs_gate}
+use Rattle.mari_market.specs.Bounds.{IsWithin, own_bounds}
+use Rattle.mari_market.specs.First.{ComesBefore}
+use Rattle.mari_market.specs.Market.{IsValid}
+use Rattle.mari_market.specs.Optimal.{IsFeasible}
+use Rattle.mari_market.specs.Prefix.{bit_of, word_of, opens_in, IsFeasiblePrefix, IsFeasibleWord}
+use Rattle.mari_market.proofs.Conflicts.{none_past}
+use Rattle.mari_market.proofs.Prefixes.{opens_within}
+use Rattle.mari_market.proofs.Search.{parents_earlier}
+use Rattle.mari_market.proofs.Words.{begins_own, length-gate_word_of, word_is_feasible}
+use Rattle.mari_gates.specs.GateWords.{is_run_of}
+use Rattle.mari_gates.specs.Prefixes.{IsCleared}
+use Rattle.mari_gates.proofs.Decisions.{opens-decisions, length-decisions}
+
+-- with one more order a gate is run where it was, or where the order runs it
+runs_more : (g : ℕ) (os : List Order) (qs : List ℕ) (i : ℕ) (d : Order) → i < length os → i < length qs → runs_gate g (take (i + 1) os) (take (i + 1) qs) ≡ (runs_gate g (take i os) (take i qs) || is_run_of g (get_or os i d) (get_or qs i 0))
+runs_more g [] qs i d h l = absurd (omega arith)
+runs_more g (o ∷ os) [] i d h l = absurd (omega arith)
+runs_more g (o ∷ os) (q ∷ qs) zero d h l = or_comm (is_run_of g o q) false
+runs_more g (o ∷ os) (q ∷ qs) (suc i) d h l =
+    let k : suc i + 1 ≡ suc (i + 1) = omega arith in
+    ap (λ (n : ℕ). runs_gate g (take n (o ∷ os)) (take n (q ∷ qs))) k
+    ∙ ap (λ (b : Bool). is_run_of g o q || b) (runs_more g os qs i d (omega arith) (omega arith))
+    ∙ regrouped (is_run_of g o q) (runs_gate g (take i os) (take i qs)) (is_run_of g (get_or os i d) (get_or qs i 0))
+  where
+    regrouped : (x y z : Bool) → (x || (y || z)) ≡ ((x || y) || z)
+    regrouped true y z = refl
+    regrouped false y z = refl
+
+-- a loop's step: the bit so far, and whether the order runs the gate
+pub marks_more : (g : ℕ) (os : List Order) (qs : List ℕ) (i : ℕ) (d : Order) (old new : Bool) → i < length os → i < length qs → old ≡ runs_gate g (take i os) (take i qs) → new ≡ (old || is_run_of g (get_or os i d) (get_or qs i 0)) → new ≡ runs_gate g (take (i + 1) os) (take (i + 1) qs)
+marks_more g os qs i d old new h l e n = n ∙ ap (λ (b : Bool). b || is_run_of g (get_or os i d) (get_or qs i 0)) e ∙ sym (runs_more g os qs i d h l)
+
+pub none_set : (x : Prefix) (g : ℕ) → word_of x ≡ [] → IsCleared x → g < 512 → bit_of x g ≡ false
+none_set x g e cleared l =
+    let none : x.length ≡ 0 = sym (length-map-range_with_len (bit_of x) 0 x.length) ∙ ap length e in
+    cleared g (omega (arith, none)) l
+
+same_length : {X Y : Type 0} (P : X → Y → Type 0) (xs : List X) (ys : List Y) → AllZip P xs ys → length ys ≡ length xs
+same_length P [] [] a = refl
+same_length P (x ∷ xs) (y ∷ ys) a = ap suc (same_length P xs ys a.1)
+same_length P [] (y ∷ ys) a = absurd a
+same_length P (x ∷ xs) [] a = absurd a
+
+-- a feasible activation has as many quantities as there are orders
+pub as_many : (m : Market) (a : Activation) (os : List Order) (qs : List ℕ) → IsFeasible m a → os ≡ m.orders → qs ≡ a.mw → length qs ≡ length os
+as_many m a os qs f e h = ap length h ∙ same_length (λ o q. IsWithin (own_bounds m a o) q) m.orders a.mw f.orders ∙ sym (ap length e)
+
+-- in a valid market an order's gate is one of 512
+pub few_at : (m : Market) (os : List Order) (i : ℕ) (d : Order) → IsValid m → os ≡ m.orders → i < length os → IfSome (get_or os i d).gate (λ g. g < 512)
+few_at m os i d v e l = of_gate (get_or os i d).gate (subst (λ (xs : List Order). MatchOption (get_or xs i d).gate ((get_or xs i d).least ≡ 0) (λ g. (g < length m.gates) × (1 ≤ (get_or xs i d).least))) (sym e) (v.orders i d (omega (arith, l, ap length e))).gate)
+  where
+    of_gate : (gate : Option ℕ) → MatchOption gate ((get_or os i d).least ≡ 0) (λ g. (g < length m.gates) × (1 ≤ (get_or os i d).least)) → IfSome gate (λ g. g < 512)
+    of_gate None f = tt
+    of_gate (Some g) f = omega (arith, f.0, v.few_gates)
+
+same_map : (f g : ℕ → Bool) (n : ℕ) → ((k : ℕ) → k < n → f k ≡ g k) → map f (range_with_len 0 n) ≡ map g (range_with_len 0 n)
+same_map f g zero e = refl
+same_map f g (suc n) e =
+    let one : suc n ≡ n + 1 = omega arith in
+    ap (λ k. map f (range_with_len 0 k)) one
+    ∙ map-range_with_len_more f 0 n n (omega arith)
+    ∙ ap (λ w. w ++ f n ∷ []) (same_map f g n (λ k h. e k (omega arith)))
+    ∙ ap (λ b. map g (range_with_len 0 n) ++ b ∷ []) (e n (omega arith))
+    ∙ sym (map-range_with_len_more g 0 n n (omega arith))
+    ∙ ap (λ k. map g (range_with_len 0 k)) (sym one)
+
+-- ---- the answer
+
+-- the bits of a gate word that is marked by all orders are those of the open gates
+pub marked : (m : Market) (a : Activation) (os : List Order) (qs : List ℕ) (i g : ℕ) (b : Bool) → os ≡ m.orders → qs ≡ a.mw → length os ≤ i → length qs ≤ i → b ≡ runs_gate g (take i os) (take i qs) → b ≡ is_open m a g
+marked m a os qs i g b e h l k n =
+    n ∙ ap (λ (xs : List Order). runs_gate g xs (take i qs)) (take_all i os l) ∙ ap (runs_gate g os) (take_all i qs k)
+    ∙ ap (λ (xs : List Order). runs_gate g xs qs) e ∙ ap (runs_gate g m.orders) h
+
+pub word_of_marks : (m : Market) (a : Activation) (x : Prefix) → IsValid m → x.length ≡ length m.gates → ((g : ℕ) → g < 512 → bit_of x g ≡ is_open m a g) → word_of x ≡ gate_word_of m a
+word_of_marks m a x v e bits = ap (λ (n : ℕ). map (bit_of x) (range_with_len 0 n)) e ∙ same_map (bit_of x) (is_open m a) (length m.gates) (λ g l. bits g (omega (arith, v.few_gates)))
+
+pub marks_feasible : (m : Market) (a : Activation) (x : Prefix) → IsValid m → IsFeasible m a → x.length ≡ length m.gates → ((g : ℕ) → g < 512 → bit_of x g ≡ is_open m a g) → IsFeasiblePrefix m x
+marks_feasible m a x v f e bits = record {
+  word = subst (IsFeasibleWord m.gates) (sym (word_of_marks m a x v e bits)) (word_is_feasible m.gates (gate_word_of m a) (is_open m a) (parents_earlier m v) (begins_own m a) f.gates (omega (arith, length-gate_word_of m a)));
+  rest = λ g past l. bits g l ∙ none_past m.zones (length m.gates) g m.orders a.mw v.orders (omega (arith, e, past));
+}
+
+-- ---- the order of words
+
+-- a cleared prefix opens a gate exactly where its bit is 1
+opens_bit : (x : Prefix) (g : ℕ) → IsCleared x → g < 512 → opens_in (word_of x) g ≡ bit_of x g
+opens_bit x g cleared l = elim (cases_lt g x.length) [
+  | inl in_it ↦ opens-decisions x x.length g in_it
+  | inr past ↦ get_or_past (word_of x) g false (omega (arith, length-decisions x x.length, past)) ∙ sym (cleared g past l)
+]
+
+opens_word : (w : Prefix) (g : ℕ) → g < w.length → opens_in (word_of w) g ≡ bit_of w g
+opens_word w g l = opens-decisions w w.length g l
+
+same_bits : (x w : Prefix) (n : ℕ) → IsCleared x → w.length ≤ 512 → n ≤ w.length → ((g : ℕ) → g < n → bit_of x g ≡ bit_of w g) → (g : ℕ) → g < n → opens_in (word_of x) g ≡ opens_in (word_of w) g
+same_bits x w n cleared few le same g l = opens_bit x g cleared (omega arith) ∙ same g l ∙ sym (opens_word w g (omega arith))
+
+-- the first gate that differs decides
+pub differs_at : (x w : Prefix) (n : ℕ) (p o : Bool) → IsCleared x → w.length ≤ 512 → n < w.length → ((g : ℕ) → g < n → bit_of x g ≡ bit_of w g) → p ≡ bit_of x n → o ≡ bit_of w n → not (beq p o) ≡ true → IsTrue o ↔ ComesBefore (word_of x) (word_of w)
+differs_at x w n true true cleared few l same is was differ = absurd (cc)
+differs_at x w n false false cleared few l same is was differ = absurd (cc)
+differs_at x w n false true cleared few l same is was differ = (
+  λ t. record { gate = n; same = same_bits x w n cleared few (omega arith) same; closed = opens_bit x n cleared (omega arith) ∙ sym is; opened = opens_word w n l ∙ sym was },
+  λ h. refl,
+)
+differs_at x w n true false cleared few l same is was differ = (
+  λ t. absurd (cc t),
+  λ h. absurd (not_later h (cases_lt h.gate n)),
+)
+  where
+    here : opens_in (word_of x) n ≡ true
+    here = opens_bit x n cleared (omega arith) ∙ sym is
+
+    there : opens_in (word_of w) n ≡ false
+    there = opens_word w n l ∙ sym was
+
+    not_later : (h : ComesBefore (word_of x) (word_of w)) → (h.gate < n) ⊎ (n ≤ h.gate) → ⊥
+    not_later h (inl before) = absurd (cc (same_bits x w n cleared few (omega arith) same h.gate before, h.closed, h.opened))
+    not_later h (inr past) = elim (cases_lt n h.gate) [
+      | inl later ↦ absurd (cc (h.same n later, here, there))
+      | inr at ↦ let one : h.gate ≡ n = omega arith in absurd (cc (ap (opens_in (word_of x)) one, h.closed, here))
+    ]
+
+-- where no gate differs the word doesn't come before
+pub none_differs : (x w : Prefix) (n : ℕ) → IsCleared x → w.length ≤ 512 → w.length ≤ n → ((g : ℕ) → g < n → bit_of x g ≡ bit_of w g) → IsTrue false ↔ ComesBefore (word_of x) (word_of w)
+none_differs x w n cleared few l same = (
+  λ t. absurd (cc t),
+  λ h.
+      let within : h.gate < w.length = omega (arith, opens_within (word_of w) h.gate h.opened, length-decisions w w.length) in
+      absurd (cc (opens_bit x h.gate cleared (omega arith), opens_word w h.gate within, same h.gate (omega arith), h.closed, h.opened)),
+)

@@ -1,0 +1,144 @@
+-- The items of a part of the search tree are as many distinct nodes.
+use Rattle.std.proofs.Common.{◌≡◌, ◌≢◌, ◌⊎◌, inl, inr, if◌then◌else◌, Bool, true, false, ℕ, zero, suc, ◌<◌, List, [], ◌∷◌, ◌++◌, length, arith, refl, ap, ◌∙◌, length-append}
+use Rattle.mari_market.specs.declared.clearing.PartItem.{PartItem}
+use Rattle.mari_market.specs.declared.clearing.PartItem.TheVariants.{Branch, Closed, Pending}
+use Rattle.mari_market.specs.declared.market.Market.{Market}
+use Rattle.mari_market.specs.Clearing.{ArePartsOfSearch}
+use Rattle.mari_market.specs.Prefix.{children, may_open, opens_in}
+use Rattle.mari_market.specs.SearchTree.{IsNode, AreNodes}
+use Rattle.mari_market.proofs.Examples.{Each, EachApart, all_apart, all_of}
+
+-- the words of the items, in preorder
+abbrev pub visited : Market → List (List Bool) → List PartItem → List (List Bool)
+visited m [] items = []
+visited m (word ∷ words) [] = []
+visited m (word ∷ words) (Branch ∷ items) = word ∷ visited m (children m.gates word ++ words) items
+visited m (word ∷ words) (Closed ∷ items) = word ∷ visited m words items
+visited m (word ∷ words) (Pending ∷ items) = word ∷ visited m words items
+
+visited_count : (m : Market) (words : List (List Bool)) (items : List PartItem) → ArePartsOfSearch m words items → length (visited m words items) ≡ length items
+visited_count m [] [] p = refl
+visited_count m [] (item ∷ items) p = absurd p
+visited_count m (word ∷ words) [] p = absurd p
+visited_count m (word ∷ words) (Branch ∷ items) p = ap suc (visited_count m (children m.gates word ++ words) items p.2)
+visited_count m (word ∷ words) (Closed ∷ items) p = ap suc (visited_count m words items p.1)
+visited_count m (word ∷ words) (Pending ∷ items) p = ap suc (visited_count m words items p.1)
+
+visited_nodes : (m : Market) (words : List (List Bool)) (items : List PartItem) → ArePartsOfSearch m words items → Each (IsNode m) (visited m words items)
+visited_nodes m [] items p = tt
+visited_nodes m (word ∷ words) [] p = absurd p
+visited_nodes m (word ∷ words) (Branch ∷ items) p = (p.0, visited_nodes m (children m.gates word ++ words) items p.2)
+visited_nodes m (word ∷ words) (Closed ∷ items) p = (p.0, visited_nodes m words items p.1)
+visited_nodes m (word ∷ words) (Pending ∷ items) p = (p.0, visited_nodes m words items p.1)
+
+-- ---- what holds of each of them
+
+pub each_append : {X : Type 0} (P : X → Type 0) (xs ys : List X) → Each P xs → Each P ys → Each P (xs ++ ys)
+each_append P [] ys a b = b
+each_append P (x ∷ xs) ys a b = (a.0, each_append P xs ys a.1 b)
+
+pub each_map : {X : Type 0} (P Q : X → Type 0) → ((x : X) → P x → Q x) → (xs : List X) → Each P xs → Each Q xs
+each_map P Q h [] a = tt
+each_map P Q h (x ∷ xs) a = (h x a.0, each_map P Q h xs a.1)
+
+-- what holds of a word and of each that is one gate longer holds of a word's children
+pub each_child : (Q : List Bool → Type 0) (word : List Bool) (may : Bool) → Q (word ++ false ∷ []) → Q (word ++ true ∷ []) → Each Q ((word ++ false ∷ []) ∷ (if may then (word ++ true ∷ []) ∷ [] else []))
+each_child Q word true f t = (f, (t, tt))
+each_child Q word false f t = (f, tt)
+
+-- what holds of words, and passes on to words one gate longer, holds of all that are visited
+each_visited : (m : Market) (Q : List Bool → Type 0) → ((word : List Bool) (b : Bool) → Q word → Q (word ++ b ∷ [])) → (words : List (List Bool)) (items : List PartItem) → Each Q words → Each Q (visited m words items)
+each_visited m Q h [] items a = tt
+each_visited m Q h (word ∷ words) [] a = tt
+each_visited m Q h (word ∷ words) (Branch ∷ items) a =
+    (a.0, each_visited m Q h (children m.gates word ++ words) items (each_append Q (children m.gates word) words (each_child Q word (may_open m.gates word (length word)) (h word false a.0) (h word true a.0)) a.1))
+each_visited m Q h (word ∷ words) (Closed ∷ items) a = (a.0, each_visited m Q h words items a.1)
+each_visited m Q h (word ∷ words) (Pending ∷ items) a = (a.0, each_visited m Q h words items a.1)
+
+-- ---- they are distinct
+
+-- at some gate that it decides the first word is closed, and the other is open
+record IsApart (word other : List Bool) : Type 0 where
+  gate : ℕ
+  decided : gate < length word
+  closed : opens_in word gate ≡ false
+  opened : opens_in other gate ≡ true
+
+pub opens_still : (word : List Bool) (b : Bool) (g : ℕ) → opens_in word g ≡ true → opens_in (word ++ b ∷ []) g ≡ true
+opens_still [] b g e = absurd (cc)
+opens_still (c ∷ cs) b zero e = e
+opens_still (c ∷ cs) b (suc g) e = opens_still cs b g e
+
+pub opens_same : (word : List Bool) (b : Bool) (g : ℕ) → g < length word → opens_in (word ++ b ∷ []) g ≡ opens_in word g
+opens_same [] b g l = absurd (omega arith)
+opens_same (c ∷ cs) b zero l = refl
+opens_same (c ∷ cs) b (suc g) l = opens_same cs b g (omega arith)
+
+opens_new : (word : List Bool) (b : Bool) → opens_in (word ++ b ∷ []) (length word) ≡ b
+opens_new [] b = refl
+opens_new (c ∷ cs) b = opens_new cs b
+
+apart_longer : (word other : List Bool) (b : Bool) → IsApart word other → IsApart word (other ++ b ∷ [])
+apart_longer word other b h = record { gate = h.gate; decided = h.decided; closed = h.closed; opened = opens_still other b h.gate h.opened }
+
+longer_apart : (word other : List Bool) (b : Bool) → IsApart word other → IsApart (word ++ b ∷ []) other
+longer_apart word other b h = record { gate = h.gate; decided = omega (arith, h.decided, length-append word (b ∷ [])); closed = opens_same word b h.gate h.decided ∙ h.closed; opened = h.opened }
+
+children_are_apart : (word : List Bool) → IsApart (word ++ false ∷ []) (word ++ true ∷ [])
+children_are_apart word = record { gate = length word; decided = omega (arith, length-append word (false ∷ [])); closed = opens_new word false; opened = opens_new word true }
+
+apart_differ : (word other : List Bool) → IsApart word other → word ≢ other
+apart_differ word other h = λ e. absurd (cc (ap (λ (w : List Bool). opens_in w h.gate) e, h.closed, h.opened))
+
+abbrev AllApart : List (List Bool) → Type 0
+AllApart [] = Unit {0}
+AllApart (word ∷ words) = Each (IsApart word) words × AllApart words
+
+with_children_apart : (word : List Bool) (words : List (List Bool)) (may : Bool) → Each (IsApart word) words → AllApart words → AllApart (((word ++ false ∷ []) ∷ (if may then (word ++ true ∷ []) ∷ [] else [])) ++ words)
+with_children_apart word words true a h =
+    let one = each_map (IsApart word) (IsApart (word ++ false ∷ [])) (λ u. longer_apart word u false) words a in
+    let two = each_map (IsApart word) (IsApart (word ++ true ∷ [])) (λ u. longer_apart word u true) words a in
+    ((children_are_apart word, one), (two, h))
+with_children_apart word words false a h = (each_map (IsApart word) (IsApart (word ++ false ∷ [])) (λ u. longer_apart word u false) words a, h)
+
+-- longer than the word, or apart from it
+abbrev IsBehind : List Bool → List Bool → Type 0
+IsBehind word other = (length word < length other) ⊎ IsApart word other
+
+behind_longer : (word other : List Bool) (b : Bool) → IsBehind word other → IsBehind word (other ++ b ∷ [])
+behind_longer word other b (inl l) = inl (omega (arith, l, length-append other (b ∷ [])))
+behind_longer word other b (inr h) = inr (apart_longer word other b h)
+
+behind_differ : (word other : List Bool) → IsBehind word other → word ≢ other
+behind_differ word other (inl l) = λ e. absurd (omega (arith, l, ap length e))
+behind_differ word other (inr h) = apart_differ word other h
+
+visited_distinct : (m : Market) (words : List (List Bool)) (items : List PartItem) → AllApart words → EachApart (visited m words items)
+visited_distinct m [] items a = tt
+visited_distinct m (word ∷ words) [] a = tt
+visited_distinct m (word ∷ words) (Branch ∷ items) a = (
+  each_map (IsBehind word) (λ u. word ≢ u) (behind_differ word) (visited m (children m.gates word ++ words) items)
+      (each_visited m (IsBehind word) (λ u b. behind_longer word u b) (children m.gates word ++ words) items
+      (each_append (IsBehind word) (children m.gates word) words
+      (each_child (IsBehind word) word (may_open m.gates word (length word)) (inl (omega (arith, length-append word (false ∷ [])))) (inl (omega (arith, length-append word (true ∷ [])))))
+      (each_map (IsApart word) (IsBehind word) (λ u h. inr h) words a.0))),
+  visited_distinct m (children m.gates word ++ words) items (with_children_apart word words (may_open m.gates word (length word)) a.0 a.1),
+)
+visited_distinct m (word ∷ words) (Closed ∷ items) a = (
+  each_map (IsApart word) (λ u. word ≢ u) (apart_differ word) (visited m words items) (each_visited m (IsApart word) (λ u b. apart_longer word u b) words items a.0),
+  visited_distinct m words items a.1,
+)
+visited_distinct m (word ∷ words) (Pending ∷ items) a = (
+  each_map (IsApart word) (λ u. word ≢ u) (apart_differ word) (visited m words items) (each_visited m (IsApart word) (λ u b. apart_longer word u b) words items a.0),
+  visited_distinct m words items a.1,
+)
+
+-- the words of a part of the search tree are distinct nodes
+pub part_is_nodes : (m : Market) (items : List PartItem) → ArePartsOfSearch m ([] ∷ []) items → AreNodes m (visited m ([] ∷ []) items) × (length (visited m ([] ∷ []) items) ≡ length items)
+part_is_nodes m items p = (
+  record {
+    nodes = all_of (IsNode m) (visited m ([] ∷ []) items) (visited_nodes m ([] ∷ []) items p);
+    distinct = all_apart (visited m ([] ∷ []) items) (visited_distinct m ([] ∷ []) items (tt, tt));
+  },
+  visited_count m ([] ∷ []) items p,
+)

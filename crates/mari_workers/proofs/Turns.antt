@@ -1,0 +1,98 @@
+-- What each turn of a walk does, as its calls tell it.
+use Rattle.std.proofs.Common.{◌≡◌, if◌then◌else◌, Bool, true, false, ℕ, ◌+◌, ◌<◌, ◌≤◌, pos, List, [], ◌∷◌, ◌++◌, length, reverse, Option, Some, None, arith, sym, ap, subst, ◌∙◌, length-append}
+use Rattle.std.specs.Prelude.{IfSome, IsSomeAnd}
+use Rattle.std.proofs.lemmas.Int.{ints}
+use Rattle.std.proofs.lemmas.List.{length-reverse}
+use Rattle.mari_market.specs.declared.certificate.Leaf.{Leaf as LeafRecord}
+use Rattle.mari_market.specs.declared.certificate.TreeItem.{TreeItem}
+use Rattle.mari_market.specs.declared.certificate.TreeItem.TheVariants.{Branch, Leaf}
+use Rattle.mari_market.specs.declared.clearing.Clearing.{Clearing}
+use Rattle.mari_market.specs.declared.market.Market.{Market}
+use Rattle.mari_market.specs.declared.prefix.Prefix.{Prefix}
+use Rattle.mari_market.specs.Activation.{gate_word_of}
+use Rattle.mari_market.specs.Market.{IsValid}
+use Rattle.mari_market.specs.Prefix.{word_of, children, IsFeasiblePrefix, IsFeasibleWord}
+use Rattle.mari_market.specs.Relaxation.{all_closed}
+use Rattle.mari_market.specs.Tree.{AreParts, LeafHolds, LeafHoldsFor}
+use Rattle.mari_market.proofs.Prefixes.{closed_child}
+use Rattle.mari_gates.specs.Prefixes.{IsCleared}
+use Rattle.mari_gates.specs.Preorder.{left_at, waiting_after}
+use Rattle.mari_gates.proofs.Decisions.{length-decisions}
+use Rattle.mari_proofs.specs.Places.{LeavesWords}
+use Rattle.mari_workers.specs.declared.refining.Aim.{Aim}
+use Rattle.mari_workers.specs.Refine.{IsAim, IsAtLeaf, IsNewLeaf, IsOldLeaf, IsToBranch, IsWalk, MayRefine}
+use Rattle.mari_workers.proofs.TreeWalks.{branch_done, branch_room, child_leaves, leaf_branched, leaf_done, old_leaves, some_behind}
+
+-- the next prefix is the closed child of this one
+abbrev pub IsDescended : Prefix → Option Prefix → Type 0
+IsDescended x next = IsSomeAnd next (λ y. (word_of y ≡ word_of x ++ false ∷ []) × IsCleared y)
+
+descended_feasible : (m : Market) (x y : Prefix) → IsFeasibleWord m.gates (word_of x ++ false ∷ []) → word_of y ≡ word_of x ++ false ∷ [] → IsCleared y → IsFeasiblePrefix m y
+descended_feasible m x y f e cleared = record { word = subst (IsFeasibleWord m.gates) (sym e) f; rest = cleared }
+
+-- a prefix that leaves a gate to decide is no longer than the bits
+pub room_of : (m : Market) (x : Prefix) → IsValid m → length (word_of x) < length m.gates → x.length < 512
+room_of m x v l = omega (arith, l, length-decisions x x.length, v.few_gates)
+
+-- ---- a branch of the tree
+
+pub turned_branch : (m : Market) (aim : Aim) (x : Prefix) (done left new_done new_left more : List TreeItem) (next : Option Prefix) → IsWalk m aim done more (Some x) → more ≡ left ++ Branch ∷ [] → new_done ≡ done ++ Branch ∷ [] → new_left ≡ left → IsDescended x next → IsWalk m aim new_done new_left next × (length new_done ≡ length done + 1)
+turned_branch m aim x done left new_done new_left more None h e d l n = absurd n
+turned_branch m aim x done left new_done new_left more (Some y) h e d l n =
+    let f : IsFeasibleWord m.gates (word_of x ++ false ∷ []) = closed_child m.gates (word_of x) h.feasible.word (branch_room m aim x done left more h e) in
+    let walk : IsWalk m aim (done ++ Branch ∷ []) left (Some y) = branch_done m aim x y done left more (descended_feasible m x y f n.0 n.1) n.0 h e in (
+      subst (λ (ls : List TreeItem). IsWalk m aim new_done ls (Some y)) (sym l) (subst (λ (ds : List TreeItem). IsWalk m aim ds left (Some y)) (sym d) walk),
+      ap length d ∙ omega (arith, length-append done (Branch ∷ [])),
+    )
+
+-- ---- a leaf that stays
+
+pub turned_leaf : (m : Market) (aim : Aim) (x : Prefix) (old leaf : LeafRecord) (done left new_done : List TreeItem) (next : Option Prefix) → IsAtLeaf m aim x old done left → LeafHoldsFor m (pos aim.welfare) (word_of aim.word) (word_of x) leaf → left_at m.gates next ≡ waiting_after m.gates (word_of x) → IfSome next (IsFeasiblePrefix m) → new_done ≡ done ++ Leaf leaf ∷ [] → IsWalk m aim new_done left next × (length new_done ≡ length done + 1)
+turned_leaf m aim x old leaf done left new_done next h k there f e = (
+  subst (λ (ds : List TreeItem). IsWalk m aim ds left next) (sym e) (leaf_done m aim x old leaf done left next h k there f),
+  ap length e ∙ omega (arith, length-append done (Leaf leaf ∷ [])),
+)
+
+-- ---- a leaf that branches
+
+pub turned_branched : (m : Market) (aim : Aim) (x : Prefix) (old leaf : LeafRecord) (may : Bool) (done left new_done new_left : List TreeItem) (next : Option Prefix) → IsValid m → IsAim m aim → IsAtLeaf m aim x old done left → IsToBranch m aim.welfare (word_of aim.word) (word_of x) leaf
+    → IsFeasibleWord m.gates (word_of x ++ false ∷ []) → (may ≡ true → IsFeasibleWord m.gates (word_of x ++ true ∷ [])) → children m.gates (word_of x) ≡ (word_of x ++ false ∷ []) ∷ (if may then (word_of x ++ true ∷ []) ∷ [] else [])
+    → length done + length left + 1 + (if may then 2 else 1) ≤ aim.budget → new_done ≡ done ++ Branch ∷ [] → new_left ≡ left ++ child_leaves leaf may → IsDescended x next → IsWalk m aim new_done new_left next × (length new_done ≡ length done + 1)
+turned_branched m aim x old leaf may done left new_done new_left None v k h t f g kids fits d l n = absurd n
+turned_branched m aim x old leaf may done left new_done new_left (Some y) v k h t f g kids fits d l n = (
+  subst (λ (ds : List TreeItem). IsWalk m aim ds new_left (Some y)) (sym d) (leaf_branched m aim x y old leaf may done left new_left v k h t f g kids (descended_feasible m x y f n.0 n.1) n.0 l fits),
+  ap length d ∙ omega (arith, length-append done (Branch ∷ [])),
+)
+
+-- ---- the start
+
+-- a clearing that may be refined says what is aimed at
+pub aim_of : (m : Market) (budget : ℕ) (found : Clearing) (x : Prefix) → MayRefine m budget found → IsFeasiblePrefix m x → word_of x ≡ gate_word_of m found.activation → budget ≤ 50000 → IsAim m (record { word = x; welfare = found.welfare; budget = budget })
+aim_of m budget found x h f e few = record {
+  budget = few;
+  word = f;
+  greatest = λ a adm. omega (arith, ints, h.clearing.welfare, h.clearing.optimal.greatest a adm);
+  closed = h.closed;
+  is_closed = h.is_closed;
+  above = subst (λ (w : List Bool). Rattle.std.specs.Prelude.◌⊎◌ (w ≡ all_closed m) (h.closed < found.welfare)) (sym e) h.above;
+}
+
+nothing_opened : (gates : List Rattle.mari_market.specs.declared.market.GateInfo.GateInfo) → IsFeasibleWord gates []
+nothing_opened gates = record { decided = omega arith; rules = record { parents = λ g h e p. absurd (cc); groups = λ g h k e f p q. absurd (cc) } }
+
+-- the walk at its start
+pub walk_started : (m : Market) (aim : Aim) (budget : ℕ) (found : Clearing) (done left : List TreeItem) (next : Option Prefix) → MayRefine m budget found → aim.welfare ≡ found.welfare → aim.budget ≡ budget → done ≡ [] → reverse left ≡ found.tree → IsSomeAnd next (λ x. (word_of x ≡ []) × IsCleared x) → IsWalk m aim done left next
+walk_started m aim budget found done left None h w b d l n = absurd n
+walk_started m aim budget found done left (Some x) h w b d l n =
+    let all : AreParts m (IsOldLeaf m aim.welfare) ([] ∷ []) found.tree = old_leaves m aim.welfare ([] ∷ []) found.tree (subst (λ (u : ℕ). AreParts m (LeafHolds m (pos u)) ([] ∷ []) found.tree) (sym w) h.clearing.tree) h.nodes in
+    let first : left_at m.gates (Some x) ≡ [] ∷ [] = ap (λ (u : List Bool). u ∷ waiting_after m.gates u) n.0 in
+    record {
+      before = subst (λ (ds : List TreeItem). LeavesWords m (IsNewLeaf m aim.welfare (word_of aim.word)) ([] ∷ []) ds (left_at m.gates (Some x))) (sym d) (sym first);
+      behind = subst (λ (ws : List (List Bool)). AreParts m (IsOldLeaf m aim.welfare) ws (reverse left)) (sym first) (subst (AreParts m (IsOldLeaf m aim.welfare) ([] ∷ [])) (sym l) all);
+      feasible = record { word = subst (IsFeasibleWord m.gates) (sym n.0) (nothing_opened m.gates); rest = n.1 };
+      within = omega (arith, b, ap length d, ap length l, length-reverse left, h.clearing.within_budget);
+    }
+
+-- a walk at a prefix has an item left, so less is done than the budget
+pub not_done : (m : Market) (aim : Aim) (x : Prefix) (done left : List TreeItem) → IsWalk m aim done left (Some x) → length done < aim.budget
+not_done m aim x done left h = omega (arith, h.within, length-reverse left, some_behind m (IsOldLeaf m aim.welfare) (word_of x) (waiting_after m.gates (word_of x)) (reverse left) h.behind)

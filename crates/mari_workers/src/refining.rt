@@ -1,0 +1,341 @@
+//! From an optimal clearing to the first one: of the gate words of optimal activations the first is published.
+
+ghost use Rattle.std.specs.Prelude.{◌≡◌, ◌≤◌, ◌<◌, ◌++◌, ◌∷◌, [], if◌then◌else◌, false, length, map, reverse, IfOk, IsSomeAnd, OnOk, pos};
+ghost use Rattle.mari_gates.specs.Prefixes.{IsCleared};
+ghost use Rattle.mari_core.specs.Preorder.{shape_of};
+ghost use Rattle.mari_market.specs.Clearing.{Clears};
+ghost use Rattle.mari_market.specs.Market.{IsValid};
+ghost use Rattle.mari_market.specs.Prefix.{word_of, IsFeasiblePrefix};
+ghost use Rattle.mari_market.specs.Tree.{LeafHolds};
+ghost use Rattle.mari_workers.specs.Refine.{fate_by, unbounded, IsAim, IsAtLeaf, IsFate, IsToBranch, IsTurn, IsWalk, MayRefine};
+
+use mari_gates::{child_of, comes_before, empty_prefix, gate_word, may_branch_up, next_after};
+use mari_market::{
+    Activation, Attained, Cleared, Clearing, Finding, Leaf, Market, PartItem, Prefix, Relaxed,
+    Spent, TreeItem,
+};
+use mari_node::examine;
+use mari_proofs::check_leaf;
+use mari_units::{Items, Memory, Quarters};
+use std::alloc::{AllocError, Global};
+
+/// What a walk looks for: activations of the optimal welfare whose gate words come before this one.
+#[derive(Clone, Copy, Drop)]
+struct Aim {
+    word: Prefix,
+    welfare: u64,
+    budget: u32,
+}
+
+/// What becomes of a leaf: it stays or another takes its place, its prefix branches, or there is an activation.
+#[derive(Drop)]
+enum Fate {
+    Stays(Leaf),
+    Branches(Leaf),
+    Yields(Leaf, Activation),
+}
+
+/// What one turn of a walk comes to: it goes on, a prefix can't branch within the budget, or there is an activation.
+#[derive(Drop)]
+enum Turn {
+    On,
+    Full,
+    Yield(Activation),
+}
+
+/// A walk through a tree that is made anew: the items that are done, those that are left, the next at the end, and the next
+/// prefix.
+#[derive(Drop)]
+struct Walk {
+    done: Vec<TreeItem>,
+    left: Vec<TreeItem>,
+    next: Option<Prefix>,
+}
+
+/// What becomes of a leaf without a certificate.
+fn unbounded(best: Option<Attained>, leaf: Leaf, full: bool) -> Fate
+    ensures { result ≡ unbounded best leaf full }
+{
+    match best {
+        Some(best) if full => Fate::Yields(leaf, best.activation),
+        _ => Fate::Branches(leaf),
+    }
+}
+
+/// What becomes of a leaf by what is found at its prefix, where a certificate is to hold at this number.
+fn fate_by(finding: Finding, leaf: Leaf, most: u64, full: bool) -> Fate
+    ensures { result ≡ fate_by finding leaf most full }
+{
+    match finding {
+        Finding::Empty(cut) => Fate::Stays(Leaf::Cut(cut)),
+        Finding::Relaxed(relaxed) => {
+            let Relaxed {
+                potentials,
+                bound,
+                conflict,
+                best,
+            } = relaxed;
+            match conflict {
+                Some(conflict) => Fate::Stays(Leaf::Conflict(conflict)),
+                None if bound <= most => Fate::Stays(Leaf::Bound(potentials)),
+                None => unbounded(best, leaf, full),
+            }
+        }
+    }
+}
+
+/// A welfare as quarter-cents.
+fn quarters_of(welfare: u64) -> Quarters
+    ensures { result.0 ≡ pos welfare }
+{
+    Quarters(i128::from(welfare))
+}
+
+/// What becomes of a leaf that holds at the welfare. It stays where it isn't early, or holds at the welfare less 1; else its
+/// prefix is examined.
+fn fate_of(
+    alloc: Global,
+    market: &Market,
+    prefix: &Prefix,
+    leaf: Leaf,
+    aim: &Aim,
+) -> Result<Fate, Memory>
+    requires market { IsValid market.now }
+    requires prefix { IsFeasiblePrefix market.now prefix.now }
+    requires aim { IsAim market.now aim.now }
+    requires leaf { LeafHolds market.now (pos aim.now.welfare) (word_of prefix.now) leaf }
+    ensures { IfOk result (IsFate market.now aim.now.welfare (word_of aim.now.word) (word_of prefix.now)) }
+{
+    if !comes_before(prefix, &aim.word) {
+        return Ok(Fate::Stays(leaf));
+    }
+    let most = aim.welfare - 1;
+    if check_leaf(market, prefix, &leaf, quarters_of(most)) {
+        return Ok(Fate::Stays(leaf));
+    }
+    let finding = examine(alloc, market, prefix)?;
+    let full = prefix.length as usize == market.gates.as_slice().len();
+    Ok(fate_by(finding, leaf, most, full))
+}
+
+/// A copy of a leaf.
+fn copy_of(leaf: &Leaf) -> Result<Leaf, AllocError>
+    ensures { IfOk result (λ copy. copy ≡ leaf.now) }
+{
+    leaf.clone()
+}
+
+impl Walk {
+    /// The walk at the first item of a tree.
+    fn start(alloc: Global, tree: Items<TreeItem>) -> Walk
+        ensures done { result.done.items ≡ [] }
+        ensures left { reverse result.left.items ≡ tree }
+        ensures next { IsSomeAnd result.next (λ x. (word_of x ≡ []) × IsCleared x) }
+    {
+        let mut left = tree.into_vec();
+        left.reverse();
+        Walk {
+            done: Vec::new(alloc),
+            left,
+            next: Some(empty_prefix()),
+        }
+    }
+
+    /// Puts a branch of the prefix behind what is done; its closed child is the next.
+    fn descend(&mut self, prefix: &Prefix) -> Result<(), Memory>
+        requires room { prefix.now.length < 512 }
+        requires cleared { IsCleared prefix.now }
+        ensures done { OnOk result (self.new.done.items ≡ self.old.done.items ++ TreeItem.Branch ∷ []) }
+        ensures left { OnOk result (self.new.left ≡ self.old.left) }
+        ensures next { OnOk result (IsSomeAnd self.new.next (λ x. (word_of x ≡ word_of prefix.now ++ false ∷ []) × IsCleared x)) }
+    {
+        self.done.push(TreeItem::Branch)?;
+        self.next = Some(child_of(prefix, false));
+        Ok(())
+    }
+
+    /// Lets the children of a prefix wait, each with the leaf of their parent.
+    fn give(&mut self, leaf: Leaf, may_open: bool) -> Result<(), Memory>
+        ensures done { OnOk result (self.new.done ≡ self.old.done) }
+        ensures left { OnOk result (self.new.left.items ≡ self.old.left.items ++ (if may_open then TreeItem.Leaf leaf ∷ TreeItem.Leaf leaf ∷ [] else TreeItem.Leaf leaf ∷ [])) }
+    {
+        if may_open {
+            let copy = copy_of(&leaf)?;
+            self.left.push(TreeItem::Leaf(copy))?;
+        }
+        self.left.push(TreeItem::Leaf(leaf))?;
+        Ok(())
+    }
+
+    /// Branches an early leaf at the next prefix, where its children fit the budget.
+    fn branch(
+        &mut self,
+        market: &Market,
+        prefix: &Prefix,
+        leaf: Leaf,
+        aim: &Aim,
+    ) -> Result<Turn, Memory>
+        requires market { IsValid market.now }
+        requires aim { IsAim market.now aim.now }
+        requires walk { IsAtLeaf market.now aim.now prefix.now leaf self.old.done.items self.old.left.items }
+        requires branch { IsToBranch market.now aim.now.welfare (word_of aim.now.word) (word_of prefix.now) leaf }
+        ensures { IfOk result (IsTurn market.now aim.now prefix.now (length self.old.done.items) self.new) }
+    {
+        let may_open = may_branch_up(market, prefix);
+        let more = if may_open { 2 } else { 1 };
+        if self.done.len() + self.left.len() + 1 + more > aim.budget as usize {
+            self.left.push(TreeItem::Leaf(leaf))?;
+            return Ok(Turn::Full);
+        }
+        self.give(leaf, may_open)?;
+        self.descend(prefix)?;
+        Ok(Turn::On)
+    }
+
+    /// Settles the leaf of the next prefix.
+    fn settle(
+        &mut self,
+        alloc: Global,
+        market: &Market,
+        prefix: &Prefix,
+        leaf: Leaf,
+        aim: &Aim,
+    ) -> Result<Turn, Memory>
+        requires market { IsValid market.now }
+        requires aim { IsAim market.now aim.now }
+        requires walk { IsAtLeaf market.now aim.now prefix.now leaf self.old.done.items self.old.left.items }
+        ensures { IfOk result (IsTurn market.now aim.now prefix.now (length self.old.done.items) self.new) }
+    {
+        match fate_of(alloc, market, prefix, leaf, aim)? {
+            Fate::Stays(leaf) => {
+                self.done.push(TreeItem::Leaf(leaf))?;
+                self.next = next_after(market, prefix);
+                Ok(Turn::On)
+            }
+            Fate::Branches(leaf) => self.branch(market, prefix, leaf, aim),
+            Fate::Yields(leaf, activation) => {
+                self.left.push(TreeItem::Leaf(leaf))?;
+                Ok(Turn::Yield(activation))
+            }
+        }
+    }
+
+    /// Takes one turn at the next prefix.
+    fn advance(
+        &mut self,
+        alloc: Global,
+        market: &Market,
+        prefix: &Prefix,
+        aim: &Aim,
+    ) -> Result<Turn, Memory>
+        requires market { IsValid market.now }
+        requires aim { IsAim market.now aim.now }
+        requires walk { IsWalk market.now aim.now self.old.done.items self.old.left.items (Some prefix.now) }
+        ensures { IfOk result (IsTurn market.now aim.now prefix.now (length self.old.done.items) self.new) }
+    {
+        match self.left.pop() {
+            None => unreachable!(),
+            Some(TreeItem::Branch) => {
+                self.descend(prefix)?;
+                Ok(Turn::On)
+            }
+            Some(TreeItem::Leaf(leaf)) => self.settle(alloc, market, prefix, leaf, aim),
+        }
+    }
+
+    /// All items, done and left.
+    fn whole(self) -> Result<Vec<TreeItem>, Memory>
+        ensures { IfOk result (λ v. v.items ≡ self.done.items ++ reverse self.left.items) }
+    {
+        let Walk {
+            mut done,
+            mut left,
+            ..
+        } = self;
+        left.reverse();
+        done.append(&mut left)?;
+        Ok(done)
+    }
+}
+
+/// The item of a part of the search tree in which a tree's item stands.
+fn shape_of(item: &TreeItem) -> PartItem
+    ensures { result ≡ shape_of item.now }
+{
+    match item {
+        TreeItem::Branch => PartItem::Branch,
+        TreeItem::Leaf(_) => PartItem::Closed,
+    }
+}
+
+/// The items of a part of the search tree in which a tree's items stand.
+fn shapes_of(alloc: Global, tree: &[TreeItem]) -> Result<Vec<PartItem>, Memory>
+    ensures { IfOk result (λ v. v.items ≡ map shape_of tree.now) }
+{
+    let mut items = Vec::new(alloc);
+    for item in tree {
+        items.push(shape_of(item))?;
+    }
+    Ok(items)
+}
+
+/// The first activation, from an optimal one.
+fn refined(alloc: Global, market: &Market, found: Clearing, budget: u32) -> Result<Cleared, Memory>
+    requires market { IsValid market.now }
+    requires budget { (1 ≤ budget) × (budget ≤ 50000) }
+    requires found { MayRefine market.now budget found }
+    ensures { IfOk result (Clears market.now budget) }
+{
+    let Clearing {
+        activation,
+        welfare,
+        tree,
+    } = found;
+    let aim = Aim {
+        word: gate_word(market, &activation),
+        welfare,
+        budget,
+    };
+    let mut walk = Walk::start(alloc, tree);
+    while let Some(prefix) = walk.next {
+        match walk.advance(alloc, market, &prefix, &aim)? {
+            Turn::On => {}
+            Turn::Full => {
+                let whole = walk.whole()?;
+                let items = Items::of(shapes_of(alloc, &whole)?);
+                return Ok(Cleared::Spent(Spent { items }));
+            }
+            Turn::Yield(activation) => {
+                let tree = Items::of(walk.whole()?);
+                return Ok(Cleared::Published(Clearing {
+                    activation,
+                    welfare,
+                    tree,
+                }));
+            }
+        }
+    }
+    let Walk { done, .. } = walk;
+    Ok(Cleared::Published(Clearing {
+        activation,
+        welfare,
+        tree: Items::of(done),
+    }))
+}
+
+/// The clearing of the first activation, from that of an optimal one whose tree has only nodes of the search tree.
+///
+/// The leaves that are early for its gate word are to hold even at the welfare less 1. One that doesn't is examined: another
+/// certificate takes its place, or its prefix branches, or, where it decides every gate, it has an activation of that welfare,
+/// which is then the first. Where the new leaves don't fit the budget, the answer is `Spent`.
+pub fn refine(alloc: Global, market: &Market, found: Clearing, budget: u32) -> Cleared
+    requires market { IsValid market.now }
+    requires budget { (1 ≤ budget) × (budget ≤ 50000) }
+    requires found { MayRefine market.now budget found }
+    ensures { Clears market.now budget result }
+{
+    match refined(alloc, market, found, budget) {
+        Ok(cleared) => cleared,
+        Err(Memory) => Cleared::Memory,
+    }
+}

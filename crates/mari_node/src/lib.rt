@@ -9,4 +9,4 @@ mod node;
 #[cfg(test)]
 mod tests;
 
-pub use node::examine;
+pub use node::{examine, examine_from};

@@ -8,8 +8,8 @@ ghost use Rattle.mari_market.specs.Prefix.{word_of, IsFeasiblePrefix};
 ghost use Rattle.mari_node.specs.Nodes.{best_found, bound_found, conflict_found, IsEmptyWhereNone, IsInnerNode, IsLastNode, IsRelaxedOptimum};
 
 use crate::admissibility::{contradiction, is_admissible};
-use mari_flow::{SolveFault, Solved, solve};
-use mari_market::{Attained, Conflict, Finding, Market, Prefix, Relaxed};
+use mari_paths::{SolveFault, Solved, solve_from};
+use mari_market::{Activation, Attained, Conflict, Finding, Market, Prefix, Relaxed};
 use mari_units::{Items, Memory};
 use std::alloc::{AllocError, Global};
 
@@ -114,8 +114,31 @@ pub fn examine(alloc: Global, market: &Market, prefix: &Prefix) -> Result<Findin
     ensures finding { IfOk result (IsFinding market.now (word_of prefix.now)) }
     ensures empty { IfOk result (IsEmptyWhereNone market.now (word_of prefix.now)) }
 {
-    match solve(alloc, market, prefix) {
-        Ok(solved) => Ok(Finding::Relaxed(relaxed_node(alloc, market, prefix, solved)?)),
+    let mut start = None;
+    examine_from(alloc, market, prefix, &mut start)
+}
+
+/// Examines one node of the search from an activation to start with, and leaves the relaxed optimum there.
+///
+/// What is found is what `examine` may find, for every start.
+pub fn examine_from(
+    alloc: Global,
+    market: &Market,
+    prefix: &Prefix,
+    start: &mut Option<Activation>,
+) -> Result<Finding, Memory>
+    requires valid { IsValid market.now }
+    requires prefix { IsFeasiblePrefix market.now prefix.now }
+    ensures finding { IfOk result (IsFinding market.now (word_of prefix.now)) }
+    ensures empty { IfOk result (IsEmptyWhereNone market.now (word_of prefix.now)) }
+{
+    match solve_from(alloc, market, prefix, start.as_ref()) {
+        Ok(solved) => {
+            let next = solved.activation.clone()?;
+            let relaxed = relaxed_node(alloc, market, prefix, solved)?;
+            *start = Some(next);
+            Ok(Finding::Relaxed(relaxed))
+        }
         Err(SolveFault::Cut(cut)) => Ok(Finding::Empty(cut)),
         Err(SolveFault::Memory) => Err(Memory),
     }

@@ -1,0 +1,118 @@
+-- What a start leaves out of balance, and what stands in for it.
+use Rattle.std.proofs.Common.{◌≡◌, ◌==◌, if◌then◌else◌, Bool, true, false, ℕ, zero, suc, ◌+◌, ◌<◌, ◌≤◌, ℤ, pos, ◌+ℤ◌, neg_ℤ, ◌≤ℤ◌, ◌<ℤ◌, List, [], ◌∷◌, ◌++◌, length, arith, refl, sym, ap, ◌∙◌, subst, map, inl, inr, get_or}
+use Rattle.std.proofs.lemmas.Int.{ints}
+use Rattle.std.specs.List.{All, AllZip}
+use Rattle.std.proofs.lemmas.List.Elements.{All-head, All-tail, All-cons}
+use lib.Signed.{lt_z}
+use Rattle.mari_market.specs.declared.market.Border.{Border}
+use Rattle.mari_market.specs.declared.market.Order.{Order}
+use Rattle.mari_market.specs.declared.market.Market.{Market}
+use Rattle.mari_market.specs.declared.certificate.CutSide.TheVariants.{Out, In}
+use Rattle.mari_market.specs.Cut.{is_in, CannotBalance}
+use Rattle.mari_market.specs.Sums.{int_sum, sum_along}
+use Rattle.mari_market.specs.Activation.{IsWithinLimits}
+use Rattle.mari_market.specs.Bounds.{Span}
+use Rattle.mari_paths.specs.declared.slots.Slot.{Slot}
+use Rattle.mari_paths.specs.Slots.{beyond, at_zone, slot_into, IsWithinSlot, IsRunning}
+use Rattle.mari_paths.specs.Orders.{slot_of, slots_of}
+use Rattle.mari_paths.specs.Starts.{stand_in_if, stand_in_of, stand_ins, IsExtra, IsNear, AreShort}
+use Rattle.mari_paths.specs.Fits.{IsNetworkSlot}
+use Rattle.mari_paths.proofs.Lists.{zip_append, zip_long}
+use Rattle.mari_paths.proofs.Shortfalls.{sum_along-append, out_of, into_of, least_in, most_in_slot}
+
+pub if_none : (b : Bool) (f : ℤ) → f ≡ pos 0 → (if b then f else pos 0) ≡ pos 0
+if_none true f e = e
+if_none false f e = refl
+
+-- what is known of what stands in for a shortage of a zone
+pub record StandsIn (z : ℕ) (d : ℤ) (s : Slot) : Type 0 where
+  pub zone : s.zone ≡ z
+  pub kind : IsExtra beyond s
+  pub within : IsWithinSlot s d
+  pub network : (n : ℕ) → z < n → IsNear 700000000 d → IsNetworkSlot n s
+
+stand_case : (b : Bool) (z : ℕ) (d : ℤ) → (b ≡ true → d <ℤ pos 0) → (b ≡ false → pos 0 ≤ℤ d) → StandsIn z d (stand_in_if b z d)
+stand_case true z d l h = record {
+  zone = refl;
+  kind = inl (refl, refl);
+  within = record { least = omega (arith, ints); most = omega (arith, ints, l refl) };
+  network = λ n there near. record { zone = there; small = record { low = omega (arith, ints, near.low); high = omega (arith, ints); cheap = omega (arith, ints); dear = omega (arith, ints) } };
+}
+stand_case false z d l h = record {
+  zone = refl;
+  kind = inr (refl, refl);
+  within = record { least = omega (arith, ints, h refl); most = omega (arith, ints) };
+  network = λ n there near. record { zone = there; small = record { low = omega (arith, ints); high = omega (arith, ints, near.high); cheap = omega (arith, ints); dear = omega (arith, ints) } };
+}
+
+stands_in : (z : ℕ) (d : ℤ) → StandsIn z d (stand_in_of z d)
+stands_in z d = stand_case (lt_z d (pos 0)) z d (λ e. grind (arith, ints)) (λ e. grind (arith, ints))
+
+stand_ins_within : (z : ℕ) (short : List ℤ) → AllZip IsWithinSlot (stand_ins z short) short
+stand_ins_within z [] = tt
+stand_ins_within z (d ∷ ds) = ((stands_in z d).within, stand_ins_within (z + 1) ds)
+
+pub stand_ins_extra : (z : ℕ) (short : List ℤ) → All (IsExtra beyond) (stand_ins z short)
+stand_ins_extra z [] = λ k d l. absurd (omega arith)
+stand_ins_extra z (d ∷ ds) = All-cons (IsExtra beyond) (stand_in_of z d) (stand_ins (z + 1) ds) (stands_in z d).kind (stand_ins_extra (z + 1) ds)
+
+pub stand_ins_network : (n z : ℕ) (short : List ℤ) → z + length short ≤ n → All (IsNear 700000000) short → All (IsNetworkSlot n) (stand_ins z short)
+stand_ins_network n z [] l a = λ k d h. absurd (omega arith)
+stand_ins_network n z (d ∷ ds) l a = All-cons (IsNetworkSlot n) (stand_in_of z d) (stand_ins (z + 1) ds) ((stands_in z d).network n (omega arith) (All-head (IsNear 700000000) d ds a)) (stand_ins_network n (z + 1) ds (omega arith) (All-tail (IsNear 700000000) d ds a))
+
+not_zone : (y z : ℕ) (d : ℤ) → y < z → (if z == y then d else pos 0) ≡ pos 0
+not_zone y z d l = grind (arith)
+
+same_zone : (y z : ℕ) (d : ℤ) → y ≡ z → (if z == y then d else pos 0) ≡ d
+same_zone y z d e = grind (arith)
+
+after_zone : (y z : ℕ) (d : ℤ) → z < y → (if z == y then d else pos 0) ≡ pos 0
+after_zone y z d l = grind (arith)
+
+into_head : (y z : ℕ) (d : ℤ) → slot_into y (stand_in_of z d) d ≡ (if z == y then d else pos 0)
+into_head y z d = ap (λ (k : ℕ). if k == y then d else pos 0) (stands_in z d).zone
+
+into_before : (y z : ℕ) (short : List ℤ) → y < z → sum_along (slot_into y) (stand_ins z short) short ≡ pos 0
+into_before y z [] l = refl
+into_before y z (d ∷ ds) l = omega (arith, ints, into_head y z d, not_zone y z d l, into_before y (z + 1) ds (omega arith))
+
+pub into_at : (y z k : ℕ) (short : List ℤ) → y ≡ z + k → k < length short → sum_along (slot_into y) (stand_ins z short) short ≡ get_or short k (pos 0)
+into_at y z k [] e l = absurd (omega arith)
+into_at y z zero (d ∷ ds) e l = omega (arith, ints, into_head y z d, same_zone y z d (omega arith), into_before y (z + 1) ds (omega arith))
+into_at y z (suc k) (d ∷ ds) e l = omega (arith, ints, into_head y z d, after_zone y z d (omega arith), into_at y (z + 1) k ds (omega arith) (omega arith))
+
+pub stand_ins_push : (z : ℕ) (xs : List ℤ) (d : ℤ) → stand_ins z (xs ++ d ∷ []) ≡ stand_ins z xs ++ stand_in_of (z + length xs) d ∷ []
+stand_ins_push z [] d = ap (λ (k : ℕ). stand_in_of k d ∷ []) (omega arith)
+stand_ins_push z (x ∷ xs) d =
+    let e : z + 1 + length xs ≡ z + length (x ∷ xs) = omega arith in
+    ap (λ (ss : List Slot). stand_in_of z x ∷ ss) (stand_ins_push (z + 1) xs d ∙ ap (λ (k : ℕ). stand_ins (z + 1) xs ++ stand_in_of k d ∷ []) e)
+
+-- flows of none
+pub flows_fit : (bs : List Border) (fs : List ℤ) → length bs ≡ length fs → ((k : ℕ) → get_or fs k (pos 0) ≡ pos 0) → AllZip IsWithinLimits bs fs
+flows_fit [] [] e n = tt
+flows_fit (b ∷ bs) (f ∷ fs) e n = (record { back = omega (arith, ints, n 0); limit = omega (arith, ints, n 0) }, flows_fit bs fs (omega arith) (λ k. n (suc k)))
+flows_fit [] (f ∷ fs) e n = absurd (omega arith)
+flows_fit (b ∷ bs) [] e n = absurd (omega arith)
+
+-- with what stands in, all is in balance
+pub starts_running : (n : ℕ) (slots : List Slot) (bs : List Border) (xs fs short : List ℤ) → AllZip IsWithinSlot slots xs → AllZip IsWithinLimits bs fs → AreShort n slots bs xs fs short → IsRunning n (slots ++ stand_ins 0 short) bs (xs ++ short) fs
+starts_running n slots bs xs fs short a b s =
+    let all : AllZip IsWithinSlot (slots ++ stand_ins 0 short) (xs ++ short) = zip_append IsWithinSlot slots (stand_ins 0 short) xs short a (stand_ins_within 0 short) in
+    record {
+      amounts_long = sym (zip_long IsWithinSlot (slots ++ stand_ins 0 short) (xs ++ short) all);
+      flows_long = sym (zip_long IsWithinLimits bs fs b);
+      amounts = all;
+      flows = b;
+      balance = λ z l. omega (arith, ints, sum_along-append (slot_into z) slots (stand_ins 0 short) xs short (zip_long IsWithinSlot slots xs a), into_at z 0 z short (omega arith) (omega (arith, s.long)), s.each z l);
+    }
+
+int_sum_map : {X Y : Type 0} (f : Y → ℤ) (g : X → Y) (xs : List X) → int_sum f (map g xs) ≡ int_sum (λ x. f (g x)) xs
+int_sum_map f g [] = refl
+int_sum_map f g (x ∷ xs) = ap (λ (v : ℤ). f (g x) +ℤ v) (int_sum_map f g xs)
+
+-- a shortfall of the orders' slots is a cut
+pub shortfall_is_cut_out : (bounds : Order → Span) (m : Market) (zones : List ℕ) → int_sum (out_of (is_in zones)) m.borders <ℤ int_sum (least_in (is_in zones)) (slots_of bounds m.orders) → CannotBalance bounds m Out zones
+shortfall_is_cut_out bounds m zones h = omega (arith, ints, h, int_sum_map (least_in (is_in zones)) (λ o. slot_of (bounds o) o) m.orders)
+
+pub shortfall_is_cut_in : (bounds : Order → Span) (m : Market) (zones : List ℕ) → int_sum (most_in_slot (is_in zones)) (slots_of bounds m.orders) <ℤ neg_ℤ (int_sum (into_of (is_in zones)) m.borders) → CannotBalance bounds m In zones
+shortfall_is_cut_in bounds m zones h = omega (arith, ints, h, int_sum_map (most_in_slot (is_in zones)) (λ o. slot_of (bounds o) o) m.orders)

@@ -1,0 +1,43 @@
+-- What stands in for what a start leaves out of balance.
+use Rattle.std.specs.Prelude.{◌≡◌, ◌⊎◌, Bool, true, false, ℕ, ◌+◌, ◌<◌, ◌≤◌, ℤ, pos, ◌-ℤ◌, neg_ℤ, ◌≤ℤ◌, List, [], ◌∷◌, length}
+use lib.Signed.{lt_z}
+use Rattle.mari_market.specs.declared.market.Border.{Border}
+use Rattle.mari_market.specs.Sums.{sum_along}
+use Rattle.mari_market.specs.Activation.{carried_out}
+use Rattle.mari_paths.specs.declared.slots.Slot.{Slot}
+use Rattle.mari_paths.specs.Slots.{beyond, amount_at, slot_into}
+
+-- the least of a slot is at most its greatest
+abbrev pub IsOrdered : Slot → Type 0
+IsOrdered s = s.low ≤ℤ s.high
+
+-- within so much of 0
+pub record IsNear (most : ℕ) (x : ℤ) : Type 0 where
+  pub low : neg_ℤ (pos most) ≤ℤ x
+  pub high : x ≤ℤ pos most
+
+-- limits that a border of a valid market may have
+abbrev pub AreSmallLimits : Border → Type 0
+AreSmallLimits b = (b.limit ≤ 199998) × (b.back ≤ 199998)
+
+-- what gives a zone what it is short of, or takes away what it has too much
+abbrev pub stand_in_if : Bool → ℕ → ℤ → Slot
+stand_in_if true z d = record { zone = z; price = neg_ℤ beyond; low = d; high = pos 0 }
+stand_in_if false z d = record { zone = z; price = beyond; low = pos 0; high = d }
+
+abbrev pub stand_in_of : ℕ → ℤ → Slot
+stand_in_of z d = stand_in_if (lt_z d (pos 0)) z d
+
+-- one for each zone, from a first zone on
+abbrev pub stand_ins : ℕ → List ℤ → List Slot
+stand_ins z [] = []
+stand_ins z (d ∷ ds) = stand_in_of z d ∷ stand_ins (z + 1) ds
+
+-- a slot of the least price that only takes energy, or one of the greatest that only gives it
+abbrev pub IsExtra : ℤ → Slot → Type 0
+IsExtra m s = ((s.price ≡ neg_ℤ m) × (s.high ≡ pos 0)) ⊎ ((s.price ≡ m) × (s.low ≡ pos 0))
+
+-- what each zone is short of: what borders carry out less what slots put in
+pub record AreShort (zones : ℕ) (slots : List Slot) (bs : List Border) (xs fs short : List ℤ) : Type 0 where
+  pub long : length short ≡ zones
+  pub each : (z : ℕ) → z < zones → amount_at short z ≡ sum_along (carried_out z) bs fs -ℤ sum_along (slot_into z) slots xs

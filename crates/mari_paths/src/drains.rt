@@ -1,0 +1,147 @@
+//! Improving along the hops of one search while they have room.
+
+ghost use Rattle.std.specs.Prelude.{◌≡◌, ◌<◌, ◌<ℤ◌, true, ℕ, pos, length, Some, IfSome};
+ghost use Rattle.std.specs.List.{AllZip};
+ghost use Rattle.mari_market.specs.Sums.{sum_along};
+ghost use Rattle.mari_market.specs.Activation.{IsWithinLimits};
+ghost use Rattle.mari_paths.specs.Chain.{hop_at, HasRoom, IsImproving};
+ghost use Rattle.mari_paths.specs.Drains.{AreHops, AreEnds};
+ghost use Rattle.mari_paths.specs.Margins.{dearest_at, cheapest_at, AreMargins};
+ghost use Rattle.mari_paths.specs.Network.{IsNetwork, Runs};
+ghost use Rattle.mari_paths.specs.Slots.{price_of, worth};
+
+use crate::chain::{Chain, Hop, has_room, improve};
+use crate::margins::{Margin, refresh};
+use crate::network::Network;
+use crate::slots::Slot;
+
+/// Where a chain ends and starts, and the place of its start's hop.
+#[derive(Clone, Copy, Drop)]
+pub struct Ends {
+    pub sink: usize,
+    pub source: usize,
+    pub at: usize,
+}
+
+/// The cheapest slot of the zones of these hops, of those that may put in more, if it is cheaper than a sink.
+fn cheapest_end(slots: &[Slot], margins: &[Margin], hops: &[Hop], sink: usize) -> Option<Ends>
+    requires sink { sink < length slots.now }
+    requires zones { (k : ℕ) → k < length hops.now → (hop_at hops.now k).zone < length margins.now }
+    requires there { (z i : ℕ) → z < length margins.now → cheapest_at margins.now z ≡ Some i → i < length slots.now }
+    ensures { IfSome result (AreEnds slots.now margins.now hops.now sink) }
+{
+    let mut best = None;
+    let mut below = slots[sink].price;
+    for (at, hop) in hops.iter().enumerate() {
+        if let Some(source) = margins[hop.zone as usize].cheapest {
+            if slots[source].price < below {
+                below = slots[source].price;
+                best = Some(Ends { sink, source, at });
+            }
+        }
+    }
+    best
+}
+
+/// The ends of another improving chain along the same hops, whose sink has this price.
+fn next_ends(
+    network: &Network,
+    flows: &[i64],
+    margins: &[Margin],
+    hops: &[Hop],
+    price: i64,
+) -> Option<Ends>
+    requires network { IsNetwork network.now }
+    requires lengths { length flows.now ≡ length network.now.borders.now }
+    requires within { AllZip IsWithinLimits network.now.borders.now flows.now }
+    requires hops { AreHops (length margins.now) network.now.borders.now hops.now }
+    requires dearest { (z i : ℕ) → z < length margins.now → dearest_at margins.now z ≡ Some i → i < length network.now.slots.now }
+    requires cheapest { (z i : ℕ) → z < length margins.now → cheapest_at margins.now z ≡ Some i → i < length network.now.slots.now }
+    ensures ends { IfSome result (λ e. AreEnds network.now.slots.now margins.now hops.now e.sink e) }
+    ensures sink { IfSome result (λ e. dearest_at margins.now (hop_at hops.now 0).zone ≡ Some e.sink) }
+    ensures room { IfSome result (λ e. HasRoom network.now.borders.now flows.now hops.now (pos 1) e.at) }
+{
+    let sink = margins[hops[0].zone as usize].dearest?;
+    if network.slots[sink].price != price {
+        return None;
+    }
+    let ends = cheapest_end(network.slots, margins, hops, sink)?;
+    if has_room(network.borders, flows, hops, ends.at) {
+        Some(ends)
+    } else {
+        None
+    }
+}
+
+/// Puts other ends to a chain of the same hops, where there are any that improve and whose sink has this price.
+fn go_on(
+    network: &Network,
+    amounts: &[i64],
+    flows: &[i64],
+    margins: &[Margin],
+    chain: &mut Chain,
+    price: i64,
+) -> bool
+    requires network { IsNetwork network.now }
+    requires runs { Runs network.now amounts.now flows.now }
+    requires margins { AreMargins network.now.slots.now amounts.now (length network.now.meeting.now) (length network.now.slots.now) margins.now }
+    requires hops { AreHops (length network.now.meeting.now) network.now.borders.now chain.old.hops.items }
+    ensures hops { chain.new.hops ≡ chain.old.hops }
+    ensures improving { result ≡ true → IsImproving network.now amounts.now flows.now chain.new }
+{
+    // What the ends are is told by the margins, which are those of these amounts.
+    let _amounts = amounts;
+    match next_ends(network, flows, margins, &chain.hops, price) {
+        None => false,
+        Some(ends) => {
+            chain.sink = ends.sink;
+            chain.source = ends.source;
+            chain.at = ends.at;
+            true
+        }
+    }
+}
+
+/// Moves energy along a chain, and looks at the zones of its ends again.
+fn push_along(
+    network: &Network,
+    amounts: &mut [i64],
+    flows: &mut [i64],
+    margins: &mut [Margin],
+    chain: &Chain,
+)
+    requires network { IsNetwork network.now }
+    requires runs { Runs network.now amounts.old flows.old }
+    requires margins { AreMargins network.now.slots.now amounts.old (length network.now.meeting.now) (length network.now.slots.now) margins.old }
+    requires chain { IsImproving network.now amounts.old flows.old chain.now }
+    ensures runs { Runs network.now amounts.new flows.new }
+    ensures margins { AreMargins network.now.slots.now amounts.new (length network.now.meeting.now) (length network.now.slots.now) margins.new }
+    ensures rises { sum_along worth network.now.slots.now amounts.old <ℤ sum_along worth network.now.slots.now amounts.new }
+{
+    improve(network, amounts, flows, chain);
+    refresh(network, amounts, margins, network.slots[chain.sink].zone as usize);
+    refresh(network, amounts, margins, network.slots[chain.source].zone as usize);
+}
+
+/// Improves along a chain, and then along others of the same hops to sinks of the same price, while there are any.
+pub fn drain(
+    network: &Network,
+    amounts: &mut [i64],
+    flows: &mut [i64],
+    margins: &mut [Margin],
+    chain: &mut Chain,
+)
+    requires network { IsNetwork network.now }
+    requires runs { Runs network.now amounts.old flows.old }
+    requires margins { AreMargins network.now.slots.now amounts.old (length network.now.meeting.now) (length network.now.slots.now) margins.old }
+    requires chain { IsImproving network.now amounts.old flows.old chain.old }
+    ensures runs { Runs network.now amounts.new flows.new }
+    ensures margins { AreMargins network.now.slots.now amounts.new (length network.now.meeting.now) (length network.now.slots.now) margins.new }
+    ensures rises { sum_along worth network.now.slots.now amounts.old <ℤ sum_along worth network.now.slots.now amounts.new }
+{
+    let price = network.slots[chain.sink].price;
+    push_along(network, amounts, flows, margins, chain);
+    while go_on(network, amounts, flows, margins, chain, price) {
+        push_along(network, amounts, flows, margins, chain);
+    }
+}

@@ -1,0 +1,34 @@
+//! Improving until no chain is left.
+
+ghost use Rattle.std.specs.Prelude.{length, IfOk};
+ghost use Rattle.mari_paths.specs.Margins.{AreMargins};
+ghost use Rattle.mari_paths.specs.Network.{IsNetwork, Runs};
+ghost use Rattle.mari_paths.specs.Searching.{AreTightPrices};
+
+use crate::drains::drain;
+use crate::margins::Margin;
+use crate::network::Network;
+use crate::search::{Found, find_chain};
+use std::alloc::{AllocError, Global};
+
+/// Improves until no chain is left, and gives the prices that show it.
+pub fn run(
+    alloc: Global,
+    network: &Network,
+    amounts: &mut [i64],
+    flows: &mut [i64],
+    margins: &mut [Margin],
+) -> Result<Vec<i64>, AllocError>
+    requires network { IsNetwork network.now }
+    requires runs { Runs network.now amounts.old flows.old }
+    requires margins { AreMargins network.now.slots.now amounts.old (length network.now.meeting.now) (length network.now.slots.now) margins.old }
+    ensures runs { Runs network.now amounts.new flows.new }
+    ensures tight { IfOk result (λ prices. AreTightPrices network.now amounts.new flows.new prices.items) }
+{
+    loop {
+        match find_chain(alloc, network, amounts, flows, margins)? {
+            Found::Improving(mut chain) => drain(network, amounts, flows, margins, &mut chain),
+            Found::Tight(prices) => return Ok(prices),
+        }
+    }
+}

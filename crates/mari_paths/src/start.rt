@@ -1,0 +1,253 @@
+//! What a search starts from: the quantities and flows of an activation, set right, or each slot at its least; and what
+//! stands in for what they leave out of balance.
+
+ghost use Rattle.std.specs.Prelude.{◌≡◌, ◌<◌, ◌≤◌, ℕ, pos, neg_ℤ, ◌+ℤ◌, ◌-ℤ◌, ◌++◌, true, length, slice_set, IfOk, OnOk};
+ghost use Rattle.std.specs.List.{All, AllZip};
+ghost use Rattle.mari_market.specs.Sums.{sum_along};
+ghost use Rattle.mari_market.specs.Activation.{IsWithinLimits, carried_out};
+ghost use Rattle.mari_paths.specs.Network.{IsBetween};
+ghost use Rattle.mari_market.specs.Market.{IsValid};
+ghost use Rattle.mari_paths.specs.Orders.{IsOrderSlot, AreOrderSlots};
+ghost use Rattle.mari_paths.specs.Slots.{amount_at, slot_into, IsSmallSlot, IsWithinSlot};
+ghost use Rattle.mari_paths.specs.Starts.{stand_in_of, stand_ins, IsOrdered, IsNear, AreSmallLimits, AreShort};
+
+use crate::slots::{BEYOND, Slot};
+use mari_market::{Activation, Border, Market, Order, Side};
+use std::alloc::{AllocError, Global};
+
+/// The amount that a slot may put in which is nearest to this one.
+fn nearest_within(slot: Slot, amount: i64) -> i64
+    requires order { IsOrdered slot }
+    requires small { IsSmallSlot slot }
+    ensures { IsWithinSlot slot result }
+{
+    if amount < slot.low {
+        slot.low
+    } else if slot.high < amount {
+        slot.high
+    } else {
+        amount
+    }
+}
+
+/// What an order puts in where it runs so much.
+fn put(side: Side, mw: u32) -> i64 {
+    match side {
+        Side::Inject => i64::from(mw),
+        Side::Withdraw => -i64::from(mw),
+    }
+}
+
+/// What the slots of orders put in, as near to these quantities as they may.
+fn amounts_near(
+    alloc: Global,
+    slots: &[Slot],
+    orders: &[Order],
+    mw: &[u32],
+) -> Result<Vec<i64>, AllocError>
+    requires orders { length orders.now ≡ length slots.now }
+    requires mw { length mw.now ≡ length slots.now }
+    requires order { All IsOrdered slots.now }
+    requires small { All IsSmallSlot slots.now }
+    ensures within { IfOk result (λ v. AllZip IsWithinSlot slots.now v.items) }
+{
+    let mut amounts = Vec::with_capacity(alloc, slots.len())?;
+    for (i, slot) in slots.iter().enumerate() {
+        amounts.push(nearest_within(*slot, put(orders[i].side, mw[i])))?;
+    }
+    Ok(amounts)
+}
+
+/// The flow within a border's limits that is nearest to this one.
+fn flow_near(border: &Border, flow: i64) -> i64
+    ensures { IsWithinLimits border.now result }
+{
+    flow.max(-i64::from(border.back)).min(i64::from(border.limit))
+}
+
+/// The flows of borders, as near to these as their limits let them be.
+fn flows_near(alloc: Global, borders: &[Border], flow: &[i64]) -> Result<Vec<i64>, AllocError>
+    requires lengths { length flow.now ≡ length borders.now }
+    ensures within { IfOk result (λ v. AllZip IsWithinLimits borders.now v.items) }
+{
+    let mut flows = Vec::with_capacity(alloc, borders.len())?;
+    for (i, border) in borders.iter().enumerate() {
+        flows.push(flow_near(border, flow[i]))?;
+    }
+    Ok(flows)
+}
+
+/// Each slot at its least.
+fn least_amounts(alloc: Global, slots: &[Slot]) -> Result<Vec<i64>, AllocError>
+    requires order { All IsOrdered slots.now }
+    requires small { All IsSmallSlot slots.now }
+    ensures within { IfOk result (λ v. AllZip IsWithinSlot slots.now v.items) }
+{
+    let mut amounts = Vec::with_capacity(alloc, slots.len())?;
+    for slot in slots {
+        amounts.push(slot.low)?;
+    }
+    Ok(amounts)
+}
+
+/// Whether an activation has one quantity for each order and one flow for each border.
+fn fits(market: &Market, activation: &Activation) -> bool
+    ensures { result ≡ true → (length activation.now.mw ≡ length market.now.orders) × (length activation.now.flow ≡ length market.now.borders) }
+{
+    activation.mw.as_slice().len() == market.orders.as_slice().len()
+        && activation.flow.as_slice().len() == market.borders.as_slice().len()
+}
+
+/// What the orders' slots put in and what flows at the start: as near to an activation as may be, if one is given that
+/// fits the market, and else each slot at its least with no flow.
+pub fn first_run(
+    alloc: Global,
+    market: &Market,
+    slots: &[Slot],
+    start: Option<&Activation>,
+) -> Result<(Vec<i64>, Vec<i64>), AllocError>
+    requires lengths { length slots.now ≡ length market.now.orders }
+    requires order { All IsOrdered slots.now }
+    requires small { All IsSmallSlot slots.now }
+    ensures amounts { IfOk result (λ r. AllZip IsWithinSlot slots.now r.0.items) }
+    ensures flows { IfOk result (λ r. AllZip IsWithinLimits market.now.borders r.1.items) }
+{
+    let borders = market.borders.as_slice();
+    match start {
+        Some(activation) if fits(market, activation) => {
+            let orders = market.orders.as_slice();
+            let amounts = amounts_near(alloc, slots, orders, activation.mw.as_slice())?;
+            let flows = flows_near(alloc, borders, activation.flow.as_slice())?;
+            Ok((amounts, flows))
+        }
+        _ => {
+            let amounts = least_amounts(alloc, slots)?;
+            let flows = vec![in alloc; 0i64; borders.len()]?;
+            Ok((amounts, flows))
+        }
+    }
+}
+
+/// Adds to what a zone is short of.
+fn add_at(short: &mut [i64], zone: usize, more: i64)
+    requires zone { zone < length short.old }
+    requires before { IsNear 900000000 (amount_at short.old zone) }
+    requires more { IsNear 200000 more }
+    ensures { short.new ≡ slice_set short.old zone (amount_at short.old zone +ℤ more) }
+{
+    let now = short[zone];
+    short[zone] = now + more;
+}
+
+/// Takes from what a zone is short of.
+fn take_at(short: &mut [i64], zone: usize, less: i64)
+    requires zone { zone < length short.old }
+    requires before { IsNear 900000000 (amount_at short.old zone) }
+    requires less { IsNear 200000 less }
+    ensures { short.new ≡ slice_set short.old zone (amount_at short.old zone -ℤ less) }
+{
+    let now = short[zone];
+    short[zone] = now - less;
+}
+
+/// Adds to what zones are short of what a border carries out of them.
+fn carry_out(short: &mut [i64], border: &Border, flow: i64)
+    requires ends { IsBetween (length short.old) border.now }
+    requires near { (z : ℕ) → IsNear 800000000 (amount_at short.old z) }
+    requires flow { IsNear 200000 flow }
+    ensures long { length short.new ≡ length short.old }
+    ensures each { (z : ℕ) → amount_at short.new z ≡ amount_at short.old z +ℤ carried_out z border.now flow }
+{
+    add_at(short, border.from as usize, flow);
+    take_at(short, border.to as usize, flow);
+}
+
+/// Takes from what each zone is short of what its slots put in.
+fn take_amounts(short: &mut [i64], slots: &[Slot], amounts: &[i64])
+    requires few { length slots.now ≤ 4608 }
+    requires slots { All (IsOrderSlot (length short.old)) slots.now }
+    requires within { AllZip IsWithinSlot slots.now amounts.now }
+    requires none { (z : ℕ) → amount_at short.old z ≡ pos 0 }
+    ensures long { length short.new ≡ length short.old }
+    ensures near { (z : ℕ) → IsNear 500000000 (amount_at short.new z) }
+    ensures each { (z : ℕ) → amount_at short.new z ≡ neg_ℤ (sum_along (slot_into z) slots.now amounts.now) }
+{
+    for (i, slot) in slots.iter().enumerate() {
+        take_at(short, slot.zone as usize, amounts[i]);
+    }
+}
+
+/// Adds to what each zone is short of what its borders carry out.
+fn add_flows(short: &mut [i64], borders: &[Border], flows: &[i64])
+    requires few { length borders.now ≤ 256 }
+    requires ends { All (IsBetween (length short.old)) borders.now }
+    requires limits { All AreSmallLimits borders.now }
+    requires within { AllZip IsWithinLimits borders.now flows.now }
+    requires near { (z : ℕ) → IsNear 500000000 (amount_at short.old z) }
+    ensures long { length short.new ≡ length short.old }
+    ensures near { (z : ℕ) → IsNear 700000000 (amount_at short.new z) }
+    ensures each { (z : ℕ) → amount_at short.new z ≡ amount_at short.old z +ℤ sum_along (carried_out z) borders.now flows.now }
+{
+    for (i, border) in borders.iter().enumerate() {
+        carry_out(short, border, flows[i]);
+    }
+}
+
+/// What each zone is short of: what its borders carry out, less what its slots put in.
+pub fn shortages(
+    alloc: Global,
+    market: &Market,
+    slots: &[Slot],
+    amounts: &[i64],
+    flows: &[i64],
+) -> Result<Vec<i64>, AllocError>
+    requires market { IsValid market.now }
+    requires slots { AreOrderSlots market.now.zones market.now.orders slots.now }
+    requires amounts { AllZip IsWithinSlot slots.now amounts.now }
+    requires flows { AllZip IsWithinLimits market.now.borders flows.now }
+    ensures near { IfOk result (λ v. (z : ℕ) → IsNear 700000000 (amount_at v.items z)) }
+    ensures short { IfOk result (λ v. AreShort market.now.zones slots.now market.now.borders amounts.now flows.now v.items) }
+{
+    let mut short = vec![in alloc; 0i64; market.zones as usize]?;
+    take_amounts(&mut short, slots, amounts);
+    add_flows(&mut short, market.borders.as_slice(), flows);
+    Ok(short)
+}
+
+/// What gives a zone what it is short of, or takes away what it has too much.
+fn stand_in(zone: u32, short: i64) -> Slot
+    ensures { result ≡ stand_in_of zone short }
+{
+    if short < 0 {
+        Slot {
+            zone,
+            price: -BEYOND,
+            low: short,
+            high: 0,
+        }
+    } else {
+        Slot {
+            zone,
+            price: BEYOND,
+            low: 0,
+            high: short,
+        }
+    }
+}
+
+/// The slots with a stand-in for each zone, and the amounts with what these put in.
+pub fn add_stand_ins(
+    slots: &mut Vec<Slot>,
+    amounts: &mut Vec<i64>,
+    short: &[i64],
+) -> Result<(), AllocError>
+    requires few { length short.now ≤ 64 }
+    ensures slots { OnOk result (slots.new.items ≡ slots.old.items ++ stand_ins 0 short.now) }
+    ensures amounts { OnOk result (amounts.new.items ≡ amounts.old.items ++ short.now) }
+{
+    for (zone, amount) in short.iter().enumerate() {
+        slots.push(stand_in(zone as u32, *amount))?;
+        amounts.push(*amount)?;
+    }
+    Ok(())
+}

@@ -13,14 +13,14 @@ use Rattle.mari_core.specs.declared.event.StepFault.{StepFault}
 use Rattle.mari_core.specs.declared.event.ReplayFault.{ReplayFault}
 use Rattle.mari_core.specs.declared.node.NodeState.TheVariants.{Taken}
 use Rattle.mari_core.specs.Nodes.{changed, state_at}
-use Rattle.mari_core.specs.Growth.{Grown, Entry, grown, settling, settling_by, closing_leaf, children_at, take_refused, return_refused, IsAllowed, IsCutoff, IsGrowth, MayBranch, MaySettle}
+use Rattle.mari_core.specs.Growth.{Grown, Entry, grown, grown_by, AreAllowed, IsEntryCutAt, settling, settling_by, closing_leaf, children_at, take_refused, return_refused, IsAllowed, IsCutoff, IsGrowth, MayBranch, MaySettle}
 use Rattle.mari_core.specs.Growth.Entry.{Take as TakeEntry, Branch, Full, GiveBack as GiveBackEntry}
 use Rattle.mari_core.specs.Machine.{Machine, seeing, offering, seen_by, by_actor, after, refusal, IsProper, KeepsFacts}
 use Rattle.mari_core.specs.Replay.{after_all, first_refusal, refused_or, AreProper}
 use Rattle.mari_core.proofs.Seeds.{crowded_is_larger}
 use Rattle.mari_core.proofs.Entries.{take_passes, return_passes, entry_kept}
 use Rattle.mari_core.proofs.Settling.{may_close, may_branch}
-use Rattle.mari_core.proofs.Machines.{EntryCut, may_settle_by, look_kept, offer_kept, settling_cut, entry_step_kept, actor_at, seen_is_cutoff}
+use Rattle.mari_core.proofs.Machines.{may_settle_by, look_kept, offer_kept, settling_cut, entry_step_kept, actor_at, seen_is_cutoff}
 
 -- ---- entries
 
@@ -29,6 +29,11 @@ fits a b e = grind (arith, nat_tests)
 
 crowds : (a b : ℕ) → nat_le a b ≡ false → b < a
 crowds a b e = grind (arith, nat_tests)
+
+-- each entry of a list keeps the facts of a growth
+pub entries_kept : (g : Grown) (es : List Entry) → IsGrowth g → AreAllowed g es → IsGrowth (grown_by g es)
+entries_kept g [] grows h = grows
+entries_kept g (e ∷ es) grows h = entries_kept (grown g e) es (entry_kept g e grows h.0) h.1
 
 -- to settle a taken node with a finding is allowed
 pub settle_allowed : (g : Grown) (k x cutoff : ℕ) (finding : Finding) → IsGrowth g → IsCutoff g.market cutoff → IfSome (slice_get g.nodes x) (MaySettle g.market cutoff finding) → state_at g.nodes x ≡ Some (Taken k) → IsAllowed g (settling g k x cutoff finding)
@@ -59,8 +64,8 @@ passes None fault e = absurd (cc)
 passes (Some a) fault e = record { actor = a; there = refl; none = e }
 
 -- an event that is an entry of the tree
-entry_event : (s : Machine) (e : Entry) → KeepsFacts s → IsAllowed s.tree e → EntryCut s.word e → KeepsFacts (record s { tree = grown s.tree e })
-entry_event s e h allowed cut = entry_step_kept s e (grown s.tree e) (Ok tt) h (entry_kept s.tree e h.tree allowed) cut refl tt
+entry_event : (s : Machine) (e : Entry) → KeepsFacts s → IsAllowed s.tree e → IsEntryCutAt s.word e → KeepsFacts (record s { tree = grown s.tree e })
+entry_event s e h allowed cut = entry_step_kept {X = Unit {0}} s e (grown s.tree e) (Ok tt) h (entry_kept s.tree e h.tree allowed) cut refl tt
 
 settle_event : (s : Machine) (k x : ℕ) (finding : Finding) → KeepsFacts s → IsProper s (Settle k x finding) → Passes (slice_get s.actors k) (return_refused k (state_at s.tree.nodes x)) → KeepsFacts (after s (Settle k x finding))
 settle_event s k x finding h proper p =

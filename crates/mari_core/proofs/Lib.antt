@@ -13,4 +13,5 @@ pub mod Parts
 pub mod Machines
 pub mod Replays
 pub mod EventsKept
+pub mod Journals
 pub mod ExampleSearch

@@ -19,7 +19,7 @@ use Rattle.mari_core.specs.declared.event.StepFault.TheVariants.{NoActor, Memory
 use Rattle.mari_core.specs.declared.node.NodeState.{NodeState}
 use Rattle.mari_core.specs.declared.node.NodeState.TheVariants.{Untaken, Taken, Branched, Closed}
 use Rattle.mari_core.specs.Nodes.{TreeNode, new_node, in_state, changed, branch_of}
-use Rattle.mari_core.specs.Growth.{Grown, Entry, MaySettle, grown, settling, settling_by, closing_leaf, children_at, IsGrowth, AreCutAt, IsCutAt, IsCutoff, IsRefusal, IsAnswer}
+use Rattle.mari_core.specs.Growth.{Grown, Entry, MaySettle, grown, settling, settling_by, closing_leaf, children_at, IsGrowth, AreCutAt, IsCutAt, IsEntryCutAt, IsCutoff, IsRefusal, IsAnswer}
 use Rattle.mari_core.specs.Growth.Entry.{Take, Close, Branch, Full, GiveBack}
 use Rattle.mari_core.specs.Machine.{Machine, started, new_actor, seeing, offering, by_actor, greatest, seen_by, after, IsProper, KeepsFacts, IsActor, IsBest, best_or, best_of}
 use Rattle.mari_market.specs.declared.clearing.Clearing.{Clearing}
@@ -119,14 +119,6 @@ offer_kept s k word attained actors h at l w e = subst (λ (others : List Actor)
 
 -- ---- the tree
 
--- the cutoff of an entry is at most w
-abbrev pub EntryCut : ℕ → Entry → Type 0
-EntryCut w (Take k x) = Unit {0}
-EntryCut w (Close k x leaf cutoff) = cutoff ≤ w
-EntryCut w (Branch k x cutoff) = Unit {0}
-EntryCut w (Full k x cutoff) = Unit {0}
-EntryCut w (GiveBack k x) = Unit {0}
-
 cut_changed : (w : ℕ) (s : NodeState) (nodes : List TreeNode) (x : ℕ) → IsCutAt w s → AreCutAt w nodes → AreCutAt w (changed (in_state s) nodes x)
 cut_changed w s nodes x c a = all_changed (λ (n : TreeNode). IsCutAt w n.state) (λ (n : TreeNode). IsCutAt w n.state) (in_state s) nodes x a (λ j n d there i. i) (λ n there i. c)
 
@@ -139,7 +131,7 @@ new_cut : (w : ℕ) (kids : List (List Bool)) → AreCutAt w (map new_node kids)
 new_cut w [] = All-nil (λ (n : TreeNode). IsCutAt w n.state)
 new_cut w (v ∷ kids) = All-cons (λ (n : TreeNode). IsCutAt w n.state) (new_node v) (map new_node kids) tt (new_cut w kids)
 
-entry_cut : (g : Grown) (e : Entry) (w : ℕ) → EntryCut w e → AreCutAt w g.nodes → AreCutAt w (grown g e).nodes
+pub entry_cut : (g : Grown) (e : Entry) (w : ℕ) → IsEntryCutAt w e → AreCutAt w g.nodes → AreCutAt w (grown g e).nodes
 entry_cut g (Take k x) w c a = cut_changed w (Taken k) g.nodes x tt a
 entry_cut g (Close k x leaf cutoff) w c a = cut_changed w (Closed leaf cutoff) g.nodes x c a
 entry_cut g (Branch k x cutoff) w c a = All-append (λ (n : TreeNode). IsCutAt w n.state) (changed (in_state (branch_of (length g.nodes) (children_at g x))) g.nodes x) (map new_node (children_at g x))
@@ -147,7 +139,7 @@ entry_cut g (Branch k x cutoff) w c a = All-append (λ (n : TreeNode). IsCutAt w
 entry_cut g (Full k x cutoff) w c a = cut_changed w Untaken g.nodes x tt a
 entry_cut g (GiveBack k x) w c a = cut_changed w Untaken g.nodes x tt a
 
-grown_market : (g : Grown) (e : Entry) → (grown g e).market ≡ g.market
+pub grown_market : (g : Grown) (e : Entry) → (grown g e).market ≡ g.market
 grown_market g (Take k x) = refl
 grown_market g (Close k x leaf cutoff) = refl
 grown_market g (Branch k x cutoff) = refl
@@ -155,14 +147,14 @@ grown_market g (Full k x cutoff) = refl
 grown_market g (GiveBack k x) = refl
 
 -- a settle closes at its own cutoff
-pub settling_cut : (g : Grown) (k x cutoff w : ℕ) (finding : Finding) → cutoff ≤ w → EntryCut w (settling g k x cutoff finding)
+pub settling_cut : (g : Grown) (k x cutoff w : ℕ) (finding : Finding) → cutoff ≤ w → IsEntryCutAt w (settling g k x cutoff finding)
 settling_cut g k x cutoff w finding l = by_leaf (closing_leaf cutoff finding)
   where
-    by_test : (b : Bool) → EntryCut w (if b then Branch k x cutoff else Full k x cutoff)
-    by_test true = tt
-    by_test false = tt
+    by_test : (b : Bool) → IsEntryCutAt w (if b then Branch k x cutoff else Full k x cutoff)
+    by_test true = l
+    by_test false = l
 
-    by_leaf : (o : Option Leaf) → EntryCut w (settling_by g k x cutoff o)
+    by_leaf : (o : Option Leaf) → IsEntryCutAt w (settling_by g k x cutoff o)
     by_leaf (Some leaf) = l
     by_leaf None = by_test (nat_le (length g.nodes + length (children_at g x)) g.budget)
 
@@ -178,7 +170,7 @@ tree_kept s tree h grows m cut = record {
 }
 
 -- an entry of the tree, or none
-pub entry_step_kept : (s : Machine) (e : Entry) (tree : Grown) (r : Result (Unit {0}) StepFault) → KeepsFacts s → IsGrowth tree → EntryCut s.word e → IfOk r (λ _. tree ≡ grown s.tree e) → IfErr r (λ _. tree ≡ s.tree) → KeepsFacts (record s { tree = tree })
+pub entry_step_kept : {X : Type 0} (s : Machine) (e : Entry) (tree : Grown) (r : Result X StepFault) → KeepsFacts s → IsGrowth tree → IsEntryCutAt s.word e → IfOk r (λ _. tree ≡ grown s.tree e) → IfErr r (λ _. tree ≡ s.tree) → KeepsFacts (record s { tree = tree })
 entry_step_kept s e tree (Ok u) h grows c change same =
     tree_kept s tree h grows (ap (λ (g : Grown). g.market) change ∙ grown_market s.tree e)
     (subst (λ (g : Grown). AreCutAt s.word g.nodes) (sym change) (entry_cut s.tree e s.word c h.cutoffs))

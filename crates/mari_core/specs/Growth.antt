@@ -15,6 +15,8 @@ use Rattle.mari_market.specs.Finding.{IsFinding}
 use Rattle.mari_market.specs.Tree.{LeafHolds}
 use Rattle.mari_core.specs.declared.node.NodeState.{NodeState}
 use Rattle.mari_core.specs.declared.node.NodeState.TheVariants.{Untaken, Taken, Branched, Closed}
+use Rattle.mari_core.specs.declared.journal.JournalEntry.{JournalEntry}
+use Rattle.mari_core.specs.declared.journal.JournalEntry.TheVariants as journal
 use Rattle.mari_core.specs.declared.event.StepFault.{StepFault}
 use Rattle.mari_core.specs.declared.event.StepFault.TheVariants.{NoNode, NotUntaken, NotTaken, Memory}
 use Rattle.mari_core.specs.Nodes.{TreeNode, new_node, in_state, changed, words_of, word_at, state_at, child_numbers, branch_of}
@@ -96,6 +98,43 @@ IsAllowed g (Close k x leaf cutoff) = MayClose g k x leaf cutoff
 IsAllowed g (Branch k x cutoff) = MayBranch g k x cutoff × (length g.nodes + length (children_at g x) ≤ g.budget)
 IsAllowed g (Full k x cutoff) = MayBranch g k x cutoff × (g.budget < length g.nodes + length (children_at g x))
 IsAllowed g (GiveBack k x) = state_at g.nodes x ≡ Some (Taken k)
+
+-- ---- a list of entries, and the journal of a tree
+
+-- the tree after these entries
+abbrev pub grown_by : Grown → List Entry → Grown
+grown_by g [] = g
+grown_by g (e ∷ es) = grown_by (grown g e) es
+
+-- each entry is allowed where those before it lead
+abbrev pub AreAllowed : Grown → List Entry → Type 0
+AreAllowed g [] = ⊤
+AreAllowed g (e ∷ es) = IsAllowed g e × AreAllowed (grown g e) es
+
+-- an entry as the journal has it, without the certificate of a closed node, which stands in the tree
+abbrev pub in_journal : Entry → JournalEntry
+in_journal (Take k x) = journal.Take k x
+in_journal (Close k x leaf cutoff) = journal.Close k x cutoff
+in_journal (Branch k x cutoff) = journal.Branch k x cutoff
+in_journal (Full k x cutoff) = journal.Full k x cutoff
+in_journal (GiveBack k x) = journal.GiveBack k x
+
+-- the cutoff of an entry, if it has one, is at most w
+abbrev pub IsEntryCutAt : ℕ → Entry → Type 0
+IsEntryCutAt w (Take k x) = ⊤
+IsEntryCutAt w (Close k x leaf cutoff) = cutoff ≤ w
+IsEntryCutAt w (Branch k x cutoff) = cutoff ≤ w
+IsEntryCutAt w (Full k x cutoff) = cutoff ≤ w
+IsEntryCutAt w (GiveBack k x) = ⊤
+
+-- the journal's entries, with the certificates of closed nodes, are allowed one after the other, at cutoffs of at most w, and
+-- lead from the start to the tree
+pub record LeadsTo (journal : List JournalEntry) (w : ℕ) (g : Grown) : Type 0 where
+  pub entries : List Entry
+  pub kept : map in_journal entries ≡ journal
+  pub allowed : AreAllowed (seed g.market g.budget) entries
+  pub cut : All (IsEntryCutAt w) entries
+  pub leads : grown_by (seed g.market g.budget) entries ≡ g
 
 -- ---- what is settled of a node by a finding
 

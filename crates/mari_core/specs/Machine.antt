@@ -74,14 +74,6 @@ refusal s (Take k x) = by_actor (slice_get s.actors k) (take_refused (state_at s
 refusal s (Settle k x finding) = by_actor (slice_get s.actors k) (return_refused k (state_at s.tree.nodes x))
 refusal s (GiveBack k x) = by_actor (slice_get s.actors k) (return_refused k (state_at s.tree.nodes x))
 
--- whether the event settles a node: no other takes memory
-abbrev pub settles : Event → Bool
-settles (Look k) = false
-settles (Offer k attained) = false
-settles (Take k x) = false
-settles (Settle k x finding) = true
-settles (GiveBack k x) = false
-
 -- what may be handed in: an offer is an admissible activation with its welfare; a finding is one of that node, and where the
 -- node decides every gate the actor has seen at least its bound, unless there is a conflict
 abbrev pub IsProper : Machine → Event → Type 0

@@ -1,6 +1,6 @@
 //! A part of the search tree that grows node by node.
 
-ghost use Rattle.std.specs.Prelude.{◌≡◌, ◌≢◌, ℕ, ◌+◌, ◌<◌, ◌≤◌, pos, ◌∷◌, [], true, map, length, slice_get, IfSome, IfOk, IfErr, OnOk, OnErr, MatchOption, Some, None, vec_capacity, vec_len};
+ghost use Rattle.std.specs.Prelude.{◌≡◌, ◌≢◌, ℕ, ◌+◌, ◌<◌, ◌≤◌, pos, ◌∷◌, [], true, map, length, slice_get, IfSome, IfOk, IfErr, OnOk, OnErr, MatchOption, ◌↔◌, IsTrue, Some, None, vec_capacity, vec_len};
 ghost use Rattle.std.specs.Option.{option_map};
 ghost use Rattle.mari_market.specs.Clearing.{IsSpent, ArePartsOfSearch};
 ghost use Rattle.mari_gates.specs.Prefixes.{IsCleared};
@@ -8,14 +8,16 @@ ghost use Rattle.mari_market.specs.Market.{IsValid};
 ghost use Rattle.mari_market.specs.Prefix.{word_of, IsFeasiblePrefix};
 ghost use Rattle.mari_market.specs.SearchTree.{IsLarger};
 ghost use Rattle.mari_market.specs.Tree.{TreeHolds};
-ghost use Rattle.mari_core.specs.Growth.{seed, grown, settling, closing_leaf, with_state, children_at, child_words, take_refused, return_refused, settling_by, MaySettle, CanClose, CanBranch, IsCutoff, IsGrowth, IsNext, IsLeastUntaken, IsRefusal, IsAnswer, NoneWaits, AreCutAt};
+ghost use Rattle.mari_core.specs.Growth.{seed, grown, settling, closing_leaf, with_state, children_at, child_words, take_refused, return_refused, settling_by, MaySettle, CanClose, CanBranch, IsCutoff, IsGrowth, IsNext, IsLeastUntaken, IsRefusal, in_journal, NoneWaits, AreCutAt};
 ghost use Rattle.mari_core.specs.Growth.Entry.{Take, Close, Branch, Full, GiveBack};
 ghost use Rattle.mari_core.specs.declared.event.StepFault.TheVariants.{Memory as NoStepMemory};
+ghost use Rattle.mari_core.specs.declared.node.NodeState.TheVariants.{Taken};
 ghost use Rattle.mari_core.specs.Nodes.{words_of, word_at, state_at};
 ghost use Rattle.mari_core.specs.Preorder.{IsPart, IsTree, IsOpenFault, shape_of};
 
 use crate::event::{FinishFault, StepFault};
-use crate::node::{Node, NodeState, replace_state};
+use crate::journal::JournalEntry;
+use crate::node::{Node, NodeState};
 use crate::preorder::{finished_items, part_items};
 use mari_gates::{child_of, empty_prefix, may_branch_up};
 use mari_market::{Finding, Leaf, Market, PartItem, Prefix, Relaxed, TreeItem};
@@ -26,7 +28,8 @@ use std::marker::Model;
 /// A part of the search tree of a market: its nodes are numbered from 0 as they are made, a closed child before the open one.
 ///
 /// Whoever works on it takes a node that waits, finds out about it, and settles it at a cutoff that it knows: the node closes,
-/// or its children are made. Nothing else is known of the cutoffs but that they are at least the closed welfare.
+/// or its children are made. Nothing else is known of the cutoffs but that they are at least the closed welfare. The rows of the
+/// whole budget are reserved at the start, so that only to start, `part` and `finish` take memory.
 #[derive(Drop)]
 pub struct Growth<'m> {
     market: &'m Market,
@@ -37,13 +40,14 @@ pub struct Growth<'m> {
 }
 
 impl<'m> Model for Growth<'m> {
+    ghost use Rattle.std.specs.Prelude.{◌≤◌, vec_capacity};
     ghost use Rattle.mari_core.specs.Growth.{Grown, IsGrowth, IsNext};
 
     ghost Value = { Grown };
 
     ghost view = { λ g. record { market = g.market.now; budget = g.budget; nodes = g.nodes.items; full = g.full } };
 
-    ghost invariant = { λ g. IsGrowth (record { market = g.market.now; budget = g.budget; nodes = g.nodes.items; full = g.full }) × IsNext g.nodes.items g.next };
+    ghost invariant = { λ g. IsGrowth (record { market = g.market.now; budget = g.budget; nodes = g.nodes.items; full = g.full }) × IsNext g.nodes.items g.next × (g.budget ≤ vec_capacity g.nodes) };
 }
 
 /// The first node, counted from this one on, that waits, or the number of nodes where none does.
@@ -67,7 +71,8 @@ fn set_state(nodes: &mut Vec<Node>, node: u32, state: NodeState)
     ensures count { vec_len nodes.new ≡ vec_len nodes.old }
     ensures room { vec_capacity nodes.new ≡ vec_capacity nodes.old }
 {
-    let _before = replace_state(nodes, node, state);
+    let at = &mut nodes[node as usize];
+    at.set_state(state);
 }
 
 /// The certificate by which a finding closes its node at a cutoff, if it does.
@@ -99,8 +104,8 @@ impl<'m> Growth<'m> {
         requires budget { (1 ≤ budget) × (budget ≤ 50000) }
         ensures { IfOk result (λ g. g ≡ seed market.now budget) }
     {
-        let mut nodes = Vec::new(alloc);
-        nodes.push(Node::new(empty_prefix()))?;
+        let mut nodes = Vec::with_capacity(alloc, budget as usize)?;
+        nodes.push_reserved(Node::new(empty_prefix()));
         Ok(Growth {
             market,
             budget,
@@ -119,6 +124,38 @@ impl<'m> Growth<'m> {
         } else {
             None
         }
+    }
+
+    /// How many nodes there are.
+    pub fn len(&self) -> u32
+        ensures len { result ≡ length self.now.nodes }
+        ensures within { length self.now.nodes ≤ self.now.budget }
+        ensures facts { IsGrowth self.now }
+    {
+        self.nodes.len() as u32
+    }
+
+    /// The actor that has taken a node, if there is one.
+    pub fn taker(&self, node: u32) -> Option<u32>
+        ensures { MatchOption result ((actor : ℕ) → state_at self.now.nodes node ≡ Some (Taken actor) → ⊥) (λ actor. state_at self.now.nodes node ≡ Some (Taken actor)) }
+    {
+        if node as usize >= self.nodes.len() {
+            return None;
+        }
+        match self.nodes[node as usize].state() {
+            NodeState::Taken(actor) => Some(*actor),
+            _ => None,
+        }
+    }
+
+    /// Whether a node decides the gates of the prefix.
+    pub fn decides(&self, node: u32, prefix: &Prefix) -> bool
+        ensures { IsTrue result ↔ (slice_get (words_of self.now.nodes) node ≡ Some (word_of prefix.now)) }
+    {
+        if node as usize >= self.nodes.len() {
+            return false;
+        }
+        self.nodes[node as usize].decides(prefix)
     }
 
     /// The prefix of a node, if there is one of that number.
@@ -209,16 +246,14 @@ impl<'m> Growth<'m> {
     }
 
     /// Makes the children of a taken node.
-    fn branch(&mut self, node: u32, prefix: &Prefix, may_open: bool) -> Result<(), Memory>
+    fn branch(&mut self, node: u32, prefix: &Prefix, may_open: bool)
         requires may { CanBranch self.old node }
         requires prefix { (word_of prefix.now ≡ word_at self.old.nodes node) × IsCleared prefix.now }
         requires may_open { children_at self.old node ≡ child_words (word_of prefix.now) may_open }
         requires fits { length self.old.nodes + length (children_at self.old node) ≤ self.old.budget }
-        ensures change { OnOk result ((actor cutoff : ℕ) → self.new ≡ grown self.old (Branch actor node cutoff)) }
-        ensures same { OnErr result (self.new ≡ self.old) }
+        ensures change { (actor cutoff : ℕ) → self.new ≡ grown self.old (Branch actor node cutoff) }
         ensures facts { IsGrowth self.new }
     {
-        self.nodes.reserve(2)?;
         let first = self.nodes.len() as u32;
         let opened = may_open.then_some(first + 1);
         set_state(&mut self.nodes, node, NodeState::Branched(first, opened));
@@ -226,7 +261,6 @@ impl<'m> Growth<'m> {
         if may_open {
             self.nodes.push_reserved(Node::new(child_of(prefix, true)));
         }
-        Ok(())
     }
 
     /// Puts a taken node back for want of budget, and marks that.
@@ -254,44 +288,61 @@ impl<'m> Growth<'m> {
     }
 
     /// Branches a taken node, where its children fit the budget, and else puts it back.
-    fn branch_or_mark(&mut self, node: u32) -> Result<(), Memory>
+    fn branch_or_mark(&mut self, actor: u32, node: u32, cutoff: u64) -> JournalEntry
         requires { CanBranch self.old node }
-        ensures change { OnOk result ((actor cutoff : ℕ) → self.new ≡ grown self.old (settling_by self.old actor node cutoff None)) }
-        ensures same { OnErr result (self.new ≡ self.old) }
+        ensures change { self.new ≡ grown self.old (settling_by self.old actor node cutoff None) }
+        ensures entry { result ≡ in_journal (settling_by self.old actor node cutoff None) }
         ensures facts { IsGrowth self.new }
     {
         let (prefix, may_open) = self.next_gate(node);
         let made = if may_open { 2 } else { 1 };
         if self.nodes.len() + made <= self.budget as usize {
-            self.branch(node, &prefix, may_open)
+            self.branch(node, &prefix, may_open);
+            JournalEntry::Branch {
+                actor,
+                node,
+                cutoff,
+            }
         } else {
             self.mark(node);
-            Ok(())
+            JournalEntry::Full {
+                actor,
+                node,
+                cutoff,
+            }
         }
     }
 
     /// An actor settles a node that it has taken by what it found of it, at a cutoff that it knows: the node closes, or it
-    /// branches, or it waits again, where its children would be more than the budget.
+    /// branches, or it waits again, where its children would be more than the budget. The entry says which.
     pub fn settle(
         &mut self,
         actor: u32,
         node: u32,
         finding: Finding,
         cutoff: u64,
-    ) -> Result<(), StepFault>
+    ) -> Result<JournalEntry, StepFault>
         requires cutoff { IsCutoff self.old.market cutoff }
         requires finding { IfSome (slice_get self.old.nodes node) (MaySettle self.old.market cutoff finding) }
         ensures change { IfOk result (λ _. self.new ≡ grown self.old (settling self.old actor node cutoff finding)) }
+        ensures entry { IfOk result (λ entry. entry ≡ in_journal (settling self.old actor node cutoff finding)) }
         ensures same { IfErr result (λ _. self.new ≡ self.old) }
-        ensures answer { IsAnswer (return_refused actor (state_at self.old.nodes node)) result }
+        ensures answer { IsRefusal (return_refused actor (state_at self.old.nodes node)) result }
+        ensures memory { IfErr result (λ fault. fault ≢ NoStepMemory) }
         ensures facts { IsGrowth self.new }
     {
         self.check_taken(actor, node)?;
         match closing_leaf(finding, cutoff) {
-            Some(leaf) => self.close(node, leaf, cutoff),
-            None => self.branch_or_mark(node)?,
+            Some(leaf) => {
+                self.close(node, leaf, cutoff);
+                Ok(JournalEntry::Close {
+                    actor,
+                    node,
+                    cutoff,
+                })
+            }
+            None => Ok(self.branch_or_mark(actor, node, cutoff)),
         }
-        Ok(())
     }
 
     /// The nodes in preorder: branched, closed, or neither.
@@ -304,17 +355,16 @@ impl<'m> Growth<'m> {
         part_items(alloc, &self.nodes)
     }
 
-    /// The certificates of the nodes in preorder, where each node is branched or closed.
+    /// Copies of the certificates of the nodes in preorder, where each node is branched or closed.
     ///
     /// They make a tree that holds at each welfare which no cutoff of the nodes exceeds.
-    pub fn finish(self, alloc: Global) -> Result<Vec<TreeItem>, FinishFault>
-        ensures tree { IfOk result (λ v. IsTree self.entry.nodes v.items) }
-        ensures holds { IfOk result (λ v. (w : ℕ) → AreCutAt w self.entry.nodes → TreeHolds self.entry.market (pos w) v.items) }
-        ensures search { IfOk result (λ v. ArePartsOfSearch self.entry.market ([] ∷ []) (map shape_of v.items)) }
-        ensures within_budget { IfOk result (λ v. length v.items ≤ self.entry.budget) }
-        ensures not_closed { IfErr result (IsOpenFault self.entry.nodes) }
+    pub fn finish(&self, alloc: Global) -> Result<Vec<TreeItem>, FinishFault>
+        ensures tree { IfOk result (λ v. IsTree self.now.nodes v.items) }
+        ensures holds { IfOk result (λ v. (w : ℕ) → AreCutAt w self.now.nodes → TreeHolds self.now.market (pos w) v.items) }
+        ensures search { IfOk result (λ v. ArePartsOfSearch self.now.market ([] ∷ []) (map shape_of v.items)) }
+        ensures within_budget { IfOk result (λ v. length v.items ≤ self.now.budget) }
+        ensures not_closed { IfErr result (IsOpenFault self.now.nodes) }
     {
-        let Growth { nodes, .. } = self;
-        finished_items(alloc, nodes)
+        finished_items(alloc, &self.nodes)
     }
 }

@@ -7,6 +7,7 @@
 mod event;
 mod growth;
 mod history;
+mod journal;
 mod laws;
 mod node;
 mod preorder;
@@ -17,6 +18,7 @@ mod tests;
 pub use event::{Event, FinishFault, ReplayFault, StepFault};
 pub use growth::Growth;
 pub use history::replay;
+pub use journal::JournalEntry;
 pub use laws::facts_are_kept;
 pub use node::{Node, NodeState};
 pub use search::{Actor, Search};

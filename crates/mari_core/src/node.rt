@@ -1,14 +1,13 @@
 //! The nodes of a search.
 
-ghost use Rattle.std.specs.Prelude.{◌≡◌, ◌<◌, ◌↔◌, IsTrue, Some, length, vec_len, vec_capacity};
+ghost use Rattle.std.specs.Prelude.{◌≡◌, ◌≤◌, ◌↔◌, IsTrue, length};
 ghost use Rattle.mari_market.specs.Prefix.{word_of};
 ghost use Rattle.mari_gates.specs.Prefixes.{IsCleared};
-ghost use Rattle.mari_core.specs.Nodes.{new_node, in_state, state_at};
-ghost use Rattle.mari_core.specs.Growth.{with_state};
+ghost use Rattle.mari_core.specs.Nodes.{new_node, in_state};
 
+use mari_gates::opens;
 use mari_market::{Leaf, Prefix};
 use std::marker::Model;
-use std::mem;
 
 /// What is known of a node.
 #[derive(Drop)]
@@ -76,23 +75,34 @@ impl Node {
         matches!(self.state, NodeState::Untaken)
     }
 
-    /// Puts another state in place of the one that it has, which is handed back.
-    pub fn replace_state(&mut self, state: NodeState) -> NodeState
-        ensures state { result ≡ self.old.state }
-        ensures node { self.new ≡ in_state state self.old }
+    /// Whether it decides the same gates as the prefix, and in the same way.
+    pub fn decides(&self, prefix: &Prefix) -> bool
+        requires { length self.now.word ≤ 512 }
+        ensures { IsTrue result ↔ (self.now.word ≡ word_of prefix.now) }
     {
-        mem::replace(&mut self.state, state)
+        same_word(&self.prefix, prefix)
+    }
+
+    /// Puts another state in place of the one that it has.
+    pub fn set_state(&mut self, state: NodeState)
+        ensures { self.new ≡ in_state state self.old }
+    {
+        self.state = state;
     }
 }
 
-/// Puts a node into another state, and hands back the state that it had.
-pub(crate) fn replace_state(nodes: &mut Vec<Node>, node: u32, state: NodeState) -> NodeState
-    requires { node < length nodes.old.items }
-    ensures before { state_at nodes.old.items node ≡ Some result }
-    ensures nodes { nodes.new.items ≡ with_state state nodes.old.items node }
-    ensures count { vec_len nodes.new ≡ vec_len nodes.old }
-    ensures room { vec_capacity nodes.new ≡ vec_capacity nodes.old }
+/// Whether two prefixes decide the same gates in the same way.
+fn same_word(one: &Prefix, other: &Prefix) -> bool
+    requires { one.now.length ≤ 512 }
+    ensures { IsTrue result ↔ (word_of one.now ≡ word_of other.now) }
 {
-    let at = &mut nodes[node as usize];
-    at.replace_state(state)
+    if one.length != other.length {
+        return false;
+    }
+    for gate in 0..one.length {
+        if opens(one, gate) != opens(other, gate) {
+            return false;
+        }
+    }
+    true
 }

@@ -5,10 +5,10 @@ ghost use Rattle.mari_core.specs.Preorder.{IsPreorder, HasPreorder, IsPart, IsTr
 ghost use Rattle.mari_core.specs.Nodes.{child_numbers};
 
 use crate::event::FinishFault;
-use crate::node::{Node, NodeState, replace_state};
-use mari_market::{PartItem, TreeItem};
+use crate::node::{Node, NodeState};
+use mari_market::{Leaf, PartItem, TreeItem};
 use mari_units::Memory;
-use std::alloc::Global;
+use std::alloc::{AllocError, Global};
 
 /// Lets the children of a node wait: the closed one is the next.
 fn push_children(waiting: &mut Vec<u32>, state: &NodeState) -> Result<(), Memory>
@@ -62,31 +62,34 @@ pub(crate) fn part_items(alloc: Global, nodes: &[Node]) -> Result<Vec<PartItem>,
     Ok(items)
 }
 
-/// The item of a certificate tree for a node in this state, if it is branched or closed.
-fn tree_item(state: NodeState) -> Option<TreeItem>
-    ensures { MatchOption result (is_done (Some state) ≡ false) (λ item. (is_done (Some state) ≡ true) × (item ≡ tree_item (Some state))) }
+/// A copy of a certificate.
+fn copy_of(leaf: &Leaf) -> Result<Leaf, AllocError>
+    ensures { IfOk result (λ copy. copy ≡ leaf.now) }
+{
+    leaf.clone()
+}
+
+/// A copy of the item of a certificate tree for a node in this state, if it is branched or closed.
+fn tree_item(state: &NodeState) -> Result<Option<TreeItem>, Memory>
+    ensures { IfOk result (λ o. MatchOption o (is_done (Some state.now) ≡ false) (λ item. (is_done (Some state.now) ≡ true) × (item ≡ tree_item (Some state.now)))) }
 {
     match state {
-        NodeState::Branched(_, _) => Some(TreeItem::Branch),
-        NodeState::Closed(leaf, _) => Some(TreeItem::Leaf(leaf)),
-        NodeState::Untaken | NodeState::Taken(_) => None,
+        NodeState::Branched(_, _) => Ok(Some(TreeItem::Branch)),
+        NodeState::Closed(leaf, _) => Ok(Some(TreeItem::Leaf(copy_of(leaf)?))),
+        NodeState::Untaken | NodeState::Taken(_) => Ok(None),
     }
 }
 
-/// The items of a certificate tree, in preorder, which are moved out of the nodes.
-pub(crate) fn finished_items(
-    alloc: Global,
-    mut nodes: Vec<Node>,
-) -> Result<Vec<TreeItem>, FinishFault>
-    requires { HasPreorder nodes.items }
-    ensures tree { IfOk result (λ v. IsTree nodes.items v.items) }
-    ensures not_closed { IfErr result (IsOpenFault nodes.items) }
+/// The items of a certificate tree, in preorder, which are copies.
+pub(crate) fn finished_items(alloc: Global, nodes: &[Node]) -> Result<Vec<TreeItem>, FinishFault>
+    requires { HasPreorder nodes.now }
+    ensures tree { IfOk result (λ v. IsTree nodes.now v.items) }
+    ensures not_closed { IfErr result (IsOpenFault nodes.now) }
 {
-    let order = preorder(alloc, &nodes)?;
+    let order = preorder(alloc, nodes)?;
     let mut items = Vec::with_capacity(alloc, order.len())?;
     for node in &order {
-        let state = replace_state(&mut nodes, *node, NodeState::Untaken);
-        let Some(item) = tree_item(state) else {
+        let Some(item) = tree_item(nodes[*node as usize].state())? else {
             return Err(FinishFault::NotClosed(*node));
         };
         items.push(item)?;

@@ -9,7 +9,7 @@ ghost use Rattle.mari_market.specs.Prefix.{word_of, IsFeasiblePrefix};
 ghost use Rattle.mari_market.specs.Relaxation.{IsClosedWelfare};
 ghost use Rattle.mari_market.specs.SearchTree.{IsLarger};
 ghost use Rattle.mari_core.specs.Growth.{NoneWaits, IsLeastUntaken, IsAnswer};
-ghost use Rattle.mari_core.specs.Machine.{started, settles, new_actor, seeing, offering, after, refusal, IsProper, KeepsFacts, best_of};
+ghost use Rattle.mari_core.specs.Machine.{started, new_actor, seeing, offering, after, refusal, IsProper, KeepsFacts, best_of};
 ghost use Rattle.mari_core.specs.declared.event.Event.TheVariants.{Look, Offer, Take, Settle, GiveBack};
 ghost use Rattle.mari_core.specs.declared.event.StepFault.TheVariants.{Memory as NoStepMemory};
 ghost use Rattle.mari_core.specs.Nodes.{words_of};
@@ -130,13 +130,13 @@ impl<'m> Search<'m> {
     ///
     /// An offer is an admissible activation with its welfare. A finding is one that `mari_node::examine` gives for that node,
     /// and where the node decides every gate and no conflict was found the actor has seen at least its bound, as after an
-    /// offer of what was found. Only to settle takes memory, where the children of a node are made.
+    /// offer of what was found. No step takes memory.
     pub fn step(&mut self, event: Event) -> Result<(), StepFault>
         requires { IsProper self.old event }
         ensures change { IfOk result (λ _. self.new ≡ after self.old event) }
         ensures same { IfErr result (λ _. self.new ≡ self.old) }
         ensures answer { IsAnswer (refusal self.old event) result }
-        ensures memory { IfErr result (λ fault. fault ≡ NoStepMemory → settles event ≡ true) }
+        ensures memory { IfErr result (λ fault. fault ≢ NoStepMemory) }
         ensures facts { KeepsFacts self.new }
     {
         match event {
@@ -206,13 +206,15 @@ impl<'m> Search<'m> {
         ensures change { IfOk result (λ _. self.new ≡ after self.old (Settle actor node finding)) }
         ensures same { IfErr result (λ _. self.new ≡ self.old) }
         ensures answer { IsAnswer (refusal self.old (Settle actor node finding)) result }
+        ensures memory { IfErr result (λ fault. fault ≢ NoStepMemory) }
         ensures facts { KeepsFacts self.new }
     {
         if actor as usize >= self.actors.len() {
             return Err(StepFault::NoActor);
         }
         let cutoff = self.actors[actor as usize].seen;
-        self.tree.settle(actor, node, finding, cutoff)
+        self.tree.settle(actor, node, finding, cutoff)?;
+        Ok(())
     }
 
     /// An actor gives back a node that it has taken.

@@ -4,3 +4,5 @@ pub mod TreeWalks
 pub mod Fates
 pub mod Refined
 pub mod Turns
+pub mod Rest
+pub mod Marks

@@ -230,7 +230,7 @@ offer_seen s best l =
 settled_bound : (m : Market) (word : List Bool) (r : RelaxedRecord) (best : Attained) → IsRelaxedFinding m word r → IsSettled m word r best → r.bound ≡ best.welfare
 settled_bound m word r best f s = omega (arith, ints, clamps, f.bound, s.value)
 
-reached_by : (m : Market) (word : List Bool) (r : RelaxedRecord) (cutoff : ℕ) → IsRelaxedFinding m word r → ((best : Attained) → r.best ≡ Some best → best.welfare ≤ cutoff) → IsReached m word cutoff (Relaxed r)
+pub reached_by : (m : Market) (word : List Bool) (r : RelaxedRecord) (cutoff : ℕ) → IsRelaxedFinding m word r → ((best : Attained) → r.best ≡ Some best → best.welfare ≤ cutoff) → IsReached m word cutoff (Relaxed r)
 reached_by m word r cutoff f seen full none = by_best r.best refl (f.at_the_end full)
   where
     by_best : (o : Option Attained) → r.best ≡ o → MatchOption o (IsRefuted m word r) (IsSettled m word r) → r.bound ≤ cutoff

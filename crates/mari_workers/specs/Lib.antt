@@ -1,2 +1,4 @@
 pub mod Alone
 pub mod Refine
+pub mod Worked
+pub mod Together

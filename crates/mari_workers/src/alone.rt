@@ -14,8 +14,8 @@ ghost use Rattle.mari_workers.specs.Refine.{IsSearched};
 use crate::first::first_of;
 use crate::refining::refine;
 use mari_core::{Event, FinishFault, Search};
-use mari_market::{Attained, Cleared, Clearer, Finding, Market, Prefix, Spent};
-use mari_node::examine;
+use mari_market::{Activation, Attained, Cleared, Clearer, Finding, Market, Prefix, Spent};
+use mari_node::examine_from;
 use mari_units::{Items, Memory};
 use std::alloc::{AllocError, Global};
 
@@ -36,7 +36,7 @@ fn step(search: &mut Search<'_>, event: Event) -> Result<(), Memory>
 }
 
 /// The activation of a finding, if it has one.
-fn best_of(finding: &Finding) -> Option<&Attained>
+pub(crate) fn best_of(finding: &Finding) -> Option<&Attained>
     ensures { option_copied result ≡ best_in finding.now }
 {
     match finding {
@@ -46,7 +46,7 @@ fn best_of(finding: &Finding) -> Option<&Attained>
 }
 
 /// A copy of an activation and its welfare.
-fn copy_of(attained: &Attained) -> Result<Attained, AllocError>
+pub(crate) fn copy_of(attained: &Attained) -> Result<Attained, AllocError>
     ensures { IfOk result (λ copy. copy ≡ attained.now) }
 {
     attained.clone()
@@ -83,6 +83,7 @@ fn visit(
     search: &mut Search<'_>,
     node: u32,
     prefix: &Prefix,
+    start: &mut Option<Activation>,
 ) -> Result<(), Memory>
     requires under_way { IsUnderWay market.now search.old node }
     requires word { slice_get (words_of search.old.tree.nodes) node ≡ Some (word_of prefix.now) }
@@ -91,7 +92,7 @@ fn visit(
     ensures facts { KeepsFacts search.new }
 {
     step(search, Event::Take { actor: ACTOR, node })?;
-    let finding = examine(alloc, market, prefix)?;
+    let finding = examine_from(alloc, market, prefix, start)?;
     offer_best(search, &finding)?;
     step(
         search,
@@ -106,13 +107,18 @@ fn visit(
 /// Visits the nodes of a search in the order in which they are made, until none waits or one can't branch within the budget.
 ///
 /// Where none waits any more there is an optimal clearing, which may be refined.
-fn visit_all(alloc: Global, market: &Market, mut search: Search<'_>) -> Result<Cleared, Memory>
+fn visit_all(
+    alloc: Global,
+    market: &Market,
+    mut search: Search<'_>,
+    mut start: Option<Activation>,
+) -> Result<Cleared, Memory>
     requires { IsUnderWay market.now search 0 }
     ensures { IfOk result (IsSearched market.now search.entry.tree.budget) }
 {
     let mut node = 0;
     while let Some(prefix) = search.prefix_of(node) {
-        visit(alloc, market, &mut search, node, &prefix)?;
+        visit(alloc, market, &mut search, node, &prefix, &mut start)?;
         if search.is_full() {
             let items = Items::of(search.part(alloc)?);
             return Ok(Cleared::Spent(Spent { items }));
@@ -133,8 +139,9 @@ fn cleared(alloc: Global, market: &Market, budget: u32) -> Result<Cleared, Memor
     ensures { IfOk result (Clears market.now budget) }
 {
     let first = first_of(alloc, market)?;
+    let start = Some(first.activation.clone()?);
     let search = Search::start(alloc, market, ACTOR + 1, first, budget)?;
-    match visit_all(alloc, market, search)? {
+    match visit_all(alloc, market, search, start)? {
         Cleared::Published(found) => Ok(refine(alloc, market, found, budget)),
         spent => Ok(spent),
     }

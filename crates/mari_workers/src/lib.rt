@@ -5,10 +5,20 @@
 #![tactic(auto)]
 
 mod alone;
+mod crew;
 mod first;
 mod refining;
 #[cfg(test)]
+mod pair;
+#[cfg(test)]
 mod tests;
+mod together;
+mod turnstile;
+mod worker;
 
 pub use alone::{Alone, search_alone};
+pub use crew::Crew;
 pub use refining::refine;
+pub use together::search;
+pub use turnstile::{FreeTurnstile, Turnstile};
+pub use worker::{Worked, work};

@@ -3,4 +3,4 @@ use Rattle.mari_core.proofs.Finishing.{Visited}
 use Rattle.mari_core.proofs.preorder.finished_items.Given as goal
 
 abbrev pub invariant-loop-node : goal.invariant-loop-node
-invariant-loop-node l = Visited l.initial.nodes.items l.nodes.items l.items.items (take l.node-index l.node-items)
+invariant-loop-node l = Visited l.nodes l.items.items (take l.node-index l.node-items)

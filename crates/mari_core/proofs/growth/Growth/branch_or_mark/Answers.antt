@@ -1,7 +1,6 @@
 use Rattle.std.proofs.Common.{◌≡◌, ◌+◌, ◌<◌, ◌≤◌, ℕ, Bool, length, arith, ap, sym, ◌∙◌}
-use Rattle.std.proofs.lemmas.Result.{on_ok_weaker}
 use Rattle.mari_market.specs.Prefix.{word_of}
-use Rattle.mari_core.specs.Growth.{Grown, children_at, child_words, grown}
+use Rattle.mari_core.specs.Growth.{Grown, children_at, child_words, grown, in_journal}
 use Rattle.mari_core.specs.Growth.Entry.{Branch}
 use Rattle.mari_core.proofs.Entries.{settles_by_branch, settles_by_mark}
 use Rattle.mari_core.proofs.growth.Growth.branch_or_mark.Goals as goal
@@ -42,7 +41,7 @@ returns-then-len-made-clause-change c =
     let nodes : c.len.result ≡ length c.args.self.now.nodes = c.len.ensures ∙ c.self.inside.nodes.ok.0 ∙ ap (λ (g : Grown). length g.nodes) c.self.view_is in
     let budget : c.self.inside.budget ≡ c.args.self.now.budget = ap (λ (g : Grown). g.budget) c.self.view_is in
     let fits : length c.args.self.now.nodes + length (children_at c.args.self.now c.args.node) ≤ c.args.self.now.budget = omega (arith, count, nodes, budget, c.if-len-made.true) in
-    on_ok_weaker c.branch-self.result (λ (h : (k w : ℕ) → c.branch-self.new.self ≡ grown c.args.self.now (Branch k c.args.node w)) actor cutoff. h actor cutoff ∙ ap (grown c.args.self.now) (sym (settles_by_branch c.args.self.now actor c.args.node cutoff fits))) c.branch-self.ensures.change
+    c.branch-self.ensures.change c.args.actor c.args.cutoff ∙ ap (grown c.args.self.now) (sym (settles_by_branch c.args.self.now c.args.actor c.args.node c.args.cutoff fits))
 
 pub returns-else-len-made-clause-change : goal.returns-else-len-made-clause-change
 returns-else-len-made-clause-change c =
@@ -55,4 +54,30 @@ returns-else-len-made-clause-change c =
     let nodes : c.len.result ≡ length c.args.self.now.nodes = c.len.ensures ∙ c.self.inside.nodes.ok.0 ∙ ap (λ (g : Grown). length g.nodes) c.self.view_is in
     let budget : c.self.inside.budget ≡ c.args.self.now.budget = ap (λ (g : Grown). g.budget) c.self.view_is in
     let more : c.args.self.now.budget < length c.args.self.now.nodes + length (children_at c.args.self.now c.args.node) = omega (arith, count, nodes, budget, c.if-len-made.false) in
-    λ actor cutoff. c.mark.ensures.change actor cutoff ∙ ap (grown c.args.self.now) (sym (settles_by_mark c.args.self.now actor c.args.node cutoff more))
+    c.mark.ensures.change c.args.actor c.args.cutoff ∙ ap (grown c.args.self.now) (sym (settles_by_mark c.args.self.now c.args.actor c.args.node c.args.cutoff more))
+
+pub returns-then-len-made-clause-entry : goal.returns-then-len-made-clause-entry
+returns-then-len-made-clause-entry c =
+    let p = c.next_gate-may_open.result.0 in
+    let made : c.if-may_open.made ≡ length (child_words (word_of p) c.next_gate-may_open.result.1) = elim c.if-may_open.branch [
+      | then-may_open w ↦ w.made-is ∙ sym (ap (λ (b : Bool). length (child_words (word_of p) b)) w.if-may_open.true)
+      | else-may_open w ↦ w.made-is ∙ sym (ap (λ (b : Bool). length (child_words (word_of p) b)) w.if-may_open.false)
+    ] in
+    let count : length (children_at c.args.self.now c.args.node) ≡ c.if-may_open.made = ap length c.next_gate-may_open.ensures.children ∙ sym made in
+    let nodes : c.len.result ≡ length c.args.self.now.nodes = c.len.ensures ∙ c.self.inside.nodes.ok.0 ∙ ap (λ (g : Grown). length g.nodes) c.self.view_is in
+    let budget : c.self.inside.budget ≡ c.args.self.now.budget = ap (λ (g : Grown). g.budget) c.self.view_is in
+    let fits : length c.args.self.now.nodes + length (children_at c.args.self.now c.args.node) ≤ c.args.self.now.budget = omega (arith, count, nodes, budget, c.if-len-made.true) in
+    sym (ap in_journal (settles_by_branch c.args.self.now c.args.actor c.args.node c.args.cutoff fits))
+
+pub returns-else-len-made-clause-entry : goal.returns-else-len-made-clause-entry
+returns-else-len-made-clause-entry c =
+    let p = c.next_gate-may_open.result.0 in
+    let made : c.if-may_open.made ≡ length (child_words (word_of p) c.next_gate-may_open.result.1) = elim c.if-may_open.branch [
+      | then-may_open w ↦ w.made-is ∙ sym (ap (λ (b : Bool). length (child_words (word_of p) b)) w.if-may_open.true)
+      | else-may_open w ↦ w.made-is ∙ sym (ap (λ (b : Bool). length (child_words (word_of p) b)) w.if-may_open.false)
+    ] in
+    let count : length (children_at c.args.self.now c.args.node) ≡ c.if-may_open.made = ap length c.next_gate-may_open.ensures.children ∙ sym made in
+    let nodes : c.len.result ≡ length c.args.self.now.nodes = c.len.ensures ∙ c.self.inside.nodes.ok.0 ∙ ap (λ (g : Grown). length g.nodes) c.self.view_is in
+    let budget : c.self.inside.budget ≡ c.args.self.now.budget = ap (λ (g : Grown). g.budget) c.self.view_is in
+    let more : c.args.self.now.budget < length c.args.self.now.nodes + length (children_at c.args.self.now c.args.node) = omega (arith, count, nodes, budget, c.if-len-made.false) in
+    sym (ap in_journal (settles_by_mark c.args.self.now c.args.actor c.args.node c.args.cutoff more))

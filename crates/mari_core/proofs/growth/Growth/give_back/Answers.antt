@@ -1,4 +1,4 @@
-use Rattle.std.proofs.Common.{◌≡◌, Some, List, ap, sym, subst, ◌∙◌}
+use Rattle.std.proofs.Common.{arith, ◌≡◌, Some, List, ap, sym, subst, ◌∙◌}
 use Rattle.mari_core.specs.declared.node.NodeState.TheVariants.{Taken}
 use Rattle.mari_core.specs.Nodes.{TreeNode, state_at}
 use Rattle.mari_core.specs.Growth.{Grown, IsNext}
@@ -12,6 +12,7 @@ invariant_of-self c =
       entry_kept_by _ (GiveBack c.args.actor c.args.node) c.set_state.new.nodes.items c.self.invariant.0 taken c.set_state.ensures.nodes,
       subst (λ (ns : List TreeNode). IsNext ns c.min-self-inside.result) (sym c.set_state.ensures.nodes)
           (next_back c.self.inside.nodes.items c.args.node c.self.inside.next c.min-self-inside.result (within_nodes c.self.inside.nodes.items c.args.node (Taken c.args.actor) taken) c.min-self-inside.ensures c.self.invariant.1),
+      omega (arith, c.self.invariant.2, c.set_state.ensures.room),
     )
 
 pub returns-clause-facts : goal.returns-clause-facts

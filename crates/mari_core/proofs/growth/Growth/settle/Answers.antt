@@ -1,5 +1,5 @@
 use Rattle.std.proofs.Common.{ap, sym, ◌∙◌}
-use Rattle.mari_core.specs.Growth.{grown, settling_by}
+use Rattle.mari_core.specs.Growth.{grown, in_journal, settling_by}
 use Rattle.mari_core.proofs.Entries.{return_passes}
 use Rattle.mari_core.proofs.Settling.{may_close, may_branch}
 use Rattle.mari_core.proofs.growth.Growth.settle.Goals as goal
@@ -20,3 +20,7 @@ branch_or_mark-requires c = record {
 pub returns-in-Some-clause-change : goal.returns-in-Some-clause-change
 returns-in-Some-clause-change c =
     c.close.ensures.change c.args.actor ∙ ap (λ o. grown c.args.self.now (settling_by c.args.self.now c.args.actor c.args.node c.args.cutoff o)) (sym (sym c.closing_leaf.ensures ∙ c.in-Some.is))
+
+pub returns-in-Some-clause-entry : goal.returns-in-Some-clause-entry
+returns-in-Some-clause-entry c =
+    ap (λ o. in_journal (settling_by c.args.self.now c.args.actor c.args.node c.args.cutoff o)) (sym (sym c.closing_leaf.ensures ∙ c.in-Some.is))

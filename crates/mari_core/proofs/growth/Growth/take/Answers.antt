@@ -26,6 +26,7 @@ invariant_of-self c =
     let waits : state_at c.self.inside.nodes.items c.args.node ≡ Some Untaken = ap (λ (g : Grown). state_at g.nodes c.args.node) c.self.view_is ∙ take_passes _ c.in_ok-check_untaken.ensures.answer in (
       entry_kept_by _ (Take c.args.actor c.args.node) c.set_state.new.nodes.items c.self.invariant.0 waits c.set_state.ensures.nodes,
       subst (λ (ns : List TreeNode). IsNext ns c.next_untaken-self-inside.result) c.deref.ensures.value c.next_untaken-self-inside.ensures,
+      omega (arith, c.self.invariant.2, c.set_state.ensures.room),
     )
 
 pub returns-clause-facts : goal.returns-clause-facts

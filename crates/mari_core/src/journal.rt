@@ -1,0 +1,18 @@
+//! What was done to the nodes of a tree, entry by entry.
+
+/// An entry of a tree's journal: by which actor what was done to which node, and at which cutoff, in quarter-cents.
+///
+/// The certificate of a closed node stands in the tree and not in the journal.
+#[derive(Clone, Copy, Debug, Drop, PartialEq, Eq)]
+pub enum JournalEntry {
+    /// The actor took the node.
+    Take { actor: u32, node: u32 },
+    /// The node was closed by a certificate.
+    Close { actor: u32, node: u32, cutoff: u64 },
+    /// The children of the node were made.
+    Branch { actor: u32, node: u32, cutoff: u64 },
+    /// The node was put back for want of budget.
+    Full { actor: u32, node: u32, cutoff: u64 },
+    /// The actor gave the node back.
+    GiveBack { actor: u32, node: u32 },
+}

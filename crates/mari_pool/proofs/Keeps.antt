@@ -1,0 +1,150 @@
+-- What always holds of a pool is kept by an entry, and where seats meet.
+use Rattle.std.proofs.Common.{◌≡◌, Bool, true, false, ℕ, ◌+◌, ◌*◌, ◌-◌, ◌<◌, ◌≤◌, max, pos, List, [], ◌∷◌, ◌++◌, length, Some, arith, refl, sym, ap, subst, ◌∙◌, length-append, zero, suc, replicate, get_or}
+use Rattle.std.specs.Prelude.{slice_get, IfSome, ◌≤ℤ◌}
+use Rattle.std.proofs.lemmas.Int.{ints}
+use Rattle.std.proofs.lemmas.List.{length-replicate}
+use Rattle.std.proofs.lemmas.Option.{slice_get_within, slice_get-get_or, get_or_from_slice_get}
+use Rattle.mari_market.specs.declared.market.Market.{Market}
+use Rattle.mari_market.specs.declared.finding.Finding.{Finding}
+use Rattle.mari_core.specs.declared.node.NodeState.TheVariants.{Untaken, Taken}
+use Rattle.mari_core.specs.declared.journal.JournalEntry.{JournalEntry}
+use Rattle.mari_core.specs.Nodes.{TreeNode, new_node, words_of, state_at}
+use Rattle.mari_core.specs.Growth.{Grown, Entry, seed, grown, settling, in_journal, IsAllowed, IsCutoff, IsGrowth, IsEntryCutAt, LeadsTo, closing_leaf, MaySettle}
+use Rattle.mari_core.specs.Growth.Entry.{Take, Close, Branch, Full, GiveBack}
+use Rattle.mari_core.specs.declared.journal.JournalEntry.TheVariants as journal
+use Rattle.mari_pool.specs.declared.ticket.Settled.TheVariants as settled
+use Rattle.mari_core.proofs.Entries.{entry_kept}
+use Rattle.mari_core.proofs.EventsKept.{settle_allowed}
+use Rattle.mari_core.proofs.Machines.{grown_market, settling_cut}
+use Rattle.mari_core.proofs.Changes.{length-with_state}
+use Rattle.mari_core.proofs.Journals.{grown_budget, leads_on, leads_above, leads_nowhere}
+use Rattle.mari_core.proofs.Seeds.{seed_by}
+use Rattle.mari_market.specs.Market.{IsValid}
+use Rattle.mari_market.specs.Relaxation.{IsClosedWelfare}
+use Rattle.mari_incumbent.specs.Word.{WordId, Standing, standing}
+use Rattle.mari_pool.specs.Pooled.{Pooled, IsPool, unreturned, owed, entered, meeting, settled_with, answer_of}
+use Rattle.mari_pool.proofs.Rooms.{IsPaid, entry_paid, settling_paid, unreturned_all, owed_more}
+
+-- the journal has room for an entry that is paid
+pub has_room : (m : Market) (budget workers : ℕ) (word : WordId) (p : Pooled) (e : Entry) (after : ℕ) → IsPool m budget workers word p → IsAllowed p.tree e → IsPaid p.tree e (unreturned p.returned) after → length p.journal < p.room
+has_room m budget workers word p e after h may paid = omega (arith, entry_paid p.tree e (unreturned p.returned) after h.grows.within_budget may paid, h.room_is)
+
+-- a pool of these parts
+abbrev pub pool_of : Grown → List JournalEntry → ℕ → List ℕ → List Bool → Standing → Pooled
+pool_of tree journal room turns returned seat = record { tree = tree; journal = journal; room = room; turns = turns; returned = returned; seat = seat }
+
+-- an entry for which there is room keeps what holds
+pub entry_keeps_by : (m : Market) (budget workers : ℕ) (word : WordId) (p : Pooled) (e : Entry) (turns : List ℕ) (returned : List Bool) → IsPool m budget workers word p → IsAllowed p.tree e → length p.journal + 1 + owed (grown p.tree e) returned ≤ p.room → IsEntryCutAt p.seat.seen e → length turns ≡ length p.turns → length returned ≡ length p.returned → IsPool m budget workers word (pool_of (grown p.tree e) (p.journal ++ in_journal e ∷ []) p.room turns returned p.seat)
+entry_keeps_by m budget workers word p e turns returned h may room cut t r = record {
+  market_is = grown_market p.tree e ∙ h.market_is;
+  budget_is = grown_budget p.tree e ∙ h.budget_is;
+  grows = entry_kept p.tree e h.grows may;
+  leads = leads_on p.journal p.seat.seen p.tree e h.leads may cut;
+  closed = h.closed;
+  seat_word = h.seat_word;
+  seat_parts = h.seat_parts;
+  seat_offered = h.seat_offered;
+  room_is = omega (arith, room, length-append p.journal (in_journal e ∷ []));
+  turns_are = t ∙ h.turns_are;
+  returned_are = r ∙ h.returned_are;
+}
+
+-- a paid entry keeps what holds
+pub entry_keeps : (m : Market) (budget workers : ℕ) (word : WordId) (p : Pooled) (e : Entry) (turns : List ℕ) (returned : List Bool) → IsPool m budget workers word p → IsAllowed p.tree e → IsPaid p.tree e (unreturned p.returned) (unreturned returned) → IsEntryCutAt p.seat.seen e → length turns ≡ length p.turns → length returned ≡ length p.returned → IsPool m budget workers word (pool_of (grown p.tree e) (p.journal ++ in_journal e ∷ []) p.room turns returned p.seat)
+entry_keeps m budget workers word p e turns returned h may paid cut t r =
+    entry_keeps_by m budget workers word p e turns returned h may (omega (arith, entry_paid p.tree e (unreturned p.returned) (unreturned returned) h.grows.within_budget may paid, h.room_is)) cut t r
+
+-- how much is owed once a taken node is put back
+pub back_owed : (g : Grown) (k x : ℕ) (returned : List Bool) → IsGrowth g → state_at g.nodes x ≡ Some (Taken k) → owed (grown g (GiveBack k x)) returned ≤ owed g returned + 1
+back_owed g k x returned grows taken = omega (arith, entry_paid g (GiveBack k x) (unreturned returned + 1) (unreturned returned) grows.within_budget taken refl, owed_more g (unreturned returned))
+
+-- where the pool's seat sees more
+pub meeting_keeps : (m : Market) (budget workers : ℕ) (word : WordId) (p : Pooled) (seen : ℕ) → IsPool m budget workers word p → IsPool m budget workers word (meeting p seen)
+meeting_keeps m budget workers word p seen h = record {
+  market_is = h.market_is;
+  budget_is = h.budget_is;
+  grows = h.grows;
+  leads = leads_above p.journal p.seat.seen (max p.seat.seen seen) p.tree (omega arith) h.leads;
+  closed = h.closed;
+  seat_word = h.seat_word;
+  seat_parts = h.seat_parts;
+  seat_offered = h.seat_offered;
+  room_is = h.room_is;
+  turns_are = h.turns_are;
+  returned_are = h.returned_are;
+}
+
+may_settle_node : (m : Market) (seen : ℕ) (f : Finding) (word : List Bool) (nodes : List TreeNode) (x : ℕ) → slice_get (words_of nodes) x ≡ Some word → MaySettle m seen f (new_node word) → IfSome (slice_get nodes x) (MaySettle m seen f)
+may_settle_node m seen f word [] x e may = absurd (cc)
+may_settle_node m seen f word (n ∷ ns) zero e may =
+    let same : n.word ≡ word = cc in
+    subst (λ w. MaySettle m seen f n) same (subst (λ w. MaySettle m seen f (record { word = w; state = n.state })) (sym same) record { finding_is = may.finding_is; reached = may.reached })
+may_settle_node m seen f word (n ∷ ns) (suc x) e may = may_settle_node m seen f word ns x e may
+
+-- a seat of the word has seen a cutoff
+pub seat_cutoff : (m : Market) (budget workers : ℕ) (word : WordId) (p : Pooled) (seen : ℕ) → IsPool m budget workers word p → word.first ≤ seen → IsCutoff p.tree.market seen
+seat_cutoff m budget workers word p seen h l = subst (λ (n : Market). IsCutoff n seen) (sym h.market_is) record { closed = pos word.first; is_closed = h.closed; above = omega (arith, ints, l) }
+
+-- to settle a taken node is allowed
+pub may_settle : (m : Market) (budget workers : ℕ) (word : WordId) (p : Pooled) (k x seen : ℕ) (f : Finding) (gates : List Bool) → IsPool m budget workers word p → word.first ≤ seen → state_at p.tree.nodes x ≡ Some (Taken k) → slice_get (words_of p.tree.nodes) x ≡ Some gates → MaySettle m seen f (new_node gates) → IsAllowed p.tree (settling p.tree k x seen f)
+may_settle m budget workers word p k x seen f gates h l taken at may =
+    settle_allowed p.tree k x seen f h.grows (seat_cutoff m budget workers word p seen h l)
+    (may_settle_node p.tree.market seen f gates p.tree.nodes x at (subst (λ (n : Market). MaySettle n seen f (new_node gates)) (sym h.market_is) may)) taken
+
+-- a pool of the same parts
+pub pool_same : (m : Market) (budget workers : ℕ) (word : WordId) (t t' : Grown) (j j' : List JournalEntry) (r r' : ℕ) (turns : List ℕ) (returned : List Bool) (s s' : Standing) → t' ≡ t → j' ≡ j → r' ≡ r → s' ≡ s → IsPool m budget workers word (pool_of t j r turns returned s) → IsPool m budget workers word (pool_of t' j' r' turns returned s')
+pool_same m budget workers word t t' j j' r r' turns returned s s' et ej er es h = rw (et, ej, er, es) h
+
+-- the seats meet, and a taken node is settled
+pub settle_keeps : (m : Market) (budget workers : ℕ) (word : WordId) (p : Pooled) (k x seen : ℕ) (f : Finding) → IsPool m budget workers word p → IsAllowed p.tree (settling p.tree k x seen f) → IsPool m budget workers word (settled_with p k x seen f)
+settle_keeps m budget workers word p k x seen f h may =
+    entry_keeps m budget workers word (meeting p seen) (settling p.tree k x seen f) p.turns p.returned (meeting_keeps m budget workers word p seen h) may (settling_paid p.tree k x seen (unreturned p.returned) (closing_leaf seen f)) (settling_cut p.tree k x seen (max p.seat.seen seen) f (omega arith)) refl refl
+
+-- ---- what became of a node
+
+pub answer_close : (g : Grown) (e : Entry) (a b c : ℕ) → in_journal e ≡ journal.Close a b c → answer_of g e ≡ settled.Closed
+answer_close g (Take k x) a b c e = absurd (cc)
+answer_close g (Close k x leaf cutoff) a b c e = refl
+answer_close g (Branch k x cutoff) a b c e = absurd (cc)
+answer_close g (Full k x cutoff) a b c e = absurd (cc)
+answer_close g (GiveBack k x) a b c e = absurd (cc)
+
+pub answer_branch : (g : Grown) (e : Entry) (a b c : ℕ) → in_journal e ≡ journal.Branch a b c → answer_of g e ≡ settled.Branched
+answer_branch g (Take k x) a b c e = absurd (cc)
+answer_branch g (Close k x leaf cutoff) a b c e = absurd (cc)
+answer_branch g (Branch k x cutoff) a b c e = refl
+answer_branch g (Full k x cutoff) a b c e = absurd (cc)
+answer_branch g (GiveBack k x) a b c e = absurd (cc)
+
+pub answer_full : (g : Grown) (e : Entry) (a b c : ℕ) → in_journal e ≡ journal.Full a b c → answer_of g e ≡ settled.Full (length (grown g e).nodes)
+answer_full g (Take k x) a b c e = absurd (cc)
+answer_full g (Close k x leaf cutoff) a b c e = absurd (cc)
+answer_full g (Branch k x cutoff) a b c e = absurd (cc)
+answer_full g (Full k x cutoff) a b c e = ap (λ (n : ℕ). settled.Full n) (sym (length-with_state Untaken g.nodes x))
+answer_full g (GiveBack k x) a b c e = absurd (cc)
+
+-- ---- the start
+
+pub start_keeps : (m n : Market) (b budget w workers : ℕ) (word : WordId) (t : Grown) (j : List JournalEntry) (room : ℕ) (turns : List ℕ) (returned : List Bool) (seat : Standing) → m ≡ n → b ≡ budget → w ≡ workers → IsValid m → (1 ≤ b) × (b ≤ 50000) → seat.word ≡ word → seat.parts ≡ 1 → seat.offered ≡ word.first → IsClosedWelfare m (pos word.first) → t ≡ seed m b → j ≡ [] → 2 * b + 2 * w + 2 ≤ room → turns ≡ replicate b 0 → returned ≡ replicate (w + 1) false → IsPool n budget workers word (pool_of t j room turns returned seat)
+start_keeps m n b budget w workers word t j room turns returned seat em eb ew valid few sw sp so closed et ej er eturns ereturned =
+    subst (λ (k : Market). IsPool k budget workers word (pool_of t j room turns returned seat)) em (rw (et, ej, eturns, ereturned) (record {
+      market_is = refl;
+      budget_is = eb;
+      grows = (seed_by m b [] refl valid few).0;
+      leads = leads_nowhere seat.seen m b;
+      closed = closed;
+      seat_word = sw;
+      seat_parts = sp;
+      seat_offered = so;
+      room_is = omega (arith, unreturned_all (w + 1), er, few.0);
+      turns_are = length-replicate b 0 ∙ eb;
+      returned_are = length-replicate (w + 1) false ∙ ap (λ (k : ℕ). k + 1) ew;
+    }))
+
+-- ---- worker numbers
+
+pub not_returned : (bs : List Bool) (k : ℕ) (b : Bool) → k < length bs → b ≡ get_or bs k b → b ≡ false → slice_get bs k ≡ Some false
+not_returned bs k b l e f = slice_get-get_or bs k b l ∙ ap (λ (c : Bool). Some c) (sym e ∙ f)
+
+pub not_again : (bs : List Bool) (k : ℕ) (b : Bool) → b ≡ get_or bs k b → b ≡ false → slice_get bs k ≡ Some true → ⊥
+not_again bs k b e f g = let t : get_or bs k b ≡ true = get_or_from_slice_get bs k true b g in absurd (cc)

@@ -1,0 +1,53 @@
+use Rattle.std.proofs.Common.{◌≡◌, ℕ, ◌+◌, ◌-◌, ◌*◌, ◌<◌, ◌≤◌, false, true, Some, List, [], ◌∷◌, ◌++◌, Bool, length, set, length-set, arith, refl, sym, ap, subst, ◌∙◌}
+use Rattle.std.specs.Prelude.{vec_capacity, slice_get, slice_set}
+use Rattle.mari_market.specs.Prefix.{word_of}
+use Rattle.mari_core.specs.declared.journal.JournalEntry.{JournalEntry}
+use Rattle.mari_core.specs.declared.node.NodeState.TheVariants.{Untaken, Taken}
+use Rattle.mari_core.specs.Nodes.{state_at}
+use Rattle.mari_core.specs.Growth.{Grown, Entry, grown, in_journal, IsAllowed}
+use Rattle.mari_core.specs.Growth.Entry.{Take, GiveBack}
+use Rattle.mari_core.proofs.Entries.{within_nodes}
+use Rattle.mari_pool.specs.Pooled.{Pooled, IsTakenAt, unreturned, owed, taken_among}
+use Rattle.mari_pool.proofs.Rooms.{taken_after, taken_few, unreturned_set}
+use Rattle.mari_pool.proofs.Keeps.{pool_of, pool_same, has_room, entry_keeps, entry_keeps_by, back_owed, not_returned, not_again}
+use Rattle.mari_pool.proofs.pool.Pool.give_back.Goals as goal
+
+pub push_reserved-requires : goal.push_reserved-requires
+push_reserved-requires g c =
+    let p = pool_of c.self.inside.tree c.self.inside.journal.items (vec_capacity c.self.inside.journal) c.self.inside.turns.items c.self.inside.returned.items c.self.inside.seat in
+    let e = GiveBack c.args.ticket.worker c.args.ticket.node in
+    let fresh = subst (λ (q : Pooled). IsTakenAt q c.args.ticket.node c.args.ticket.turn c.args.ticket.worker (word_of c.args.ticket.prefix)) (sym c.self.view_is) (c.is_fresh.ensures.0 c.if-not-is_fresh.false) in
+    let may : IsAllowed c.self.inside.tree e = fresh.taken in
+    let first : slice_get c.self.inside.returned.items c.args.ticket.worker ≡ Some false = not_returned c.self.inside.returned.items c.args.ticket.worker c.index.result.now (omega (arith, c.args.ticket.numbered, c.self.invariant.0.returned_are)) c.index.ensures c.if-index.false in
+    let paid = unreturned_set c.self.inside.returned.items c.args.ticket.worker first in
+    let room = has_room g.N.SearchName.market g.N.SearchName.budget g.N.SearchName.workers g.N.SearchName.word p e (unreturned (set c.self.inside.returned.items c.args.ticket.worker true)) c.self.invariant.0 may paid in
+    omega (arith, room, c.self.inside.journal.ok.0)
+
+pub overflow_sub-self : goal.overflow_sub-self
+overflow_sub-self g c =
+    let p = pool_of c.self.inside.tree c.self.inside.journal.items (vec_capacity c.self.inside.journal) c.self.inside.turns.items c.self.inside.returned.items c.self.inside.seat in
+    let e = GiveBack c.args.ticket.worker c.args.ticket.node in
+    let fresh = subst (λ (q : Pooled). IsTakenAt q c.args.ticket.node c.args.ticket.turn c.args.ticket.worker (word_of c.args.ticket.prefix)) (sym c.self.view_is) (c.is_fresh.ensures.0 c.if-not-is_fresh.false) in
+    let may : IsAllowed c.self.inside.tree e = fresh.taken in
+    let first : slice_get c.self.inside.returned.items c.args.ticket.worker ≡ Some false = not_returned c.self.inside.returned.items c.args.ticket.worker c.index.result.now (omega (arith, c.args.ticket.numbered, c.self.invariant.0.returned_are)) c.index.ensures c.if-index.false in
+    let paid = unreturned_set c.self.inside.returned.items c.args.ticket.worker first in
+    omega (arith, taken_after c.self.inside.tree e may, c.self.invariant.1)
+
+pub invariant_of-self : goal.invariant_of-self
+invariant_of-self g c =
+    let p = pool_of c.self.inside.tree c.self.inside.journal.items (vec_capacity c.self.inside.journal) c.self.inside.turns.items c.self.inside.returned.items c.self.inside.seat in
+    let e = GiveBack c.args.ticket.worker c.args.ticket.node in
+    let fresh = subst (λ (q : Pooled). IsTakenAt q c.args.ticket.node c.args.ticket.turn c.args.ticket.worker (word_of c.args.ticket.prefix)) (sym c.self.view_is) (c.is_fresh.ensures.0 c.if-not-is_fresh.false) in
+    let may : IsAllowed c.self.inside.tree e = fresh.taken in
+    let first : slice_get c.self.inside.returned.items c.args.ticket.worker ≡ Some false = not_returned c.self.inside.returned.items c.args.ticket.worker c.index.result.now (omega (arith, c.args.ticket.numbered, c.self.invariant.0.returned_are)) c.index.ensures c.if-index.false in
+    let paid = unreturned_set c.self.inside.returned.items c.args.ticket.worker first in
+    let change : c.give_back.new.self ≡ grown c.self.inside.tree e = c.in-Ok.ensures.change in (
+      pool_same g.N.SearchName.market g.N.SearchName.budget g.N.SearchName.workers g.N.SearchName.word (grown c.self.inside.tree e) c.give_back.new.self (c.self.inside.journal.items ++ in_journal e ∷ []) c.push_reserved.new.self.items (vec_capacity c.self.inside.journal) (vec_capacity c.push_reserved.new.self) c.self.inside.turns.items (set c.self.inside.returned.items c.args.ticket.worker true) c.self.inside.seat c.self.inside.seat
+          change c.push_reserved.ensures.items c.push_reserved.ensures.capacity refl
+          (entry_keeps g.N.SearchName.market g.N.SearchName.budget g.N.SearchName.workers g.N.SearchName.word p e c.self.inside.turns.items (set c.self.inside.returned.items c.args.ticket.worker true) c.self.invariant.0 may paid tt refl (length-set c.self.inside.returned.items c.args.ticket.worker true)),
+      omega (arith, ap (λ (t : Grown). taken_among t.nodes) change, taken_after c.self.inside.tree e may, c.self.invariant.1),
+    )
+
+pub returns-clause-again : goal.returns-clause-again
+returns-clause-again g c = λ again.
+    absurd (not_again c.self.inside.returned.items c.args.ticket.worker c.index.result.now c.index.ensures c.if-index.false (ap (λ (q : Pooled). slice_get q.returned c.args.ticket.worker) c.self.view_is ∙ again))

@@ -1,0 +1,32 @@
+//! The name of a search.
+
+use std::marker::Brand;
+
+/// One search: its word, its market, its budget of nodes, and the numbers of its workers, which are those up to `workers`.
+///
+/// Each search picks its own. The pool and its tickets carry it, so that what is done under the lock speaks of one search.
+pub trait SearchName {
+    ghost use Rattle.std.specs.Prelude.{ℕ};
+    ghost use Rattle.mari_market.specs.declared.market.Market.{Market};
+    ghost use Rattle.mari_incumbent.specs.Word.{WordId};
+
+    ghost word: { WordId };
+
+    ghost market: { Market };
+
+    ghost budget: { ℕ };
+
+    ghost workers: { ℕ };
+}
+
+impl SearchName for Brand {
+    ghost use Rattle.mari_pool.specs.Name.{no_word, no_market};
+
+    ghost word = { no_word };
+
+    ghost market = { no_market };
+
+    ghost budget = { 1 };
+
+    ghost workers = { 1 };
+}

@@ -1,0 +1,1 @@
+//! The pool on small markets.

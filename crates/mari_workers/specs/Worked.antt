@@ -1,0 +1,25 @@
+-- What a worker has when it ends.
+use Rattle.std.specs.Prelude.{◌≡◌, ◌≤◌, ℕ, Option, IfSome}
+use Rattle.mari_market.specs.declared.market.Market.{Market}
+use Rattle.mari_market.specs.declared.finding.Finding.{Finding}
+use Rattle.mari_core.specs.Machine.{IsBest}
+use Rattle.mari_incumbent.specs.Word.{WordId, Standing}
+use Rattle.mari_workers.specs.declared.worker.Worked.{Worked}
+use Rattle.mari_workers.specs.Alone.{best_in}
+
+-- a seat of the word, of one part, by which nothing was offered
+abbrev pub IsFresh : WordId → Standing → Type 0
+IsFresh word seat = (seat.word ≡ word) × (seat.parts ≡ 1) × (seat.offered ≡ word.first)
+
+-- a seat of the word, and the best of what was offered by it: none exactly where nothing was
+pub record Holds (m : Market) (word : WordId) (w : Worked) : Type 0 where
+  pub word_is : w.seat.word ≡ word
+  pub best : IsBest m word.first w.seat.offered w.best
+
+-- the same with one part, as a worker hands it back
+abbrev pub IsWorked : Market → WordId → Worked → Type 0
+IsWorked m word w = Holds m word w × (w.seat.parts ≡ 1)
+
+-- what a finding has was seen
+abbrev pub IsSeen : ℕ → Finding → Type 0
+IsSeen seen finding = IfSome (best_in finding) (λ best. best.welfare ≤ seen)

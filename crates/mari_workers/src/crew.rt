@@ -1,0 +1,25 @@
+//! Several workers as a clearer.
+
+use mari_market::{Cleared, Clearer, Market};
+use std::alloc::Global;
+
+/// Clears markets by a call that does so, as a closure that calls `search` with a turnstile of the caller's.
+///
+/// It is a closure, since what a search sends to its threads must be known where the threads' handle is.
+#[derive(Drop)]
+pub struct Crew<F: Fn(Global, &Market, u32) -> Cleared> {
+    pub run: F,
+}
+
+impl<F: Fn(Global, &Market, u32) -> Cleared> Clearer for Crew<F> {
+    ghost use Rattle.std.specs.Prelude.{◌≤◌, ℕ};
+    ghost use Rattle.mari_market.specs.Market.{IsValid};
+    ghost use Rattle.mari_market.specs.Clearing.{Clears};
+
+    // Whatever market and budget may be cleared, the call may be made, and clears.
+    ghost ready = { λ c. (a : _) (m : _) (b : ℕ) → IsValid m.now → (1 ≤ b) × (b ≤ 50000) → F.pre c.run a m b × ((r : _) → F.post c.run a m b r → Clears m.now b r) };
+
+    fn clear(&mut self, alloc: Global, market: &Market, budget: u32) -> Cleared {
+        (self.run)(alloc, market, budget)
+    }
+}

@@ -1,0 +1,273 @@
+//! The search of several workers.
+
+ghost use Rattle.std.specs.Prelude.{◌≡◌, ℕ, ◌+◌, ◌-◌, ◌<◌, ◌≤◌, pos, true, false, IfOk, slice_index_or, vec_len};
+ghost use Rattle.mari_core.specs.Machine.{IsBest};
+ghost use Rattle.mari_incumbent.specs.Word.{standing};
+ghost use Rattle.mari_market.specs.Activation.{gate_word_of};
+ghost use Rattle.mari_market.specs.Clearing.{Clears};
+ghost use Rattle.mari_market.specs.Finding.{IsAttained};
+ghost use Rattle.mari_market.specs.Market.{IsValid};
+ghost use Rattle.mari_market.specs.Relaxation.{all_closed, IsClosedWelfare};
+ghost use Rattle.mari_pool.specs.Taking.{IsIdle};
+ghost use Rattle.mari_workers.specs.Refine.{MayRefine};
+ghost use Rattle.mari_workers.specs.Together.{IsJob};
+ghost use Rattle.mari_workers.specs.Worked.{Holds, IsFresh, IsWorked};
+
+use crate::first::first_of;
+use crate::refining::refine;
+use crate::turnstile::{FreeTurnstile, Turnstile};
+use crate::worker::{Worked, visit, work};
+use crossbeam_utils::CachePadded;
+use mari_incumbent::{Incumbent, Seat};
+use mari_market::{Attained, Cleared, Clearing, Market, Spent};
+use mari_pool::{Pool, PoolFault, SearchName, Took};
+use mari_units::{Items, Memory};
+use std::alloc::{AllocError, Global};
+use std::marker::Brand;
+use std::sync::{Condvar, Mutex, Wait};
+use std::thread;
+use std::thread::Threads;
+
+/// What a worker starts with.
+#[derive(Drop)]
+pub(crate) struct Job {
+    worker: u32,
+    seat: Seat,
+}
+
+/// A seat of one part for each worker.
+fn jobs_of(
+    alloc: Global,
+    incumbent: &Incumbent,
+    mine: &mut Seat,
+    workers: u32,
+) -> Result<Vec<Job>, AllocError>
+    requires { (mine.old.word ≡ incumbent.now) × (workers < mine.old.parts) }
+    ensures len { IfOk result (λ v. vec_len v ≡ workers) }
+    ensures jobs { IfOk result (λ v. (i : ℕ) (d : _) → i < workers → IsJob incumbent.now workers (slice_index_or v.items i d)) }
+    ensures mine { IfOk result (λ _. mine.new ≡ standing incumbent.now mine.old.seen mine.old.offered (mine.old.parts - workers)) }
+{
+    let mut jobs = Vec::with_capacity(alloc, workers as usize)?;
+    for worker in 0..workers {
+        let seat = incumbent.split(mine);
+        jobs.push(Job { worker, seat })?;
+    }
+    Ok(jobs)
+}
+
+/// Runs each job in a thread of its own.
+fn run_all<'m, N: SearchName + Send + Sync, G: Turnstile, R: Threads + Wait + Sync>(
+    rt: &R,
+    alloc: Global,
+    market: &Market,
+    pool: &Mutex<Pool<'m, N>>,
+    bell: &Condvar,
+    incumbent: &Incumbent,
+    jobs: Vec<Job>,
+    turnstile: &G,
+) -> Result<Vec<Worked>, AllocError>
+    requires market { (market.now ≡ N.market) × IsValid market.now }
+    requires word { incumbent.now ≡ N.word }
+    requires jobs { (i : ℕ) (d : _) → i < vec_len jobs → IsJob N.word N.workers (slice_index_or jobs.items i d) }
+    ensures len { IfOk result (λ v. vec_len v ≡ vec_len jobs) }
+    ensures each { IfOk result (λ v. (i : ℕ) (d : _) → i < vec_len v → IsWorked N.market N.word (slice_index_or v.items i d)) }
+{
+    let each = |job: Job| -> Worked
+        requires { (market.now ≡ N.market) × IsValid market.now × (incumbent.now ≡ N.word) × IsJob N.word N.workers job }
+        ensures { IsWorked N.market N.word result }
+    {
+        let Job { worker, seat } = job;
+        work(
+            rt, alloc, market, worker, pool, bell, incumbent, seat, turnstile,
+        )
+    };
+    thread::map_vec(rt, jobs, &each)
+}
+
+/// Joins a worker's seat, and keeps the better best.
+fn take_in(market: &Market, incumbent: &Incumbent, mine: &mut Worked, other: Worked)
+    requires mine { Holds market.now incumbent.now mine.old }
+    requires other { Holds market.now incumbent.now other }
+    ensures mine { Holds market.now incumbent.now mine.new }
+    ensures parts { mine.new.seat.parts ≡ mine.old.seat.parts + other.seat.parts }
+{
+    let Worked { seat, best } = other;
+    if mine.seat.offered() < seat.offered() {
+        mine.best = best;
+    }
+    incumbent.join(&mut mine.seat, seat);
+}
+
+/// Joins the seats of all workers, and keeps the best of all.
+fn gather(market: &Market, incumbent: &Incumbent, mine: &mut Worked, mut worked: Vec<Worked>)
+    requires mine { Holds market.now incumbent.now mine.old }
+    requires worked { (i : ℕ) (d : _) → i < vec_len worked → IsWorked market.now incumbent.now (slice_index_or worked.items i d) }
+    ensures mine { Holds market.now incumbent.now mine.new }
+    ensures parts { mine.new.seat.parts ≡ mine.old.seat.parts + vec_len worked }
+{
+    while let Some(one) = worked.pop() {
+        take_in(market, incumbent, mine, one);
+    }
+}
+
+/// Settles what is left of the tree. False where a node could not branch within the budget.
+fn settle_rest<'m, N: SearchName, R: Wait>(
+    rt: &R,
+    alloc: Global,
+    market: &Market,
+    worker: u32,
+    pool: &mut Pool<'m, N>,
+    incumbent: &Incumbent,
+    mine: &mut Worked,
+) -> Result<bool, Memory>
+    requires market { (market.now ≡ N.market) × IsValid market.now }
+    requires worker { worker ≤ N.workers }
+    requires word { incumbent.now ≡ N.word }
+    requires mine { Holds N.market N.word mine.old }
+    ensures mine { Holds N.market N.word mine.new }
+    ensures parts { mine.new.seat.parts ≡ mine.old.seat.parts }
+    ensures closed { IfOk result (λ closed. closed ≡ true → IsIdle pool.new pool.new 0) }
+    ensures spent { IfOk result (λ closed. closed ≡ false → pool.new.tree.full ≡ true) }
+{
+    let mut start = None;
+    for _ in rt.forever() {
+        match pool.take(worker) {
+            Took::Took(ticket) => {
+                let finding = visit(
+                    alloc,
+                    market,
+                    worker,
+                    &ticket.prefix,
+                    incumbent,
+                    mine,
+                    &FreeTurnstile,
+                    &mut start,
+                )?;
+                pool.settle(incumbent, ticket, finding, &mut mine.seat);
+            }
+            Took::Idle(_) => pool.reclaim()?,
+            Took::Finished => return Ok(true),
+            Took::Spent(_) => return Ok(false),
+        }
+    }
+    unreachable!()
+}
+
+/// The optimal clearing of a tree without open leaves: the word closes at the best that was offered.
+fn published<'m, N: SearchName>(
+    alloc: Global,
+    pool: Pool<'m, N>,
+    incumbent: Incumbent,
+    mine: Worked,
+    first: Attained,
+) -> Result<Clearing, Memory>
+    requires market { IsValid N.market }
+    requires word { incumbent ≡ N.word }
+    requires mine { Holds N.market N.word mine }
+    requires parts { mine.seat.parts + 1 ≡ N.word.all }
+    requires first { IsAttained N.market first × (first.welfare ≡ N.word.first) }
+    requires closed { IsClosedWelfare N.market (pos N.word.first) }
+    requires gates { gate_word_of N.market first.activation ≡ all_closed N.market }
+    requires idle { IsIdle pool pool 0 }
+    ensures { IfOk result (MayRefine N.market N.budget) }
+{
+    let tree = match pool.finish(alloc) {
+        Ok(tree) => tree,
+        Err(PoolFault::Memory) => return Err(Memory),
+        Err(PoolFault::NotClosed(_)) => unreachable!(),
+    };
+    let Worked { mut seat, best } = mine;
+    incumbent.join(&mut seat, pool.into_seat());
+    let welfare = incumbent.close(seat);
+    let best = best.unwrap_or(first);
+    Ok(Clearing {
+        activation: best.activation,
+        welfare,
+        tree: Items::of(tree),
+    })
+}
+
+/// Clears a market from the best activation with every gate closed, by a search of this name, and refines what is found.
+fn searched<N: SearchName + Send + Sync, G: Turnstile, R: Threads + Wait + Sync>(
+    rt: &R,
+    alloc: Global,
+    market: &Market,
+    workers: u32,
+    budget: u32,
+    incumbent: Incumbent,
+    seat: Seat,
+    first: Attained,
+    turnstile: &G,
+) -> Result<Cleared, Memory>
+    requires market { (market.now ≡ N.market) × IsValid market.now }
+    requires numbers { (workers ≡ N.workers) × (budget ≡ N.budget) }
+    requires workers { (1 ≤ workers) × (workers ≤ 16) }
+    requires budget { (1 ≤ budget) × (budget ≤ 50000) }
+    requires word { (incumbent ≡ N.word) × (N.word.all ≡ workers + 2) }
+    requires seat { seat ≡ standing N.word N.word.first N.word.first (workers + 2) }
+    requires first { IsAttained market.now first × (first.welfare ≡ N.word.first) }
+    requires closed { IsClosedWelfare market.now (pos first.welfare) }
+    requires gates { gate_word_of market.now first.activation ≡ all_closed market.now }
+    ensures { IfOk result (Clears market.now budget) }
+{
+    let mut mine = Worked { seat, best: None };
+    let pooled = incumbent.split(&mut mine.seat);
+    let pool = Mutex::new(Pool::<N>::start(alloc, market, budget, workers, pooled)?);
+    let bell = Condvar::new();
+    let jobs = jobs_of(alloc, &incumbent, &mut mine.seat, workers)?;
+    let padded = CachePadded::new(incumbent);
+    let worked = run_all::<N, G, R>(rt, alloc, market, &pool, &bell, &padded, jobs, turnstile)?;
+    let incumbent = padded.into_inner();
+    gather(market, &incumbent, &mut mine, worked);
+    let mut pool = pool.into_inner();
+    if settle_rest(rt, alloc, market, workers, &mut pool, &incumbent, &mut mine)? {
+        let found = published(alloc, pool, incumbent, mine, first)?;
+        return Ok(refine(alloc, market, found, budget));
+    }
+    let items = Items::of(pool.part(alloc)?);
+    Ok(Cleared::Spent(Spent { items }))
+}
+
+/// Names the search, and starts its word at the closed welfare, with a part for each worker, the pool and this thread.
+fn named<G: Turnstile, R: Threads + Wait + Sync>(
+    rt: &R,
+    alloc: Global,
+    market: &Market,
+    workers: u32,
+    budget: u32,
+    turnstile: &G,
+) -> Result<Cleared, Memory>
+    requires market { IsValid market.now }
+    requires workers { (1 ≤ workers) × (workers ≤ 16) }
+    requires budget { (1 ≤ budget) × (budget ≤ 50000) }
+    ensures { IfOk result (Clears market.now budget) }
+{
+    let first = first_of(alloc, market)?;
+    let (incumbent, seat) = Incumbent::start(alloc, first.welfare, u64::from(workers) + 2)?;
+    searched::<Brand, G, R>(
+        rt, alloc, market, workers, budget, incumbent, seat, first, turnstile,
+    )
+}
+
+/// Clears a market by branch and bound in 1 to 16 threads, within a budget of 1 to 50,000 nodes.
+///
+/// Workers take their findings from the turnstile, outside the lock. When all have ended this thread settles what is left by
+/// itself. The answer is as that of `search_alone`; it comes if every worker ends.
+pub fn search<G: Turnstile, R: Threads + Wait + Sync>(
+    rt: &R,
+    alloc: Global,
+    market: &Market,
+    workers: u32,
+    budget: u32,
+    turnstile: &G,
+) -> Cleared
+    requires market { IsValid market.now }
+    requires workers { (1 ≤ workers) × (workers ≤ 16) }
+    requires budget { (1 ≤ budget) × (budget ≤ 50000) }
+    ensures { Clears market.now budget result }
+{
+    match named(rt, alloc, market, workers, budget, turnstile) {
+        Ok(cleared) => cleared,
+        Err(Memory) => Cleared::Memory,
+    }
+}

@@ -1,0 +1,46 @@
+//! Where workers get their findings.
+
+ghost use Rattle.std.specs.Prelude.{IfOk};
+ghost use Rattle.mari_market.specs.Finding.{IsFinding};
+ghost use Rattle.mari_market.specs.Market.{IsValid};
+ghost use Rattle.mari_market.specs.Prefix.{word_of, IsFeasiblePrefix};
+ghost use Rattle.mari_node.specs.Nodes.{IsEmptyWhereNone};
+
+use mari_market::{Activation, Finding, Market, Prefix};
+use mari_node::examine_from;
+use mari_units::Memory;
+use std::alloc::Global;
+
+/// Whatever examines nodes for workers. It may hold a worker, and may find other potentials than `mari_node::examine`.
+pub trait Turnstile: Sync {
+    /// The finding of a node, as `mari_node::examine` promises it. What is left in `start` is free.
+    fn through(
+        &self,
+        alloc: Global,
+        worker: u32,
+        market: &Market,
+        prefix: &Prefix,
+        start: &mut Option<Activation>,
+    ) -> Result<Finding, Memory>
+        requires valid { IsValid market.now }
+        requires prefix { IsFeasiblePrefix market.now prefix.now }
+        ensures finding { IfOk result (IsFinding market.now (word_of prefix.now)) }
+        ensures empty { IfOk result (IsEmptyWhereNone market.now (word_of prefix.now)) };
+}
+
+/// Lets every worker through at once.
+#[derive(Clone, Copy, Debug)]
+pub struct FreeTurnstile;
+
+impl Turnstile for FreeTurnstile {
+    fn through(
+        &self,
+        alloc: Global,
+        _worker: u32,
+        market: &Market,
+        prefix: &Prefix,
+        start: &mut Option<Activation>,
+    ) -> Result<Finding, Memory> {
+        examine_from(alloc, market, prefix, start)
+    }
+}

@@ -1,0 +1,159 @@
+//! One worker's loop.
+
+ghost use Rattle.std.specs.Prelude.{◌≡◌, ◌<◌, ◌≤◌, IfOk, IfSome, OnOk};
+ghost use Rattle.mari_core.specs.Growth.{MaySettle};
+ghost use Rattle.mari_core.specs.Nodes.{new_node};
+ghost use Rattle.mari_market.specs.Finding.{IsAttained, IsFinding};
+ghost use Rattle.mari_market.specs.Market.{IsValid};
+ghost use Rattle.mari_market.specs.Prefix.{word_of, IsFeasiblePrefix};
+ghost use Rattle.mari_workers.specs.Alone.{best_in};
+ghost use Rattle.mari_workers.specs.Worked.{Holds, IsFresh, IsSeen};
+
+use crate::alone::{best_of, copy_of};
+use crate::turnstile::Turnstile;
+use mari_incumbent::{Incumbent, Seat};
+use mari_market::{Activation, Attained, Finding, Market, Prefix};
+use mari_pool::{Pool, SearchName, Took};
+use mari_units::Memory;
+use std::alloc::Global;
+use std::sync::{Condvar, Mutex, Wait};
+
+/// What a worker hands back: its seat, and the best activation that it offered, if it offered any above the word's first value.
+#[derive(Drop)]
+pub struct Worked {
+    pub seat: Seat,
+    pub best: Option<Attained>,
+}
+
+/// Offers an activation, and keeps a copy where it is better than all that was offered by this seat.
+fn offer(
+    market: &Market,
+    incumbent: &Incumbent,
+    worked: &mut Worked,
+    attained: &Attained,
+) -> Result<(), Memory>
+    requires holds { Holds market.now incumbent.now worked.old }
+    requires attained { IsAttained market.now attained.now }
+    ensures holds { Holds market.now incumbent.now worked.new }
+    ensures parts { worked.new.seat.parts ≡ worked.old.seat.parts }
+    ensures seen { OnOk result (attained.now.welfare ≤ worked.new.seat.seen) }
+{
+    let _seen = worked.seat.seen();
+    if worked.seat.offered() < attained.welfare {
+        let best = copy_of(attained)?;
+        incumbent.offer(&mut worked.seat, best.welfare);
+        worked.best = Some(best);
+    }
+    Ok(())
+}
+
+/// Offers the activation of a finding, if it has one.
+fn offer_found(
+    market: &Market,
+    incumbent: &Incumbent,
+    worked: &mut Worked,
+    finding: &Finding,
+) -> Result<(), Memory>
+    requires holds { Holds market.now incumbent.now worked.old }
+    requires attained { IfSome (best_in finding.now) (IsAttained market.now) }
+    ensures holds { Holds market.now incumbent.now worked.new }
+    ensures parts { worked.new.seat.parts ≡ worked.old.seat.parts }
+    ensures seen { OnOk result (IsSeen worked.new.seat.seen finding.now) }
+{
+    match best_of(finding) {
+        Some(best) => offer(market, incumbent, worked, best),
+        None => Ok(()),
+    }
+}
+
+/// Finds out about a node, and offers what was found. The node may be settled with that then, at what the seat saw.
+pub(crate) fn visit<G: Turnstile>(
+    alloc: Global,
+    market: &Market,
+    worker: u32,
+    prefix: &Prefix,
+    incumbent: &Incumbent,
+    worked: &mut Worked,
+    turnstile: &G,
+    start: &mut Option<Activation>,
+) -> Result<Finding, Memory>
+    requires market { IsValid market.now }
+    requires prefix { IsFeasiblePrefix market.now prefix.now }
+    requires holds { Holds market.now incumbent.now worked.old }
+    ensures holds { Holds market.now incumbent.now worked.new }
+    ensures parts { worked.new.seat.parts ≡ worked.old.seat.parts }
+    ensures may { IfOk result (λ finding. MaySettle market.now worked.new.seat.seen finding (new_node (word_of prefix.now))) }
+{
+    let finding = turnstile.through(alloc, worker, market, prefix, start)?;
+    offer_found(market, incumbent, worked, &finding)?;
+    Ok(finding)
+}
+
+/// One worker's loop: it takes nodes, finds out about them and settles them, until none is left or one could not branch within
+/// the budget. Where memory is wanting it gives its node back and ends.
+///
+/// Pool, seat and incumbent are of one search of this market. The start is the worker's own.
+pub fn work<'m, N: SearchName, G: Turnstile, R: Wait>(
+    rt: &R,
+    alloc: Global,
+    market: &Market,
+    worker: u32,
+    pool: &Mutex<Pool<'m, N>>,
+    bell: &Condvar,
+    incumbent: &Incumbent,
+    seat: Seat,
+    turnstile: &G,
+) -> Worked
+    requires market { (market.now ≡ N.market) × IsValid market.now }
+    requires worker { worker < N.workers }
+    requires word { incumbent.now ≡ N.word }
+    requires seat { IsFresh N.word seat }
+    ensures holds { Holds N.market N.word result }
+    ensures parts { result.seat.parts ≡ 1 }
+{
+    let mut worked = Worked { seat, best: None };
+    let mut start = None;
+    for _ in rt.forever() {
+        let Took::Took(ticket) = next(rt, worker, pool, bell) else {
+            break;
+        };
+        let found = visit(
+            alloc,
+            market,
+            worker,
+            &ticket.prefix,
+            incumbent,
+            &mut worked,
+            turnstile,
+            &mut start,
+        );
+        let Ok(finding) = found else {
+            pool.lock(rt).give_back(ticket);
+            bell.notify_all();
+            break;
+        };
+        pool.lock(rt)
+            .settle(incumbent, ticket, finding, &mut worked.seat);
+        bell.notify_all();
+    }
+    worked
+}
+
+/// Takes a node, or waits while others have all that is left.
+fn next<'m, N: SearchName, R: Wait>(
+    rt: &R,
+    worker: u32,
+    pool: &Mutex<Pool<'m, N>>,
+    bell: &Condvar,
+) -> Took<N>
+    requires { worker ≤ N.workers }
+{
+    let mut held = pool.lock(rt);
+    for _ in rt.forever() {
+        match held.take(worker) {
+            Took::Idle(_) => held = bell.wait(rt, held),
+            took => return took,
+        }
+    }
+    unreachable!()
+}

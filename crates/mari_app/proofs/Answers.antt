@@ -129,7 +129,7 @@ gap_of_two pages folder other n k g gap e a b =
     ap gap_or_held same
 
 -- where a run isn't published, its search tree is larger than the budget
-larger : (books : Books) (nodes run : ℕ) (b : Block) → IsBlock books nodes run b → 0 < unpublished_in (b ∷ []) → IsLarger (market_at books run) nodes
+larger : (books : Books) (nodes run : ℕ) (b : Block) → IsBlock books nodes run b → 0 < unpublished_in (b ∷ []) → IsLarger (market_at books [] run) nodes
 larger books nodes run (block.Published b) is some = absurd (omega (arith, some))
 larger books nodes run (block.Unpublished heading count) is some = is.is_spent.larger
 
@@ -137,7 +137,7 @@ some_unpublished : (n : ℕ) → (n == 0) ≡ false → 0 < n
 some_unpublished n e = grind (arith, nat_tests, e)
 
 -- a day whose one run isn't published, of a search tree larger than the budget
-part_is_larger : (books : Books) (nodes : ℕ) (day : PrintedDay) → IsPrintedDay books nodes day → (day.unpublished == 0) ≡ false → IsLarger (market_at books 1) nodes
+part_is_larger : (books : Books) (nodes : ℕ) (day : PrintedDay) → IsPrintedDay books nodes day → (day.unpublished == 0) ≡ false → IsLarger (market_at books [] 1) nodes
 part_is_larger books nodes day is part =
     let d = is.is_day in
     larger books nodes 1 d.block d.run (omega (arith, some_unpublished day.unpublished part, is.unpublished, ap unpublished_in d.one))
@@ -382,9 +382,9 @@ module _ (words : List (List ℕ)) where
       let same = same_texts pages s.command.folder g.command.folder s.texts g.texts (same_folder s.command g.command s.asked g.asked) s.held g.held in
       let books : s.books ≡ g.books = let a = ap accepted_at same in let b = s.read in let d = g.read in cc in
       let nodes : s.command.nodes ≡ g.command.nodes = ap (λ (c : Command). c.nodes) (same_command s.command g.command s.asked g.asked) in
-      let P : Books → Type 0 = λ b. IsLarger (market_at b 1) s.command.nodes in
+      let P : Books → Type 0 = λ b. IsLarger (market_at b [] 1) s.command.nodes in
       let large = subst P books (part_is_larger s.books s.command.nodes s.day s.is_day s.published) in
-      omega (arith, nodes, g.enough, larger_than_budget (market_at g.books 1) g.size s.command.nodes g.is_size large)
+      omega (arith, nodes, g.enough, larger_than_budget (market_at g.books [] 1) g.size s.command.nodes g.is_size large)
 
   pub complete_answer : (o : Outcome) (pages : Pages) (before after : Option (List ℕ)) (r : Status) → Says words pages o → (IsNoCommand o → command_at words ≡ None)
       → Reported o before after r → HasBudget words pages → (r ≡ status.Done) ⊎ (IsNoPage fetch.Failed o) ⊎ (r ≡ status.WriteFault) ⊎ (r ≡ status.Memory)

@@ -1,5 +1,5 @@
 -- What each answer of the program says.
-use Rattle.std.specs.Prelude.{ℕ, ◌≤◌, ◌≡◌, ◌⊎◌, List, Option, Some, None, Ok, take}
+use Rattle.std.specs.Prelude.{[], ℕ, ◌≤◌, ◌≡◌, ◌⊎◌, List, Option, Some, None, Ok, take}
 use lib.Chars.{codes}
 use Rattle.mari_units.specs.declared.faults.Refusal.{Refusal}
 use Rattle.mari_io.specs.Outside.{Pages}
@@ -34,7 +34,7 @@ pub record HasBudget (words : List (List ℕ)) (pages : Pages) : Type 0 where
   pub asked : command_at words ≡ Some command
   pub held : AreHeld pages command.folder texts
   pub read : accepted_at texts ≡ Ok books
-  pub is_size : HasSize (market_at books 1) size
+  pub is_size : HasSize (market_at books [] 1) size
   pub enough : size ≤ command.nodes
 
 -- the pages are refused: where they are told, this is their first refusal; and its line is taken

@@ -1,5 +1,5 @@
 -- The block that is put together is that of a published run.
-use Rattle.std.proofs.Common.{◌≡◌, ◌∙◌, ◌++◌, ℕ, ◌+◌, ◌≤◌, List, length, length-append, map, take, drop, refl, sym, ap, subst, arith}
+use Rattle.std.proofs.Common.{[], ◌≡◌, ◌∙◌, ◌++◌, ℕ, ◌+◌, ◌≤◌, List, length, length-append, map, take, drop, refl, sym, ap, subst, arith}
 use Rattle.std.proofs.lemmas.List.{length-drop, length-map, take-append-drop}
 use Rattle.mari_units.specs.declared.numbers.Cents.{Cents}
 use Rattle.mari_units.specs.declared.numbers.Quarters.{Quarters}
@@ -34,9 +34,9 @@ module _ (books : Books) (budget run : ℕ) (clearing : Clearing) (priced : Pric
   pub same_clearing : clearing_of b ≡ clearing
   same_clearing = rw (is.orders.mw, is.orders.demands, is.borders.flow, take-append-drop, is.welfare, is.tree) refl
 
-  pub published : IsClearing (market_at books run) budget clearing → IsPriced books run clearing priced → length clearing.activation.mw ≡ length (market_at books run).orders → IsPublishedRun books budget run b
+  pub published : IsClearing (market_at books [] run) budget clearing → IsPriced books run clearing priced → length clearing.activation.mw ≡ length (market_at books [] run).orders → IsPublishedRun books budget run b
   published clears p long =
-      let m = market_at books run in
+      let m = market_at books [] run in
       let a = clearing.activation in
       let ps = priced.pricing.published.cents in
       record {
@@ -47,7 +47,7 @@ module _ (books : Books) (budget run : ℕ) (clearing : Clearing) (priced : Pric
           to = is.borders.to;
           bids = is.orders.ids;
           demands =
-              let all : length clearing.activation.mw ≡ length (numbers_of books run) + length (demands_of_run books.demands.demands run) = long ∙ simp (length-append, length-map) in
+              let all : length clearing.activation.mw ≡ length (numbers_of books [] run) + length (demands_of_run books.demands.demands run) = long ∙ simp (length-append, length-map) in
               ap length is.orders.demands ∙ simp length-drop (omega (arith, all));
         };
         clearing = subst (IsClearing m budget) (sym same_clearing) clears;
@@ -61,11 +61,11 @@ module _ (books : Books) (budget run : ℕ) (clearing : Clearing) (priced : Pric
         ledger = record {
           rents = is.borders.rents ∙ p.rents ∙ sym (same2 (rents_of m) a (activation_of b) ps (prices_of b) same_activation is.zones.prices);
           operators = is.operators ∙ ap (money_lines_of books.zones.operators) (p.operators ∙ sym (same2 (operator_lines books.zones m) a (activation_of b) ps (prices_of b) same_activation is.zones.prices));
-          providers = is.providers ∙ ap (λ amounts. map (amount_line books.bids.providers amounts) (providers_among books.bids.bids (numbers_of books run)))
-              (p.providers ∙ sym (same2 (provider_amounts books.bids (numbers_of books run)) a (activation_of b) ps (prices_of b) same_activation is.zones.prices));
+          providers = is.providers ∙ ap (λ amounts. map (amount_line books.bids.providers amounts) (providers_among books.bids.bids (numbers_of books [] run)))
+              (p.providers ∙ sym (same2 (λ x ps. provider_amounts books.bids (numbers_of books [] run) x ps ps) a (activation_of b) ps (prices_of b) same_activation is.zones.prices));
         };
       }
 
   -- the amounts of all providers are those of the block's activation at its prices
-  pub same_amounts : IsPriced books run clearing priced → priced.ledger.providers ≡ provider_amounts books.bids (numbers_of books run) (activation_of b) (prices_of b)
-  same_amounts p = p.providers ∙ sym (same2 (provider_amounts books.bids (numbers_of books run)) clearing.activation (activation_of b) priced.pricing.published.cents (prices_of b) same_activation is.zones.prices)
+  pub same_amounts : IsPriced books run clearing priced → priced.ledger.providers ≡ provider_amounts books.bids (numbers_of books [] run) (activation_of b) (prices_of b) (prices_of b)
+  same_amounts p = p.providers ∙ sym (same2 (λ x ps. provider_amounts books.bids (numbers_of books [] run) x ps ps) clearing.activation (activation_of b) priced.pricing.published.cents (prices_of b) same_activation is.zones.prices)

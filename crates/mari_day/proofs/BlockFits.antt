@@ -23,9 +23,10 @@ use Rattle.mari_publish.specs.declared.publication.FullBlock.{FullBlock}
 use Rattle.mari_publish.specs.declared.publication.MoneyLine.{MoneyLine}
 use Rattle.mari_publish.specs.declared.publication.ZoneLine.{ZoneLine}
 use Rattle.mari_remain.specs.Accepted.{IsAccepted}
-use Rattle.mari_remain.specs.RunMarket.{market_at, numbers_of, demands_of_run, run_at}
+use Rattle.mari_remain.specs.Lists.{run_at}
+use Rattle.mari_remain.specs.RunMarket.{market_at, numbers_of, demands_of_run}
 use Rattle.mari_remain.specs.declared.books.Books.{Books}
-use Rattle.mari_remain.proofs.Validity.{there, few, few_numbers}
+use Rattle.mari_remain.proofs.Validity.{few}
 use Rattle.mari_settle.specs.Conditions.{IsSmall, IsSmallLine}
 use Rattle.mari_settle.specs.Lines.{map_along, nothing}
 use Rattle.mari_settle.specs.declared.ledger.OperatorLine.{OperatorLine}
@@ -35,7 +36,7 @@ use Rattle.mari_day.specs.Money.{amount_line, money_line, providers_among}
 use Rattle.mari_day.specs.Run.{name_at}
 use Rattle.mari_day.specs.declared.block.Priced.{Priced}
 use Rattle.mari_day.proofs.AreaFits.{areas-fit, greatest-fit, least-fit}
-use Rattle.mari_day.proofs.Shapes.{along-length}
+use Rattle.mari_day.proofs.Shapes.{along-length, few_first, there_first}
 use Rattle.mari_day.proofs.Money.{few-providers, providers-there}
 use Rattle.mari_day.proofs.TreeFits.{flows-fit, mws-fit, tree-fits}
 
@@ -66,7 +67,7 @@ lines-fit (name ∷ names) (l ∷ lines) n s =
     (lines-fit names lines (All-tail IsName name names n) (All-tail IsSmallLine l lines s))
 
 module _ (books : Books) (ok : IsAccepted books) (dated : IsDated books) (budget run : ℕ) (clearing : Clearing) (priced : Priced) (b : FullBlock) (is : IsAssembled books run clearing priced b)
-    (shapes : HasShapes books run clearing priced) (p : IsPriced books run clearing priced) (valid : IsValid (market_at books run)) (feasible : IsFeasible (market_at books run) clearing.activation) where
+    (shapes : HasShapes books run clearing priced) (p : IsPriced books run clearing priced) (valid : IsValid (market_at books [] run)) (feasible : IsFeasible (market_at books [] run) clearing.activation) where
   zones-fit : Listed 1 64 (λ z. InRange (line.Zone z)) b.zones
   zones-fit =
       let names = of-map (λ (l : ZoneLine). l.name) IsName b.zones _ is.zones.names ok.zones.zones in
@@ -84,7 +85,7 @@ module _ (books : Books) (ok : IsAccepted books) (dated : IsDated books) (budget
   borders-fit =
       let from = of-map (λ (l : BorderLine). l.from) IsName b.borders _ is.borders.from (ends-named (λ x. x.from) (λ x h. h.from)) in
       let to = of-map (λ (l : BorderLine). l.to) IsName b.borders _ is.borders.to (ends-named (λ x. x.to) (λ x h. h.to)) in
-      let flows = flows-fit (market_at books run) valid clearing.activation feasible in
+      let flows = flows-fit (market_at books [] run) valid clearing.activation feasible in
       let flow = of-map (λ (l : BorderLine). l.flow) (λ f. Within 199998 f) b.borders _ is.borders.flow flows.1 in
       let rents = of-map (λ (l : BorderLine). l.rent) IsMoney b.borders _ is.borders.rents (All-weaker IsSmall IsMoney money priced.ledger.rents p.small.rents) in
       let many = as-many (λ (l : BorderLine). l.flow) b.borders _ is.borders.flow in
@@ -92,17 +93,17 @@ module _ (books : Books) (ok : IsAccepted books) (dated : IsDated books) (budget
 
   bids-fit : Listed 0 4096 (λ x. InRange (line.Bid x)) b.bids
   bids-fit =
-      let named : All IsName (map (name_at books.bids.ids) (numbers_of books run)) = All-map IsName (name_at books.bids.ids) (numbers_of books run) (λ k d l. ok.bids.ids _ _ (omega (arith, there books run ok k d l, ok.bids.named))) in
+      let named : All IsName (map (name_at books.bids.ids) (numbers_of books [] run)) = All-map IsName (name_at books.bids.ids) (numbers_of books [] run) (λ k d l. ok.bids.ids _ _ (omega (arith, there_first books run ok k d l, ok.bids.named))) in
       let ids = of-map (λ (l : BidLine). l.id) IsName b.bids _ is.orders.ids named in
-      let mws = mws-fit (market_at books run) valid clearing.activation feasible in
-      let mw = of-map (λ (l : BidLine). l.mw) (λ q. q ≤ 99999) b.bids _ is.orders.mw (All-take (λ q. q ≤ 99999) (length (numbers_of books run)) clearing.activation.mw mws.1) in
+      let mws = mws-fit (market_at books [] run) valid clearing.activation feasible in
+      let mw = of-map (λ (l : BidLine). l.mw) (λ q. q ≤ 99999) b.bids _ is.orders.mw (All-take (λ q. q ≤ 99999) (length (numbers_of books [] run)) clearing.activation.mw mws.1) in
       let many = as-many (λ (l : BidLine). l.id) b.bids _ is.orders.ids in
-      ((omega arith, omega (arith, many, length-map (numbers_of books run) (name_at books.bids.ids), few_numbers books run ok)), λ k d l. (ids k d l, mw k d l))
+      ((omega arith, omega (arith, many, length-map (numbers_of books [] run) (name_at books.bids.ids), few_first books run ok)), λ k d l. (ids k d l, mw k d l))
 
   demands-fit : length b.demands ≡ length (demands_of_run books.demands.demands run) → Listed 0 512 (λ mw. mw ≤ 99999) b.demands
   demands-fit many =
-      let mws = mws-fit (market_at books run) valid clearing.activation feasible in
-      ((omega arith, omega (arith, many, few books run ok)), rw is.orders.demands (All-drop (λ q. q ≤ 99999) (length (numbers_of books run)) clearing.activation.mw mws.1))
+      let mws = mws-fit (market_at books [] run) valid clearing.activation feasible in
+      ((omega arith, omega (arith, many, few books ok run)), rw is.orders.demands (All-drop (λ q. q ≤ 99999) (length (numbers_of books [] run)) clearing.activation.mw mws.1))
 
   operators-fit : Listed 1 64 IsMoneyLine b.operators
   operators-fit =
@@ -115,15 +116,15 @@ module _ (books : Books) (ok : IsAccepted books) (dated : IsDated books) (budget
 
   providers-fit : Listed 0 4096 IsAmountLine b.providers
   providers-fit =
-      let places = providers_among books.bids.bids (numbers_of books run) in
-      let below : All (λ place. place < length books.bids.providers) places = providers-there books.bids.bids (numbers_of books run) (length books.bids.providers) (λ k d l. (ok.bids.bids k d l).provider) (there books run ok) in
+      let places = providers_among books.bids.bids (numbers_of books [] run) in
+      let below : All (λ place. place < length books.bids.providers) places = providers-there books.bids.bids (numbers_of books [] run) (length books.bids.providers) (λ k d l. (ok.bids.bids k d l).provider) (there_first books run ok) in
       let many = length-map places (amount_line books.bids.providers priced.ledger.providers) in
       rw is.providers (
-        (omega arith, omega (arith, many, few-providers books.bids.bids (numbers_of books run), few_numbers books run ok)),
+        (omega arith, omega (arith, many, few-providers books.bids.bids (numbers_of books [] run), few_first books run ok)),
         All-map IsAmountLine (amount_line books.bids.providers priced.ledger.providers) places (λ k d l. amount-fits _ (below k d l)),
       )
 
-  pub block-fits : 1 ≤ run → run ≤ length books.runs.runs → clearing.welfare < 2 ^ 63 → budget ≤ 50000 → IsClearing (market_at books run) budget clearing
+  pub block-fits : 1 ≤ run → run ≤ length books.runs.runs → clearing.welfare < 2 ^ 63 → budget ≤ 50000 → IsClearing (market_at books [] run) budget clearing
       → length b.demands ≡ length (demands_of_run books.demands.demands run) → FullFits b
   block-fits first last welfare small clears many =
       let own = ok.runs.runs (run - 1) _ (omega arith) in
@@ -134,7 +135,7 @@ module _ (books : Books) (ok : IsAccepted books) (dated : IsDated books) (budget
         borders = borders-fit;
         bids = bids-fit;
         demands = demands-fit many;
-        tree = rw is.tree (tree-fits (market_at books run) valid (pos clearing.welfare) clearing.tree (tree_holds_plain (market_at books run) (pos clearing.welfare) (gate_word_of (market_at books run) clearing.activation) clearing.tree clears.tree) (omega (arith, clears.within_budget)));
+        tree = rw is.tree (tree-fits (market_at books [] run) valid (pos clearing.welfare) clearing.tree (tree_holds_plain (market_at books [] run) (pos clearing.welfare) (gate_word_of (market_at books [] run) clearing.activation) clearing.tree clears.tree) (omega (arith, clears.within_budget)));
         operators = operators-fit;
         providers = providers-fit;
       }

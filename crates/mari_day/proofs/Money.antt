@@ -4,7 +4,7 @@ use Rattle.std.specs.List.{All, list_any}
 use Rattle.std.proofs.lemmas.List.{length-map}
 use Rattle.std.proofs.lemmas.List.Elements.{All-head, All-tail, All-push, All-nil, All-map, All-weaker}
 use Rattle.mari_bids.specs.declared.bids.Bid.{Bid}
-use Rattle.mari_remain.specs.RunMarket.{bid_at}
+use Rattle.mari_remain.specs.Lists.{bid_at}
 use Rattle.mari_day.specs.Money.{each_once, providers_among, with_number}
 
 -- what holds of each number holds of each one once

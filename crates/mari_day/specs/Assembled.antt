@@ -1,5 +1,5 @@
 -- A block put together from what was computed of a run.
-use Rattle.std.specs.Prelude.{◌≡◌, ◌≤◌, ℕ, List, length, map, take, drop}
+use Rattle.std.specs.Prelude.{[], ◌≡◌, ◌≤◌, ℕ, List, length, map, take, drop}
 use Rattle.mari_units.specs.declared.numbers.Cents.{Cents}
 use Rattle.mari_zones.specs.declared.borders.BorderEnds.{BorderEnds}
 use Rattle.mari_market.specs.declared.clearing.Clearing.{Clearing}
@@ -37,9 +37,9 @@ pub record HasBorderLines (books : Books) (clearing : Clearing) (priced : Priced
 
 -- the lines of bids, and the demands
 pub record HasOrderLines (books : Books) (run : ℕ) (clearing : Clearing) (b : FullBlock) : Type 0 where
-  pub ids : map (λ (l : BidLine). l.id) b.bids ≡ map (name_at books.bids.ids) (numbers_of books run)
-  pub mw : map (λ (l : BidLine). l.mw) b.bids ≡ take (length (numbers_of books run)) clearing.activation.mw
-  pub demands : b.demands ≡ drop (length (numbers_of books run)) clearing.activation.mw
+  pub ids : map (λ (l : BidLine). l.id) b.bids ≡ map (name_at books.bids.ids) (numbers_of books [] run)
+  pub mw : map (λ (l : BidLine). l.mw) b.bids ≡ take (length (numbers_of books [] run)) clearing.activation.mw
+  pub demands : b.demands ≡ drop (length (numbers_of books [] run)) clearing.activation.mw
 
 -- the block of a clearing, with what is known of its prices and its money
 pub record IsAssembled (books : Books) (run : ℕ) (clearing : Clearing) (priced : Priced) (b : FullBlock) : Type 0 where
@@ -50,7 +50,7 @@ pub record IsAssembled (books : Books) (run : ℕ) (clearing : Clearing) (priced
   pub borders : HasBorderLines books clearing priced b
   pub orders : HasOrderLines books run clearing b
   pub operators : b.operators ≡ money_lines_of books.zones.operators priced.ledger.operators
-  pub providers : b.providers ≡ map (amount_line books.bids.providers priced.ledger.providers) (providers_among books.bids.bids (numbers_of books run))
+  pub providers : b.providers ≡ map (amount_line books.bids.providers priced.ledger.providers) (providers_among books.bids.bids (numbers_of books [] run))
 
 -- one price of each kind and one area for each zone, a flow and a rent for each border, a quantity for each bid, an amount for
 -- each provider, and a line for each operator, all of them small
@@ -61,19 +61,19 @@ pub record HasShapes (books : Books) (run : ℕ) (clearing : Clearing) (priced :
   pub areas : length priced.areas.items ≡ length books.zones.zones
   pub flow : length clearing.activation.flow ≡ length books.borders.borders
   pub rents : length priced.ledger.rents ≡ length books.borders.borders
-  pub mw : length (numbers_of books run) ≤ length clearing.activation.mw
+  pub mw : length (numbers_of books [] run) ≤ length clearing.activation.mw
   pub operators : length priced.ledger.operators ≡ length books.zones.operators
   pub providers : length priced.ledger.providers ≡ length books.bids.providers
   pub small : HasSmallNumbers priced.ledger
 
 -- the prices, areas and ledger of a run's clearing
 pub record IsPriced (books : Books) (run : ℕ) (clearing : Clearing) (priced : Priced) : Type 0 where
-  pub published : ArePublishedPrices (market_at books run) clearing.activation priced.pricing.published.cents
-  pub consistent : IsConsistent (market_at books run) clearing.activation priced.pricing.published.cents
-  pub least : AreLeastPrices (market_at books run) clearing.activation priced.pricing.least.cents
-  pub greatest : AreGreatestPrices (market_at books run) clearing.activation priced.pricing.greatest.cents
-  pub areas : AreAreas (market_at books run) clearing.activation priced.areas.items
-  pub operators : priced.ledger.operators ≡ operator_lines books.zones (market_at books run) clearing.activation priced.pricing.published.cents
-  pub providers : priced.ledger.providers ≡ provider_amounts books.bids (numbers_of books run) clearing.activation priced.pricing.published.cents
-  pub rents : priced.ledger.rents ≡ rents_of (market_at books run) clearing.activation priced.pricing.published.cents
+  pub published : ArePublishedPrices (market_at books [] run) clearing.activation priced.pricing.published.cents
+  pub consistent : IsConsistent (market_at books [] run) clearing.activation priced.pricing.published.cents
+  pub least : AreLeastPrices (market_at books [] run) clearing.activation priced.pricing.least.cents
+  pub greatest : AreGreatestPrices (market_at books [] run) clearing.activation priced.pricing.greatest.cents
+  pub areas : AreAreas (market_at books [] run) clearing.activation priced.areas.items
+  pub operators : priced.ledger.operators ≡ operator_lines books.zones (market_at books [] run) clearing.activation priced.pricing.published.cents
+  pub providers : priced.ledger.providers ≡ provider_amounts books.bids (numbers_of books [] run) clearing.activation priced.pricing.published.cents priced.pricing.published.cents
+  pub rents : priced.ledger.rents ≡ rents_of (market_at books [] run) clearing.activation priced.pricing.published.cents
   pub small : HasSmallNumbers priced.ledger

@@ -5,7 +5,7 @@ use Rattle.mari_units.specs.declared.numbers.Quarters.{Quarters}
 use Rattle.mari_bids.specs.declared.bids.Bid.{Bid}
 use Rattle.mari_publish.specs.declared.publication.AmountLine.{AmountLine}
 use Rattle.mari_publish.specs.declared.publication.MoneyLine.{MoneyLine}
-use Rattle.mari_remain.specs.RunMarket.{bid_at}
+use Rattle.mari_remain.specs.Lists.{bid_at}
 use Rattle.mari_settle.specs.declared.ledger.OperatorLine.{OperatorLine}
 use Rattle.mari_settle.specs.Ledger.{net_of}
 use Rattle.mari_settle.specs.Lines.{map_along, nothing}

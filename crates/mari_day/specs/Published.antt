@@ -27,29 +27,29 @@ use Rattle.mari_day.specs.Money.{amount_line, money_line, money_lines_of, provid
 
 -- the amounts that all providers get in the run
 abbrev pub amounts_of : Books → ℕ → FullBlock → List Quarters
-amounts_of books run b = provider_amounts books.bids (numbers_of books run) (activation_of b) (prices_of b)
+amounts_of books run b = provider_amounts books.bids (numbers_of books [] run) (activation_of b) (prices_of b) (prices_of b)
 
 -- the ledger of the run: the rent of each border, a line for each operator, and one for each provider that has a bid in the
 -- run's market
 pub record HasLedger (books : Books) (run : ℕ) (b : FullBlock) : Type 0 where
-  pub rents : map (λ (l : BorderLine). l.rent) b.borders ≡ rents_of (market_at books run) (activation_of b) (prices_of b)
-  pub operators : b.operators ≡ money_lines_of books.zones.operators (operator_lines books.zones (market_at books run) (activation_of b) (prices_of b))
-  pub providers : b.providers ≡ map (amount_line books.bids.providers (amounts_of books run b)) (providers_among books.bids.bids (numbers_of books run))
+  pub rents : map (λ (l : BorderLine). l.rent) b.borders ≡ rents_of (market_at books [] run) (activation_of b) (prices_of b)
+  pub operators : b.operators ≡ money_lines_of books.zones.operators (operator_lines books.zones (market_at books [] run) (activation_of b) (prices_of b))
+  pub providers : b.providers ≡ map (amount_line books.bids.providers (amounts_of books run b)) (providers_among books.bids.bids (numbers_of books [] run))
 
 -- a published run: a first activation of its market, with its welfare and a certificate tree of at most so many items that holds
 -- at it for its gate word; the prices, intervals and areas; and the ledger
 pub record IsPublishedRun (books : Books) (budget run : ℕ) (b : FullBlock) : Type 0 where
   pub heading : b.heading ≡ heading_of books run
   pub names : NamesMarket books run b
-  pub clearing : IsClearing (market_at books run) budget (clearing_of b)
-  pub prices : HasPrices (market_at books run) b
+  pub clearing : IsClearing (market_at books [] run) budget (clearing_of b)
+  pub prices : HasPrices (market_at books [] run) b
   pub ledger : HasLedger books run b
 
 -- a run that isn't published: its search tree has more nodes than the budget, and so many of them were made
 pub record IsUnpublishedRun (books : Books) (budget run : ℕ) (heading : Heading) (count : ℕ) : Type 0 where
   pub is_of : heading ≡ heading_of books run
   pub spent : Spent
-  pub is_spent : IsSpent (market_at books run) budget spent
+  pub is_spent : IsSpent (market_at books [] run) budget spent
   pub counted : count ≡ length spent.items
 
 -- a run's block

@@ -1,5 +1,5 @@
 -- The books of a folder, or its first refusal.
-use Rattle.std.specs.Prelude.{ℕ, ◌+◌, ◌≡◌, ◌≤◌, List, [], length, Result, Ok, Err, Some, slice_index_or, if◌then◌else◌, ⊤}
+use Rattle.std.specs.Prelude.{ℕ, ◌+◌, ◌≡◌, ◌≤◌, List, [], length, Result, Ok, Err, None, Some, slice_index_or, if◌then◌else◌, ⊤}
 use lib.Chars.{codes}
 use Rattle.std.specs.Str.{bytes_eq}
 use Rattle.mari_units.specs.declared.faults.Refusal.{Refusal}
@@ -63,7 +63,7 @@ books_at pages =
     of_file Links (book_in (link_grammar bids) (page_of pages Links)) >>> λ links.
     of_file Runs (book_in (run_grammar 96) (page_of pages Runs)) >>> λ runs.
     of_file Demands (book_in (demand_grammar zones (length runs.runs)) (page_of pages Demands)) >>> λ demands.
-    Ok (record { date = date_text; quarters = 96; zones = zones; borders = borders; bids = bids; links = links; runs = runs; demands = demands })
+    Ok (record { date = date_text; quarters = 96; zones = zones; borders = borders; bids = bids; links = links; runs = runs; demands = demands; limits = None })
 
 -- this is what was to be read, or its refusal, unless memory was wanted
 abbrev pub Reads : {X : Type 0} → Result X BooksFault → Result X Refusal → Type 0

@@ -18,7 +18,8 @@ use Rattle.mari_publish.specs.declared.publication.FullBlock.{FullBlock}
 use Rattle.mari_publish.specs.declared.publication.Heading.{Heading}
 use Rattle.mari_publish.specs.declared.publication.ZoneLine.{ZoneLine}
 use Rattle.mari_remain.specs.declared.books.Books.{Books}
-use Rattle.mari_remain.specs.RunMarket.{market_at, numbers_of, run_at, demands_of_run}
+use Rattle.mari_remain.specs.Lists.{run_at}
+use Rattle.mari_remain.specs.RunMarket.{market_at, numbers_of, demands_of_run}
 
 -- a name by its place
 abbrev pub name_at : List (List ℕ) → ℕ → List ℕ
@@ -48,7 +49,7 @@ pub record NamesMarket (books : Books) (run : ℕ) (b : FullBlock) : Type 0 wher
   pub zones : map (λ (l : ZoneLine). l.name) b.zones ≡ books.zones.zones
   pub from : map (λ (l : BorderLine). l.from) b.borders ≡ map (λ (ends : BorderEnds). name_at books.zones.zones ends.from) books.borders.borders
   pub to : map (λ (l : BorderLine). l.to) b.borders ≡ map (λ (ends : BorderEnds). name_at books.zones.zones ends.to) books.borders.borders
-  pub bids : map (λ (l : BidLine). l.id) b.bids ≡ map (name_at books.bids.ids) (numbers_of books run)
+  pub bids : map (λ (l : BidLine). l.id) b.bids ≡ map (name_at books.bids.ids) (numbers_of books [] run)
   pub demands : length b.demands ≡ length (demands_of_run books.demands.demands run)
 
 -- each zone has its published price, which together are consistent with the activation; its least and its greatest consistent

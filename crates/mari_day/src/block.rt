@@ -1,6 +1,6 @@
 //! The block of a run.
 
-ghost use Rattle.std.specs.Prelude.{◌≡◌, ◌≤◌, ◌<◌, ◌==◌, ℕ, List, IfOk, OnOk, true, length, map};
+ghost use Rattle.std.specs.Prelude.{[], ◌≡◌, ◌≤◌, ◌<◌, ◌==◌, ℕ, List, IfOk, OnOk, true, length, map};
 ghost use Rattle.std.specs.List.{All, list_any};
 ghost use Rattle.mari_units.specs.Names.{is_name};
 ghost use Rattle.mari_market.specs.Clearing.{IsClearing};
@@ -8,7 +8,8 @@ ghost use Rattle.mari_market.specs.Market.{IsValid};
 ghost use Rattle.mari_market.specs.Optimal.{IsAdmissible, IsConsistent, IsFeasible, IsOptimal};
 ghost use Rattle.mari_publish.specs.Ranges.{FullFits};
 ghost use Rattle.mari_remain.specs.Accepted.{IsAccepted};
-ghost use Rattle.mari_remain.specs.RunMarket.{bid_at, numbers_of, run_market_of};
+ghost use Rattle.mari_remain.specs.Lists.{bid_at};
+ghost use Rattle.mari_remain.specs.RunMarket.{numbers_of, run_market_of};
 ghost use Rattle.mari_day.specs.Assembled.{HasShapes, IsAssembled, IsPriced};
 ghost use Rattle.mari_settle.specs.Conditions.{HasSmallNumbers};
 ghost use Rattle.mari_settle.specs.Ledger.{operator_lines, provider_amounts, rents_of};
@@ -98,7 +99,7 @@ fn assemble(
 ) -> Result<FullBlock, Memory>
     requires accepted { IsAccepted books.now }
     requires run { 1 ≤ run }
-    requires numbers { numbers.now ≡ numbers_of books.now run }
+    requires numbers { numbers.now ≡ numbers_of books.now [] run }
     requires shapes { HasShapes books.now run clearing priced.now }
     ensures { IfOk result (IsAssembled books.now run clearing priced.now) }
 {
@@ -151,11 +152,11 @@ fn ledger_of(
     activation: &Activation,
 ) -> Result<Ledger, Memory>
     requires accepted { IsAccepted books.now }
-    requires run { (run : ℕ) × (made.now ≡ run_market_of books.now run) × IsValid made.now.market }
+    requires run { (run : ℕ) × (made.now ≡ run_market_of books.now [] run) × IsValid made.now.market }
     requires feasible { IsFeasible made.now.market activation.now }
     requires consistent { IsConsistent made.now.market activation.now prices.now.cents }
     ensures operators { IfOk result (λ ledger. ledger.operators ≡ operator_lines books.now.zones made.now.market activation.now prices.now.cents) }
-    ensures providers { IfOk result (λ ledger. ledger.providers ≡ provider_amounts books.now.bids made.now.bids activation.now prices.now.cents) }
+    ensures providers { IfOk result (λ ledger. ledger.providers ≡ provider_amounts books.now.bids made.now.bids activation.now prices.now.cents prices.now.cents) }
     ensures rents { IfOk result (λ ledger. ledger.rents ≡ rents_of made.now.market activation.now prices.now.cents) }
     ensures small { IfOk result HasSmallNumbers }
 {
@@ -168,6 +169,7 @@ fn ledger_of(
         prices,
         activation,
         &mut ledger,
+        None,
     );
     Ok(ledger)
 }
@@ -182,7 +184,7 @@ fn priced_of(
 ) -> Result<Priced, Memory>
     requires accepted { IsAccepted books.now }
     requires run { (1 ≤ run) × (run ≤ length books.now.runs.runs) }
-    requires made { made.now ≡ run_market_of books.now run }
+    requires made { made.now ≡ run_market_of books.now [] run }
     requires valid { IsValid made.now.market }
     requires admissible { IsAdmissible made.now.market clearing.now.activation }
     ensures { IfOk result (IsPriced books.now run clearing.now) }
@@ -216,7 +218,7 @@ pub fn published_run(
     requires accepted { IsAccepted books.now }
     requires dated { IsDated books.now }
     requires run { (1 ≤ run) × (run ≤ length books.now.runs.runs) }
-    requires made { made.now ≡ run_market_of books.now run }
+    requires made { made.now ≡ run_market_of books.now [] run }
     requires valid { IsValid made.now.market }
     requires optimal { IsOptimal made.now.market clearing.activation }
     ensures published { (budget : ℕ) → IsClearing made.now.market budget clearing → IfOk result (λ p. IsPublishedRun books.now budget run p.block) }

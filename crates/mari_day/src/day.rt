@@ -15,7 +15,7 @@ use crate::lines::{amount_lines, money_lines};
 use mari_bids::BidBook;
 use mari_market::{Cleared, Clearer};
 use mari_publish::{AmountLine, Block, Publication, write_text};
-use mari_remain::{Books, market_of};
+use mari_remain::{Books, Remaining};
 use mari_settle::Ledger;
 use mari_units::{Items, Memory, Name, NameFault, Quarters, read_name};
 use std::alloc::Global;
@@ -35,7 +35,7 @@ struct RunDone {
     ledger: Ledger,
 }
 
-/// Clears a run, and makes its block.
+/// Clears the first run, and makes its block.
 fn run_done<C: Clearer>(
     alloc: Global,
     books: &Books,
@@ -46,6 +46,7 @@ fn run_done<C: Clearer>(
     requires accepted { IsAccepted books.now }
     requires dated { IsDated books.now }
     requires run { (1 ≤ run) × (run ≤ length books.now.runs.runs) }
+    requires first { run ≡ 1 }
     requires budget { (1 ≤ budget) × (budget ≤ 50000) }
     requires ready { C.ready clearer.old }
     ensures block { IfOk result (λ done. IsBlock books.now budget run done.block) }
@@ -55,7 +56,8 @@ fn run_done<C: Clearer>(
     ensures entries { IfOk result (λ done. HasEntries books.now done.ledger) }
     ensures ready { C.ready clearer.new }
 {
-    let made = market_of(alloc, books, run)?;
+    let remaining = Remaining::start(alloc, books)?;
+    let made = remaining.market_of(alloc, books, run)?;
     match clearer.clear(alloc, &made.market, budget) {
         Cleared::Published(clearing) => {
             let done = published_run(alloc, books, run, &made, clearing)?;

@@ -193,6 +193,7 @@ fn books_of(alloc: Global, folder: &Folder) -> Result<Books, BooksFault>
         links,
         runs,
         demands,
+        limits: None,
     })
 }
 

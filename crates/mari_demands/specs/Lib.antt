@@ -1,3 +1,4 @@
 pub mod Demands
 pub mod Runs
 pub mod SoFar
+pub mod LimitPairs

@@ -1,6 +1,6 @@
 -- The book of runs.
-use Rattle.std.specs.Prelude.{◌≤◌, ℕ, ◌+◌, ℤ, pos, negsuc, Bool, true, false, List, [], ◌∷◌, Option, Some, None, not, ◌&&◌, ◌||◌, nat_le, nat_lt, length, map, codes, fold, is_some, unwrap_or}
-use Rattle.std.specs.List.{All}
+use Rattle.std.specs.Prelude.{◌≡◌, ◌≤◌, ◌<◌, ℕ, ◌+◌, ℤ, pos, negsuc, Bool, true, false, List, [], ◌∷◌, Option, Some, None, not, ◌&&◌, ◌||◌, nat_le, nat_lt, length, map, codes, fold, is_some, unwrap_or}
+use Rattle.std.specs.List.{All, AllPairs}
 use Rattle.mari_units.specs.Numbers.{price_of, whole_of}
 use Rattle.mari_units.specs.declared.numbers.Cents.{Cents}
 use Rattle.mari_rows.specs.Books.{Checks, Grammar}
@@ -85,7 +85,13 @@ pub record IsRun (quarters : ℕ) (run : Run) : Type 0 where
   pub last_quarter : run.quarter ≤ quarters
   pub reference : IsWithinCap run.reference.0
 
+-- a run before another: quarters don't fall, and a scheduled run has none before it in its quarter
+pub record IsBefore (a b : Run) : Type 0 where
+  pub quarter : a.quarter ≤ b.quarter
+  pub scheduled : b.direct ≡ false → a.quarter < b.quarter
+
 -- what holds of every book of runs that is read
 pub record IsRunBook (quarters : ℕ) (book : RunBook) : Type 0 where
   pub few : length book.runs ≤ 1000
   pub runs : All (IsRun quarters) book.runs
+  pub in_order : AllPairs IsBefore book.runs

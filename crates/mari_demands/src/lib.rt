@@ -4,9 +4,11 @@
 #![tactic(auto)]
 
 mod demands;
+mod limits;
 mod runs;
 #[cfg(test)]
 mod tests;
 
 pub use demands::{Demand, DemandBook};
+pub use limits::{LimitBook, Limits};
 pub use runs::{Run, RunBook};

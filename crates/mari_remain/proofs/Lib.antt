@@ -1,3 +1,11 @@
 pub mod Places
+pub mod Beginning
 pub mod Gates
 pub mod Validity
+pub mod Choosing
+pub mod History
+pub mod Standing
+pub mod Offers
+pub mod After
+pub mod Beside
+pub mod ExampleRuns

@@ -4,7 +4,7 @@ use Rattle.std.specs.List.{All, AllPairs, count_by, position, range_with_len}
 use Rattle.std.proofs.lemmas.List.Elements.{All-nil, All-cons, All-weaker}
 use Rattle.std.proofs.lemmas.List.Kept.{AllPairs-cons}
 use Rattle.std.proofs.lemmas.List.Sums.{length-filter}
-use Rattle.mari_remain.specs.RunMarket.{places_from}
+use Rattle.mari_remain.specs.Lists.{places_from}
 
 -- a place of a list that is counted from k
 pub record IsPlace (k n i : ℕ) : Type 0 where

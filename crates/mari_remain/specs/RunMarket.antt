@@ -1,13 +1,15 @@
--- The market of a scheduled run before which nothing ran in its quarter.
-use Rattle.std.specs.Prelude.{ℕ, ◌+◌, ◌-◌, ◌==◌, ℤ, pos, neg_ℤ, int_lt, unsigned_abs, Bool, false, List, [], ◌∷◌, ◌++◌, Option, Some, None, if◌then◌else◌, filter, length, map, position, slice_get, slice_index_or, unwrap_or, option_map}
+-- The market of a run, behind the blocks that were made before it on the same day.
+use Rattle.std.specs.Prelude.{ℕ, ◌+◌, ◌-◌, ◌==◌, ℤ, pos, negsuc, neg_ℤ, ◌+ℤ◌, ◌-ℤ◌, int_lt, unsigned_abs, Bool, List, [], ◌++◌, Option, Some, None, if◌then◌else◌, filter, length, map, position, slice_index_or, unwrap_or}
+use Rattle.std.specs.List.{range_with_len}
 use Rattle.std.specs.Option.{option_and_then}
 use Rattle.mari_units.specs.declared.Cents.{Cents}
 use Rattle.mari_zones.specs.declared.borders.BorderEnds.{BorderEnds}
 use Rattle.mari_bids.specs.declared.bids.Bid.{Bid}
 use Rattle.mari_links.specs.Links.{has_gate}
 use Rattle.mari_links.specs.declared.links.BidLinks.{BidLinks}
+use Rattle.mari_demands.specs.LimitPairs.{limits_in}
 use Rattle.mari_demands.specs.declared.demands.Demand.{Demand}
-use Rattle.mari_demands.specs.declared.runs.Run.{Run}
+use Rattle.mari_demands.specs.declared.limits.Limits.{Limits}
 use Rattle.mari_market.specs.declared.market.Border.{Border}
 use Rattle.mari_market.specs.declared.market.GateInfo.{GateInfo}
 use Rattle.mari_market.specs.declared.market.Market.{Market}
@@ -16,26 +18,9 @@ use Rattle.mari_market.specs.declared.market.Side.{Side}
 use Rattle.mari_market.specs.declared.market.Side.TheVariants.{Inject, Withdraw}
 use Rattle.mari_remain.specs.declared.books.Books.{Books}
 use Rattle.mari_remain.specs.declared.market.RunMarket.{RunMarket}
-
--- the places, counted from k, of the items that pass the test
-abbrev pub places_from : {X : Type 0} → (X → Bool) → ℕ → List X → List ℕ
-places_from p k [] = []
-places_from p k (x ∷ xs) = if p x then k ∷ places_from p (k + 1) xs else places_from p (k + 1) xs
-
--- the bids of a quarter, by their numbers, in the order of the bid file
-abbrev pub bids_of_quarter : List Bid → ℕ → List ℕ
-bids_of_quarter bids quarter = places_from (λ (b : Bid). b.quarter == quarter) 0 bids
-
--- the bid of a number that is there
-abbrev pub bid_at : List Bid → ℕ → Bid
-bid_at bids i = slice_index_or bids i (record { provider = 0; zone = 0; quarter = 0; up = false; price = record { 0 = pos 0 }; least = 0; greatest = 0; both = false })
-
--- the group of the bid of a number, and its parent
-abbrev pub group_at : List BidLinks → ℕ → Option ℕ
-group_at links i = option_and_then (λ (l : BidLinks). l.group) (slice_get links i)
-
-abbrev pub parent_at : List BidLinks → ℕ → Option ℕ
-parent_at links i = option_and_then (λ (l : BidLinks). l.parent) (slice_get links i)
+use Rattle.mari_remain.specs.Available.{Taken, is_available, taken_by}
+use Rattle.mari_remain.specs.Blocks.{PastBlock}
+use Rattle.mari_remain.specs.Lists.{bid_at, bids_of_quarter, group_at, parent_at, run_at}
 
 -- a bid's gate: its place among the gated bids
 abbrev pub gate_of : List ℕ → ℕ → Option ℕ
@@ -46,12 +31,18 @@ abbrev pub least_of : Option ℕ → ℕ → ℕ
 least_of None least = 0
 least_of (Some gate) least = if least == 0 then 1 else least
 
+-- the greatest quantity: without a gate what earlier blocks left of the offer, and with one the whole offer
+abbrev pub greatest_of : Option ℕ → (offer taken : ℕ) → ℕ
+greatest_of None offer taken = offer - taken
+greatest_of (Some gate) offer taken = offer
+
 -- an upward bid is an injection, a downward one a withdrawal
 abbrev pub bid_side : Bool → Side
 bid_side up = if up then Inject else Withdraw
 
-abbrev pub bid_order : Bid → Option ℕ → Order
-bid_order b gate = record { zone = b.zone; side = bid_side b.up; price = b.price; least = least_of gate b.least; greatest = b.greatest; gate = gate }
+-- the order of a bid of which earlier blocks took so much
+abbrev pub bid_order : Bid → Option ℕ → ℕ → Order
+bid_order b gate taken = record { zone = b.zone; side = bid_side b.up; price = b.price; least = least_of gate b.least; greatest = greatest_of gate b.greatest taken; gate = gate }
 
 -- a demand that states no price is met at any: it takes at the cap, or gives at its negative
 abbrev pub inelastic_price : ℤ → Cents
@@ -68,47 +59,93 @@ demand_order d = record { zone = d.zone; side = demand_side d.mw; price = unwrap
 abbrev pub demands_of_run : List Demand → ℕ → List Demand
 demands_of_run demands run = filter (λ (d : Demand). d.run == run) demands
 
--- a border with the limits of its file
-abbrev pub border_of : BorderEnds → Border
-border_of b = record { from = b.from; to = b.to; limit = b.limit; back = b.back }
+-- the border of a number that is there
+abbrev pub ends_at : List BorderEnds → ℕ → BorderEnds
+ends_at borders k = slice_index_or borders k (record { from = 0; to = 0; limit = 0; back = 0 })
 
--- what is known of a bid's gate: its group, and its parent among these gated bids
+-- the limits that the file of borders states
+abbrev pub own_limits : BorderEnds → Limits
+own_limits ends = record { limit = ends.limit; back = ends.back }
+
+-- the limits of a border in a run: those that the file of limits states for it, or where there is no such file those of the file of borders
+abbrev pub stated_limits : Option (List (List Limits)) → BorderEnds → (run border : ℕ) → Limits
+stated_limits None ends run k = own_limits ends
+stated_limits (Some table) ends run k = limits_in table run k
+
+abbrev pub limits_at : Books → (run border : ℕ) → Limits
+limits_at books run k = stated_limits books.limits (ends_at books.borders.borders k) run k
+
+-- a whole number, or 0 where it is below
+abbrev pub at_least_0 : ℤ → ℕ
+at_least_0 (pos n) = n
+at_least_0 (negsuc n) = 0
+
+-- a border over which so much flowed before: what is left of its limits, which is nothing where the flow is past them
+abbrev pub border_of : BorderEnds → Limits → ℤ → Border
+border_of ends limits flow = record {
+  from = ends.from;
+  to = ends.to;
+  limit = at_least_0 (pos limits.limit -ℤ flow);
+  back = at_least_0 (pos limits.back +ℤ flow);
+}
+
+-- what is known of a bid's gate: its group, and its parent where that is among these gated bids. A parent that was activated
+-- before is not among them
 abbrev pub gate_at : List BidLinks → List ℕ → ℕ → GateInfo
 gate_at links gated i = record { group = group_at links i; parent = option_and_then (gate_of gated) (parent_at links i) }
 
--- the orders of these bids, and then of the demands
-abbrev pub orders_of : List Bid → (numbers gated : List ℕ) → List Demand → List Order
-orders_of bids numbers gated demands = map (λ i. bid_order (bid_at bids i) (gate_of gated i)) numbers ++ map demand_order demands
+-- the orders of these bids, of which so much was taken, and then of the demands
+abbrev pub orders_of : List Bid → (taken : ℕ → ℕ) → (numbers gated : List ℕ) → List Demand → List Order
+orders_of bids taken numbers gated demands = map (λ i. bid_order (bid_at bids i) (gate_of gated i) (taken i)) numbers ++ map demand_order demands
 
 -- the gates of the gated bids
 abbrev pub gates_of : List BidLinks → List ℕ → List GateInfo
 gates_of links gated = map (gate_at links gated) gated
 
--- a run, counted from 1
-abbrev pub run_at : Books → ℕ → Run
-run_at books run = slice_index_or books.runs.runs (run - 1) (record { quarter = 0; direct = false; reference = record { 0 = pos 0 } })
+module _ (books : Books) (taken : Taken) (run : ℕ) where
+  -- the numbers of the available bids of the run's quarter, in the order of the bid file
+  abbrev pub numbers_left : List ℕ
+  numbers_left = filter (is_available books taken (run_at books run)) (bids_of_quarter books.bids.bids (run_at books run).quarter)
 
--- the numbers of a run's bids, and of those with a gate
-abbrev pub numbers_of : Books → ℕ → List ℕ
-numbers_of books run = bids_of_quarter books.bids.bids (run_at books run).quarter
+  -- and of those with a gate
+  abbrev pub gated_left : List ℕ
+  gated_left = filter (has_gate books.links) numbers_left
 
-abbrev pub gated_of : Books → ℕ → List ℕ
-gated_of books run = filter (has_gate books.links) (numbers_of books run)
+  -- each border with what is left of its limits
+  abbrev pub borders_left : List Border
+  borders_left = map (λ k. border_of (ends_at books.borders.borders k) (limits_at books run k) (taken.flow k)) (range_with_len 0 (length books.borders.borders))
 
--- the market of a run, counted from 1
-abbrev pub market_at : Books → ℕ → Market
-market_at books run = record {
-  zones = length books.zones.zones;
-  borders = map border_of books.borders.borders;
-  orders = orders_of books.bids.bids (numbers_of books run) (gated_of books run) (demands_of_run books.demands.demands run);
-  gates = gates_of books.links.links (gated_of books run);
-  reference = (run_at books run).reference;
-}
+  -- the available bids, then the run's demands, over the borders with what is left of their limits
+  abbrev pub market_left : Market
+  market_left = record {
+    zones = length books.zones.zones;
+    borders = borders_left;
+    orders = orders_of books.bids.bids taken.mw numbers_left gated_left (demands_of_run books.demands.demands run);
+    gates = gates_of books.links.links gated_left;
+    reference = (run_at books run).reference;
+  }
 
--- with the numbers of its bids, and how many demands there are
-abbrev pub run_market_of : Books → ℕ → RunMarket
-run_market_of books run = record {
-  market = market_at books run;
-  bids = numbers_of books run;
-  demands = length (demands_of_run books.demands.demands run);
-}
+  -- with the numbers of its bids, and how many demands there are
+  abbrev pub run_market_left : RunMarket
+  run_market_left = record {
+    market = market_left;
+    bids = numbers_left;
+    demands = length (demands_of_run books.demands.demands run);
+  }
+
+module _ (books : Books) (blocks : List PastBlock) (run : ℕ) where
+  -- what the blocks took, for this run
+  abbrev pub taken_before : Taken
+  taken_before = taken_by blocks (run_at books run).quarter
+
+  -- the market of the run, counted from 1, behind these blocks
+  abbrev pub market_at : Market
+  market_at = market_left books taken_before run
+
+  -- the numbers of its bids
+  abbrev pub numbers_of : List ℕ
+  numbers_of = numbers_left books taken_before run
+
+  -- with these numbers, and how many demands there are
+  abbrev pub run_market_of : RunMarket
+  run_market_of = run_market_left books taken_before run

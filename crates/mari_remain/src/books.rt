@@ -1,13 +1,13 @@
 //! The books of a folder.
 
 use mari_bids::BidBook;
-use mari_demands::{DemandBook, RunBook};
+use mari_demands::{DemandBook, LimitBook, RunBook};
 use mari_links::LinkBook;
 use mari_units::Name;
 use mari_zones::{BorderBook, ZoneBook};
 
-/// What the seven pages of a folder say: the date as its ten bytes, the number of its quarter hours, and a book for each
-/// further page.
+/// What the pages of a folder say: the date as its ten bytes, the number of its quarter hours, and a book for each further
+/// page. Limits for each run are there where the borders state none.
 #[derive(Debug, Drop)]
 pub struct Books {
     pub date: Name,
@@ -18,4 +18,5 @@ pub struct Books {
     pub links: LinkBook,
     pub runs: RunBook,
     pub demands: DemandBook,
+    pub limits: Option<LimitBook>,
 }

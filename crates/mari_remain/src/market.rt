@@ -1,17 +1,25 @@
-//! The market of a run.
+//! The market of a run behind earlier blocks.
 
-ghost use Rattle.std.specs.Prelude.{◌≡◌, ◌≤◌, ◌<◌, ◌==◌, ◌∷◌, ◌++◌, IfOk, IfSome, position, unsigned_abs, filter, length, map, option_and_then, slice_get};
-ghost use Rattle.std.specs.List.{All};
+ghost use Rattle.std.specs.Prelude.{◌≡◌, ◌≤◌, ◌<◌, ◌≤ℤ◌, ◌+◌, ◌==◌, ◌∷◌, ◌++◌, ℕ, ℤ, pos, List, [], IfOk, IfSome, position, unsigned_abs, filter, get_or, length, map, option_and_then, slice_get};
+ghost use Rattle.std.specs.List.{All, range_with_len};
 ghost use Rattle.mari_market.specs.Market.{IsValid};
+ghost use Rattle.mari_market.specs.Optimal.{IsFeasible};
 ghost use Rattle.mari_links.specs.Links.{has_gate};
 ghost use Rattle.mari_remain.specs.Accepted.{IsAccepted};
-ghost use Rattle.mari_remain.specs.RunMarket.{bid_at, bid_order as bid_order_of, bids_of_quarter, border_of as border_in, demand_order as demand_order_of, demands_of_run as demands_in, gate_at, gate_of as gate_in, gates_of as gates_in, group_at, inelastic_price as inelastic_price_of, orders_of as orders_in, parent_at, run_at, run_market_of};
+ghost use Rattle.mari_remain.specs.Available.{Taken};
+ghost use Rattle.mari_remain.specs.Blocks.{PastBlock};
+ghost use Rattle.mari_remain.specs.FirstBlocks.{Kept, StandsFor, block_of, taken_in};
+ghost use Rattle.mari_remain.specs.Lists.{bid_at, bids_of_quarter, run_at};
+ghost use Rattle.mari_remain.specs.RunMarket.{at_least_0 as at_least_0_of, bid_order as bid_order_of, border_of as border_in, borders_left, demand_order as demand_order_of, demands_of_run as demands_in, ends_at, gate_at, gate_of as gate_in, gated_left, gates_of as gates_in, inelastic_price as inelastic_price_of, limits_at, numbers_left, orders_of as orders_in, run_market_left, run_market_of};
 
+use crate::adding::{add_mw, carry, mark_if};
 use crate::books::Books;
+use crate::choice::{Choice, choose, group_of, parent_of};
+use crate::remaining::Remaining;
 use mari_bids::Bid;
-use mari_demands::{Demand, Run};
-use mari_links::{BidLinks, LinkBook};
-use mari_market::{Border, GateInfo, Market, Order, Side};
+use mari_demands::{Demand, Limits, Run};
+use mari_links::BidLinks;
+use mari_market::{Activation, Border, GateInfo, Market, Order, Side};
 use mari_units::{CAP, Cents, Items, Memory};
 use mari_zones::BorderEnds;
 use std::alloc::Global;
@@ -41,43 +49,6 @@ const NO_RUN: Run = Run {
     reference: Cents(0),
 };
 
-/// The numbers of the bids of a quarter, in the order of the bid file.
-fn numbers_of(alloc: Global, bids: &[Bid], quarter: u32) -> Result<Vec<u32>, Memory>
-    requires { length bids.now ≤ 268435456 }
-    ensures { IfOk result (λ numbers. numbers.items ≡ bids_of_quarter bids.now quarter) }
-{
-    let mut numbers = Vec::new(alloc);
-    for (number, bid) in bids.iter().enumerate() {
-        if bid.quarter == quarter {
-            numbers.push(number as u32)?;
-        }
-    }
-    Ok(numbers)
-}
-
-/// Whether a bid has a gate.
-fn is_gated(links: &LinkBook, number: u32) -> bool
-    ensures { result ≡ has_gate links.now number }
-{
-    match links.links.as_slice().get(number as usize) {
-        Some(links) => links.gated,
-        None => false,
-    }
-}
-
-/// The gated ones among these bids.
-fn gated_of(alloc: Global, links: &LinkBook, numbers: &[u32]) -> Result<Vec<u32>, Memory>
-    ensures { IfOk result (λ gated. gated.items ≡ filter (has_gate links.now) numbers.now) }
-{
-    let mut gated = Vec::new(alloc);
-    for number in numbers {
-        if is_gated(links, *number) {
-            gated.push(*number)?;
-        }
-    }
-    Ok(gated)
-}
-
 /// The gate of a bid: its place among the gated ones, if it is one of them.
 fn gate_of(gated: &[u32], number: u32) -> Option<u32>
     requires { length gated.now ≤ 512 }
@@ -97,9 +68,10 @@ fn place_of(numbers: &[u32], number: u32) -> Option<usize>
     numbers.iter().position(|other| *other == number)
 }
 
-/// The order of a bid: upward it gives energy and downward it takes it. One with a gate runs at least 1 MW where it runs.
-fn bid_order(bid: Bid, gate: Option<u32>) -> Order
-    ensures { result ≡ bid_order_of bid gate }
+/// The order of a bid of which so much was taken: upward it gives energy and downward it takes it. One with a gate runs at least
+/// 1 MW where it runs, and is offered whole.
+fn bid_order(bid: Bid, gate: Option<u32>, taken: u32) -> Order
+    ensures { result ≡ bid_order_of bid gate taken }
 {
     Order {
         zone: bid.zone,
@@ -110,7 +82,10 @@ fn bid_order(bid: Bid, gate: Option<u32>) -> Order
             Some(_) if bid.least == 0 => 1,
             Some(_) => bid.least,
         },
-        greatest: bid.greatest,
+        greatest: match gate {
+            None => bid.greatest.saturating_sub(taken),
+            Some(_) => bid.greatest,
+        },
         gate,
     }
 }
@@ -142,26 +117,30 @@ fn demand_order(demand: &Demand) -> Order
 }
 
 /// The bid of a number.
-fn bid_of(bids: &[Bid], number: u32) -> Bid
+pub(crate) fn bid_of(bids: &[Bid], number: u32) -> Bid
     ensures { result ≡ bid_at bids.now number }
 {
     bids.get(number as usize).copied().unwrap_or(NO_BID)
 }
 
-/// The orders of these bids, by their numbers.
+/// The orders of these bids of a quarter, by their numbers.
 fn bid_orders(
     alloc: Global,
-    bids: &[Bid],
+    books: &Books,
+    remaining: &Remaining,
+    quarter: u32,
     numbers: &[u32],
     gated: &[u32],
 ) -> Result<Vec<Order>, Memory>
-    requires { length gated.now ≤ 512 }
-    ensures { IfOk result (λ orders. orders.items ≡ map (λ i. bid_order_of (bid_at bids.now i) (gate_in gated.now i)) numbers.now) }
+    requires gates { length gated.now ≤ 512 }
+    requires own { All (λ i. (bid_at books.now.bids.bids i).quarter ≡ quarter) numbers.now }
+    ensures { IfOk result (λ orders. orders.items ≡ map (λ i. bid_order_of (bid_at books.now.bids.bids i) (gate_in gated.now i) ((taken_in books.now remaining.now quarter).mw i)) numbers.now) }
 {
     let mut orders = Vec::new(alloc);
     for number in numbers {
+        let bid = bid_of(books.bids.bids.as_slice(), *number);
         let gate = gate_of(gated, *number);
-        orders.push(bid_order(bid_of(bids, *number), gate))?;
+        orders.push(bid_order(bid, gate, remaining.mw_of(*number)))?;
     }
     Ok(orders)
 }
@@ -196,50 +175,107 @@ fn gate_info(links: &[BidLinks], gated: &[u32], number: u32) -> GateInfo
     requires { length gated.now ≤ 512 }
     ensures { result ≡ gate_at links.now gated.now number }
 {
-    match links.get(number as usize) {
-        None => GateInfo {
-            group: None,
-            parent: None,
-        },
-        Some(links) => GateInfo {
-            group: links.group,
-            parent: match links.parent {
-                None => None,
-                Some(parent) => gate_of(gated, parent),
-            },
+    GateInfo {
+        group: group_of(links, number),
+        parent: match parent_of(links, number) {
+            None => None,
+            Some(parent) => gate_of(gated, parent),
         },
     }
 }
 
-/// The borders with the limits of their file.
-fn borders_of(alloc: Global, borders: &[BorderEnds]) -> Result<Vec<Border>, Memory>
-    ensures { IfOk result (λ made. made.items ≡ map border_in borders.now) }
+/// The limits that the files state for a border in a run.
+fn limits_of(books: &Books, run: u32, border: u32, ends: BorderEnds) -> Limits
+    requires accepted { IsAccepted books.now }
+    requires first { 1 ≤ run }
+    requires last { run ≤ length books.now.runs.runs }
+    requires border { border < length books.now.borders.borders }
+    requires ends { ends ≡ ends_at books.now.borders.borders border }
+    ensures limits { result ≡ limits_at books.now run border }
+    ensures limit { result.limit ≤ 99999 }
+    ensures back { result.back ≤ 99999 }
+{
+    match &books.limits {
+        None => Limits {
+            limit: ends.limit,
+            back: ends.back,
+        },
+        Some(book) => {
+            let (limit, back) = book.of(run, border);
+            Limits { limit, back }
+        }
+    }
+}
+
+/// A number, or 0 where it is below.
+fn at_least_0(mw: i64) -> u32
+    requires { mw ≤ℤ pos 199998 }
+    ensures { result ≡ at_least_0_of mw }
+{
+    if mw < 0 { 0 } else { mw as u32 }
+}
+
+/// A border over which so much flowed before, with what is left of its limits.
+fn border_left(ends: BorderEnds, limits: Limits, flow: i64) -> Border
+    requires limit { limits.limit ≤ 99999 }
+    requires back { limits.back ≤ 99999 }
+    requires flow { unsigned_abs flow ≤ 99999 }
+    ensures { result ≡ border_in ends limits flow }
+{
+    Border {
+        from: ends.from,
+        to: ends.to,
+        limit: at_least_0(i64::from(limits.limit) - flow),
+        back: at_least_0(i64::from(limits.back) + flow),
+    }
+}
+
+/// The borders with what is left of their limits in a run.
+fn borders_of(
+    alloc: Global,
+    books: &Books,
+    remaining: &Remaining,
+    run: u32,
+    quarter: u32,
+) -> Result<Vec<Border>, Memory>
+    requires accepted { IsAccepted books.now }
+    requires first { 1 ≤ run }
+    requires last { run ≤ length books.now.runs.runs }
+    requires quarter { quarter ≡ (run_at books.now run).quarter }
+    requires small { All (λ flow. unsigned_abs flow ≤ 99999) remaining.now.flow }
+    ensures { IfOk result (λ made. made.items ≡ borders_left books.now (taken_in books.now remaining.now quarter) run) }
 {
     let mut made = Vec::new(alloc);
-    for border in borders {
-        made.push(Border {
-            from: border.from,
-            to: border.to,
-            limit: border.limit,
-            back: border.back,
-        })?;
+    for (number, ends) in books.borders.borders.as_slice().iter().enumerate() {
+        let flow = remaining.flow_of(quarter, number as u32);
+        let limits = limits_of(books, run, number as u32, *ends);
+        made.push(border_left(*ends, limits, flow))?;
     }
     Ok(made)
 }
 
-/// The orders of the bids, and then those of the demands.
+/// The orders of a run's bids, and then those of its demands.
 fn orders_of(
     alloc: Global,
     books: &Books,
-    numbers: &[u32],
-    gated: &[u32],
+    remaining: &Remaining,
+    quarter: u32,
+    choice: &Choice,
     demands: &[Demand],
 ) -> Result<Vec<Order>, Memory>
-    requires gates { length gated.now ≤ 512 }
+    requires gates { length choice.now.gated.items ≤ 512 }
+    requires own { All (λ i. (bid_at books.now.bids.bids i).quarter ≡ quarter) choice.now.numbers.items }
     requires small { All (λ d. unsigned_abs d.mw ≤ 99999) demands.now }
-    ensures { IfOk result (λ orders. orders.items ≡ orders_in books.now.bids.bids numbers.now gated.now demands.now) }
+    ensures { IfOk result (λ orders. orders.items ≡ orders_in books.now.bids.bids (taken_in books.now remaining.now quarter).mw choice.now.numbers.items choice.now.gated.items demands.now) }
 {
-    let mut orders = bid_orders(alloc, books.bids.bids.as_slice(), numbers, gated)?;
+    let mut orders = bid_orders(
+        alloc,
+        books,
+        remaining,
+        quarter,
+        &choice.numbers,
+        &choice.gated,
+    )?;
     for demand in demands {
         orders.push(demand_order(demand))?;
     }
@@ -256,18 +292,25 @@ pub fn run_entry(books: &Books, run: u32) -> Run
 }
 
 /// The market of a run, from its entry.
-fn made_of(alloc: Global, books: &Books, run: u32) -> Result<RunMarket, Memory>
+fn made_of(
+    alloc: Global,
+    books: &Books,
+    remaining: &Remaining,
+    run: u32,
+) -> Result<RunMarket, Memory>
     requires accepted { IsAccepted books.now }
     requires first { 1 ≤ run }
-    ensures { IfOk result (λ made. made ≡ run_market_of books.now run) }
+    requires last { run ≤ length books.now.runs.runs }
+    requires small { All (λ flow. unsigned_abs flow ≤ 99999) remaining.now.flow }
+    requires index { remaining.now.of_quarter ≡ map (bids_of_quarter books.now.bids.bids) (range_with_len 0 (books.now.quarters + 1)) }
+    ensures { IfOk result (λ made. made ≡ run_market_left books.now (taken_in books.now remaining.now (run_at books.now run).quarter) run) }
 {
     let entry = run_entry(books, run);
-    let bids = numbers_of(alloc, books.bids.bids.as_slice(), entry.quarter)?;
-    let gated = gated_of(alloc, &books.links, &bids)?;
+    let choice = choose(alloc, books, remaining, entry)?;
     let demands = demands_of(alloc, books.demands.demands.as_slice(), run)?;
-    let orders = orders_of(alloc, books, &bids, &gated, &demands)?;
-    let gates = gates_of(alloc, books.links.links.as_slice(), &gated)?;
-    let borders = borders_of(alloc, books.borders.borders.as_slice())?;
+    let orders = orders_of(alloc, books, remaining, entry.quarter, &choice, &demands)?;
+    let gates = gates_of(alloc, books.links.links.as_slice(), &choice.gated)?;
+    let borders = borders_of(alloc, books, remaining, run, entry.quarter)?;
     Ok(RunMarket {
         market: Market {
             zones: books.zones.zones.len(),
@@ -276,20 +319,46 @@ fn made_of(alloc: Global, books: &Books, run: u32) -> Result<RunMarket, Memory>
             gates: Items::of(gates),
             reference: entry.reference,
         },
-        bids: Items::of(bids),
+        bids: Items::of(choice.numbers),
         demands: demands.len() as u32,
     })
 }
 
-/// The market of a run, counted from 1, before which nothing ran in its quarter: the bids of the quarter in the order of their
-/// file, then the run's demands; the borders with the limits of their file.
-pub fn market_of(alloc: Global, books: &Books, run: u32) -> Result<RunMarket, Memory>
-    requires accepted { IsAccepted books.now }
-    requires first { 1 ≤ run }
-    requires last { run ≤ length books.now.runs.runs }
-    ensures market { IfOk result (λ made. made ≡ run_market_of books.now run) }
-    ensures valid { IfOk result (λ made. IsValid made.market) }
-{
-    let made = made_of(alloc, books, run)?;
-    Ok(made)
+impl Remaining {
+    /// The market of a run, counted from 1, behind the blocks of all runs before it: its available bids in the order of their file,
+    /// then its demands, over the borders with what is left of their limits.
+    pub fn market_of(&self, alloc: Global, books: &Books, run: u32) -> Result<RunMarket, Memory>
+        requires accepted { IsAccepted books.now }
+        requires last { run ≤ length books.now.runs.runs }
+        requires stands { (blocks : List PastBlock) × StandsFor books.now blocks self.now × (run ≡ length blocks + 1) }
+
+        // Exactly the market behind the blocks, whatever list of them this stands for.
+        ensures market { (blocks : List PastBlock) → StandsFor books.now blocks self.now → run ≡ length blocks + 1
+            → IfOk result (λ made. made ≡ run_market_of books.now blocks run) }
+        ensures valid { IfOk result (λ made. IsValid made.market) }
+    {
+        let made = made_of(alloc, books, self, run)?;
+        Ok(made)
+    }
+
+    /// Adds the published block of a run: the market that was made of it here, and an activation that is feasible in it.
+    pub fn after(&mut self, books: &Books, run: u32, made: &RunMarket, activation: &Activation)
+        requires accepted { IsAccepted books.now }
+        requires last { run ≤ length books.now.runs.runs }
+        requires stands { (blocks : List PastBlock) × StandsFor books.now blocks self.old × (run ≡ length blocks + 1) × (made.now ≡ run_market_of books.now blocks run) }
+        requires feasible { IsFeasible made.now.market activation.now }
+
+        // Whatever list of blocks this stood for, it then stands for that list followed by this block.
+        ensures { (blocks : List PastBlock) → StandsFor books.now blocks self.old → run ≡ length blocks + 1 → made.now ≡ run_market_of books.now blocks run
+            → StandsFor books.now (blocks ++ block_of books.now run made.now.bids activation.now ∷ []) self.new }
+    {
+        let entry = run_entry(books, run);
+        let bids = made.bids.as_slice();
+        let mw = activation.mw.as_slice();
+        add_mw(&mut self.mw, bids, mw);
+        mark_if(entry.direct, &mut self.direct, bids, mw);
+        let same = self.is_of(entry.quarter);
+        carry(same, &mut self.flow, activation.flow.as_slice());
+        self.quarter = Some(entry.quarter);
+    }
 }

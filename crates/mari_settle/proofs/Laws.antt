@@ -58,7 +58,7 @@ sum_below-point k v n h =
     ∙ sum_below-place (λ z. pos 1) k v n h
     ∙ one_times v
 
-range_is_below : (f : ℕ → ℤ) (n : ℕ) → int_sum f (range_with_len 0 n) ≡ sum_below n f
+pub range_is_below : (f : ℕ → ℤ) (n : ℕ) → int_sum f (range_with_len 0 n) ≡ sum_below n f
 range_is_below f zero = refl
 range_is_below f (suc n) =
     let e : suc n ≡ n + 1 = omega arith in

@@ -6,3 +6,4 @@ pub mod Laws
 pub mod Books
 pub mod Sizes
 pub mod Named
+pub mod Bounds

@@ -1,5 +1,5 @@
 -- The ledger of a run: the rents of its borders, and what operators and providers get for the energy that they exchange.
-use Rattle.std.specs.Prelude.{◌==◌, if◌then◌else◌, Bool, true, false, ℕ, ℤ, pos, neg_ℤ, ◌+ℤ◌, ◌-ℤ◌, ◌*ℤ◌, List, length, map, slice_get, slice_index, Option, Some, None}
+use Rattle.std.specs.Prelude.{int_le, ◌==◌, if◌then◌else◌, Bool, true, false, ℕ, ℤ, pos, neg_ℤ, ◌+ℤ◌, ◌-ℤ◌, ◌*ℤ◌, List, length, map, slice_get, slice_index, Option, Some, None}
 use Rattle.std.specs.Int.{int_div_euclid}
 use Rattle.std.specs.List.{range_with_len}
 use Rattle.mari_units.specs.declared.numbers.Cents.{Cents}
@@ -78,15 +78,26 @@ abbrev pub earned : Bool → ℤ → ℕ → ℤ
 earned true p q = p *ℤ pos q
 earned false p q = neg_ℤ (p *ℤ pos q)
 
--- what q MW of the bid earn a provider: nothing where the bid is another's
-abbrev pub bid_amount : List Cents → ℕ → Option Bid → ℕ → ℤ
-bid_amount ps provider None q = pos 0
-bid_amount ps provider (Some bid) q = if bid.provider == provider then earned bid.up (price_at ps bid.zone) q else pos 0
+-- the price that a bid is paid at, of the run's and the scheduled one: an upward bid at the greater, a downward bid at the lesser
+abbrev pub paid_at : Bool → (own scheduled : ℤ) → ℤ
+paid_at true own scheduled = if int_le own scheduled then scheduled else own
+paid_at false own scheduled = if int_le own scheduled then own else scheduled
+
+-- the scheduled prices of a run's quarter, or where there are none its own, so that its bids are paid at these
+abbrev pub scheduled_or : List Cents → Option (List Cents) → List Cents
+scheduled_or ps None = ps
+scheduled_or ps (Some scheduled) = scheduled
+
+-- what q MW of the bid earn a provider at these prices of the run and its quarter's scheduled ones: nothing where the bid is another's
+abbrev pub bid_amount : (ps scheduled : List Cents) → ℕ → Option Bid → ℕ → ℤ
+bid_amount ps scheduled provider None q = pos 0
+bid_amount ps scheduled provider (Some bid) q =
+    if bid.provider == provider then earned bid.up (paid_at bid.up (price_at ps bid.zone) (price_at scheduled bid.zone)) q else pos 0
 
 -- a provider's amount: what its bids among these earn it, which are the bids of the first orders
-abbrev pub provider_amount : BidBook → List ℕ → Activation → List Cents → ℕ → ℤ
-provider_amount bids numbers a ps provider = sum_along (λ number q. bid_amount ps provider (slice_get bids.bids number) q) numbers a.mw
+abbrev pub provider_amount : BidBook → List ℕ → Activation → (ps scheduled : List Cents) → ℕ → ℤ
+provider_amount bids numbers a ps scheduled provider = sum_along (λ number q. bid_amount ps scheduled provider (slice_get bids.bids number) q) numbers a.mw
 
-abbrev pub provider_amounts : BidBook → List ℕ → Activation → List Cents → List Quarters
-provider_amounts bids numbers a ps =
-    map (λ provider. record { 0 = provider_amount bids numbers a ps provider }) (range_with_len 0 (length bids.providers))
+abbrev pub provider_amounts : BidBook → List ℕ → Activation → (ps scheduled : List Cents) → List Quarters
+provider_amounts bids numbers a ps scheduled =
+    map (λ provider. record { 0 = provider_amount bids numbers a ps scheduled provider }) (range_with_len 0 (length bids.providers))

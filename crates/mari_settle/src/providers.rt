@@ -5,7 +5,7 @@ ghost use Rattle.std.specs.List.{All};
 ghost use Rattle.mari_market.specs.Price.{price_at};
 ghost use Rattle.mari_market.specs.Sums.{sum_along};
 ghost use Rattle.mari_settle.specs.Conditions.{IsCapped, IsWithin, NamesBid};
-ghost use Rattle.mari_settle.specs.Ledger.{bid_amount, earned as earned_by, provider_amounts};
+ghost use Rattle.mari_settle.specs.Ledger.{bid_amount, earned as earned_by, paid_at, provider_amounts};
 ghost use Rattle.mari_settle.specs.Lines.{amount_at};
 
 use crate::rents::{price_of, product};
@@ -13,15 +13,37 @@ use mari_bids::{Bid, BidBook};
 use mari_market::Activation;
 use mari_units::{Cents, Quarters};
 
-// What so many MW of a bid earn its provider.
-fn earned(bid: &Bid, mw: u32, prices: &[Cents]) -> i128
+// The price that a bid is paid at: an upward one at the greater of the run's and the scheduled one, a downward one at the lesser.
+fn paid_price(bid: &Bid, prices: &[Cents], scheduled: &[Cents]) -> i64
     requires zone { bid.now.zone < length prices.now }
+    requires lengths { length scheduled.now ≡ length prices.now }
     requires prices { All IsCapped prices.now }
+    requires scheduled { All IsCapped scheduled.now }
+    ensures value { result ≡ paid_at bid.now.up (price_at prices.now bid.now.zone) (price_at scheduled.now bid.now.zone) }
+    ensures small { unsigned_abs result ≤ 9999900 }
+{
+    let own = price_of(prices, bid.zone);
+    let other = price_of(scheduled, bid.zone);
+    if bid.up {
+        if own <= other { other } else { own }
+    } else if own <= other {
+        own
+    } else {
+        other
+    }
+}
+
+// What so many MW of a bid earn its provider.
+fn earned(bid: &Bid, mw: u32, prices: &[Cents], scheduled: &[Cents]) -> i128
+    requires zone { bid.now.zone < length prices.now }
+    requires lengths { length scheduled.now ≡ length prices.now }
+    requires prices { All IsCapped prices.now }
+    requires scheduled { All IsCapped scheduled.now }
     requires mw { mw ≤ 99999 }
-    ensures value { result ≡ earned_by bid.now.up (price_at prices.now bid.now.zone) mw }
+    ensures value { result ≡ earned_by bid.now.up (paid_at bid.now.up (price_at prices.now bid.now.zone) (price_at scheduled.now bid.now.zone)) mw }
     ensures small { unsigned_abs result ≤ 1000000000000 }
 {
-    let worth = product(price_of(prices, bid.zone), i64::from(mw));
+    let worth = product(paid_price(bid, prices, scheduled), i64::from(mw));
     if bid.up { worth } else { -worth }
 }
 
@@ -47,21 +69,30 @@ fn pay(amounts: &mut [Quarters], provider: u32, amount: i128)
 }
 
 // Pays each provider what its bids among these earn it.
-fn pay_all(amounts: &mut [Quarters], bids: &BidBook, numbers: &[u32], mw: &[u32], prices: &[Cents])
+fn pay_all(
+    amounts: &mut [Quarters],
+    bids: &BidBook,
+    numbers: &[u32],
+    mw: &[u32],
+    prices: &[Cents],
+    scheduled: &[Cents],
+)
     requires lengths { length amounts.old ≡ length bids.now.providers }
     requires cleared { (k : ℕ) → amount_at amounts.old k ≡ pos 0 }
     requires few { length numbers.now ≤ 4608 }
     requires one_each { length numbers.now ≤ length mw.now }
     requires mw { All (λ q. q ≤ 99999) mw.now }
+    requires lengths_too { length scheduled.now ≡ length prices.now }
     requires prices { All IsCapped prices.now }
+    requires scheduled { All IsCapped scheduled.now }
     requires numbers { All (NamesBid bids.now (length prices.now)) numbers.now }
     ensures lengths { length amounts.new ≡ length bids.now.providers }
-    ensures paid { (k : ℕ) → amount_at amounts.new k ≡ sum_along (λ number q. bid_amount prices.now k (slice_get bids.now.bids number) q) numbers.now mw.now }
+    ensures paid { (k : ℕ) → amount_at amounts.new k ≡ sum_along (λ number q. bid_amount prices.now scheduled.now k (slice_get bids.now.bids number) q) numbers.now mw.now }
     ensures small { (k : ℕ) → unsigned_abs (amount_at amounts.new k) ≤ 4608 * 1000000000000 }
 {
     for (i, number) in numbers.iter().enumerate() {
         let bid = &bids.bids.as_slice()[*number as usize];
-        pay(amounts, bid.provider, earned(bid, mw[i], prices));
+        pay(amounts, bid.provider, earned(bid, mw[i], prices, scheduled));
     }
 }
 
@@ -72,16 +103,26 @@ pub(crate) fn write_amounts(
     numbers: &[u32],
     activation: &Activation,
     prices: &[Cents],
+    scheduled: &[Cents],
 )
     requires lengths { length amounts.old ≡ length bids.now.providers }
     requires few { length numbers.now ≤ 4608 }
     requires one_each { length numbers.now ≤ length activation.now.mw }
     requires mw { All (λ q. q ≤ 99999) activation.now.mw }
+    requires lengths_too { length scheduled.now ≡ length prices.now }
     requires prices { All IsCapped prices.now }
+    requires scheduled { All IsCapped scheduled.now }
     requires numbers { All (NamesBid bids.now (length prices.now)) numbers.now }
-    ensures value { amounts.new ≡ provider_amounts bids.now numbers.now activation.now prices.now }
+    ensures value { amounts.new ≡ provider_amounts bids.now numbers.now activation.now prices.now scheduled.now }
     ensures small { All (IsWithin (10 ^ 17)) amounts.new }
 {
     clear(amounts);
-    pay_all(amounts, bids, numbers, activation.mw.as_slice(), prices);
+    pay_all(
+        amounts,
+        bids,
+        numbers,
+        activation.mw.as_slice(),
+        prices,
+        scheduled,
+    );
 }

@@ -92,6 +92,7 @@ fn ledger_of(
             prices,
             activation,
             &mut ledger,
+            None,
         );
         Ok(ledger)
     } else {

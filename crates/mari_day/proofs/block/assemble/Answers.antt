@@ -1,18 +1,18 @@
 use Rattle.std.proofs.Common.{◌≡◌, ◌≤◌, ◌<◌, ◌∙◌, length, arith, refl}
 use Rattle.std.specs.List.{All}
-use Rattle.mari_remain.proofs.Validity.{there}
 use Rattle.mari_day.proofs.Money.{providers-there}
+use Rattle.mari_day.proofs.Shapes.{there_first}
 use Rattle.mari_day.proofs.block.assemble.Goals as goal
 
 pub bid_lines-requires-clause-there : goal.bid_lines-requires-clause-there
-bid_lines-requires-clause-there c = rw (c.requires.numbers, c.requires.accepted.bids.named) (there c.args.books.now c.args.run c.requires.accepted)
+bid_lines-requires-clause-there c = rw (c.requires.numbers, c.requires.accepted.bids.named) (there_first c.args.books.now c.args.run c.requires.accepted)
 
 pub money_lines-requires-clause-few : goal.money_lines-requires-clause-few
 money_lines-requires-clause-few c = c.requires.accepted.zones.few_operators
 
 pub provider_lines-requires-clause-there : goal.provider_lines-requires-clause-there
 provider_lines-requires-clause-there c =
-    rw c.requires.numbers (providers-there c.args.books.now.bids.bids _ _ (λ k d l. (c.requires.accepted.bids.bids k d l).provider) (there c.args.books.now c.args.run c.requires.accepted))
+    rw c.requires.numbers (providers-there c.args.books.now.bids.bids _ _ (λ k d l. (c.requires.accepted.bids.bids k d l).provider) (there_first c.args.books.now c.args.run c.requires.accepted))
 
 pub returns : goal.returns
 returns c = record {

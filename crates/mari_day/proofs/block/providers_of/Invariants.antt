@@ -1,5 +1,5 @@
 use Rattle.std.proofs.Common.{◌≡◌, drop, fold, map}
-use Rattle.mari_remain.specs.RunMarket.{bid_at}
+use Rattle.mari_remain.specs.Lists.{bid_at}
 use Rattle.mari_day.specs.Money.{providers_among, with_number}
 use Rattle.mari_day.proofs.block.providers_of.Given as goal
 

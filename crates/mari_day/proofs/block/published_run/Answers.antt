@@ -1,4 +1,4 @@
-use Rattle.std.proofs.Common.{◌≡◌, ◌^◌, ◌<◌, ◌≤◌, ◌*◌, ◌∙◌, ℕ, pos, ◌≤ℤ◌, length, subst, sym, ap, arith}
+use Rattle.std.proofs.Common.{[], ◌≡◌, ◌^◌, ◌<◌, ◌≤◌, ◌*◌, ◌∙◌, ℕ, pos, ◌≤ℤ◌, length, subst, sym, ap, arith}
 use Rattle.std.proofs.lemmas.Int.{ints}
 use Rattle.mari_market.specs.Activation.{welfare_of}
 use Rattle.mari_market.specs.Clearing.{IsClearing}
@@ -29,7 +29,7 @@ returns-clause-published c = λ budget clears.
     let Q : RunMarket → Type 0 = λ made. IsClearing made.market budget c.args.clearing in
     let feasible = subst P c.requires.made c.requires.optimal.admissible.feasible in
     published c.args.books.now budget c.args.run c.args.clearing c.in_ok-priced.priced c.in_ok-block.block c.in_ok-block.ensures (subst Q c.requires.made clears) c.in_ok-priced.ensures
-    (as_many (market_at c.args.books.now c.args.run) c.args.clearing.activation feasible)
+    (as_many (market_at c.args.books.now [] c.args.run) c.args.clearing.activation feasible)
 
 pub returns-clause-fits : goal.returns-clause-fits
 returns-clause-fits c = λ budget small clears.
@@ -39,7 +39,7 @@ returns-clause-fits c = λ budget small clears.
     let feasible = subst P c.requires.made c.requires.optimal.admissible.feasible in
     let own = subst Q c.requires.made clears in
     let valid = subst V c.requires.made c.requires.valid in
-    let m = market_at c.args.books.now c.args.run in
+    let m = market_at c.args.books.now [] c.args.run in
     let whole = published c.args.books.now budget c.args.run c.args.clearing c.in_ok-priced.priced c.in_ok-block.block c.in_ok-block.ensures own c.in_ok-priced.ensures (as_many m c.args.clearing.activation feasible) in
     block-fits c.args.books.now c.requires.accepted c.requires.dated budget c.args.run c.args.clearing c.in_ok-priced.priced c.in_ok-block.block c.in_ok-block.ensures
     (shapes c.args.books.now c.args.run c.requires.accepted c.args.clearing c.in_ok-priced.priced c.in_ok-priced.ensures feasible) c.in_ok-priced.ensures valid feasible

@@ -1,4 +1,4 @@
-use Rattle.std.proofs.Common.{◌≡◌, ◌≤◌, length, subst, sym, arith}
+use Rattle.std.proofs.Common.{[], ◌≡◌, ◌≤◌, length, subst, sym, arith}
 use Rattle.mari_publish.specs.Ranges.{Between, IsHeading}
 use Rattle.mari_publish.specs.declared.publication.Heading.{Heading}
 use Rattle.mari_day.proofs.Days.{heading-fits, spent-fits}
@@ -15,3 +15,6 @@ returns-in-Spent-clause-fits g c =
     let P : Heading → Type 0 = λ h. IsHeading h in
     let heading = subst P (sym c.heading.ensures) (heading-fits c.args.books.now c.requires.accepted c.requires.dated c.args.run c.requires.run.0 c.requires.run.1) in
     (heading, rw c.as_slice.ensures (spent-fits c.args.books.now c.requires.accepted c.requires.dated c.in_ok-made.made.market c.args.budget c.in-Spent.spent c.requires.budget.1 c.in-Spent.ensures.law))
+
+pub market_of-requires-clause-stands : goal.market_of-requires-clause-stands
+market_of-requires-clause-stands g c = ([], c.in_ok-remaining.ensures, omega (arith, c.requires.first))

@@ -1,18 +1,34 @@
-use Rattle.std.proofs.Common.{◌≡◌, ◌≤◌, arith, length, refl}
+use Rattle.std.proofs.Common.{◌≡◌, ◌≤◌, ℕ, Bool, arith, length, refl}
+use Rattle.mari_remain.specs.Available.{is_available}
+use Rattle.mari_remain.specs.FirstBlocks.{taken_in}
 use Rattle.mari_remain.specs.RunMarket.{demands_of_run}
-use Rattle.mari_remain.proofs.Validity.{few, few_of_quarter, small}
+use Rattle.mari_remain.proofs.Choosing.{few-chosen, own-chosen}
+use Rattle.mari_remain.proofs.Validity.{few, small}
 use Rattle.mari_remain.proofs.market.made_of.Goals as goal
 
-pub orders_of-requires-clause-small : goal.orders_of-requires-clause-small
-orders_of-requires-clause-small c = rw (c.deref-4.ensures.value, c.in_ok-demands.ensures, c.as_slice-2.ensures) (small c.args.books.now c.args.run c.requires.accepted)
-
 pub orders_of-requires-clause-gates : goal.orders_of-requires-clause-gates
-orders_of-requires-clause-gates c = rw (c.deref-3.ensures.value, c.in_ok-gated.ensures, c.deref.ensures.value, c.in_ok-bids.ensures, c.as_slice.ensures) (few_of_quarter c.args.books.now c.args.run c.requires.accepted c.run_entry-entry.result.quarter)
+orders_of-requires-clause-gates c =
+    let run = c.run_entry-entry.result in
+    let avail : ℕ → Bool = is_available c.args.books.now (taken_in c.args.books.now c.args.remaining.now run.quarter) run in
+    few-chosen c.args.books.now avail run.quarter c.in_ok-choice.choice.numbers.items c.in_ok-choice.choice.gated.items c.requires.accepted c.in_ok-choice.ensures.numbers c.in_ok-choice.ensures.gated
+
+pub orders_of-requires-clause-own : goal.orders_of-requires-clause-own
+orders_of-requires-clause-own c =
+    let run = c.run_entry-entry.result in
+    let avail : ℕ → Bool = is_available c.args.books.now (taken_in c.args.books.now c.args.remaining.now run.quarter) run in
+    own-chosen c.args.books.now avail run.quarter c.in_ok-choice.choice.numbers.items c.in_ok-choice.ensures.numbers
+
+pub orders_of-requires-clause-small : goal.orders_of-requires-clause-small
+orders_of-requires-clause-small c = rw (c.deref.ensures.value, c.in_ok-demands.ensures, c.as_slice.ensures) (small c.args.books.now c.requires.accepted c.args.run)
 
 pub gates_of-requires : goal.gates_of-requires
-gates_of-requires c = rw (c.deref-5.ensures.value, c.in_ok-gated.ensures, c.deref.ensures.value, c.in_ok-bids.ensures, c.as_slice.ensures) (few_of_quarter c.args.books.now c.args.run c.requires.accepted c.run_entry-entry.result.quarter)
+gates_of-requires c =
+    let run = c.run_entry-entry.result in
+    let avail : ℕ → Bool = is_available c.args.books.now (taken_in c.args.books.now c.args.remaining.now run.quarter) run in
+    rw c.deref-2.ensures.value
+    (few-chosen c.args.books.now avail run.quarter c.in_ok-choice.choice.numbers.items c.in_ok-choice.choice.gated.items c.requires.accepted c.in_ok-choice.ensures.numbers c.in_ok-choice.ensures.gated)
 
 pub overflow_cast-result : goal.overflow_cast-result
 overflow_cast-result c =
-    let count : length c.in_ok-demands.demands.items ≡ length (demands_of_run c.args.books.now.demands.demands c.args.run) = rw (c.in_ok-demands.ensures, c.as_slice-2.ensures) refl in
-    omega (arith, few c.args.books.now c.args.run c.requires.accepted, count, c.len-2.ensures)
+    let count : length c.in_ok-demands.demands.items ≡ length (demands_of_run c.args.books.now.demands.demands c.args.run) = rw (c.in_ok-demands.ensures, c.as_slice.ensures) refl in
+    omega (arith, few c.args.books.now c.requires.accepted c.args.run, count, c.len-2.ensures)

@@ -7,6 +7,6 @@ use Rattle.mari_settle.proofs.providers.pay_all.Given as goal
 
 abbrev pub invariant-loop-i : goal.invariant-loop-i
 invariant-loop-i l = record {
-  paid : (k : ℕ) → amount_at l.amounts k ≡ sum_along (λ number q. bid_amount l.prices k (slice_get l.bids.bids number) q) (take l.i l.numbers) (take l.i l.mw);
+  paid : (k : ℕ) → amount_at l.amounts k ≡ sum_along (λ number q. bid_amount l.prices l.scheduled k (slice_get l.bids.bids number) q) (take l.i l.numbers) (take l.i l.mw);
   small : (k : ℕ) → unsigned_abs (amount_at l.amounts k) ≤ 1000000000000 * l.i;
 }

@@ -1,0 +1,23 @@
+-- Limits as a table: for each run the limits of each border.
+use Rattle.std.specs.Prelude.{◌≡◌, ◌≤◌, ◌<◌, ℕ, ◌+◌, ◌-◌, ◌*◌, List, [], get_or, length, map}
+use Rattle.std.specs.List.{range_with_len}
+use Rattle.mari_demands.specs.declared.limits.Limits.{Limits}
+
+-- no limit at all: nothing may flow
+abbrev pub no_limits : Limits
+no_limits = record { limit = 0; back = 0 }
+
+-- the table of a list that has the limits of the first run's borders first, then those of the second's, and so on
+abbrev pub table_of : (runs borders : ℕ) → List Limits → List (List Limits)
+table_of runs borders flat = map (λ run. map (λ border. get_or flat (run * borders + border) no_limits) (range_with_len 0 borders)) (range_with_len 0 runs)
+
+-- a border's limits in a run, which counts from 1
+abbrev pub limits_in : List (List Limits) → (run border : ℕ) → Limits
+limits_in table run border = get_or (get_or table (run - 1) []) border no_limits
+
+-- a table of limits in range, for so many runs and borders
+pub record IsLimitTable (runs borders : ℕ) (table : List (List Limits)) : Type 0 where
+  pub runs_there : length table ≡ runs
+  pub borders_there : (run : ℕ) → run < runs → length (get_or table run []) ≡ borders
+  pub limit : (run border : ℕ) → (limits_in table run border).limit ≤ 99999
+  pub back : (run border : ℕ) → (limits_in table run border).back ≤ 99999

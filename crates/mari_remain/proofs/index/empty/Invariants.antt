@@ -1,0 +1,7 @@
+use Rattle.std.proofs.Common.{◌≡◌, List, [], ℕ, map}
+use Rattle.std.specs.List.{range_with_len}
+use Rattle.mari_remain.proofs.index.empty.Given as goal
+
+-- as many empty lists as so far
+abbrev pub invariant-loop-key : goal.invariant-loop-key
+invariant-loop-key l = l.made.items ≡ map (λ key. []) (range_with_len 0 l.key)

@@ -1,0 +1,122 @@
+//! What earlier blocks of a day left.
+
+ghost use Rattle.std.specs.Prelude.{◌≡◌, ◌≤◌, ◌<◌, ◌+◌, ◌++◌, ◌∷◌, ◌==◌, [], IfOk, false, get_or, if◌then◌else◌, length, map, nat_lt, pos, unsigned_abs};
+ghost use Rattle.std.specs.List.{All, range_with_len};
+ghost use Rattle.std.specs.Option.{option_map_or};
+ghost use Rattle.mari_remain.specs.Accepted.{IsAccepted};
+ghost use Rattle.mari_remain.specs.FirstBlocks.{StandsFor};
+ghost use Rattle.mari_remain.specs.Lists.{bids_of_quarter};
+ghost use Rattle.mari_bids.specs.declared.bids.Bid.{Bid as TheBid};
+
+use crate::books::Books;
+use crate::index::{Numbers, index_of};
+use mari_bids::Bid;
+use mari_units::Memory;
+use std::alloc::Global;
+use std::marker::Model;
+
+/// What the blocks of a day's first runs took: the MW of each bid, which bids a direct run activated, the quarter of the last
+/// published block, and the sum of each border's flows in that quarter. It also holds the bids of each quarter.
+#[derive(Debug, Drop)]
+pub struct Remaining {
+    pub(crate) mw: Vec<u32>,
+    pub(crate) direct: Vec<bool>,
+    pub(crate) quarter: Option<u32>,
+    pub(crate) flow: Vec<i64>,
+    pub(crate) of_quarter: Vec<Numbers>,
+}
+
+impl Model for Remaining {
+    ghost use Rattle.mari_remain.specs.FirstBlocks.{Kept};
+
+    ghost Value = { Kept };
+
+    ghost view = { λ r. record { mw = r.mw.items; direct = r.direct.items; quarter = r.quarter; flow = r.flow.items; of_quarter = r.of_quarter.items } };
+}
+
+// The quarter of each bid.
+fn quarters_of(alloc: Global, bids: &[Bid]) -> Result<Vec<u32>, Memory>
+    ensures { IfOk result (λ quarters. quarters.items ≡ map (λ (bid : TheBid). bid.quarter) bids.now) }
+{
+    let mut quarters = Vec::new(alloc);
+    for bid in bids {
+        quarters.push(bid.quarter)?;
+    }
+    Ok(quarters)
+}
+
+// The bids of each quarter of the day.
+fn bids_by_quarter(alloc: Global, books: &Books) -> Result<Vec<Numbers>, Memory>
+    requires { IsAccepted books.now }
+    ensures { IfOk result (λ index. index.items ≡ map (bids_of_quarter books.now.bids.bids) (range_with_len 0 (books.now.quarters + 1))) }
+{
+    let quarters = quarters_of(alloc, books.bids.bids.as_slice())?;
+    let index = index_of(alloc, &quarters, books.quarters + 1)?;
+    Ok(index)
+}
+
+impl Remaining {
+    /// What is left before the first run: everything.
+    pub fn start(alloc: Global, books: &Books) -> Result<Remaining, Memory>
+        requires { IsAccepted books.now }
+        ensures { IfOk result (StandsFor books.now []) }
+    {
+        let bids = books.bids.bids.as_slice().len();
+        let borders = books.borders.borders.as_slice().len();
+        Ok(Remaining {
+            mw: vec![in alloc; 0u32; bids]?,
+            direct: vec![in alloc; false; bids]?,
+            quarter: None,
+            flow: vec![in alloc; 0i64; borders]?,
+            of_quarter: bids_by_quarter(alloc, books)?,
+        })
+    }
+
+    /// The MW of a bid so far.
+    pub(crate) fn mw_of(&self, bid: u32) -> u32
+        ensures { result ≡ get_or self.now.mw bid 0 }
+    {
+        self.mw.get(bid as usize).copied().unwrap_or(0)
+    }
+
+    /// Whether a bid was activated.
+    pub(crate) fn is_activated(&self, bid: u32) -> bool
+        ensures { result ≡ nat_lt 0 (get_or self.now.mw bid 0) }
+    {
+        self.mw_of(bid) > 0
+    }
+
+    /// Whether a direct run activated a bid.
+    pub(crate) fn by_direct_run(&self, bid: u32) -> bool
+        ensures { result ≡ get_or self.now.direct bid false }
+    {
+        self.direct.get(bid as usize).copied().unwrap_or(false)
+    }
+
+    /// Whether the last published block is of a quarter.
+    pub(crate) fn is_of(&self, quarter: u32) -> bool
+        ensures { result ≡ option_map_or (λ last. last == quarter) self.now.quarter false }
+    {
+        self.quarter == Some(quarter)
+    }
+
+    /// The sum of a border's flows in the published blocks of a quarter.
+    pub(crate) fn flow_of(&self, quarter: u32, border: u32) -> i64
+        ensures flow { result ≡ (if option_map_or (λ last. last == quarter) self.now.quarter false then get_or self.now.flow border (pos 0) else pos 0) }
+        ensures small { All (λ flow. unsigned_abs flow ≤ 99999) self.now.flow → unsigned_abs result ≤ 99999 }
+    {
+        if self.quarter == Some(quarter) {
+            self.flow.get(border as usize).copied().unwrap_or(0)
+        } else {
+            0
+        }
+    }
+
+    /// The bids of a quarter.
+    pub(crate) fn bids_of(&self, quarter: u32) -> &[u32]
+        requires { quarter < length self.now.of_quarter }
+        ensures { result.now ≡ get_or self.now.of_quarter quarter [] }
+    {
+        self.of_quarter[quarter as usize].as_slice()
+    }
+}

@@ -7,6 +7,7 @@
 
 mod faults;
 mod items;
+mod limits;
 mod name;
 mod numbers;
 mod printing;
@@ -14,6 +15,10 @@ mod reading;
 
 pub use faults::{Memory, NameFault, NumberFault, Refusal};
 pub use items::Items;
+pub use limits::{
+    MOST_BID_MW, MOST_BIDS, MOST_BORDERS, MOST_DEMANDS, MOST_FLOW, MOST_GATES, MOST_MW, MOST_PAGE,
+    MOST_QUARTERS, MOST_RUNS, MOST_ZONES,
+};
 pub use name::{Name, is_name_text, read_name};
 pub use numbers::{CAP, Cents, Mw, Quarters};
 pub use printing::{cents_text, euros_text, whole_text};

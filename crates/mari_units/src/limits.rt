@@ -1,0 +1,34 @@
+//! The limits of the market files and of a run's market: this project's profile, each said once.
+
+/// The most bidding zones of a day.
+pub const MOST_ZONES: usize = 64;
+
+/// The most borders of a day.
+pub const MOST_BORDERS: usize = 256;
+
+/// The most quarter hours of a day: 100 hours, so that any change of the clock fits.
+pub const MOST_QUARTERS: u32 = 400;
+
+/// The most runs of a day.
+pub const MOST_RUNS: usize = 1_000;
+
+/// The most bids of a quarter hour.
+pub const MOST_BIDS: usize = 4_096;
+
+/// The most gates of a quarter hour, hence of a run's market.
+pub const MOST_GATES: usize = 512;
+
+/// The most demands of a run.
+pub const MOST_DEMANDS: usize = 512;
+
+/// The greatest quantity of a bid, in MW.
+pub const MOST_BID_MW: u32 = 9_999;
+
+/// The greatest size of a demand, and the greatest limit of a border in a file, in MW.
+pub const MOST_MW: u32 = 99_999;
+
+/// The greatest limit of a border in a run, in MW: its limit in the file and what flowed the other way before.
+pub const MOST_FLOW: u32 = 199_998;
+
+/// The most bytes of a page.
+pub const MOST_PAGE: usize = 268_435_456;

@@ -2,8 +2,9 @@
 
 ghost use Rattle.std.specs.Prelude.{◌≡◌, ◌||◌, ◌<◌, ◌≤◌, ℕ, length, IsTrue, IfSome, ◌↔◌};
 ghost use Rattle.std.specs.List.{All};
+ghost use Rattle.mari_market.specs.GateRuns.{is_run_of};
 ghost use Rattle.mari_market.specs.Gates.{KeepsGateRules, group_of as group_of_gate, parent_of as parent_of_gate};
-ghost use Rattle.mari_welfare.specs.Gates.{HasOpenParent, IsAlone, IsAloneIn, IsRival, IsOfFewGates, KeepsRulesAt, is_run_of, opens_by, opens_in};
+ghost use Rattle.mari_welfare.specs.Gates.{HasOpenParent, IsAlone, IsAloneIn, IsRival, IsOfFewGates, KeepsRulesAt, opens_by, opens_in};
 
 use mari_market::{GateInfo, Order};
 use std::marker::Model;

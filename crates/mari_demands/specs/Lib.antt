@@ -1,4 +1,6 @@
+pub mod DemandChecks
 pub mod Demands
+pub mod LimitPairs
+pub mod RunChecks
 pub mod Runs
 pub mod SoFar
-pub mod LimitPairs

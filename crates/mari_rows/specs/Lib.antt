@@ -1,4 +1,5 @@
 pub mod Books
+pub mod Checks
 pub mod Fields
 pub mod First
 pub mod Names

@@ -1,6 +1,8 @@
 //! Records of a page with their lines, and names in order of appearance.
 #![tactic(auto)]
 
+mod books;
+mod checks;
 mod counts;
 mod faults;
 mod field;
@@ -11,6 +13,8 @@ mod rows;
 #[cfg(test)]
 mod tests;
 
+pub use books::{BookSoFar, read_book};
+pub use checks::{FileCheck, LineFault, RowCheck};
 pub use counts::count_one;
 pub use faults::{AddFault, BookFault, RowFault};
 pub use field::Field;

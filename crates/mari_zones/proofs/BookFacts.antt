@@ -7,15 +7,15 @@ use Rattle.std.proofs.lemmas.Bool.Decides.{nat_tests, eqb_tells}
 use Rattle.std.proofs.lemmas.List.{length-map, map-append}
 use Rattle.std.proofs.lemmas.List.Elements.{All-map, All-nil, All-push}
 use Rattle.mari_units.specs.Names.{is_name}
-use Rattle.mari_rows.specs.Books.{GivesBook, book_of_rows, first_failing}
+use Rattle.mari_rows.specs.Books.{GivesBook, book_in, book_of_rows, first_failing}
 use Rattle.mari_rows.specs.Names.{place_in}
 use Rattle.mari_rows.specs.Rows.{field_of}
 use Rattle.mari_rows.specs.declared.faults.BookFault.{BookFault}
 use Rattle.mari_rows.specs.declared.rows.Row.{Row}
-use Rattle.mari_rows.proofs.BookLemmas.{book-rows}
+use Rattle.mari_rows.proofs.BookLemmas.{book-page, book-rows}
 use Rattle.mari_rows.proofs.BookFacts.{all-distinct, all-passed, along-lines, both-parts, distinct-more, found-below, not-false, number-bounds, places-below}
 use Rattle.mari_rows.proofs.PlaceLemmas.{length-distinct}
-use Rattle.mari_zones.specs.Zones.{IsZoneBook, operator_of, operators_of, zone_book, zone_checks, zone_grammar, zone_of, zones_of}
+use Rattle.mari_zones.specs.Zones.{IsZoneBook, operator_of, operators_of, zone_book, zone_checks, zone_file_checks, zone_grammar, zone_of, zones_of}
 use Rattle.mari_zones.specs.Borders.{IsBorder, IsBorderBook, border_book, border_checks, border_grammar, border_of, limit_in, zone_named}
 use Rattle.mari_zones.specs.declared.zones.ZoneBook.{ZoneBook}
 use Rattle.mari_zones.specs.declared.borders.BorderBook.{BorderBook}
@@ -46,12 +46,14 @@ some-zone : (n : ℕ) → (n == 0) ≡ false → 1 ≤ n
 some-zone n e = grind (arith, nat_tests, e)
 
 -- what is read is such a book of zones
-pub zone-facts : (rows : List Row) (result : Result ZoneBook BookFault) → GivesBook result (book_of_rows zone_grammar rows) → IfOk result IsZoneBook
-zone-facts rows (Err fault) gives = tt
-zone-facts rows (Ok book) gives =
-    let is = book-rows zone_grammar rows book gives in
+pub zone-facts : (page : List ℕ) (result : Result ZoneBook BookFault) → GivesBook result (book_in zone_grammar page) → IfOk result IsZoneBook
+zone-facts page (Err fault) gives = tt
+zone-facts page (Ok book) gives =
+    let read = book-page zone_grammar page book gives in
+    let rows : List Row = read.0 in
+    let is = read.2 in
     let are = along-lines zone_grammar AreZones one-zone rows book is no-zones in
-    let file = all-passed ((length rows == 0, 14) ∷ []) is.file in
+    let file = all-passed (zone_file_checks rows) is.file in
     let place : Row → ℕ = λ row. place_in (operators_of rows) (operator_of row) in
     let whole : IsZoneBook (zone_book rows) = record {
       some = simp length-map (some-zone (length rows) file.0);
@@ -93,11 +95,13 @@ module _ (zones : ZoneBook) where
       }
 
   -- what is read is such a book of borders
-  pub border-facts : (rows : List Row) (result : Result BorderBook BookFault) → GivesBook result (book_of_rows (border_grammar zones) rows) → IfOk result (IsBorderBook zones)
-  border-facts rows (Err fault) gives = tt
-  border-facts rows (Ok book) gives =
-      let is = book-rows (border_grammar zones) rows book gives in
-      let are = along-lines (border_grammar zones) AreBorders one-border rows book is (record { few = omega arith; borders = All-nil _ }) in
+  pub border-facts : (page : List ℕ) (result : Result BorderBook BookFault) → GivesBook result (book_in (border_grammar zones) page) → IfOk result (IsBorderBook zones)
+  border-facts page (Err fault) gives = tt
+  border-facts page (Ok book) gives =
+      let read = book-page (border_grammar zones) page book gives in
+      let rows : List Row = read.0 in
+      let is = read.2 in
+      let are = along-lines (border_grammar zones) AreBorders one-border rows book is (record { few = omega arith; borders = All-nil (λ row. IsBorder zones (border_of zones row)) }) in
       let whole : IsBorderBook zones (border_book zones rows) = record {
         few = simp length-map are.few;
         borders = All-map (IsBorder zones) (border_of zones) rows are.borders;

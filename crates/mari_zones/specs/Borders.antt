@@ -2,11 +2,14 @@
 use Rattle.std.specs.Prelude.{◌≢◌, ◌≤◌, ◌<◌, ℕ, Bool, List, [], ◌∷◌, Option, not, ◌&&◌, ◌||◌, ◌==◌, nat_le, length, map, codes, position, is_some, unwrap_or}
 use Rattle.std.specs.List.{All, list_any}
 use Rattle.std.specs.Str.{bytes_eq}
+use Rattle.mari_units.specs.declared.limits.TheConstants.{MOST_BORDERS, MOST_MW}
 use Rattle.mari_rows.specs.Books.{Checks, Grammar}
 use Rattle.mari_rows.specs.Fields.{number_in}
 use Rattle.mari_rows.specs.Rows.{field_of}
 use Rattle.mari_rows.specs.declared.rows.Row.{Row}
+use Rattle.mari_zones.specs.BorderChecks.{border_check_number}
 use Rattle.mari_zones.specs.declared.borders.BorderBook.{BorderBook}
+use Rattle.mari_zones.specs.declared.borders.BorderCheck.TheVariants.{Range, Repeated, SelfBorder, TooManyBorders, Unknown}
 use Rattle.mari_zones.specs.declared.borders.BorderEnds.{BorderEnds}
 use Rattle.mari_zones.specs.declared.zones.ZoneBook.{ZoneBook}
 
@@ -16,7 +19,7 @@ zone_named zones name = position (bytes_eq name) zones.zones
 
 -- the limit that a text writes, in MW
 abbrev pub limit_in : List ℕ → Option ℕ
-limit_in text = number_in 0 99999 text
+limit_in text = number_in 0 MOST_MW text
 
 -- the border of a line
 abbrev pub border_of : ZoneBook → Row → BorderEnds
@@ -35,11 +38,11 @@ is_between_same a b = ((a.from == b.from) && (a.to == b.to)) || ((a.from == b.to
 -- and for a limit that is none
 abbrev pub border_checks : ZoneBook → List Row → Row → Checks
 border_checks zones earlier row =
-    (nat_le 256 (length earlier), 11)
-    ∷ (not (is_some (zone_named zones (field_of row 0)) && is_some (zone_named zones (field_of row 1))), 12)
-    ∷ ((border_of zones row).from == (border_of zones row).to, 13)
-    ∷ (list_any (is_between_same (border_of zones row)) (map (border_of zones) earlier), 14)
-    ∷ (not (is_some (limit_in (field_of row 2)) && is_some (limit_in (field_of row 3))), 15)
+    (nat_le MOST_BORDERS (length earlier), border_check_number TooManyBorders)
+    ∷ (not (is_some (zone_named zones (field_of row 0)) && is_some (zone_named zones (field_of row 1))), border_check_number Unknown)
+    ∷ ((border_of zones row).from == (border_of zones row).to, border_check_number SelfBorder)
+    ∷ (list_any (is_between_same (border_of zones row)) (map (border_of zones) earlier), border_check_number Repeated)
+    ∷ (not (is_some (limit_in (field_of row 2)) && is_some (limit_in (field_of row 3))), border_check_number Range)
     ∷ []
 
 -- each line's border

@@ -9,6 +9,6 @@ mod runs;
 #[cfg(test)]
 mod tests;
 
-pub use demands::{Demand, DemandBook};
+pub use demands::{Demand, DemandBook, DemandCheck};
 pub use limits::{LimitBook, Limits};
-pub use runs::{Run, RunBook};
+pub use runs::{Run, RunBook, RunCheck};

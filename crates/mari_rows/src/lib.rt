@@ -20,4 +20,4 @@ pub use faults::{AddFault, BookFault, RowFault};
 pub use field::Field;
 pub use fields::{cents_of, is_first_of, is_price, is_whole, number_of};
 pub use names::NameIndex;
-pub use rows::{Row, RowReader, Rows, read_rows, rows_of};
+pub use rows::{Row, RowReader, Rows, has_header, read_rows, rows_of};

@@ -15,4 +15,4 @@ pub record HoldsZones (rows : List Row) (so_far : ZonesSoFar) : Type 0 where
 
 -- the borders of these lines
 abbrev pub HoldsBorders : List Row → BordersSoFar → Type 0
-HoldsBorders rows so_far = so_far.borders.items ≡ map (border_of so_far.zones.now) rows
+HoldsBorders rows so_far = so_far.borders.items ≡ map (border_of so_far.zones.now so_far.version) rows

@@ -1,18 +1,23 @@
 //! The borders between zones and their limits.
 ghost use Rattle.std.specs.Prelude.{◌≡◌, ◌≤◌, IfOk, List, length, map};
 ghost use Rattle.std.specs.List.{list_any};
-ghost use Rattle.mari_rows.specs.Books.{book_in, first_failing, GivesBook};
+ghost use Rattle.mari_rows.specs.Books.{first_failing, GivesBook};
 ghost use Rattle.mari_rows.specs.Checks.{IsRead};
 ghost use Rattle.mari_rows.specs.declared.rows.Row.{Row as Line};
 ghost use Rattle.mari_zones.specs.BorderChecks.{border_check_name, border_check_number};
-ghost use Rattle.mari_zones.specs.Borders.{IsBorderBook, border_checks, border_columns, border_grammar, border_of as border_in, is_between_same as is_between_same_in, limit_in};
+ghost use Rattle.mari_zones.specs.Borders.{IsBorderBook, bare_columns, border_checks, border_columns, border_grammar, border_of as border_in, borders_in, columns_in, is_between_same as is_between_same_in, limit_in, version_in};
 
 use crate::zones::ZoneBook;
-use mari_rows::{BookFault, BookSoFar, FileCheck, LineFault, Row, number_of, read_book};
-use mari_units::{Items, MOST_BORDERS, MOST_MW};
+use mari_rows::{
+    BookFault, BookSoFar, FileCheck, LineFault, Row, has_header, number_of, read_book,
+};
+use mari_units::{Items, MOST_BORDERS, MOST_MW, Memory};
 use std::alloc::Global;
 
 const COLUMNS: &str = "from,to,limit,back";
+
+// The columns of version 2, where limits are stated for each run.
+const BARE_COLUMNS: &str = "from,to";
 
 /// A check of borders.csv.
 #[derive(Clone, Copy, Debug, PartialEq, Eq)]
@@ -57,26 +62,51 @@ pub struct BorderBook {
 }
 
 impl BorderBook {
-    /// The book of a page, or its first refusal.
-    #[tactic(auto, unfolding(crate::specs::Borders::border_columns))]
+    /// The book of a page of either version, or its first refusal. In version 2 all its limits are 0.
     pub fn read(alloc: Global, borders: &[u8], zones: &ZoneBook) -> Result<BorderBook, BookFault>
         requires { length borders.now ≤ 268435456 }
-        ensures book { GivesBook result (book_in (border_grammar zones.now) borders.now) }
+        ensures book { GivesBook result (borders_in zones.now borders.now) }
         ensures borders { IfOk result (IsBorderBook zones.now) }
     {
+        let version = version_of(alloc, borders)?;
         let none = BordersSoFar {
             zones,
+            version,
             borders: Vec::new(alloc),
         };
-        read_book(alloc, borders, COLUMNS, none)
+        read_book(alloc, borders, columns_of(version), none)
     }
 }
 
-// The limit that a text writes.
-fn limit_of(text: &[u8]) -> Option<u32>
-    ensures { result ≡ limit_in text.now }
+/// The version of a page of borders: 2 where its first record is the columns `from,to`, and else 1.
+#[tactic(auto, unfolding(crate::specs::Borders::bare_columns))]
+pub fn version_of(alloc: Global, borders: &[u8]) -> Result<u8, Memory>
+    ensures { IfOk result (λ version. version ≡ version_in borders.now) }
 {
-    number_of(text, 0, MOST_MW)
+    if has_header(alloc, borders, BARE_COLUMNS)? {
+        Ok(2)
+    } else {
+        Ok(1)
+    }
+}
+
+// The columns of a version.
+#[tactic(auto, unfolding(crate::specs::Borders::bare_columns, crate::specs::Borders::border_columns))]
+fn columns_of(version: u8) -> &'static str
+    ensures { result.now ≡ columns_in version }
+{
+    if version == 2 { BARE_COLUMNS } else { COLUMNS }
+}
+
+// The limit that a field writes, which is 0 in version 2.
+fn limit_of(version: u8, text: &[u8]) -> Option<u32>
+    ensures { result ≡ limit_in version text.now }
+{
+    if version == 2 {
+        Some(0)
+    } else {
+        number_of(text, 0, MOST_MW)
+    }
 }
 
 // Whether two borders are between the same two zones, in either order.
@@ -97,11 +127,12 @@ fn is_repeated(border: BorderEnds, earlier: &[BorderEnds]) -> bool
 // The border of a line behind these, or the first check that fails.
 fn border_of(
     zones: &ZoneBook,
+    version: u8,
     earlier: &[BorderEnds],
     line: &Row,
 ) -> Result<BorderEnds, BorderCheck>
-    ensures { (lines : List Line) → earlier.now ≡ map (border_in zones.now) lines
-        → IsRead border_check_number result (first_failing (border_checks zones.now lines line.now)) (border_in zones.now line.now) }
+    ensures { (lines : List Line) → earlier.now ≡ map (border_in zones.now version) lines
+        → IsRead border_check_number result (first_failing (border_checks zones.now version lines line.now)) (border_in zones.now version line.now) }
 {
     if earlier.len() >= MOST_BORDERS {
         return Err(BorderCheck::TooManyBorders);
@@ -115,8 +146,8 @@ fn border_of(
     if from == to {
         return Err(BorderCheck::SelfBorder);
     }
-    let limit = limit_of(line.field(2));
-    let back = limit_of(line.field(3));
+    let limit = limit_of(version, line.field(2));
+    let back = limit_of(version, line.field(3));
     let border = BorderEnds {
         from,
         to,
@@ -136,6 +167,7 @@ fn border_of(
 #[derive(Drop)]
 struct BordersSoFar<'a> {
     zones: &'a ZoneBook,
+    version: u8,
     borders: Vec<BorderEnds>,
 }
 
@@ -146,12 +178,12 @@ impl<'a> BookSoFar for BordersSoFar<'a> {
 
     type Book = BorderBook;
 
-    ghost grammar = { λ so_far. border_grammar so_far.zones.now };
+    ghost grammar = { λ so_far. border_grammar so_far.zones.now so_far.version };
 
     ghost Holds = { λ so_far lines. HoldsBorders lines so_far };
 
     fn take(&mut self, _alloc: Global, line: &Row) -> Result<(), LineFault<BorderCheck>> {
-        match border_of(self.zones, self.borders.as_slice(), line) {
+        match border_of(self.zones, self.version, self.borders.as_slice(), line) {
             Ok(border) => Ok(self.borders.push(border)?),
             Err(check) => Err(LineFault::Fails(check)),
         }

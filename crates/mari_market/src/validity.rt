@@ -8,14 +8,7 @@ ghost use Rattle.mari_market.specs.Market.{IsValid, IsValidOrder, IsValidBorder,
 ghost use Rattle.mari_market.specs.Price.{IsPrice};
 
 use crate::market::{Border, GateInfo, Market, Order};
-use mari_units::{CAP, Cents};
-
-/// Whether a price lies from the negative of the cap to the cap.
-fn is_price(price: Cents) -> bool
-    ensures { IsTrue result ↔ IsPrice price.0 }
-{
-    -CAP <= price.0 && price.0 <= CAP
-}
+use crate::price_rules::is_price;
 
 /// Whether a plain order has the least quantity 0, and a gated one a gate that is there and a least of at least 1.
 fn has_its_gate(order: &Order, gates: usize) -> bool
@@ -138,7 +131,7 @@ impl Market {
 mod tests {
     use super::*;
     use crate::market::Side;
-    use mari_units::Items;
+    use mari_units::{Cents, Items};
     use std::alloc::Global;
     use std::test::Fail;
 

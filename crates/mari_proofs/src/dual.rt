@@ -1,6 +1,6 @@
 //! The dual value: what all orders gain and all borders earn at most, at one potential for each zone.
 
-ghost use Rattle.std.specs.Prelude.{◌≡◌, ◌↔◌, IsTrue, ℕ, ℤ, pos, ◌+ℤ◌, ◌-ℤ◌, ◌*ℤ◌, ◌≤ℤ◌, neg_ℤ, ◌≤◌, ◌<◌, length, IfSome};
+ghost use Rattle.std.specs.Prelude.{◌≡◌, ℕ, ℤ, pos, ◌+ℤ◌, ◌-ℤ◌, ◌*ℤ◌, ◌≤ℤ◌, neg_ℤ, ◌≤◌, ◌<◌, length, IfSome};
 ghost use Rattle.std.specs.Int.{int_max};
 ghost use Rattle.std.specs.List.{All};
 ghost use Rattle.mari_market.specs.declared.activation.Activation.{Activation};
@@ -16,31 +16,8 @@ ghost use Rattle.mari_gates.specs.GateTable.{state_in};
 ghost use Rattle.mari_proofs.specs.Potentials.{IsPotential};
 
 use mari_gates::{GateStates, states_at};
-use mari_market::{Border, Market, Order, Prefix, Prices, Side};
-use mari_units::{CAP, Cents, Quarters};
-
-/// Whether there is one potential for each zone, within the cap.
-pub(crate) fn are_potentials(market: &Market, potentials: &[Cents]) -> bool
-    ensures { IsTrue result ↔ ArePrices market.now potentials.now }
-{
-    potentials.len() == market.zones as usize && are_capped(potentials)
-}
-
-/// Whether each potential lies from the negative of the cap to the cap.
-fn are_capped(potentials: &[Cents]) -> bool
-    ensures { IsTrue result ↔ All (λ c. IsPrice c.0) potentials.now }
-{
-    potentials
-        .iter()
-        .all(|cents| -CAP <= cents.0 && cents.0 <= CAP)
-}
-
-/// The product of two numbers, which always fits.
-fn product(a: i64, b: i64) -> i128
-    ensures { result ≡ a *ℤ b }
-{
-    i128::from(a) * i128::from(b)
-}
+use mari_market::{Border, Market, Order, Prefix, Prices, Side, worth};
+use mari_units::{Cents, Quarters};
 
 /// What so many MW gain, in quarter-cents, at a gain for each.
 fn amount(gap: i64, mw: u32) -> i128
@@ -51,7 +28,7 @@ fn amount(gap: i64, mw: u32) -> i128
     ensures low { neg_ℤ (pos 4000000000000) ≤ℤ result }
     ensures high { result ≤ℤ pos 4000000000000 }
 {
-    product(gap, i64::from(mw))
+    worth(Cents(gap), i64::from(mw))
 }
 
 /// How much an order gains for each MW at a potential.

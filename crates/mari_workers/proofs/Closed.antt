@@ -26,7 +26,7 @@ use Rattle.mari_market.specs.Bounds.{IsWithin, GateState, gated_span, own_bounds
 use Rattle.mari_market.specs.Bounds.GateState.{Open, Closed}
 use Rattle.mari_market.specs.Conflict.{IsConflict}
 use Rattle.mari_market.specs.Consistent.{IsConsistentOrder, IsConsistentTrade, standing_of}
-use Rattle.mari_market.specs.Consistent.Standing.{InOpen, InClosed, Plain}
+use Rattle.mari_market.specs.declared.price_rules.Standing.TheVariants.{InOpen, InClosed, Plain}
 use Rattle.mari_market.specs.Cut.{IsCut}
 use Rattle.mari_market.specs.Dual.{IsTightOrder, IsTightTrade}
 use Rattle.mari_market.specs.Finding.{IsAttained, IsFinding, IsRefuted, IsRelaxedFinding, IsSettled}

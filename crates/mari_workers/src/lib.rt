@@ -9,8 +9,6 @@ mod crew;
 mod first;
 mod refining;
 #[cfg(test)]
-mod pair;
-#[cfg(test)]
 mod tests;
 mod together;
 mod turnstile;

@@ -6,29 +6,31 @@ ghost use Rattle.mari_market.specs.Market.{IsValid};
 ghost use Rattle.mari_market.specs.Prefix.{word_of, IsFeasiblePrefix};
 ghost use Rattle.mari_market.specs.Price.{ArePrices};
 
-use crate::Turnstile;
 use mari_market::{Activation, Conflict, Finding, Leaf, Market, Prefix, Prices, Relaxed};
 use mari_node::examine;
 use mari_proofs::{check_leaf, dual_value};
 use mari_units::{Cents, Items, Memory, Quarters};
+use mari_workers::Turnstile;
 use std::alloc::{AllocError, Global};
 use std::sync::atomic::{AtomicBool, AtomicU64, Ordering};
 use std::thread;
 
-/// Holds the first worker at a node of one gate until another has come to one, for a number of turns.
+/// Holds the first worker at a leaf until another has come to one, for a number of turns, and counts who comes.
 #[derive(Drop)]
 pub(crate) struct Pair {
-    pub came: AtomicU64,
-    pub calls: AtomicU64,
+    pub at_the_root: AtomicU64,
+    pub at_leaves: AtomicU64,
     pub ran_out: AtomicBool,
+    came: AtomicU64,
 }
 
 impl Pair {
     pub fn new() -> Pair {
         Pair {
-            came: AtomicU64::new(0),
-            calls: AtomicU64::new(0),
+            at_the_root: AtomicU64::new(0),
+            at_leaves: AtomicU64::new(0),
             ran_out: AtomicBool::new(false),
+            came: AtomicU64::new(0),
         }
     }
 
@@ -146,8 +148,10 @@ impl Turnstile for Pair {
         prefix: &Prefix,
         _start: &mut Option<Activation>,
     ) -> Result<Finding, Memory> {
-        self.calls.fetch_add(1, Ordering::SeqCst);
-        if prefix.length == 1 {
+        if prefix.length == 0 {
+            self.at_the_root.fetch_add(1, Ordering::SeqCst);
+        } else {
+            self.at_leaves.fetch_add(1, Ordering::SeqCst);
             self.hold(worker);
         }
         match examine(alloc, market, prefix)? {

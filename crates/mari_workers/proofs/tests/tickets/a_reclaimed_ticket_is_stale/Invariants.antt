@@ -1,4 +1,4 @@
-use Rattle.mari_workers.proofs.tests.a_reclaimed_ticket_is_stale.Given as goal
+use Rattle.mari_workers.proofs.tests.tickets.a_reclaimed_ticket_is_stale.Given as goal
 
 -- the search whose node is reclaimed
 abbrev pub ghosts-reclaimed : goal.ghosts-reclaimed

@@ -137,7 +137,7 @@ fn import_worth(market: &Market, activation: &Activation, prices: &[Cents], zone
     product(price_of(prices, zone), net_import(market, activation, zone))
 }
 
-// What an operator gets for the energy that a zone takes in: nothing where the zone is another's.
+// What an operator pays for the energy that a zone takes in: nothing where the zone is another's.
 fn payment_for(
     zones: &ZoneBook,
     market: &Market,
@@ -158,7 +158,7 @@ fn payment_for(
     }
 }
 
-// What an operator gets for the energy that its zones take in.
+// What an operator pays for the energy that its zones take in.
 fn operator_payment(
     zones: &ZoneBook,
     market: &Market,

@@ -15,7 +15,7 @@ use Rattle.mari_market.specs.Optimal.{IsConsistent}
 use Rattle.mari_settle.specs.Ledger.{operator_lines, provider_amounts, rents_of}
 use Rattle.mari_settle.specs.declared.ledger.Ledger.{Ledger}
 use Rattle.mari_settle.specs.Conditions.{HasSmallNumbers}
-use Rattle.mari_day.specs.declared.pricing.Pricing.{Pricing}
+use Rattle.mari_prices.specs.declared.published.Pricing.{Pricing}
 use Rattle.mari_day.specs.declared.block.Priced.{Priced}
 use Rattle.mari_day.specs.Money.{amount_line, money_lines_of, providers_among}
 use Rattle.mari_day.specs.Run.{heading_of, name_at}

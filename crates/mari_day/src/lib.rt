@@ -9,7 +9,6 @@ mod day;
 mod files;
 mod lines;
 mod pages;
-mod pricing;
 mod reading;
 
 pub use day::{PrintedDay, day_of};

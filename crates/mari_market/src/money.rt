@@ -4,6 +4,7 @@ ghost use Rattle.std.specs.Prelude.{◌≡◌, ◌≤◌, ◌^◌, ◌*◌, leng
 ghost use Rattle.mari_market.specs.Activation.{order_gain};
 ghost use Rattle.mari_market.specs.Sums.{sum_along};
 
+use crate::limits::MOST_ORDERS;
 use crate::market::{Order, Side};
 use mari_units::Cents;
 
@@ -31,7 +32,7 @@ impl Order {
 
 /// What quantities of orders, one of each, add to the welfare together, in quarter-cents.
 pub fn total_gain(orders: &[Order], mw: &[u32]) -> i128
-    requires few { length orders.now ≤ 4608 }
+    requires few { length orders.now ≤ MOST_ORDERS }
     requires lengths { length mw.now ≡ length orders.now }
     ensures { result ≡ sum_along order_gain orders.now mw.now }
 {

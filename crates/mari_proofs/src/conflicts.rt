@@ -14,13 +14,13 @@ ghost use Rattle.mari_proofs.specs.Conflicts.{decides, HasDecidedGate, RunsAsDec
 use crate::tightness::is_tight;
 use mari_gates::{opens, states_at};
 use mari_market::{Activation, Border, Conflict, Market, Order, Prefix, Standing};
-use mari_units::{CAP, Cents};
+use mari_units::{CAP, Cents, MOST_GATES};
 use mari_welfare::is_feasible;
 
 /// Whether the prefix decides the gate as open.
 fn is_open(prefix: &Prefix, gate: u32) -> bool
     requires gate { gate < prefix.now.length }
-    requires few { prefix.now.length ≤ 512 }
+    requires few { prefix.now.length ≤ MOST_GATES }
     ensures { result ≡ decides prefix.now gate }
 {
     opens(prefix, gate)
@@ -29,7 +29,7 @@ fn is_open(prefix: &Prefix, gate: u32) -> bool
 /// Whether an order runs exactly where its gate is decided as open.
 fn runs_as_decided(prefix: &Prefix, order: &Order, mw: u32) -> bool
     requires gate { HasDecidedGate prefix.now.length order.now }
-    requires few { prefix.now.length ≤ 512 }
+    requires few { prefix.now.length ≤ MOST_GATES }
     ensures { IsTrue result ↔ RunsAsDecided (decides prefix.now) order.now.gate mw }
 {
     match order.gate {
@@ -42,7 +42,7 @@ fn runs_as_decided(prefix: &Prefix, order: &Order, mw: u32) -> bool
 fn run_as_decided(prefix: &Prefix, orders: &[Order], mw: &[u32]) -> bool
     requires lengths { length mw.now ≡ length orders.now }
     requires orders { All (HasDecidedGate prefix.now.length) orders.now }
-    requires few { prefix.now.length ≤ 512 }
+    requires few { prefix.now.length ≤ MOST_GATES }
     ensures { IsTrue result ↔ AllZip (λ o q. RunsAsDecided (decides prefix.now) o.gate q) orders.now mw.now }
 {
     for (i, order) in orders.iter().enumerate() {
@@ -56,7 +56,7 @@ fn run_as_decided(prefix: &Prefix, orders: &[Order], mw: &[u32]) -> bool
 /// The standing of an order where the gates are as the prefix decides.
 fn standing_at(prefix: &Prefix, order: &Order) -> Standing
     requires gate { HasDecidedGate prefix.now.length order.now }
-    requires few { prefix.now.length ≤ 512 }
+    requires few { prefix.now.length ≤ MOST_GATES }
     ensures { result ≡ standing_of (decides prefix.now) order.now.gate }
 {
     match order.gate {
@@ -108,7 +108,7 @@ fn last_of(first: u32, rest: &[u32]) -> u32
 /// The greater of a bound and the lower bound that an order sets, if it sets one.
 fn raised(prefix: &Prefix, order: &Order, mw: u32, zone: u32, bound: i64) -> i64
     requires gate { HasDecidedGate prefix.now.length order.now }
-    requires few { prefix.now.length ≤ 512 }
+    requires few { prefix.now.length ≤ MOST_GATES }
     ensures least { bound ≤ℤ result }
     ensures above { (c : ℤ) → SetsLowerAt (decides prefix.now) zone c order.now mw → c ≤ℤ result }
     ensures reached { (result ≡ bound) ⊎ SetsLowerAt (decides prefix.now) zone result order.now mw }
@@ -124,7 +124,7 @@ fn raised(prefix: &Prefix, order: &Order, mw: u32, zone: u32, bound: i64) -> i64
 /// The lesser of a bound and the upper bound that an order sets, if it sets one.
 fn lowered(prefix: &Prefix, order: &Order, mw: u32, zone: u32, bound: i64) -> i64
     requires gate { HasDecidedGate prefix.now.length order.now }
-    requires few { prefix.now.length ≤ 512 }
+    requires few { prefix.now.length ≤ MOST_GATES }
     ensures greatest { result ≤ℤ bound }
     ensures below { (c : ℤ) → SetsUpperAt (decides prefix.now) zone c order.now mw → result ≤ℤ c }
     ensures reached { (result ≡ bound) ⊎ SetsUpperAt (decides prefix.now) zone result order.now mw }
@@ -141,7 +141,7 @@ fn lowered(prefix: &Prefix, order: &Order, mw: u32, zone: u32, bound: i64) -> i6
 fn greatest_lower(prefix: &Prefix, orders: &[Order], mw: &[u32], zone: u32) -> i64
     requires lengths { length mw.now ≡ length orders.now }
     requires orders { All (HasDecidedGate prefix.now.length) orders.now }
-    requires few { prefix.now.length ≤ 512 }
+    requires few { prefix.now.length ≤ MOST_GATES }
     ensures { IsGreatestLower (decides prefix.now) zone orders.now mw.now result }
 {
     let mut bound = -CAP;
@@ -155,7 +155,7 @@ fn greatest_lower(prefix: &Prefix, orders: &[Order], mw: &[u32], zone: u32) -> i
 fn least_upper(prefix: &Prefix, orders: &[Order], mw: &[u32], zone: u32) -> i64
     requires lengths { length mw.now ≡ length orders.now }
     requires orders { All (HasDecidedGate prefix.now.length) orders.now }
-    requires few { prefix.now.length ≤ 512 }
+    requires few { prefix.now.length ≤ MOST_GATES }
     ensures { IsLeastUpper (decides prefix.now) zone orders.now mw.now result }
 {
     let mut bound = CAP;

@@ -5,13 +5,13 @@ ghost use Rattle.std.specs.List.{All, AllZip};
 ghost use Rattle.mari_market.specs.Bounds.{span_in};
 ghost use Rattle.mari_market.specs.Dual.{IsTight, IsTightOrder, IsTightTrade};
 ghost use Rattle.mari_market.specs.Market.{IsValid, IsValidOrder};
+ghost use Rattle.mari_market.specs.Price.{IsCapped};
 ghost use Rattle.mari_gates.specs.GateTable.{state_in};
-ghost use Rattle.mari_proofs.specs.Potentials.{IsPotential};
 
 use crate::dual::potential_at;
 use mari_gates::GateStates;
 use mari_market::{Activation, Market, Order, Side};
-use mari_units::Cents;
+use mari_units::{Cents, MOST_GATES};
 use mari_welfare::borders_agree;
 
 /// Whether a quantity above the least has the one price at most the other, and one below the greatest the reverse.
@@ -33,8 +33,8 @@ fn is_tight_trade(order: &Order, span: (u32, u32), mw: u32, potential: Cents) ->
 
 /// Whether what an order runs is tight at its zone's potential.
 fn is_tight_order(states: &GateStates, order: &Order, mw: u32, potentials: &[Cents]) -> bool
-    requires order { IsValidOrder (length potentials.now) 512 order.now }
-    requires potentials { All IsPotential potentials.now }
+    requires order { IsValidOrder (length potentials.now) MOST_GATES order.now }
+    requires potentials { All IsCapped potentials.now }
     ensures { IsTrue result ↔ IsTightOrder (span_in (state_in states.now)) potentials.now order.now mw }
 {
     let potential = potential_at(potentials, order.zone);
@@ -44,8 +44,8 @@ fn is_tight_order(states: &GateStates, order: &Order, mw: u32, potentials: &[Cen
 /// Whether what each order runs is tight.
 fn are_tight_orders(states: &GateStates, orders: &[Order], mw: &[u32], potentials: &[Cents]) -> bool
     requires lengths { length mw.now ≡ length orders.now }
-    requires orders { All (IsValidOrder (length potentials.now) 512) orders.now }
-    requires potentials { All IsPotential potentials.now }
+    requires orders { All (IsValidOrder (length potentials.now) MOST_GATES) orders.now }
+    requires potentials { All IsCapped potentials.now }
     ensures { IsTrue result ↔ AllZip (IsTightOrder (span_in (state_in states.now)) potentials.now) orders.now mw.now }
 {
     for (i, order) in orders.iter().enumerate() {
@@ -67,7 +67,7 @@ pub(crate) fn is_tight(
     requires mw { length activation.now.mw ≡ length market.now.orders }
     requires flow { length activation.now.flow ≡ length market.now.borders }
     requires one_each { length potentials.now ≡ market.now.zones }
-    requires potentials { All IsPotential potentials.now }
+    requires potentials { All IsCapped potentials.now }
     ensures { IsTrue result ↔ IsTight (span_in (state_in states.now)) market.now activation.now potentials.now }
 {
     let (orders, mw) = (market.orders.as_slice(), activation.mw.as_slice());

@@ -15,11 +15,7 @@ use Rattle.mari_market.specs.Optimal.{IsFeasible}
 use Rattle.mari_market.specs.Price.{IsPrice}
 use Rattle.mari_market.specs.Sums.{int_sum}
 use Rattle.mari_market.proofs.Sums.{sum_along-le, AllZip-with}
-use Rattle.mari_market.proofs.Wide.{scaled}
-
-gain_at_most : (side : Side) (c : ℤ) (q : ℕ) → IsPrice c → q ≤ 99999 → gain side c q ≤ℤ pos (9999900 * 99999)
-gain_at_most Inject c q p l = omega (arith, ints, (scaled c q 9999900 99999 p.low p.high l).0)
-gain_at_most Withdraw c q p l = (scaled c q 9999900 99999 p.low p.high l).1
+use Rattle.mari_market.proofs.Gains.{gain_at_most}
 
 gated_at_most : (b : Bool) (o : Order) (q : ℕ) → IsWithin (gated_span (if b then Open else Closed) o) q → q ≤ o.greatest
 gated_at_most true o q w = w.most

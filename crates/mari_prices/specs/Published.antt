@@ -4,6 +4,6 @@ use Rattle.mari_units.specs.declared.Cents.{Cents}
 use Rattle.mari_market.specs.Price.{price_at}
 
 -- two prices for each zone, the first at most the second
-pub record AreIntervals (least greatest : List Cents) : Type 0 where
+pub record AreInOrder (least greatest : List Cents) : Type 0 where
   pub one_each : length greatest ≡ length least
   pub in_order : (z : ℕ) → z < length least → price_at least z ≤ℤ price_at greatest z

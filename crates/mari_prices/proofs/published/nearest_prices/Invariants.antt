@@ -1,7 +1,7 @@
 use Rattle.std.proofs.Common.{◌≡◌, ◌<◌, ℕ, length}
 use Rattle.mari_market.specs.Interval.{IsNearest}
 use Rattle.mari_market.specs.Price.{price_at}
-use Rattle.mari_day.proofs.pricing.nearest_prices.Given as goal
+use Rattle.mari_prices.proofs.published.nearest_prices.Given as goal
 
 -- the prices of the zones before this one are the nearest
 abbrev pub invariant-loop-zone : goal.invariant-loop-zone

@@ -105,7 +105,7 @@ module _ (quarters : ℕ) where
       let read = book-page (run_grammar quarters) page book gives in
       let rows : List Row = read.0 in
       let is = read.2 in
-      let are = along-lines (run_grammar quarters) AreRuns one-run rows book is (record { few = omega arith; runs = All-nil _; bounded = All-nil _; in_order = λ i j d l m. absurd (omega arith) }) in
+      let are = along-lines (run_grammar quarters) AreRuns one-run rows book is (record { few = omega arith; runs = All-nil (λ row. IsRun quarters (run_of quarters row)); bounded = All-nil (λ (run : Run). run.quarter ≤ 0); in_order = λ i j d l m. absurd (omega arith) }) in
       let whole : IsRunBook quarters (run_book quarters rows) = record {
         few = simp length-map are.few;
         runs = All-map (IsRun quarters) (run_of quarters) rows are.runs;
@@ -165,7 +165,7 @@ module _ (zones : ZoneBook) (runs : ℕ) where
       let read = book-page (demand_grammar zones runs) page book gives in
       let rows : List Row = read.0 in
       let is = read.2 in
-      let are = along-lines (demand_grammar zones runs) AreDemands one-demand rows book is (record { demands = All-nil _; counts = λ k. omega arith }) in
+      let are = along-lines (demand_grammar zones runs) AreDemands one-demand rows book is (record { demands = All-nil (λ row. IsDemand zones runs (demand_of zones runs row)); counts = λ k. omega arith }) in
       let whole : IsDemandBook zones runs (demand_book zones runs rows) = record {
         demands = All-map (IsDemand zones runs) (demand_of zones runs) rows are.demands;
         of_run = λ run. rw (count_by-map (demand_of zones runs) (λ (demand : Demand). demand.run == run) rows) (are.counts run);

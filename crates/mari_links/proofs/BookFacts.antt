@@ -23,7 +23,7 @@ use Rattle.mari_links.specs.declared.lines.LinkKind.{LinkKind}
 use Rattle.mari_links.specs.declared.lines.LinkKind.TheVariants.{Group, Child, Needs, Bars, Technical}
 use Rattle.mari_links.proofs.EntryLemmas.{itself, or-yes, with_child, with_member, with_timed}
 use Rattle.mari_links.proofs.GateLemmas.{count-append, entry-there, gate-there, gated-alike}
-use Rattle.mari_links.proofs.GroupLemmas.{find-some}
+use Rattle.mari_rows.proofs.FindLemmas.{find-some}
 use Rattle.mari_links.proofs.SaidLemmas.{said-child, said-member, said-timed}
 
 -- an item that is found passes its test, and has what each item has

@@ -4,11 +4,11 @@
 //! much each order may run below them. All but `bounds_of` take no memory.
 #![tactic(auto)]
 
-pub mod bounds;
-pub mod gate_words;
-pub mod prefixes;
-pub mod preorder;
-pub mod states;
+mod bounds;
+mod gate_words;
+mod prefixes;
+mod preorder;
+mod states;
 #[cfg(test)]
 mod tests;
 

@@ -5,11 +5,11 @@
 //! `bounds_of` take no memory.
 #![tactic(auto)]
 
-pub mod bounds;
-pub mod gate_words;
-pub mod prefixes;
-pub mod preorder;
-pub mod states;
+mod bounds;
+mod gate_words;
+mod prefixes;
+mod preorder;
+mod states;
 #[cfg(test)]
 mod tests;
 

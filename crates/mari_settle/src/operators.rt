@@ -134,7 +134,10 @@ fn import_worth(market: &Market, activation: &Activation, prices: &[Cents], zone
     ensures value { result ≡ price_at prices.now zone *ℤ net_import_of market.now activation.now zone }
     ensures small { unsigned_abs result ≤ 9999900 * 102400000 }
 {
-    worth(Cents(price_of(prices, zone)), net_import(market, activation, zone))
+    worth(
+        Cents(price_of(prices, zone)),
+        net_import(market, activation, zone),
+    )
 }
 
 // What an operator pays for the energy that a zone takes in: nothing where the zone is another's.

@@ -2,17 +2,14 @@
 use Rattle.std.proofs.Common.{◌≡◌, ℕ, ◌*◌, ◌≤◌, if◌then◌else◌, Bool, true, false, ℤ, pos, ◌≤ℤ◌, List, [], ◌∷◌, Option, Some, None, length, arith, refl}
 use Rattle.std.proofs.lemmas.Int.{ints}
 use Rattle.std.specs.List.{AllZip}
-use Rattle.mari_market.specs.declared.market.Side.{Side}
-use Rattle.mari_market.specs.declared.market.Side.TheVariants.{Inject, Withdraw}
 use Rattle.mari_market.specs.declared.market.Order.{Order}
 use Rattle.mari_market.specs.declared.market.Market.{Market}
 use Rattle.mari_market.specs.declared.activation.Activation.{Activation}
-use Rattle.mari_market.specs.Activation.{gain, order_gain, welfare_of, is_open}
+use Rattle.mari_market.specs.Activation.{order_gain, welfare_of, is_open}
 use Rattle.mari_market.specs.Bounds.{IsWithin, gated_span, span_of, own_bounds}
 use Rattle.mari_market.specs.Bounds.GateState.{Open, Closed}
 use Rattle.mari_market.specs.Market.{IsValid, IsValidOrder}
 use Rattle.mari_market.specs.Optimal.{IsFeasible}
-use Rattle.mari_market.specs.Price.{IsPrice}
 use Rattle.mari_market.specs.Sums.{int_sum}
 use Rattle.mari_market.proofs.Sums.{sum_along-le, AllZip-with}
 use Rattle.mari_market.proofs.Gains.{gain_at_most}

@@ -1,7 +1,4 @@
-use Rattle.std.proofs.Common.{◌≡◌, ◌<◌, ◌∙◌, ℕ, List, length, ap}
-use Rattle.mari_units.specs.declared.Cents.{Cents}
-use Rattle.mari_market.specs.Interval.{IsNearest, ArePublishedPrices}
-use Rattle.mari_market.specs.Price.{price_at}
+use Rattle.std.proofs.Common.{◌∙◌, length, ap}
 use Rattle.mari_market.proofs.Published.{published_consistent}
 use Rattle.mari_prices.proofs.IntervalLaws.{in_order, published}
 use Rattle.mari_prices.proofs.published.published_prices.Goals as goal

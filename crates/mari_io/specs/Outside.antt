@@ -1,5 +1,5 @@
 -- What a shelf gives and what a sink takes, and the counts that show why one of them failed.
-use Rattle.std.specs.Prelude.{ℕ, ◌+◌, ◌-◌, ◌^◌, ◌≤◌, ◌<◌, ◌≡◌, Bool, true, false, min, List, [], ◌∷◌, ◌++◌, length, take, drop, Option, Some, None, Result, Ok, Err, if◌then◌else◌, IsSomeAnd, ⊤}
+use Rattle.std.specs.Prelude.{ℕ, zero, suc, ◌+◌, ◌-◌, ◌^◌, ◌≤◌, ◌<◌, ◌≡◌, Bool, true, false, min, List, [], ◌∷◌, ◌++◌, length, take, drop, Option, Some, None, Result, Ok, Err, if◌then◌else◌, IsSomeAnd, ⊤}
 use Rattle.std.specs.Str.{bytes_eq}
 use Rattle.std.specs.Option.{option_map}
 use Rattle.mari_units.specs.declared.limits.TheConstants.{MOST_PAGE}
@@ -12,7 +12,8 @@ counted n = min (n + 1) (2 ^ 64 - 1)
 
 -- a count after so many events more
 abbrev pub counted_by : ℕ → ℕ → ℕ
-counted_by more n = min (n + more) (2 ^ 64 - 1)
+counted_by zero n = n
+counted_by (suc more) n = counted (counted_by more n)
 
 -- a count after an event that may be of its kind
 abbrev pub counted_if : Bool → ℕ → ℕ

@@ -1,8 +1,42 @@
 -- Fetching one file after the other.
-use Rattle.std.proofs.Common.{◌≡◌, ℕ, zero, suc, ◌+◌, ◌<◌, List, [], ◌∷◌, ◌++◌, Option, Some, None, length, map, take, drop, slice_index_or, arith, refl, subst}
-use Rattle.mari_io.specs.Outside.{Pages}
+use Rattle.std.proofs.Common.{◌≡◌, ◌∙◌, ◌⊎◌, inl, inr, ℕ, zero, suc, ◌+◌, ◌<◌, ◌≤◌, sym, ap, add-one, List, [], ◌∷◌, ◌++◌, Option, Some, None, length, map, take, drop, slice_index_or, arith, refl, subst}
+use Rattle.mari_io.specs.Outside.{Pages, counted, counted_by}
 use Rattle.mari_day.specs.declared.files.File.{File}
-use Rattle.mari_day.specs.Files.{files, page_in, gap_of, gap_or, first_gap, AreHeld, Gap, FileGap}
+use Rattle.mari_day.specs.declared.files.File.TheVariants.{Day}
+use Rattle.mari_day.specs.declared.pages.PagesFault.{PagesFault}
+use Rattle.mari_day.specs.declared.pages.PagesFault.TheVariants.{Of, NoMemory}
+use Rattle.mari_day.specs.Fetching.{FetchedOne, FetchedUpTo, IsFaultOf, SomeFetched}
+use Rattle.mari_day.specs.Files.{files, place_of, page_in, gap_of, gap_or, first_gap, AreHeld, Gap, FileGap}
+
+-- the file at a place has that place
+place_is : (n : ℕ) → n < 7 → place_of (slice_index_or files n Day) ≡ n
+place_is zero l = refl
+place_is (suc zero) l = refl
+place_is (suc (suc zero)) l = refl
+place_is (suc (suc (suc zero))) l = refl
+place_is (suc (suc (suc (suc zero)))) l = refl
+place_is (suc (suc (suc (suc (suc zero))))) l = refl
+place_is (suc (suc (suc (suc (suc (suc zero)))))) l = refl
+place_is (suc (suc (suc (suc (suc (suc (suc n))))))) l = absurd (omega (arith, l))
+
+-- one fetch more
+pub one_more : (n before mid now : ℕ) → mid ≡ counted_by n before → now ≡ counted mid → now ≡ counted_by (n + 1) before
+one_more n before mid now e f = rw add-one (f ∙ ap counted e)
+
+-- the fetch of the file at this place gave no page
+pub at_fault : (n before mid now : ℕ) (fault : PagesFault) → mid ≡ counted_by n before → n < 7 → FetchedOne mid now fault → IsFaultOf (slice_index_or files n Day) fault → FetchedUpTo before now fault
+at_fault n before mid now NoMemory e l (inl same) is = record { count = n; within = omega (arith, l); fetched = same ∙ e }
+at_fault n before mid now NoMemory e l (inr one) is = record { count = n + 1; within = omega (arith, l); fetched = one_more n before mid now e one }
+at_fault n before mid now (Of file why) e l one is =
+    let placed : place_of file ≡ n = ap place_of is ∙ place_is n l in
+    one_more n before mid now e one ∙ ap (λ (k : ℕ). counted_by (k + 1) before) (sym placed)
+
+-- all were fetched
+pub all_fetched : (n before now : ℕ) → now ≡ counted_by n before → n ≡ 7 → now ≡ counted_by 7 before
+all_fetched n before now e is = e ∙ ap (λ (k : ℕ). counted_by k before) is
+
+pub some_fetched : (n before now : ℕ) → now ≡ counted_by n before → n ≤ 7 → SomeFetched before now
+some_fetched n before now e l = record { count = n; within = l; fetched = e }
 
 module _ (pages : Pages) (folder : List ℕ) where
   -- a page without a gap leaves the first gap to the files behind it

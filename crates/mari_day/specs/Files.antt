@@ -1,6 +1,7 @@
 -- The seven market files of a folder, and which of them are missing or too long.
 use Rattle.std.specs.Prelude.{◌-◌, slice_index_or, ℕ, nat_lt, ◌≡◌, List, [], ◌∷◌, ◌++◌, length, map, Option, Some, None, if◌then◌else◌}
 use lib.Chars.{codes}
+use Rattle.mari_units.specs.declared.limits.TheConstants.{MOST_PAGE}
 use Rattle.mari_io.specs.Outside.{Pages, page_of}
 use Rattle.mari_day.specs.declared.files.File.{File}
 use Rattle.mari_day.specs.declared.files.File.TheVariants.{Day, Zones, Borders, Bids, Links, Runs, Demands}
@@ -49,7 +50,7 @@ pub data Gap : Type 0 where
 -- what is wrong with a page, if anything is
 abbrev pub gap_of : Option (List ℕ) → Option Gap
 gap_of None = Some NotHeld
-gap_of (Some page) = if nat_lt 268435456 (length page) then Some OverLimit else None
+gap_of (Some page) = if nat_lt MOST_PAGE (length page) then Some OverLimit else None
 
 -- a file and why its page can't be had
 pub record FileGap : Type 0 where

@@ -5,7 +5,7 @@ use Rattle.std.specs.Str.{bytes_eq}
 use Rattle.mari_units.specs.declared.faults.Refusal.{Refusal}
 use Rattle.mari_io.specs.declared.shelf.Fetch.{Fetch}
 use Rattle.mari_io.specs.declared.shelf.Fetch.TheVariants as fetch
-use Rattle.mari_io.specs.Outside.{Pages}
+use Rattle.mari_io.specs.Outside.{Pages, counted_by}
 use Rattle.mari_rows.specs.Books.{book_in}
 use Rattle.mari_rows.specs.declared.faults.BookFault.{BookFault}
 use Rattle.mari_rows.specs.declared.faults.BookFault.TheVariants as refused
@@ -22,6 +22,7 @@ use Rattle.mari_day.specs.declared.files.File.{File}
 use Rattle.mari_day.specs.declared.files.File.TheVariants.{Day, Zones, Borders, Bids, Links, Runs, Demands}
 use Rattle.mari_day.specs.declared.reading.BooksFault.{BooksFault}
 use Rattle.mari_day.specs.declared.reading.BooksFault.TheVariants as why
+use Rattle.mari_day.specs.Fetching.{SomeFetched}
 use Rattle.mari_day.specs.Files.{files, place_of, first_gap, AreHeld, Gap}
 use Rattle.mari_day.specs.Files.Gap.{NotHeld, OverLimit}
 
@@ -112,6 +113,13 @@ IsFetchFault fault (Ok x) = ⊥
 IsFetchFault fault (Err (why.Fetch number f)) = f ≡ fault
 IsFetchFault fault (Err (why.Refused refusal)) = ⊥
 IsFetchFault fault (Err why.Memory) = ⊥
+
+-- how many fetches reading takes: one for each file, and where a file's page can't be had one for it and each before it
+abbrev pub FetchesFiles : {T : Type 0} → (before now : ℕ) → Result T BooksFault → Type 0
+FetchesFiles before now (Ok x) = now ≡ counted_by 7 before
+FetchesFiles before now (Err (why.Fetch number f)) = now ≡ counted_by number before
+FetchesFiles before now (Err (why.Refused refusal)) = now ≡ counted_by 7 before
+FetchesFiles before now (Err why.Memory) = SomeFetched before now
 
 -- a fault of a fetch and a refusal are of one of the seven files, by its number from 1
 abbrev pub NamesAFile : {T : Type 0} → Result T BooksFault → Type 0

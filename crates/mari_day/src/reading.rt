@@ -14,7 +14,7 @@ ghost use Rattle.mari_demands.specs.Runs.{run_grammar, IsRunBook};
 ghost use Rattle.mari_remain.specs.Accepted.{IsAccepted};
 ghost use Rattle.mari_publish.specs.Ranges.{IsDate};
 ghost use Rattle.mari_day.specs.Dated.{IsDated};
-ghost use Rattle.mari_day.specs.Reading.{books_at, borders_at, day_at, day_page as day_page_of, date_text, of_file, page_of, refusal_at, BooksTell, IsFetchFault, NamesAFile, Reads};
+ghost use Rattle.mari_day.specs.Reading.{books_at, borders_at, day_at, day_page as day_page_of, date_text, of_file, page_of, refusal_at, BooksTell, FetchesFiles, IsFetchFault, NamesAFile, Reads};
 
 use crate::files::File;
 use crate::pages::{Folder, PagesFault, fetch_pages};
@@ -206,20 +206,24 @@ fn books_of(alloc: Global, folder: &Folder) -> Result<Books, BooksFault>
 pub fn read_books<S: Shelf>(alloc: Global, shelf: &mut S, folder: &str) -> Result<Books, BooksFault>
     ensures same { S.pages shelf.new ≡ S.pages shelf.old }
 
+    // The files are fetched in their order, each once, up to the first whose page can't be had.
+    ensures fetched { FetchesFiles (S.fetches shelf.old) (S.fetches shelf.new) result }
+
     // What was read.
     ensures told { (told : Pages) → S.pages shelf.old ≡ Some told → BooksTell told folder.now result }
     ensures accepted { IfOk result IsAccepted }
     ensures dated { IfOk result IsDated }
 
-    // Why nothing was.
+    // Why nothing was. Want of memory in a fetch is told as want of memory.
     ensures file { NamesAFile result }
+    ensures memory { IsFetchFault fetch.Memory result → ⊥ }
     ensures failed { Counts (IsFetchFault fetch.Failed result) (S.faults shelf.old) (S.faults shelf.new) }
     ensures missing { Counts (IsFetchFault fetch.Missing result) (S.misses shelf.old) (S.misses shelf.new) }
     ensures too_long { Counts (IsFetchFault fetch.TooLong result) (S.overs shelf.old) (S.overs shelf.new) }
 {
     match fetch_pages(alloc, shelf, folder) {
         Ok(pages) => books_of(alloc, &pages),
-        Err(PagesFault::NoMemory | PagesFault::Of(_, Fetch::Memory)) => Err(BooksFault::Memory),
+        Err(PagesFault::NoMemory) => Err(BooksFault::Memory),
         Err(PagesFault::Of(file, why)) => Err(BooksFault::Fetch(file.number(), why)),
     }
 }

@@ -1,6 +1,7 @@
 use Rattle.std.specs.List.{All}
 use Rattle.std.proofs.Common.{ℕ, List, ◌≡◌, ◌≤◌, Some, length, take, drop, map}
-use Rattle.mari_io.specs.Outside.{Pages}
+use Rattle.mari_io.specs.Outside.{Pages, counted_by}
+use Rattle.mari_units.specs.declared.limits.TheConstants.{MOST_PAGE}
 use Rattle.mari_day.specs.Files.{files, page_in, first_gap}
 use Rattle.mari_day.proofs.pages.fetch_pages.Given as goal
 
@@ -10,7 +11,8 @@ invariant-loop-file g l = record {
   same : g.S.Shelf.pages l.shelf ≡ g.S.Shelf.pages l.fn.shelf;
   all : l.file-items ≡ files;
   count : length l.pages.items ≡ l.file-index;
-  small : All (λ (page : List ℕ). length page ≤ 268435456) l.pages.items;
+  small : All (λ (page : List ℕ). length page ≤ MOST_PAGE) l.pages.items;
+  fetched : g.S.Shelf.fetches l.shelf ≡ counted_by l.file-index (g.S.Shelf.fetches l.fn.shelf);
   held : (told : Pages) → g.S.Shelf.pages l.fn.shelf ≡ Some told → map (page_in told l.fn.folder) (take l.file-index files) ≡ map Some l.pages.items;
   no_gap : (told : Pages) → g.S.Shelf.pages l.fn.shelf ≡ Some told → first_gap told l.fn.folder files ≡ first_gap told l.fn.folder (drop l.file-index files);
   faults : g.S.Shelf.faults l.fn.shelf ≤ g.S.Shelf.faults l.shelf;

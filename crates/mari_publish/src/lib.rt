@@ -16,7 +16,6 @@ mod number;
 mod publication;
 mod reading;
 mod spelling;
-mod taking;
 #[cfg(test)]
 mod tests;
 mod text;
@@ -26,8 +25,7 @@ mod write;
 
 pub use fault::TextFault;
 pub use publication::{
-    AmountLine, BidLine, Block, BorderLine, FullBlock, Heading, MoneyLine, Part, Publication,
-    ZoneLine,
+    AmountLine, BidLine, Block, BorderLine, FullBlock, Heading, MoneyLine, Publication, ZoneLine,
 };
 pub use reading::read_text;
 pub use write::{block_text, head_text, total_text, write_text};

@@ -1,5 +1,6 @@
-pub mod Reporting
-pub mod Reading
-pub mod Saying
 pub mod Answers
+pub mod Commands
 pub mod Marks
+pub mod Reading
+pub mod Reporting
+pub mod Saying

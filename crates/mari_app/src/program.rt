@@ -52,7 +52,7 @@ fn cleared_by<S: Shelf, C: Clearer>(
     requires ready { C.ready clearer.old }
     ensures same { S.pages shelf.new ≡ S.pages shelf.old }
     ensures command { IsNoCommand result → ⊥ }
-    ensures told { SaysFor (asked command) (S.pages shelf.old) result }
+    ensures told { SaysFor (asked command.entry) (S.pages shelf.old) result }
     ensures file { NamesAPage result }
     ensures failed { Counts (IsNoPage fetch.Failed result) (S.faults shelf.old) (S.faults shelf.new) }
     ensures missing { Counts (IsNoPage fetch.Missing result) (S.misses shelf.old) (S.misses shelf.new) }
@@ -76,7 +76,7 @@ fn cleared_alone<S: Shelf>(alloc: Global, command: Command<'_>, shelf: &mut S) -
     requires nodes { (1 ≤ command.options.nodes) × (command.options.nodes ≤ 50000) }
     ensures same { S.pages shelf.new ≡ S.pages shelf.old }
     ensures command { IsNoCommand result → ⊥ }
-    ensures told { SaysFor (asked command) (S.pages shelf.old) result }
+    ensures told { SaysFor (asked command.entry) (S.pages shelf.old) result }
     ensures file { NamesAPage result }
     ensures failed { Counts (IsNoPage fetch.Failed result) (S.faults shelf.old) (S.faults shelf.new) }
     ensures missing { Counts (IsNoPage fetch.Missing result) (S.misses shelf.old) (S.misses shelf.new) }
@@ -97,7 +97,7 @@ fn cleared_together<S: Shelf, G: Turnstile, R: Threads + Wait + Sync>(
     requires workers { (1 ≤ command.options.workers) × (command.options.workers ≤ 16) }
     ensures same { S.pages shelf.new ≡ S.pages shelf.old }
     ensures command { IsNoCommand result → ⊥ }
-    ensures told { SaysFor (asked command) (S.pages shelf.old) result }
+    ensures told { SaysFor (asked command.entry) (S.pages shelf.old) result }
     ensures file { NamesAPage result }
     ensures failed { Counts (IsNoPage fetch.Failed result) (S.faults shelf.old) (S.faults shelf.new) }
     ensures missing { Counts (IsNoPage fetch.Missing result) (S.misses shelf.old) (S.misses shelf.new) }

@@ -10,8 +10,14 @@ mod files;
 mod lines;
 mod pages;
 mod pricing;
+mod progress;
 mod reading;
+mod step;
+mod text;
+mod writing;
 
-pub use day::{PrintedDay, day_of};
+pub use day::{DayEnd, run_day};
 pub use files::file_name;
 pub use reading::{BooksFault, read_books};
+pub use text::{PrintedDay, day_of};
+pub use writing::write_all;

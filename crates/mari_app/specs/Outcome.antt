@@ -48,6 +48,10 @@ Says words pages (NoPage file why) = FetchSays words pages file why
 Says words pages (Refused refusal) = RefusesPages words pages refusal
 Says words pages NoMemory = ⊤
 
+-- what an outcome says of words that ask for this command, and of the pages, where they are told
+abbrev pub SaysFor : Command → Option Pages → Outcome → Type 0
+SaysFor command pages outcome = (words : List (List ℕ)) (told : Pages) → command_at words ≡ Some command → pages ≡ Some told → Says words told outcome
+
 -- what the text of a day comes to
 abbrev pub day_comes_to : PrintedDay → Outcome
 day_comes_to day = if day.unpublished == 0 then Day day.text else PartOfDay day.text

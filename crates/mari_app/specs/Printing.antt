@@ -13,7 +13,7 @@ then_took taken text = option_map (λ t. t ++ text) taken
 
 -- the line that tells how the program is called
 unfoldable pub usage_line : List ℕ
-usage_line = codes "usage: mari clear FOLDER [--nodes N]\n"
+usage_line = codes "usage: mari clear FOLDER [--nodes N] [--workers K]\n"
 
 -- the line of a file, by its number from 1, whose page can't be had
 abbrev pub file_line : List ℕ → ℕ → List ℕ

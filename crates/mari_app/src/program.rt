@@ -3,26 +3,32 @@
 ghost use Rattle.std.specs.Prelude.{◌≡◌, ◌↔◌, ◌≢◌, ◌⊎◌, ℕ, None, Some, map, string_bytes};
 ghost use Rattle.std.specs.Prelude.{◌≤◌, true, false};
 ghost use Rattle.mari_units.specs.declared.faults.Refusal.{Refusal};
+ghost use Rattle.mari_market.specs.Clearing.{Clears};
+ghost use Rattle.mari_market.specs.Market.{IsValid};
 ghost use Rattle.mari_io.specs.Outside.{Counts, Pages, Rose};
 ghost use Rattle.mari_io.specs.declared.shelf.Fetch.TheVariants as fetch;
 ghost use Rattle.mari_day.specs.Files.{Gap};
 ghost use Rattle.mari_day.specs.Files.Gap.{NotHeld, OverLimit};
 ghost use Rattle.mari_app.specs.Headline.{WroteDay};
-ghost use Rattle.mari_app.specs.Outcome.{day_comes_to, LacksPage, RefusesPages, Says, IsNoCommand, IsNoPage, NamesAPage, Reports, Reported, fetch_line, fetch_status};
+ghost use Rattle.mari_app.specs.Outcome.{day_comes_to, LacksPage, RefusesPages, Says, SaysFor, IsNoCommand, IsNoPage, NamesAPage, Reports, Reported, fetch_line, fetch_status};
 ghost use Rattle.mari_app.specs.Printing.{file_line as file_text, refused_line as refused_text, usage_line as usage_text, then_took};
 ghost use Rattle.mari_app.specs.Program.{HasBudget, IsAccepted, IsRefused, IsReadFault, gap_status, Lacks, IsCutOff, Or};
+ghost use Rattle.mari_app.specs.Views.{asked};
 ghost use Rattle.mari_app.specs.Words.{command_at};
 
 use crate::books::accepted_books;
 use crate::outcome::Outcome;
 use crate::status::Status;
-use crate::words::command_of;
+use crate::words::{Command, command_of};
 use crate::writing::{file_line, refused_line, usage_line, write_all};
 use mari_day::{BooksFault, PrintedDay, day_of};
 use mari_io::{Fetch, Shelf, Sink};
+use mari_market::{Cleared, Clearer, Market};
 use mari_units::Refusal;
-use mari_workers::Alone;
+use mari_workers::{Alone, Crew, Turnstile, search};
 use std::alloc::Global;
+use std::sync::Wait;
+use std::thread::Threads;
 
 /// What the text of a day comes to.
 fn day_outcome(day: PrintedDay) -> Outcome
@@ -35,8 +41,86 @@ fn day_outcome(day: PrintedDay) -> Outcome
     }
 }
 
+/// What a command and the shelf's pages come to, where this clears the runs. It returns if the clearer does.
+fn cleared_by<S: Shelf, C: Clearer>(
+    alloc: Global,
+    command: Command<'_>,
+    shelf: &mut S,
+    clearer: &mut C,
+) -> Outcome
+    requires nodes { (1 ≤ command.options.nodes) × (command.options.nodes ≤ 50000) }
+    requires ready { C.ready clearer.old }
+    ensures same { S.pages shelf.new ≡ S.pages shelf.old }
+    ensures command { IsNoCommand result → ⊥ }
+    ensures told { SaysFor (asked command) (S.pages shelf.old) result }
+    ensures file { NamesAPage result }
+    ensures failed { Counts (IsNoPage fetch.Failed result) (S.faults shelf.old) (S.faults shelf.new) }
+    ensures missing { Counts (IsNoPage fetch.Missing result) (S.misses shelf.old) (S.misses shelf.new) }
+    ensures too_long { Counts (IsNoPage fetch.TooLong result) (S.overs shelf.old) (S.overs shelf.new) }
+{
+    match accepted_books(alloc, shelf, command.folder) {
+        Ok(books) => match day_of(alloc, &books, command.options.nodes, clearer) {
+            Ok(day) => day_outcome(day),
+            Err(_) => Outcome::NoMemory,
+        },
+        Err(BooksFault::Fetch(file, why)) => Outcome::NoPage(file, why),
+        Err(BooksFault::Refused(refusal)) => Outcome::Refused(refusal),
+        Err(BooksFault::Memory) => Outcome::NoMemory,
+    }
+}
+
+/// What a command and the shelf's pages come to by one worker, which is this thread.
+///
+/// Neither this nor `command_of` nor `report` may wait: so with one worker `run_program` uses only calls that return.
+fn cleared_alone<S: Shelf>(alloc: Global, command: Command<'_>, shelf: &mut S) -> Outcome
+    requires nodes { (1 ≤ command.options.nodes) × (command.options.nodes ≤ 50000) }
+    ensures same { S.pages shelf.new ≡ S.pages shelf.old }
+    ensures command { IsNoCommand result → ⊥ }
+    ensures told { SaysFor (asked command) (S.pages shelf.old) result }
+    ensures file { NamesAPage result }
+    ensures failed { Counts (IsNoPage fetch.Failed result) (S.faults shelf.old) (S.faults shelf.new) }
+    ensures missing { Counts (IsNoPage fetch.Missing result) (S.misses shelf.old) (S.misses shelf.new) }
+    ensures too_long { Counts (IsNoPage fetch.TooLong result) (S.overs shelf.old) (S.overs shelf.new) }
+{
+    cleared_by(alloc, command, shelf, &mut Alone)
+}
+
+/// What a command and the shelf's pages come to by several workers in threads of their own. It may wait for them.
+fn cleared_together<S: Shelf, G: Turnstile, R: Threads + Wait + Sync>(
+    rt: &R,
+    alloc: Global,
+    command: Command<'_>,
+    shelf: &mut S,
+    turnstile: &G,
+) -> Outcome
+    requires nodes { (1 ≤ command.options.nodes) × (command.options.nodes ≤ 50000) }
+    requires workers { (1 ≤ command.options.workers) × (command.options.workers ≤ 16) }
+    ensures same { S.pages shelf.new ≡ S.pages shelf.old }
+    ensures command { IsNoCommand result → ⊥ }
+    ensures told { SaysFor (asked command) (S.pages shelf.old) result }
+    ensures file { NamesAPage result }
+    ensures failed { Counts (IsNoPage fetch.Failed result) (S.faults shelf.old) (S.faults shelf.new) }
+    ensures missing { Counts (IsNoPage fetch.Missing result) (S.misses shelf.old) (S.misses shelf.new) }
+    ensures too_long { Counts (IsNoPage fetch.TooLong result) (S.overs shelf.old) (S.overs shelf.new) }
+{
+    let workers = command.options.workers;
+    let mut crew = Crew {
+        run: |alloc: Global, market: &Market, budget: u32| -> Cleared
+            requires { IsValid market.now × (1 ≤ budget) × (budget ≤ 50000) × (1 ≤ workers) × (workers ≤ 16) }
+            ensures { Clears market.entry.now budget result }
+        { search(rt, alloc, market, workers, budget, turnstile) },
+    };
+    cleared_by(alloc, command, shelf, &mut crew)
+}
+
 /// What the words and the shelf's pages come to.
-fn outcome_of<S: Shelf>(alloc: Global, words: &[String], shelf: &mut S) -> Outcome
+fn outcome_of<S: Shelf, G: Turnstile, R: Threads + Wait + Sync>(
+    rt: &R,
+    alloc: Global,
+    words: &[String],
+    shelf: &mut S,
+    turnstile: &G,
+) -> Outcome
     ensures same { S.pages shelf.new ≡ S.pages shelf.old }
     ensures command { IsNoCommand result ↔ (command_at (map string_bytes words.now) ≡ None) }
     ensures told { (told : Pages) → S.pages shelf.old ≡ Some told → Says (map string_bytes words.now) told result }
@@ -45,17 +129,10 @@ fn outcome_of<S: Shelf>(alloc: Global, words: &[String], shelf: &mut S) -> Outco
     ensures missing { Counts (IsNoPage fetch.Missing result) (S.misses shelf.old) (S.misses shelf.new) }
     ensures too_long { Counts (IsNoPage fetch.TooLong result) (S.overs shelf.old) (S.overs shelf.new) }
 {
-    let Some(command) = command_of(words) else {
-        return Outcome::NoCommand;
-    };
-    match accepted_books(alloc, shelf, command.folder) {
-        Ok(books) => match day_of(alloc, &books, command.nodes, &mut Alone) {
-            Ok(day) => day_outcome(day),
-            Err(_) => Outcome::NoMemory,
-        },
-        Err(BooksFault::Fetch(file, why)) => Outcome::NoPage(file, why),
-        Err(BooksFault::Refused(refusal)) => Outcome::Refused(refusal),
-        Err(BooksFault::Memory) => Outcome::NoMemory,
+    match command_of(words) {
+        None => Outcome::NoCommand,
+        Some(command) if command.options.workers == 1 => cleared_alone(alloc, command, shelf),
+        Some(command) => cleared_together(rt, alloc, command, shelf, turnstile),
     }
 }
 
@@ -129,14 +206,17 @@ fn report<K: Sink>(alloc: Global, sink: &mut K, outcome: &Outcome) -> Status
 /// Does all that the program does: clears the folder that the words name, and prints its day, or says why not.
 ///
 /// `clear FOLDER` fetches the seven market files of the folder in their order and then reads them in that order. With
-/// `--nodes N` behind it a run's search makes at most N nodes, 1 to 50,000, and without it 10,000. At this stage the day has
-/// one form, no link goes to another quarter, and there is one scheduled run; what is in another form is refused as not built,
-/// after all other refusals.
-pub fn run_program<S: Shelf, K: Sink>(
+/// `--nodes N` behind it a run's search makes at most N nodes, 1 to 50,000, and without it 10,000. With `--workers K` behind
+/// that K workers search, 1 to 16, and without it 2; two or more take their findings from the turnstile, and the call may then
+/// wait for them. At this stage the day has one form, no link goes to another quarter, and there is one scheduled run; what is
+/// in another form is refused as not built, after all other refusals.
+pub fn run_program<S: Shelf, K: Sink, G: Turnstile, R: Threads + Wait + Sync>(
+    rt: &R,
     alloc: Global,
     words: &[String],
     shelf: &mut S,
     sink: &mut K,
+    turnstile: &G,
 ) -> Status
     // The headline: what is printed is a day of the pages, each run of which is published.
     ensures done { result ≡ Status.Done → (told : Pages) → S.pages shelf.old ≡ Some told
@@ -189,6 +269,6 @@ pub fn run_program<S: Shelf, K: Sink>(
         → (result ≡ Status.Done) ⊎ Rose (S.faults shelf.old) (S.faults shelf.new) ⊎ Rose (K.faults sink.old) (K.faults sink.new)
         ⊎ (result ≡ Status.Memory) }
 {
-    let outcome = outcome_of(alloc, words, shelf);
+    let outcome = outcome_of(rt, alloc, words, shelf, turnstile);
     report(alloc, sink, &outcome)
 }

@@ -1,15 +1,20 @@
 //! Worked folders and words, with the lines that they print.
 
 mod gated_bids;
-mod node_option;
 mod not_built;
+mod options;
+mod pair;
+mod two_leaves;
 
 use crate::run_program;
 use mari_io::{FaultPlan, MemoryShelf, MemorySink, Name64, Page};
 use mari_units::Items;
+use mari_workers::FreeTurnstile;
 use std::alloc::Global;
 use std::process::Abort;
+use std::sync::Wait;
 use std::test::Fail;
+use std::thread::Threads;
 
 const DAY: &str = "date,rule\n2025-03-12,\"CET-1CEST,M3.5.0,M10.5.0/3\"\n";
 
@@ -105,9 +110,12 @@ fn words(alloc: Global, texts: &[&str]) -> Result<Vec<String>, Fail> {
     Ok(words)
 }
 
+/// The numbers of workers by which folders with gated bids are cleared.
+const WORKERS: [&str; 3] = ["1", "2", "4"];
+
 /// Runs the program on these words and this shelf, and compares its exit code and what it printed.
 fn compare(
-    rt: &impl Abort,
+    rt: &(impl Abort + Threads + Wait + Sync),
     alloc: Global,
     texts: &[&str],
     mut shelf: MemoryShelf,
@@ -116,7 +124,7 @@ fn compare(
 ) -> Result<(), Fail> {
     let mut sink = MemorySink::new(alloc, 10, 10_000, plan(alloc, &[])?)?;
     let words = words(alloc, texts)?;
-    let status = run_program(alloc, &words, &mut shelf, &mut sink);
+    let status = run_program(rt, alloc, &words, &mut shelf, &mut sink, &FreeTurnstile);
     assert_eq!(rt; sink.bytes(), printed.as_bytes());
     assert_eq!(rt; status.code(), code);
     Ok(())
@@ -124,7 +132,7 @@ fn compare(
 
 /// Clears folder F, and compares the exit code and what is printed.
 fn clears(
-    rt: &impl Abort,
+    rt: &(impl Abort + Threads + Wait + Sync),
     alloc: Global,
     folder: Folder<'_>,
     code: u8,
@@ -134,44 +142,71 @@ fn clears(
     compare(rt, alloc, &["clear", "F"], shelf, code, printed)
 }
 
-/// Clears folder F within a number of nodes, and compares the exit code and what is printed.
+/// Clears folder F by 1, 2 and 4 workers, and compares the exit code and what is printed.
+fn clears_alike(
+    rt: &(impl Abort + Threads + Wait + Sync),
+    alloc: Global,
+    folder: Folder<'_>,
+    code: u8,
+    printed: &str,
+) -> Result<(), Fail> {
+    for workers in WORKERS {
+        let shelf = shelf(alloc, folder, &[])?;
+        let words = ["clear", "F", "--workers", workers];
+        compare(rt, alloc, &words, shelf, code, printed)?;
+    }
+    Ok(())
+}
+
+/// Clears folder F within a number of nodes by 1, 2 and 4 workers, and compares the exit code and what is printed.
 fn clears_within(
-    rt: &impl Abort,
+    rt: &(impl Abort + Threads + Wait + Sync),
     alloc: Global,
     folder: Folder<'_>,
     nodes: &str,
     code: u8,
     printed: &str,
 ) -> Result<(), Fail> {
-    let shelf = shelf(alloc, folder, &[])?;
-    let words = ["clear", "F", "--nodes", nodes];
-    compare(rt, alloc, &words, shelf, code, printed)
+    for workers in WORKERS {
+        let shelf = shelf(alloc, folder, &[])?;
+        let words = ["clear", "F", "--nodes", nodes, "--workers", workers];
+        compare(rt, alloc, &words, shelf, code, printed)?;
+    }
+    Ok(())
 }
 
-/// Clears folder F, and compares the day that is printed with what stands before and behind its certificate.
+/// Clears folder F by 1, 2 and 4 workers, and compares the day that is printed with what stands before and behind its
+/// certificate.
 fn prints_around(
-    rt: &impl Abort,
+    rt: &(impl Abort + Threads + Wait + Sync),
     alloc: Global,
     folder: Folder<'_>,
     before: &str,
     after: &str,
 ) -> Result<(), Fail> {
-    let mut shelf = shelf(alloc, folder, &[])?;
-    let mut sink = MemorySink::new(alloc, 100, 10_000, plan(alloc, &[])?)?;
-    let words = words(alloc, &["clear", "F"])?;
-    let status = run_program(alloc, &words, &mut shelf, &mut sink);
-    assert_eq!(rt; status.code(), 0);
-    assert!(rt; sink.bytes().starts_with(before.as_bytes()));
-    assert!(rt; sink.bytes().ends_with(after.as_bytes()));
+    for workers in WORKERS {
+        let mut shelf = shelf(alloc, folder, &[])?;
+        let mut sink = MemorySink::new(alloc, 100, 10_000, plan(alloc, &[])?)?;
+        let words = words(alloc, &["clear", "F", "--workers", workers])?;
+        let status = run_program(rt, alloc, &words, &mut shelf, &mut sink, &FreeTurnstile);
+        assert_eq!(rt; status.code(), 0);
+        assert!(rt; sink.bytes().starts_with(before.as_bytes()));
+        assert!(rt; sink.bytes().ends_with(after.as_bytes()));
+    }
     Ok(())
 }
 
 /// Clears folder F, and looks for lines in the day that is printed.
-fn prints(rt: &impl Abort, alloc: Global, folder: Folder<'_>, lines: &str) -> Result<(), Fail> {
+fn prints(
+    rt: &(impl Abort + Threads + Wait + Sync),
+    alloc: Global,
+    folder: Folder<'_>,
+    lines: &str,
+) -> Result<(), Fail> {
     let mut shelf = shelf(alloc, folder, &[])?;
     let mut sink = MemorySink::new(alloc, 100, 10_000, plan(alloc, &[])?)?;
     let words = words(alloc, &["clear", "F"])?;
-    let status = run_program(alloc, &words, &mut shelf, &mut sink);
+    let status = run_program(rt, alloc, &words, &mut shelf, &mut sink, &FreeTurnstile);
     assert_eq!(rt; status.code(), 0);
     let text = sink.bytes();
     let count = lines.len();
@@ -274,7 +309,12 @@ fn downward_bid(rt: HostRuntime) -> Result<(), Fail> {
 }
 
 /// A folder that is refused by this line.
-fn refuses(rt: &impl Abort, alloc: Global, folder: Folder<'_>, line: &str) -> Result<(), Fail> {
+fn refuses(
+    rt: &(impl Abort + Threads + Wait + Sync),
+    alloc: Global,
+    folder: Folder<'_>,
+    line: &str,
+) -> Result<(), Fail> {
     clears(rt, alloc, folder, 3, line)
 }
 
@@ -334,9 +374,13 @@ fn refusals_of_runs_and_demands(rt: HostRuntime) -> Result<(), Fail> {
 }
 
 /// The usage line answers these words.
-fn compare_usage(rt: &impl Abort, alloc: Global, texts: &[&str]) -> Result<(), Fail> {
+fn compare_usage(
+    rt: &(impl Abort + Threads + Wait + Sync),
+    alloc: Global,
+    texts: &[&str],
+) -> Result<(), Fail> {
     let shelf = shelf(alloc, ONE_ZONE, &[])?;
-    let printed = "usage: mari clear FOLDER [--nodes N]\n";
+    let printed = "usage: mari clear FOLDER [--nodes N] [--workers K]\n";
     compare(rt, alloc, texts, shelf, 2, printed)
 }
 
@@ -383,7 +427,7 @@ fn sink_that_fails_at_its_third_call(rt: HostRuntime) -> Result<(), Fail> {
     let mut shelf = shelf(alloc, ONE_ZONE, &[])?;
     let mut sink = MemorySink::new(alloc, 10, 10_000, plan(alloc, &[3])?)?;
     let words = words(alloc, &["clear", "F"])?;
-    let status = run_program(alloc, &words, &mut shelf, &mut sink);
+    let status = run_program(&rt, alloc, &words, &mut shelf, &mut sink, &FreeTurnstile);
     assert_eq!(rt; sink.bytes(), b"mari 1 2025-03-12 96".as_slice());
     assert_eq!(rt; status.code(), 5);
     Ok(())

@@ -33,7 +33,7 @@ pub fn write_all<K: Sink>(sink: &mut K, text: &[u8]) -> Result<(), Failed>
 pub fn usage_line() -> &'static [u8]
     ensures { result.now ≡ usage_text }
 {
-    b"usage: mari clear FOLDER [--nodes N]\n"
+    b"usage: mari clear FOLDER [--nodes N] [--workers K]\n"
 }
 
 /// Appends a piece.

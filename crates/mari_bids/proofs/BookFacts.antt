@@ -6,14 +6,15 @@ use Rattle.std.specs.Str.{bytes_eq}
 use Rattle.std.proofs.lemmas.Bool.Decides.{nat_tests}
 use Rattle.std.proofs.lemmas.List.{length-map, map-append}
 use Rattle.std.proofs.lemmas.List.Elements.{All-map, All-nil, All-push}
-use Rattle.mari_rows.specs.Books.{GivesBook, book_of_rows, first_failing}
+use Rattle.mari_rows.specs.Books.{GivesBook, book_in, first_failing}
 use Rattle.mari_rows.specs.Names.{place_in}
 use Rattle.mari_rows.specs.Rows.{field_of}
 use Rattle.mari_rows.specs.declared.faults.BookFault.{BookFault}
 use Rattle.mari_rows.specs.declared.rows.Row.{Row}
-use Rattle.mari_rows.proofs.BookLemmas.{book-rows}
+use Rattle.mari_rows.proofs.BookLemmas.{book-page}
 use Rattle.mari_rows.proofs.BookFacts.{all-distinct, all-passed, along-lines, both-parts, count_by-map, counts-at-most, distinct-more, found-below, not-false, number-bounds, places-below, read-within}
 use Rattle.mari_rows.proofs.PlaceLemmas.{length-distinct}
+use Rattle.mari_rows.proofs.RowLemmas.{length-rows_in}
 use Rattle.mari_zones.specs.declared.zones.ZoneBook.{ZoneBook}
 use Rattle.mari_bids.specs.Bids.{IsBid, IsBidBook, bid_at, bid_book, bid_grammar, greatest_in, id_of, least_in, line_checks, price_in, provider_of, providers_of, quarter_at, quarter_in, zone_in}
 use Rattle.mari_units.specs.Names.{is_name}
@@ -78,11 +79,14 @@ module _ (zones : ZoneBook) (quarters : ℕ) where
       }
 
   -- what is read is such a book
-  pub bid-facts : (rows : List Row) (result : Result BidBook BookFault) → length rows ≤ 268435456 → GivesBook result (book_of_rows (bid_grammar zones quarters) rows)
+  pub bid-facts : (page : List ℕ) (result : Result BidBook BookFault) → length page ≤ 268435456 → GivesBook result (book_in (bid_grammar zones quarters) page)
       → IfOk result (IsBidBook zones quarters)
-  bid-facts rows (Err fault) few gives = tt
-  bid-facts rows (Ok book) few gives =
-      let is = book-rows (bid_grammar zones quarters) rows book gives in
+  bid-facts page (Err fault) small gives = tt
+  bid-facts page (Ok book) small gives =
+      let read = book-page (bid_grammar zones quarters) page book gives in
+      let rows : List Row = read.0 in
+      let few : length rows ≤ 268435456 = omega (arith, length-rows_in (bid_grammar zones quarters).columns page rows read.1, small) in
+      let is = read.2 in
       let are = along-lines (bid_grammar zones quarters) AreLines one-more rows book is none-yet in
       let providers = providers_of rows in
       let make : Row → Bid = λ row. bid_at zones quarters (place_in providers (provider_of row)) row in

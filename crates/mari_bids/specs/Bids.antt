@@ -3,6 +3,7 @@ use Rattle.std.specs.Prelude.{◌≡◌, ◌≢◌, ◌≤◌, ◌<◌, ℕ, ◌
 use Rattle.std.specs.List.{All, AllPairs}
 use Rattle.mari_units.specs.Names.{is_name}
 use Rattle.mari_units.specs.Numbers.{price_of, whole_of}
+use Rattle.mari_units.specs.declared.limits.TheConstants.{MOST_BID_MW, MOST_BIDS}
 use Rattle.mari_units.specs.declared.numbers.Cents.{Cents}
 use Rattle.mari_rows.specs.Books.{Checks, Grammar}
 use Rattle.mari_rows.specs.Fields.{cents_in, is_first_of, number_in, IsWithinCap}
@@ -11,7 +12,9 @@ use Rattle.mari_rows.specs.Rows.{field_of}
 use Rattle.mari_rows.specs.declared.rows.Row.{Row}
 use Rattle.mari_zones.specs.Borders.{zone_named}
 use Rattle.mari_zones.specs.declared.zones.ZoneBook.{ZoneBook}
+use Rattle.mari_bids.specs.BidChecks.{bid_check_number}
 use Rattle.mari_bids.specs.declared.bids.Bid.{Bid}
+use Rattle.mari_bids.specs.declared.bids.BidCheck.TheVariants.{BadField, LeastAboveGreatest, Quarter, Range, Repeated, TooMany, UnknownZone}
 use Rattle.mari_bids.specs.declared.bids.BidBook.{BidBook}
 
 -- the words of a direction and of a kind
@@ -53,10 +56,10 @@ price_in row = cents_in (field_of row 5)
 
 -- a line's least and greatest quantity, in MW
 abbrev pub least_in : Row → Option ℕ
-least_in row = number_in 0 9999 (field_of row 6)
+least_in row = number_in 0 MOST_BID_MW (field_of row 6)
 
 abbrev pub greatest_in : Row → Option ℕ
-greatest_in row = number_in 1 9999 (field_of row 7)
+greatest_in row = number_in 1 MOST_BID_MW (field_of row 7)
 
 -- whether a line's bid is for scheduled and direct runs, and not for scheduled ones alone
 abbrev pub is_both : Row → Option Bool
@@ -85,18 +88,18 @@ count_of quarters rows quarter = count_by (λ row. quarter_at quarters row == qu
 -- for a price or a quantity out of range, and for a least quantity above the greatest
 abbrev pub bid_checks : ZoneBook → ℕ → List Row → Row → Checks
 bid_checks zones quarters earlier row =
-    (has_bad_field row, 11)
-    ∷ (is_among (map id_of earlier) (id_of row), 12)
-    ∷ (not (is_some (zone_in zones row)), 13)
-    ∷ (not (is_some (quarter_in quarters row)), 14)
-    ∷ (not (is_some (price_in row) && is_some (greatest_in row) && is_some (least_in row)), 15)
-    ∷ (nat_lt (greatest_at row) (least_at row), 16)
+    (has_bad_field row, bid_check_number BadField)
+    ∷ (is_among (map id_of earlier) (id_of row), bid_check_number Repeated)
+    ∷ (not (is_some (zone_in zones row)), bid_check_number UnknownZone)
+    ∷ (not (is_some (quarter_in quarters row)), bid_check_number Quarter)
+    ∷ (not (is_some (price_in row) && is_some (greatest_in row) && is_some (least_in row)), bid_check_number Range)
+    ∷ (nat_lt (greatest_at row) (least_at row), bid_check_number LeastAboveGreatest)
     ∷ []
 
 -- and as the 4,097th bid of its quarter
 abbrev pub line_checks : ZoneBook → ℕ → List Row → Row → Checks
 line_checks zones quarters earlier row =
-    bid_checks zones quarters earlier row ++ (nat_le 4096 (count_of quarters earlier (quarter_at quarters row)), 17) ∷ []
+    bid_checks zones quarters earlier row ++ (nat_le MOST_BIDS (count_of quarters earlier (quarter_at quarters row)), bid_check_number TooMany) ∷ []
 
 -- the bid of a line, whose provider has this place
 abbrev pub bid_at : ZoneBook → ℕ → ℕ → Row → Bid

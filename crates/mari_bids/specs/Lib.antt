@@ -1,2 +1,3 @@
+pub mod BidChecks
 pub mod Bids
 pub mod SoFar

@@ -1,26 +1,54 @@
 //! The bids of a day.
-ghost use Rattle.std.specs.Prelude.{◌≡◌, ◌≤◌, ◌<◌, ◌+◌, true, false, List, map, length, slice_index, slice_set, nat_lt, IfOk, OnOk, ◌++◌, ◌∷◌, []};
+ghost use Rattle.std.specs.Prelude.{◌≡◌, ◌≤◌, ◌+◌, true, false, List, map, length, IfOk, OnOk, []};
 ghost use Rattle.mari_units.specs.Names.{is_name};
-ghost use Rattle.mari_rows.specs.Books.{book_in, book_of_rows, first_failing, GivesBook, TakesLine};
-ghost use Rattle.mari_rows.specs.First.{unless_fault};
+ghost use Rattle.mari_rows.specs.Books.{book_in, first_failing, GivesBook};
+ghost use Rattle.mari_rows.specs.Checks.{IsRead};
 ghost use Rattle.mari_rows.specs.Names.{is_among};
 ghost use Rattle.mari_rows.specs.declared.rows.Row.{Row as Line};
 ghost use Rattle.mari_zones.specs.declared.zones.ZoneBook.{ZoneBook};
-ghost use Rattle.mari_bids.specs.Bids.{bid_at, bid_checks, bid_columns, bid_grammar, has_bad_field as has_bad_field_in, id_of, IsBidBook, line_checks, is_both as is_both_in, is_up as is_up_in, provider_of};
+ghost use Rattle.mari_bids.specs.BidChecks.{bid_check_name, bid_check_number};
+ghost use Rattle.mari_bids.specs.Bids.{bid_at, bid_checks, bid_columns, bid_grammar, has_bad_field as has_bad_field_in, id_of, IsBidBook, is_both as is_both_in, is_up as is_up_in, provider_of};
 
 use mari_rows::{
-    BookFault, NameIndex, Row, RowReader, cents_of, count_one, is_first_of, is_price, is_whole,
-    number_of, read_rows,
+    BookFault, BookSoFar, FileCheck, LineFault, NameIndex, Row, cents_of, count_one, is_first_of,
+    is_price, is_whole, number_of, read_book,
 };
-use mari_units::{Cents, Items, is_name_text};
+use mari_units::{Cents, Items, MOST_BID_MW, MOST_BIDS, is_name_text};
 use mari_zones::ZoneBook;
 use std::alloc::{AllocError, Global};
 
 const COLUMNS: &str = "id,provider,zone,quarter,direction,price,least,greatest,kind";
 
-const MOST_OF_A_QUARTER: u32 = 4_096;
+/// A check of bids.csv.
+#[derive(Clone, Copy, Debug, PartialEq, Eq)]
+pub enum BidCheck {
+    BadField,
+    Repeated,
+    UnknownZone,
+    Quarter,
+    Range,
+    LeastAboveGreatest,
+    TooMany,
+}
 
-const MOST_MW: u32 = 9_999;
+impl FileCheck for BidCheck {
+    ghost number = { bid_check_number };
+
+    ghost name = { bid_check_name };
+
+    #[tactic(auto, unfolding(crate::specs::BidChecks::bid_check_name))]
+    fn entry(self) -> (u8, &'static str) {
+        match self {
+            BidCheck::BadField => (11, "BadField"),
+            BidCheck::Repeated => (12, "Repeated"),
+            BidCheck::UnknownZone => (13, "UnknownZone"),
+            BidCheck::Quarter => (14, "Quarter"),
+            BidCheck::Range => (15, "Range"),
+            BidCheck::LeastAboveGreatest => (16, "LeastAboveGreatest"),
+            BidCheck::TooMany => (17, "TooMany"),
+        }
+    }
+}
 
 /// A bid: at least and at most so many whole MW in one quarter hour, at a price in cents per MWh.
 ///
@@ -48,6 +76,7 @@ pub struct BidBook {
 
 impl BidBook {
     /// The book of a page on a day of so many quarters, or its first refusal.
+    #[tactic(auto, unfolding(crate::specs::Bids::bid_columns))]
     pub fn read(
         alloc: Global,
         bids: &[u8],
@@ -58,8 +87,8 @@ impl BidBook {
         ensures book { GivesBook result (book_in (bid_grammar zones.now quarters) bids.now) }
         ensures bids { IfOk result (IsBidBook zones.now quarters) }
     {
-        let mut lines = read_rows(alloc, bids, COLUMNS)?;
-        book_of(alloc, &mut lines, zones, quarters)
+        let none = BidsSoFar::new(alloc, zones, quarters)?;
+        read_book(alloc, bids, COLUMNS, none)
     }
 }
 
@@ -92,37 +121,37 @@ fn has_bad_field(line: &Row) -> bool
 }
 
 // The bid of a line behind others with these names, but for the place of its provider, or the first check that fails.
-fn bid_of(zones: &ZoneBook, quarters: u32, ids: &NameIndex, line: &Row) -> Result<Bid, u8>
+fn bid_of(zones: &ZoneBook, quarters: u32, ids: &NameIndex, line: &Row) -> Result<Bid, BidCheck>
     ensures bid { (earlier : List Line) → ids.now ≡ map id_of earlier
-        → result ≡ unless_fault (first_failing (bid_checks zones.now quarters earlier line.now)) (bid_at zones.now quarters 0 line.now) }
+        → IsRead bid_check_number result (first_failing (bid_checks zones.now quarters earlier line.now)) (bid_at zones.now quarters 0 line.now) }
     ensures quarter { IfOk result (λ bid. bid.quarter ≤ quarters) }
     ensures id { OnOk result (is_name (id_of line.now) ≡ true) }
     ensures new { OnOk result (is_among ids.now (id_of line.now) ≡ false) }
     ensures provider { OnOk result (is_name (provider_of line.now) ≡ true) }
 {
     if has_bad_field(line) {
-        return Err(11);
+        return Err(BidCheck::BadField);
     }
     if ids.find(line.field(0)).is_some() {
-        return Err(12);
+        return Err(BidCheck::Repeated);
     }
     let Some(zone) = zones.zones.find(line.field(2)) else {
-        return Err(13);
+        return Err(BidCheck::UnknownZone);
     };
     let Some(quarter) = number_of(line.field(3), 1, quarters) else {
-        return Err(14);
+        return Err(BidCheck::Quarter);
     };
     let Some(price) = cents_of(line.field(5)) else {
-        return Err(15);
+        return Err(BidCheck::Range);
     };
-    let Some(greatest) = number_of(line.field(7), 1, MOST_MW) else {
-        return Err(15);
+    let Some(greatest) = number_of(line.field(7), 1, MOST_BID_MW) else {
+        return Err(BidCheck::Range);
     };
-    let Some(least) = number_of(line.field(6), 0, MOST_MW) else {
-        return Err(15);
+    let Some(least) = number_of(line.field(6), 0, MOST_BID_MW) else {
+        return Err(BidCheck::Range);
     };
     if least > greatest {
-        return Err(16);
+        return Err(BidCheck::LeastAboveGreatest);
     }
     Ok(Bid {
         provider: 0,
@@ -138,56 +167,52 @@ fn bid_of(zones: &ZoneBook, quarters: u32, ids: &NameIndex, line: &Row) -> Resul
 
 // The bids of the lines so far, and how many there are of each quarter.
 #[derive(Drop)]
-struct BidsSoFar {
+struct BidsSoFar<'a> {
+    zones: &'a ZoneBook,
+    quarters: u32,
     ids: NameIndex,
     providers: NameIndex,
     bids: Vec<Bid>,
     counts: Vec<u32>,
 }
 
-impl BidsSoFar {
+impl<'a> BidsSoFar<'a> {
     ghost use Rattle.mari_bids.specs.SoFar.{HoldsBids};
 
-    fn new(alloc: Global, quarters: u32) -> Result<Self, AllocError>
-        ensures { (zones : ZoneBook) → IfOk result (HoldsBids zones quarters []) }
+    fn new(alloc: Global, zones: &'a ZoneBook, quarters: u32) -> Result<Self, AllocError>
+        ensures zones { IfOk result (λ so_far. so_far.zones.now ≡ zones.now) }
+        ensures quarters { IfOk result (λ so_far. so_far.quarters ≡ quarters) }
+        ensures none { IfOk result (HoldsBids []) }
     {
         Ok(BidsSoFar {
+            zones,
+            quarters,
             ids: NameIndex::new(alloc),
             providers: NameIndex::new(alloc),
             bids: Vec::new(alloc),
             counts: vec![in alloc; 0u32; quarters as usize + 1]?,
         })
     }
+}
 
-    // Adds the bid of a line, or tells the first check that fails.
-    fn add(
-        &mut self,
-        alloc: Global,
-        zones: &ZoneBook,
-        quarters: u32,
-        line: &Row,
-    ) -> Result<(), BookFault>
-        requires ids { length self.old.ids < 4294967295 }
-        requires providers { length self.old.providers < 4294967295 }
-        requires quarters { length self.old.counts.items ≡ quarters + 1 }
-        ensures { (earlier : List Line) → HoldsBids zones.now quarters earlier self.old
-            → TakesLine result line.now.line (first_failing (line_checks zones.now quarters earlier line.now))
-            (λ _. HoldsBids zones.now quarters (earlier ++ line.now ∷ []) self.new) }
-    {
-        let mut bid = match bid_of(zones, quarters, &self.ids, line) {
+impl<'a> BookSoFar for BidsSoFar<'a> {
+    ghost use Rattle.mari_bids.specs.SoFar.{HoldsBids};
+
+    type Check = BidCheck;
+
+    type Book = BidBook;
+
+    ghost grammar = { λ so_far. bid_grammar so_far.zones.now so_far.quarters };
+
+    ghost Holds = { λ so_far lines. HoldsBids lines so_far };
+
+    fn take(&mut self, alloc: Global, line: &Row) -> Result<(), LineFault<BidCheck>> {
+        let mut bid = match bid_of(self.zones, self.quarters, &self.ids, line) {
             Ok(bid) => bid,
-            Err(number) => {
-                return Err(BookFault::At {
-                    line: line.line,
-                    number,
-                });
-            }
+            Err(check) => return Err(LineFault::Fails(check)),
         };
-        if !count_one(&mut self.counts, bid.quarter, MOST_OF_A_QUARTER) {
-            return Err(BookFault::At {
-                line: line.line,
-                number: 17,
-            });
+        if !count_one(&mut self.counts, bid.quarter, MOST_BIDS as u32) {
+            return Err(LineFault::Fails(BidCheck::TooMany));
         }
         self.ids.find_or_add(alloc, line.field(0))?;
         bid.provider = self.providers.find_or_add(alloc, line.field(1))?;
@@ -195,32 +220,11 @@ impl BidsSoFar {
         Ok(())
     }
 
-    fn into_book(self) -> BidBook
-        ensures ids { result.ids ≡ self.ids }
-        ensures providers { result.providers ≡ self.providers }
-        ensures bids { result.bids ≡ self.bids.items }
-    {
-        BidBook {
+    fn end(self, _alloc: Global) -> Result<BidBook, LineFault<BidCheck>> {
+        Ok(BidBook {
             ids: self.ids,
             providers: self.providers,
             bids: Items::of(self.bids),
-        }
+        })
     }
-}
-
-// The book of these lines, or their first refusal.
-fn book_of(
-    alloc: Global,
-    lines: &mut RowReader<'_>,
-    zones: &ZoneBook,
-    quarters: u32,
-) -> Result<BidBook, BookFault>
-    requires { length lines.old ≤ 268435456 }
-    ensures { GivesBook result (book_of_rows (bid_grammar zones.now quarters) lines.old) }
-{
-    let mut so_far = BidsSoFar::new(alloc, quarters)?;
-    'lines: while let Some(line) = lines.next(alloc)? {
-        so_far.add(alloc, zones, quarters, &line)?;
-    }
-    Ok(so_far.into_book())
 }

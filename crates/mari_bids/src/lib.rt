@@ -7,4 +7,4 @@ mod bids;
 #[cfg(test)]
 mod tests;
 
-pub use bids::{Bid, BidBook};
+pub use bids::{Bid, BidBook, BidCheck};

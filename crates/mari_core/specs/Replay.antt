@@ -1,5 +1,5 @@
 -- A list of events, one after the other.
-use Rattle.std.specs.Prelude.{◌≡◌, ℕ, ◌+◌, ◌≤◌, ◌⊎◌, List, [], ◌∷◌, length, take, Option, Some, None, Result, Ok, Err, ⊤}
+use Rattle.std.specs.Prelude.{◌≡◌, ℕ, ◌+◌, ◌⊎◌, List, [], ◌∷◌, Option, Some, None, Result, Ok, Err, ⊤}
 use Rattle.mari_core.specs.declared.event.Event.{Event}
 use Rattle.mari_core.specs.declared.event.StepFault.{StepFault}
 use Rattle.mari_core.specs.declared.event.StepFault.TheVariants.{Memory}
@@ -26,14 +26,12 @@ abbrev pub AreProper : Machine → List Event → Type 0
 AreProper s [] = ⊤
 AreProper s (event ∷ events) = IsProper s event × (refusal s event ≡ None → AreProper (after s event) events)
 
--- memory was wanting before the first event, at place 0, or at an event that isn't refused, and before which none is
-pub record IsStarved (s : Machine) (events : List Event) (fault : ReplayFault) : Type 0 where
-  pub memory : fault.fault ≡ Memory
-  pub within : fault.place ≤ length events
-  pub none_refused : first_refusal 0 s (take fault.place events) ≡ None
+-- memory was wanting before the first event
+abbrev pub no_memory : ReplayFault
+no_memory = record { place = 0; fault = Memory }
 
--- the answer to a list of events is the search after them, where none is refused, or the first refusal; want of memory is free,
--- but doesn't pass over a refusal
+-- the answer to a list of events is the search after them, where none is refused, or the first refusal; or memory was wanting for
+-- the start, since no event takes any
 abbrev pub IsReplayed : Machine → List Event → Result Machine ReplayFault → Type 0
 IsReplayed s events (Ok last) = (first_refusal 0 s events ≡ None) × (last ≡ after_all s events)
-IsReplayed s events (Err fault) = (first_refusal 0 s events ≡ Some fault) ⊎ IsStarved s events fault
+IsReplayed s events (Err fault) = (first_refusal 0 s events ≡ Some fault) ⊎ (fault ≡ no_memory)

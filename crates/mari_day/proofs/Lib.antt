@@ -1,5 +1,4 @@
 pub mod Fetched
-pub mod Intervals
 pub mod Money
 pub mod Assembles
 pub mod TreeFits

@@ -1,7 +1,6 @@
 pub mod Files
 pub mod Fetching
 pub mod Reading
-pub mod Prices
 pub mod Run
 pub mod Before
 pub mod Money

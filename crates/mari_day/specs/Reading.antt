@@ -1,5 +1,5 @@
 -- The books of a folder, or its first refusal.
-use Rattle.std.specs.Prelude.{ℕ, ◌+◌, ◌≡◌, ◌≤◌, List, [], length, Result, Ok, Err, None, Some, slice_index_or, if◌then◌else◌, ⊤}
+use Rattle.std.specs.Prelude.{ℕ, ◌+◌, ◌==◌, ◌≡◌, ◌≤◌, List, [], length, Result, Ok, Err, None, Some, slice_index_or, if◌then◌else◌, ⊤}
 use lib.Chars.{codes}
 use Rattle.std.specs.Str.{bytes_eq}
 use Rattle.mari_units.specs.declared.faults.Refusal.{Refusal}
@@ -10,7 +10,9 @@ use Rattle.mari_rows.specs.Books.{book_in}
 use Rattle.mari_rows.specs.declared.faults.BookFault.{BookFault}
 use Rattle.mari_rows.specs.declared.faults.BookFault.TheVariants as refused
 use Rattle.mari_zones.specs.Zones.{zone_grammar}
-use Rattle.mari_zones.specs.Borders.{border_grammar}
+use Rattle.mari_zones.specs.Borders.{borders_in, version_in}
+use Rattle.mari_zones.specs.declared.borders.BorderBook.{BorderBook}
+use Rattle.mari_zones.specs.declared.zones.ZoneBook.{ZoneBook}
 use Rattle.mari_bids.specs.Bids.{bid_grammar}
 use Rattle.mari_links.specs.Links.{link_grammar}
 use Rattle.mari_demands.specs.Demands.{demand_grammar}
@@ -53,12 +55,16 @@ date_text = codes "2025-03-12"
 abbrev pub day_at : List (List ℕ) → Result (Unit {0}) Refusal
 day_at pages = if bytes_eq (page_of pages Day) day_page then Ok tt else Err (refusal_at Day 1 20)
 
+-- the borders of their page; version 2, whose limits are stated for each run, is refused as not built
+abbrev pub borders_at : ZoneBook → List ℕ → Result BorderBook Refusal
+borders_at zones page = if version_in page == 2 then Err (refusal_at Borders 1 20) else of_file Borders (borders_in zones page)
+
 -- the books of the pages, read in the order of the files, or the first refusal
 unfoldable pub books_at : List (List ℕ) → Result Books Refusal
 books_at pages =
     day_at pages >>> λ _.
     of_file Zones (book_in zone_grammar (page_of pages Zones)) >>> λ zones.
-    of_file Borders (book_in (border_grammar zones) (page_of pages Borders)) >>> λ borders.
+    borders_at zones (page_of pages Borders) >>> λ borders.
     of_file Bids (book_in (bid_grammar zones 96) (page_of pages Bids)) >>> λ bids.
     of_file Links (book_in (link_grammar bids) (page_of pages Links)) >>> λ links.
     of_file Runs (book_in (run_grammar 96) (page_of pages Runs)) >>> λ runs.

@@ -19,10 +19,9 @@ ghost use Rattle.mari_day.specs.Published.{IsPublishedOf};
 ghost use Rattle.mari_day.specs.Run.{heading_of};
 
 use crate::lines::{amount_lines, bid_lines, border_lines, demand_mws, money_lines, zone_lines};
-use crate::pricing::{Pricing, pricing_of};
 use mari_bids::{Bid, BidBook};
 use mari_market::{Activation, Clearing, Prices};
-use mari_prices::areas;
+use mari_prices::{Pricing, areas, published_prices};
 use mari_publish::{AmountLine, FullBlock, Heading};
 use mari_remain::{Books, RunMarket, run_entry};
 use mari_settle::{Ledger, settle_run};
@@ -223,7 +222,7 @@ fn priced_of(
     ensures { IfOk result (IsPriced books.now made.now (option_map (λ scheduled. scheduled.now.cents) also.entry) clearing.now) }
 {
     let activation = &clearing.activation;
-    let pricing = pricing_of(alloc, &made.market, activation)?;
+    let pricing = published_prices(alloc, &made.market, activation)?;
     let areas = areas(alloc, &made.market, activation)?;
     let ledger = ledger_of(alloc, books, made, &pricing.published, activation, also)?;
     Ok(Priced {

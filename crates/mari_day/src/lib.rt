@@ -9,7 +9,6 @@ mod day;
 mod files;
 mod lines;
 mod pages;
-mod pricing;
 mod progress;
 mod reading;
 mod step;

@@ -11,7 +11,7 @@ ghost use Rattle.mari_settle.specs.Conditions.{LineIsWithin};
 ghost use Rattle.mari_day.specs.Run.{name_at};
 ghost use Rattle.mari_day.specs.Money.{amount_line, money_lines_of};
 
-use crate::pricing::Pricing;
+use mari_prices::Pricing;
 use mari_publish::{AmountLine, BidLine, BorderLine, MoneyLine, ZoneLine};
 use mari_rows::NameIndex;
 use mari_settle::OperatorLine;

@@ -6,7 +6,7 @@ ghost use Rattle.mari_io.specs.declared.shelf.Fetch.TheVariants as fetch;
 ghost use Rattle.mari_rows.specs.Books.{book_in, GivesBook};
 ghost use Rattle.mari_rows.specs.declared.faults.BookFault.{BookFault as Fault};
 ghost use Rattle.mari_zones.specs.Zones.{zone_grammar, IsZoneBook};
-ghost use Rattle.mari_zones.specs.Borders.{border_grammar, IsBorderBook};
+ghost use Rattle.mari_zones.specs.Borders.{IsBorderBook};
 ghost use Rattle.mari_bids.specs.Bids.{bid_grammar, IsBidBook};
 ghost use Rattle.mari_links.specs.Links.{link_grammar, IsLinkBook};
 ghost use Rattle.mari_demands.specs.Demands.{demand_grammar, IsDemandBook};
@@ -14,7 +14,7 @@ ghost use Rattle.mari_demands.specs.Runs.{run_grammar, IsRunBook};
 ghost use Rattle.mari_remain.specs.Accepted.{IsAccepted};
 ghost use Rattle.mari_publish.specs.Ranges.{IsDate};
 ghost use Rattle.mari_day.specs.Dated.{IsDated};
-ghost use Rattle.mari_day.specs.Reading.{books_at, day_at, day_page as day_page_of, date_text, of_file, page_of, refusal_at, BooksTell, IsFetchFault, NamesAFile, Reads};
+ghost use Rattle.mari_day.specs.Reading.{books_at, borders_at, day_at, day_page as day_page_of, date_text, of_file, page_of, refusal_at, BooksTell, IsFetchFault, NamesAFile, Reads};
 
 use crate::files::File;
 use crate::pages::{Folder, PagesFault, fetch_pages};
@@ -25,7 +25,7 @@ use mari_links::LinkBook;
 use mari_remain::Books;
 use mari_rows::BookFault;
 use mari_units::{Memory, Name, NameFault, Refusal, read_name};
-use mari_zones::{BorderBook, ZoneBook};
+use mari_zones::{BorderBook, ZoneBook, version_of};
 use std::alloc::Global;
 
 /// How many quarter hours the day has, at this stage.
@@ -107,15 +107,18 @@ fn read_zones(alloc: Global, folder: &Folder) -> Result<ZoneBook, BooksFault>
     named(File::Zones, ZoneBook::read(alloc, folder.page(File::Zones)))
 }
 
+/// Reads the borders, whose limits at this stage stand in their own page.
 fn read_borders(alloc: Global, folder: &Folder, zones: &ZoneBook) -> Result<BorderBook, BooksFault>
-    ensures reads { Reads result (of_file File.Borders (book_in (border_grammar zones.now) (page_of folder.now File.Borders))) }
+    ensures reads { Reads result (borders_at zones.now (page_of folder.now File.Borders)) }
     ensures file { NamesAFile result }
     ensures facts { IfOk result (IsBorderBook zones.now) }
 {
-    named(
-        File::Borders,
-        BorderBook::read(alloc, folder.page(File::Borders), zones),
-    )
+    let page = folder.page(File::Borders);
+    match version_of(alloc, page) {
+        Ok(2) => Err(BooksFault::Refused(refusal_of(File::Borders, 1, 20))),
+        Ok(_) => named(File::Borders, BorderBook::read(alloc, page, zones)),
+        Err(Memory) => Err(BooksFault::Memory),
+    }
 }
 
 fn read_bids(alloc: Global, folder: &Folder, zones: &ZoneBook) -> Result<BidBook, BooksFault>

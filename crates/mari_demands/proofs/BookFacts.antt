@@ -12,12 +12,12 @@ use Rattle.std.proofs.lemmas.List.Sums.{fold-append}
 use Rattle.std.proofs.lemmas.List.Elements.{All-map, All-nil, All-push, All-weaker}
 use Rattle.mari_units.specs.Numbers.{whole_of}
 use Rattle.mari_units.specs.declared.numbers.Cents.{Cents}
-use Rattle.mari_rows.specs.Books.{GivesBook, book_of_rows, first_failing}
+use Rattle.mari_rows.specs.Books.{GivesBook, book_in, first_failing}
 use Rattle.mari_rows.specs.Fields.{cents_in, number_in, within, IsWithinCap}
 use Rattle.mari_rows.specs.Rows.{field_of}
 use Rattle.mari_rows.specs.declared.faults.BookFault.{BookFault}
 use Rattle.mari_rows.specs.declared.rows.Row.{Row}
-use Rattle.mari_rows.proofs.BookLemmas.{book-rows}
+use Rattle.mari_rows.proofs.BookLemmas.{book-page}
 use Rattle.mari_rows.proofs.BookFacts.{all-passed, along-lines, both-parts, count_by-map, counts-at-most, found-below, not-false, number-bounds, price-within, read-within}
 use Rattle.mari_zones.specs.declared.zones.ZoneBook.{ZoneBook}
 use Rattle.mari_demands.specs.Runs.{IsBefore, IsRun, IsRunBook, comes_too_late, is_direct, is_number_below, last_quarter, quarter_at, quarter_in, run_book, run_checks, run_grammar, run_of}
@@ -99,11 +99,13 @@ module _ (quarters : ℕ) where
       }
 
   -- what is read is such a book of runs
-  pub run-facts : (rows : List Row) (result : Result RunBook BookFault) → GivesBook result (book_of_rows (run_grammar quarters) rows) → IfOk result (IsRunBook quarters)
-  run-facts rows (Err fault) gives = tt
-  run-facts rows (Ok book) gives =
-      let is = book-rows (run_grammar quarters) rows book gives in
-      let are = along-lines (run_grammar quarters) AreRuns one-run rows book is (record { few = omega arith; runs = All-nil _; bounded = All-nil _; in_order = λ i j d l m. absurd (omega arith) }) in
+  pub run-facts : (page : List ℕ) (result : Result RunBook BookFault) → GivesBook result (book_in (run_grammar quarters) page) → IfOk result (IsRunBook quarters)
+  run-facts page (Err fault) gives = tt
+  run-facts page (Ok book) gives =
+      let read = book-page (run_grammar quarters) page book gives in
+      let rows : List Row = read.0 in
+      let is = read.2 in
+      let are = along-lines (run_grammar quarters) AreRuns one-run rows book is (record { few = omega arith; runs = All-nil (λ row. IsRun quarters (run_of quarters row)); bounded = All-nil (λ (run : Run). run.quarter ≤ 0); in_order = λ i j d l m. absurd (omega arith) }) in
       let whole : IsRunBook quarters (run_book quarters rows) = record {
         few = simp length-map are.few;
         runs = All-map (IsRun quarters) (run_of quarters) rows are.runs;
@@ -157,11 +159,13 @@ module _ (zones : ZoneBook) (runs : ℕ) where
       }
 
   -- what is read is such a book of demands
-  pub demand-facts : (rows : List Row) (result : Result DemandBook BookFault) → GivesBook result (book_of_rows (demand_grammar zones runs) rows) → IfOk result (IsDemandBook zones runs)
-  demand-facts rows (Err fault) gives = tt
-  demand-facts rows (Ok book) gives =
-      let is = book-rows (demand_grammar zones runs) rows book gives in
-      let are = along-lines (demand_grammar zones runs) AreDemands one-demand rows book is (record { demands = All-nil _; counts = λ k. omega arith }) in
+  pub demand-facts : (page : List ℕ) (result : Result DemandBook BookFault) → GivesBook result (book_in (demand_grammar zones runs) page) → IfOk result (IsDemandBook zones runs)
+  demand-facts page (Err fault) gives = tt
+  demand-facts page (Ok book) gives =
+      let read = book-page (demand_grammar zones runs) page book gives in
+      let rows : List Row = read.0 in
+      let is = read.2 in
+      let are = along-lines (demand_grammar zones runs) AreDemands one-demand rows book is (record { demands = All-nil (λ row. IsDemand zones runs (demand_of zones runs row)); counts = λ k. omega arith }) in
       let whole : IsDemandBook zones runs (demand_book zones runs rows) = record {
         demands = All-map (IsDemand zones runs) (demand_of zones runs) rows are.demands;
         of_run = λ run. rw (count_by-map (demand_of zones runs) (λ (demand : Demand). demand.run == run) rows) (are.counts run);

@@ -1,2 +1,3 @@
 pub mod BookFacts
+pub mod LimitLemmas
 pub mod LimitTables

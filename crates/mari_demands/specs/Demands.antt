@@ -2,6 +2,7 @@
 use Rattle.std.specs.Prelude.{◌≤◌, ◌<◌, IfSome, unsigned_abs, ℕ, ◌==◌, ℤ, pos, neg_ℤ, Bool, List, [], ◌∷◌, ◌++◌, Option, Some, None, not, ◌&&◌, ◌||◌, nat_le, int_le, length, map, codes, is_some, unwrap_or, count_by, if◌then◌else◌}
 use Rattle.std.specs.Option.{option_and_then}
 use Rattle.std.specs.List.{All}
+use Rattle.mari_units.specs.declared.limits.TheConstants.{MOST_DEMANDS, MOST_MW}
 use Rattle.mari_units.specs.declared.numbers.Cents.{Cents}
 use Rattle.mari_units.specs.Numbers.{price_of, whole_of}
 use Rattle.mari_rows.specs.Books.{Checks, Grammar}
@@ -10,8 +11,10 @@ use Rattle.mari_rows.specs.Rows.{field_of}
 use Rattle.mari_rows.specs.declared.rows.Row.{Row}
 use Rattle.mari_zones.specs.Borders.{zone_named}
 use Rattle.mari_zones.specs.declared.zones.ZoneBook.{ZoneBook}
+use Rattle.mari_demands.specs.DemandChecks.{demand_check_number}
 use Rattle.mari_demands.specs.declared.demands.Demand.{Demand}
 use Rattle.mari_demands.specs.declared.demands.DemandBook.{DemandBook}
+use Rattle.mari_demands.specs.declared.demands.DemandCheck.TheVariants.{BadField, Range, TooMany, UnknownRun, UnknownZone}
 
 -- a line's run, which is one of so many
 abbrev pub run_in : ℕ → Row → Option ℕ
@@ -24,9 +27,9 @@ run_at runs row = unwrap_or (run_in runs row) 0
 abbrev pub zone_in : ZoneBook → Row → Option ℕ
 zone_in zones row = zone_named zones (field_of row 1)
 
--- a number from -99,999 to 99,999
+-- a quantity of a demand, in MW
 abbrev pub within_mw : ℤ → Option ℤ
-within_mw mw = if int_le (neg_ℤ (pos 99999)) mw && int_le mw (pos 99999) then Some mw else None
+within_mw mw = if int_le (neg_ℤ (pos MOST_MW)) mw && int_le mw (pos MOST_MW) then Some mw else None
 
 -- a line's quantity, in MW
 abbrev pub mw_in : Row → Option ℤ
@@ -43,15 +46,15 @@ count_of runs rows run = count_by (λ row. run_at runs row == run) rows
 -- a line is refused for a bad field, for an unknown run, for an unknown zone, and for a quantity or a price out of range
 abbrev pub demand_checks : ZoneBook → ℕ → Row → Checks
 demand_checks zones runs row =
-    (not (is_some (whole_of (field_of row 0)) && is_some (whole_of (field_of row 2)) && (is_inelastic row || is_some (price_of (field_of row 3)))), 11)
-    ∷ (not (is_some (run_in runs row)), 12)
-    ∷ (not (is_some (zone_in zones row)), 13)
-    ∷ (not (is_some (mw_in row) && (is_inelastic row || is_some (cents_in (field_of row 3)))), 14)
+    (not (is_some (whole_of (field_of row 0)) && is_some (whole_of (field_of row 2)) && (is_inelastic row || is_some (price_of (field_of row 3)))), demand_check_number BadField)
+    ∷ (not (is_some (run_in runs row)), demand_check_number UnknownRun)
+    ∷ (not (is_some (zone_in zones row)), demand_check_number UnknownZone)
+    ∷ (not (is_some (mw_in row) && (is_inelastic row || is_some (cents_in (field_of row 3)))), demand_check_number Range)
     ∷ []
 
 -- and as the 513th demand of its run
 abbrev pub line_checks : ZoneBook → ℕ → List Row → Row → Checks
-line_checks zones runs earlier row = demand_checks zones runs row ++ (nat_le 512 (count_of runs earlier (run_at runs row)), 15) ∷ []
+line_checks zones runs earlier row = demand_checks zones runs row ++ (nat_le MOST_DEMANDS (count_of runs earlier (run_at runs row)), demand_check_number TooMany) ∷ []
 
 -- the demand of a line
 abbrev pub demand_of : ZoneBook → ℕ → Row → Demand

@@ -1,4 +1,8 @@
+pub mod DemandChecks
 pub mod Demands
+pub mod LimitChecks
+pub mod LimitPairs
+pub mod Limits
+pub mod RunChecks
 pub mod Runs
 pub mod SoFar
-pub mod LimitPairs

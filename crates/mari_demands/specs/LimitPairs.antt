@@ -1,5 +1,5 @@
 -- Limits as a table: for each run the limits of each border.
-use Rattle.std.specs.Prelude.{◌≡◌, ◌≤◌, ◌<◌, ℕ, ◌+◌, ◌-◌, ◌*◌, List, [], get_or, length, map}
+use Rattle.std.specs.Prelude.{◌≡◌, ◌≤◌, ◌<◌, ℕ, ◌+◌, ◌-◌, ◌*◌, List, [], Option, None, get_or, length, map, unwrap_or}
 use Rattle.std.specs.List.{range_with_len}
 use Rattle.mari_demands.specs.declared.limits.Limits.{Limits}
 
@@ -7,9 +7,13 @@ use Rattle.mari_demands.specs.declared.limits.Limits.{Limits}
 abbrev pub no_limits : Limits
 no_limits = record { limit = 0; back = 0 }
 
+-- the limits at a place of a list of them, where none are stated 0 and 0
+abbrev pub limits_there : List (Option Limits) → ℕ → Limits
+limits_there flat place = unwrap_or (get_or flat place None) no_limits
+
 -- the table of a list that has the limits of the first run's borders first, then those of the second's, and so on
-abbrev pub table_of : (runs borders : ℕ) → List Limits → List (List Limits)
-table_of runs borders flat = map (λ run. map (λ border. get_or flat (run * borders + border) no_limits) (range_with_len 0 borders)) (range_with_len 0 runs)
+abbrev pub table_of : (runs borders : ℕ) → List (Option Limits) → List (List Limits)
+table_of runs borders flat = map (λ run. map (λ border. limits_there flat (run * borders + border)) (range_with_len 0 borders)) (range_with_len 0 runs)
 
 -- a border's limits in a run, which counts from 1
 abbrev pub limits_in : List (List Limits) → (run border : ℕ) → Limits

@@ -2,13 +2,16 @@
 use Rattle.std.specs.Prelude.{◌≡◌, ◌≤◌, ◌<◌, ℕ, ◌+◌, ℤ, pos, negsuc, Bool, true, false, List, [], ◌∷◌, Option, Some, None, not, ◌&&◌, ◌||◌, nat_le, nat_lt, length, map, codes, fold, is_some, unwrap_or}
 use Rattle.std.specs.List.{All, AllPairs}
 use Rattle.mari_units.specs.Numbers.{price_of, whole_of}
+use Rattle.mari_units.specs.declared.limits.TheConstants.{MOST_RUNS}
 use Rattle.mari_units.specs.declared.numbers.Cents.{Cents}
 use Rattle.mari_rows.specs.Books.{Checks, Grammar}
 use Rattle.mari_rows.specs.Fields.{cents_in, is_first_of, number_in, IsWithinCap}
 use Rattle.mari_rows.specs.Rows.{field_of}
 use Rattle.mari_rows.specs.declared.rows.Row.{Row}
+use Rattle.mari_demands.specs.RunChecks.{run_check_number}
 use Rattle.mari_demands.specs.declared.runs.Run.{Run}
 use Rattle.mari_demands.specs.declared.runs.RunBook.{RunBook}
+use Rattle.mari_demands.specs.declared.runs.RunCheck.TheVariants.{BadField, Quarter, Range, RunsOutOfOrder, TooMany}
 
 -- the words of a kind
 unfoldable pub direct_word : List ℕ
@@ -52,11 +55,11 @@ comes_too_late (Some quarter) row =
 -- reference price out of range
 abbrev pub run_checks : ℕ → List Row → Row → Checks
 run_checks quarters earlier row =
-    (nat_le 1000 (length earlier), 15)
-    ∷ (not (is_some (whole_of (field_of row 0)) && is_some (whole_of (field_of row 1)) && is_some (price_of (field_of row 3)) && is_some (is_direct row)), 11)
-    ∷ (not (is_some (number_in (length earlier + 1) (length earlier + 1) (field_of row 0))) || comes_too_late (last_quarter quarters earlier) row, 12)
-    ∷ (not (is_some (quarter_in quarters row)), 13)
-    ∷ (not (is_some (reference_in row)), 14)
+    (nat_le MOST_RUNS (length earlier), run_check_number TooMany)
+    ∷ (not (is_some (whole_of (field_of row 0)) && is_some (whole_of (field_of row 1)) && is_some (price_of (field_of row 3)) && is_some (is_direct row)), run_check_number BadField)
+    ∷ (not (is_some (number_in (length earlier + 1) (length earlier + 1) (field_of row 0))) || comes_too_late (last_quarter quarters earlier) row, run_check_number RunsOutOfOrder)
+    ∷ (not (is_some (quarter_in quarters row)), run_check_number Quarter)
+    ∷ (not (is_some (reference_in row)), run_check_number Range)
     ∷ []
 
 -- the run of a line

@@ -1,22 +1,47 @@
 //! The demands of each run.
-ghost use Rattle.std.specs.Prelude.{◌≡◌, ◌≤◌, ◌+◌, ◌++◌, ◌∷◌, [], List, ℤ, length, IfOk};
-ghost use Rattle.mari_rows.specs.Books.{book_in, book_of_rows, first_failing, GivesBook, TakesLine};
-ghost use Rattle.mari_rows.specs.First.{unless_fault};
-ghost use Rattle.mari_rows.specs.declared.rows.Row.{Row as Line};
-ghost use Rattle.mari_zones.specs.declared.zones.ZoneBook.{ZoneBook as Zones};
-ghost use Rattle.mari_demands.specs.Demands.{IsDemandBook, demand_checks, demand_columns, demand_grammar, demand_of as demand_in, line_checks, mw_in};
+ghost use Rattle.std.specs.Prelude.{◌≡◌, ◌≤◌, ◌+◌, [], length, IfOk};
+ghost use Rattle.mari_rows.specs.Books.{book_in, first_failing, GivesBook};
+ghost use Rattle.mari_rows.specs.Checks.{IsRead};
+ghost use Rattle.mari_demands.specs.DemandChecks.{demand_check_name, demand_check_number};
+ghost use Rattle.mari_demands.specs.Demands.{IsDemandBook, demand_checks, demand_columns, demand_grammar, demand_of as demand_in, mw_in};
 
 use crate::runs::RunBook;
 use mari_rows::{
-    BookFault, Row, RowReader, cents_of, count_one, is_price, is_whole, number_of, read_rows,
+    BookFault, BookSoFar, FileCheck, LineFault, Row, cents_of, count_one, is_price, is_whole,
+    number_of, read_book,
 };
-use mari_units::{Cents, Items, read_mw};
+use mari_units::{Cents, Items, MOST_DEMANDS, MOST_MW, read_mw};
 use mari_zones::ZoneBook;
 use std::alloc::{AllocError, Global};
 
 const COLUMNS: &str = "run,zone,mw,price";
 
-const MOST_OF_A_RUN: u32 = 512;
+/// A check of demands.csv.
+#[derive(Clone, Copy, Debug, PartialEq, Eq)]
+pub enum DemandCheck {
+    BadField,
+    UnknownRun,
+    UnknownZone,
+    Range,
+    TooMany,
+}
+
+impl FileCheck for DemandCheck {
+    ghost number = { demand_check_number };
+
+    ghost name = { demand_check_name };
+
+    #[tactic(auto, unfolding(crate::specs::DemandChecks::demand_check_name))]
+    fn entry(self) -> (u8, &'static str) {
+        match self {
+            DemandCheck::BadField => (11, "BadField"),
+            DemandCheck::UnknownRun => (12, "UnknownRun"),
+            DemandCheck::UnknownZone => (13, "UnknownZone"),
+            DemandCheck::Range => (14, "Range"),
+            DemandCheck::TooMany => (15, "TooMany"),
+        }
+    }
+}
 
 /// A demand of a run, which counts from 1, in a zone by its place: so many MW, below 0 for a surplus, at most at a price in
 /// cents per MWh. Without a price it is inelastic.
@@ -36,6 +61,7 @@ pub struct DemandBook {
 
 impl DemandBook {
     /// The book of a page, or its first refusal.
+    #[tactic(auto, unfolding(crate::specs::Demands::demand_columns))]
     pub fn read(
         alloc: Global,
         demands: &[u8],
@@ -47,8 +73,8 @@ impl DemandBook {
         ensures book { GivesBook result (book_in (demand_grammar zones.now (length runs.now.runs)) demands.now) }
         ensures demands { IfOk result (IsDemandBook zones.now (length runs.now.runs)) }
     {
-        let mut lines = read_rows(alloc, demands, COLUMNS)?;
-        book_of(alloc, &mut lines, runs.runs.as_slice().len() as u32, zones)
+        let none = DemandsSoFar::new(alloc, zones, runs.runs.as_slice().len() as u32)?;
+        read_book(alloc, demands, COLUMNS, none)
     }
 }
 
@@ -56,15 +82,15 @@ impl DemandBook {
 fn mw_of(line: &Row) -> Option<i64>
     ensures { result ≡ mw_in line.now }
 {
-    match read_mw(line.field(2), -99_999, 99_999) {
+    match read_mw(line.field(2), -i64::from(MOST_MW), i64::from(MOST_MW)) {
         Ok(mw) => Some(mw.0),
         Err(_) => None,
     }
 }
 
 // The demand of a line, or the first check that fails.
-fn demand_of(zones: &ZoneBook, runs: u32, line: &Row) -> Result<Demand, u8>
-    ensures demand { result ≡ unless_fault (first_failing (demand_checks zones.now runs line.now)) (demand_in zones.now runs line.now) }
+fn demand_of(zones: &ZoneBook, runs: u32, line: &Row) -> Result<Demand, DemandCheck>
+    ensures demand { IsRead demand_check_number result (first_failing (demand_checks zones.now runs line.now)) (demand_in zones.now runs line.now) }
     ensures run { IfOk result (λ demand. demand.run ≤ runs) }
 {
     let price = line.field(3);
@@ -72,20 +98,20 @@ fn demand_of(zones: &ZoneBook, runs: u32, line: &Row) -> Result<Demand, u8>
         && is_whole(line.field(2))
         && (price.is_empty() || is_price(price)))
     {
-        return Err(11);
+        return Err(DemandCheck::BadField);
     }
     let Some(run) = number_of(line.field(0), 1, runs) else {
-        return Err(12);
+        return Err(DemandCheck::UnknownRun);
     };
     let Some(zone) = zones.zones.find(line.field(1)) else {
-        return Err(13);
+        return Err(DemandCheck::UnknownZone);
     };
     let Some(mw) = mw_of(line) else {
-        return Err(14);
+        return Err(DemandCheck::Range);
     };
     let cents = cents_of(price);
     if !(price.is_empty() || cents.is_some()) {
-        return Err(14);
+        return Err(DemandCheck::Range);
     }
     Ok(Demand {
         run,
@@ -97,64 +123,56 @@ fn demand_of(zones: &ZoneBook, runs: u32, line: &Row) -> Result<Demand, u8>
 
 // The demands of the lines so far, and how many there are of each run.
 #[derive(Drop)]
-struct DemandsSoFar {
+struct DemandsSoFar<'a> {
+    zones: &'a ZoneBook,
+    runs: u32,
     demands: Vec<Demand>,
     counts: Vec<u32>,
 }
 
-impl DemandsSoFar {
+impl<'a> DemandsSoFar<'a> {
     ghost use Rattle.mari_demands.specs.SoFar.{HoldsDemands};
 
-    fn new(alloc: Global, runs: u32) -> Result<Self, AllocError>
-        ensures { (zones : Zones) → IfOk result (HoldsDemands zones runs []) }
+    fn new(alloc: Global, zones: &'a ZoneBook, runs: u32) -> Result<Self, AllocError>
+        ensures zones { IfOk result (λ so_far. so_far.zones.now ≡ zones.now) }
+        ensures runs { IfOk result (λ so_far. so_far.runs ≡ runs) }
+        ensures none { IfOk result (HoldsDemands []) }
     {
         Ok(DemandsSoFar {
+            zones,
+            runs,
             demands: Vec::new(alloc),
             counts: vec![in alloc; 0u32; runs as usize + 1]?,
         })
     }
+}
 
-    // Adds the demand of a line, or tells the first check that fails.
-    fn add(&mut self, zones: &ZoneBook, runs: u32, line: &Row) -> Result<(), BookFault>
-        requires { length self.old.counts.items ≡ runs + 1 }
-        ensures { (earlier : List Line) → HoldsDemands zones.now runs earlier self.old
-            → TakesLine result line.now.line (first_failing (line_checks zones.now runs earlier line.now))
-            (λ _. HoldsDemands zones.now runs (earlier ++ line.now ∷ []) self.new) }
-    {
-        let demand = match demand_of(zones, runs, line) {
+impl<'a> BookSoFar for DemandsSoFar<'a> {
+    ghost use Rattle.mari_demands.specs.SoFar.{HoldsDemands};
+
+    type Check = DemandCheck;
+
+    type Book = DemandBook;
+
+    ghost grammar = { λ so_far. demand_grammar so_far.zones.now so_far.runs };
+
+    ghost Holds = { λ so_far lines. HoldsDemands lines so_far };
+
+    fn take(&mut self, _alloc: Global, line: &Row) -> Result<(), LineFault<DemandCheck>> {
+        let demand = match demand_of(self.zones, self.runs, line) {
             Ok(demand) => demand,
-            Err(number) => {
-                return Err(BookFault::At {
-                    line: line.line,
-                    number,
-                });
-            }
+            Err(check) => return Err(LineFault::Fails(check)),
         };
-        if !count_one(&mut self.counts, demand.run, MOST_OF_A_RUN) {
-            return Err(BookFault::At {
-                line: line.line,
-                number: 15,
-            });
+        if !count_one(&mut self.counts, demand.run, MOST_DEMANDS as u32) {
+            return Err(LineFault::Fails(DemandCheck::TooMany));
         }
         self.demands.push(demand)?;
         Ok(())
     }
-}
 
-// The book of these lines, or their first refusal.
-fn book_of(
-    alloc: Global,
-    lines: &mut RowReader<'_>,
-    runs: u32,
-    zones: &ZoneBook,
-) -> Result<DemandBook, BookFault>
-    ensures { GivesBook result (book_of_rows (demand_grammar zones.now runs) lines.old) }
-{
-    let mut so_far = DemandsSoFar::new(alloc, runs)?;
-    'lines: while let Some(line) = lines.next(alloc)? {
-        so_far.add(zones, runs, &line)?;
+    fn end(self, _alloc: Global) -> Result<DemandBook, LineFault<DemandCheck>> {
+        Ok(DemandBook {
+            demands: Items::of(self.demands),
+        })
     }
-    Ok(DemandBook {
-        demands: Items::of(so_far.demands),
-    })
 }

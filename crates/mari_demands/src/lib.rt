@@ -1,4 +1,4 @@
-//! The books of runs and of demands.
+//! The books of runs, of demands, and of the limits of borders in each run.
 //!
 //! They stand on the rows of a page and on the book of zones. A page gives exactly its book, or exactly its first refusal.
 #![tactic(auto)]
@@ -9,6 +9,6 @@ mod runs;
 #[cfg(test)]
 mod tests;
 
-pub use demands::{Demand, DemandBook};
-pub use limits::{LimitBook, Limits};
-pub use runs::{Run, RunBook};
+pub use demands::{Demand, DemandBook, DemandCheck};
+pub use limits::{LimitBook, LimitCheck, Limits};
+pub use runs::{Run, RunBook, RunCheck};

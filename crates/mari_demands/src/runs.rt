@@ -1,20 +1,47 @@
 //! The runs of a day.
-ghost use Rattle.std.specs.Prelude.{◌≡◌, ◌≤◌, ◌<◌, List, length, IfOk};
+ghost use Rattle.std.specs.Prelude.{◌≡◌, ◌≤◌, List, length, IfOk};
 ghost use Rattle.mari_units.specs.Numbers.{whole_of};
-ghost use Rattle.mari_rows.specs.Books.{book_in, book_of_rows, first_failing, GivesBook};
-ghost use Rattle.mari_rows.specs.First.{unless_fault};
+ghost use Rattle.mari_rows.specs.Books.{book_in, first_failing, GivesBook};
+ghost use Rattle.mari_rows.specs.Checks.{IsRead};
 ghost use Rattle.mari_rows.specs.declared.rows.Row.{Row as Line};
+ghost use Rattle.mari_demands.specs.RunChecks.{run_check_name, run_check_number};
 ghost use Rattle.mari_demands.specs.Runs.{IsRunBook, comes_too_late as comes_too_late_in, is_direct as is_direct_in, is_number_below, last_quarter, run_checks, run_columns, run_grammar, run_of as run_in};
 
 use mari_rows::{
-    BookFault, Row, RowReader, cents_of, is_first_of, is_price, is_whole, number_of, read_rows,
+    BookFault, BookSoFar, FileCheck, LineFault, Row, cents_of, is_first_of, is_price, is_whole,
+    number_of, read_book,
 };
-use mari_units::{Cents, Items, NumberFault, read_mw};
+use mari_units::{Cents, Items, MOST_RUNS, NumberFault, read_mw};
 use std::alloc::Global;
 
 const COLUMNS: &str = "run,quarter,kind,reference";
 
-const MOST_RUNS: u32 = 1_000;
+/// A check of runs.csv.
+#[derive(Clone, Copy, Debug, PartialEq, Eq)]
+pub enum RunCheck {
+    BadField,
+    RunsOutOfOrder,
+    Quarter,
+    Range,
+    TooMany,
+}
+
+impl FileCheck for RunCheck {
+    ghost number = { run_check_number };
+
+    ghost name = { run_check_name };
+
+    #[tactic(auto, unfolding(crate::specs::RunChecks::run_check_name))]
+    fn entry(self) -> (u8, &'static str) {
+        match self {
+            RunCheck::BadField => (11, "BadField"),
+            RunCheck::RunsOutOfOrder => (12, "RunsOutOfOrder"),
+            RunCheck::Quarter => (13, "Quarter"),
+            RunCheck::Range => (14, "Range"),
+            RunCheck::TooMany => (15, "TooMany"),
+        }
+    }
+}
 
 /// A run in a quarter, which counts from 1: scheduled or direct, with its reference price in cents per MWh.
 #[derive(Clone, Copy, Debug, PartialEq, Eq)]
@@ -32,13 +59,18 @@ pub struct RunBook {
 
 impl RunBook {
     /// The book of a page on a day of so many quarters, or its first refusal.
+    #[tactic(auto, unfolding(crate::specs::Runs::run_columns))]
     pub fn read(alloc: Global, runs: &[u8], quarters: u32) -> Result<RunBook, BookFault>
         requires { length runs.now ≤ 268435456 }
         ensures book { GivesBook result (book_in (run_grammar quarters) runs.now) }
         ensures runs { IfOk result (IsRunBook quarters) }
     {
-        let mut lines = read_rows(alloc, runs, COLUMNS)?;
-        book_of(alloc, &mut lines, quarters)
+        let none = RunsSoFar {
+            quarters,
+            runs: Vec::new(alloc),
+            last: None,
+        };
+        read_book(alloc, runs, COLUMNS, none)
     }
 }
 
@@ -75,29 +107,29 @@ fn comes_too_late(last: Option<u32>, line: &Row) -> bool
 }
 
 // The run of a line behind so many, the last of which has this quarter, or the first check that fails.
-fn run_of(quarters: u32, runs: u32, last: Option<u32>, line: &Row) -> Result<Run, u8>
-    ensures run { (earlier : List Line) → runs ≡ length earlier → last ≡ last_quarter quarters earlier
-        → result ≡ unless_fault (first_failing (run_checks quarters earlier line.now)) (run_in quarters line.now) }
-    ensures room { IfOk result (λ run. runs < 1000) }
+fn run_of(quarters: u32, runs: usize, last: Option<u32>, line: &Row) -> Result<Run, RunCheck>
+    ensures { (earlier : List Line) → runs ≡ length earlier → last ≡ last_quarter quarters earlier
+        → IsRead run_check_number result (first_failing (run_checks quarters earlier line.now)) (run_in quarters line.now) }
 {
     if runs >= MOST_RUNS {
-        return Err(15);
+        return Err(RunCheck::TooMany);
     }
     if !(is_whole(line.field(0))
         && is_whole(line.field(1))
         && is_price(line.field(3))
         && is_direct(line).is_some())
     {
-        return Err(11);
+        return Err(RunCheck::BadField);
     }
-    if number_of(line.field(0), runs + 1, runs + 1).is_none() || comes_too_late(last, line) {
-        return Err(12);
+    let number = runs as u32 + 1;
+    if number_of(line.field(0), number, number).is_none() || comes_too_late(last, line) {
+        return Err(RunCheck::RunsOutOfOrder);
     }
     let Some(quarter) = number_of(line.field(1), 1, quarters) else {
-        return Err(13);
+        return Err(RunCheck::Quarter);
     };
     let Some(reference) = cents_of(line.field(3)) else {
-        return Err(14);
+        return Err(RunCheck::Range);
     };
     Ok(Run {
         quarter,
@@ -106,30 +138,38 @@ fn run_of(quarters: u32, runs: u32, last: Option<u32>, line: &Row) -> Result<Run
     })
 }
 
-// The book of these lines, or their first refusal.
-fn book_of(alloc: Global, lines: &mut RowReader<'_>, quarters: u32) -> Result<RunBook, BookFault>
-    ensures book { GivesBook result (book_of_rows (run_grammar quarters) lines.old) }
-    ensures few { IfOk result (λ book. length book.runs ≤ 1000) }
-{
-    let mut runs = Vec::new(alloc);
-    let mut count = 0;
-    let mut last = None;
-    'lines: while let Some(line) = lines.next(alloc)? {
-        match run_of(quarters, count, last, &line) {
+// The runs of the lines so far, and the quarter of the last of them.
+#[derive(Drop)]
+struct RunsSoFar {
+    quarters: u32,
+    runs: Vec<Run>,
+    last: Option<u32>,
+}
+
+impl BookSoFar for RunsSoFar {
+    ghost use Rattle.mari_demands.specs.SoFar.{HoldsRuns};
+
+    type Check = RunCheck;
+
+    type Book = RunBook;
+
+    ghost grammar = { λ so_far. run_grammar so_far.quarters };
+
+    ghost Holds = { λ so_far lines. HoldsRuns lines so_far };
+
+    fn take(&mut self, _alloc: Global, line: &Row) -> Result<(), LineFault<RunCheck>> {
+        match run_of(self.quarters, self.runs.len(), self.last, line) {
             Ok(run) => {
-                runs.push(run)?;
-                count += 1;
-                last = Some(run.quarter);
+                self.last = Some(run.quarter);
+                Ok(self.runs.push(run)?)
             }
-            Err(number) => {
-                return Err(BookFault::At {
-                    line: line.line,
-                    number,
-                });
-            }
+            Err(check) => Err(LineFault::Fails(check)),
         }
     }
-    Ok(RunBook {
-        runs: Items::of(runs),
-    })
+
+    fn end(self, _alloc: Global) -> Result<RunBook, LineFault<RunCheck>> {
+        Ok(RunBook {
+            runs: Items::of(self.runs),
+        })
+    }
 }

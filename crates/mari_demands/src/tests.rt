@@ -1,7 +1,7 @@
-use crate::{Demand, DemandBook, Run, RunBook};
+use crate::{Demand, DemandBook, LimitBook, Run, RunBook};
 use mari_rows::BookFault;
 use mari_units::Cents;
-use mari_zones::ZoneBook;
+use mari_zones::{BorderBook, ZoneBook};
 use std::test::Fail;
 
 fn at(line: u32, number: u8) -> Option<BookFault> {
@@ -137,5 +137,63 @@ fn five_hundred_and_twelve_demands_of_a_run_and_no_more(rt: HostRuntime) -> Resu
     assert!(rt; page.len() < 100_000);
     let refused = DemandBook::read(rt.alloc(), page.as_slice(), &runs, &zones).err();
     assert_eq!(rt; refused, at(515, 15));
+    Ok(())
+}
+
+#[test]
+fn limits_of_each_border_in_each_run(rt: HostRuntime) -> Result<(), Fail> {
+    let zones = ZoneBook::read(rt.alloc(), b"zone,operator\nA,TA\nB,TB\nC,TC\n")?;
+    let borders = BorderBook::read(rt.alloc(), b"from,to\nB,A\nA,C\n", &zones)?;
+    let runs = RunBook::read(rt.alloc(), RUNS, 2)?;
+    assert!(rt; borders.borders.as_slice().len() == 2);
+    assert!(rt; runs.runs.as_slice().len() == 3);
+    let page = b"run,from,to,limit,back\n3,B,A,7,0\n1,A,C,99999,08\n01,B,A,-0,5\n";
+    let book = LimitBook::read(rt.alloc(), page, &zones, &borders, &runs)?;
+    for (run, border, want) in [
+        (1u32, 0u32, (0u32, 5u32)),
+        (1, 1, (99_999, 8)),
+        (2, 0, (0, 0)),
+        (2, 1, (0, 0)),
+        (3, 0, (7, 0)),
+        (3, 1, (0, 0)),
+    ] {
+        assert_eq!(rt; book.of(run, border), want);
+    }
+    for (page, want) in [
+        (b"run,from,to,back,limit\n".as_slice(), at(1, 1)),
+        (
+            b"run,from,to,limit,back\n9,X,A,x,1\n1\n".as_slice(),
+            at(3, 2),
+        ),
+        (
+            b"run,from,to,limit,back\n9,X,A,1,\xff\n".as_slice(),
+            at(2, 3),
+        ),
+        (b"run,from,to,limit,back\n9,X,A,1,x\n".as_slice(), at(2, 11)),
+        (b"run,from,to,limit,back\n4,X,A,1,1\n".as_slice(), at(2, 12)),
+        (b"run,from,to,limit,back\n0,B,A,1,1\n".as_slice(), at(2, 12)),
+        (
+            b"run,from,to,limit,back\n3,A,B,100000,1\n".as_slice(),
+            at(2, 13),
+        ),
+        (b"run,from,to,limit,back\n3,X,A,1,1\n".as_slice(), at(2, 13)),
+        (
+            b"run,from,to,limit,back\n3,A,C,1,1\n2,A,C,1,1\n3,A,C,-1,1\n".as_slice(),
+            at(4, 14),
+        ),
+        (
+            b"run,from,to,limit,back\n3,A,C,-1,1\n".as_slice(),
+            at(2, 15),
+        ),
+        (
+            b"run,from,to,limit,back\n3,A,C,1,100000\n".as_slice(),
+            at(2, 15),
+        ),
+    ] {
+        assert_eq!(rt;
+            LimitBook::read(rt.alloc(), page, &zones, &borders, &runs).err(),
+            want
+        );
+    }
     Ok(())
 }

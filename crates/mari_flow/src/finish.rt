@@ -1,6 +1,6 @@
 //! From amounts back to quantities, welfare, potentials and cuts.
 
-ghost use Rattle.std.specs.Prelude.{◌≡◌, ◌≢◌, ℕ, ℤ, pos, neg_ℤ, ◌≤ℤ◌, ◌<ℤ◌, ◌<◌, ◌≤◌, length, IfOk, MatchOption, map, take};
+ghost use Rattle.std.specs.Prelude.{◌≡◌, ◌≢◌, ℕ, pos, ◌≤ℤ◌, ◌<◌, ◌≤◌, ◌*◌, length, IfOk, MatchOption, map, take};
 ghost use Rattle.std.specs.Int.{int_max};
 ghost use Rattle.std.specs.List.{All, AllZip};
 ghost use Rattle.mari_market.specs.Sums.{sum_along};
@@ -11,7 +11,7 @@ ghost use Rattle.mari_flow.specs.Slots.{amount_at};
 ghost use Rattle.mari_flow.specs.Orders.{capped_cents, is_inside, CanPut, ArePuts};
 
 use crate::slots::BEYOND;
-use mari_market::{CutSide, Order, Side};
+use mari_market::{CutSide, Order, Side, total_gain};
 use mari_units::{CAP, Cents};
 use std::alloc::{AllocError, Global};
 
@@ -98,39 +98,21 @@ pub fn quantities(alloc: Global, orders: &[Order], amounts: &[i64]) -> Result<Ve
     Ok(all)
 }
 
-/// What an order adds to the welfare, in quarter-cents.
-fn gain(order: &Order, quantity: u32) -> i64
-    requires price { IsPrice order.now.price.0 }
-    requires small { quantity ≤ 99999 }
-    ensures value { result ≡ order_gain order.now quantity }
-    ensures low { neg_ℤ (pos 1000000000000) ≤ℤ result }
-    ensures high { result ≤ℤ pos 1000000000000 }
+/// A welfare as it is stated: 0 where it is negative.
+fn stated(welfare: i128) -> u64
+    requires { welfare ≤ℤ pos (9999900 * 99999 * 4608) }
+    ensures { pos result ≡ int_max (pos 0) welfare }
 {
-    let money = order.price.0 * i64::from(quantity);
-    match order.side {
-        Side::Inject => -money,
-        Side::Withdraw => money,
-    }
+    welfare.max(0) as u64
 }
 
-/// The welfare of quantities, in quarter-cents.
-pub fn welfare(orders: &[Order], mw: &[u32]) -> i64
+/// The welfare of quantities as it is stated, in quarter-cents.
+pub fn stated_welfare(orders: &[Order], mw: &[u32]) -> u64
     requires few { length orders.now ≤ 4608 }
     requires long { length mw.now ≡ length orders.now }
     requires prices { All (λ o. IsPrice o.price.0) orders.now }
     requires small { All (λ q. q ≤ 99999) mw.now }
-    ensures { result ≡ sum_along order_gain orders.now mw.now }
+    ensures { pos result ≡ int_max (pos 0) (sum_along order_gain orders.now mw.now) }
 {
-    let mut total = 0;
-    for (i, order) in orders.iter().enumerate() {
-        total += gain(order, mw[i]);
-    }
-    total
-}
-
-/// The welfare as it is stated: 0 where it is negative.
-pub fn stated(welfare: i64) -> u64
-    ensures { pos result ≡ int_max (pos 0) welfare }
-{
-    welfare.max(0) as u64
+    stated(total_gain(orders, mw))
 }

@@ -18,7 +18,7 @@ ghost use Rattle.mari_flow.specs.Network.{IsNetwork, Runs};
 ghost use Rattle.mari_flow.specs.Orders.{capped_cents, is_inside, slots_of, ArePuts, CanPut, AreOrderSlots};
 ghost use Rattle.mari_flow.specs.Solving.{NoneWithin, OfCut, IsAnswer, IsNetworkOf, AreSlotsOf};
 
-use crate::finish::{cap_all, cut_zones, first_short, quantities, stated, welfare};
+use crate::finish::{cap_all, cut_zones, first_short, quantities, stated_welfare};
 use crate::network::{Network, meeting_borders};
 use crate::run::run;
 use crate::slots::{Slot, extra_slots, first_amounts, order_slots};
@@ -91,7 +91,7 @@ fn solved_from(
 {
     let orders = market.orders.as_slice();
     let mw = quantities(alloc, orders, amounts)?;
-    let welfare = stated(welfare(orders, &mw));
+    let welfare = stated_welfare(orders, &mw);
     let flow = Vec::from_slice(alloc, flows)?;
     let cents = cap_all(alloc, prices)?;
     Ok(Solved {

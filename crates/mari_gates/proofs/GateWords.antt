@@ -1,11 +1,10 @@
 -- The gate word of an activation, marked order by order.
-use Rattle.std.proofs.Common.{◌≡◌, ◌||◌, Bool, true, false, ℕ, zero, suc, ◌+◌, ◌<◌, ◌≤◌, List, [], ◌∷◌, ◌++◌, length, map, take, get_or, Option, Some, None, arith, refl, sym, ap, ◌∙◌, subst, not, ◌⊎◌, inl, inr}
+use Rattle.std.proofs.Common.{◌≡◌, Bool, true, false, ℕ, zero, suc, ◌+◌, ◌<◌, ◌≤◌, List, [], ◌∷◌, ◌++◌, length, map, take, get_or, Option, Some, None, arith, refl, sym, ap, ◌∙◌, subst, not, ◌⊎◌, inl, inr}
 use mathlib.Core.Bool.{beq}
 use Rattle.std.specs.Prelude.{MatchOption, IfSome, IsTrue, ◌↔◌}
 use Rattle.std.specs.List.{AllZip, range_with_len}
-use Rattle.std.proofs.Math.Bool.{or_comm}
 use Rattle.std.proofs.lemmas.Bool.{cases_lt}
-use Rattle.std.proofs.lemmas.List.{take_all, get_or_past}
+use Rattle.std.proofs.lemmas.List.{get_or_past}
 use Rattle.std.proofs.lemmas.List.FromFn.{length-map-range_with_len, map-range_with_len_more}
 use Rattle.mari_market.specs.declared.activation.Activation.{Activation}
 use Rattle.mari_market.specs.declared.market.Market.{Market}
@@ -18,32 +17,14 @@ use Rattle.mari_market.specs.Market.{IsValid}
 use Rattle.mari_market.specs.Optimal.{IsFeasible}
 use Rattle.mari_market.specs.Prefix.{bit_of, word_of, opens_in, IsFeasiblePrefix, IsFeasibleWord}
 use Rattle.mari_market.proofs.Conflicts.{none_past}
+use Rattle.mari_market.proofs.GateRuns.{runs_all}
 use Rattle.mari_market.proofs.Prefixes.{opens_within}
 use Rattle.mari_market.proofs.Search.{parents_earlier}
 use Rattle.mari_market.proofs.Words.{begins_own, length-gate_word_of, word_is_feasible}
-use Rattle.mari_gates.specs.GateWords.{is_run_of}
 use Rattle.mari_gates.specs.Prefixes.{IsCleared}
 use Rattle.mari_gates.proofs.Decisions.{opens-decisions, length-decisions}
 
--- with one more order a gate is run where it was, or where the order runs it
-runs_more : (g : ℕ) (os : List Order) (qs : List ℕ) (i : ℕ) (d : Order) → i < length os → i < length qs → runs_gate g (take (i + 1) os) (take (i + 1) qs) ≡ (runs_gate g (take i os) (take i qs) || is_run_of g (get_or os i d) (get_or qs i 0))
-runs_more g [] qs i d h l = absurd (omega arith)
-runs_more g (o ∷ os) [] i d h l = absurd (omega arith)
-runs_more g (o ∷ os) (q ∷ qs) zero d h l = or_comm (is_run_of g o q) false
-runs_more g (o ∷ os) (q ∷ qs) (suc i) d h l =
-    let k : suc i + 1 ≡ suc (i + 1) = omega arith in
-    ap (λ (n : ℕ). runs_gate g (take n (o ∷ os)) (take n (q ∷ qs))) k
-    ∙ ap (λ (b : Bool). is_run_of g o q || b) (runs_more g os qs i d (omega arith) (omega arith))
-    ∙ regrouped (is_run_of g o q) (runs_gate g (take i os) (take i qs)) (is_run_of g (get_or os i d) (get_or qs i 0))
-  where
-    regrouped : (x y z : Bool) → (x || (y || z)) ≡ ((x || y) || z)
-    regrouped true y z = refl
-    regrouped false y z = refl
-
--- a loop's step: the bit so far, and whether the order runs the gate
-pub marks_more : (g : ℕ) (os : List Order) (qs : List ℕ) (i : ℕ) (d : Order) (old new : Bool) → i < length os → i < length qs → old ≡ runs_gate g (take i os) (take i qs) → new ≡ (old || is_run_of g (get_or os i d) (get_or qs i 0)) → new ≡ runs_gate g (take (i + 1) os) (take (i + 1) qs)
-marks_more g os qs i d old new h l e n = n ∙ ap (λ (b : Bool). b || is_run_of g (get_or os i d) (get_or qs i 0)) e ∙ sym (runs_more g os qs i d h l)
-
+-- a prefix that decides no gate has no bit that is 1
 pub none_set : (x : Prefix) (g : ℕ) → word_of x ≡ [] → IsCleared x → g < 512 → bit_of x g ≡ false
 none_set x g e cleared l =
     let none : x.length ≡ 0 = sym (length-map-range_with_len (bit_of x) 0 x.length) ∙ ap length e in
@@ -67,7 +48,7 @@ few_at m os i d v e l = of_gate (get_or os i d).gate (subst (λ (xs : List Order
     of_gate None f = tt
     of_gate (Some g) f = omega (arith, f.0, v.few_gates)
 
-same_map : (f g : ℕ → Bool) (n : ℕ) → ((k : ℕ) → k < n → f k ≡ g k) → map f (range_with_len 0 n) ≡ map g (range_with_len 0 n)
+pub same_map : (f g : ℕ → Bool) (n : ℕ) → ((k : ℕ) → k < n → f k ≡ g k) → map f (range_with_len 0 n) ≡ map g (range_with_len 0 n)
 same_map f g zero e = refl
 same_map f g (suc n) e =
     let one : suc n ≡ n + 1 = omega arith in
@@ -83,8 +64,7 @@ same_map f g (suc n) e =
 -- the bits of a gate word that is marked by all orders are those of the open gates
 pub marked : (m : Market) (a : Activation) (os : List Order) (qs : List ℕ) (i g : ℕ) (b : Bool) → os ≡ m.orders → qs ≡ a.mw → length os ≤ i → length qs ≤ i → b ≡ runs_gate g (take i os) (take i qs) → b ≡ is_open m a g
 marked m a os qs i g b e h l k n =
-    n ∙ ap (λ (xs : List Order). runs_gate g xs (take i qs)) (take_all i os l) ∙ ap (runs_gate g os) (take_all i qs k)
-    ∙ ap (λ (xs : List Order). runs_gate g xs qs) e ∙ ap (runs_gate g m.orders) h
+    n ∙ runs_all g os qs i l k ∙ ap (λ (xs : List Order). runs_gate g xs qs) e ∙ ap (runs_gate g m.orders) h
 
 pub word_of_marks : (m : Market) (a : Activation) (x : Prefix) → IsValid m → x.length ≡ length m.gates → ((g : ℕ) → g < 512 → bit_of x g ≡ is_open m a g) → word_of x ≡ gate_word_of m a
 word_of_marks m a x v e bits = ap (λ (n : ℕ). map (bit_of x) (range_with_len 0 n)) e ∙ same_map (bit_of x) (is_open m a) (length m.gates) (λ g l. bits g (omega (arith, v.few_gates)))

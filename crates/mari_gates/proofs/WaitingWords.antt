@@ -5,25 +5,12 @@ use Rattle.mari_market.specs.declared.market.GateInfo.{GateInfo}
 use Rattle.mari_market.specs.declared.market.Market.{Market}
 use Rattle.mari_market.specs.declared.prefix.Prefix.{Prefix}
 use Rattle.mari_market.specs.Prefix.{word_of, opens_in, children, IsFeasibleWord, IsFeasiblePrefix}
+use Rattle.mari_market.proofs.Prefixes.{opens_front, opens_past, opens_within}
 use Rattle.mari_market.proofs.Search.{parents_earlier}
 use Rattle.mari_market.specs.Market.{IsValid}
 use Rattle.mari_gates.specs.Prefixes.{IsCleared, ParentsEarlier}
 use Rattle.mari_gates.proofs.Decisions.{length-decisions}
 use Rattle.mari_gates.specs.Preorder.{opened_child, waiting, waiting_after, left_at}
-
-opens_front : (w v : List Bool) (n : ℕ) → n < length w → opens_in (w ++ v) n ≡ opens_in w n
-opens_front [] v n h = absurd (omega arith)
-opens_front (b ∷ w) v zero h = refl
-opens_front (b ∷ w) v (suc n) h = opens_front w v n (omega arith)
-
-opens_past : (w : List Bool) (b : Bool) → opens_in (w ++ b ∷ []) (length w) ≡ b
-opens_past [] b = refl
-opens_past (c ∷ w) b = opens_past w b
-
-opens_within : (w : List Bool) (n : ℕ) → opens_in w n ≡ true → n < length w
-opens_within [] n e = absurd (cc)
-opens_within (b ∷ w) zero e = omega arith
-opens_within (b ∷ w) (suc n) e = omega (arith, opens_within w n e)
 
 take_front : (n : ℕ) (w v : List Bool) → n ≤ length w → take n (w ++ v) ≡ take n w
 take_front zero w v h = refl

@@ -1,4 +1,3 @@
 pub mod Prefixes
 pub mod GateTable
-pub mod GateWords
 pub mod Preorder

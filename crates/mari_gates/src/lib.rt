@@ -1,14 +1,15 @@
 //! Prefixes of gate decisions, and the bounds that they leave to orders.
 //!
-//! A search decides gates in their order. These calls tell which decisions keep the rules of parents and groups, and how
-//! much each order may run below them. All but `bounds_of` take no memory.
+//! A search decides gates in their order. These calls tell which decisions keep the rules of parents and groups, how much each
+//! order may run below them, which gate word an activation has, and which of two words comes before the other. All but
+//! `bounds_of` take no memory.
 #![tactic(auto)]
 
-pub mod bounds;
-pub mod gate_words;
-pub mod prefixes;
-pub mod preorder;
-pub mod states;
+mod bounds;
+mod gate_words;
+mod prefixes;
+mod preorder;
+mod states;
 #[cfg(test)]
 mod tests;
 

@@ -1,11 +1,10 @@
 -- The shelf and the sink in memory, as contracts see them.
-use Rattle.std.specs.Prelude.{◌≡◌, ◌==◌, ◌||◌, ◌&&◌, not, ℕ, ◌-◌, ◌++◌, Bool, true, false, nat_eq, nat_lt, min, List, [], ◌∷◌, length, map, take, Result, Ok, Err, if◌then◌else◌}
+use Rattle.std.specs.Prelude.{◌==◌, ◌||◌, ◌&&◌, ℕ, ◌-◌, ◌++◌, Bool, nat_eq, nat_lt, min, List, length, map, take, Result}
 use Rattle.std.specs.List.{list_any}
-use Rattle.mari_io.specs.Outside.{Pages, counted, taken_count}
+use Rattle.mari_io.specs.Outside.{Pages, counted, counted_if, is_failed, is_missing, is_too_long, taken_count}
 use Rattle.mari_io.specs.declared.page.Page.{Page}
 use Rattle.mari_io.specs.declared.plan.FaultPlan.{FaultPlan}
 use Rattle.mari_io.specs.declared.shelf.Fetch.{Fetch}
-use Rattle.mari_io.specs.declared.shelf.Fetch.TheVariants.{Failed, Missing, TooLong, Memory}
 
 -- each page by its name
 abbrev pub pages_of : List Page → Pages
@@ -14,10 +13,6 @@ pages_of pages = map (λ p. (p.name, p.bytes)) pages
 -- whether a plan names this call
 abbrev pub is_planned : FaultPlan → ℕ → Bool
 is_planned plan call = list_any (λ n. n == call) plan.calls
-
--- a count after an event that may be of its kind
-abbrev pub counted_if : Bool → ℕ → ℕ
-counted_if happened n = if happened then counted n else n
 
 -- a shelf in memory: its pages, its plan, how many fetches were made, and its counts
 pub record ShelfState : Type 0 where
@@ -31,19 +26,6 @@ pub record ShelfState : Type 0 where
 -- whether the plan names the next fetch
 abbrev pub fetch_fails : ShelfState → Bool
 fetch_fails s = is_planned s.plan (counted s.calls)
-
--- whether a fetch gave this answer
-abbrev pub is_failed : {T : Type 0} → Result T Fetch → Bool
-is_failed (Err Failed) = true
-is_failed _ = false
-
-abbrev pub is_missing : {T : Type 0} → Result T Fetch → Bool
-is_missing (Err Missing) = true
-is_missing _ = false
-
-abbrev pub is_too_long : {T : Type 0} → Result T Fetch → Bool
-is_too_long (Err TooLong) = true
-is_too_long _ = false
 
 -- the shelf after a fetch
 abbrev pub after_fetch : {T : Type 0} → ShelfState → Result T Fetch → ShelfState

@@ -1,13 +1,23 @@
 -- What a shelf gives and what a sink takes, and the counts that show why one of them failed.
-use Rattle.std.specs.Prelude.{ℕ, ◌+◌, ◌-◌, ◌^◌, ◌≤◌, ◌<◌, ◌≡◌, min, List, [], ◌∷◌, ◌++◌, length, take, drop, Option, Some, None, Result, Ok, Err, if◌then◌else◌, IsSomeAnd, ⊤}
+use Rattle.std.specs.Prelude.{ℕ, zero, suc, ◌+◌, ◌-◌, ◌^◌, ◌≤◌, ◌<◌, ◌≡◌, Bool, true, false, min, List, [], ◌∷◌, ◌++◌, length, take, drop, Option, Some, None, Result, Ok, Err, if◌then◌else◌, IsSomeAnd, ⊤}
 use Rattle.std.specs.Str.{bytes_eq}
 use Rattle.std.specs.Option.{option_map}
+use Rattle.mari_units.specs.declared.limits.TheConstants.{MOST_PAGE}
 use Rattle.mari_io.specs.declared.shelf.Fetch.{Fetch}
 use Rattle.mari_io.specs.declared.shelf.Fetch.TheVariants.{Failed, Missing, TooLong, Memory}
 
 -- a count of 64 bits after one event more: it stays at its last value
 abbrev pub counted : ℕ → ℕ
 counted n = min (n + 1) (2 ^ 64 - 1)
+
+-- a count after so many events more
+abbrev pub counted_by : ℕ → ℕ → ℕ
+counted_by zero n = n
+counted_by (suc more) n = counted (counted_by more n)
+
+-- a count after an event that may be of its kind
+abbrev pub counted_if : Bool → ℕ → ℕ
+counted_if happened n = if happened then counted n else n
 
 -- a count went up, or stands at its last value
 abbrev pub Rose : ℕ → ℕ → Type 0
@@ -17,6 +27,19 @@ Rose before now = counted before ≤ now
 pub record Counts (happened : Type 0) (before now : ℕ) : Type 0 where
   pub later : before ≤ now
   pub rose : happened → Rose before now
+
+-- whether a fetch gave this answer
+abbrev pub is_failed : {T : Type 0} → Result T Fetch → Bool
+is_failed (Err Failed) = true
+is_failed _ = false
+
+abbrev pub is_missing : {T : Type 0} → Result T Fetch → Bool
+is_missing (Err Missing) = true
+is_missing _ = false
+
+abbrev pub is_too_long : {T : Type 0} → Result T Fetch → Bool
+is_too_long (Err TooLong) = true
+is_too_long _ = false
 
 -- pages, each by its name
 abbrev pub Pages : Type 0
@@ -31,7 +54,7 @@ page_of (page ∷ pages) name = if bytes_eq page.0 name then Some page.1 else pa
 abbrev pub FetchTells : {T : Type 0} → Option (List ℕ) → List ℕ → List ℕ → Result T Fetch → Type 0
 FetchTells page old new (Ok done) = page ≡ Some (drop (length old) new)
 FetchTells page old new (Err Missing) = page ≡ None
-FetchTells page old new (Err TooLong) = IsSomeAnd page (λ bytes. 268435456 < length bytes)
+FetchTells page old new (Err TooLong) = IsSomeAnd page (λ bytes. MOST_PAGE < length bytes)
 FetchTells page old new (Err Failed) = ⊤
 FetchTells page old new (Err Memory) = ⊤
 

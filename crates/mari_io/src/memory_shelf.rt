@@ -1,16 +1,15 @@
 //! A shelf in memory.
 
 ghost use Rattle.std.specs.Prelude.{◌≡◌, ◌↔◌, Some, IsErrOf, OnOk, OnErr, true};
+ghost use Rattle.mari_units.specs.declared.limits.TheConstants.{MOST_PAGE};
 ghost use Rattle.mari_io.specs.declared.shelf.Fetch.TheVariants.{Failed, Missing, TooLong};
-ghost use Rattle.mari_io.specs.Outside.{Counts, Pages, page_of, FetchTells, AppendsAtMost};
+ghost use Rattle.mari_io.specs.Outside.{Counts, Pages, counted, page_of, FetchTells, AppendsAtMost};
 ghost use Rattle.mari_io.specs.Memory.{pages_of, fetch_fails, after_fetch};
 
 use crate::page::find_page;
 use crate::{FaultPlan, Fetch, Page, Shelf};
+use mari_units::MOST_PAGE;
 use std::marker::Model;
-
-/// The most bytes of a page.
-const LIMIT: usize = 268_435_456;
 
 /// Pages in memory, which the shelf tells. A fetch that the plan names fails; of two pages of one name the first counts.
 #[derive(Debug, Drop)]
@@ -50,6 +49,8 @@ impl MemoryShelf {
 impl Shelf for MemoryShelf {
     ghost pages = { λ s. Some s.pages };
 
+    ghost fetches = { λ s. s.calls };
+
     ghost faults = { λ s. s.faults };
 
     ghost misses = { λ s. s.misses };
@@ -59,9 +60,10 @@ impl Shelf for MemoryShelf {
     /// Appends the page of that name. It fails exactly where the plan names the call.
     fn fetch(&mut self, name: &str, into: &mut Vec<u8>) -> Result<(), Fetch>
         ensures same { self.new.pages ≡ self.old.pages }
+        ensures fetched { self.new.calls ≡ counted self.old.calls }
 
         // What was read.
-        ensures ok { OnOk result (AppendsAtMost 268435456 into.old.items into.new.items) }
+        ensures ok { OnOk result (AppendsAtMost MOST_PAGE into.old.items into.new.items) }
         ensures err { OnErr result (into.new.items ≡ into.old.items) }
         ensures told { (told : Pages) → Some self.old.pages ≡ Some told → FetchTells (page_of told name.now) into.old.items into.new.items result }
 
@@ -83,7 +85,7 @@ impl Shelf for MemoryShelf {
             self.misses = self.misses.saturating_add(1);
             return Err(Fetch::Missing);
         };
-        if bytes.len() > LIMIT {
+        if bytes.len() > MOST_PAGE {
             self.overs = self.overs.saturating_add(1);
             return Err(Fetch::TooLong);
         }

@@ -8,11 +8,11 @@ use Rattle.std.proofs.lemmas.Bool.Decides.{eqb_tells, nat_tests}
 use Rattle.std.proofs.lemmas.List.Elements.{All-filter, All-head, All-map, All-nil, All-push, All-tail}
 use Rattle.std.proofs.lemmas.List.FromFn.{length-map-range_with_len}
 use Rattle.std.proofs.lemmas.Option.{same_Some, slice_get_within}
-use Rattle.mari_rows.specs.Books.{GivesBook, book_of_rows, first_failing}
+use Rattle.mari_rows.specs.Books.{GivesBook, book_in, first_failing}
 use Rattle.mari_rows.specs.Names.{place_in}
 use Rattle.mari_rows.specs.declared.faults.BookFault.{BookFault}
 use Rattle.mari_rows.specs.declared.rows.Row.{Row}
-use Rattle.mari_rows.proofs.BookLemmas.{book-rows}
+use Rattle.mari_rows.proofs.BookLemmas.{book-page}
 use Rattle.mari_rows.proofs.BookFacts.{all-passed, along-lines, both-parts, found-below, not-false}
 use Rattle.mari_bids.specs.declared.bids.BidBook.{BidBook}
 use Rattle.mari_links.specs.Links.{has_later_parent, has_wrong_quarter, link_file_checks, names_no_bid, AreLinks, IsLinkBook, IsParent, bid_named, bid_of, count_of, first_of, gated_bids, group_of, groups_of, has_too_many, is_gated, is_same_kind, kind_of, least_of, line_checks, link_book, link_grammar, link_of, links_of, named_by, parent_of, quarter_of, said_by, second_of, Member, Said}
@@ -23,7 +23,7 @@ use Rattle.mari_links.specs.declared.lines.LinkKind.{LinkKind}
 use Rattle.mari_links.specs.declared.lines.LinkKind.TheVariants.{Group, Child, Needs, Bars, Technical}
 use Rattle.mari_links.proofs.EntryLemmas.{itself, or-yes, with_child, with_member, with_timed}
 use Rattle.mari_links.proofs.GateLemmas.{count-append, entry-there, gate-there, gated-alike}
-use Rattle.mari_links.proofs.GroupLemmas.{find-some}
+use Rattle.mari_rows.proofs.FindLemmas.{find-some}
 use Rattle.mari_links.proofs.SaidLemmas.{said-child, said-member, said-timed}
 
 -- an item that is found passes its test, and has what each item has
@@ -233,9 +233,11 @@ module _ (bids : BidBook) where
           of_quarter = λ quarter. rw (count, gated-alike bids said) (few-gated (gated_bids bids said) few quarter);
         }
 
-  pub link-facts : (rows : List Row) (result : Result LinkBook BookFault) → GivesBook result (book_of_rows (link_grammar bids) rows) → IfOk result (IsLinkBook bids)
-  link-facts rows (Err fault) gives = tt
-  link-facts rows (Ok book) gives =
-      let is = book-rows (link_grammar bids) rows book gives in
+  pub link-facts : (page : List ℕ) (result : Result LinkBook BookFault) → GivesBook result (book_in (link_grammar bids) page) → IfOk result (IsLinkBook bids)
+  link-facts page (Err fault) gives = tt
+  link-facts page (Ok book) gives =
+      let read = book-page (link_grammar bids) page book gives in
+      let rows : List Row = read.0 in
+      let is = read.2 in
       let are = along-lines (link_grammar bids) AreSaid one-more rows book is none-said in
       rw is.says (is-link-book rows are (all-passed (link_file_checks bids rows) is.file).0)

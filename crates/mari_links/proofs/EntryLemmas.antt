@@ -20,7 +20,8 @@ use Rattle.mari_links.specs.declared.lines.Link.{Link}
 use Rattle.mari_links.specs.declared.lines.LinkKind.{LinkKind}
 use Rattle.mari_links.specs.declared.lines.LinkKind.TheVariants.{Group, Child, Needs, Bars, Technical}
 use Rattle.mari_links.specs.declared.links.BidLinks.{BidLinks}
-use Rattle.mari_links.proofs.GroupLemmas.{among-fold, find-some, kept-none}
+use Rattle.mari_rows.proofs.FindLemmas.{find-some, kept-none}
+use Rattle.mari_links.proofs.GroupLemmas.{among-fold}
 
 -- a write to what is made of each place
 pub set-made : {Y : Type 0} (f g : ℕ → Y) (n k : ℕ) (v : Y) → k < n → g k ≡ v → ((j : ℕ) → (k == j) ≡ false → g j ≡ f j)

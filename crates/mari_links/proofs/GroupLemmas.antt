@@ -11,6 +11,7 @@ use Rattle.std.proofs.lemmas.List.Quantifiers.{position-Some}
 use Rattle.std.proofs.lemmas.Option.{slice_get-get_or, slice_get-map, slice_get_past}
 use Rattle.std.proofs.lemmas.Slice.Eq.{bytes_eq-Decides}
 use Rattle.mari_rows.specs.Names.{is_among, with_name}
+use Rattle.mari_rows.proofs.FindLemmas.{find-some, kept-none, map-some}
 use Rattle.mari_rows.proofs.NameLemmas.{bytes_eq-same, list_any-map}
 use Rattle.mari_rows.proofs.PlaceLemmas.{among-push}
 use Rattle.mari_bids.specs.declared.bids.BidBook.{BidBook}
@@ -45,27 +46,10 @@ among-fold names (x ∷ xs) name = among-fold (with_name names x) xs name ∙ rw
     regroup true b c = refl
     regroup false b c = refl
 
--- whether an item is found
-pub find-some : {X : Type 0} (test : X → Bool) (xs : List X) → is_some (find test xs) ≡ list_any test xs
-find-some test [] = refl
-find-some test (x ∷ xs) = by (test x) (find-some test xs)
-  where
-    by : (b : Bool) → is_some (find test xs) ≡ list_any test xs → is_some (if b then Some x else find test xs) ≡ (b || list_any test xs)
-    by true more = refl
-    by false more = more
-
-pub map-some : {X Y : Type 0} (f : X → Y) (o : Option X) → is_some (option_map f o) ≡ is_some o
-map-some f None = refl
-map-some f (Some x) = refl
-
 -- a value that is there, and one that is not
 pub kept-some : (o : Option ℕ) → is_some o ≡ true → Some (unwrap_or o 0) ≡ o
 kept-some None there = cc there
 kept-some (Some x) there = refl
-
-pub kept-none : {X : Type 0} (o : Option X) → is_some o ≡ false → o ≡ None
-kept-none None none = refl
-kept-none (Some x) none = cc none
 
 -- what is lent of a list at a place
 pub lent : (xs : List ℕ) (place : ℕ) (r : Option (Bor ℕ))

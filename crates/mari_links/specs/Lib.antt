@@ -1,4 +1,5 @@
 pub mod Entries
 pub mod Gates
+pub mod LinkChecks
 pub mod Links
 pub mod SoFar

@@ -4,6 +4,7 @@ use Rattle.std.specs.List.{All, filter_map, find, list_any, range_with_len}
 use Rattle.std.specs.Option.{option_and_then, option_map_or}
 use Rattle.std.specs.Str.{bytes_eq}
 use Rattle.mari_units.specs.Names.{is_name}
+use Rattle.mari_units.specs.declared.limits.TheConstants.{MOST_GATES}
 use Rattle.mari_rows.specs.Books.{Checks, Grammar}
 use Rattle.mari_rows.specs.Names.{distinct, place_in}
 use Rattle.mari_rows.specs.Rows.{field_of}
@@ -11,11 +12,13 @@ use Rattle.mari_rows.specs.declared.rows.Row.{Row}
 use Rattle.mari_bids.specs.declared.bids.Bid.{Bid}
 use Rattle.mari_bids.specs.declared.bids.BidBook.{BidBook}
 use Rattle.mari_links.specs.Gates.{has_gate_at}
+use Rattle.mari_links.specs.LinkChecks.{link_check_number}
 use Rattle.mari_links.specs.declared.lines.Link.{Link}
 use Rattle.mari_links.specs.declared.lines.LinkKind.{LinkKind}
 use Rattle.mari_links.specs.declared.lines.LinkKind.TheVariants.{Group, Child, Needs, Bars, Technical}
 use Rattle.mari_links.specs.declared.links.BidLinks.{BidLinks}
 use Rattle.mari_links.specs.declared.links.LinkBook.{LinkBook}
+use Rattle.mari_links.specs.declared.links.LinkCheck.TheVariants.{BadField, BadKind, ParentNotEarlier, Repeated, TooManyGates, UnknownBid, WrongQuarter}
 
 -- the words of a kind
 unfoldable pub group_word : List ℕ
@@ -189,18 +192,18 @@ of_kind test row = option_map_or test (kind_of row) false
 -- a line is refused for a kind that is none, for a group whose name is none, and for a name of no bid
 abbrev pub name_checks : BidBook → Row → Checks
 name_checks bids row =
-    (not (is_some (kind_of row)), 11)
-    ∷ (of_kind (is_same_kind Group) row && not (is_name (first_of row)), 16)
-    ∷ (of_kind (names_no_bid bids row) row, 12)
+    (not (is_some (kind_of row)), link_check_number BadKind)
+    ∷ (of_kind (is_same_kind Group) row && not (is_name (first_of row)), link_check_number BadField)
+    ∷ (of_kind (names_no_bid bids row) row, link_check_number UnknownBid)
     ∷ []
 
 -- and, behind lines that say this, for a wrong quarter, for a parent that does not stand before its child, and for what an
 -- earlier line says
 abbrev pub place_checks : BidBook → Said → Row → Checks
 place_checks bids said row =
-    (of_kind (has_wrong_quarter bids said row) row, 13)
-    ∷ (of_kind (has_later_parent bids row) row, 14)
-    ∷ (of_kind (is_repeated bids said row) row, 15)
+    (of_kind (has_wrong_quarter bids said row) row, link_check_number WrongQuarter)
+    ∷ (of_kind (has_later_parent bids row) row, link_check_number ParentNotEarlier)
+    ∷ (of_kind (is_repeated bids said row) row, link_check_number Repeated)
     ∷ []
 
 -- in this order
@@ -209,11 +212,11 @@ line_checks bids earlier row = name_checks bids row ++ place_checks bids (said_b
 
 -- whether one of these bids is of a quarter that has more than 512 of them
 abbrev pub has_too_many : BidBook → List ℕ → Bool
-has_too_many bids gated = list_any (λ bid. nat_lt 512 (count_of bids gated (quarter_of bids bid))) gated
+has_too_many bids gated = list_any (λ bid. nat_lt MOST_GATES (count_of bids gated (quarter_of bids bid))) gated
 
 -- a file is refused where some quarter has more than 512 bids with a gate
 abbrev pub link_file_checks : BidBook → List Row → Checks
-link_file_checks bids rows = (has_too_many bids (gated_bids bids (said_by bids rows)), 17) ∷ []
+link_file_checks bids rows = (has_too_many bids (gated_bids bids (said_by bids rows)), link_check_number TooManyGates) ∷ []
 
 -- what is said of a bid
 abbrev pub links_of : BidBook → Said → ℕ → BidLinks

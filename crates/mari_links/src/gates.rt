@@ -8,9 +8,8 @@ use crate::entries::Entry;
 use crate::lines::quarter_of;
 use mari_bids::BidBook;
 use mari_rows::count_one;
+use mari_units::MOST_GATES;
 use std::alloc::{AllocError, Global};
-
-const MOST_GATES: u32 = 512;
 
 // The last quarter of these bids.
 fn last_quarter(bids: &BidBook) -> u32
@@ -37,7 +36,7 @@ pub fn has_too_many_gates(
         if !entries[bid as usize].is_gated() {
             continue;
         }
-        if !count_one(&mut counts, quarter_of(bids, bid), MOST_GATES) {
+        if !count_one(&mut counts, quarter_of(bids, bid), MOST_GATES as u32) {
             return Ok(true);
         }
     }

@@ -12,4 +12,4 @@ mod so_far;
 #[cfg(test)]
 mod tests;
 
-pub use links::{BidLinks, LinkBook};
+pub use links::{BidLinks, LinkBook, LinkCheck};

@@ -2,10 +2,12 @@
 ghost use Rattle.std.specs.Prelude.{◌≡◌, ◌<◌, length, true, false, IfOk, OnOk};
 ghost use Rattle.mari_units.specs.Names.{is_name};
 ghost use Rattle.mari_rows.specs.Books.{first_failing};
-ghost use Rattle.mari_rows.specs.First.{unless_fault};
+ghost use Rattle.mari_rows.specs.Checks.{IsRead};
+ghost use Rattle.mari_links.specs.LinkChecks.{link_check_number};
 ghost use Rattle.mari_links.specs.Links.{bid_named, kind_named, kind_of as kind_in, least_of as least_in, link_of as link_in, name_checks, quarter_of as quarter_in};
 ghost use Rattle.mari_links.specs.Entries.{some_link};
 
+use crate::links::LinkCheck;
 use mari_bids::BidBook;
 use mari_rows::Row;
 use mari_units::is_name_text;
@@ -69,8 +71,8 @@ pub fn least_of(bids: &BidBook, bid: u32) -> u32
 }
 
 /// The link of a line that names what it should, or the first check that fails.
-pub fn link_of(bids: &BidBook, line: &Row) -> Result<Link, u8>
-    ensures link { result ≡ unless_fault (first_failing (name_checks bids.now line.now)) (some_link bids.now line.now) }
+pub fn link_of(bids: &BidBook, line: &Row) -> Result<Link, LinkCheck>
+    ensures link { IsRead link_check_number result (first_failing (name_checks bids.now line.now)) (some_link bids.now line.now) }
     ensures passes { OnOk result (first_failing (name_checks bids.now line.now) ≡ None) }
     ensures kind { IfOk result (λ link. kind_in line.now ≡ Some link.kind) }
     ensures says { IfOk result (λ link. link ≡ link_in bids.now line.now link.kind) }
@@ -78,15 +80,15 @@ pub fn link_of(bids: &BidBook, line: &Row) -> Result<Link, u8>
     ensures second { IfOk result (λ link. link.second < length bids.now.ids) }
 {
     let Some(kind) = kind_of(line.field(0)) else {
-        return Err(11);
+        return Err(LinkCheck::BadKind);
     };
     if kind == LinkKind::Group && !is_name_text(line.field(1)) {
-        return Err(16);
+        return Err(LinkCheck::BadField);
     }
     let first = bids.ids.find(line.field(1));
     let second = bids.ids.find(line.field(2));
     if second.is_none() || (kind != LinkKind::Group && first.is_none()) {
-        return Err(12);
+        return Err(LinkCheck::UnknownBid);
     }
     Ok(Link {
         kind,

@@ -1,15 +1,47 @@
 //! The links of a day.
 ghost use Rattle.std.specs.Prelude.{◌≤◌, length, IfOk};
-ghost use Rattle.mari_rows.specs.Books.{book_in, book_of_rows, GivesBook};
-ghost use Rattle.mari_links.specs.Links.{link_columns, link_grammar, IsLinkBook};
+ghost use Rattle.mari_rows.specs.Books.{book_in, GivesBook};
+ghost use Rattle.mari_links.specs.LinkChecks.{link_check_name, link_check_number};
+ghost use Rattle.mari_links.specs.Links.{link_columns, link_grammar, said_by, IsLinkBook};
 
 use crate::so_far::LinksSoFar;
 use mari_bids::BidBook;
-use mari_rows::{BookFault, RowReader, read_rows};
+use mari_rows::{BookFault, BookSoFar, FileCheck, LineFault, Row, read_book};
 use mari_units::Items;
 use std::alloc::Global;
 
 const COLUMNS: &str = "kind,first,second";
+
+/// A check of links.csv.
+#[derive(Clone, Copy, Debug, PartialEq, Eq)]
+pub enum LinkCheck {
+    BadKind,
+    UnknownBid,
+    WrongQuarter,
+    ParentNotEarlier,
+    Repeated,
+    BadField,
+    TooManyGates,
+}
+
+impl FileCheck for LinkCheck {
+    ghost number = { link_check_number };
+
+    ghost name = { link_check_name };
+
+    #[tactic(auto, unfolding(crate::specs::LinkChecks::link_check_name))]
+    fn entry(self) -> (u8, &'static str) {
+        match self {
+            LinkCheck::BadKind => (11, "BadKind"),
+            LinkCheck::UnknownBid => (12, "UnknownBid"),
+            LinkCheck::WrongQuarter => (13, "WrongQuarter"),
+            LinkCheck::ParentNotEarlier => (14, "ParentNotEarlier"),
+            LinkCheck::Repeated => (15, "Repeated"),
+            LinkCheck::BadField => (16, "BadField"),
+            LinkCheck::TooManyGates => (17, "TooManyGates"),
+        }
+    }
+}
 
 /// What the links say of one bid. Groups and bids are places, from 0.
 ///
@@ -34,24 +66,43 @@ pub struct LinkBook {
 
 impl LinkBook {
     /// The book of a page of links between these bids, or its first refusal.
+    #[tactic(auto, unfolding(crate::specs::Links::link_columns))]
     pub fn read(alloc: Global, links: &[u8], bids: &BidBook) -> Result<LinkBook, BookFault>
         requires { length links.now ≤ 268435456 }
         ensures book { GivesBook result (book_in (link_grammar bids.now) links.now) }
         ensures links { IfOk result (IsLinkBook bids.now) }
     {
-        let mut lines = read_rows(alloc, links, COLUMNS)?;
-        book_of(alloc, &mut lines, bids)
+        let none = LinksOfBids {
+            bids,
+            said: LinksSoFar::new(alloc, bids)?,
+        };
+        read_book(alloc, links, COLUMNS, none)
     }
 }
 
-// The book of these lines, or their first refusal.
-fn book_of(alloc: Global, lines: &mut RowReader<'_>, bids: &BidBook) -> Result<LinkBook, BookFault>
-    requires { length lines.old ≤ 268435456 }
-    ensures { GivesBook result (book_of_rows (link_grammar bids.now) lines.old) }
-{
-    let mut so_far = LinksSoFar::new(alloc, bids)?;
-    'lines: while let Some(line) = lines.next(alloc)? {
-        so_far.add(alloc, bids, &line)?;
+// What the lines so far say of these bids.
+#[derive(Drop)]
+struct LinksOfBids<'a> {
+    bids: &'a BidBook,
+    said: LinksSoFar,
+}
+
+impl<'a> BookSoFar for LinksOfBids<'a> {
+    ghost use Rattle.mari_links.specs.SoFar.{HoldsLinks};
+
+    type Check = LinkCheck;
+
+    type Book = LinkBook;
+
+    ghost grammar = { λ so_far. link_grammar so_far.bids.now };
+
+    ghost Holds = { λ so_far lines. HoldsLinks so_far.bids.now (said_by so_far.bids.now lines) so_far.said };
+
+    fn take(&mut self, alloc: Global, line: &Row) -> Result<(), LineFault<LinkCheck>> {
+        self.said.add(alloc, self.bids, line)
     }
-    so_far.into_book(alloc, bids)
+
+    fn end(self, alloc: Global) -> Result<LinkBook, LineFault<LinkCheck>> {
+        self.said.into_book(alloc, self.bids)
+    }
 }

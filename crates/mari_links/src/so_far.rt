@@ -1,8 +1,10 @@
 //! What the lines so far say.
-ghost use Rattle.std.specs.Prelude.{◌≡◌, ◌<◌, ◌++◌, ◌∷◌, [], ◌==◌, ℕ, List, true, false, length, IfOk, OnOk};
+ghost use Rattle.std.specs.Prelude.{◌≡◌, ◌<◌, ◌++◌, ◌∷◌, [], ◌==◌, ℕ, List, true, false, length, option_map, IfOk, OnOk};
 ghost use Rattle.std.specs.List.{list_any};
 ghost use Rattle.mari_units.specs.Names.{is_name};
-ghost use Rattle.mari_rows.specs.Books.{first_failing, TakesLine};
+ghost use Rattle.mari_rows.specs.Books.{first_failing};
+ghost use Rattle.mari_rows.specs.Checks.{TakesLine};
+ghost use Rattle.mari_links.specs.LinkChecks.{link_check_number};
 ghost use Rattle.mari_rows.specs.declared.rows.Row.{Row as Line};
 ghost use Rattle.mari_links.specs.Links.{has_wrong_quarter as has_wrong_quarter_in, is_repeated as is_repeated_in, is_same_link, kind_of, first_of, line_checks, link_book, link_file_checks, link_of as link_of_line, place_checks, said_by, Member, Said};
 ghost use Rattle.mari_links.specs.declared.lines.Link.{Link as TheLink};
@@ -11,10 +13,10 @@ use crate::entries::{Entry, links_of};
 use crate::gates::has_too_many_gates;
 use crate::groups::Groups;
 use crate::lines::{Link, LinkKind, least_of, link_of, quarter_of};
-use crate::links::LinkBook;
+use crate::links::{LinkBook, LinkCheck};
 use indexmap::IndexSet;
 use mari_bids::BidBook;
-use mari_rows::{BookFault, Row};
+use mari_rows::{LineFault, Row};
 use mari_units::{Items, Memory};
 use std::alloc::{AllocError, Global};
 
@@ -117,20 +119,20 @@ impl LinksSoFar {
     }
 
     // The first check that a link fails behind the lines so far.
-    fn failing_check(&self, bids: &BidBook, line: &Row, link: Link) -> Option<u8>
+    fn failing_check(&self, bids: &BidBook, line: &Row, link: Link) -> Option<LinkCheck>
         requires first { link.first < length bids.now.ids }
         requires second { link.second < length bids.now.ids }
         requires sized { length self.now.entries.items ≡ length bids.now.ids }
         requires kind { kind_of line.now ≡ Some link.kind }
         requires link { link ≡ link_of_line bids.now line.now link.kind }
-        ensures { (said : Said) → HoldsLinks bids.now said self.now → result ≡ first_failing (place_checks bids.now said line.now) }
+        ensures { (said : Said) → HoldsLinks bids.now said self.now → option_map link_check_number result ≡ first_failing (place_checks bids.now said line.now) }
     {
         if self.has_wrong_quarter(bids, line, link) {
-            Some(13)
+            Some(LinkCheck::WrongQuarter)
         } else if link.kind == LinkKind::Child && link.second >= link.first {
-            Some(14)
+            Some(LinkCheck::ParentNotEarlier)
         } else if self.is_repeated(bids, line, link) {
-            Some(15)
+            Some(LinkCheck::Repeated)
         } else {
             None
         }
@@ -158,43 +160,37 @@ impl LinksSoFar {
     }
 
     /// Adds what a line says, or tells the first check that it fails.
-    pub fn add(&mut self, alloc: Global, bids: &BidBook, line: &Row) -> Result<(), BookFault>
+    pub fn add(
+        &mut self,
+        alloc: Global,
+        bids: &BidBook,
+        line: &Row,
+    ) -> Result<(), LineFault<LinkCheck>>
         requires room { length self.old.groups.names < 4294967295 }
         requires sized { length self.old.entries.items ≡ length bids.now.ids }
         ensures { (earlier : List Line) → HoldsLinks bids.now (said_by bids.now earlier) self.old
-            → TakesLine result line.now.line (first_failing (line_checks bids.now earlier line.now))
+            → TakesLine link_check_number result (first_failing (line_checks bids.now earlier line.now))
             (λ _. HoldsLinks bids.now (said_by bids.now (earlier ++ line.now ∷ [])) self.new) }
     {
         let link = match link_of(bids, line) {
             Ok(link) => link,
-            Err(number) => {
-                return Err(BookFault::At {
-                    line: line.line,
-                    number,
-                });
-            }
+            Err(check) => return Err(LineFault::Fails(check)),
         };
-        if let Some(number) = self.failing_check(bids, line, link) {
-            return Err(BookFault::At {
-                line: line.line,
-                number,
-            });
+        if let Some(check) = self.failing_check(bids, line, link) {
+            return Err(LineFault::Fails(check));
         }
         self.hold(alloc, bids, line, link)?;
         Ok(())
     }
 
     /// The book, or the refusal of a quarter with too many gates.
-    pub fn into_book(self, alloc: Global, bids: &BidBook) -> Result<LinkBook, BookFault>
+    pub fn into_book(self, alloc: Global, bids: &BidBook) -> Result<LinkBook, LineFault<LinkCheck>>
         requires { length self.entries.items ≡ length bids.now.ids }
         ensures { (rows : List Line) → HoldsLinks bids.now (said_by bids.now rows) self
-            → TakesLine result 1 (first_failing (link_file_checks bids.now rows)) (λ book. book ≡ link_book bids.now rows) }
+            → TakesLine link_check_number result (first_failing (link_file_checks bids.now rows)) (λ book. book ≡ link_book bids.now rows) }
     {
         if has_too_many_gates(alloc, bids, self.entries.as_slice())? {
-            return Err(BookFault::At {
-                line: 1,
-                number: 17,
-            });
+            return Err(LineFault::Fails(LinkCheck::TooManyGates));
         }
         Ok(LinkBook {
             links: Items::of(links_of(alloc, self.entries)?),

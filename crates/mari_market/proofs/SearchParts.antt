@@ -1,5 +1,5 @@
 -- The items of a part of the search tree are as many distinct nodes.
-use Rattle.std.proofs.Common.{◌≡◌, ◌≢◌, ◌⊎◌, inl, inr, if◌then◌else◌, Bool, true, false, ℕ, zero, suc, ◌<◌, List, [], ◌∷◌, ◌++◌, length, arith, refl, ap, ◌∙◌, length-append}
+use Rattle.std.proofs.Common.{◌≡◌, ◌≢◌, ◌⊎◌, inl, inr, if◌then◌else◌, Bool, true, false, ℕ, suc, ◌<◌, List, [], ◌∷◌, ◌++◌, length, arith, refl, ap, ◌∙◌, length-append}
 use Rattle.mari_market.specs.declared.clearing.PartItem.{PartItem}
 use Rattle.mari_market.specs.declared.clearing.PartItem.TheVariants.{Branch, Closed, Pending}
 use Rattle.mari_market.specs.declared.market.Market.{Market}
@@ -7,6 +7,7 @@ use Rattle.mari_market.specs.Clearing.{ArePartsOfSearch}
 use Rattle.mari_market.specs.Prefix.{children, may_open, opens_in}
 use Rattle.mari_market.specs.SearchTree.{IsNode, AreNodes}
 use Rattle.mari_market.proofs.Examples.{Each, EachApart, all_apart, all_of}
+use Rattle.mari_market.proofs.Prefixes.{opens_front, opens_longer, opens_past}
 
 -- the words of the items, in preorder
 abbrev pub visited : Market → List (List Bool) → List PartItem → List (List Bool)
@@ -64,28 +65,14 @@ record IsApart (word other : List Bool) : Type 0 where
   closed : opens_in word gate ≡ false
   opened : opens_in other gate ≡ true
 
-pub opens_still : (word : List Bool) (b : Bool) (g : ℕ) → opens_in word g ≡ true → opens_in (word ++ b ∷ []) g ≡ true
-opens_still [] b g e = absurd (cc)
-opens_still (c ∷ cs) b zero e = e
-opens_still (c ∷ cs) b (suc g) e = opens_still cs b g e
-
-pub opens_same : (word : List Bool) (b : Bool) (g : ℕ) → g < length word → opens_in (word ++ b ∷ []) g ≡ opens_in word g
-opens_same [] b g l = absurd (omega arith)
-opens_same (c ∷ cs) b zero l = refl
-opens_same (c ∷ cs) b (suc g) l = opens_same cs b g (omega arith)
-
-opens_new : (word : List Bool) (b : Bool) → opens_in (word ++ b ∷ []) (length word) ≡ b
-opens_new [] b = refl
-opens_new (c ∷ cs) b = opens_new cs b
-
 apart_longer : (word other : List Bool) (b : Bool) → IsApart word other → IsApart word (other ++ b ∷ [])
-apart_longer word other b h = record { gate = h.gate; decided = h.decided; closed = h.closed; opened = opens_still other b h.gate h.opened }
+apart_longer word other b h = record { gate = h.gate; decided = h.decided; closed = h.closed; opened = opens_longer other b h.gate h.opened }
 
 longer_apart : (word other : List Bool) (b : Bool) → IsApart word other → IsApart (word ++ b ∷ []) other
-longer_apart word other b h = record { gate = h.gate; decided = omega (arith, h.decided, length-append word (b ∷ [])); closed = opens_same word b h.gate h.decided ∙ h.closed; opened = h.opened }
+longer_apart word other b h = record { gate = h.gate; decided = omega (arith, h.decided, length-append word (b ∷ [])); closed = opens_front word (b ∷ []) h.gate h.decided ∙ h.closed; opened = h.opened }
 
 children_are_apart : (word : List Bool) → IsApart (word ++ false ∷ []) (word ++ true ∷ [])
-children_are_apart word = record { gate = length word; decided = omega (arith, length-append word (false ∷ [])); closed = opens_new word false; opened = opens_new word true }
+children_are_apart word = record { gate = length word; decided = omega (arith, length-append word (false ∷ [])); closed = opens_past word false; opened = opens_past word true }
 
 apart_differ : (word other : List Bool) → IsApart word other → word ≢ other
 apart_differ word other h = λ e. absurd (cc (ap (λ (w : List Bool). opens_in w h.gate) e, h.closed, h.opened))

@@ -67,7 +67,7 @@ same_or_before (false ∷ bs) (false ∷ cs) e = elim (same_or_before bs cs (ome
   | inr s ↦ elim s [ inl h ↦ inr (inl (before_cons false bs cs h)) | inr h ↦ inr (inr (before_cons false cs bs h)) ]
 ]
 
-closed_opens : (n g : ℕ) → opens_in (replicate n false) g ≡ false
+pub closed_opens : (n g : ℕ) → opens_in (replicate n false) g ≡ false
 closed_opens zero g = refl
 closed_opens (suc n) zero = refl
 closed_opens (suc n) (suc g) = closed_opens n g
@@ -202,6 +202,12 @@ one_first_word m a b h k = elim (same_or_before (gate_word_of m a) (gate_word_of
     | inr before ↦ absurd (h.none_before b k.optimal before)
   ]
 ]
+
+-- where an admissible activation that opens no gate has the welfare of the first activation, that opens none
+pub first_opens_none : (m : Market) (a b : Activation) → IsFirst m a → IsAdmissible m b → gate_word_of m b ≡ all_closed m → welfare_of m b ≡ welfare_of m a → gate_word_of m a ≡ all_closed m
+first_opens_none m a b h adm e w =
+    let best : IsOptimal m b = record { admissible = adm; greatest = λ c k. subst (λ (u : ℤ). welfare_of m c ≤ℤ u) (sym w) (h.optimal.greatest c k) } in
+    one_first_word m a b h (closed_is_first m b best e) ∙ e
 
 -- one welfare
 pub one_first_welfare : (m : Market) (a b : Activation) → IsFirst m a → IsFirst m b → welfare_of m a ≡ welfare_of m b

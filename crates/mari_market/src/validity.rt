@@ -7,15 +7,10 @@ ghost use Rattle.mari_market.specs.Gates.{parent_of};
 ghost use Rattle.mari_market.specs.Market.{IsValid, IsValidOrder, IsValidBorder, IsValidGate, GateFits};
 ghost use Rattle.mari_market.specs.Price.{IsPrice};
 
+use crate::limits::MOST_ORDERS;
 use crate::market::{Border, GateInfo, Market, Order};
-use mari_units::{CAP, Cents};
-
-/// Whether a price lies from the negative of the cap to the cap.
-fn is_price(price: Cents) -> bool
-    ensures { IsTrue result ↔ IsPrice price.0 }
-{
-    -CAP <= price.0 && price.0 <= CAP
-}
+use crate::price_rules::is_price;
+use mari_units::{MOST_BORDERS, MOST_FLOW, MOST_GATES, MOST_MW, MOST_ZONES};
 
 /// Whether a plain order has the least quantity 0, and a gated one a gate that is there and a least of at least 1.
 fn has_its_gate(order: &Order, gates: usize) -> bool
@@ -34,7 +29,7 @@ fn order_fits(order: &Order, zones: u32, gates: usize) -> bool
     order.zone < zones
         && is_price(order.price)
         && order.least <= order.greatest
-        && order.greatest <= 99_999
+        && order.greatest <= MOST_MW
         && has_its_gate(order, gates)
 }
 
@@ -45,8 +40,8 @@ fn border_fits(border: &Border, zones: u32) -> bool
     border.from < zones
         && border.to < zones
         && border.from != border.to
-        && border.limit <= 199_998
-        && border.back <= 199_998
+        && border.limit <= MOST_FLOW
+        && border.back <= MOST_FLOW
 }
 
 fn orders_fit(orders: &[Order], zones: u32, gates: usize) -> bool
@@ -82,7 +77,7 @@ fn parent_stands_before(gates: &[GateInfo], gate: usize) -> bool
 impl Market {
     fn gate_fits(&self, gate: usize) -> bool
         requires there { gate < length self.now.gates }
-        requires few { length self.now.gates ≤ 512 }
+        requires few { length self.now.gates ≤ MOST_GATES }
         ensures { IsTrue result ↔ IsValidGate self.now gate }
     {
         parent_stands_before(self.gates.as_slice(), gate)
@@ -90,7 +85,7 @@ impl Market {
     }
 
     fn gates_fit(&self) -> bool
-        requires { length self.now.gates ≤ 512 }
+        requires { length self.now.gates ≤ MOST_GATES }
         ensures { IsTrue result ↔ ((g : ℕ) → g < length self.now.gates → IsValidGate self.now g) }
     {
         for gate in 0..self.gates.as_slice().len() {
@@ -102,13 +97,14 @@ impl Market {
     }
 
     fn is_within_limits(&self) -> bool
-        ensures { IsTrue result ↔ ((1 ≤ self.now.zones) × (self.now.zones ≤ 64) × (length self.now.borders ≤ 256)
-            × (length self.now.orders ≤ 4608) × (length self.now.gates ≤ 512)) }
+        ensures { IsTrue result ↔ ((1 ≤ self.now.zones) × (self.now.zones ≤ MOST_ZONES) × (length self.now.borders ≤ MOST_BORDERS)
+            × (length self.now.orders ≤ MOST_ORDERS) × (length self.now.gates ≤ MOST_GATES)) }
     {
-        (1..=64).contains(&self.zones)
-            && self.borders.as_slice().len() <= 256
-            && self.orders.as_slice().len() <= 4_608
-            && self.gates.as_slice().len() <= 512
+        self.zones >= 1
+            && self.zones as usize <= MOST_ZONES
+            && self.borders.as_slice().len() <= MOST_BORDERS
+            && self.orders.as_slice().len() <= MOST_ORDERS
+            && self.gates.as_slice().len() <= MOST_GATES
     }
 
     fn parts_fit(&self) -> bool
@@ -138,7 +134,7 @@ impl Market {
 mod tests {
     use super::*;
     use crate::market::Side;
-    use mari_units::Items;
+    use mari_units::{Cents, Items};
     use std::alloc::Global;
     use std::test::Fail;
 

@@ -17,7 +17,7 @@ use Rattle.mari_market.specs.Activation.{welfare_of, is_open, IsBalanced, IsWith
 use Rattle.mari_market.specs.Bounds.{IsWithin, GateState, span_in, own_bounds}
 use Rattle.mari_market.specs.Clearing.{IsClearing}
 use Rattle.mari_market.specs.Consistent.{IsConsistentTrade, IsConsistentOrder, IsConsistentBorder}
-use Rattle.mari_market.specs.Consistent.Standing.{Plain}
+use Rattle.mari_market.specs.declared.price_rules.Standing.TheVariants.{Plain}
 use Rattle.mari_market.specs.Dual.{IsTight, IsTightTrade, IsTightOrder}
 use Rattle.mari_market.specs.Gates.{KeepsGateRules}
 use Rattle.mari_market.specs.Market.{IsValid, IsValidOrder}

@@ -3,7 +3,7 @@ use Rattle.std.proofs.Common.{◌≡◌, ◌≢◌, Bool, true, false, not, ℕ,
 use Rattle.std.proofs.lemmas.Int.{ints, clamps}
 use Rattle.std.proofs.lemmas.List.FromFn.{length-map-range_with_len}
 use Rattle.std.specs.Int.{int_max}
-use Rattle.std.specs.Prelude.{◌↔◌, Option, IsTrue, MatchOption, is_some}
+use Rattle.std.specs.Prelude.{◌↔◌, ◌<◌, Option, IsTrue, MatchOption, is_some, Result, Ok, Err, IfOk}
 use Rattle.mari_market.specs.declared.market.Market.{Market}
 use Rattle.mari_market.specs.declared.market.GateInfo.{GateInfo}
 use Rattle.mari_market.specs.declared.prefix.Prefix.{Prefix}
@@ -139,3 +139,8 @@ inner_at m x s gates e n p h =
     let most = p.word.decided in
     let apart : length (word_of x) ≢ length m.gates = λ f. n (sym long ∙ f ∙ sym same) in
     record { optimum = h; undecided = omega arith }
+
+-- where every gate is decided, nothing is asked of what is found where one isn't
+pub none_is_inner : {X E : Type 0} {decided gates : ℕ} (Q : X → Type 0) (found : Result X E) → decided ≡ gates → IfOk found (λ x. decided < gates → Q x)
+none_is_inner Q (Ok x) e = λ less. absurd (omega arith)
+none_is_inner Q (Err fault) e = tt

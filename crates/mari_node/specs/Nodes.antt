@@ -1,5 +1,5 @@
 -- A node of the search with the relaxed optimum that the solver gives.
-use Rattle.std.specs.Prelude.{◌≡◌, ◌<◌, ◌≤◌, Bool, ℕ, pos, List, length, Some, None}
+use Rattle.std.specs.Prelude.{◌≡◌, ◌<◌, ◌≤◌, Bool, true, ℕ, pos, List, length, Option, Some, None, IsSomeAnd, is_some}
 use Rattle.std.specs.Int.{int_max}
 use Rattle.std.specs.List.{All}
 use Rattle.mari_market.specs.declared.market.Market.{Market}
@@ -8,6 +8,7 @@ use Rattle.mari_market.specs.declared.finding.Relaxed.{Relaxed}
 use Rattle.mari_market.specs.Activation.{welfare_of}
 use Rattle.mari_market.specs.Conflict.{IsContradiction}
 use Rattle.mari_market.specs.Dual.{IsTight, dual_value_of}
+use Rattle.mari_market.specs.Optimal.{IsAdmissible}
 use Rattle.mari_market.specs.Prefix.{bounds_of_word, IsFeasibleWord}
 use Rattle.mari_market.specs.Price.{ArePrices}
 use Rattle.mari_market.specs.Relaxation.{IsWithinBounds, IsRelaxedWelfare}
@@ -63,3 +64,14 @@ pub record SomeWithin (m : Market) (word : List Bool) : Type 0 where
 abbrev pub IsEmptyWhereNone : Market → List Bool → Finding → Type 0
 IsEmptyWhereNone m word (Empty cut) = NoneWithin (bounds_of_word m word) m
 IsEmptyWhereNone m word (RelaxedFinding r) = SomeWithin m word
+
+-- a relaxed optimum of the word; where a gate is undecided and it is admissible, the finding has an activation
+pub record IsOptimumOf (m : Market) (word : List Bool) (r : Relaxed) (a : Activation) : Type 0 where
+  pub within : IsWithinBounds (bounds_of_word m word) m a
+  pub relaxed : IsRelaxedWelfare m word (welfare_of m a)
+  pub best : length word < length m.gates → IsAdmissible m a → is_some r.best ≡ true
+
+-- what is left to start with: the relaxed optimum, or what there was where nothing lies within the word's bounds
+abbrev pub IsLeft : Market → List Bool → Finding → (old new : Option Activation) → Type 0
+IsLeft m word (Empty cut) old new = new ≡ old
+IsLeft m word (RelaxedFinding r) old new = IsSomeAnd new (IsOptimumOf m word r)

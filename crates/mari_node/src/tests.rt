@@ -1,8 +1,8 @@
 //! Findings at the nodes of small markets of one zone and one gate, with values computed by hand.
 
-use crate::examine;
+use crate::{examine, examine_from};
 use mari_gates::prefix_feasible;
-use mari_market::{CutSide, Finding, GateInfo, Market, Order, Prefix, Side};
+use mari_market::{Activation, CutSide, Finding, GateInfo, Market, Order, Prefix, Side};
 use mari_units::{Cents, Items};
 use std::alloc::Global;
 use std::test::Fail;
@@ -130,5 +130,52 @@ fn admissible_optimum_is_told_before_its_gate_is_decided(rt: HostRuntime) -> Res
     let best = Some((499_915_000, Some(499_915_000), false));
     let closed = Some((399_916_000, Some(399_916_000), false));
     assert_eq!(rt; three_nodes(rt.alloc(), &orders)?, [best, closed, best]);
+    Ok(())
+}
+
+/// What is found at the prefix of so many gates that has this word of bits, from a start that runs these quantities, and what
+/// the quantities of the start are then.
+fn found_from(
+    alloc: Global,
+    orders: &[Order],
+    length: u32,
+    bits: u64,
+    mw: &[u32],
+) -> Result<(Told, Vec<u32>), Fail> {
+    let market = market(alloc, orders)?;
+    let prefix = Prefix {
+        length,
+        bits: [bits, 0, 0, 0, 0, 0, 0, 0],
+    };
+    if !(market.valid() && prefix_feasible(&market, &prefix)) {
+        return Err("the market is valid, and the prefix is feasible in it".into());
+    }
+    let mut start = Some(Activation {
+        mw: Items::of(mw.to_vec(alloc)?),
+        flow: Items::of(Vec::new(alloc)),
+    });
+    let finding = examine_from(alloc, &market, &prefix, &mut start)?;
+    match start {
+        Some(left) => Ok((told(&finding), left.mw.into_vec())),
+        None => Err("a start is left".into()),
+    }
+}
+
+#[test]
+fn every_start_leads_to_the_same_optimum(rt: HostRuntime) -> Result<(), Fail> {
+    let orders = [indivisible(3000, 40), bid(5000, 100), demand(30)];
+    let closed = Some((299_847_000, Some(299_847_000), false));
+    let starts: [&[u32]; 4] = [&[], &[0, 30, 30], &[99_999, 99_999, 0, 7], &[40, 0, 30]];
+    for start in starts {
+        let (root, left) = found_from(rt.alloc(), &orders, 0, 0, start)?;
+        assert_eq!(rt; root, Some((299_907_000, None, false)));
+        assert_eq!(rt; left.as_slice(), [30, 0, 30].as_slice());
+        let (settled, left) = found_from(rt.alloc(), &orders, 1, 0, start)?;
+        assert_eq!(rt; settled, closed);
+        assert_eq!(rt; left.as_slice(), [0, 30, 30].as_slice());
+        let (cut, left) = found_from(rt.alloc(), &orders, 1, 1, start)?;
+        assert_eq!(rt; cut, None);
+        assert_eq!(rt; left.as_slice(), start);
+    }
     Ok(())
 }

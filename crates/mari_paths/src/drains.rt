@@ -119,8 +119,18 @@ fn push_along(
     ensures rises { sum_along worth network.now.slots.now amounts.old <ℤ sum_along worth network.now.slots.now amounts.new }
 {
     improve(network, amounts, flows, chain);
-    refresh(network, amounts, margins, network.slots[chain.sink].zone as usize);
-    refresh(network, amounts, margins, network.slots[chain.source].zone as usize);
+    refresh(
+        network,
+        amounts,
+        margins,
+        network.slots[chain.sink].zone as usize,
+    );
+    refresh(
+        network,
+        amounts,
+        margins,
+        network.slots[chain.source].zone as usize,
+    );
 }
 
 /// Improves along a chain, and then along others of the same hops to sinks of the same price, while there are any.

@@ -20,7 +20,7 @@ ghost use Rattle.mari_paths.specs.Orders.{capped_cents, is_inside, slots_of, Are
 ghost use Rattle.mari_paths.specs.declared.slots.Slot.{Slot};
 ghost use Rattle.mari_paths.specs.Solving.{NoneWithin, OfCut, IsAnswer, IsNetworkOf, AreSlotsOf};
 
-use crate::finish::{cap_all, cut_zones, first_short, quantities, stated, welfare};
+use crate::finish::{cap_all, cut_zones, first_short, quantities, stated_welfare};
 use crate::margins::margins_of;
 use crate::network::{Network, meeting_borders, slots_by_zone};
 use crate::run::run;
@@ -94,7 +94,7 @@ fn solved_from(
 {
     let orders = market.orders.as_slice();
     let mw = quantities(alloc, orders, amounts)?;
-    let welfare = stated(welfare(orders, &mw));
+    let welfare = stated_welfare(orders, &mw);
     let flow = Vec::from_slice(alloc, flows)?;
     let cents = cap_all(alloc, prices)?;
     Ok(Solved {

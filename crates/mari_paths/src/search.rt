@@ -261,7 +261,15 @@ pub fn find_chain(
     let zones = network.meeting.len();
     let mut marked = vec![in alloc; false; zones]?;
     let mut prices = vec![in alloc; 0i64; zones]?;
-    match chain_by_levels(alloc, network, amounts, flows, margins, &mut marked, &mut prices)? {
+    match chain_by_levels(
+        alloc,
+        network,
+        amounts,
+        flows,
+        margins,
+        &mut marked,
+        &mut prices,
+    )? {
         Some(chain) => Ok(Found::Improving(chain)),
         None => Ok(Found::Tight(prices)),
     }

@@ -80,11 +80,7 @@ fn slot_from(order: &Order, least: u32, greatest: u32) -> Slot
 }
 
 /// The slots of orders within the bounds of a prefix, with room for one more for each zone.
-pub fn order_slots(
-    alloc: Global,
-    market: &Market,
-    prefix: &Prefix,
-) -> Result<Vec<Slot>, AllocError>
+pub fn order_slots(alloc: Global, market: &Market, prefix: &Prefix) -> Result<Vec<Slot>, AllocError>
     requires market { IsValid market.now }
     requires prefix { IsFeasiblePrefix market.now prefix.now }
     ensures { IfOk result (λ v. v.items ≡ slots_of (bounds_at market.now prefix.now) market.now.orders) }

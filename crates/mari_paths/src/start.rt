@@ -62,7 +62,8 @@ fn amounts_near(
 fn flow_near(border: &Border, flow: i64) -> i64
     ensures { IsWithinLimits border.now result }
 {
-    flow.max(-i64::from(border.back)).min(i64::from(border.limit))
+    flow.max(-i64::from(border.back))
+        .min(i64::from(border.limit))
 }
 
 /// The flows of borders, as near to these as their limits let them be.

@@ -7,8 +7,6 @@
 
 mod name;
 mod pool;
-#[cfg(test)]
-mod tests;
 mod ticket;
 
 pub use name::SearchName;

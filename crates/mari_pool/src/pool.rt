@@ -94,7 +94,10 @@ impl<'m, N: SearchName> Pool<'m, N> {
         })
     }
 
-    /// A worker takes the first node that waits.
+    /// A worker takes the waiting node of the least number.
+    ///
+    /// Else the answer says why there is none: a node could not branch within the budget, or all that is left is taken, or
+    /// nothing is left.
     pub fn take(&mut self, worker: u32) -> Took<N>
         requires { worker ≤ N.workers }
         ensures { Takes worker self.old self.new result }
@@ -138,6 +141,8 @@ impl<'m, N: SearchName> Pool<'m, N> {
     }
 
     /// Settles a ticket's node with what was found there, at what the worker's seat saw. The pool's seat first meets that one.
+    ///
+    /// The certificate is moved out of the finding into the tree. A stale ticket changes nothing.
     pub fn settle(
         &mut self,
         incumbent: &Incumbent,
@@ -173,6 +178,7 @@ impl<'m, N: SearchName> Pool<'m, N> {
             JournalEntry::Take { .. } | JournalEntry::GiveBack { .. } => unreachable!(),
         }
     }
+
     /// Gives a ticket's node back. False where the ticket is stale or its worker number gave a ticket back before.
     pub fn give_back(&mut self, ticket: Ticket<N>) -> bool
         ensures given { IsTakenAt self.old ticket.node ticket.turn ticket.worker (word_of ticket.prefix) → slice_get self.old.returned ticket.worker ≡ Some false → (result ≡ true) × (self.new ≡ giving_back self.old ticket.worker ticket.node) }

@@ -7,3 +7,4 @@ pub mod Agree
 pub mod EndLaws
 pub mod Numbers
 pub mod AreaLaws
+pub mod IntervalLaws

@@ -12,8 +12,9 @@ use Rattle.mari_market.specs.declared.activation.Activation.{Activation}
 use Rattle.mari_market.specs.Activation.{is_open}
 use Rattle.mari_market.specs.Bounds.{IsWithin, own_bounds, span_of, gated_span}
 use Rattle.mari_market.specs.Bounds.GateState.{Open, Closed}
-use Rattle.mari_market.specs.Consistent.{Standing, standing_of, SetsLower, SetsUpper, SetsLowerAt, SetsUpperAt, IsLowerBound, IsUpperBound, LeadsBy, Leads}
-use Rattle.mari_market.specs.Consistent.Standing.{InOpen, InClosed}
+use Rattle.mari_market.specs.declared.price_rules.Standing.{Standing}
+use Rattle.mari_market.specs.Consistent.{standing_of, SetsLower, SetsUpper, SetsLowerAt, SetsUpperAt, IsLowerBound, IsUpperBound, LeadsBy, Leads}
+use Rattle.mari_market.specs.declared.price_rules.Standing.TheVariants.{InOpen, InClosed}
 use Rattle.mari_market.specs.Market.{IsValid, IsValidOrder}
 use Rattle.mari_market.specs.Optimal.{IsFeasible}
 use Rattle.mari_market.specs.Price.{IsPrice}

@@ -1,7 +1,8 @@
 -- How bounds of prices, and areas, spread along borders.
-use Rattle.std.specs.Prelude.{◌≡◌, ◌⊎◌, ℕ, ℤ, pos, neg_ℤ, ◌<ℤ◌, List}
+use Rattle.std.specs.Prelude.{◌≡◌, ◌⊎◌, ℕ, ℤ, List}
 use Rattle.mari_market.specs.declared.market.Border.{Border}
 use Rattle.mari_market.specs.Area.{IsUncongested}
+use Rattle.mari_market.specs.Consistent.{HasRoomOn, HasRoomBack}
 use Rattle.mari_market.specs.Sums.{AnyZip}
 use Rattle.mari_prices.specs.declared.along.Along.{Along}
 use Rattle.mari_prices.specs.declared.along.Along.TheVariants.{Rising, Falling, Joined}
@@ -9,14 +10,14 @@ use Rattle.mari_prices.specs.declared.along.Along.TheVariants.{Rising, Falling, 
 -- whether the border leads from its first zone to its second: lower bounds go where prices are at least as high, upper
 -- bounds where they are at least as low, and areas over uncongested borders
 abbrev pub LeadsOn : Along → Border → ℤ → Type 0
-LeadsOn Rising b f = neg_ℤ (pos b.back) <ℤ f
-LeadsOn Falling b f = f <ℤ pos b.limit
+LeadsOn Rising b f = HasRoomBack b f
+LeadsOn Falling b f = HasRoomOn b f
 LeadsOn Joined b f = IsUncongested b f
 
 -- whether it leads from its second zone to its first
 abbrev pub LeadsBack : Along → Border → ℤ → Type 0
-LeadsBack Rising b f = f <ℤ pos b.limit
-LeadsBack Falling b f = neg_ℤ (pos b.back) <ℤ f
+LeadsBack Rising b f = HasRoomOn b f
+LeadsBack Falling b f = HasRoomBack b f
 LeadsBack Joined b f = IsUncongested b f
 
 -- the border leads from zone y to zone z

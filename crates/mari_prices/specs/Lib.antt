@@ -4,3 +4,4 @@ pub mod Tightest
 pub mod Ends
 pub mod Answers
 pub mod Firsts
+pub mod Published

@@ -1,5 +1,6 @@
 -- Values that spread from zone to zone: each zone gets the greatest value of the zones that lead to it.
 use Rattle.std.specs.Prelude.{◌≡◌, ◌⊎◌, ◌+◌, ℕ, ◌<◌, ◌≤◌, ℤ, pos, ◌≤ℤ◌, List, [], ◌∷◌, Option, Some, None, length, slice_index_or}
+use Rattle.mari_units.specs.declared.limits.TheConstants.{MOST_ZONES}
 use Rattle.mari_market.specs.declared.market.Border.{Border}
 use Rattle.mari_prices.specs.declared.along.Along.{Along}
 use Rattle.mari_prices.specs.declared.spread.Settled.{Settled}
@@ -109,7 +110,7 @@ NoneOver along xs b f = (y z : ℕ) → LeadsOver along y z b f → IsNotPassed 
 
 -- chains are no longer than a market has zones
 abbrev pub AreShort : List (Option Settled) → Type 0
-AreShort xs = (z : ℕ) (s : Settled) → entry_at xs z ≡ Some s → s.depth ≤ 64
+AreShort xs = (z : ℕ) (s : Settled) → entry_at xs z ≡ Some s → s.depth ≤ MOST_ZONES
 
 -- the free zone of the greatest value among the first ones
 pub record IsGreatestBefore (n : ℕ) (own : ℕ → ℤ) (xs : List (Option Settled)) (z : ℕ) : Type 0 where

@@ -2,7 +2,8 @@
 use Rattle.std.specs.Prelude.{◌≡◌, ◌⊎◌, ℕ, nat_lt, ℤ, neg_ℤ, ◌≤ℤ◌, List, Option}
 use Rattle.mari_market.specs.declared.market.Side.{Side}
 use Rattle.mari_market.specs.declared.market.Order.{Order}
-use Rattle.mari_market.specs.Consistent.{Standing, standing_of, SetsLower, SetsUpper}
+use Rattle.mari_market.specs.declared.price_rules.Standing.{Standing}
+use Rattle.mari_market.specs.Consistent.{standing_of, SetsLower, SetsUpper}
 use Rattle.mari_market.specs.Price.{cap}
 use Rattle.mari_market.specs.Sums.{AnyZip}
 use Rattle.mari_prices.specs.declared.bounds.End.{End}

@@ -1,6 +1,6 @@
 //! The ways in which bounds of prices, and areas, spread along borders.
 
-ghost use Rattle.std.specs.Prelude.{IsTrue, ◌↔◌, pos, neg_ℤ, ◌<ℤ◌};
+ghost use Rattle.std.specs.Prelude.{IsTrue, ◌↔◌};
 ghost use Rattle.mari_market.specs.Area.{IsUncongested};
 ghost use Rattle.mari_prices.specs.Along.{LeadsBack, LeadsOn};
 
@@ -15,22 +15,10 @@ pub(crate) enum Along {
     Joined,
 }
 
-fn could_carry_more(border: &Border, flow: i64) -> bool
-    ensures { IsTrue result ↔ (flow <ℤ pos border.now.limit) }
-{
-    flow < i64::from(border.limit)
-}
-
-fn could_carry_less(border: &Border, flow: i64) -> bool
-    ensures { IsTrue result ↔ (neg_ℤ (pos border.now.back) <ℤ flow) }
-{
-    flow > -i64::from(border.back)
-}
-
 fn is_uncongested(border: &Border, flow: i64) -> bool
     ensures { IsTrue result ↔ IsUncongested border.now flow }
 {
-    could_carry_less(border, flow) && could_carry_more(border, flow)
+    border.has_room_back(flow) && border.has_room_on(flow)
 }
 
 impl Along {
@@ -39,8 +27,8 @@ impl Along {
         ensures { IsTrue result ↔ LeadsOn self border.now flow }
     {
         match self {
-            Along::Rising => could_carry_less(border, flow),
-            Along::Falling => could_carry_more(border, flow),
+            Along::Rising => border.has_room_back(flow),
+            Along::Falling => border.has_room_on(flow),
             Along::Joined => is_uncongested(border, flow),
         }
     }
@@ -50,8 +38,8 @@ impl Along {
         ensures { IsTrue result ↔ LeadsBack self border.now flow }
     {
         match self {
-            Along::Rising => could_carry_more(border, flow),
-            Along::Falling => could_carry_less(border, flow),
+            Along::Rising => border.has_room_on(flow),
+            Along::Falling => border.has_room_back(flow),
             Along::Joined => is_uncongested(border, flow),
         }
     }

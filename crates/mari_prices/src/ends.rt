@@ -14,7 +14,7 @@ use crate::along::Along;
 use crate::bounds::{End, tightest};
 use crate::spread::{Settled, spread};
 use mari_market::{Activation, Market, Prices};
-use mari_units::{Cents, Items};
+use mari_units::{Cents, Items, MOST_ZONES};
 use std::alloc::{AllocError, Global};
 
 /// The tightest bounds of all zones' prices at one end, and what they become as they spread along borders.
@@ -99,7 +99,7 @@ fn is_above(entry: &Option<Settled>, upper: i64) -> bool
 /// A zone whose least price is above its upper bound.
 pub(crate) fn contradicted(settled: &[Option<Settled>], uppers: &[i64]) -> Option<u32>
     requires lengths { length uppers.now ≡ length settled.now }
-    requires few { length settled.now ≤ 64 }
+    requires few { length settled.now ≤ MOST_ZONES }
     requires priced { ArePriced settled.now }
     requires uppers { All IsPrice uppers.now }
     ensures { MatchOption result (AreUncontradicted (length settled.now) settled.now uppers.now) (IsContradicted settled.now uppers.now) }

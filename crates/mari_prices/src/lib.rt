@@ -12,7 +12,7 @@ mod spread;
 
 pub use intervals::{Intervals, PriceFault, price_test};
 pub use numbering::areas;
-pub use published::{nearest, published_prices, same_gates_same_prices};
+pub use published::{Pricing, nearest, published_prices};
 
 #[cfg(test)]
 mod tests;

@@ -9,7 +9,7 @@ ghost use Rattle.mari_prices.specs.Firsts.{AreFirsts, AreNumbered, ArePlaces, fi
 use crate::along::Along;
 use crate::spread::{Settled, spread};
 use mari_market::{Activation, Market};
-use mari_units::Memory;
+use mari_units::{MOST_ZONES, Memory};
 use std::alloc::{AllocError, Global};
 
 // Each zone's number, with the sign turned.
@@ -36,7 +36,7 @@ fn first_of(entry: &Option<Settled>) -> usize
 
 // Numbers areas from 1 by their first zones.
 fn number(alloc: Global, settled: &[Option<Settled>]) -> Result<Vec<u32>, AllocError>
-    requires few { length settled.now ≤ 64 }
+    requires few { length settled.now ≤ MOST_ZONES }
     requires firsts { AreFirsts (length settled.now) (first_at settled.now) }
     ensures { IfOk result (λ v. AreNumbered settled.now v.items) }
 {

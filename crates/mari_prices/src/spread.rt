@@ -8,6 +8,7 @@ ghost use Rattle.mari_prices.specs.Spread.{AreShort, IsGreatestBefore, IsLed, Is
 
 use crate::along::Along;
 use mari_market::Border;
+use mari_units::MOST_ZONES;
 use std::alloc::{AllocError, Global};
 
 /// What a zone gets: a value, from the zone before it, if another zone led to it, along a chain of so many zones.
@@ -123,7 +124,7 @@ fn greater(values: &[i64], best: Option<u32>, zone: u32) -> u32
 // The free zone of the greatest value.
 fn greatest_free(settled: &[Option<Settled>], values: &[i64]) -> Option<u32>
     requires lengths { length values.now ≡ length settled.now }
-    requires few { length settled.now ≤ 64 }
+    requires few { length settled.now ≤ MOST_ZONES }
     ensures { MatchOption result (NoneFreeBefore (length settled.now) settled.now) (IsGreatestBefore (length settled.now) (value_in values.now) settled.now) }
 {
     let mut best = None;
@@ -146,7 +147,7 @@ fn next(
     requires values { length values.now ≡ length settled.now }
     requires lengths { length flow.now ≡ length borders.now }
     requires ends { All (λ b. (b.from < length settled.now) × (b.to < length settled.now)) borders.now }
-    requires few { length settled.now ≤ 64 }
+    requires few { length settled.now ≤ MOST_ZONES }
     requires short { AreShort settled.now }
     ensures none { IfNone result (NoneFreeBefore (length settled.now) settled.now) }
     ensures some { IfSome result (λ p. IsNext (LeadsTo along borders.now flow.now) (value_in values.now) settled.now p.0 p.1) }
@@ -177,7 +178,7 @@ pub(crate) fn spread(
     flow: &[i64],
     along: Along,
 ) -> Result<Vec<Option<Settled>>, AllocError>
-    requires few { length values.now ≤ 64 }
+    requires few { length values.now ≤ MOST_ZONES }
     requires lengths { length flow.now ≡ length borders.now }
     requires ends { All (λ b. (b.from < length values.now) × (b.to < length values.now)) borders.now }
     ensures one_each { IfOk result (λ v. length v.items ≡ length values.now) }

@@ -1,11 +1,11 @@
 -- An activation of a prefix's gate word, order by order.
-use Rattle.std.proofs.Common.{◌≡◌, ◌&&◌, ◌||◌, if◌then◌else◌, Bool, true, false, ℕ, ◌+◌, ◌<◌, ◌≤◌, List, [], ◌∷◌, ◌++◌, length, map, get_or, Option, Some, None, arith, subst, refl, sym, ap, ◌∙◌, zero, suc, inl, inr}
+use Rattle.std.proofs.Common.{◌≡◌, ◌&&◌, ◌||◌, if◌then◌else◌, Bool, true, false, ℕ, ◌<◌, ◌≤◌, List, [], ◌∷◌, length, map, get_or, Option, Some, None, arith, subst, refl, sym, ap, ◌∙◌, suc, inl, inr}
 use Rattle.std.specs.Prelude.{nat_lt, MatchOption, Any, IfSome, IsTrue, ◌↔◌}
 use Rattle.std.specs.List.{All, AllZip, range_with_len}
 use Rattle.std.proofs.lemmas.Bool.{cases_lt}
 use Rattle.std.proofs.lemmas.Bool.Decides.{nat_tests}
 use Rattle.std.proofs.lemmas.List.{get_or_past}
-use Rattle.std.proofs.lemmas.List.FromFn.{get_or-map-range_with_len, length-map-range_with_len, map-range_with_len_more}
+use Rattle.std.proofs.lemmas.List.FromFn.{get_or-map-range_with_len, length-map-range_with_len}
 use mathlib.Core.Path.{fun_ext}
 use Rattle.mari_market.specs.declared.market.Order.{Order}
 use Rattle.mari_market.specs.declared.market.Market.{Market}
@@ -19,22 +19,12 @@ use Rattle.mari_market.specs.Optimal.{IsFeasible}
 use Rattle.mari_market.specs.Prefix.{word_of, bit_of, opens_in}
 use Rattle.mari_market.proofs.Sums.{AllZip-both, AllZip-with, AllZip-at}
 use Rattle.mari_gates.proofs.Decisions.{opens-decisions}
+use Rattle.mari_gates.proofs.GateWords.{same_map}
 use Rattle.mari_welfare.proofs.Open.{runs_here}
 use Rattle.mari_proofs.specs.Conflicts.{decides, RunsAsDecided, HasDecidedGate}
 use Rattle.mari_market.proofs.Conflicts.{none_past}
 use Rattle.mari_market.proofs.Words.{and_both}
 use Rattle.std.specs.Cmp.Derive.{both_true}
-
-same_map : (f g : ℕ → Bool) (n : ℕ) → ((k : ℕ) → k < n → f k ≡ g k) → map f (range_with_len 0 n) ≡ map g (range_with_len 0 n)
-same_map f g zero e = refl
-same_map f g (suc n) e =
-    let one : suc n ≡ n + 1 = omega arith in
-    ap (λ k. map f (range_with_len 0 k)) one
-    ∙ map-range_with_len_more f 0 n n (omega arith)
-    ∙ ap (λ w. w ++ f n ∷ []) (same_map f g n (λ k h. e k (omega arith)))
-    ∙ ap (λ b. map g (range_with_len 0 n) ++ b ∷ []) (e n (omega arith))
-    ∙ sym (map-range_with_len_more g 0 n n (omega arith))
-    ∙ ap (λ k. map g (range_with_len 0 k)) (sym one)
 
 of_gate : (g : ℕ) (gate : Option ℕ) → is_gate g gate ≡ true → gate ≡ Some g
 of_gate g None e = absurd (cc)

@@ -1,4 +1,3 @@
-pub mod Potentials
 pub mod NetInjections
 pub mod Conflicts
 pub mod Leaves

@@ -1,27 +1,26 @@
 //! Conflicts: chains of zones whose prices contradict each other, for the best activation of a gate word.
 
-ghost use Rattle.std.specs.Prelude.{◌≡◌, ◌⊎◌, ◌↔◌, ℕ, ℤ, pos, ◌≤ℤ◌, ◌<ℤ◌, neg_ℤ, ◌≤◌, ◌<◌, length, IsTrue, IfSome};
+ghost use Rattle.std.specs.Prelude.{◌≡◌, ◌⊎◌, ◌↔◌, ℤ, ◌≤ℤ◌, ◌<ℤ◌, ◌≤◌, ◌<◌, length, IsTrue};
 ghost use Rattle.std.specs.List.{All, AllZip};
 ghost use Rattle.mari_market.specs.Activation.{gate_word_of};
 ghost use Rattle.mari_market.specs.Conflict.{IsConflict, IsContradiction, IsChain, Contradicts, last_of};
-ghost use Rattle.mari_market.specs.Consistent.{LeadsBy, SetsLower, SetsUpper, SetsLowerAt, SetsUpperAt, standing_of};
+ghost use Rattle.mari_market.specs.Consistent.{LeadsBy, SetsLowerAt, SetsUpperAt, standing_of};
 ghost use Rattle.mari_market.specs.Market.{IsValid, IsValidOrder};
 ghost use Rattle.mari_market.specs.Optimal.{IsFeasible};
 ghost use Rattle.mari_market.specs.Prefix.{word_of, IsFeasiblePrefix};
 ghost use Rattle.mari_market.specs.Sums.{AnyZip};
 ghost use Rattle.mari_proofs.specs.Conflicts.{decides, HasDecidedGate, RunsAsDecided, IsOfWord, AreTightPotentials, IsRefutation, IsGreatestLower, IsLeastUpper, LeadsOn};
 
-use crate::dual::are_potentials;
 use crate::tightness::is_tight;
 use mari_gates::{opens, states_at};
-use mari_market::{Activation, Border, Conflict, Market, Order, Prefix, Side};
-use mari_units::{CAP, Cents};
+use mari_market::{Activation, Border, Conflict, Market, Order, Prefix, Standing};
+use mari_units::{CAP, Cents, MOST_GATES};
 use mari_welfare::is_feasible;
 
 /// Whether the prefix decides the gate as open.
 fn is_open(prefix: &Prefix, gate: u32) -> bool
     requires gate { gate < prefix.now.length }
-    requires few { prefix.now.length ≤ 512 }
+    requires few { prefix.now.length ≤ MOST_GATES }
     ensures { result ≡ decides prefix.now gate }
 {
     opens(prefix, gate)
@@ -30,7 +29,7 @@ fn is_open(prefix: &Prefix, gate: u32) -> bool
 /// Whether an order runs exactly where its gate is decided as open.
 fn runs_as_decided(prefix: &Prefix, order: &Order, mw: u32) -> bool
     requires gate { HasDecidedGate prefix.now.length order.now }
-    requires few { prefix.now.length ≤ 512 }
+    requires few { prefix.now.length ≤ MOST_GATES }
     ensures { IsTrue result ↔ RunsAsDecided (decides prefix.now) order.now.gate mw }
 {
     match order.gate {
@@ -43,7 +42,7 @@ fn runs_as_decided(prefix: &Prefix, order: &Order, mw: u32) -> bool
 fn run_as_decided(prefix: &Prefix, orders: &[Order], mw: &[u32]) -> bool
     requires lengths { length mw.now ≡ length orders.now }
     requires orders { All (HasDecidedGate prefix.now.length) orders.now }
-    requires few { prefix.now.length ≤ 512 }
+    requires few { prefix.now.length ≤ MOST_GATES }
     ensures { IsTrue result ↔ AllZip (λ o q. RunsAsDecided (decides prefix.now) o.gate q) orders.now mw.now }
 {
     for (i, order) in orders.iter().enumerate() {
@@ -54,53 +53,17 @@ fn run_as_decided(prefix: &Prefix, orders: &[Order], mw: &[u32]) -> bool
     true
 }
 
-/// Whether what an order runs makes its price a lower bound of its zone's price.
-fn sets_lower(prefix: &Prefix, order: &Order, mw: u32) -> bool
+/// The standing of an order where the gates are as the prefix decides.
+fn standing_at(prefix: &Prefix, order: &Order) -> Standing
     requires gate { HasDecidedGate prefix.now.length order.now }
-    requires few { prefix.now.length ≤ 512 }
-    ensures { IsTrue result ↔ SetsLower (standing_of (decides prefix.now) order.now.gate) order.now.side order.now.greatest mw }
+    requires few { prefix.now.length ≤ MOST_GATES }
+    ensures { result ≡ standing_of (decides prefix.now) order.now.gate }
 {
-    match (order.gate, order.side) {
-        (None, Side::Inject) => mw > 0,
-        (None, Side::Withdraw) => mw < order.greatest,
-        (Some(gate), Side::Inject) => is_open(prefix, gate),
-        (Some(gate), Side::Withdraw) => is_open(prefix, gate) && mw < order.greatest,
+    match order.gate {
+        None => Standing::Plain,
+        Some(gate) if is_open(prefix, gate) => Standing::InOpen,
+        Some(_) => Standing::InClosed,
     }
-}
-
-/// Whether what an order runs makes its price an upper bound of its zone's price.
-fn sets_upper(prefix: &Prefix, order: &Order, mw: u32) -> bool
-    requires gate { HasDecidedGate prefix.now.length order.now }
-    requires few { prefix.now.length ≤ 512 }
-    ensures { IsTrue result ↔ SetsUpper (standing_of (decides prefix.now) order.now.gate) order.now.side order.now.greatest mw }
-{
-    match (order.gate, order.side) {
-        (None, Side::Inject) => mw < order.greatest,
-        (None, Side::Withdraw) => mw > 0,
-        (Some(gate), Side::Inject) => is_open(prefix, gate) && mw < order.greatest,
-        (Some(gate), Side::Withdraw) => is_open(prefix, gate),
-    }
-}
-
-/// Whether a border from the second zone to the first has room left.
-fn has_room_onward(border: &Border, flow: i64, first: u32, second: u32) -> bool
-    ensures { IsTrue result ↔ ((border.now.to ≡ first) × (border.now.from ≡ second) × (flow <ℤ pos border.now.limit)) }
-{
-    border.to == first && border.from == second && flow < i64::from(border.limit)
-}
-
-/// Whether a border from the first zone to the second has room left the other way.
-fn has_room_back(border: &Border, flow: i64, first: u32, second: u32) -> bool
-    ensures { IsTrue result ↔ ((border.now.from ≡ first) × (border.now.to ≡ second) × (neg_ℤ (pos border.now.back) <ℤ flow)) }
-{
-    border.from == first && border.to == second && -i64::from(border.back) < flow
-}
-
-/// Whether a border makes the price of the second zone at least that of the first.
-fn leads_by(border: &Border, flow: i64, first: u32, second: u32) -> bool
-    ensures { IsTrue result ↔ LeadsBy first second border.now flow }
-{
-    has_room_onward(border, flow, first, second) || has_room_back(border, flow, first, second)
 }
 
 /// Whether some border makes the price of the second zone at least that of the first.
@@ -109,7 +72,7 @@ fn leads(borders: &[Border], flow: &[i64], first: u32, second: u32) -> bool
     ensures { IsTrue result ↔ AnyZip (LeadsBy first second) borders.now flow.now }
 {
     for (i, border) in borders.iter().enumerate() {
-        if leads_by(border, flow[i], first, second) {
+        if border.leads(flow[i], first, second) {
             return true;
         }
     }
@@ -145,12 +108,13 @@ fn last_of(first: u32, rest: &[u32]) -> u32
 /// The greater of a bound and the lower bound that an order sets, if it sets one.
 fn raised(prefix: &Prefix, order: &Order, mw: u32, zone: u32, bound: i64) -> i64
     requires gate { HasDecidedGate prefix.now.length order.now }
-    requires few { prefix.now.length ≤ 512 }
+    requires few { prefix.now.length ≤ MOST_GATES }
     ensures least { bound ≤ℤ result }
     ensures above { (c : ℤ) → SetsLowerAt (decides prefix.now) zone c order.now mw → c ≤ℤ result }
     ensures reached { (result ≡ bound) ⊎ SetsLowerAt (decides prefix.now) zone result order.now mw }
 {
-    if order.zone == zone && bound < order.price.0 && sets_lower(prefix, order, mw) {
+    let standing = standing_at(prefix, order);
+    if order.zone == zone && bound < order.price.0 && order.sets_lower(standing, mw) {
         order.price.0
     } else {
         bound
@@ -160,12 +124,13 @@ fn raised(prefix: &Prefix, order: &Order, mw: u32, zone: u32, bound: i64) -> i64
 /// The lesser of a bound and the upper bound that an order sets, if it sets one.
 fn lowered(prefix: &Prefix, order: &Order, mw: u32, zone: u32, bound: i64) -> i64
     requires gate { HasDecidedGate prefix.now.length order.now }
-    requires few { prefix.now.length ≤ 512 }
+    requires few { prefix.now.length ≤ MOST_GATES }
     ensures greatest { result ≤ℤ bound }
     ensures below { (c : ℤ) → SetsUpperAt (decides prefix.now) zone c order.now mw → result ≤ℤ c }
     ensures reached { (result ≡ bound) ⊎ SetsUpperAt (decides prefix.now) zone result order.now mw }
 {
-    if order.zone == zone && order.price.0 < bound && sets_upper(prefix, order, mw) {
+    let standing = standing_at(prefix, order);
+    if order.zone == zone && order.price.0 < bound && order.sets_upper(standing, mw) {
         order.price.0
     } else {
         bound
@@ -176,7 +141,7 @@ fn lowered(prefix: &Prefix, order: &Order, mw: u32, zone: u32, bound: i64) -> i6
 fn greatest_lower(prefix: &Prefix, orders: &[Order], mw: &[u32], zone: u32) -> i64
     requires lengths { length mw.now ≡ length orders.now }
     requires orders { All (HasDecidedGate prefix.now.length) orders.now }
-    requires few { prefix.now.length ≤ 512 }
+    requires few { prefix.now.length ≤ MOST_GATES }
     ensures { IsGreatestLower (decides prefix.now) zone orders.now mw.now result }
 {
     let mut bound = -CAP;
@@ -190,7 +155,7 @@ fn greatest_lower(prefix: &Prefix, orders: &[Order], mw: &[u32], zone: u32) -> i
 fn least_upper(prefix: &Prefix, orders: &[Order], mw: &[u32], zone: u32) -> i64
     requires lengths { length mw.now ≡ length orders.now }
     requires orders { All (HasDecidedGate prefix.now.length) orders.now }
-    requires few { prefix.now.length ≤ 512 }
+    requires few { prefix.now.length ≤ MOST_GATES }
     ensures { IsLeastUpper (decides prefix.now) zone orders.now mw.now result }
 {
     let mut bound = CAP;
@@ -290,7 +255,7 @@ fn has_tight_potentials(
     requires activation { IsOfWord market.now prefix.now activation.now }
     ensures { IsTrue result ↔ AreTightPotentials market.now activation.now potentials.now }
 {
-    are_potentials(market, potentials)
+    market.are_prices(potentials)
         && is_tight(market, &states_at(market, prefix), activation, potentials)
 }
 

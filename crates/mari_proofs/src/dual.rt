@@ -1,6 +1,6 @@
 //! The dual value: what all orders gain and all borders earn at most, at one potential for each zone.
 
-ghost use Rattle.std.specs.Prelude.{◌≡◌, ◌↔◌, IsTrue, ℕ, ℤ, pos, ◌+ℤ◌, ◌-ℤ◌, ◌*ℤ◌, ◌≤ℤ◌, neg_ℤ, ◌≤◌, ◌<◌, length, IfSome};
+ghost use Rattle.std.specs.Prelude.{◌≡◌, ℕ, ℤ, pos, ◌+ℤ◌, ◌-ℤ◌, ◌*ℤ◌, ◌≤ℤ◌, neg_ℤ, ◌≤◌, ◌<◌, length, IfSome};
 ghost use Rattle.std.specs.Int.{int_max};
 ghost use Rattle.std.specs.List.{All};
 ghost use Rattle.mari_market.specs.declared.activation.Activation.{Activation};
@@ -9,38 +9,14 @@ ghost use Rattle.mari_market.specs.Bounds.{span_in};
 ghost use Rattle.mari_market.specs.Dual.{gap_of, dual_value_of, IsTight, best_trade, best_border, best_order};
 ghost use Rattle.mari_market.specs.Market.{IsValid, IsValidOrder, IsValidBorder};
 ghost use Rattle.mari_market.specs.Prefix.{bounds_at, IsFeasiblePrefix};
-ghost use Rattle.mari_market.specs.Price.{IsPrice, ArePrices, price_at};
+ghost use Rattle.mari_market.specs.Price.{IsCapped, IsPrice, ArePrices, price_at};
 ghost use Rattle.mari_market.specs.Relaxation.{IsWithinBounds};
 ghost use Rattle.mari_market.specs.Sums.{int_sum};
 ghost use Rattle.mari_gates.specs.GateTable.{state_in};
-ghost use Rattle.mari_proofs.specs.Potentials.{IsPotential};
 
 use mari_gates::{GateStates, states_at};
-use mari_market::{Border, Market, Order, Prefix, Prices, Side};
-use mari_units::{CAP, Cents, Quarters};
-
-/// Whether there is one potential for each zone, within the cap.
-pub(crate) fn are_potentials(market: &Market, potentials: &[Cents]) -> bool
-    ensures { IsTrue result ↔ ArePrices market.now potentials.now }
-{
-    potentials.len() == market.zones as usize && are_capped(potentials)
-}
-
-/// Whether each potential lies from the negative of the cap to the cap.
-fn are_capped(potentials: &[Cents]) -> bool
-    ensures { IsTrue result ↔ All (λ c. IsPrice c.0) potentials.now }
-{
-    potentials
-        .iter()
-        .all(|cents| -CAP <= cents.0 && cents.0 <= CAP)
-}
-
-/// The product of two numbers, which always fits.
-fn product(a: i64, b: i64) -> i128
-    ensures { result ≡ a *ℤ b }
-{
-    i128::from(a) * i128::from(b)
-}
+use mari_market::{Border, MOST_ORDERS, Market, Order, Prefix, Prices, Side, worth};
+use mari_units::{Cents, MOST_BORDERS, MOST_GATES, MOST_MW, Quarters};
 
 /// What so many MW gain, in quarter-cents, at a gain for each.
 fn amount(gap: i64, mw: u32) -> i128
@@ -51,7 +27,7 @@ fn amount(gap: i64, mw: u32) -> i128
     ensures low { neg_ℤ (pos 4000000000000) ≤ℤ result }
     ensures high { result ≤ℤ pos 4000000000000 }
 {
-    product(gap, i64::from(mw))
+    worth(Cents(gap), i64::from(mw))
 }
 
 /// How much an order gains for each MW at a potential.
@@ -72,8 +48,8 @@ fn gap(order: &Order, potential: Cents) -> i64
 fn best_trade(order: &Order, span: (u32, u32), potential: Cents) -> i128
     requires order { IsPrice order.now.price.0 }
     requires potential { IsPrice potential.0 }
-    requires least { span.0 ≤ 99999 }
-    requires greatest { span.1 ≤ 99999 }
+    requires least { span.0 ≤ MOST_MW }
+    requires greatest { span.1 ≤ MOST_MW }
     ensures value { result ≡ best_trade order.now.side order.now.price.0 potential.0 (record { lo = span.0; hi = span.1 }) }
     ensures low { neg_ℤ (pos 4000000000000) ≤ℤ result }
     ensures high { result ≤ℤ pos 4000000000000 }
@@ -85,8 +61,8 @@ fn best_trade(order: &Order, span: (u32, u32), potential: Cents) -> i128
 
 /// The most that an order gains at its zone's potential.
 fn best_order(order: &Order, states: &GateStates, potentials: &[Cents]) -> i128
-    requires order { IsValidOrder (length potentials.now) 512 order.now }
-    requires potentials { All IsPotential potentials.now }
+    requires order { IsValidOrder (length potentials.now) MOST_GATES order.now }
+    requires potentials { All IsCapped potentials.now }
     ensures value { result ≡ best_order (span_in (state_in states.now)) potentials.now order.now }
     ensures low { neg_ℤ (pos 4000000000000) ≤ℤ result }
     ensures high { result ≤ℤ pos 4000000000000 }
@@ -98,7 +74,7 @@ fn best_order(order: &Order, states: &GateStates, potentials: &[Cents]) -> i128
 /// A zone's potential.
 pub(crate) fn potential_at(potentials: &[Cents], zone: u32) -> Cents
     requires zone { zone < length potentials.now }
-    requires potentials { All IsPotential potentials.now }
+    requires potentials { All IsCapped potentials.now }
     ensures value { result.0 ≡ price_at potentials.now zone }
     ensures price { IsPrice result.0 }
 {
@@ -119,7 +95,7 @@ fn excess(dear: Cents, cheap: Cents) -> i64
 /// The most that a border earns.
 fn best_border(border: &Border, potentials: &[Cents]) -> i128
     requires border { IsValidBorder (length potentials.now) border.now }
-    requires potentials { All IsPotential potentials.now }
+    requires potentials { All IsCapped potentials.now }
     ensures value { result ≡ best_border potentials.now border.now }
     ensures low { neg_ℤ (pos 4000000000000) ≤ℤ result }
     ensures high { result ≤ℤ pos 4000000000000 }
@@ -131,9 +107,9 @@ fn best_border(border: &Border, potentials: &[Cents]) -> i128
 
 /// The most that all orders gain.
 fn orders_value(orders: &[Order], states: &GateStates, potentials: &[Cents]) -> i128
-    requires few { length orders.now ≤ 4608 }
-    requires orders { All (IsValidOrder (length potentials.now) 512) orders.now }
-    requires potentials { All IsPotential potentials.now }
+    requires few { length orders.now ≤ MOST_ORDERS }
+    requires orders { All (IsValidOrder (length potentials.now) MOST_GATES) orders.now }
+    requires potentials { All IsCapped potentials.now }
     ensures value { result ≡ int_sum (best_order (span_in (state_in states.now)) potentials.now) orders.now }
     ensures low { neg_ℤ (pos 18432000000000000) ≤ℤ result }
     ensures high { result ≤ℤ pos 18432000000000000 }
@@ -147,9 +123,9 @@ fn orders_value(orders: &[Order], states: &GateStates, potentials: &[Cents]) -> 
 
 /// The most that all borders earn.
 fn borders_value(borders: &[Border], potentials: &[Cents]) -> i128
-    requires few { length borders.now ≤ 256 }
+    requires few { length borders.now ≤ MOST_BORDERS }
     requires borders { All (IsValidBorder (length potentials.now)) borders.now }
-    requires potentials { All IsPotential potentials.now }
+    requires potentials { All IsCapped potentials.now }
     ensures value { result ≡ int_sum (best_border potentials.now) borders.now }
     ensures low { neg_ℤ (pos 1024000000000000) ≤ℤ result }
     ensures high { result ≤ℤ pos 1024000000000000 }
@@ -165,7 +141,7 @@ fn borders_value(borders: &[Border], potentials: &[Cents]) -> i128
 fn total_value(market: &Market, states: &GateStates, potentials: &[Cents]) -> i128
     requires market { IsValid market.now }
     requires one_each { length potentials.now ≡ market.now.zones }
-    requires potentials { All IsPotential potentials.now }
+    requires potentials { All IsCapped potentials.now }
     ensures { result ≡ dual_value_of (span_in (state_in states.now)) market.now potentials.now }
 {
     orders_value(market.orders.as_slice(), states, potentials)

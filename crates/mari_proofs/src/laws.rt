@@ -8,7 +8,8 @@ ghost use Rattle.mari_market.specs.First.{IsFirst};
 ghost use Rattle.mari_market.specs.Interval.{ArePublishedPrices, IsGreatestPrice, IsLeastPrice};
 ghost use Rattle.mari_market.specs.Market.{IsValid};
 ghost use Rattle.mari_market.specs.Price.{price_at};
-ghost use Rattle.mari_market.specs.Optimal.{IsAdmissible, IsConsistent};
+ghost use Rattle.mari_market.specs.Optimal.{IsAdmissible, IsConsistent, IsOptimal};
+ghost use Rattle.mari_market.specs.Relaxation.{all_closed};
 
 use mari_market::Market;
 
@@ -32,4 +33,14 @@ pub fn one_first(market: &Market)
     ensures least { (a b : Activation) → IsFirst market.now a → IsFirst market.now b → (z : ℕ) (c : ℤ) → IsLeastPrice market.now a z c → IsLeastPrice market.now b z c }
     ensures greatest { (a b : Activation) → IsFirst market.now a → IsFirst market.now b → (z : ℕ) (c : ℤ) → IsGreatestPrice market.now a z c → IsGreatestPrice market.now b z c }
     ensures published { (a b : Activation) → IsFirst market.now a → IsFirst market.now b → (ps qs : List Cents) → ArePublishedPrices market.now a ps → ArePublishedPrices market.now b qs → (z : ℕ) → z < market.now.zones → price_at ps z ≡ price_at qs z }
+{}
+
+/// Where every gate closed has the optimal welfare, that gate word is the first: an optimal activation which opens no gate is
+/// a first one, and then no first activation opens a gate.
+///
+/// The call does nothing: its contract is the law.
+pub fn closed_first(market: &Market)
+    requires { IsValid market.now }
+    ensures first { (a : Activation) → IsOptimal market.now a → gate_word_of market.now a ≡ all_closed market.now → IsFirst market.now a }
+    ensures none_open { (a b : Activation) → IsFirst market.now a → IsAdmissible market.now b → gate_word_of market.now b ≡ all_closed market.now → welfare_of market.now b ≡ welfare_of market.now a → gate_word_of market.now a ≡ all_closed market.now }
 {}

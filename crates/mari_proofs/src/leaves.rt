@@ -11,7 +11,7 @@ ghost use Rattle.mari_proofs.specs.Leaves.{ExcludesWord};
 
 use crate::conflicts::is_conflict;
 use crate::cuts::is_cut;
-use crate::dual::{are_potentials, dual_value};
+use crate::dual::dual_value;
 use mari_gates::comes_before;
 use mari_market::{Leaf, Market, Prefix, Prices};
 use mari_units::Quarters;
@@ -22,7 +22,7 @@ fn is_bound(market: &Market, prefix: &Prefix, potentials: &Prices, cutoff: Quart
     requires prefix { IsFeasiblePrefix market.now prefix.now }
     ensures { IsTrue result ↔ IsBound market.now cutoff.0 (word_of prefix.now) potentials.now.cents }
 {
-    are_potentials(market, potentials.cents.as_slice())
+    market.are_prices(potentials.cents.as_slice())
         && dual_value(market, prefix, potentials).0 <= cutoff.0
 }
 
@@ -54,7 +54,7 @@ fn is_bound_below(market: &Market, prefix: &Prefix, potentials: &Prices, cutoff:
     requires prefix { IsFeasiblePrefix market.now prefix.now }
     ensures { IsTrue result ↔ IsBound market.now (cutoff.0 -ℤ pos 1) (word_of prefix.now) potentials.now.cents }
 {
-    are_potentials(market, potentials.cents.as_slice())
+    market.are_prices(potentials.cents.as_slice())
         && dual_value(market, prefix, potentials).0 < cutoff.0
 }
 

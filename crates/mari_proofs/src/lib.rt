@@ -16,6 +16,6 @@ mod tightness;
 mod trees;
 
 pub use dual::dual_value;
-pub use laws::{one_first, one_gate_word};
+pub use laws::{closed_first, one_first, one_gate_word};
 pub use leaves::check_leaf;
 pub use trees::{TreeVerdict, check_tree};

@@ -1,19 +1,18 @@
 //! Whether potentials are tight for an activation: complementary slackness, order by order and border by border.
 
-ghost use Rattle.std.specs.Prelude.{◌≡◌, ◌↔◌, ℕ, ℤ, pos, ◌≤ℤ◌, ◌<ℤ◌, neg_ℤ, ◌≤◌, ◌<◌, length, IsTrue};
+ghost use Rattle.std.specs.Prelude.{◌≡◌, ◌↔◌, ◌≤ℤ◌, ◌<◌, length, IsTrue};
 ghost use Rattle.std.specs.List.{All, AllZip};
 ghost use Rattle.mari_market.specs.Bounds.{span_in};
-ghost use Rattle.mari_market.specs.Consistent.{IsConsistentBorder};
 ghost use Rattle.mari_market.specs.Dual.{IsTight, IsTightOrder, IsTightTrade};
-ghost use Rattle.mari_market.specs.Market.{IsValid, IsValidOrder, IsValidBorder};
+ghost use Rattle.mari_market.specs.Market.{IsValid, IsValidOrder};
+ghost use Rattle.mari_market.specs.Price.{IsCapped};
 ghost use Rattle.mari_gates.specs.GateTable.{state_in};
-ghost use Rattle.mari_proofs.specs.Potentials.{IsPotential};
-ghost use Rattle.mari_market.specs.Price.{price_at};
 
 use crate::dual::potential_at;
 use mari_gates::GateStates;
-use mari_market::{Activation, Border, Market, Order, Side};
-use mari_units::Cents;
+use mari_market::{Activation, Market, Order, Side};
+use mari_units::{Cents, MOST_GATES};
+use mari_welfare::borders_agree;
 
 /// Whether a quantity above the least has the one price at most the other, and one below the greatest the reverse.
 fn is_tight_at(span: (u32, u32), mw: u32, low: i64, high: i64) -> bool
@@ -34,70 +33,23 @@ fn is_tight_trade(order: &Order, span: (u32, u32), mw: u32, potential: Cents) ->
 
 /// Whether what an order runs is tight at its zone's potential.
 fn is_tight_order(states: &GateStates, order: &Order, mw: u32, potentials: &[Cents]) -> bool
-    requires order { IsValidOrder (length potentials.now) 512 order.now }
-    requires potentials { All IsPotential potentials.now }
+    requires order { IsValidOrder (length potentials.now) MOST_GATES order.now }
+    requires potentials { All IsCapped potentials.now }
     ensures { IsTrue result ↔ IsTightOrder (span_in (state_in states.now)) potentials.now order.now mw }
 {
     let potential = potential_at(potentials, order.zone);
     is_tight_trade(order, states.span(order), mw, potential)
 }
 
-/// Whether a zone's potential is at most another's.
-fn is_no_dearer(potentials: &[Cents], zone: u32, than: u32) -> bool
-    requires zone { zone < length potentials.now }
-    requires than { than < length potentials.now }
-    ensures { IsTrue result ↔ (price_at potentials.now zone ≤ℤ price_at potentials.now than) }
-{
-    potentials[zone as usize].0 <= potentials[than as usize].0
-}
-
-/// Whether a border that could carry more leads to no dearer zone.
-fn keeps_more(border: &Border, flow: i64, potentials: &[Cents]) -> bool
-    requires { IsValidBorder (length potentials.now) border.now }
-    ensures { IsTrue result ↔ (flow <ℤ pos border.now.limit → price_at potentials.now border.now.to ≤ℤ price_at potentials.now border.now.from) }
-{
-    flow >= i64::from(border.limit) || is_no_dearer(potentials, border.to, border.from)
-}
-
-/// Whether a border that could carry less leads to no cheaper zone.
-fn keeps_less(border: &Border, flow: i64, potentials: &[Cents]) -> bool
-    requires { IsValidBorder (length potentials.now) border.now }
-    ensures { IsTrue result ↔ (neg_ℤ (pos border.now.back) <ℤ flow → price_at potentials.now border.now.from ≤ℤ price_at potentials.now border.now.to) }
-{
-    flow <= -i64::from(border.back) || is_no_dearer(potentials, border.from, border.to)
-}
-
-/// Whether what flows over a border is tight at the potentials of its ends.
-fn is_tight_border(border: &Border, flow: i64, potentials: &[Cents]) -> bool
-    requires { IsValidBorder (length potentials.now) border.now }
-    ensures { IsTrue result ↔ IsConsistentBorder potentials.now border.now flow }
-{
-    keeps_more(border, flow, potentials) && keeps_less(border, flow, potentials)
-}
-
 /// Whether what each order runs is tight.
 fn are_tight_orders(states: &GateStates, orders: &[Order], mw: &[u32], potentials: &[Cents]) -> bool
     requires lengths { length mw.now ≡ length orders.now }
-    requires orders { All (IsValidOrder (length potentials.now) 512) orders.now }
-    requires potentials { All IsPotential potentials.now }
+    requires orders { All (IsValidOrder (length potentials.now) MOST_GATES) orders.now }
+    requires potentials { All IsCapped potentials.now }
     ensures { IsTrue result ↔ AllZip (IsTightOrder (span_in (state_in states.now)) potentials.now) orders.now mw.now }
 {
     for (i, order) in orders.iter().enumerate() {
         if !is_tight_order(states, order, mw[i], potentials) {
-            return false;
-        }
-    }
-    true
-}
-
-/// Whether what flows over each border is tight.
-fn are_tight_borders(borders: &[Border], flow: &[i64], potentials: &[Cents]) -> bool
-    requires lengths { length flow.now ≡ length borders.now }
-    requires borders { All (IsValidBorder (length potentials.now)) borders.now }
-    ensures { IsTrue result ↔ AllZip (IsConsistentBorder potentials.now) borders.now flow.now }
-{
-    for (i, border) in borders.iter().enumerate() {
-        if !is_tight_border(border, flow[i], potentials) {
             return false;
         }
     }
@@ -115,10 +67,10 @@ pub(crate) fn is_tight(
     requires mw { length activation.now.mw ≡ length market.now.orders }
     requires flow { length activation.now.flow ≡ length market.now.borders }
     requires one_each { length potentials.now ≡ market.now.zones }
-    requires potentials { All IsPotential potentials.now }
+    requires potentials { All IsCapped potentials.now }
     ensures { IsTrue result ↔ IsTight (span_in (state_in states.now)) market.now activation.now potentials.now }
 {
     let (orders, mw) = (market.orders.as_slice(), activation.mw.as_slice());
     let (borders, flow) = (market.borders.as_slice(), activation.flow.as_slice());
-    are_tight_orders(states, orders, mw, potentials) && are_tight_borders(borders, flow, potentials)
+    are_tight_orders(states, orders, mw, potentials) && borders_agree(borders, flow, potentials)
 }

@@ -45,11 +45,11 @@ no_cut (c ∷ u) x a = no_cut u x (and_parts _ (list_all (λ b. not (eqb b 10)) 
 first_text : (l : Line) (ls : List Line) (y : List ℕ) → text_of_lines (l ∷ ls) ++ y ≡ spelling l ++ 10 ∷ (text_of_lines ls ++ y)
 first_text l ls y = append_assoc (line_text l) (text_of_lines ls) y ∙ append_assoc (spelling l) (10 ∷ []) (text_of_lines ls ++ y)
 
-abbrev Longer : List Line → List Line → List ℕ → List ℕ → Type 0
+abbrev pub Longer : List Line → List Line → List ℕ → List ℕ → Type 0
 Longer A B X Y = (C : List Line) × (B ≡ A ++ C) × (X ≡ text_of_lines C ++ Y)
 
 -- two ways to begin a text: one is longer
-compare : (A B : List Line) (X Y : List ℕ) → Fit A → Fit B → text_of_lines A ++ X ≡ text_of_lines B ++ Y → Longer A B X Y ⊎ Longer B A Y X
+pub compare : (A B : List Line) (X Y : List ℕ) → Fit A → Fit B → text_of_lines A ++ X ≡ text_of_lines B ++ Y → Longer A B X Y ⊎ Longer B A Y X
 compare [] B X Y a b e = inl (B, refl, e)
 compare (l ∷ A) [] X Y a b e = inr (l ∷ A, refl, sym e)
 compare (l ∷ A) (m ∷ B) X Y a b e =
@@ -60,14 +60,14 @@ compare (l ∷ A) (m ∷ B) X Y a b e =
       | inr h ↦ inr (h.0, ap (λ z. z ∷ A) same ∙ ap (λ (ls : List Line). m ∷ ls) h.1, h.2)
     ]
 
-fit_begun : (ls : List Line) → Begins ls → Fit ls
+pub fit_begun : (ls : List Line) → Begins ls → Fit ls
 fit_begun ls b = all_front InRange ls b.1 (subst Fit b.3 (lines_in_range b.0 b.2))
 
 -- lines that begin a text, behind which no line goes on
-record Stop (text : List ℕ) (A : List Line) (R : List ℕ) : Type 0 where
-  parts : text ≡ text_of_lines A ++ R
-  begins : Begins A
-  stops : (c : Line) (C : List Line) (Y : List ℕ) → InRange c → Begins (A ++ c ∷ C) → R ≡ text_of_lines (c ∷ C) ++ Y → ⊥
+pub record Stop (text : List ℕ) (A : List Line) (R : List ℕ) : Type 0 where
+  pub parts : text ≡ text_of_lines A ++ R
+  pub begins : Begins A
+  pub stops : (c : Line) (C : List Line) (Y : List ℕ) → InRange c → Begins (A ++ c ∷ C) → R ≡ text_of_lines (c ∷ C) ++ Y → ⊥
 
 no_more : (text : List ℕ) (A B : List Line) (R S : List ℕ) → Stop text A R → Begins B → (C : List Line) → B ≡ A ++ C → R ≡ text_of_lines C ++ S → (A ≡ B) × (R ≡ S)
 no_more text A B R S s b [] e r = (sym (e ∙ append-nil A), r)
@@ -95,7 +95,7 @@ text_stop text p t = record {
   stops = λ c C Y r b e. not_empty (spelling c) (text_of_lines C ++ Y) (e ∙ first_text c C Y);
 }
 
-line_stop : (text : List ℕ) (n : ℕ) (a : BadLineAt text n) → Stop text a.before (a.here ++ 10 ∷ a.after)
+pub line_stop : (text : List ℕ) (n : ℕ) (a : BadLineAt text n) → Stop text a.before (a.here ++ 10 ∷ a.after)
 line_stop text n a = record {
   parts = a.parts;
   begins = a.begins;
@@ -105,7 +105,7 @@ line_stop text n a = record {
 order_text : (l : Line) (after : List ℕ) → line_text l ++ after ≡ spelling l ++ 10 ∷ after
 order_text l after = append_assoc (spelling l) (10 ∷ []) after
 
-order_stop : (text : List ℕ) (n : ℕ) (a : BadOrderAt text n) → Stop text a.before (line_text a.here ++ a.after)
+pub order_stop : (text : List ℕ) (n : ℕ) (a : BadOrderAt text n) → Stop text a.before (line_text a.here ++ a.after)
 order_stop text n a = record {
   parts = a.parts;
   begins = a.begins;
@@ -115,7 +115,7 @@ order_stop text n a = record {
       a.misplaced (subst (λ z. Begins (a.before ++ z ∷ [])) is (b.0, C ++ b.1, b.2, b.3 ∙ append_assoc a.before (c ∷ C) b.1 ∙ sym (append_assoc a.before (c ∷ []) (C ++ b.1))));
 }
 
-truncated_stop : (text : List ℕ) (n : ℕ) (a : TruncatedAt text n) → Stop text a.before a.rest
+pub truncated_stop : (text : List ℕ) (n : ℕ) (a : TruncatedAt text n) → Stop text a.before a.rest
 truncated_stop text n a = record {
   parts = a.parts;
   begins = a.begins;

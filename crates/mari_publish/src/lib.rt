@@ -16,6 +16,7 @@ mod number;
 mod publication;
 mod reading;
 mod spelling;
+mod taking;
 #[cfg(test)]
 mod tests;
 mod text;
@@ -25,7 +26,8 @@ mod write;
 
 pub use fault::TextFault;
 pub use publication::{
-    AmountLine, BidLine, Block, BorderLine, FullBlock, Heading, MoneyLine, Publication, ZoneLine,
+    AmountLine, BidLine, Block, BorderLine, FullBlock, Heading, MoneyLine, Part, Publication,
+    ZoneLine,
 };
 pub use reading::read_text;
 pub use write::{block_text, closing_text, head_text, total_text, write_text};

@@ -1,6 +1,7 @@
 pub mod BookFacts
 pub mod BookLemmas
 pub mod CountLemmas
+pub mod FindLemmas
 pub mod FirstLemmas
 pub mod FirstMeaning
 pub mod NameLemmas

@@ -1,6 +1,8 @@
 //! Records of a page with their lines, and names in order of appearance.
 #![tactic(auto)]
 
+mod books;
+mod checks;
 mod counts;
 mod faults;
 mod field;
@@ -11,9 +13,11 @@ mod rows;
 #[cfg(test)]
 mod tests;
 
+pub use books::{BookSoFar, read_book};
+pub use checks::{FileCheck, LineFault, RowCheck};
 pub use counts::count_one;
 pub use faults::{AddFault, BookFault, RowFault};
 pub use field::Field;
 pub use fields::{cents_of, is_first_of, is_price, is_whole, number_of};
 pub use names::NameIndex;
-pub use rows::{Row, RowReader, Rows, read_rows, rows_of};
+pub use rows::{Row, RowReader, Rows, has_header, read_rows, rows_of};

@@ -2,6 +2,7 @@
 ghost use Rattle.std.specs.Prelude.{◌≡◌, ◌≤◌, ◌<◌, ◌∷◌, [], ◌^◌, All, length, map, IfOk, IfErr, OnErr, MatchOption};
 ghost use Rattle.std.specs.List.{list_all};
 ghost use Rattle.std.specs.Str.{is_utf8 as is_utf8_of};
+ghost use Rattle.mari_rows.specs.Headers.{has_header as has_header_in};
 ghost use Rattle.mari_rows.specs.Records.{records_in};
 ghost use Rattle.mari_rows.specs.Rows.{columns_of as columns_in, fault_of_row, field_of, first_row_fault, is_header as is_header_of, rows_behind_header as rows_behind_header_in, rows_in, IsFaultOf};
 
@@ -125,6 +126,18 @@ fn is_header(alloc: Global, fields: &[Field], columns: &[&[u8]]) -> Result<bool,
 {
     let texts = texts_of(alloc, fields)?;
     Ok(texts.as_slice() == columns)
+}
+
+/// Whether the first record of a page is these columns, whose names stand between the commas.
+pub fn has_header(alloc: Global, page: &[u8], columns: &str) -> Result<bool, Memory>
+    ensures { IfOk result (λ has. has ≡ has_header_in columns.now page.now) }
+{
+    let columns = columns_of(alloc, columns)?;
+    let mut records = Records::of(alloc, page);
+    match records.next(alloc)? {
+        Some(header) => is_header(alloc, header.as_slice(), columns.as_slice()),
+        None => Ok(false),
+    }
 }
 
 // The rows of a page whose header is these columns.

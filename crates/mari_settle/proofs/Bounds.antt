@@ -12,7 +12,7 @@ use Rattle.mari_market.specs.declared.market.Market.{Market}
 use Rattle.mari_market.specs.declared.activation.Activation.{Activation}
 use Rattle.mari_market.specs.Activation.{IsWithinLimits}
 use Rattle.mari_market.specs.Market.{IsValid, IsValidBorder}
-use Rattle.mari_market.specs.Price.{ArePrices, price_at}
+use Rattle.mari_market.specs.Price.{IsCapped, ArePrices, price_at}
 use Rattle.mari_market.specs.Sums.{int_sum, sum_along}
 use Rattle.mari_market.proofs.Ints.{sub-mul_z}
 use Rattle.mari_market.proofs.Sums.{AllZip-both, spread, sum_below, sum_below--, sum_below-place, sum_below-same}
@@ -22,7 +22,7 @@ use Rattle.std.proofs.lemmas.Bool.{cases_lt}
 use Rattle.std.proofs.lemmas.List.{get_or_past}
 use Rattle.mari_bids.specs.declared.bids.Bid.{Bid}
 use Rattle.mari_bids.specs.declared.bids.BidBook.{BidBook}
-use Rattle.mari_settle.specs.Conditions.{IsCapped, IsWithin, LineIsWithin}
+use Rattle.mari_settle.specs.Conditions.{IsWithin, LineIsWithin}
 use Rattle.mari_settle.specs.Ledger.{bid_amount, carried_in, earned, paid_at, provider_amount, provider_amounts, half_of, net_import, operator_at, operator_line, operator_lines, operator_payment, operator_rent, payment_at, rent_of, share_of}
 use Rattle.mari_settle.proofs.Laws.{range_is_below}
 use Rattle.mari_settle.proofs.Money.{half_small, product_small}

@@ -12,7 +12,7 @@ use Rattle.mari_market.specs.declared.market.Market.{Market}
 use Rattle.mari_market.specs.declared.activation.Activation.{Activation}
 use Rattle.mari_market.specs.Activation.{IsWithinLimits}
 use Rattle.mari_market.specs.Market.{IsValid}
-use Rattle.mari_market.specs.Price.{ArePrices, IsPrice}
+use Rattle.mari_market.specs.Price.{ArePrices}
 use Rattle.mari_units.specs.declared.numbers.Cents.{Cents}
 use Rattle.mari_settle.specs.declared.ledger.OperatorLine.{OperatorLine}
 use Rattle.mari_settle.specs.declared.ledger.Ledger.{Ledger}
@@ -25,10 +25,6 @@ pub record HasOperators (zones : ZoneBook) : Type 0 where
 -- each bid's provider is one of the book
 abbrev pub HasProviders : BidBook → Type 0
 HasProviders bids = All (λ (bid : Bid). bid.provider < length bids.providers) bids.bids
-
--- a price within the cap
-abbrev pub IsCapped : Cents → Type 0
-IsCapped c = IsPrice c.0
 
 -- the number names a bid, of one of so many zones, whose provider is one of the book
 pub record IsPayable (bids : BidBook) (zones : ℕ) (bid : Bid) : Type 0 where

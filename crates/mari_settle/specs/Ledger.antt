@@ -50,11 +50,11 @@ carried_in z b f = (if b.to == z then f else pos 0) -ℤ (if b.from == z then f 
 abbrev pub net_import : Market → Activation → ℕ → ℤ
 net_import m a z = sum_along (carried_in z) m.borders a.flow
 
--- what an operator gets for the net import of a zone: price times quantity, and nothing where the zone is another's
+-- what an operator pays for the net import of a zone: price times quantity, and nothing where the zone is another's
 abbrev pub payment_at : ZoneBook → Market → Activation → List Cents → (operator zone : ℕ) → ℤ
 payment_at zones m a ps operator zone = if operator_at zones zone == operator then price_at ps zone *ℤ net_import m a zone else pos 0
 
--- an operator's payment: over all zones, what it gets for each
+-- an operator's payment: over all zones, what it pays for each
 abbrev pub operator_payment : ZoneBook → Market → Activation → List Cents → ℕ → ℤ
 operator_payment zones m a ps operator =
     int_sum (payment_at zones m a ps operator) (range_with_len 0 m.zones)

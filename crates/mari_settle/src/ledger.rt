@@ -8,9 +8,9 @@ use mari_units::{Items, Memory, Quarters};
 use mari_zones::{BorderBook, ZoneBook};
 use std::alloc::Global;
 
-/// What an operator gets for the energy that its zones take in, and its part of the rents of its borders, in quarter-cents.
+/// What an operator pays for the energy that its zones take in, and its part of the rents of its borders, in quarter-cents.
 ///
-/// The payment is negative where the operator pays. Its net is the payment less the rent.
+/// The payment is negative where the operator is paid, as for energy that its zones give out. Its net is the payment less the rent.
 #[derive(Clone, Copy, Debug, PartialEq, Eq)]
 pub struct OperatorLine {
     pub payment: Quarters,

@@ -4,13 +4,13 @@ ghost use Rattle.std.specs.Prelude.{◌≡◌, ◌≤◌, ◌*◌, ◌^◌, ◌<
 ghost use Rattle.std.specs.List.{All};
 ghost use Rattle.mari_market.specs.Activation.{IsWithinLimits};
 ghost use Rattle.mari_market.specs.Market.{IsValid, IsValidBorder};
-ghost use Rattle.mari_market.specs.Price.{price_at};
-ghost use Rattle.mari_settle.specs.Conditions.{HasFlows, IsCapped, LineIsWithin, Settles};
+ghost use Rattle.mari_market.specs.Price.{IsCapped, price_at};
+ghost use Rattle.mari_settle.specs.Conditions.{HasFlows, LineIsWithin, Settles};
 ghost use Rattle.mari_settle.specs.Ledger.{carried_in as carried_into, half_of, net_import as net_import_of, operator_at, operator_line as line_of, operator_lines, operator_payment as payment_of, payment_at, operator_rent as rent_of_operator, rent_of as rent_at, share_of};
 
 use crate::ledger::OperatorLine;
-use crate::rents::{price_of, product, rent_of};
-use mari_market::{Activation, Border, Market};
+use crate::rents::{price_of, rent_of};
+use mari_market::{Activation, Border, Market, worth};
 use mari_units::{Cents, Quarters};
 use mari_zones::ZoneBook;
 
@@ -134,10 +134,13 @@ fn import_worth(market: &Market, activation: &Activation, prices: &[Cents], zone
     ensures value { result ≡ price_at prices.now zone *ℤ net_import_of market.now activation.now zone }
     ensures small { unsigned_abs result ≤ 9999900 * 102400000 }
 {
-    product(price_of(prices, zone), net_import(market, activation, zone))
+    worth(
+        Cents(price_of(prices, zone)),
+        net_import(market, activation, zone),
+    )
 }
 
-// What an operator gets for the energy that a zone takes in: nothing where the zone is another's.
+// What an operator pays for the energy that a zone takes in: nothing where the zone is another's.
 fn payment_for(
     zones: &ZoneBook,
     market: &Market,
@@ -158,7 +161,7 @@ fn payment_for(
     }
 }
 
-// What an operator gets for the energy that its zones take in.
+// What an operator pays for the energy that its zones take in.
 fn operator_payment(
     zones: &ZoneBook,
     market: &Market,

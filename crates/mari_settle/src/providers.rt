@@ -2,15 +2,15 @@
 
 ghost use Rattle.std.specs.Prelude.{◌≡◌, ◌==◌, ◌≤◌, ◌<◌, ◌*◌, ◌^◌, ℕ, ℤ, pos, ◌+ℤ◌, if◌then◌else◌, length, unsigned_abs, slice_get};
 ghost use Rattle.std.specs.List.{All};
-ghost use Rattle.mari_market.specs.Price.{price_at};
+ghost use Rattle.mari_market.specs.Price.{IsCapped, price_at};
 ghost use Rattle.mari_market.specs.Sums.{sum_along};
-ghost use Rattle.mari_settle.specs.Conditions.{IsCapped, IsWithin, NamesBid};
+ghost use Rattle.mari_settle.specs.Conditions.{IsWithin, NamesBid};
 ghost use Rattle.mari_settle.specs.Ledger.{bid_amount, earned as earned_by, paid_at, provider_amounts};
 ghost use Rattle.mari_settle.specs.Lines.{amount_at};
 
-use crate::rents::{price_of, product};
+use crate::rents::price_of;
 use mari_bids::{Bid, BidBook};
-use mari_market::Activation;
+use mari_market::{Activation, worth};
 use mari_units::{Cents, Quarters};
 
 // The price that a bid is paid at: an upward one at the greater of the run's and the scheduled one, a downward one at the lesser.
@@ -43,7 +43,7 @@ fn earned(bid: &Bid, mw: u32, prices: &[Cents], scheduled: &[Cents]) -> i128
     ensures value { result ≡ earned_by bid.now.up (paid_at bid.now.up (price_at prices.now bid.now.zone) (price_at scheduled.now bid.now.zone)) mw }
     ensures small { unsigned_abs result ≤ 1000000000000 }
 {
-    let worth = product(paid_price(bid, prices, scheduled), i64::from(mw));
+    let worth = worth(Cents(paid_price(bid, prices, scheduled)), i64::from(mw));
     if bid.up { worth } else { -worth }
 }
 

@@ -1,22 +1,15 @@
 //! The rents of borders.
 
-ghost use Rattle.std.specs.Prelude.{◌≡◌, ◌≤◌, ◌<◌, ◌*ℤ◌, ◌-ℤ◌, ◌^◌, ℤ, length, unsigned_abs};
+ghost use Rattle.std.specs.Prelude.{◌≡◌, ◌≤◌, ◌<◌, ◌-ℤ◌, ◌^◌, ℤ, length, unsigned_abs};
 ghost use Rattle.std.specs.List.{All};
 ghost use Rattle.mari_market.specs.Activation.{IsWithinLimits};
 ghost use Rattle.mari_market.specs.Market.{IsValidBorder};
-ghost use Rattle.mari_market.specs.Price.{price_at};
-ghost use Rattle.mari_settle.specs.Conditions.{HasFlows, IsCapped, IsWithin};
+ghost use Rattle.mari_market.specs.Price.{IsCapped, price_at};
+ghost use Rattle.mari_settle.specs.Conditions.{HasFlows, IsWithin};
 ghost use Rattle.mari_settle.specs.Ledger.{rent_of as rent_at, rents_of};
 
-use mari_market::{Activation, Border, Market};
+use mari_market::{Activation, Border, Market, worth};
 use mari_units::{Cents, Quarters};
-
-// The product of two numbers, which always fits.
-pub(crate) fn product(a: i64, b: i64) -> i128
-    ensures { result ≡ a *ℤ b }
-{
-    i128::from(a) * i128::from(b)
-}
 
 // A zone's price.
 pub(crate) fn price_of(prices: &[Cents], zone: u32) -> i64
@@ -46,7 +39,7 @@ pub(crate) fn rent_of(border: &Border, flow: i64, prices: &[Cents]) -> i128
     ensures value { result ≡ rent_at prices.now border.now flow }
     ensures small { unsigned_abs result ≤ 4000000000000 }
 {
-    product(gap_of(border, prices), flow)
+    worth(Cents(gap_of(border, prices)), flow)
 }
 
 // Writes each border's rent.

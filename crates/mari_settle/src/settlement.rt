@@ -5,9 +5,9 @@ ghost use Rattle.std.specs.List.{All};
 ghost use Rattle.mari_market.specs.Market.{IsValid};
 ghost use Rattle.mari_market.specs.Optimal.{IsConsistent, IsFeasible};
 ghost use Rattle.mari_market.specs.Sums.{int_sum};
-ghost use Rattle.mari_settle.specs.Conditions.{IsCapped, FitsRun, HasOperators, HasProviders, HasSmallNumbers, IsWithin, LineIsWithin, NameOrders};
+ghost use Rattle.mari_settle.specs.Conditions.{FitsRun, HasOperators, HasProviders, HasSmallNumbers, IsWithin, LineIsWithin, NameOrders};
 ghost use Rattle.mari_settle.specs.Ledger.{net_of, operator_lines, provider_amounts, rents_of, scheduled_or as scheduled_or_in};
-ghost use Rattle.mari_market.specs.Price.{ArePrices};
+ghost use Rattle.mari_market.specs.Price.{IsCapped, ArePrices};
 
 use crate::ledger::Ledger;
 use crate::operators::write_lines;

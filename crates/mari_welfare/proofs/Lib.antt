@@ -1,5 +1,4 @@
 pub mod Lists
-pub mod Wide
 pub mod Open
 pub mod Balance
 pub mod Sizes

@@ -1,26 +1,18 @@
 -- The welfare of an admissible activation fits 64 bits.
-use Rattle.std.proofs.Common.{◌≡◌, ℕ, suc, ◌+◌, ◌*◌, ◌^◌, ◌<◌, ◌≤◌, if◌then◌else◌, Bool, true, false, ℤ, pos, neg_ℤ, ◌*ℤ◌, ◌≤ℤ◌, ◌<ℤ◌, List, [], ◌∷◌, Option, Some, None, length, arith, refl}
+use Rattle.std.proofs.Common.{◌≡◌, ℕ, ◌*◌, ◌≤◌, if◌then◌else◌, Bool, true, false, ℤ, pos, ◌≤ℤ◌, List, [], ◌∷◌, Option, Some, None, length, arith, refl}
 use Rattle.std.proofs.lemmas.Int.{ints}
-use Rattle.std.specs.List.{All, AllZip}
-use Rattle.mari_market.specs.declared.market.Side.{Side}
-use Rattle.mari_market.specs.declared.market.Side.TheVariants.{Inject, Withdraw}
+use Rattle.std.specs.List.{AllZip}
 use Rattle.mari_market.specs.declared.market.Order.{Order}
 use Rattle.mari_market.specs.declared.market.Market.{Market}
 use Rattle.mari_market.specs.declared.activation.Activation.{Activation}
-use Rattle.mari_market.specs.Activation.{gain, order_gain, welfare_of, is_open}
+use Rattle.mari_market.specs.Activation.{order_gain, welfare_of, is_open}
 use Rattle.mari_market.specs.Bounds.{IsWithin, gated_span, span_of, own_bounds}
 use Rattle.mari_market.specs.Bounds.GateState.{Open, Closed}
 use Rattle.mari_market.specs.Market.{IsValid, IsValidOrder}
-use Rattle.mari_market.specs.Optimal.{IsFeasible, IsAdmissible}
-use Rattle.mari_market.specs.Price.{IsPrice}
+use Rattle.mari_market.specs.Optimal.{IsFeasible}
 use Rattle.mari_market.specs.Sums.{int_sum}
 use Rattle.mari_market.proofs.Sums.{sum_along-le, AllZip-with}
-use Rattle.mari_market.proofs.Surplus.{welfare_at_least_0}
-use Rattle.mari_welfare.proofs.Wide.{scaled}
-
-gain_at_most : (side : Side) (c : ℤ) (q : ℕ) → IsPrice c → q ≤ 99999 → gain side c q ≤ℤ pos (9999900 * 99999)
-gain_at_most Inject c q p l = omega (arith, ints, (scaled c q 9999900 99999 p.low p.high l).0)
-gain_at_most Withdraw c q p l = (scaled c q 9999900 99999 p.low p.high l).1
+use Rattle.mari_market.proofs.Gains.{gain_at_most}
 
 gated_at_most : (b : Bool) (o : Order) (q : ℕ) → IsWithin (gated_span (if b then Open else Closed) o) q → q ≤ o.greatest
 gated_at_most true o q w = w.most

@@ -1,4 +1,3 @@
 pub mod Balance
 pub mod Gates
 pub mod Parts
-pub mod Standings

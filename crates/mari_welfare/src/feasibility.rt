@@ -12,7 +12,8 @@ ghost use Rattle.mari_welfare.specs.Balance.{left_in};
 ghost use Rattle.mari_welfare.specs.Parts.{HasLengths, OrdersAndGatesFit, BordersAndZonesFit};
 
 use crate::gates::{OpenGates, keep_gate_rules};
-use mari_market::{Activation, Border, Market, Order, Side};
+use mari_market::{Activation, Border, MOST_ORDERS, Market, Order, Side};
+use mari_units::{MOST_BORDERS, MOST_ZONES};
 
 // Whether an order runs within its bounds.
 fn is_within(opened: &OpenGates, order: &Order, mw: u32) -> bool
@@ -57,8 +58,8 @@ fn flows_fit(borders: &[Border], flow: &[i64]) -> bool
 }
 
 // Adds to what is left over in a zone.
-fn add_to(left: &mut [i128; 64], zone: u32, mw: i128)
-    requires zone { zone < 64 }
+fn add_to(left: &mut [i128; MOST_ZONES], zone: u32, mw: i128)
+    requires zone { zone < MOST_ZONES }
     requires so_far { unsigned_abs (left_in left.old zone) ≤ 2 ^ 80 }
     requires mw { unsigned_abs mw ≤ 2 ^ 64 }
     ensures { (z : ℕ) → left_in left.new z ≡ left_in left.old z +ℤ (if zone == z then mw else pos 0) }
@@ -78,14 +79,14 @@ fn put_in(order: &Order, mw: u32) -> i128
 }
 
 // Injections less withdrawals of each zone.
-fn net_injections(orders: &[Order], mw: &[u32]) -> [i128; 64]
-    requires few { length orders.now ≤ 4608 }
+fn net_injections(orders: &[Order], mw: &[u32]) -> [i128; MOST_ZONES]
+    requires few { length orders.now ≤ MOST_ORDERS }
     requires lengths { length mw.now ≡ length orders.now }
-    requires zones { All (λ o. o.zone < 64) orders.now }
+    requires zones { All (λ o. o.zone < MOST_ZONES) orders.now }
     ensures value { (z : ℕ) → left_in result z ≡ sum_along (put_into z) orders.now mw.now }
     ensures small { (z : ℕ) → unsigned_abs (left_in result z) ≤ 2 ^ 48 }
 {
-    let mut left = [0; 64];
+    let mut left = [0; MOST_ZONES];
     for (i, order) in orders.iter().enumerate() {
         add_to(&mut left, order.zone, put_in(order, mw[i]));
     }
@@ -93,9 +94,9 @@ fn net_injections(orders: &[Order], mw: &[u32]) -> [i128; 64]
 }
 
 // Takes a flow from what is left over in the zone that it leaves, and adds it to the zone that it enters.
-fn carry(left: &mut [i128; 64], border: &Border, flow: i64)
-    requires from { border.now.from < 64 }
-    requires to { border.now.to < 64 }
+fn carry(left: &mut [i128; MOST_ZONES], border: &Border, flow: i64)
+    requires from { border.now.from < MOST_ZONES }
+    requires to { border.now.to < MOST_ZONES }
     requires so_far { (z : ℕ) → unsigned_abs (left_in left.old z) ≤ 2 ^ 79 }
     ensures carried { (z : ℕ) → left_in left.new z ≡ left_in left.old z -ℤ carried_out z border.now flow }
     ensures small { (z : ℕ) → unsigned_abs (left_in left.new z) ≤ unsigned_abs (left_in left.old z) + 2 ^ 65 }
@@ -105,10 +106,10 @@ fn carry(left: &mut [i128; 64], border: &Border, flow: i64)
 }
 
 // Takes the flows that leave each zone from what is left over there, and adds those that enter it.
-fn take_outflows(left: &mut [i128; 64], borders: &[Border], flow: &[i64])
-    requires few { length borders.now ≤ 256 }
+fn take_outflows(left: &mut [i128; MOST_ZONES], borders: &[Border], flow: &[i64])
+    requires few { length borders.now ≤ MOST_BORDERS }
     requires lengths { length flow.now ≡ length borders.now }
-    requires ends { All (λ b. (b.from < 64) × (b.to < 64)) borders.now }
+    requires ends { All (λ b. (b.from < MOST_ZONES) × (b.to < MOST_ZONES)) borders.now }
     requires small { (z : ℕ) → unsigned_abs (left_in left.old z) ≤ 2 ^ 48 }
     ensures { (z : ℕ) → left_in left.new z ≡ left_in left.old z -ℤ sum_along (carried_out z) borders.now flow.now }
 {
@@ -118,8 +119,8 @@ fn take_outflows(left: &mut [i128; 64], borders: &[Border], flow: &[i64])
 }
 
 // Whether nothing is left over in the first zones.
-fn is_nothing_left(left: &[i128; 64], zones: u32) -> bool
-    requires { zones ≤ 64 }
+fn is_nothing_left(left: &[i128; MOST_ZONES], zones: u32) -> bool
+    requires { zones ≤ MOST_ZONES }
     ensures { IsTrue result ↔ ((z : ℕ) → z < zones → left_in left.now z ≡ pos 0) }
 {
     for zone in 0..zones {
@@ -132,13 +133,13 @@ fn is_nothing_left(left: &[i128; 64], zones: u32) -> bool
 
 // Whether each of so many zones is in balance.
 fn is_balanced(zones: u32, orders: &[Order], mw: &[u32], borders: &[Border], flow: &[i64]) -> bool
-    requires zones { zones ≤ 64 }
-    requires few_orders { length orders.now ≤ 4608 }
-    requires few_borders { length borders.now ≤ 256 }
+    requires zones { zones ≤ MOST_ZONES }
+    requires few_orders { length orders.now ≤ MOST_ORDERS }
+    requires few_borders { length borders.now ≤ MOST_BORDERS }
     requires orders { length mw.now ≡ length orders.now }
     requires borders { length flow.now ≡ length borders.now }
-    requires places { All (λ o. o.zone < 64) orders.now }
-    requires ends { All (λ b. (b.from < 64) × (b.to < 64)) borders.now }
+    requires places { All (λ o. o.zone < MOST_ZONES) orders.now }
+    requires ends { All (λ b. (b.from < MOST_ZONES) × (b.to < MOST_ZONES)) borders.now }
     ensures { IsTrue result ↔ ((z : ℕ) → z < zones → sum_along (put_into z) orders.now mw.now ≡ sum_along (carried_out z) borders.now flow.now) }
 {
     let mut left = net_injections(orders, mw);

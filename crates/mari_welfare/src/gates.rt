@@ -2,19 +2,18 @@
 
 ghost use Rattle.std.specs.Prelude.{◌≡◌, ◌||◌, ◌<◌, ◌≤◌, ℕ, length, IsTrue, IfSome, ◌↔◌};
 ghost use Rattle.std.specs.List.{All};
+ghost use Rattle.mari_market.specs.GateRuns.{is_run_of};
 ghost use Rattle.mari_market.specs.Gates.{KeepsGateRules, group_of as group_of_gate, parent_of as parent_of_gate};
-ghost use Rattle.mari_welfare.specs.Gates.{HasOpenParent, IsAlone, IsAloneIn, IsRival, IsOfFewGates, KeepsRulesAt, is_run_of, opens_by, opens_in};
+ghost use Rattle.mari_welfare.specs.Gates.{HasOpenParent, IsAlone, IsAloneIn, IsRival, IsOfFewGates, KeepsRulesAt, opens_by, opens_in};
 
 use mari_market::{GateInfo, Order};
+use mari_units::MOST_GATES;
 use std::marker::Model;
-
-// The most gates of a market.
-const MOST_GATES: usize = 512;
 
 // The gates that an activation opens, as a table of them that is made once.
 #[derive(Drop)]
 pub(crate) struct OpenGates {
-    opened: [bool; 512],
+    opened: [bool; MOST_GATES],
 }
 
 impl Model for OpenGates {
@@ -26,7 +25,7 @@ impl Model for OpenGates {
 }
 
 // Marks the gate of an order that runs, if it has one.
-fn mark(opened: &mut [bool; 512], order: &Order, mw: u32)
+fn mark(opened: &mut [bool; MOST_GATES], order: &Order, mw: u32)
     requires { IsOfFewGates order.now }
     ensures { (g : ℕ) → opens_in opened.new g ≡ (opens_in opened.old g || is_run_of g order.now mw) }
 {
@@ -44,7 +43,7 @@ impl OpenGates {
         requires gates { All IsOfFewGates orders.now }
         ensures { opens_in result ≡ opens_by orders.now mw.now }
     {
-        let mut opened = [false; 512];
+        let mut opened = [false; MOST_GATES];
         for (i, order) in orders.iter().enumerate() {
             mark(&mut opened, order, mw[i]);
         }
@@ -84,7 +83,7 @@ fn parent_of(gates: &[GateInfo], gate: usize) -> Option<u32>
 
 // Whether another gate of the group is open.
 fn is_rival(gates: &[GateInfo], opened: &OpenGates, place: usize, group: u32, other: usize) -> bool
-    requires few { length gates.now ≤ 512 }
+    requires few { length gates.now ≤ MOST_GATES }
     requires there { other < length gates.now }
     ensures { IsTrue result ↔ IsRival gates.now (opens_in opened.now) place group other }
 {
@@ -92,7 +91,7 @@ fn is_rival(gates: &[GateInfo], opened: &OpenGates, place: usize, group: u32, ot
 }
 
 fn is_alone_in(gates: &[GateInfo], opened: &OpenGates, place: usize, group: u32) -> bool
-    requires few { length gates.now ≤ 512 }
+    requires few { length gates.now ≤ MOST_GATES }
     ensures { IsTrue result ↔ IsAloneIn gates.now (opens_in opened.now) place group }
 {
     for other in 0..gates.len() {
@@ -105,7 +104,7 @@ fn is_alone_in(gates: &[GateInfo], opened: &OpenGates, place: usize, group: u32)
 
 // Whether no other gate of the gate's group is open.
 fn is_alone(gates: &[GateInfo], opened: &OpenGates, place: usize) -> bool
-    requires few { length gates.now ≤ 512 }
+    requires few { length gates.now ≤ MOST_GATES }
     requires there { place < length gates.now }
     ensures { IsTrue result ↔ IsAlone gates.now (opens_in opened.now) place (group_of_gate gates.now place) }
 {
@@ -116,7 +115,7 @@ fn is_alone(gates: &[GateInfo], opened: &OpenGates, place: usize) -> bool
 }
 
 fn keeps_rules_at(gates: &[GateInfo], opened: &OpenGates, place: usize) -> bool
-    requires few { length gates.now ≤ 512 }
+    requires few { length gates.now ≤ MOST_GATES }
     requires there { place < length gates.now }
     ensures { IsTrue result ↔ KeepsRulesAt gates.now (opens_in opened.now) place }
 {
@@ -126,7 +125,7 @@ fn keeps_rules_at(gates: &[GateInfo], opened: &OpenGates, place: usize) -> bool
 
 // Whether the open gates keep the rules of parents and groups.
 pub(crate) fn keep_gate_rules(gates: &[GateInfo], opened: &OpenGates) -> bool
-    requires few { length gates.now ≤ 512 }
+    requires few { length gates.now ≤ MOST_GATES }
     ensures { IsTrue result ↔ KeepsGateRules gates.now (opens_in opened.now) }
 {
     for place in 0..gates.len() {

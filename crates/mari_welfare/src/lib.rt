@@ -8,7 +8,7 @@ mod feasibility;
 mod gates;
 mod money;
 
-pub use consistency::is_consistent;
+pub use consistency::{borders_agree, is_consistent};
 pub use feasibility::is_feasible;
 pub use money::welfare;
 

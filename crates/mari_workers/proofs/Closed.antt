@@ -26,7 +26,7 @@ use Rattle.mari_market.specs.Bounds.{IsWithin, GateState, gated_span, own_bounds
 use Rattle.mari_market.specs.Bounds.GateState.{Open, Closed}
 use Rattle.mari_market.specs.Conflict.{IsConflict}
 use Rattle.mari_market.specs.Consistent.{IsConsistentOrder, IsConsistentTrade, standing_of}
-use Rattle.mari_market.specs.Consistent.Standing.{InOpen, InClosed, Plain}
+use Rattle.mari_market.specs.declared.price_rules.Standing.TheVariants.{InOpen, InClosed, Plain}
 use Rattle.mari_market.specs.Cut.{IsCut}
 use Rattle.mari_market.specs.Dual.{IsTightOrder, IsTightTrade}
 use Rattle.mari_market.specs.Finding.{IsAttained, IsFinding, IsRefuted, IsRelaxedFinding, IsSettled}
@@ -38,6 +38,7 @@ use Rattle.mari_market.specs.Relaxation.{all_closed, IsClosedWelfare, IsRelaxedW
 use Rattle.mari_market.specs.Sums.{sum_along}
 use Rattle.mari_market.proofs.Conflicts.{conflict_refutes}
 use Rattle.mari_market.proofs.Cuts.{cut_is_empty}
+use Rattle.mari_market.proofs.Ties.{closed_opens}
 use Rattle.mari_market.proofs.Prefixes.{state_rule}
 use Rattle.mari_market.proofs.Search.{parents_earlier}
 use Rattle.mari_market.proofs.Sums.{AllZip-both, AllZip-with}
@@ -181,11 +182,7 @@ closed_found m word f r e is h = subst (λ (w : List Bool). IsRelaxedFinding m w
 -- ---- the closed prefix is feasible
 
 none_opened : (n g : ℕ) → opens_in (replicate n false) g ≡ true → ⊥
-none_opened n g e = by_place (cases_lt g n)
-  where
-    by_place : (g < n) ⊎ (n ≤ g) → ⊥
-    by_place (inl l) = let no : opens_in (replicate n false) g ≡ false = get_or-replicate n g false false l in absurd (cc)
-    by_place (inr l) = let no : opens_in (replicate n false) g ≡ false = get_or_past (replicate n false) g false (omega (arith, length-replicate n false, l)) in absurd (cc)
+none_opened n g e = let no : opens_in (replicate n false) g ≡ false = closed_opens n g in absurd (cc)
 
 closed_word : (m : Market) → IsFeasibleWord m.gates (all_closed m)
 closed_word m = record {
@@ -198,12 +195,6 @@ closed_word m = record {
 
 pub closed_feasible : (m : Market) (x : Prefix) → word_of x ≡ all_closed m → IsCleared x → IsFeasiblePrefix m x
 closed_feasible m x e cleared = record { word = subst (IsFeasibleWord m.gates) (sym e) (closed_word m); rest = cleared }
-
--- a prefix that decides no gate has no bit that is 1
-pub none_set : (x : Prefix) (g : ℕ) → word_of x ≡ [] → IsCleared x → g < 512 → bit_of x g ≡ false
-none_set x g e cleared l =
-    let none : x.length ≡ 0 = sym (length-map-range_with_len (bit_of x) 0 x.length) ∙ ap length e in
-    cleared g (omega (arith, none)) l
 
 -- a prefix without a bit that is 1 closes what it decides
 pub word-closed : (x : Prefix) (n : ℕ) → x.length ≡ n → ((g : ℕ) → g < n → bit_of x g ≡ false) → word_of x ≡ replicate n false

@@ -5,4 +5,3 @@ pub mod Fates
 pub mod Refined
 pub mod Turns
 pub mod Rest
-pub mod Marks

@@ -1,24 +1,29 @@
 -- The ends of a walk that refines: a clearing of the first activation, or a part of the search tree that the budget can't extend.
-use Rattle.std.proofs.Common.{◌≡◌, Bool, ℕ, suc, ◌+◌, ◌<◌, ◌≤◌, ℤ, pos, List, [], ◌∷◌, ◌++◌, length, map, reverse, Some, None, arith, refl, sym, ap, subst, ◌∙◌, length-append}
+use Rattle.std.proofs.Common.{◌≡◌, inl, inr, Bool, ℕ, suc, ◌+◌, ◌<◌, ◌≤◌, ℤ, pos, ◌≤ℤ◌, List, [], ◌∷◌, ◌++◌, length, map, reverse, Some, None, arith, refl, sym, ap, subst, ◌∙◌, length-append}
 use Rattle.std.specs.Prelude.{Contains}
+use Rattle.std.proofs.lemmas.Int.{ints}
 use Rattle.std.proofs.lemmas.List.{length-reverse, length-map}
 use Rattle.mari_market.specs.declared.activation.Activation.{Activation}
 use Rattle.mari_market.specs.declared.certificate.Leaf.{Leaf as LeafRecord}
 use Rattle.mari_market.specs.declared.certificate.TreeItem.{TreeItem}
 use Rattle.mari_market.specs.declared.certificate.TreeItem.TheVariants.{Branch, Leaf}
+use Rattle.mari_market.specs.declared.clearing.Clearing.{Clearing}
+use Rattle.mari_market.specs.declared.clearing.Cleared.{Cleared}
+use Rattle.mari_market.specs.declared.clearing.Cleared.TheVariants.{Published, Spent, Memory}
 use Rattle.mari_market.specs.declared.clearing.PartItem.{PartItem}
 use Rattle.mari_market.specs.declared.market.Market.{Market}
 use Rattle.mari_market.specs.declared.prefix.Prefix.{Prefix}
 use Rattle.mari_market.specs.Activation.{gate_word_of, welfare_of}
-use Rattle.mari_market.specs.Clearing.{ArePartsOfSearch, IsClearing, IsSpent, leaves_of}
+use Rattle.mari_market.specs.Clearing.{ArePartsOfSearch, Clears, IsClearing, IsSpent, leaves_of}
 use Rattle.mari_market.specs.Market.{IsValid}
 use Rattle.mari_market.specs.Optimal.{IsAdmissible}
 use Rattle.mari_market.specs.Prefix.{word_of, children}
+use Rattle.mari_market.specs.Relaxation.{all_closed, IsClosedWelfare}
 use Rattle.mari_market.specs.SearchTree.{IsNode, IsLarger}
 use Rattle.mari_market.specs.Tree.{AreParts, LeafHoldsFor, TreeHoldsFor}
-use Rattle.mari_market.proofs.Search.{AreParts-map}
+use Rattle.mari_market.proofs.Search.{AreParts-map, one_welfare}
 use Rattle.mari_market.proofs.SearchParts.{part_is_nodes, visited}
-use Rattle.mari_market.proofs.Ties.{before_both, first_by_tree, not_before_itself}
+use Rattle.mari_market.proofs.Ties.{before_both, closed_is_first, first_by_tree, not_before_itself, one_first_word}
 use Rattle.mari_market.proofs.Words.{length-gate_word_of}
 use Rattle.mari_gates.specs.Preorder.{left_at, waiting_after}
 use Rattle.mari_core.specs.Preorder.{shape_of}
@@ -26,7 +31,7 @@ use Rattle.mari_core.proofs.Seeds.{larger_by}
 use Rattle.mari_proofs.specs.Places.{LeavesWords}
 use Rattle.mari_proofs.proofs.TreeWalk.{none_left}
 use Rattle.mari_workers.specs.declared.refining.Aim.{Aim}
-use Rattle.mari_workers.specs.Refine.{IsCrowdedAt, IsFoundAt, IsNewLeaf, IsOldLeaf, IsWalk}
+use Rattle.mari_workers.specs.Refine.{ClosesAtClosed, IsCrowdedAt, IsFoundAt, IsNewLeaf, IsOldLeaf, IsWalk, MayRefine}
 use Rattle.mari_workers.proofs.TreeWalks.{behind_is_late, leaves_map, parts_join, search_parts, waiting_late}
 
 -- ---- an activation is the first
@@ -122,3 +127,23 @@ crowded_spends m aim x done left whole items v h e f =
         more = omega (arith, count, h.more);
       };
     }
+
+-- ---- at the closed welfare
+
+-- a clearing of the closed welfare opens no gate, where it comes from one that opens none or has more than the closed welfare
+closed_by : (m : Market) (budget : ℕ) (found c : Clearing) → MayRefine m budget found → IsClearing m budget c → IsClosedWelfare m (pos c.welfare) → gate_word_of m c.activation ≡ all_closed m
+closed_by m budget found c h k w = elim h.above [
+  | inl e ↦ one_first_word m c.activation found.activation k.first (closed_is_first m found.activation h.clearing.optimal e) ∙ e
+  | inr more ↦ absurd (omega (arith, ints, more, at_most, same))
+]
+  where
+    same : pos c.welfare ≡ pos found.welfare
+    same = sym k.welfare ∙ one_welfare m c.activation found.activation k.first.optimal h.clearing.optimal ∙ h.clearing.welfare
+
+    at_most : pos c.welfare ≤ℤ pos h.closed
+    at_most = subst (λ (u : ℤ). u ≤ℤ pos h.closed) w.reached.2 (h.is_closed.greatest w.reached.0 w.reached.1)
+
+pub closes_at_closed : (m : Market) (budget : ℕ) (found : Clearing) (result : Cleared) → MayRefine m budget found → Clears m budget result → ClosesAtClosed m result
+closes_at_closed m budget found (Published c) h k = closed_by m budget found c h k
+closes_at_closed m budget found (Spent s) h k = tt
+closes_at_closed m budget found Memory h k = tt

@@ -17,9 +17,9 @@ use Rattle.mari_market.specs.SearchTree.{IsNode, IsPromising}
 use Rattle.mari_market.specs.Tree.{AreParts, IsEarly, LeafHolds, LeafHoldsFor}
 use Rattle.mari_market.proofs.Examples.{Each}
 use Rattle.mari_market.proofs.Narrower.{child_leaf_holds}
-use Rattle.mari_market.proofs.Prefixes.{opens_within, open_child_only}
+use Rattle.mari_market.proofs.Prefixes.{opens_front, opens_longer, opens_within, open_child_only}
 use Rattle.mari_market.proofs.Search.{parents_earlier}
-use Rattle.mari_market.proofs.SearchParts.{each_append, each_child, opens_same, opens_still}
+use Rattle.mari_market.proofs.SearchParts.{each_append, each_child}
 use Rattle.mari_market.proofs.Ties.{before_both, before_cons, before_here, none_before_closed, not_before_itself}
 use Rattle.mari_gates.specs.Preorder.{left_at, opened_child, waiting, waiting_after}
 use Rattle.mari_gates.proofs.WaitingWords.{feasible_front, first_child}
@@ -96,9 +96,9 @@ late_longer word other b h =
     let within : h.gate < length other = opens_within other h.gate h.opened in
     record {
       gate = h.gate;
-      same = λ g l. h.same g l ∙ sym (opens_same other b g (omega arith));
+      same = λ g l. h.same g l ∙ sym (opens_front other (b ∷ []) g (omega arith));
       closed = h.closed;
-      opened = opens_still other b h.gate h.opened;
+      opened = opens_longer other b h.gate h.opened;
     }
 
 -- no part of words that come after a gate word is early for it

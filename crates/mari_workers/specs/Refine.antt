@@ -45,6 +45,12 @@ IsSearched m budget (Published c) = MayRefine m budget c
 IsSearched m budget (Spent s) = IsSpent m budget s
 IsSearched m budget Memory = ⊤
 
+-- what is published opens no gate, where its welfare is the closed welfare
+abbrev pub ClosesAtClosed : Market → Cleared → Type 0
+ClosesAtClosed m (Published c) = IsClosedWelfare m (pos c.welfare) → gate_word_of m c.activation ≡ all_closed m
+ClosesAtClosed m (Spent s) = ⊤
+ClosesAtClosed m Memory = ⊤
+
 -- what is aimed at: the optimal welfare, and gate words that come before this one, which opens no gate unless the welfare is
 -- more than the closed welfare
 pub record IsAim (m : Market) (aim : Aim) : Type 0 where

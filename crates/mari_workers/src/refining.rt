@@ -7,14 +7,14 @@ ghost use Rattle.mari_market.specs.Clearing.{Clears};
 ghost use Rattle.mari_market.specs.Market.{IsValid};
 ghost use Rattle.mari_market.specs.Prefix.{word_of, IsFeasiblePrefix};
 ghost use Rattle.mari_market.specs.Tree.{LeafHolds};
-ghost use Rattle.mari_workers.specs.Refine.{fate_by, unbounded, IsAim, IsAtLeaf, IsFate, IsToBranch, IsTurn, IsWalk, MayRefine};
+ghost use Rattle.mari_workers.specs.Refine.{fate_by, unbounded, ClosesAtClosed, IsAim, IsAtLeaf, IsFate, IsToBranch, IsTurn, IsWalk, MayRefine};
 
 use mari_gates::{child_of, comes_before, empty_prefix, gate_word, may_branch_up, next_after};
 use mari_market::{
     Activation, Attained, Cleared, Clearing, Finding, Leaf, Market, PartItem, Prefix, Relaxed,
     Spent, TreeItem,
 };
-use mari_node::examine;
+use mari_node::examine_from;
 use mari_proofs::check_leaf;
 use mari_units::{Items, Memory, Quarters};
 use std::alloc::{AllocError, Global};
@@ -43,13 +43,14 @@ enum Turn {
     Yield(Activation),
 }
 
-/// A walk through a tree that is made anew: the items that are done, those that are left, the next at the end, and the next
-/// prefix.
+/// A walk through a tree that is made anew: the items that are done, those that are left, the next at the end, the next
+/// prefix, and what its next examination starts with.
 #[derive(Drop)]
 struct Walk {
     done: Vec<TreeItem>,
     left: Vec<TreeItem>,
     next: Option<Prefix>,
+    start: Option<Activation>,
 }
 
 /// What becomes of a leaf without a certificate.
@@ -92,13 +93,14 @@ fn quarters_of(welfare: u64) -> Quarters
 }
 
 /// What becomes of a leaf that holds at the welfare. It stays where it isn't early, or holds at the welfare less 1; else its
-/// prefix is examined.
+/// prefix is examined, from the relaxed optimum of the last that was.
 fn fate_of(
     alloc: Global,
     market: &Market,
     prefix: &Prefix,
     leaf: Leaf,
     aim: &Aim,
+    start: &mut Option<Activation>,
 ) -> Result<Fate, Memory>
     requires market { IsValid market.now }
     requires prefix { IsFeasiblePrefix market.now prefix.now }
@@ -113,7 +115,7 @@ fn fate_of(
     if check_leaf(market, prefix, &leaf, quarters_of(most)) {
         return Ok(Fate::Stays(leaf));
     }
-    let finding = examine(alloc, market, prefix)?;
+    let finding = examine_from(alloc, market, prefix, start)?;
     let full = prefix.length as usize == market.gates.as_slice().len();
     Ok(fate_by(finding, leaf, most, full))
 }
@@ -138,6 +140,7 @@ impl Walk {
             done: Vec::new(alloc),
             left,
             next: Some(empty_prefix()),
+            start: None,
         }
     }
 
@@ -206,7 +209,7 @@ impl Walk {
         requires walk { IsAtLeaf market.now aim.now prefix.now leaf self.old.done.items self.old.left.items }
         ensures { IfOk result (IsTurn market.now aim.now prefix.now (length self.old.done.items) self.new) }
     {
-        match fate_of(alloc, market, prefix, leaf, aim)? {
+        match fate_of(alloc, market, prefix, leaf, aim, &mut self.start)? {
             Fate::Stays(leaf) => {
                 self.done.push(TreeItem::Leaf(leaf))?;
                 self.next = next_after(market, prefix);
@@ -332,7 +335,10 @@ pub fn refine(alloc: Global, market: &Market, found: Clearing, budget: u32) -> C
     requires market { IsValid market.now }
     requires budget { (1 ≤ budget) × (budget ≤ 50000) }
     requires found { MayRefine market.now budget found }
-    ensures { Clears market.now budget result }
+    ensures law { Clears market.now budget result }
+
+    // What is published opens no gate where its welfare is the closed welfare.
+    ensures closed { ClosesAtClosed market.now result }
 {
     match refined(alloc, market, found, budget) {
         Ok(cleared) => cleared,

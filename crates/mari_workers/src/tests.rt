@@ -1,29 +1,18 @@
 //! Small markets of one zone, with values computed by hand or by trying every gate word.
 
-ghost use Rattle.std.specs.Prelude.{◌≡◌, ◌≤◌, pos};
-ghost use Rattle.mari_market.specs.Clearing.{Clears};
-ghost use Rattle.mari_market.specs.Market.{IsValid};
-ghost use Rattle.mari_market.specs.Relaxation.{IsClosedWelfare};
-ghost use Rattle.mari_workers.specs.Worked.{IsFresh};
+mod crews;
+mod random;
+mod tickets;
 
-use crate::first::first_of;
-use crate::pair::Pair;
-use crate::worker::visit;
-use crate::{Alone, Crew, FreeTurnstile, Turnstile, Worked, search, search_alone};
+use crate::{Alone, search_alone};
 use mari_gates::prefix_feasible;
-use mari_incumbent::{Incumbent, Seat};
 use mari_market::{
     Cleared, Clearer, Finding, GateInfo, Leaf, Market, Order, PartItem, Prefix, Side, TreeItem,
 };
 use mari_node::examine;
-use mari_pool::{Pool, SearchName, Settled, Took};
 use mari_units::{Cents, Items};
 use std::alloc::Global;
-use std::marker::Brand;
-use std::sync::Wait;
-use std::sync::atomic::Ordering;
 use std::test::Fail;
-use std::thread::Threads;
 
 /// A bid of up to this quantity.
 fn bid(price: i64, greatest: u32) -> Order {
@@ -182,237 +171,11 @@ fn the_best_of_all_gate_words_is_found(rt: HostRuntime) -> Result<(), Fail> {
     Ok(())
 }
 
-/// Whether the items are two branches and three bounds, in preorder.
-fn is_two_branches_and_three_bounds(tree: &[TreeItem]) -> bool {
-    matches!(
-        tree,
-        [
-            TreeItem::Branch,
-            TreeItem::Branch,
-            TreeItem::Leaf(Leaf::Bound(_)),
-            TreeItem::Leaf(Leaf::Bound(_)),
-            TreeItem::Leaf(Leaf::Bound(_)),
-        ]
-    )
-}
-
-#[test]
-fn of_two_equal_bids_the_later_is_published(rt: HostRuntime) -> Result<(), Fail> {
-    let orders = [
-        gated(0, 3000, 30, 30),
-        gated(1, 3000, 30, 30),
-        bid(5000, 100),
-        demand(30),
-    ];
-    let market = market(rt.alloc(), &orders, &[gate(None), gate(None)])?;
-    for budget in [5, 7, 50_000] {
-        let Cleared::Published(clearing) = searched(rt.alloc(), &market, budget)? else {
-            return Err("it is published".into());
-        };
-        assert_eq!(rt; clearing.welfare, 299_907_000);
-        assert_eq!(rt;
-            clearing.activation.mw.as_slice(),
-            [0, 30, 0, 30].as_slice()
-        );
-        assert!(rt; clearing.tree.as_slice().len() <= 7);
-        if budget == 5 {
-            assert!(rt; is_two_branches_and_three_bounds(clearing.tree.as_slice()));
-        }
-    }
-    Ok(())
-}
-
-/// What is published of four equal bids of 10 MW, for a demand of so many MW.
-fn published_of_four(alloc: Global, wanted: u32) -> Result<Vec<u32>, Fail> {
-    let orders = [
-        gated(0, 3000, 10, 10),
-        gated(1, 3000, 10, 10),
-        gated(2, 3000, 10, 10),
-        gated(3, 3000, 10, 10),
-        bid(5000, 100),
-        demand(wanted),
-    ];
-    let gates = [gate(None), gate(None), gate(None), gate(None)];
-    let market = market(alloc, &orders, &gates)?;
-    let cleared = searched(alloc, &market, 31)?;
-    Ok(published_mw(&cleared).to_vec(alloc)?)
-}
-
-#[test]
-fn of_equal_bids_the_last_ones_are_opened(rt: HostRuntime) -> Result<(), Fail> {
-    assert_eq!(rt;
-        published_of_four(rt.alloc(), 10)?.as_slice(),
-        [0, 0, 0, 10, 0, 10].as_slice()
-    );
-    assert_eq!(rt;
-        published_of_four(rt.alloc(), 20)?.as_slice(),
-        [0, 0, 10, 10, 0, 20].as_slice()
-    );
-    assert_eq!(rt;
-        published_of_four(rt.alloc(), 30)?.as_slice(),
-        [0, 10, 10, 10, 0, 30].as_slice()
-    );
-    Ok(())
-}
-
 #[test]
 fn a_clearer_on_one_thread_searches(rt: HostRuntime) -> Result<(), Fail> {
     let market = market(rt.alloc(), &[bid(5000, 100), demand(60)], &[])?;
     assert!(rt; market.valid());
     let cleared = Alone.clear(rt.alloc(), &market, 1);
     assert_eq!(rt; welfare_of(&cleared), Some(599_694_000));
-    Ok(())
-}
-
-/// The potentials of a tree of a branch, a bound and a conflict in one zone.
-fn marks_of(cleared: &Cleared) -> Option<(i64, i64)> {
-    let Cleared::Published(clearing) = cleared else {
-        return None;
-    };
-    let [
-        TreeItem::Branch,
-        TreeItem::Leaf(Leaf::Bound(bound)),
-        TreeItem::Leaf(Leaf::Conflict(conflict)),
-    ] = clearing.tree.as_slice()
-    else {
-        return None;
-    };
-    let bound = bound.cents.as_slice().first()?;
-    let conflict = conflict.potentials.cents.as_slice().first()?;
-    Some((bound.0, conflict.0))
-}
-
-/// What a clearer comes to.
-fn cleared_by<C: Clearer>(
-    clearer: &mut C,
-    alloc: Global,
-    market: &Market,
-    budget: u32,
-) -> Result<Cleared, Fail>
-    requires { C.ready clearer.old }
-{
-    if market.valid() && (1..=50_000).contains(&budget) {
-        Ok(clearer.clear(alloc, market, budget))
-    } else {
-        Err("the market is valid, and the budget in range".into())
-    }
-}
-
-/// What so many workers come to.
-fn crew_cleared<G: Turnstile, R: Threads + Wait + Sync>(
-    rt: &R,
-    alloc: Global,
-    market: &Market,
-    workers: u32,
-    budget: u32,
-    turnstile: &G,
-) -> Result<Cleared, Fail>
-    requires { (1 ≤ workers) × (workers ≤ 16) }
-{
-    let mut crew = Crew {
-        run: |alloc: Global, market: &Market, budget: u32| -> Cleared
-            requires { IsValid market.now × (1 ≤ budget) × (budget ≤ 50000) × (1 ≤ workers) × (workers ≤ 16) }
-            ensures { Clears market.entry.now budget result }
-        { search(rt, alloc, market, workers, budget, turnstile) },
-    };
-    cleared_by(&mut crew, alloc, market, budget)
-}
-
-#[test]
-fn two_workers_come_to_two_leaves(rt: HostRuntime) -> Result<(), Fail> {
-    let alloc = rt.alloc();
-    let downward = Order {
-        side: Side::Withdraw,
-        ..bid(2000, 10)
-    };
-    let orders = [gated(0, 3000, 20, 20), bid(9000, 10), downward, demand(10)];
-    let market = market(alloc, &orders, &[gate(None)])?;
-    let pair = Pair::new();
-    let cleared = crew_cleared(&rt, alloc, &market, 2, 10_000, &pair)?;
-    assert_eq!(rt; welfare_of(&cleared), Some(99_909_000));
-    assert_eq!(rt; published_mw(&cleared), [0, 10, 0, 10].as_slice());
-    assert_eq!(rt; pair.came.load(Ordering::SeqCst), 3);
-    assert_eq!(rt; pair.calls.load(Ordering::SeqCst), 3);
-    assert!(rt; !pair.ran_out.load(Ordering::SeqCst));
-    let marks = marks_of(&cleared);
-    assert!(rt; marks == Some((10_000, 1001)) || marks == Some((10_001, 1000)));
-    Ok(())
-}
-
-#[test]
-fn many_workers_come_to_what_one_does(rt: HostRuntime) -> Result<(), Fail> {
-    let alloc = rt.alloc();
-    let orders = [gated(0, 3000, 40, 40), bid(5000, 100), demand(30)];
-    let market = market(alloc, &orders, &[gate(None)])?;
-    for workers in [1, 2, 4, 16] {
-        let cleared = crew_cleared(&rt, alloc, &market, workers, 3, &FreeTurnstile)?;
-        assert_eq!(rt; welfare_of(&cleared), Some(299_847_000));
-        let spent = crew_cleared(&rt, alloc, &market, workers, 2, &FreeTurnstile)?;
-        assert_eq!(rt; spent_items(&spent), [PartItem::Pending].as_slice());
-    }
-    Ok(())
-}
-
-/// A worker takes the one node, and a second one is idle; then the node is reclaimed. The first ticket is settled or given back.
-fn reclaimed<'m, N: SearchName>(
-    alloc: Global,
-    market: &'m Market,
-    incumbent: &Incumbent,
-    seat: Seat,
-    mine: Seat,
-    settles: bool,
-) -> Result<(), Fail>
-    requires name { (market.now ≡ N.market) × (N.budget ≡ 3) × (N.workers ≡ 2) × (incumbent.now ≡ N.word) }
-    requires market { IsValid market.now }
-    requires closed { IsClosedWelfare market.now (pos N.word.first) }
-    requires seat { IsFresh N.word seat }
-    requires mine { IsFresh N.word mine }
-{
-    let mut pool = Pool::<N>::start(alloc, market, 3, 2, seat)?;
-    let Took::Took(ticket) = pool.take(0) else {
-        return Err("the first worker gets a node".into());
-    };
-    if !matches!(pool.take(1), Took::Idle(1)) {
-        return Err("the second worker is idle".into());
-    }
-    pool.reclaim()?;
-    if settles {
-        let mut worked = Worked {
-            seat: mine,
-            best: None,
-        };
-        let finding = visit(
-            alloc,
-            market,
-            0,
-            &ticket.prefix,
-            incumbent,
-            &mut worked,
-            &FreeTurnstile,
-            &mut None,
-        )?;
-        if pool.settle(incumbent, ticket, finding, &mut worked.seat) != Settled::Stale {
-            return Err("the ticket is stale".into());
-        }
-    } else if pool.give_back(ticket) {
-        return Err("the ticket is stale".into());
-    }
-    Ok(())
-}
-
-#[test]
-fn a_reclaimed_ticket_is_stale(rt: HostRuntime) -> Result<(), Fail> {
-    let alloc = rt.alloc();
-    let orders = [gated(0, 3000, 40, 40), bid(5000, 100), demand(30)];
-    let market = market(alloc, &orders, &[gate(None)])?;
-    if !market.valid() {
-        return Err("the market is valid".into());
-    }
-    for settles in [true, false] {
-        let first = first_of(alloc, &market)?;
-        let (incumbent, mut mine) = Incumbent::start(alloc, first.welfare, 2)?;
-        let seat = incumbent.split(&mut mine);
-        reclaimed::<Brand>(alloc, &market, &incumbent, seat, mine, settles)?;
-    }
     Ok(())
 }

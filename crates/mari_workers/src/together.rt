@@ -55,7 +55,7 @@ fn jobs_of(
     Ok(jobs)
 }
 
-/// Runs each job in a thread of its own.
+/// Runs each job in a thread of its own, or on this thread where none can be made for it. All have ended then.
 fn run_all<'m, N: SearchName + Send + Sync, G: Turnstile, R: Threads + Wait + Sync>(
     rt: &R,
     alloc: Global,
@@ -188,6 +188,8 @@ fn published<'m, N: SearchName>(
 }
 
 /// Clears a market from the best activation with every gate closed, by a search of this name, and refines what is found.
+///
+/// While the workers run the incumbent lies on a cache line of its own, since each of them steps on its word.
 fn searched<N: SearchName + Send + Sync, G: Turnstile, R: Threads + Wait + Sync>(
     rt: &R,
     alloc: Global,

@@ -13,7 +13,7 @@ use crate::alone::{best_of, copy_of};
 use crate::turnstile::Turnstile;
 use mari_incumbent::{Incumbent, Seat};
 use mari_market::{Activation, Attained, Finding, Market, Prefix};
-use mari_pool::{Pool, SearchName, Took};
+use mari_pool::{Pool, SearchName, Settled, Took};
 use mari_units::Memory;
 use std::alloc::Global;
 use std::sync::{Condvar, Mutex, Wait};
@@ -92,7 +92,8 @@ pub(crate) fn visit<G: Turnstile>(
 /// One worker's loop: it takes nodes, finds out about them and settles them, until none is left or one could not branch within
 /// the budget. Where memory is wanting it gives its node back and ends.
 ///
-/// Pool, seat and incumbent are of one search of this market. The start is the worker's own.
+/// Pool, seat and incumbent are of one search of this market. The lock is held for one take, one settle or one give-back. The bell
+/// rings where somebody who waits may get on: after a branch, and when a worker ends. The start is the worker's own.
 pub fn work<'m, N: SearchName, G: Turnstile, R: Wait>(
     rt: &R,
     alloc: Global,
@@ -129,13 +130,16 @@ pub fn work<'m, N: SearchName, G: Turnstile, R: Wait>(
         );
         let Ok(finding) = found else {
             pool.lock(rt).give_back(ticket);
-            bell.notify_all();
             break;
         };
-        pool.lock(rt)
+        let settled = pool
+            .lock(rt)
             .settle(incumbent, ticket, finding, &mut worked.seat);
-        bell.notify_all();
+        if settled == Settled::Branched {
+            bell.notify_all();
+        }
     }
+    bell.notify_all();
     worked
 }
 

@@ -1,5 +1,5 @@
 -- What holds of every book of zones or borders that is read.
-use Rattle.std.proofs.Common.{◌≡◌, ◌≢◌, ◌∙◌, ◌≤◌, ◌<◌, ◌==◌, ℕ, true, false, List, [], ◌∷◌, ◌++◌, None, Ok, Err, Result, IfOk, map, length, length-append, get_or, sym, arith}
+use Rattle.std.proofs.Common.{◌≡◌, ◌≢◌, ◌∙◌, ◌≤◌, ◌<◌, ◌==◌, ℕ, Bool, Some, if◌then◌else◌, true, false, List, [], ◌∷◌, ◌++◌, None, Ok, Err, Result, IfOk, map, length, length-append, get_or, sym, arith}
 use Rattle.std.specs.Prelude.{◌&&◌, nat_le, is_some, unwrap_or}
 use Rattle.std.specs.List.{All, AllPairs}
 use Rattle.std.specs.Str.{bytes_eq}
@@ -7,15 +7,16 @@ use Rattle.std.proofs.lemmas.Bool.Decides.{nat_tests, eqb_tells}
 use Rattle.std.proofs.lemmas.List.{length-map, map-append}
 use Rattle.std.proofs.lemmas.List.Elements.{All-map, All-nil, All-push}
 use Rattle.mari_units.specs.Names.{is_name}
-use Rattle.mari_rows.specs.Books.{GivesBook, book_of_rows, first_failing}
+use Rattle.mari_rows.specs.Books.{GivesBook, book_in, book_of_rows, first_failing}
+use Rattle.mari_rows.specs.Fields.{number_in}
 use Rattle.mari_rows.specs.Names.{place_in}
 use Rattle.mari_rows.specs.Rows.{field_of}
 use Rattle.mari_rows.specs.declared.faults.BookFault.{BookFault}
 use Rattle.mari_rows.specs.declared.rows.Row.{Row}
-use Rattle.mari_rows.proofs.BookLemmas.{book-rows}
+use Rattle.mari_rows.proofs.BookLemmas.{book-page, book-rows}
 use Rattle.mari_rows.proofs.BookFacts.{all-distinct, all-passed, along-lines, both-parts, distinct-more, found-below, not-false, number-bounds, places-below}
 use Rattle.mari_rows.proofs.PlaceLemmas.{length-distinct}
-use Rattle.mari_zones.specs.Zones.{IsZoneBook, operator_of, operators_of, zone_book, zone_checks, zone_grammar, zone_of, zones_of}
+use Rattle.mari_zones.specs.Zones.{IsZoneBook, operator_of, operators_of, zone_book, zone_checks, zone_file_checks, zone_grammar, zone_of, zones_of}
 use Rattle.mari_zones.specs.Borders.{IsBorder, IsBorderBook, border_book, border_checks, border_grammar, border_of, limit_in, zone_named}
 use Rattle.mari_zones.specs.declared.zones.ZoneBook.{ZoneBook}
 use Rattle.mari_zones.specs.declared.borders.BorderBook.{BorderBook}
@@ -46,12 +47,14 @@ some-zone : (n : ℕ) → (n == 0) ≡ false → 1 ≤ n
 some-zone n e = grind (arith, nat_tests, e)
 
 -- what is read is such a book of zones
-pub zone-facts : (rows : List Row) (result : Result ZoneBook BookFault) → GivesBook result (book_of_rows zone_grammar rows) → IfOk result IsZoneBook
-zone-facts rows (Err fault) gives = tt
-zone-facts rows (Ok book) gives =
-    let is = book-rows zone_grammar rows book gives in
+pub zone-facts : (page : List ℕ) (result : Result ZoneBook BookFault) → GivesBook result (book_in zone_grammar page) → IfOk result IsZoneBook
+zone-facts page (Err fault) gives = tt
+zone-facts page (Ok book) gives =
+    let read = book-page zone_grammar page book gives in
+    let rows : List Row = read.0 in
+    let is = read.2 in
     let are = along-lines zone_grammar AreZones one-zone rows book is no-zones in
-    let file = all-passed ((length rows == 0, 14) ∷ []) is.file in
+    let file = all-passed (zone_file_checks rows) is.file in
     let place : Row → ℕ = λ row. place_in (operators_of rows) (operator_of row) in
     let whole : IsZoneBook (zone_book rows) = record {
       some = simp length-map (some-zone (length rows) file.0);
@@ -65,41 +68,51 @@ zone-facts rows (Ok book) gives =
     } in
     rw is.says whole
 
-module _ (zones : ZoneBook) where
+-- a limit that is stated is in range
+limit-bound : (version : ℕ) (text : List ℕ) → is_some (limit_in version text) ≡ true → unwrap_or (limit_in version text) 0 ≤ 99999
+limit-bound version text some = by (version == 2) some
+  where
+    by : (b : Bool) → is_some (if b then Some 0 else number_in 0 99999 text) ≡ true → unwrap_or (if b then Some 0 else number_in 0 99999 text) 0 ≤ 99999
+    by true some = omega arith
+    by false some = (number-bounds 0 99999 text some).1
+
+module _ (zones : ZoneBook) (version : ℕ) where
   -- what holds of the lines of borders so far
   record AreBorders (rows : List Row) : Type 0 where
     few : length rows ≤ 256
-    borders : All (λ row. IsBorder zones (border_of zones row)) rows
+    borders : All (λ row. IsBorder zones (border_of zones version row)) rows
 
   differ : (a b : ℕ) → (a == b) ≡ false → a ≢ b
   differ a b e = grind (arith, nat_tests, e)
 
-  one-border : (before : List Row) (line : Row) → first_failing (border_checks zones before line) ≡ None → AreBorders before → AreBorders (before ++ line ∷ [])
+  one-border : (before : List Row) (line : Row) → first_failing (border_checks zones version before line) ≡ None → AreBorders before → AreBorders (before ++ line ∷ [])
   one-border before line none so_far =
-      let all = all-passed (border_checks zones before line) none in
+      let all = all-passed (border_checks zones version before line) none in
       let ends = both-parts (is_some (zone_named zones (field_of line 0))) (is_some (zone_named zones (field_of line 1))) (not-false _ all.1.0) in
-      let limits = both-parts (is_some (limit_in (field_of line 2))) (is_some (limit_in (field_of line 3))) (not-false _ all.1.1.1.1.0) in
+      let limits = both-parts (is_some (limit_in version (field_of line 2))) (is_some (limit_in version (field_of line 3))) (not-false _ all.1.1.1.1.0) in
       let room : length before < 256 = grind (arith, nat_tests, all.0) in
       record {
         few = simp length-append (omega (arith, room));
-        borders = All-push (λ row. IsBorder zones (border_of zones row)) before line so_far.borders
+        borders = All-push (λ row. IsBorder zones (border_of zones version row)) before line so_far.borders
             (record {
               from = found-below (bytes_eq (field_of line 0)) zones.zones ends.0;
               to = found-below (bytes_eq (field_of line 1)) zones.zones ends.1;
               apart = differ _ _ all.1.1.0;
-              limit = (number-bounds 0 99999 (field_of line 2) limits.0).1;
-              back = (number-bounds 0 99999 (field_of line 3) limits.1).1;
+              limit = limit-bound version (field_of line 2) limits.0;
+              back = limit-bound version (field_of line 3) limits.1;
             });
       }
 
   -- what is read is such a book of borders
-  pub border-facts : (rows : List Row) (result : Result BorderBook BookFault) → GivesBook result (book_of_rows (border_grammar zones) rows) → IfOk result (IsBorderBook zones)
-  border-facts rows (Err fault) gives = tt
-  border-facts rows (Ok book) gives =
-      let is = book-rows (border_grammar zones) rows book gives in
-      let are = along-lines (border_grammar zones) AreBorders one-border rows book is (record { few = omega arith; borders = All-nil _ }) in
-      let whole : IsBorderBook zones (border_book zones rows) = record {
+  pub border-facts : (page : List ℕ) (result : Result BorderBook BookFault) → GivesBook result (book_in (border_grammar zones version) page) → IfOk result (IsBorderBook zones)
+  border-facts page (Err fault) gives = tt
+  border-facts page (Ok book) gives =
+      let read = book-page (border_grammar zones version) page book gives in
+      let rows : List Row = read.0 in
+      let is = read.2 in
+      let are = along-lines (border_grammar zones version) AreBorders one-border rows book is (record { few = omega arith; borders = All-nil (λ row. IsBorder zones (border_of zones version row)) }) in
+      let whole : IsBorderBook zones (border_book zones version rows) = record {
         few = simp length-map are.few;
-        borders = All-map (IsBorder zones) (border_of zones) rows are.borders;
+        borders = All-map (IsBorder zones) (border_of zones version) rows are.borders;
       } in
       rw is.says whole

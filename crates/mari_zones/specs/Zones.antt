@@ -2,11 +2,14 @@
 use Rattle.std.specs.Prelude.{◌≡◌, ◌≢◌, ◌≤◌, ◌<◌, true, ℕ, List, [], ◌∷◌, not, ◌&&◌, ◌==◌, nat_le, length, map, codes}
 use Rattle.std.specs.List.{All, AllPairs}
 use Rattle.mari_units.specs.Names.{is_name}
+use Rattle.mari_units.specs.declared.limits.TheConstants.{MOST_ZONES}
 use Rattle.mari_rows.specs.Books.{Checks, Grammar}
 use Rattle.mari_rows.specs.Names.{distinct, is_among, place_in}
 use Rattle.mari_rows.specs.Rows.{field_of}
 use Rattle.mari_rows.specs.declared.rows.Row.{Row}
+use Rattle.mari_zones.specs.ZoneChecks.{zone_check_number}
 use Rattle.mari_zones.specs.declared.zones.ZoneBook.{ZoneBook}
+use Rattle.mari_zones.specs.declared.zones.ZoneCheck.TheVariants.{BadField, NoZone, Repeated, TooManyZones}
 
 -- the zone of a line
 abbrev pub zone_of : Row → List ℕ
@@ -27,14 +30,14 @@ operators_of rows = distinct (map operator_of rows)
 -- a line is refused as the 65th, for a field that is no name, and for a zone of an earlier line
 abbrev pub zone_checks : List Row → Row → Checks
 zone_checks earlier row =
-    (nat_le 64 (length earlier), 11)
-    ∷ (not (is_name (zone_of row) && is_name (operator_of row)), 12)
-    ∷ (is_among (zones_of earlier) (zone_of row), 13)
+    (nat_le MOST_ZONES (length earlier), zone_check_number TooManyZones)
+    ∷ (not (is_name (zone_of row) && is_name (operator_of row)), zone_check_number BadField)
+    ∷ (is_among (zones_of earlier) (zone_of row), zone_check_number Repeated)
     ∷ []
 
 -- a file without a zone is refused
 abbrev pub zone_file_checks : List Row → Checks
-zone_file_checks rows = (length rows == 0, 14) ∷ []
+zone_file_checks rows = (length rows == 0, zone_check_number NoZone) ∷ []
 
 -- each line's zone, each operator, and the place of each zone's operator
 abbrev pub zone_book : List Row → ZoneBook

@@ -1,21 +1,50 @@
 //! The borders between zones and their limits.
 ghost use Rattle.std.specs.Prelude.{◌≡◌, ◌≤◌, IfOk, List, length, map};
 ghost use Rattle.std.specs.List.{list_any};
-ghost use Rattle.mari_rows.specs.Books.{book_in, book_of_rows, first_failing, GivesBook};
-ghost use Rattle.mari_rows.specs.First.{unless_fault};
+ghost use Rattle.mari_rows.specs.Books.{first_failing, GivesBook};
+ghost use Rattle.mari_rows.specs.Checks.{IsRead};
 ghost use Rattle.mari_rows.specs.declared.rows.Row.{Row as Line};
-ghost use Rattle.mari_zones.specs.Borders.{IsBorderBook, border_checks, border_columns, border_grammar, border_of as border_in, is_between_same as is_between_same_in, limit_in};
+ghost use Rattle.mari_zones.specs.BorderChecks.{border_check_name, border_check_number};
+ghost use Rattle.mari_zones.specs.Borders.{IsBorderBook, bare_columns, border_checks, border_columns, border_grammar, border_of as border_in, borders_in, columns_in, is_between_same as is_between_same_in, limit_in, version_in};
 
 use crate::zones::ZoneBook;
-use mari_rows::{BookFault, Row, RowReader, number_of, read_rows};
-use mari_units::Items;
+use mari_rows::{
+    BookFault, BookSoFar, FileCheck, LineFault, Row, has_header, number_of, read_book,
+};
+use mari_units::{Items, MOST_BORDERS, MOST_MW, Memory};
 use std::alloc::Global;
 
 const COLUMNS: &str = "from,to,limit,back";
 
-const MOST_BORDERS: usize = 256;
+// The columns of version 2, where limits are stated for each run.
+const BARE_COLUMNS: &str = "from,to";
 
-const MOST_MW: u32 = 99_999;
+/// A check of borders.csv.
+#[derive(Clone, Copy, Debug, PartialEq, Eq)]
+pub enum BorderCheck {
+    TooManyBorders,
+    Unknown,
+    SelfBorder,
+    Repeated,
+    Range,
+}
+
+impl FileCheck for BorderCheck {
+    ghost number = { border_check_number };
+
+    ghost name = { border_check_name };
+
+    #[tactic(auto, unfolding(crate::specs::BorderChecks::border_check_name))]
+    fn entry(self) -> (u8, &'static str) {
+        match self {
+            BorderCheck::TooManyBorders => (11, "TooManyBorders"),
+            BorderCheck::Unknown => (12, "Unknown"),
+            BorderCheck::SelfBorder => (13, "SelfBorder"),
+            BorderCheck::Repeated => (14, "Repeated"),
+            BorderCheck::Range => (15, "Range"),
+        }
+    }
+}
 
 /// A border from one zone to another, by their places among the zones, and its limits there and back, in MW.
 #[derive(Clone, Copy, Debug, PartialEq, Eq)]
@@ -33,22 +62,51 @@ pub struct BorderBook {
 }
 
 impl BorderBook {
-    /// The book of a page, or its first refusal.
+    /// The book of a page of either version, or its first refusal. In version 2 all its limits are 0.
     pub fn read(alloc: Global, borders: &[u8], zones: &ZoneBook) -> Result<BorderBook, BookFault>
         requires { length borders.now ≤ 268435456 }
-        ensures book { GivesBook result (book_in (border_grammar zones.now) borders.now) }
+        ensures book { GivesBook result (borders_in zones.now borders.now) }
         ensures borders { IfOk result (IsBorderBook zones.now) }
     {
-        let mut lines = read_rows(alloc, borders, COLUMNS)?;
-        book_of(alloc, &mut lines, zones)
+        let version = version_of(alloc, borders)?;
+        let none = BordersSoFar {
+            zones,
+            version,
+            borders: Vec::new(alloc),
+        };
+        read_book(alloc, borders, columns_of(version), none)
     }
 }
 
-// The limit that a text writes.
-fn limit_of(text: &[u8]) -> Option<u32>
-    ensures { result ≡ limit_in text.now }
+/// The version of a page of borders: 2 where its first record is the columns `from,to`, and else 1.
+#[tactic(auto, unfolding(crate::specs::Borders::bare_columns))]
+pub fn version_of(alloc: Global, borders: &[u8]) -> Result<u8, Memory>
+    ensures { IfOk result (λ version. version ≡ version_in borders.now) }
 {
-    number_of(text, 0, MOST_MW)
+    if has_header(alloc, borders, BARE_COLUMNS)? {
+        Ok(2)
+    } else {
+        Ok(1)
+    }
+}
+
+// The columns of a version.
+#[tactic(auto, unfolding(crate::specs::Borders::bare_columns, crate::specs::Borders::border_columns))]
+fn columns_of(version: u8) -> &'static str
+    ensures { result.now ≡ columns_in version }
+{
+    if version == 2 { BARE_COLUMNS } else { COLUMNS }
+}
+
+// The limit that a field writes, which is 0 in version 2.
+fn limit_of(version: u8, text: &[u8]) -> Option<u32>
+    ensures { result ≡ limit_in version text.now }
+{
+    if version == 2 {
+        Some(0)
+    } else {
+        number_of(text, 0, MOST_MW)
+    }
 }
 
 // Whether two borders are between the same two zones, in either order.
@@ -67,24 +125,29 @@ fn is_repeated(border: BorderEnds, earlier: &[BorderEnds]) -> bool
 }
 
 // The border of a line behind these, or the first check that fails.
-fn border_of(zones: &ZoneBook, earlier: &[BorderEnds], line: &Row) -> Result<BorderEnds, u8>
-    ensures { (lines : List Line) → earlier.now ≡ map (border_in zones.now) lines
-        → result ≡ unless_fault (first_failing (border_checks zones.now lines line.now)) (border_in zones.now line.now) }
+fn border_of(
+    zones: &ZoneBook,
+    version: u8,
+    earlier: &[BorderEnds],
+    line: &Row,
+) -> Result<BorderEnds, BorderCheck>
+    ensures { (lines : List Line) → earlier.now ≡ map (border_in zones.now version) lines
+        → IsRead border_check_number result (first_failing (border_checks zones.now version lines line.now)) (border_in zones.now version line.now) }
 {
     if earlier.len() >= MOST_BORDERS {
-        return Err(11);
+        return Err(BorderCheck::TooManyBorders);
     }
     let Some(from) = zones.zones.find(line.field(0)) else {
-        return Err(12);
+        return Err(BorderCheck::Unknown);
     };
     let Some(to) = zones.zones.find(line.field(1)) else {
-        return Err(12);
+        return Err(BorderCheck::Unknown);
     };
     if from == to {
-        return Err(13);
+        return Err(BorderCheck::SelfBorder);
     }
-    let limit = limit_of(line.field(2));
-    let back = limit_of(line.field(3));
+    let limit = limit_of(version, line.field(2));
+    let back = limit_of(version, line.field(3));
     let border = BorderEnds {
         from,
         to,
@@ -92,35 +155,43 @@ fn border_of(zones: &ZoneBook, earlier: &[BorderEnds], line: &Row) -> Result<Bor
         back: back.unwrap_or(0),
     };
     if is_repeated(border, earlier) {
-        return Err(14);
+        return Err(BorderCheck::Repeated);
     }
     if limit.is_none() || back.is_none() {
-        return Err(15);
+        return Err(BorderCheck::Range);
     }
     Ok(border)
 }
 
-// The book of these lines, or their first refusal.
-fn book_of(
-    alloc: Global,
-    lines: &mut RowReader<'_>,
-    zones: &ZoneBook,
-) -> Result<BorderBook, BookFault>
-    ensures { GivesBook result (book_of_rows (border_grammar zones.now) lines.old) }
-{
-    let mut borders = Vec::new(alloc);
-    'lines: while let Some(line) = lines.next(alloc)? {
-        match border_of(zones, borders.as_slice(), &line) {
-            Ok(border) => borders.push(border)?,
-            Err(number) => {
-                return Err(BookFault::At {
-                    line: line.line,
-                    number,
-                });
-            }
+// The borders of the lines so far.
+#[derive(Drop)]
+struct BordersSoFar<'a> {
+    zones: &'a ZoneBook,
+    version: u8,
+    borders: Vec<BorderEnds>,
+}
+
+impl<'a> BookSoFar for BordersSoFar<'a> {
+    ghost use Rattle.mari_zones.specs.SoFar.{HoldsBorders};
+
+    type Check = BorderCheck;
+
+    type Book = BorderBook;
+
+    ghost grammar = { λ so_far. border_grammar so_far.zones.now so_far.version };
+
+    ghost Holds = { λ so_far lines. HoldsBorders lines so_far };
+
+    fn take(&mut self, _alloc: Global, line: &Row) -> Result<(), LineFault<BorderCheck>> {
+        match border_of(self.zones, self.version, self.borders.as_slice(), line) {
+            Ok(border) => Ok(self.borders.push(border)?),
+            Err(check) => Err(LineFault::Fails(check)),
         }
     }
-    Ok(BorderBook {
-        borders: Items::of(borders),
-    })
+
+    fn end(self, _alloc: Global) -> Result<BorderBook, LineFault<BorderCheck>> {
+        Ok(BorderBook {
+            borders: Items::of(self.borders),
+        })
+    }
 }

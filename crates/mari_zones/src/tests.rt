@@ -1,4 +1,4 @@
-use crate::{BorderBook, BorderEnds, ZoneBook};
+use crate::{BorderBook, BorderEnds, ZoneBook, version_of};
 use mari_rows::BookFault;
 use std::alloc::Global;
 use std::process::Abort;
@@ -122,6 +122,53 @@ fn each_refusal_of_borders(rt: HostRuntime) -> Result<(), Fail> {
         (b"from,to,limit,back\nA,B,-1,1\n".as_slice(), at(2, 15)),
         (b"from,to,limit,back\nA,B,+1,1\n".as_slice(), at(2, 15)),
         (b"from,to,limit,back\nA,B,1,\n".as_slice(), at(2, 15)),
+    ] {
+        assert_eq!(rt; BorderBook::read(rt.alloc(), page, &zones).err(), want);
+    }
+    Ok(())
+}
+
+#[test]
+fn the_version_of_a_page_of_borders(rt: HostRuntime) {
+    for (page, want) in [
+        (b"from,to\n".as_slice(), 2u8),
+        (b"\xef\xbb\xbf\r\n\"from\",to".as_slice(), 2),
+        (b"from,to,limit,back\n".as_slice(), 1),
+        (b"from, to\n".as_slice(), 1),
+        (b"to,from\n".as_slice(), 1),
+        (b"from\n".as_slice(), 1),
+        (b"A,B\nfrom,to\n".as_slice(), 1),
+        (b"".as_slice(), 1),
+    ] {
+        assert_eq!(rt; version_of(rt.alloc(), page), Ok(want));
+    }
+}
+
+#[test]
+fn borders_without_limits(rt: HostRuntime) -> Result<(), Fail> {
+    let zones = ZoneBook::read(rt.alloc(), b"zone,operator\nA,TA\nB,TB\nC,TB\n")?;
+    let book = BorderBook::read(rt.alloc(), b"from,to\nC,A\nA,B\n", &zones)?;
+    let want = [
+        BorderEnds {
+            from: 2,
+            to: 0,
+            limit: 0,
+            back: 0,
+        },
+        BorderEnds {
+            from: 0,
+            to: 1,
+            limit: 0,
+            back: 0,
+        },
+    ];
+    assert_eq!(rt; book.borders.as_slice(), want.as_slice());
+    for (page, want) in [
+        (b"from,to\nA,B,1,1\n".as_slice(), at(2, 2)),
+        (b"from,to\nX,A\nA,\xff\n".as_slice(), at(3, 3)),
+        (b"from,to\nA,B\nA,X\n".as_slice(), at(3, 12)),
+        (b"from,to\nB,B\n".as_slice(), at(2, 13)),
+        (b"from,to\nA,B\nB,C\nB,A\n".as_slice(), at(4, 14)),
     ] {
         assert_eq!(rt; BorderBook::read(rt.alloc(), page, &zones).err(), want);
     }

@@ -1,18 +1,42 @@
 //! The zones, their operators, and the operator of each zone.
-ghost use Rattle.std.specs.Prelude.{◌≡◌, ◌≤◌, ◌<◌, ◌++◌, ◌∷◌, [], List, true, false, length, IfNone, IfOk};
+ghost use Rattle.std.specs.Prelude.{◌≡◌, ◌≤◌, ◌<◌, List, true, false, length, option_map, IfNone, IfOk};
 ghost use Rattle.mari_units.specs.Names.{is_name};
-ghost use Rattle.mari_rows.specs.Books.{book_in, book_of_rows, first_failing, GivesBook};
+ghost use Rattle.mari_rows.specs.Books.{book_in, first_failing, GivesBook};
 ghost use Rattle.mari_rows.specs.Names.{is_among};
 ghost use Rattle.mari_rows.specs.declared.rows.Row.{Row as Line};
 ghost use Rattle.mari_zones.specs.Zones.{IsZoneBook, operator_of, zone_checks, zone_columns, zone_grammar, zone_of, zones_of};
+ghost use Rattle.mari_zones.specs.ZoneChecks.{zone_check_name, zone_check_number};
 
-use mari_rows::{AddFault, BookFault, NameIndex, Row, RowReader, read_rows};
-use mari_units::{Items, Memory, NameFault, is_name_text, read_name};
+use mari_rows::{BookFault, BookSoFar, FileCheck, LineFault, NameIndex, Row, read_book};
+use mari_units::{Items, MOST_ZONES, is_name_text};
 use std::alloc::Global;
 
 const COLUMNS: &str = "zone,operator";
 
-const MOST_ZONES: u32 = 64;
+/// A check of zones.csv.
+#[derive(Clone, Copy, Debug, PartialEq, Eq)]
+pub enum ZoneCheck {
+    TooManyZones,
+    BadField,
+    Repeated,
+    NoZone,
+}
+
+impl FileCheck for ZoneCheck {
+    ghost number = { zone_check_number };
+
+    ghost name = { zone_check_name };
+
+    #[tactic(auto, unfolding(crate::specs::ZoneChecks::zone_check_name))]
+    fn entry(self) -> (u8, &'static str) {
+        match self {
+            ZoneCheck::TooManyZones => (11, "TooManyZones"),
+            ZoneCheck::BadField => (12, "BadField"),
+            ZoneCheck::Repeated => (13, "Repeated"),
+            ZoneCheck::NoZone => (14, "NoZone"),
+        }
+    }
+}
 
 /// Zones and operators in the order in which they first appear in the file.
 ///
@@ -26,62 +50,78 @@ pub struct ZoneBook {
 
 impl ZoneBook {
     /// The book of a page, or its first refusal.
+    #[tactic(auto, unfolding(crate::specs::Zones::zone_columns))]
     pub fn read(alloc: Global, zones: &[u8]) -> Result<ZoneBook, BookFault>
         requires { length zones.now ≤ 268435456 }
         ensures book { GivesBook result (book_in zone_grammar zones.now) }
         ensures zones { IfOk result IsZoneBook }
     {
-        let mut lines = read_rows(alloc, zones, COLUMNS)?;
-        book_of(alloc, &mut lines)
+        let none = ZonesSoFar {
+            zones: NameIndex::new(alloc),
+            operators: NameIndex::new(alloc),
+            operator_of: Vec::new(alloc),
+        };
+        read_book(alloc, zones, COLUMNS, none)
     }
 }
 
+// The zones of the lines so far.
+#[derive(Drop)]
+struct ZonesSoFar {
+    zones: NameIndex,
+    operators: NameIndex,
+    operator_of: Vec<u32>,
+}
+
 // The first check that a line fails behind others with these zones.
-fn failing_check(zones: &NameIndex, line: &Row) -> Option<u8>
-    ensures first { (earlier : List Line) → zones.now ≡ zones_of earlier → result ≡ first_failing (zone_checks earlier line.now) }
-    ensures room { IfNone result (length zones.now < 64) }
+fn failing_check(zones: &NameIndex, line: &Row) -> Option<ZoneCheck>
+    ensures first { (earlier : List Line) → zones.now ≡ zones_of earlier
+        → option_map zone_check_number result ≡ first_failing (zone_checks earlier line.now) }
     ensures zone { IfNone result (is_name (zone_of line.now) ≡ true) }
     ensures operator { IfNone result (is_name (operator_of line.now) ≡ true) }
     ensures new { IfNone result (is_among zones.now (zone_of line.now) ≡ false) }
 {
     let zone = line.field(0);
-    if zones.len() >= MOST_ZONES {
-        Some(11)
+    if zones.len() as usize >= MOST_ZONES {
+        Some(ZoneCheck::TooManyZones)
     } else if !(is_name_text(zone) && is_name_text(line.field(1))) {
-        Some(12)
+        Some(ZoneCheck::BadField)
     } else if zones.find(zone).is_some() {
-        Some(13)
+        Some(ZoneCheck::Repeated)
     } else {
         None
     }
 }
 
-// The book of these lines, or their first refusal.
-fn book_of(alloc: Global, lines: &mut RowReader<'_>) -> Result<ZoneBook, BookFault>
-    ensures { GivesBook result (book_of_rows zone_grammar lines.old) }
-{
-    let mut zones = NameIndex::new(alloc);
-    let mut operators = NameIndex::new(alloc);
-    let mut operator_of = Vec::new(alloc);
-    'lines: while let Some(line) = lines.next(alloc)? {
-        if let Some(number) = failing_check(&zones, &line) {
-            return Err(BookFault::At {
-                line: line.line,
-                number,
-            });
+impl BookSoFar for ZonesSoFar {
+    ghost use Rattle.mari_zones.specs.SoFar.{HoldsZones};
+
+    type Check = ZoneCheck;
+
+    type Book = ZoneBook;
+
+    ghost grammar = { λ _. zone_grammar };
+
+    ghost Holds = { λ so_far lines. HoldsZones lines so_far };
+
+    fn take(&mut self, alloc: Global, line: &Row) -> Result<(), LineFault<ZoneCheck>> {
+        if let Some(check) = failing_check(&self.zones, line) {
+            return Err(LineFault::Fails(check));
         }
-        zones.find_or_add(alloc, line.field(0))?;
-        operator_of.push(operators.find_or_add(alloc, line.field(1))?)?;
+        self.zones.find_or_add(alloc, line.field(0))?;
+        let operator = self.operators.find_or_add(alloc, line.field(1))?;
+        self.operator_of.push(operator)?;
+        Ok(())
     }
-    if zones.len() == 0 {
-        return Err(BookFault::At {
-            line: 1,
-            number: 14,
-        });
+
+    fn end(self, _alloc: Global) -> Result<ZoneBook, LineFault<ZoneCheck>> {
+        if self.zones.len() == 0 {
+            return Err(LineFault::Fails(ZoneCheck::NoZone));
+        }
+        Ok(ZoneBook {
+            zones: self.zones,
+            operators: self.operators,
+            operator_of: Items::of(self.operator_of),
+        })
     }
-    Ok(ZoneBook {
-        zones,
-        operators,
-        operator_of: Items::of(operator_of),
-    })
 }

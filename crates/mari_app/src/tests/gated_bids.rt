@@ -1,8 +1,10 @@
-//! Folders with gated bids, and the days that they print.
+//! Folders with gated bids, and the days that they print, by one worker and by several.
 //!
 //! Where the market leaves a bound's price open, or which node closes the tree, the text is compared around the certificate.
 
-use super::{DEMANDS, Folder, ONE_ZONE, clears, clears_within, prints, prints_around, refuses};
+use super::{
+    DEMANDS, Folder, ONE_ZONE, clears_alike, clears_within, prints, prints_around, refuses,
+};
 use std::test::Fail;
 
 /// A bid of 40 MW or none, for which a demand of 30 MW is too small.
@@ -41,7 +43,7 @@ total-operator T 0.0000 0.0000 0.0000
 total-provider P 375.0000
 done 1 0
 ";
-    clears(&rt, rt.alloc(), OVERSIZED, 0, printed)
+    clears_alike(&rt, rt.alloc(), OVERSIZED, 0, printed)
 }
 
 #[test]
@@ -73,10 +75,10 @@ total-operator T 0.0000 0.0000 0.0000
 total-provider P 999990.0000
 done 1 0
 ";
-    clears(&rt, rt.alloc(), folder, 0, printed)
+    clears_alike(&rt, rt.alloc(), folder, 0, printed)
 }
 
-// Every potential from 50.00 to 99999.00 has the dual value 499825000 at the empty prefix, so the bound isn't compared.
+// Every potential from 50.00 to 99999.00 has the dual value 499825000 where i1's gate is open, so that bound isn't compared.
 #[test]
 fn the_price_is_at_the_end_of_its_interval(rt: HostRuntime) -> Result<(), Fail> {
     let folder = Folder {
@@ -92,7 +94,9 @@ zone Z 50.00 50.00 99999.00 1
 bid p1 20
 bid i1 30
 demand 1 50
-tree 1
+tree 3
+branch
+bound 99999.00
 bound ";
     let after = "
 operator T 0.0000 0.0000 0.0000
@@ -136,7 +140,7 @@ total-operator T 0.0000 0.0000 0.0000
 total-provider P 312.5000
 done 1 0
 ";
-    clears(&rt, rt.alloc(), folder, 0, printed)
+    clears_alike(&rt, rt.alloc(), folder, 0, printed)
 }
 
 #[test]
@@ -169,7 +173,7 @@ total-operator T 0.0000 0.0000 0.0000
 total-provider P 500.0000
 done 1 0
 ";
-    clears(&rt, rt.alloc(), FAMILY, 0, printed)
+    clears_alike(&rt, rt.alloc(), FAMILY, 0, printed)
 }
 
 // At the empty prefix the parent and p1 cost the same, so whether the tree ends there depends on which of them is chosen.
@@ -195,6 +199,35 @@ provider P 600.0000
 end 1
 total-operator T 0.0000 0.0000 0.0000
 total-provider P 600.0000
+done 1 0
+";
+    prints_around(&rt, rt.alloc(), folder, before, after)
+}
+
+// With several workers the tree may have 5 or 7 items, since it isn't told which of the two bids is found first.
+#[test]
+fn of_two_equal_bids_the_later_runs(rt: HostRuntime) -> Result<(), Fail> {
+    let folder = Folder {
+        bids: "id,provider,zone,quarter,direction,price,least,greatest,kind\ni1,P,Z,1,up,30.00,30,30,both\ni2,P,Z,1,up,30.00,30,30,both\np1,P,Z,1,up,50.00,0,100,both\n",
+        demands: "run,zone,mw,price\n1,Z,30,\n",
+        ..ONE_ZONE
+    };
+    let before = "\
+mari 1 2025-03-12 96 10000
+run 1 1 scheduled published
+welfare 299907000
+zone Z 40.00 30.00 50.00 1
+bid i1 0
+bid i2 30
+bid p1 0
+demand 1 30
+tree ";
+    let after = "
+operator T 0.0000 0.0000 0.0000
+provider P 300.0000
+end 1
+total-operator T 0.0000 0.0000 0.0000
+total-provider P 300.0000
 done 1 0
 ";
     prints_around(&rt, rt.alloc(), folder, before, after)
@@ -248,6 +281,7 @@ done 1 0
     clears_within(&rt, rt.alloc(), OVERSIZED, "3", 0, printed)
 }
 
+// Each leaf with a gate closed is early for the word that opens all of them, so each gate is decided.
 #[test]
 fn twelve_indivisible_bids_run_within_the_default_budget(rt: HostRuntime) -> Result<(), Fail> {
     let folder = Folder {
@@ -274,7 +308,31 @@ bid i11 1
 bid i12 1
 bid p1 18
 demand 1 30
-tree 1
+tree 25
+branch
+bound 50.00
+branch
+bound 50.00
+branch
+bound 50.00
+branch
+bound 50.00
+branch
+bound 50.00
+branch
+bound 50.00
+branch
+bound 50.00
+branch
+bound 50.00
+branch
+bound 50.00
+branch
+bound 50.00
+branch
+bound 50.00
+branch
+bound 50.00
 bound 50.00
 operator T 0.0000 0.0000 0.0000
 provider P 375.0000
@@ -283,7 +341,7 @@ total-operator T 0.0000 0.0000 0.0000
 total-provider P 375.0000
 done 1 0
 ";
-    clears(&rt, rt.alloc(), folder, 0, printed)
+    clears_alike(&rt, rt.alloc(), folder, 0, printed)
 }
 
 #[test]
@@ -299,7 +357,9 @@ welfare 599694000
 zone Z 50.00 50.00 50.00 1
 bid u1 60
 demand 1 60
-tree 1
+tree 3
+branch
+bound 99999.00
 bound 50.00
 operator T 0.0000 0.0000 0.0000
 provider P 750.0000
@@ -308,7 +368,7 @@ total-operator T 0.0000 0.0000 0.0000
 total-provider P 750.0000
 done 1 0
 ";
-    clears(&rt, rt.alloc(), folder, 0, printed)
+    clears_alike(&rt, rt.alloc(), folder, 0, printed)
 }
 
 // The conflict runs 1 MW of u1, which states no least: its open gate runs that at least.

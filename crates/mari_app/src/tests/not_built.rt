@@ -3,10 +3,16 @@
 use super::{DEMANDS, Folder, ONE_ZONE, refuses};
 use std::alloc::Global;
 use std::process::Abort;
+use std::sync::Wait;
 use std::test::Fail;
+use std::thread::Threads;
 
 /// A folder is refused for this page of links, before its runs are.
-fn refuses_links(rt: &impl Abort, alloc: Global, links: &str) -> Result<(), Fail> {
+fn refuses_links(
+    rt: &(impl Abort + Threads + Wait + Sync),
+    alloc: Global,
+    links: &str,
+) -> Result<(), Fail> {
     let folder = Folder {
         bids: "id,provider,zone,quarter,direction,price,least,greatest,kind\ny,P,Z,1,up,10.00,0,10,both\nx,P,Z,2,up,20.00,0,10,both\n",
         links,
@@ -33,7 +39,11 @@ fn a_bid_with_a_technical_link(rt: HostRuntime) -> Result<(), Fail> {
 }
 
 /// A folder with gates is refused for this page of runs.
-fn refuses_runs(rt: &impl Abort, alloc: Global, runs: &str) -> Result<(), Fail> {
+fn refuses_runs(
+    rt: &(impl Abort + Threads + Wait + Sync),
+    alloc: Global,
+    runs: &str,
+) -> Result<(), Fail> {
     let folder = Folder {
         links: "kind,first,second\ngroup,g1,u1\n",
         runs,

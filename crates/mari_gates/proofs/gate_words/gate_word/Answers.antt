@@ -1,5 +1,6 @@
 use Rattle.std.proofs.Common.{arith, length, ◌≡◌, ◌∙◌}
-use Rattle.mari_gates.proofs.GateWords.{as_many, marked, marks_feasible, marks_more, word_of_marks}
+use Rattle.mari_market.proofs.GateRuns.{marks_more}
+use Rattle.mari_gates.proofs.GateWords.{as_many, marked, marks_feasible, word_of_marks}
 use Rattle.mari_gates.proofs.gate_words.gate_word.Goals as goal
 
 pub bounds-mw-i : goal.bounds-mw-i

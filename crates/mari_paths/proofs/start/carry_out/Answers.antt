@@ -15,9 +15,12 @@ pub returns-clause-each : goal.returns-clause-each
 returns-clause-each c = λ z.
     let fits : FitsSigned w64 c.args.flow = search rules in
     let there = c.requires.ends.1 in
-    omega (arith, ints,
-    (ap (λ (xs : List ℤ). amount_at xs z) (rw (to_z-of_z fits) at c.take_at.ensures) ∙ less_at c.add_at.new.short c.args.border.now.to z c.args.flow (omega (arith, c.add_at.auto.short, there))),
-    (ap (λ (xs : List ℤ). amount_at xs z) (rw (to_z-of_z fits) at c.add_at.ensures) ∙ more_at c.args.short.now c.args.border.now.from z c.args.flow c.requires.ends.0))
+    omega (
+      arith,
+      ints,
+      (ap (λ (xs : List ℤ). amount_at xs z) (rw (to_z-of_z fits) at c.take_at.ensures) ∙ less_at c.add_at.new.short c.args.border.now.to z c.args.flow (omega (arith, c.add_at.auto.short, there))),
+      (ap (λ (xs : List ℤ). amount_at xs z) (rw (to_z-of_z fits) at c.add_at.ensures) ∙ more_at c.args.short.now c.args.border.now.from z c.args.flow c.requires.ends.0),
+    )
 
 pub returns-clause-long : goal.returns-clause-long
 returns-clause-long c = omega (arith, c.take_at.auto.short, c.add_at.auto.short)

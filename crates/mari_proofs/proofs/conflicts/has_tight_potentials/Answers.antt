@@ -12,6 +12,6 @@ is_tight-requires-clause-mw c = same_length (λ (o : Order) q. IsWithin (own_bou
 pub is_tight-requires-clause-flow : goal.is_tight-requires-clause-flow
 is_tight-requires-clause-flow c = same_length IsWithinLimits c.args.market.now.borders c.args.activation.now.flow c.requires.activation.feasible.borders
 
-pub returns-then-are_potentials : goal.returns-then-are_potentials
-returns-then-are_potentials c =
-    tight_test (span_in (state_in c.states_at.result)) c.args.market.now c.args.prefix.now c.args.activation.now c.args.potentials.now c.is_tight.result c.requires.market c.requires.activation c.states_at.ensures.bounds (c.are_potentials.ensures.0 c.if-are_potentials.true) c.is_tight.ensures
+pub returns-then-are_prices : goal.returns-then-are_prices
+returns-then-are_prices c =
+    tight_test (span_in (state_in c.states_at.result)) c.args.market.now c.args.prefix.now c.args.activation.now c.args.potentials.now c.is_tight.result c.requires.market c.requires.activation c.states_at.ensures.bounds (c.are_prices.ensures.0 c.if-are_prices.true) c.is_tight.ensures

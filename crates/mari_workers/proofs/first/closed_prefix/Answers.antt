@@ -1,5 +1,6 @@
 use Rattle.std.proofs.Common.{length, arith, ap}
-use Rattle.mari_workers.proofs.Closed.{none_set, word-closed}
+use Rattle.mari_gates.proofs.GateWords.{none_set}
+use Rattle.mari_workers.proofs.Closed.{word-closed}
 use Rattle.mari_workers.proofs.first.closed_prefix.Goals as goal
 
 pub returns-clause-word : goal.returns-clause-word

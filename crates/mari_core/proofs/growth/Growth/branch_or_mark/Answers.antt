@@ -1,7 +1,6 @@
-use Rattle.std.proofs.Common.{◌≡◌, ◌+◌, ◌<◌, ◌≤◌, ℕ, Bool, length, arith, ap, sym, ◌∙◌}
+use Rattle.std.proofs.Common.{◌≡◌, ◌+◌, ◌<◌, ◌≤◌, Bool, length, arith, ap, sym, ◌∙◌}
 use Rattle.mari_market.specs.Prefix.{word_of}
 use Rattle.mari_core.specs.Growth.{Grown, children_at, child_words, grown, in_journal}
-use Rattle.mari_core.specs.Growth.Entry.{Branch}
 use Rattle.mari_core.proofs.Entries.{settles_by_branch, settles_by_mark}
 use Rattle.mari_core.proofs.growth.Growth.branch_or_mark.Goals as goal
 use Rattle.mari_core.proofs.growth.Growth.branch_or_mark.Goals.{then-may_open, else-may_open}

@@ -1,7 +1,8 @@
 use Rattle.std.proofs.Common.{◌≡◌, ◌∙◌, ap, sym, slice_get, is_some}
 use Rattle.std.specs.Prelude.{unwrap_or}
 use Rattle.mari_links.specs.Links.{groups_of, quarter_of_group}
-use Rattle.mari_links.proofs.GroupLemmas.{group-there, kept-none, kept-some, lent, made-at-place}
+use Rattle.mari_rows.proofs.FindLemmas.{kept-none}
+use Rattle.mari_links.proofs.GroupLemmas.{group-there, kept-some, lent, made-at-place}
 use Rattle.mari_links.proofs.groups.Groups.quarter.Goals as goal
 
 pub returns-in-Some : goal.returns-in-Some

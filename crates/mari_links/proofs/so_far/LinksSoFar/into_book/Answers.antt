@@ -8,7 +8,7 @@ returns-then-branch c = λ rows holds.
     let bids = c.args.bids.now in
     let yes : c.in_ok-has_too_many_gates.field-0 ≡ true = search rules in
     let told = rw (c.as_slice.ensures.value, holds.entries, gated-alike bids (said_by bids rows)) at (sym c.in_ok-has_too_many_gates.ensures ∙ yes) in
-    (refl, rw told refl)
+    rw told refl
 
 pub returns : goal.returns
 returns c = λ rows holds.

@@ -6,7 +6,7 @@ use Rattle.mari_links.specs.Links.{groups_of, links_of, Member}
 use Rattle.mari_links.specs.declared.links.BidLinks.{BidLinks}
 use Rattle.mari_links.specs.declared.lines.Link.{Link}
 use Rattle.mari_links.proofs.EntryLemmas.{made-at}
-use Rattle.mari_links.proofs.GroupLemmas.{find-some, map-some}
+use Rattle.mari_rows.proofs.FindLemmas.{find-some, map-some}
 use Rattle.mari_links.proofs.so_far.LinksSoFar.is_repeated.Goals as goal
 
 pub returns-in-Group : goal.returns-in-Group

@@ -1,4 +1,3 @@
-use Rattle.std.proofs.Common.{◌≡◌, true}
 use Rattle.mari_market.proofs.market.Market.valid.Goals as goal
 
 pub returns-then-parts_fit : goal.returns-then-parts_fit

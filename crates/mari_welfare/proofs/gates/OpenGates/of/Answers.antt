@@ -1,6 +1,7 @@
 use Rattle.std.proofs.Common.{◌∙◌, arith, false}
 use Rattle.std.proofs.Math.Path.{fun_ext}
-use Rattle.mari_welfare.proofs.Open.{marks_more, runs_all, get_or-all_same}
+use Rattle.mari_market.proofs.GateRuns.{marks_more, runs_all}
+use Rattle.mari_welfare.proofs.Open.{get_or-all_same}
 use Rattle.mari_welfare.proofs.gates.OpenGates.of.Goals as goal
 
 pub loop-i-init : goal.loop-i-init

@@ -1,0 +1,89 @@
+#!/usr/bin/env python3
+"""Wall time of `mari clear` by 1, 2 and 4 workers on a market of some thousand nodes.
+
+usage: python3 bench/workers.py [PROGRAM [REPEATS]]
+
+PROGRAM is the built program, by default crates/mari_app/out/mari_app. It prints a table: for each number of workers the best and
+the median wall time of all repeats, and the ratio of the best to that of one worker. It is no test: nothing fails where a
+machine is slow or busy, and the load average is told beside the times.
+"""
+
+import os
+import pathlib
+import random
+import statistics
+import subprocess
+import sys
+import tempfile
+import time
+
+TOP = pathlib.Path(__file__).resolve().parent.parent
+ZONES = 8
+GATES = 12
+PLAIN = 500
+NODES = 50_000
+
+
+def rows(header, records):
+    return "\n".join([header] + [",".join(map(str, record)) for record in records]) + "\n"
+
+
+def pages(seed):
+    """The seven pages of a folder: zones in a ring, plain bids in each, and gated bids whose prices are close to the margin."""
+    dice = random.Random(seed)
+    zones = [f"Z{zone}" for zone in range(1, ZONES + 1)]
+    borders = [(a, b, 40, 40) for a, b in zip(zones, zones[1:] + zones[:1])]
+    bids = []
+    for zone in zones:
+        for number in range(PLAIN):
+            price = f"{30 + dice.randrange(60)}.{dice.randrange(100):02}"
+            bids.append((f"{zone}p{number}", "P", zone, 1, "up", price, 0, 1 + dice.randrange(4), "both"))
+    for gate in range(GATES):
+        zone = zones[gate % ZONES]
+        price = f"{40 + dice.randrange(6)}.{dice.randrange(100):02}"
+        quantity = 37 + dice.randrange(40)
+        bids.append((f"g{gate}", "Q", zone, 1, "up", price, quantity, quantity, "both"))
+    demands = [(1, zone, 250 + dice.randrange(100), "") for zone in zones]
+    return {
+        "day.csv": 'date,rule\n2025-03-12,"CET-1CEST,M3.5.0,M10.5.0/3"\n',
+        "zones.csv": rows("zone,operator", [(zone, f"T{zone}") for zone in zones]),
+        "borders.csv": rows("from,to,limit,back", borders),
+        "bids.csv": rows("id,provider,zone,quarter,direction,price,least,greatest,kind", bids),
+        "links.csv": "kind,first,second\n",
+        "runs.csv": "run,quarter,kind,reference\n1,1,scheduled,40.00\n",
+        "demands.csv": rows("run,zone,mw,price", demands),
+    }
+
+
+def clear(program, folder, workers):
+    """The wall time in seconds, and the lines that every number of workers prints alike: the welfare and the size of the tree."""
+    began = time.perf_counter()
+    words = [program, "clear", folder, "--nodes", str(NODES), "--workers", str(workers)]
+    done = subprocess.run(words, stdout=subprocess.PIPE, check=False)
+    took = time.perf_counter() - began
+    lines = done.stdout.decode().splitlines()
+    said = [line for line in lines if line.startswith(("welfare ", "tree ", "run "))]
+    return took, ", ".join(said)
+
+
+def main():
+    program = sys.argv[1] if len(sys.argv) > 1 else str(TOP / "crates/mari_app/out/mari_app")
+    repeats = int(sys.argv[2]) if len(sys.argv) > 2 else 7
+    with tempfile.TemporaryDirectory() as scratch:
+        folder = os.path.join(scratch, "F")
+        os.mkdir(folder)
+        for name, text in pages(1).items():
+            pathlib.Path(folder, name).write_text(text)
+        print(f"{os.cpu_count()} processors, load {os.getloadavg()[0]:.1f}, {repeats} repeats")
+        print("| workers | best, s | median, s | of one worker | printed |")
+        print("|---|---|---|---|---|")
+        alone = None
+        for workers in (1, 2, 4):
+            runs = [clear(program, folder, workers) for _ in range(repeats)]
+            times = sorted(took for took, _ in runs)
+            alone = alone or times[0]
+            print(f"| {workers} | {times[0]:.3f} | {statistics.median(times):.3f} | {times[0] / alone:.2f} | {runs[0][1]} |")
+
+
+if __name__ == "__main__":
+    main()

@@ -1,0 +1,138 @@
+//! The quarter hours between two midnights.
+
+ghost use Rattle.std.specs.Prelude.{◌≡◌, ◌≤◌, ◌-ℤ◌, ◌≤ℤ◌, neg_ℤ, pos, IfOk};
+ghost use Rattle.jiff_core.specs.Date.{epoch_day};
+ghost use Rattle.jiff_tz.specs.PosixText.{tz_view};
+ghost use Rattle.mari_units.specs.declared.limits.TheConstants.{MOST_QUARTERS};
+ghost use Rattle.mari_calendar.specs.Midnights.{midnight_in, quarters_at, whole_quarters};
+
+use crate::date::date_in;
+use jiff_core::civil::{Date, DateTime, Time};
+use jiff_tz::{TimeZone, posix};
+use mari_units::MOST_QUARTERS;
+
+/// The seconds of a quarter of an hour.
+const QUARTER: i64 = 900;
+
+/// Why there are no quarter hours: the text is no date; the rule is none; a date or a midnight isn't in the calendar's range;
+/// the day isn't of 1 to `MOST_QUARTERS` whole quarter hours; or no memory, which never comes.
+#[derive(Clone, Copy, Debug, PartialEq, Eq)]
+pub enum CalendarFault {
+    BadDate,
+    BadZoneText,
+    OutOfRange,
+    NotWholeQuarters,
+    Memory,
+}
+
+/// The instant at which a date begins in a zone, in seconds since 1970 began in UTC.
+fn midnight(zone: posix::TimeZone, date: Date) -> Result<i64, CalendarFault>
+    ensures instant { result ≡ midnight_in (tz_view zone) (epoch_day date) }
+    ensures range { IfOk result (λ s. (neg_ℤ (pos 377705023201) ≤ℤ s) × (s ≤ℤ pos 253402207200)) }
+{
+    let midnight = DateTime {
+        date,
+        time: Time::MIN,
+    };
+    match TimeZone::Posix(zone).to_timestamp(midnight) {
+        Ok(instant) => Ok(instant.floor_second()),
+        Err(_) => Err(CalendarFault::OutOfRange),
+    }
+}
+
+/// So many seconds in quarters of an hour.
+fn whole(seconds: i64) -> Result<u32, CalendarFault>
+    ensures value { result ≡ whole_quarters seconds }
+    ensures range { IfOk result (λ n. (1 ≤ n) × (n ≤ MOST_QUARTERS)) }
+{
+    if seconds < QUARTER || seconds > QUARTER * i64::from(MOST_QUARTERS) || seconds % QUARTER != 0 {
+        return Err(CalendarFault::NotWholeQuarters);
+    }
+    Ok((seconds / QUARTER) as u32)
+}
+
+/// The quarter hours of a date, written `YYYY-MM-DD`, on a clock that keeps a POSIX rule: the seconds from its midnight to the
+/// next date's midnight, over 900. A midnight that the clock skips or shows twice is the one by the offset before the change.
+#[tactic(auto, unfolding(crate::specs::Midnights::quarters_at))]
+pub fn quarters_of(date: &[u8], rule: &[u8]) -> Result<u32, CalendarFault>
+    ensures quarters { result ≡ quarters_at date.now rule.now }
+    ensures range { IfOk result (λ n. (1 ≤ n) × (n ≤ MOST_QUARTERS)) }
+{
+    let Some(date) = date_in(date) else {
+        return Err(CalendarFault::BadDate);
+    };
+    let Ok(zone) = posix::TimeZone::parse(rule) else {
+        return Err(CalendarFault::BadZoneText);
+    };
+    let Ok(next) = date.tomorrow() else {
+        return Err(CalendarFault::OutOfRange);
+    };
+    let begin = midnight(zone, date)?;
+    let end = midnight(zone, next)?;
+    whole(end - begin)
+}
+
+#[cfg(test)]
+mod tests {
+    use super::*;
+
+    const CET: &[u8] = b"CET-1CEST,M3.5.0,M10.5.0/3";
+
+    #[test]
+    fn days_of_92_96_and_100_quarters(rt: HostRuntime) {
+        assert_eq!(rt; quarters_of(b"2025-03-30", CET), Ok(92));
+        assert_eq!(rt; quarters_of(b"2025-03-12", CET), Ok(96));
+        assert_eq!(rt; quarters_of(b"2025-10-26", CET), Ok(100));
+    }
+
+    #[test]
+    fn dates_that_are_none(rt: HostRuntime) {
+        for date in [
+            "2025-02-29",
+            "2025-13-01",
+            "2025-00-10",
+            "2025-3-12",
+            "2025-03-12 ",
+            "20250312",
+            "",
+            "+025-03-12",
+        ] {
+            assert_eq!(rt;
+                quarters_of(date.as_bytes(), CET),
+                Err(CalendarFault::BadDate),
+                "{date}"
+            );
+        }
+        assert_eq!(rt;
+            quarters_of(b"2025-02-29", b"no rule"),
+            Err(CalendarFault::BadDate)
+        );
+        assert_eq!(rt; quarters_of(b"0000-02-29", b"UTC0"), Ok(96));
+        assert_eq!(rt;
+            quarters_of(b"2024-02-29", b"no rule"),
+            Err(CalendarFault::BadZoneText)
+        );
+    }
+
+    #[test]
+    fn days_at_the_end_of_the_calendar(rt: HostRuntime) {
+        assert_eq!(rt; quarters_of(b"9999-12-29", b"UTC0"), Ok(96));
+        assert_eq!(rt;
+            quarters_of(b"9999-12-30", b"UTC0"),
+            Err(CalendarFault::OutOfRange)
+        );
+        assert_eq!(rt;
+            quarters_of(b"9999-12-31", b"UTC0"),
+            Err(CalendarFault::OutOfRange)
+        );
+    }
+
+    #[test]
+    fn days_that_are_no_whole_quarters(rt: HostRuntime) {
+        let ten_minutes = b"AAA-1BBB-1:10,M3.5.0,M10.5.0/3";
+        assert_eq!(rt;
+            quarters_of(b"2025-03-30", ten_minutes),
+            Err(CalendarFault::NotWholeQuarters)
+        );
+    }
+}

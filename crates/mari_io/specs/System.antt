@@ -1,0 +1,46 @@
+-- Real files and the real standard output: why the system's errors are told as they are, and what is counted.
+use Rattle.std.specs.Prelude.{ℕ, ◌&&◌, Bool, true, nat_eq, nat_lt, List, length, Result, Ok, Err}
+use Rattle.std.specs.declared.io.ErrorKind.{ErrorKind}
+use Rattle.mari_io.specs.Outside.{counted, counted_if, is_failed, is_missing, is_too_long}
+use Rattle.mari_io.specs.declared.shelf.Fetch.{Fetch}
+use Rattle.mari_io.specs.declared.shelf.Fetch.TheVariants.{Failed, Missing, Memory}
+
+-- why a file isn't opened, by the kind of the system's error: it isn't there, memory was wanting, or else the fetch failed
+abbrev pub fault_of_opening : ErrorKind → Fetch
+fault_of_opening ErrorKind.NotFound = Missing
+fault_of_opening ErrorKind.OutOfMemory = Memory
+fault_of_opening _ = Failed
+
+-- why an open file isn't read, by the kind of the system's error: memory was wanting, or else the fetch failed
+abbrev pub fault_of_reading : ErrorKind → Fetch
+fault_of_reading ErrorKind.OutOfMemory = Memory
+fault_of_reading _ = Failed
+
+-- what a shelf of real files counted: its fetches, and those that failed, found no file, or found one that is too long
+pub record DiskCounts : Type 0 where
+  pub calls : ℕ
+  pub faults : ℕ
+  pub misses : ℕ
+  pub overs : ℕ
+
+-- the counts after a fetch: that of fetches goes up, and that of its answer, if it has one
+abbrev pub after_disk_fetch : {T : Type 0} → DiskCounts → Result T Fetch → DiskCounts
+after_disk_fetch s result = record {
+  calls = counted s.calls;
+  faults = counted_if (is_failed result) s.faults;
+  misses = counted_if (is_missing result) s.misses;
+  overs = counted_if (is_too_long result) s.overs;
+}
+
+-- what the standard output counted
+pub record PrintCount : Type 0 where
+  pub faults : ℕ
+
+-- whether a write counts as failed: it failed, or took nothing of a piece that isn't empty
+abbrev pub is_print_fault : {E : Type 0} → List ℕ → Result ℕ E → Bool
+is_print_fault piece (Ok n) = nat_eq n 0 && nat_lt 0 (length piece)
+is_print_fault piece (Err e) = true
+
+-- the count after a write
+abbrev pub after_print : {E : Type 0} → PrintCount → List ℕ → Result ℕ E → PrintCount
+after_print s piece result = record { faults = counted_if (is_print_fault piece result) s.faults }

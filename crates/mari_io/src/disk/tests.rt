@@ -1,0 +1,91 @@
+//! Real files, and what is counted of them.
+
+use super::{DiskShelf, fetch_opened};
+use crate::{Fetch, Shelf};
+use std::io::{ErrorKind, Read};
+use std::test::Fail;
+use std::{fs, io};
+
+/// The counts of a shelf: failed fetches, missing pages, pages that are too long.
+fn counts(shelf: &DiskShelf<HostRuntime>) -> (u64, u64, u64) {
+    (shelf.faults, shelf.misses, shelf.overs)
+}
+
+/// What fetching a real file of so many bytes gives, how many bytes were appended, and the counts then.
+fn fetch_real(
+    rt: HostRuntime,
+    path: &str,
+    length: usize,
+) -> Result<(Result<(), Fetch>, usize, (u64, u64, u64)), Fail> {
+    fs::write(&rt, path, vec![in rt.alloc(); b'Z'; length]?.as_slice())?;
+    let mut into = Vec::new(rt.alloc());
+    let mut shelf = DiskShelf::new(rt);
+    let fetched = shelf.fetch(path, &mut into);
+    fs::remove_file(&rt, path)?;
+    Ok((fetched, into.len(), counts(&shelf)))
+}
+
+#[test]
+fn a_real_file_is_a_page(rt: HostRuntime) -> Result<(), Fail> {
+    let answer = fetch_real(rt, "mari_io_test_page", 20_000)?;
+    assert_eq!(rt; answer, (Ok(()), 20_000, (0, 0, 0)));
+    Ok(())
+}
+
+#[test]
+fn a_real_file_is_too_long_past_the_limit(rt: HostRuntime) -> Result<(), Fail> {
+    let answer = fetch_real(rt, "mari_io_test_long_page", 268_435_457)?;
+    assert_eq!(rt; answer, (Err(Fetch::TooLong), 0, (0, 0, 1)));
+    Ok(())
+}
+
+#[test]
+fn no_file_counts_as_missing_and_a_folder_as_failed(rt: HostRuntime) {
+    let mut into = Vec::new(rt.alloc());
+    let mut shelf = DiskShelf::new(rt);
+    assert_eq!(rt; counts(&shelf), (0, 0, 0));
+    let missing = shelf.fetch("mari_io_test_nothing", &mut into);
+    assert_eq!(rt; missing, Err(Fetch::Missing));
+    assert_eq!(rt; counts(&shelf), (0, 1, 0));
+    assert_eq!(rt; shelf.fetch(".", &mut into), Err(Fetch::Failed));
+    assert_eq!(rt; counts(&shelf), (1, 1, 0));
+}
+
+/// A reader of the bytes of a text, so many at a time, which fails behind them where it is told to.
+#[derive(Drop)]
+struct Pieces<'a> {
+    rest: &'a [u8],
+    most: usize,
+    fault: Option<ErrorKind>,
+}
+
+impl Read for Pieces<'_> {
+    fn read(&mut self, buf: &mut [u8]) -> io::Result<usize> {
+        let count = self.rest.len().min(self.most).min(buf.len());
+        if count == 0 {
+            if let Some(kind) = self.fault {
+                return Err(io::Error::from(kind));
+            }
+        }
+        buf[..count].copy_from_slice(&self.rest[..count]);
+        self.rest = &self.rest[count..];
+        Ok(count)
+    }
+}
+
+#[test]
+fn short_reads_lose_nothing_and_a_fault_is_no_end(rt: HostRuntime) -> Result<(), Fail> {
+    for (fault, want, text) in [
+        (None, Ok(()), "Adate,rule\n"),
+        (Some(ErrorKind::Other), Err(Fetch::Failed), "A"),
+        (Some(ErrorKind::OutOfMemory), Err(Fetch::Memory), "A"),
+    ] {
+        let rest = b"date,rule\n";
+        let most = 3;
+        let mut into = b"A".to_vec(rt.alloc())?;
+        let fetched = fetch_opened(Ok(Pieces { rest, most, fault }), &mut into);
+        assert_eq!(rt; fetched, want);
+        assert_eq!(rt; into.as_slice(), text.as_bytes());
+    }
+    Ok(())
+}

@@ -1,0 +1,13 @@
+pub mod Printed
+pub mod Natural
+pub mod Unread
+pub mod Splits
+pub mod Graphic
+pub mod Points
+pub mod Signs
+pub mod Numbers
+pub mod Gathered
+pub mod FirstWords
+pub mod LineWords
+pub mod SameLine
+pub mod Joined

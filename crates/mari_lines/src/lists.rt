@@ -1,0 +1,82 @@
+//! Lists of numbers in a line.
+
+ghost use Rattle.std.specs.Prelude.{◌≡◌, ◌≤◌, map};
+ghost use Rattle.std.specs.Fmt.{decimal, signed_decimal};
+ghost use Rattle.mari_units.specs.declared.limits.TheConstants.{MOST_ZONES, MOST_BORDERS, MOST_FLOW, MOST_MW};
+ghost use Rattle.mari_lines.specs.declared.limits.TheConstants.{MOST_QUANTITIES};
+ghost use Rattle.mari_lines.specs.Ranges.{Listed, Within, IsPriceLine, IsZone};
+ghost use Rattle.mari_lines.specs.Spelling.{price_text, zone_text};
+ghost use Rattle.mari_lines.specs.Reading.{Reads};
+
+use crate::fault::FormFault;
+use crate::limits::MOST_QUANTITIES;
+use crate::number::{read_flow, read_number, read_price, read_zone_number};
+use crate::words::Words;
+use mari_units::{Cents, Items, MOST_BORDERS, MOST_MW, MOST_ZONES};
+use std::alloc::Global;
+
+/// One to `MOST_ZONES` prices, to the end of the line.
+pub fn read_prices(alloc: Global, words: &mut Words<'_>) -> Result<Items<Cents>, FormFault>
+    ensures { Reads (Listed 1 MOST_ZONES IsPriceLine) (map price_text) words.old result }
+{
+    let mut prices = Vec::new(alloc);
+    while let Some(word) = words.next_word() {
+        if prices.len() >= MOST_ZONES {
+            return Err(FormFault::Formless);
+        }
+        let price = read_price(word)?;
+        prices.push(price)?;
+    }
+    if prices.is_empty() {
+        return Err(FormFault::Formless);
+    }
+    Ok(Items::of(prices))
+}
+
+/// At most `MOST_BORDERS` flows, to the end of the line.
+pub fn read_flows(alloc: Global, words: &mut Words<'_>) -> Result<Items<i64>, FormFault>
+    ensures { Reads (Listed 0 MOST_BORDERS (λ flow. Within MOST_FLOW flow)) (map signed_decimal) words.old result }
+{
+    let mut flows = Vec::new(alloc);
+    while let Some(word) = words.next_word() {
+        if flows.len() >= MOST_BORDERS {
+            return Err(FormFault::Formless);
+        }
+        let flow = read_flow(word)?;
+        flows.push(flow)?;
+    }
+    Ok(Items::of(flows))
+}
+
+/// At most `MOST_QUANTITIES` quantities, to the end of the line.
+pub fn read_mws(alloc: Global, words: &mut Words<'_>) -> Result<Items<u32>, FormFault>
+    ensures { Reads (Listed 0 MOST_QUANTITIES (λ mw. mw ≤ MOST_MW)) (map decimal) words.old result }
+{
+    let mut mws = Vec::new(alloc);
+    while let Some(word) = words.next_word() {
+        if mws.len() >= MOST_QUANTITIES {
+            return Err(FormFault::Formless);
+        }
+        let mw = read_number(word, 0, MOST_MW)?;
+        mws.push(mw)?;
+    }
+    Ok(Items::of(mws))
+}
+
+/// One to `MOST_ZONES` zones, to the end of the line.
+pub fn read_zones(alloc: Global, words: &mut Words<'_>) -> Result<Items<u32>, FormFault>
+    ensures { Reads (Listed 1 MOST_ZONES IsZone) (map zone_text) words.old result }
+{
+    let mut zones = Vec::new(alloc);
+    while let Some(word) = words.next_word() {
+        if zones.len() >= MOST_ZONES {
+            return Err(FormFault::Formless);
+        }
+        let zone = read_zone_number(word)?;
+        zones.push(zone)?;
+    }
+    if zones.is_empty() {
+        return Err(FormFault::Formless);
+    }
+    Ok(Items::of(zones))
+}

@@ -1,1 +1,0 @@
-//! The pool on small markets.

@@ -1,0 +1,9 @@
+pub mod Agrees
+pub mod Ends
+pub mod Keys
+pub mod Open
+pub mod Sorts
+pub mod Steps
+pub mod Turns
+pub mod Waiting
+pub mod Walks

@@ -1,0 +1,133 @@
+-- One more word where the walk stands where the definition does.
+use Rattle.std.proofs.Common.{◌≡◌, ◌∙◌, ◌≤◌, ℕ, Bool, suc, true, false, List, [], ◌∷◌, length, Option, Some, None, option_map, refl, sym, ap, subst, arith}
+use Rattle.clap.specs.Walk.{Row, arg_by_index, is_pending, settled, settled_rows, to_positional, used}
+use Rattle.clap.specs.Walk.{Step as step}
+use Rattle.clap.specs.Faults.{settle_fault, step_fault, use_fault}
+use Rattle.mari_words.specs.Seen.{Choice, Seen, Text, with_word}
+use Rattle.mari_words.specs.Words.{Verb, form_of}
+use Rattle.mari_words.specs.Words.Verb.{Clears, Checks, Generates, Migrates}
+use Rattle.mari_words.proofs.Keys.{Finds, Key, empty_use, filled_not, held, id, row, rule, rules, upd, use_passes, used_finds}
+use Rattle.mari_words.proofs.Keys.Key.{First, Second, Nodes, Workers}
+use Rattle.mari_words.proofs.Steps.{Follows, Known, State, at, leaf, not_both, values}
+
+abbrev pub Pending : Type 0
+Pending = Option (Text × List Text)
+
+abbrev pub mk : List Text → Option Text → Option Text → Option Choice → Bool → Seen
+mk words nodes workers waiting ended = record { words = words; nodes = nodes; workers = workers; waiting = waiting; ended = ended }
+
+-- ---- an argument with its value is pending
+
+module _ (verb : Verb) (k : Key) (known : Known verb k) (rows : List Row) (text : Text) where
+  pub pends_not : (use_fault false (rule k) (text ∷ []) rows ≡ [] → ⊥) → settle_fault (rules verb) false (held rows (Some (id k, text ∷ []))) ≡ [] → ⊥
+  pends_not bad h = bad (rw known at h)
+
+  pub state_then : (o : Key → Option Text) (s : Seen) → Finds rows o → o k ≡ None → ((j : Key) → values s j ≡ upd k text o j)
+      → State verb rows (Some (id k, text ∷ [])) s None
+  state_then o s f e v =
+      let settled : settled_rows (rules verb) (Some (id k, text ∷ [])) rows ≡ used (rule k) (text ∷ []) rows = rw known refl in
+      let passes : settle_fault (rules verb) false (held rows (Some (id k, text ∷ []))) ≡ [] = rw known (use_passes k text rows o f e) in (
+        passes,
+        λ j. subst (λ (rs : List Row). Finds rs (upd k text o)) (sym settled) (used_finds k text rows o f e) j ∙ ap (option_map (row j)) (sym (v j)),
+      )
+
+pub no_value : (verb : Verb) (k : Key) → Known verb k → (rows : List Row) → settle_fault (rules verb) false (held rows (Some (id k, []))) ≡ [] → ⊥
+no_value verb k known rows h = empty_use k rows (rw known at h)
+
+-- ---- a word that belongs to no option
+
+abbrev pub Puts : Verb → List Row → Pending → Seen → Text → Option Seen → Type 0
+Puts verb rows pending s word None = step_fault (leaf verb) (suc (length s.words)) (held rows pending) step.value ≡ [] → ⊥
+Puts verb rows pending s word (Some t) = (step_fault (leaf verb) (suc (length s.words)) (held rows pending) step.value ≡ [])
+    × Follows verb (to_positional (rules verb) (arg_by_index (rules verb) (suc (length s.words))) word (at rows pending s) (held rows pending)) t
+
+puts_none : (verb : Verb) (rows : List Row) (pending : Pending) (i : ℕ) → arg_by_index (rules verb) i ≡ None → step_fault (leaf verb) i (held rows pending) step.value ≡ [] → ⊥
+puts_none verb rows pending i e n = filled_not n (rw e refl)
+
+module _ (verb : Verb) (rows : List Row) (pending : Pending) (nodes workers : Option Text) where
+  put_first : (ended : Bool) (word : Text) → Known verb First → arg_by_index (rules verb) 1 ≡ Some (rule First) → 1 ≤ (form_of verb).words
+      → State verb rows pending (mk [] nodes workers None ended) None → Puts verb rows pending (mk [] nodes workers None ended) word (Some (mk (word ∷ []) nodes workers None ended))
+  put_first ended word known e few st = (
+    rw (e, not_both (is_pending (rule First) pending) [] (settle_fault (rules verb) false (held rows pending))) st.0,
+    record {
+      rows = settled_rows (rules verb) pending rows;
+      pending = Some (id First, word ∷ []);
+      is = moved ended;
+      few = few;
+      state = state_then verb First known (settled_rows (rules verb) pending rows) word (values (mk [] nodes workers None ended)) (mk (word ∷ []) nodes workers None ended) st.1 refl value;
+    },
+  )
+    where
+      value : (j : Key) → values (mk (word ∷ []) nodes workers None ended) j ≡ upd First word (values (mk [] nodes workers None ended)) j
+      value First = refl
+      value Second = refl
+      value Nodes = refl
+      value Workers = refl
+
+      moved : (b : Bool) → to_positional (rules verb) (arg_by_index (rules verb) 1) word (at rows pending (mk [] nodes workers None b)) (held rows pending)
+          ≡ at (settled_rows (rules verb) pending rows) (Some (id First, word ∷ [])) (mk (word ∷ []) nodes workers None b)
+      moved true = rw (e, not_both (is_pending (rule First) pending) (held rows pending) (settled (rules verb) (held rows pending))) refl
+      moved false = rw (e, not_both (is_pending (rule First) pending) (held rows pending) (settled (rules verb) (held rows pending))) refl
+
+put_second : (rows : List Row) (pending : Pending) (nodes workers : Option Text) (ended : Bool) (one word : Text)
+    → State Migrates rows pending (mk (one ∷ []) nodes workers None ended) None
+    → Puts Migrates rows pending (mk (one ∷ []) nodes workers None ended) word (Some (mk (one ∷ word ∷ []) nodes workers None ended))
+put_second rows pending nodes workers ended one word st = (
+  rw (not_both (is_pending (rule Second) pending) [] (settle_fault (rules Migrates) false (held rows pending))) st.0,
+  record {
+    rows = settled_rows (rules Migrates) pending rows;
+    pending = Some (id Second, word ∷ []);
+    is = moved ended;
+    few = omega arith;
+    state = state_then Migrates Second refl (settled_rows (rules Migrates) pending rows) word (values (mk (one ∷ []) nodes workers None ended)) (mk (one ∷ word ∷ []) nodes workers None ended) st.1 refl value;
+  },
+)
+  where
+    value : (j : Key) → values (mk (one ∷ word ∷ []) nodes workers None ended) j ≡ upd Second word (values (mk (one ∷ []) nodes workers None ended)) j
+    value First = refl
+    value Second = refl
+    value Nodes = refl
+    value Workers = refl
+
+    moved : (b : Bool) → to_positional (rules Migrates) (arg_by_index (rules Migrates) 2) word (at rows pending (mk (one ∷ []) nodes workers None b)) (held rows pending)
+        ≡ at (settled_rows (rules Migrates) pending rows) (Some (id Second, word ∷ [])) (mk (one ∷ word ∷ []) nodes workers None b)
+    moved true = rw (not_both (is_pending (rule Second) pending) (held rows pending) (settled (rules Migrates) (held rows pending))) refl
+    moved false = rw (not_both (is_pending (rule Second) pending) (held rows pending) (settled (rules Migrates) (held rows pending))) refl
+
+pub puts : (verb : Verb) (rows : List Row) (pending : Pending) (words : List Text) (nodes workers : Option Text) (ended : Bool) (word : Text)
+    → length words ≤ (form_of verb).words → State verb rows pending (mk words nodes workers None ended) None
+    → Puts verb rows pending (mk words nodes workers None ended) word (with_word (form_of verb) (mk words nodes workers None ended) word)
+puts Clears rows pending [] nodes workers ended word few st = put_first Clears rows pending nodes workers ended word refl refl (omega arith) st
+puts Checks rows pending [] nodes workers ended word few st = put_first Checks rows pending nodes workers ended word refl refl (omega arith) st
+puts Generates rows pending [] nodes workers ended word few st = put_first Generates rows pending nodes workers ended word refl refl (omega arith) st
+puts Migrates rows pending [] nodes workers ended word few st = put_first Migrates rows pending nodes workers ended word refl refl (omega arith) st
+puts Clears rows pending (one ∷ []) nodes workers ended word few st = puts_none Clears rows pending 2 refl
+puts Checks rows pending (one ∷ []) nodes workers ended word few st = puts_none Checks rows pending 2 refl
+puts Generates rows pending (one ∷ []) nodes workers ended word few st = puts_none Generates rows pending 2 refl
+puts Migrates rows pending (one ∷ []) nodes workers ended word few st = put_second rows pending nodes workers ended one word st
+puts Migrates rows pending (one ∷ two ∷ []) nodes workers ended word few st = puts_none Migrates rows pending 3 refl
+puts Clears rows pending (one ∷ two ∷ more) nodes workers ended word few st = absurd (omega (arith, few))
+puts Checks rows pending (one ∷ two ∷ more) nodes workers ended word few st = absurd (omega (arith, few))
+puts Generates rows pending (one ∷ two ∷ more) nodes workers ended word few st = absurd (omega (arith, few))
+puts Migrates rows pending (one ∷ two ∷ three ∷ more) nodes workers ended word few st = absurd (omega (arith, few))
+
+-- ---- an option with its value
+
+-- the rows behind `--NAME=VALUE`
+pub state_now : (verb : Verb) (k : Key) (rows : List Row) (text : Text) (o : Key → Option Text) (s : Seen) → Finds rows o → o k ≡ None → ((j : Key) → values s j ≡ upd k text o j)
+    → State verb (used (rule k) (text ∷ []) rows) None s None
+state_now verb k rows text o s f e v = (refl, λ j. used_finds k text rows o f e j ∙ ap (option_map (row j)) (sym (v j)))
+
+pub with_nodes : (text : Text) (words : List Text) (nodes workers : Option Text) (ended : Bool) (j : Key)
+    → values (mk words (Some text) workers None ended) j ≡ upd Nodes text (values (mk words nodes workers None ended)) j
+with_nodes text words nodes workers ended First = refl
+with_nodes text words nodes workers ended Second = refl
+with_nodes text words nodes workers ended Nodes = refl
+with_nodes text words nodes workers ended Workers = refl
+
+pub with_workers : (text : Text) (words : List Text) (nodes workers : Option Text) (ended : Bool) (j : Key)
+    → values (mk words nodes (Some text) None ended) j ≡ upd Workers text (values (mk words nodes workers None ended)) j
+with_workers text words nodes workers ended First = refl
+with_workers text words nodes workers ended Second = refl
+with_workers text words nodes workers ended Nodes = refl
+with_workers text words nodes workers ended Workers = refl

@@ -1,0 +1,29 @@
+-- What words ask for.
+use Rattle.std.specs.Prelude.{ℕ, List, string_bytes}
+use Rattle.mari_words.specs.declared.command.Command.{Command}
+use Rattle.mari_words.specs.declared.command.Command.TheVariants as owned
+use Rattle.mari_words.specs.declared.command.FilePart.{FilePart}
+use Rattle.mari_words.specs.declared.asking.Asked.{Asked as Lent}
+use Rattle.mari_words.specs.declared.asking.Asked.TheVariants as lent
+
+-- a folder to clear, with how many nodes each run's search may make and how many workers; a folder to check; the number of a
+-- generated day; and a folder of which a file's new form is printed
+pub data Asked : Type 0 where
+  Clear : (folder : List ℕ) (nodes workers : ℕ) → Asked
+  Check : (folder : List ℕ) → Asked
+  Generate : (number : ℕ) → Asked
+  Migrate : (folder : List ℕ) (part : FilePart) → Asked
+
+-- the same, of a command
+abbrev pub asked : Command → Asked
+asked (owned.Clear folder nodes workers) = Asked.Clear (string_bytes folder) nodes workers
+asked (owned.Check folder) = Asked.Check (string_bytes folder)
+asked (owned.Generate number) = Asked.Generate number
+asked (owned.Migrate folder part) = Asked.Migrate (string_bytes folder) part
+
+-- the same, where the folder is lent
+abbrev pub lent_asked : Lent → Asked
+lent_asked (lent.Clear folder nodes workers) = Asked.Clear folder.now nodes workers
+lent_asked (lent.Check folder) = Asked.Check folder.now
+lent_asked (lent.Generate number) = Asked.Generate number
+lent_asked (lent.Migrate folder part) = Asked.Migrate folder.now part

@@ -1,0 +1,134 @@
+//! What the words of a command ask for, its folder lent.
+
+ghost use Rattle.std.specs.Prelude.{◌≡◌, ◌≤◌, option_map, IfSome};
+ghost use Rattle.std.specs.Option.{option_copied};
+ghost use Rattle.clap.specs.Words.{first_of, found_of, rows_of};
+ghost use Rattle.mari_words.specs.Asked.{lent_asked};
+ghost use Rattle.mari_words.specs.Words.{asked_for, folder_in, number_in, number_or, part_named};
+ghost use Rattle.mari_words.specs.Words.Verb.{Clears, Checks, Generates, Migrates};
+ghost use Rattle.mari_words.specs.Given.{asked_by, given_of};
+
+use crate::command::{FilePart, LAST_NUMBER, MOST_NODES, MOST_WORKERS, USUAL_NODES, USUAL_WORKERS};
+use clap::ArgMatches;
+use mari_units::read_mw;
+
+/// What words ask for.
+#[derive(Clone, Copy, Debug)]
+pub enum Asked<'a> {
+    Clear {
+        folder: &'a str,
+        nodes: u32,
+        workers: u32,
+    },
+    Check {
+        folder: &'a str,
+    },
+    Generate {
+        number: u32,
+    },
+    Migrate {
+        folder: &'a str,
+        part: FilePart,
+    },
+}
+
+/// The value that was found under a name.
+fn text<'a>(found: &ArgMatches<'a>, name: &str) -> Option<&'a str>
+    ensures { option_copied result ≡ first_of name.now (rows_of (found_of found.now)) }
+{
+    found.get_str(name)
+}
+
+/// The word, if it names a folder.
+fn folder(word: &str) -> Option<&str>
+    ensures { option_copied result ≡ folder_in word.entry.now }
+{
+    match word {
+        "" | "-" => None,
+        folder => Some(folder),
+    }
+}
+
+/// The number from `low` to `high` that a text writes, by digits alone.
+fn number(low: u32, high: u32, text: &[u8]) -> Option<u32>
+    ensures number { result ≡ number_in low high text.now }
+    ensures range { IfSome result (λ n. (low ≤ n) × (n ≤ high)) }
+{
+    if matches!(text, [b'-', ..]) {
+        return None;
+    }
+    match read_mw(text, i64::from(low), i64::from(high)) {
+        Ok(number) => Some(number.0 as u32),
+        Err(_) => None,
+    }
+}
+
+/// The number of an option, or the usual one.
+fn number_of(usual: u32, low: u32, high: u32, text: Option<&str>) -> Option<u32>
+    ensures { result ≡ number_or usual low high (option_copied text.entry) }
+{
+    match text {
+        None => Some(usual),
+        Some(text) => number(low, high, text.as_bytes()),
+    }
+}
+
+/// The file whose new form is asked for.
+fn part(word: &str) -> Option<FilePart>
+    ensures { result ≡ part_named word.now }
+{
+    match word {
+        "borders" => Some(FilePart::Borders),
+        "limits" => Some(FilePart::Limits),
+        _ => None,
+    }
+}
+
+fn clear<'a>(found: &ArgMatches<'a>) -> Option<Asked<'a>>
+    ensures { option_map lent_asked result ≡ asked_for Clears (given_of (rows_of (found_of found.now))) }
+{
+    let folder = folder(text(found, "first")?)?;
+    let nodes = number_of(USUAL_NODES, 1, MOST_NODES, text(found, "nodes"))?;
+    let workers = number_of(USUAL_WORKERS, 1, MOST_WORKERS, text(found, "workers"))?;
+    Some(Asked::Clear {
+        folder,
+        nodes,
+        workers,
+    })
+}
+
+fn check<'a>(found: &ArgMatches<'a>) -> Option<Asked<'a>>
+    ensures { option_map lent_asked result ≡ asked_for Checks (given_of (rows_of (found_of found.now))) }
+{
+    let folder = folder(text(found, "first")?)?;
+    Some(Asked::Check { folder })
+}
+
+fn generate<'a>(found: &ArgMatches<'a>) -> Option<Asked<'a>>
+    ensures { option_map lent_asked result ≡ asked_for Generates (given_of (rows_of (found_of found.now))) }
+{
+    let word = text(found, "first")?;
+    let number = number(0, LAST_NUMBER, word.as_bytes())?;
+    Some(Asked::Generate { number })
+}
+
+fn migrate<'a>(found: &ArgMatches<'a>) -> Option<Asked<'a>>
+    ensures { option_map lent_asked result ≡ asked_for Migrates (given_of (rows_of (found_of found.now))) }
+{
+    let folder = folder(text(found, "first")?)?;
+    let part = part(text(found, "second")?)?;
+    Some(Asked::Migrate { folder, part })
+}
+
+/// What the command of this name asks for.
+pub fn asked_of<'a>(name: &str, found: &ArgMatches<'a>) -> Option<Asked<'a>>
+    ensures { option_map lent_asked result ≡ asked_by name.now (rows_of (found_of found.now)) }
+{
+    match name {
+        "clear" => clear(found),
+        "check" => check(found),
+        "generate" => generate(found),
+        "migrate" => migrate(found),
+        _ => None,
+    }
+}

@@ -1,0 +1,131 @@
+//! A command, and the call that reads it.
+
+ghost use Rattle.std.specs.Prelude.{◌≡◌, ◌↔◌, map, string_bytes, IfOk};
+ghost use Rattle.mari_words.specs.Asked.{asked, lent_asked};
+ghost use Rattle.clap.specs.Words.{kind_of, subcommand_rows_of};
+ghost use Rattle.mari_words.specs.Given.{asked_in};
+ghost use Rattle.mari_words.specs.Words.{command_at, Reads};
+
+use crate::asking::{Asked, asked_of};
+use crate::parser::parser;
+use clap::error::ErrorKind;
+use clap::{ArgMatches, Error};
+use mari_units::Memory;
+use std::alloc::Global;
+
+/// The most nodes that a run's search may make.
+pub const MOST_NODES: u32 = 50_000;
+
+/// How many nodes that is where the words don't say.
+pub const USUAL_NODES: u32 = 10_000;
+
+/// The most workers that search a run at once.
+pub const MOST_WORKERS: u32 = 16;
+
+/// How many workers there are where the words don't say.
+pub const USUAL_WORKERS: u32 = 2;
+
+/// The last number of a generated day.
+pub const LAST_NUMBER: u32 = 2_147_483_647;
+
+/// The file of a folder whose new form is asked for.
+#[derive(Clone, Copy, Debug, PartialEq, Eq)]
+pub enum FilePart {
+    Borders,
+    Limits,
+}
+
+/// What the program is to do.
+#[derive(Debug, Drop)]
+pub enum Command {
+    /// `clear FOLDER [--nodes N] [--workers K]`: 1 to `MOST_NODES` nodes, and 1 to `MOST_WORKERS` workers.
+    Clear {
+        folder: String,
+        nodes: u32,
+        workers: u32,
+    },
+    /// `check FOLDER`.
+    Check {
+        folder: String,
+    },
+    /// `generate NUMBER`: 0 to `LAST_NUMBER`.
+    Generate {
+        number: u32,
+    },
+    /// `migrate FOLDER borders` or `migrate FOLDER limits`.
+    Migrate {
+        folder: String,
+        part: FilePart,
+    },
+}
+
+/// Why words gave no command: they are none, or there was no memory to keep it.
+#[derive(Clone, Copy, Debug, PartialEq, Eq)]
+pub enum WordsFault {
+    Usage,
+    Memory,
+}
+
+/// The same command with a folder of its own.
+fn kept(alloc: Global, lent: Asked<'_>) -> Result<Command, Memory>
+    ensures { IfOk result (λ command. asked command ≡ lent_asked lent.entry) }
+{
+    Ok(match lent {
+        Asked::Clear {
+            folder,
+            nodes,
+            workers,
+        } => Command::Clear {
+            folder: String::from_str(alloc, folder)?,
+            nodes,
+            workers,
+        },
+        Asked::Check { folder } => Command::Check {
+            folder: String::from_str(alloc, folder)?,
+        },
+        Asked::Generate { number } => Command::Generate { number },
+        Asked::Migrate { folder, part } => Command::Migrate {
+            folder: String::from_str(alloc, folder)?,
+            part,
+        },
+    })
+}
+
+/// The command that was found, if its values are a command's.
+fn command_in(alloc: Global, found: &ArgMatches<'_>) -> Result<Command, WordsFault>
+    ensures { Reads result (asked_in (subcommand_rows_of found.now)) }
+{
+    let Some((name, found)) = found.subcommand() else {
+        return Err(WordsFault::Usage);
+    };
+    let Some(lent) = asked_of(name, found) else {
+        return Err(WordsFault::Usage);
+    };
+    match kept(alloc, lent) {
+        Ok(command) => Ok(command),
+        Err(Memory) => Err(WordsFault::Memory),
+    }
+}
+
+/// Why no words were taken: memory was wanted, or they are of no command's form.
+fn fault_of(error: &Error) -> WordsFault
+    ensures { (result ≡ WordsFault.Memory) ↔ (kind_of error.now ≡ ErrorKind.OutOfMemory) }
+{
+    match error.kind() {
+        ErrorKind::OutOfMemory => WordsFault::Memory,
+        _ => WordsFault::Usage,
+    }
+}
+
+/// The command that the words behind the program's name are.
+pub fn read_words(alloc: Global, words: &[String]) -> Result<Command, WordsFault>
+    ensures { Reads result (command_at (map string_bytes words.now)) }
+{
+    let Ok(parser) = parser(alloc) else {
+        return Err(WordsFault::Memory);
+    };
+    match parser.try_get_matches_from(words) {
+        Ok(found) => command_in(alloc, &found),
+        Err(error) => Err(fault_of(&error)),
+    }
+}

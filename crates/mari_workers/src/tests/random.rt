@@ -1,0 +1,165 @@
+//! Random small markets, cleared by one worker and by several.
+
+ghost use Rattle.std.specs.Prelude.{◌<◌, ◌≤◌};
+
+use super::crews::crew_cleared;
+use super::{published_mw, searched, welfare_of};
+use crate::Turnstile;
+use mari_market::{Activation, Border, Cleared, Finding, GateInfo, Market, Order, Prefix, Side};
+use mari_node::examine_from;
+use mari_units::{Cents, Items, Memory};
+use std::alloc::Global;
+use std::sync::atomic::{AtomicU64, Ordering};
+use std::test::Fail;
+use std::thread;
+
+/// Numbers that follow from a seed: each is the one before, shifted and added to itself bit by bit three times.
+#[derive(Drop)]
+struct Dice {
+    state: u64,
+}
+
+impl Dice {
+    /// A number below this one.
+    fn below(&mut self, count: u32) -> u32
+        requires { 1 ≤ count }
+        ensures { result < count }
+    {
+        self.state ^= self.state << 13;
+        self.state ^= self.state >> 7;
+        self.state ^= self.state << 17;
+        (self.state % u64::from(count)) as u32
+    }
+
+    /// A price of 1.00 to 8.00, so that there are ties.
+    fn price(&mut self) -> Cents {
+        Cents(100 + 100 * i64::from(self.below(8)))
+    }
+
+    /// A bid of a gate.
+    fn gated(&mut self, zones: u32, gate: u32) -> Order
+        requires { 1 ≤ zones }
+    {
+        let least = 1 + self.below(20);
+        Order {
+            zone: self.below(zones),
+            side: Side::Inject,
+            price: self.price(),
+            least,
+            greatest: least + self.below(15),
+            gate: Some(gate),
+        }
+    }
+
+    /// The group and the parent of a gate, each of which it may be without.
+    fn gate(&mut self, gate: u32) -> GateInfo {
+        let grouped = self.below(3) == 0;
+        let group = self.below(2);
+        let parent = self.below(3 + gate);
+        GateInfo {
+            group: grouped.then_some(group),
+            parent: (parent < gate).then_some(parent),
+        }
+    }
+
+    /// A plain order of a zone.
+    fn plain(&mut self, zone: u32, side: Side, price: Cents) -> Order {
+        Order {
+            zone,
+            side,
+            price,
+            least: 0,
+            greatest: self.below(40),
+            gate: None,
+        }
+    }
+
+    /// A market of 1 to 3 zones in a row and 2 to 6 gates.
+    fn market(&mut self, alloc: Global) -> Result<Market, Fail> {
+        let zones = 1 + self.below(3);
+        let mut orders = Vec::new(alloc);
+        let mut gates = Vec::new(alloc);
+        for gate in 0..2 + self.below(5) {
+            orders.push(self.gated(zones, gate))?;
+            gates.push(self.gate(gate))?;
+        }
+        let mut borders = Vec::new(alloc);
+        for zone in 0..zones {
+            let price = self.price();
+            orders.push(self.plain(zone, Side::Inject, price))?;
+            orders.push(self.plain(zone, Side::Withdraw, Cents(9_999_900)))?;
+            if zone > 0 {
+                borders.push(Border {
+                    from: zone - 1,
+                    to: zone,
+                    limit: self.below(30),
+                    back: self.below(30),
+                })?;
+            }
+        }
+        Ok(Market {
+            zones,
+            borders: Items::of(borders),
+            orders: Items::of(orders),
+            gates: Items::of(gates),
+            reference: Cents(400),
+        })
+    }
+}
+
+/// Holds each worker for up to 15 turns, by a number that follows from the count of all that came.
+#[derive(Drop)]
+struct Yielding {
+    count: AtomicU64,
+}
+
+impl Turnstile for Yielding {
+    fn through(
+        &self,
+        alloc: Global,
+        _worker: u32,
+        market: &Market,
+        prefix: &Prefix,
+        start: &mut Option<Activation>,
+    ) -> Result<Finding, Memory> {
+        let count = self.count.fetch_add(1, Ordering::SeqCst);
+        for _ in 0..count.wrapping_mul(0x9E37_79B9_7F4A_7C15) >> 60 {
+            thread::yield_now();
+        }
+        examine_from(alloc, market, prefix, start)
+    }
+}
+
+/// Which of the gated bids run.
+fn running(alloc: Global, market: &Market, cleared: &Cleared) -> Result<Vec<bool>, Fail> {
+    let mut running = Vec::new(alloc);
+    for (order, mw) in market.orders.as_slice().iter().zip(published_mw(cleared)) {
+        if order.gate.is_some() {
+            running.push(*mw > 0)?;
+        }
+    }
+    Ok(running)
+}
+
+#[test]
+fn random_markets_come_to_what_one_thread_finds(rt: HostRuntime) -> Result<(), Fail> {
+    let alloc = rt.alloc();
+    let mut dice = Dice {
+        state: 0x2025_0312_0000_0096,
+    };
+    let yielding = Yielding {
+        count: AtomicU64::new(0),
+    };
+    for _ in 0..200 {
+        let market = dice.market(alloc)?;
+        let alone = searched(alloc, &market, 10_000)?;
+        assert!(rt; welfare_of(&alone).is_some());
+        let word = running(alloc, &market, &alone)?;
+        for workers in [1, 2, 4, 16] {
+            let cleared = crew_cleared(&rt, alloc, &market, workers, 10_000, &yielding)?;
+            assert_eq!(rt; welfare_of(&cleared), welfare_of(&alone));
+            assert_eq!(rt; running(alloc, &market, &cleared)?, word);
+        }
+    }
+    Ok(())
+}

@@ -7,6 +7,7 @@
 mod block;
 mod day;
 mod files;
+mod laws;
 mod lines;
 mod pages;
 mod progress;
@@ -17,6 +18,7 @@ mod writing;
 
 pub use day::{DayEnd, run_day};
 pub use files::file_name;
+pub use laws::days_keep;
 pub use reading::{BooksFault, read_books};
 pub use text::{PrintedDay, day_of};
 pub use writing::write_all;

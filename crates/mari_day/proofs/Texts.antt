@@ -1,5 +1,5 @@
 -- The texts of day parts and days, piece by piece.
-use Rattle.std.proofs.Common.{◌≡◌, ◌∙◌, ℕ, ◌+◌, ◌<◌, ◌≤◌, ◌⊎◌, inl, inr, List, [], ◌∷◌, ◌++◌, length, take, Option, Some, None, Result, Ok, Err, refl, sym, ap, subst, arith}
+use Rattle.std.proofs.Common.{◌≡◌, ◌∙◌, ℕ, ◌+◌, ◌-◌, ◌<◌, ◌≤◌, ◌⊎◌, inl, inr, List, [], ◌∷◌, ◌++◌, length, take, Option, Some, None, Result, Ok, Err, refl, sym, ap, subst, arith}
 use Rattle.std.specs.List.{flat_map}
 use Rattle.std.proofs.Math.Seq.{take-append-add}
 use Rattle.std.proofs.lemmas.Grind.{flat_map-append}
@@ -7,17 +7,22 @@ use Rattle.std.proofs.lemmas.List.{append_assoc, append-nil, length-append}
 use Rattle.mari_publish.specs.declared.line.Line.TheVariants as line
 use Rattle.mari_publish.specs.declared.publication.Block.{Block}
 use Rattle.mari_publish.specs.declared.publication.Publication.{Publication}
-use Rattle.mari_publish.specs.Lines.{block_lines, closing_lines}
+use Rattle.std.specs.Prelude.{IfErr, OnErr, OnOk}
+use Rattle.mari_publish.specs.Closing.{closing_lines_by}
+use Rattle.mari_publish.specs.Lines.{block_lines, closing_lines, published_in, unpublished_in}
+use Rattle.mari_publish.specs.declared.publication.AmountLine.{AmountLine}
+use Rattle.mari_publish.specs.declared.publication.MoneyLine.{MoneyLine}
 use Rattle.mari_publish.specs.Spelling.{block_text_of, head_text_of, line_text, text_of, text_of_lines, total_text_of}
 use Rattle.mari_publish.proofs.Parts.{text_of_blocks}
 use Rattle.mari_remain.specs.declared.books.Books.{Books}
 use Rattle.mari_day.specs.Before.{run_behind}
 use Rattle.mari_day.specs.Day.{IsDayPart, IsDayText, IsPartText, part_text, then_took, WroteDay, WrotePart, WrotePrefix}
 use Rattle.mari_day.specs.Progress.{IsProgress}
-use Rattle.mari_day.specs.Stepped.{BrokeOff, IsDayOf, Stopped, WroteBlock, WroteFirst}
+use Rattle.mari_day.specs.Stepped.{BrokeOff, Closes, IsDayOf, Stepped, Stopped, WroteBlock, WroteFirst}
+use Rattle.mari_day.specs.declared.step.Stop.TheVariants.{Sink, NoMemory}
 use Rattle.mari_day.specs.declared.progress.Progress.{Progress}
 use Rattle.mari_day.specs.declared.step.Stop.{Stop}
-use Rattle.mari_day.proofs.Progressing.{part-more}
+use Rattle.mari_day.proofs.Progressing.{both-kinds, part-more}
 
 -- two texts, one after the other
 pub took-more : (taken : Option (List ℕ)) (a b : List ℕ) → then_took (then_took taken a) b ≡ then_took taken (a ++ b)
@@ -110,3 +115,46 @@ module _ (books : Books) (budget : ℕ) where
       taken = behind before mid after (part_text books budget first.blocks) (total_text_of p) n first.taken e
           ∙ ap (λ t. then_took before (take (length (part_text books budget first.blocks) + n) t)) (day-text first.blocks p is);
     }
+
+    -- how the day stops where a run's block isn't written, or the totals aren't
+    pub step-stops : (new : Progress) (after : Option (List ℕ)) (stop : Stop) → count < length books.runs.runs → Stepped books budget first.blocks new mid after (Err stop) → Stopped books budget before after stop
+    step-stops new after Sink last h = block-cut after last h
+    step-stops new after NoMemory last h = inr (part-left after h)
+
+    pub close-stops : (after : Option (List ℕ)) (stop : Stop) → Closes books budget first.blocks mid after (Err stop) → Stopped books budget before after stop
+    close-stops after Sink (p, is, (n, e)) = totals-cut after p is n e
+    close-stops after NoMemory h = inr (part-left after h)
+
+    -- the whole day
+    pub day-written : (after : Option (List ℕ)) (u : Unit {0}) → count ≡ length books.runs.runs → Closes books budget first.blocks mid after (Ok u)
+        → (kept.published ≤ length books.runs.runs) × WroteDay books budget kept.published (length books.runs.runs - kept.published) before after
+    day-written after u all (p, is, e) =
+        let both = both-kinds first.blocks in
+        let few : published_in first.blocks ≡ kept.published = sym first.progress.published in
+        (omega (arith, both, few, first.counted, all), record {
+          publication = p;
+          day = is.day;
+          in_range = is.in_range;
+          counted = first.progress.published ∙ ap published_in (sym is.of_blocks);
+          others = omega (arith, both, few, first.counted, all) ∙ ap unpublished_in (sym is.of_blocks);
+          taken = totals-taken after p is e;
+        })
+
+-- a failed write ends the day with a first part of the head
+pub head-stops : (books : Books) (budget : ℕ) (before after : Option (List ℕ)) (stop : Stop) → stop ≡ Sink → ((n : ℕ) × (after ≡ then_took before (take n (head books budget)))) → Stopped books budget before after stop
+head-stops books budget before after Sink e (n, h) = head-cut books budget before after n h
+head-stops books budget before after NoMemory e h = cc e
+
+-- the closing lines, by what they are made of
+pub closing-text : (p : Publication) (operators : List MoneyLine) (providers : List AmountLine) (published unpublished : ℕ) → operators ≡ p.operators → providers ≡ p.providers → published ≡ published_in p.blocks
+    → unpublished ≡ unpublished_in p.blocks → text_of_lines (closing_lines_by operators providers published unpublished) ≡ total_text_of p
+closing-text p operators providers published unpublished e f g h =
+    ap (λ xs. text_of_lines (closing_lines_by xs providers published unpublished)) e ∙ ap (λ xs. text_of_lines (closing_lines_by p.operators xs published unpublished)) f
+    ∙ ap (λ n. text_of_lines (closing_lines_by p.operators p.providers n unpublished)) g ∙ ap (λ n. text_of_lines (closing_lines_by p.operators p.providers (published_in p.blocks) n)) h
+
+-- what writing them comes to
+pub closes-by : (books : Books) (budget : ℕ) (blocks : List Block) (before after : Option (List ℕ)) (text : List ℕ) (r : Result (Unit {0}) Stop) → OnOk r (after ≡ then_took before text)
+    → OnErr r ((n : ℕ) × (after ≡ then_took before (take n text))) → IfErr r (λ stop. stop ≡ Sink) → (p : Publication) → IsDayOf books budget blocks p → text ≡ total_text_of p → Closes books budget blocks before after r
+closes-by books budget blocks before after text (Ok u) ok err e p is t = (p, is, ok ∙ ap (then_took before) t)
+closes-by books budget blocks before after text (Err Sink) ok err e p is t = (p, is, (err.0, err.1 ∙ ap (λ x. then_took before (take err.0 x)) t))
+closes-by books budget blocks before after text (Err NoMemory) ok err e p is t = cc e

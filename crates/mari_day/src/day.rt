@@ -125,8 +125,9 @@ fn close<K: Sink>(
     sink: &mut K,
 ) -> Result<(), Stop>
     requires accepted { IsAccepted books.now }
+    requires dated { IsDated books.now }
     requires stands { (budget : ℕ) × (blocks : List PrintedBlock) × IsProgress books.now budget blocks progress.now × (length blocks ≡ length books.now.runs.runs) }
-    ensures closes { (budget : ℕ) (blocks : List PrintedBlock) → IsDated books.now → (1 ≤ budget) × (budget ≤ 50000) → IsProgress books.now budget blocks progress.now
+    ensures closes { (budget : ℕ) (blocks : List PrintedBlock) → (1 ≤ budget) × (budget ≤ 50000) → IsProgress books.now budget blocks progress.now
         → length blocks ≡ length books.now.runs.runs → Closes books.now budget blocks (K.taken sink.old) (K.taken sink.new) result }
     ensures cause { Counts (result ≡ Err Stop.Sink) (K.faults sink.old) (K.faults sink.new) }
 {

@@ -84,6 +84,7 @@ impl Progress {
         self.remaining
             .after(books, run, &settled.made, &settled.activation);
         self.totals.add(&settled.ledger);
+        self.published += 1;
         let entry = run_entry(books, run);
         if !entry.direct {
             self.scheduled = Some(Scheduled {
@@ -91,6 +92,5 @@ impl Progress {
                 prices: settled.prices,
             });
         }
-        self.published += 1;
     }
 }

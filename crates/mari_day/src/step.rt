@@ -125,8 +125,10 @@ pub fn step<C: Clearer, K: Sink>(
     write_text(sink, &text)?;
     let RunDone { settled, .. } = done;
     match settled {
-        Some(settled) => progress.add(books, run, settled),
-        None => {}
+        Some(settled) => {
+            progress.add(books, run, settled);
+            Ok(())
+        }
+        None => Ok(()),
     }
-    Ok(())
 }

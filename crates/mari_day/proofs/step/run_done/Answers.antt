@@ -17,6 +17,7 @@ use Rattle.mari_remain.specs.RunMarket.{run_market_of}
 use Rattle.mari_day.specs.Published.{IsPublishedOf, IsPublishedRun}
 use Rattle.mari_day.specs.declared.block.Settled.{Settled}
 use Rattle.mari_day.specs.declared.progress.Progress.{Progress}
+use Rattle.mari_day.specs.Run.{heading_of}
 use Rattle.mari_day.proofs.Days.{heading-fits, spent-fits}
 use Rattle.mari_day.proofs.Scheduling.{also-is, given-prices}
 use Rattle.mari_day.proofs.Shapes.{market-of}
@@ -58,3 +59,50 @@ pub market_of-requires-clause-stands : goal.market_of-requires-clause-stands
 market_of-requires-clause-stands g c =
     let s = c.requires.stands in
     (before_of c.args.books.now s.0, s.1.stands, next c.args.books.now c.requires.accepted c.args.budget s.0 c.args.progress.now s.1 c.args.run s.2 c.requires.last)
+
+pub published_run-requires-in-Published-clause-made : goal.published_run-requires-in-Published-clause-made
+published_run-requires-in-Published-clause-made g c =
+    let s = c.requires.stands in
+    let e = next c.args.books.now c.requires.accepted c.args.budget s.0 c.args.progress.now s.1 c.args.run s.2 c.requires.last in
+    of-books c.args.books.now c.requires.accepted c.args.budget s.0 c.args.progress.now s.1 c.args.run s.2 c.requires.last c.in_ok-made.made (c.in_ok-made.ensures.market (before_of c.args.books.now s.0) s.1.stands e)
+
+pub published_run-requires-in-Published-clause-optimal : goal.published_run-requires-in-Published-clause-optimal
+published_run-requires-in-Published-clause-optimal g c = c.in-Published.ensures.law.first.optimal
+
+pub returns-in-Published-clause-fits : goal.returns-in-Published-clause-fits
+returns-in-Published-clause-fits g c = c.in_ok-done-in-Published.ensures.fits c.args.budget c.requires.budget.1 c.in-Published.ensures.law
+
+pub returns-in-Spent-clause-fits : goal.returns-in-Spent-clause-fits
+returns-in-Spent-clause-fits g c =
+    let s = c.requires.stands in
+    let P : Heading → Type 0 = λ h. IsHeading h in
+    let heading = subst P (sym c.heading.ensures) (heading-fits c.args.books.now c.requires.accepted c.requires.dated c.args.run (omega (arith, s.2)) c.requires.last) in
+    (heading, rw c.as_slice.ensures (spent-fits c.args.books.now c.requires.accepted c.requires.dated c.in_ok-made.made.market c.args.budget c.in-Spent.spent c.requires.budget.1 c.in-Spent.ensures.law))
+
+pub returns-in-Published-clause-done : goal.returns-in-Published-clause-done
+returns-in-Published-clause-done g c = λ blocks progress is.
+    let books = c.args.books.now in
+    let e = next books c.requires.accepted c.args.budget blocks c.args.progress.now progress c.args.run is c.requires.last in
+    let made = c.in_ok-made.ensures.market (before_of books blocks) progress.stands e in
+    let also = c.also-also.ensures ∙ also-is books blocks c.args.progress.now.scheduled progress.scheduled c.args.run is c.requires.last in
+    record {
+      block = published-behind books c.requires.accepted c.args.budget blocks c.args.progress.now progress c.args.run is c.requires.last c.in_ok-made.made made _ also c.in_ok-done-in-Published.done.block
+          (c.in_ok-done-in-Published.ensures.published c.args.budget c.in-Published.ensures.law);
+      settled = settled-behind books c.requires.accepted c.args.budget blocks c.args.progress.now progress c.args.run is c.requires.last c.in_ok-made.made made _ also c.in_ok-done-in-Published.done.block c.in_ok-done-in-Published.done.settled
+          c.in_ok-done-in-Published.ensures.settled;
+    }
+
+pub returns-in-Spent-clause-done : goal.returns-in-Spent-clause-done
+returns-in-Spent-clause-done g c = λ blocks progress is.
+    let books = c.args.books.now in
+    let e = next books c.requires.accepted c.args.budget blocks c.args.progress.now progress c.args.run is c.requires.last in
+    let made = c.in_ok-made.ensures.market (before_of books blocks) progress.stands e in
+    record {
+      block = record {
+        is_of = c.heading.ensures ∙ ap (heading_of books) is;
+        spent = c.in-Spent.spent;
+        is_spent = spent-behind books c.requires.accepted c.args.budget blocks c.args.progress.now progress c.args.run is c.requires.last c.in_ok-made.made made c.in-Spent.spent c.in-Spent.ensures.law;
+        counted = rw c.as_slice.ensures refl;
+      };
+      settled = tt;
+    }

@@ -1,0 +1,23 @@
+use Rattle.std.proofs.Common.{◌≡◌, ◌∙◌, ◌+◌, ◌<◌, ◌≤◌, ℕ, inr, length, ap, sym, arith}
+use Rattle.mari_day.specs.Before.{run_behind}
+use Rattle.mari_day.proofs.Texts.{block-more, step-stops}
+use Rattle.mari_day.proofs.day.write_runs.Goals as goal
+
+pub step-requires-clause-stands : goal.step-requires-clause-stands
+step-requires-clause-stands g c = let w = c.loop-run.invariant.wrote in (w.blocks, w.progress, ap (λ n. n + 1) (sym w.counted))
+
+pub loop-run-preserved : goal.loop-run-preserved
+loop-run-preserved g c =
+    let w = c.loop-run.invariant.wrote in
+    let more = c.in_ok-step.ensures.stepped w.blocks w.progress (ap (λ n. n + 1) (sym w.counted)) in
+    record {
+      wrote = block-more c.args.books.now c.args.budget c.loop-run.run c.loop-run.progress _ _ w _ _ more;
+      faults = omega (arith, c.loop-run.invariant.faults, c.in_ok-step.ensures.cause.later);
+      ready = c.in_ok-step.ensures.ready;
+    }
+
+pub returns-in_err-step-clause-stopped : goal.returns-in_err-step-clause-stopped
+returns-in_err-step-clause-stopped g c =
+    let w = c.loop-run.invariant.wrote in
+    let stops = c.in_err-step.ensures.stepped w.blocks w.progress (ap (λ n. n + 1) (sym w.counted)) in
+    step-stops c.args.books.now c.args.budget c.loop-run.run c.loop-run.progress _ _ w _ _ _ (omega arith) stops

@@ -24,6 +24,8 @@ use Rattle.mari_settle.specs.Lines.{nothing}
 use Rattle.mari_settle.specs.declared.ledger.Ledger.{Ledger}
 use Rattle.mari_day.specs.Dated.{IsDated}
 use Rattle.mari_day.specs.Money.{amount_line, money_line, money_lines_of}
+use Rattle.mari_settle.specs.Conditions.{LineIsWithin}
+use Rattle.mari_day.specs.Assembled.{most_of_operator}
 use Rattle.mari_day.specs.Progress.{AreTotals, IsProgress}
 use Rattle.mari_day.specs.Stepped.{IsDayOf}
 use Rattle.mari_day.specs.Totals.{provider_total, provider_totals}
@@ -96,7 +98,7 @@ module _ (books : Books) (ok : IsAccepted books) (dated : IsDated books) where
   module _ (blocks : List Block) (ledger : Ledger) (sums : AreTotals books blocks ledger) (few : length blocks ≤ 1000) where
     -- so that the lines of operators can be made
     pub sums-halves : All IsHalf ledger.operators
-    sums-halves = All-weaker _ IsHalf (λ l s. record { payment = omega (arith, few, s.payment); rent = omega (arith, few, s.rent) }) ledger.operators sums.operators_within
+    sums-halves = All-weaker (LineIsWithin (length blocks * most_of_operator)) IsHalf (λ l s. record { payment = omega (arith, few, s.payment); rent = omega (arith, few, s.rent) }) ledger.operators sums.operators_within
 
     pub one-each-provider : length ledger.providers ≡ length books.bids.providers
     one-each-provider = ap length sums.providers ∙ length-map-range_with_len _ 0 (length books.bids.providers)
@@ -130,7 +132,7 @@ module _ (books : Books) (ok : IsAccepted books) (dated : IsDated books) where
             (ap (λ (qs : List Quarters). slice_index_or qs k nothing) sums.providers ∙ get_or-map-range_with_len _ 0 (length books.bids.providers) k k nothing (omega (arith, below)) (omega arith)))
 
   module _ (budget : ℕ) (node_range : Between 1 50000 budget) (blocks : List Block) (kept : Progress) (progress : IsProgress books budget blocks kept) (every : length blocks ≡ length books.runs.runs) where
-    few-blocks : length blocks ≤ 1000
+    pub few-blocks : length blocks ≤ 1000
     few-blocks = omega (arith, every, ok.runs.few)
 
     -- the day of these blocks and these sums

@@ -23,7 +23,8 @@ use Rattle.mari_remain.specs.Accepted.{IsAccepted}
 use Rattle.mari_remain.specs.FirstBlocks.{AreFirstBlocks, IsNextBlock}
 use Rattle.mari_remain.proofs.After.{first-more}
 use Rattle.mari_remain.proofs.Offers.{offers, once}
-use Rattle.mari_settle.specs.Ledger.{net_of, operator_line, operator_lines}
+use Rattle.mari_settle.specs.Ledger.{net_of, operator_lines, rents_of}
+use Rattle.mari_day.specs.Run.{activation_of, prices_of}
 use Rattle.mari_settle.specs.Lines.{map_along, no_line}
 use Rattle.mari_settle.specs.declared.ledger.OperatorLine.{OperatorLine}
 use Rattle.mari_settle.proofs.Laws.{nets_sum_to_0, no_rent_below_0}
@@ -92,13 +93,13 @@ module _ (books : Books) (ok : IsAccepted books) (budget : ℕ) (blocks : List B
       let made = market_behind books (take k blocks) in
       let own = market-of books ok (before_of books (take k blocks)) (up k (omega (arith, l))) (run_behind (take k blocks)) (omega arith) (behind k l) in
       let names = books.zones.operators in
-      let lines = operator_lines books.zones made.market _ _ in
+      let lines = operator_lines books.zones made.market (activation_of b) (prices_of b) in
       let many : length lines ≡ length names = length-map-range_with_len _ 0 (length names) in
       record {
         one_each = ap length is.ledger.operators ∙ along-length money_line names lines many;
         balances = record {
-          nets = ap net_sum is.ledger.operators ∙ net-lines names lines many ∙ nets_sum_to_0 books.zones made.market _ _ (record { one_each = ok.zones.one_each; there = ok.zones.operator_of }) own.zones own.valid;
-          rents = rents-of b.borders _ is.ledger.rents (no_rent_below_0 made.market _ _ is.prices.consistent.borders);
+          nets = ap net_sum is.ledger.operators ∙ net-lines names lines many ∙ nets_sum_to_0 books.zones made.market (activation_of b) (prices_of b) (record { one_each = ok.zones.one_each; there = ok.zones.operator_of }) own.zones own.valid;
+          rents = rents-of b.borders (rents_of made.market (activation_of b) (prices_of b)) is.ledger.rents (no_rent_below_0 made.market (activation_of b) (prices_of b) is.prices.consistent.borders);
         };
       }
 
@@ -126,13 +127,13 @@ module _ (books : Books) (ok : IsAccepted books) (budget : ℕ) (blocks : List B
 
   -- so do those of their sums
   sums : (lines : List MoneyLine) (bs : List Block) → length lines ≡ length books.zones.operators → net_sum lines ≡ pos 0 → All SummedIn bs → net_sum (fold with_operators lines bs) ≡ pos 0
-  sums lines [] many zero all = zero
-  sums lines (block.Published b ∷ bs) many zero all =
+  sums lines [] many none all = none
+  sums lines (block.Published b ∷ bs) many none all =
       let own : Summed b = All-head SummedIn (block.Published b) bs all in
       let longer = along-length money_together lines b.operators (own.one_each ∙ sym many) in
       let both = nets-along lines b.operators (many ∙ sym own.one_each) in
-      sums (map_along money_together lines b.operators) bs (longer ∙ many) (omega (arith, ints, both, zero, own.balances.nets)) (All-tail SummedIn (block.Published b) bs all)
-  sums lines (block.Unpublished heading count ∷ bs) many zero all = sums lines bs many zero (All-tail SummedIn (block.Unpublished heading count) bs all)
+      sums (map_along money_together lines b.operators) bs (longer ∙ many) (omega (arith, ints, both, none, own.balances.nets)) (All-tail SummedIn (block.Published b) bs all)
+  sums lines (block.Unpublished heading count ∷ bs) many none all = sums lines bs many none (All-tail SummedIn (block.Unpublished heading count) bs all)
 
   no-nets : (n : ℕ) → int_sum net_of (replicate n no_line) ≡ pos 0
   no-nets zero = refl

@@ -15,7 +15,7 @@ use Rattle.mari_remain.specs.declared.books.Books.{Books}
 use Rattle.mari_remain.specs.Accepted.{IsAccepted}
 use Rattle.mari_remain.specs.Lists.{run_at}
 use Rattle.mari_remain.proofs.Standing.{quarters-rise}
-use Rattle.mari_settle.specs.Conditions.{IsCapped}
+use Rattle.mari_market.specs.Price.{IsCapped}
 use Rattle.std.specs.Option.{option_map}
 use Rattle.mari_day.specs.Before.{also_behind, run_behind, scheduled_in, scheduled_prices}
 use Rattle.mari_day.specs.Progress.{kept_for, IsScheduled, KeepsPrices}

@@ -86,9 +86,9 @@ module _ (books : Books) (blocks : List Block) (sums : Ledger) (so_far : AreTota
             (λ provider. let more = over-more books [] blocks b provider in omega (arith, ints, more)) (range_with_len 0 (length books.bids.providers));
         one_each = so_far.one_each;
         rents = so_far.rents;
-        operators_within = rw (many b) (All-weaker _ (LineIsWithin ((length blocks + 1) * most_of_operator)) (λ l s. record { payment = omega (arith, s.payment); rent = omega (arith, s.rent) }) sums.operators so_far.operators_within);
-        providers_within = rw (many b) (All-weaker _ (IsWithin ((length blocks + 1) * most_of_provider)) (λ q s. omega (arith, s)) sums.providers so_far.providers_within);
-        rents_within = rw (many b) (All-weaker _ (IsWithin ((length blocks + 1) * 10 ^ 17)) (λ q s. omega (arith, s)) sums.rents so_far.rents_within);
+        operators_within = rw (many b) (All-weaker (LineIsWithin (length blocks * most_of_operator)) (LineIsWithin ((length blocks + 1) * most_of_operator)) (λ l s. record { payment = omega (arith, s.payment); rent = omega (arith, s.rent) }) sums.operators so_far.operators_within);
+        providers_within = rw (many b) (All-weaker (IsWithin (length blocks * most_of_provider)) (IsWithin ((length blocks + 1) * most_of_provider)) (λ q s. omega (arith, s)) sums.providers so_far.providers_within);
+        rents_within = rw (many b) (All-weaker (IsWithin (length blocks * 10 ^ 17)) (IsWithin ((length blocks + 1) * 10 ^ 17)) (λ q s. omega (arith, s)) sums.rents so_far.rents_within);
         nets = so_far.nets;
       }
 
@@ -105,9 +105,9 @@ module _ (books : Books) (blocks : List Block) (sums : Ledger) (so_far : AreTota
     adds-up few =
         ledgers_add_up (10 ^ 21) (10 ^ 17) sums settled.ledger (omega arith) (so_far.one_each ∙ sym is.one_each) as-many-providers (so_far.rents ∙ sym is.rents)
         (record {
-          operators = All-weaker _ (LineIsWithin (10 ^ 21)) (λ l s. record { payment = omega (arith, few, s.payment); rent = omega (arith, few, s.rent) }) sums.operators so_far.operators_within;
-          providers = All-weaker _ (IsWithin (10 ^ 21)) (λ q s. omega (arith, few, s)) sums.providers so_far.providers_within;
-          rents = All-weaker _ (IsWithin (10 ^ 21)) (λ q s. omega (arith, few, s)) sums.rents so_far.rents_within;
+          operators = All-weaker (LineIsWithin (length blocks * most_of_operator)) (LineIsWithin (10 ^ 21)) (λ l s. record { payment = omega (arith, few, s.payment); rent = omega (arith, few, s.rent) }) sums.operators so_far.operators_within;
+          providers = All-weaker (IsWithin (length blocks * most_of_provider)) (IsWithin (10 ^ 21)) (λ q s. omega (arith, few, s)) sums.providers so_far.providers_within;
+          rents = All-weaker (IsWithin (length blocks * 10 ^ 17)) (IsWithin (10 ^ 21)) (λ q s. omega (arith, few, s)) sums.rents so_far.rents_within;
         }) is.small
 
     -- and its sums are those of one block more
@@ -128,13 +128,13 @@ module _ (books : Books) (blocks : List Block) (sums : Ledger) (so_far : AreTota
               ∙ amounts-same (λ x. amount_over books [] blocks x +ℤ amount_in books blocks p x) (amount_over books [] (blocks ++ p ∷ [])) (λ x. sym (over-more books [] blocks p x)) all;
           one_each = ap length operators ∙ along-length lines_together sums.operators settled.ledger.operators (is.one_each ∙ sym so_far.one_each) ∙ so_far.one_each;
           rents = ap length rents ∙ along-length together sums.rents settled.ledger.rents (is.rents ∙ sym so_far.rents) ∙ so_far.rents;
-          operators_within = rw (many p, operators) (All-weaker _ (LineIsWithin ((length blocks + 1) * most_of_operator)) (λ l s. record { payment = omega (arith, s.payment); rent = omega (arith, s.rent) }) _
+          operators_within = rw (many p, operators) (All-weaker (LineIsWithin (length blocks * most_of_operator + most_of_operator)) (LineIsWithin ((length blocks + 1) * most_of_operator)) (λ l s. record { payment = omega (arith, s.payment); rent = omega (arith, s.rent) }) _
               (sums_within lines_together (LineIsWithin (length blocks * most_of_operator)) (LineIsWithin most_of_operator) (LineIsWithin (length blocks * most_of_operator + most_of_operator)) (lines_within _ _)
               sums.operators settled.ledger.operators (so_far.one_each ∙ sym is.one_each) so_far.operators_within is.operators_small));
-          providers_within = rw (many p, providers) (All-weaker _ (IsWithin ((length blocks + 1) * most_of_provider)) (λ q s. omega (arith, s)) _
+          providers_within = rw (many p, providers) (All-weaker (IsWithin (length blocks * most_of_provider + most_of_provider)) (IsWithin ((length blocks + 1) * most_of_provider)) (λ q s. omega (arith, s)) _
               (sums_within together (IsWithin (length blocks * most_of_provider)) (IsWithin most_of_provider) (IsWithin (length blocks * most_of_provider + most_of_provider)) (sum_within _ _)
               sums.providers settled.ledger.providers as-many-providers so_far.providers_within is.providers_small));
-          rents_within = rw (many p, rents) (All-weaker _ (IsWithin ((length blocks + 1) * 10 ^ 17)) (λ q s. omega (arith, s)) _
+          rents_within = rw (many p, rents) (All-weaker (IsWithin (length blocks * 10 ^ 17 + 10 ^ 17)) (IsWithin ((length blocks + 1) * 10 ^ 17)) (λ q s. omega (arith, s)) _
               (sums_within together (IsWithin (length blocks * 10 ^ 17)) (IsWithin (10 ^ 17)) (IsWithin (length blocks * 10 ^ 17 + 10 ^ 17)) (sum_within _ _)
               sums.rents settled.ledger.rents (so_far.rents ∙ sym is.rents) so_far.rents_within is.small.rents));
           nets = rw operators (let both = nets-together sums.operators settled.ledger.operators (so_far.one_each ∙ sym is.one_each) in omega (arith, ints, both, so_far.nets, is.nets));

@@ -24,6 +24,10 @@ use Rattle.mari_day.specs.declared.progress.Progress.{Progress}
 use Rattle.mari_day.specs.declared.step.Stop.{Stop}
 use Rattle.mari_day.proofs.Progressing.{both-kinds, part-more}
 
+-- the first line of a text
+abbrev first-line : List ℕ → ℕ → ℕ → List ℕ
+first-line date quarters nodes = line_text (line.Head date quarters nodes)
+
 -- two texts, one after the other
 pub took-more : (taken : Option (List ℕ)) (a b : List ℕ) → then_took (then_took taken a) b ≡ then_took taken (a ++ b)
 took-more None a b = refl
@@ -43,15 +47,14 @@ module _ (books : Books) (budget : ℕ) where
   pub day-text : (blocks : List Block) (p : Publication) → IsDayOf books budget blocks p → part_text books budget blocks ++ total_text_of p ≡ text_of p
   day-text blocks p is =
       let totals = total_text_of p in
-      let first = λ date quarters nodes. line_text (line.Head date quarters nodes) in
       append_assoc head (flat_map block_text_of blocks) totals
-      ∙ ap (λ t. t ++ (flat_map block_text_of blocks ++ totals)) (append-nil (first books.date books.quarters budget))
-      ∙ ap (λ date. first date books.quarters budget ++ (flat_map block_text_of blocks ++ totals)) (sym is.day.date)
-      ∙ ap (λ quarters. first p.date quarters budget ++ (flat_map block_text_of blocks ++ totals)) (sym is.day.quarters)
-      ∙ ap (λ nodes. first p.date p.quarters nodes ++ (flat_map block_text_of blocks ++ totals)) (sym is.day.budget)
-      ∙ ap (λ bs. first p.date p.quarters p.budget ++ (flat_map block_text_of bs ++ totals)) (sym is.of_blocks)
-      ∙ ap (λ t. first p.date p.quarters p.budget ++ (t ++ totals)) (sym (text_of_blocks p.blocks))
-      ∙ ap (λ t. first p.date p.quarters p.budget ++ t) (sym (flat_map-append line_text (flat_map block_lines p.blocks) (closing_lines p)))
+      ∙ ap (λ t. t ++ (flat_map block_text_of blocks ++ totals)) (append-nil (first-line books.date books.quarters budget))
+      ∙ ap (λ (date : List ℕ). first-line date books.quarters budget ++ (flat_map block_text_of blocks ++ totals)) (sym is.day.date)
+      ∙ ap (λ (quarters : ℕ). first-line p.date quarters budget ++ (flat_map block_text_of blocks ++ totals)) (sym is.day.quarters)
+      ∙ ap (λ (nodes : ℕ). first-line p.date p.quarters nodes ++ (flat_map block_text_of blocks ++ totals)) (sym is.day.budget)
+      ∙ ap (λ (bs : List Block). first-line p.date p.quarters p.budget ++ (flat_map block_text_of bs ++ totals)) (sym is.of_blocks)
+      ∙ ap (λ (t : List ℕ). first-line p.date p.quarters p.budget ++ (t ++ totals)) (sym (text_of_blocks p.blocks))
+      ∙ ap (λ (t : List ℕ). first-line p.date p.quarters p.budget ++ t) (sym (flat_map-append line_text (flat_map block_lines p.blocks) (closing_lines p)))
 
   -- a first part of a text behind another text
   behind : (before mid after : Option (List ℕ)) (text more : List ℕ) (count : ℕ) → mid ≡ then_took before text → after ≡ then_took mid (take count more) → after ≡ then_took before (take (length text + count) (text ++ more))

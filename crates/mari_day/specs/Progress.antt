@@ -10,7 +10,8 @@ use Rattle.mari_publish.specs.Ranges.{BlockFits}
 use Rattle.mari_remain.specs.declared.books.Books.{Books}
 use Rattle.mari_remain.specs.FirstBlocks.{StandsFor}
 use Rattle.mari_remain.specs.Lists.{run_at}
-use Rattle.mari_settle.specs.Conditions.{IsCapped, IsWithin, LineIsWithin}
+use Rattle.mari_market.specs.Price.{IsCapped}
+use Rattle.mari_settle.specs.Conditions.{IsWithin, LineIsWithin}
 use Rattle.mari_settle.specs.Ledger.{net_of}
 use Rattle.mari_settle.specs.declared.ledger.Ledger.{Ledger}
 use Rattle.mari_day.specs.Assembled.{most_of_operator, most_of_provider, IsRunOf}

@@ -73,8 +73,10 @@ fn begin<K: Sink>(
 {
     let progress = Progress::start(alloc, books)?;
     let head = head_text(alloc, &books.date, books.quarters, budget)?;
-    write_text(sink, &head)?;
-    Ok(progress)
+    match write_text(sink, &head) {
+        Ok(()) => Ok(progress),
+        Err(stop) => Err(stop),
+    }
 }
 
 /// How many runs the day has.
@@ -104,7 +106,7 @@ fn write_runs<C: Clearer, K: Sink>(
 {
     let mut progress = begin(alloc, books, budget, sink)?;
     for run in 0..run_count(books) {
-        step(
+        match step(
             alloc,
             books,
             run + 1,
@@ -112,7 +114,10 @@ fn write_runs<C: Clearer, K: Sink>(
             &mut progress,
             clearer,
             sink,
-        )?;
+        ) {
+            Ok(()) => {}
+            Err(stop) => return Err(stop),
+        }
     }
     Ok(progress)
 }
@@ -158,8 +163,10 @@ fn write_day<C: Clearer, K: Sink>(
     ensures ready { C.ready clearer.new }
 {
     let progress = write_runs(alloc, books, budget, clearer, sink)?;
-    close(alloc, books, &progress, sink)?;
-    Ok(progress.published)
+    match close(alloc, books, &progress, sink) {
+        Ok(()) => Ok(progress.published),
+        Err(stop) => Err(stop),
+    }
 }
 
 /// Clears the runs of these books in order, each within a budget of nodes, and writes their day.

@@ -1,7 +1,11 @@
-use Rattle.std.proofs.Common.{◌≡◌, ◌∙◌, ◌≤◌, ◌+◌, ℕ, List, [], Option, length, map, refl, sym, ap, subst, arith}
+use Rattle.std.proofs.Common.{◌≡◌, ◌∙◌, ◌≤◌, ◌+◌, ℕ, List, [], Option, Some, None, length, map, refl, sym, ap, subst, arith}
+use Rattle.std.specs.Prelude.{IfSome}
+use Rattle.std.specs.List.{All}
 use Rattle.std.proofs.lemmas.List.{length-map}
 use Rattle.mari_units.specs.declared.numbers.Cents.{Cents}
+use Rattle.mari_market.specs.declared.market.Market.{Market}
 use Rattle.mari_market.specs.Clearing.{IsSpent}
+use Rattle.mari_market.specs.Price.{ArePrices, IsCapped}
 use Rattle.mari_publish.specs.Ranges.{IsHeading}
 use Rattle.mari_publish.specs.declared.publication.Block.{Block}
 use Rattle.mari_publish.specs.declared.publication.Heading.{Heading}
@@ -60,17 +64,26 @@ market_of-requires-clause-stands g c =
     let s = c.requires.stands in
     (before_of c.args.books.now s.0, s.1.stands, next c.args.books.now c.requires.accepted c.args.budget s.0 c.args.progress.now s.1 c.args.run s.2 c.requires.last)
 
-pub published_run-requires-in-Published-clause-made : goal.published_run-requires-in-Published-clause-made
-published_run-requires-in-Published-clause-made g c =
+pub published_run-requires-clause-made : goal.published_run-requires-clause-made
+published_run-requires-clause-made g c =
     let s = c.requires.stands in
     let e = next c.args.books.now c.requires.accepted c.args.budget s.0 c.args.progress.now s.1 c.args.run s.2 c.requires.last in
     of-books c.args.books.now c.requires.accepted c.args.budget s.0 c.args.progress.now s.1 c.args.run s.2 c.requires.last c.in_ok-made.made (c.in_ok-made.ensures.market (before_of c.args.books.now s.0) s.1.stands e)
 
-pub published_run-requires-in-Published-clause-optimal : goal.published_run-requires-in-Published-clause-optimal
-published_run-requires-in-Published-clause-optimal g c = c.in-Published.ensures.law.first.optimal
+priced-some : {A : Type 0} (f : A → List Cents) (m : Market) (zones : ℕ) (r : Option A) → m.zones ≡ zones → IfSome r (λ a. (length (f a) ≡ zones) × All IsCapped (f a)) → IfSome r (λ a. ArePrices m (f a))
+priced-some f m zones None e h = tt
+priced-some f m zones (Some a) e h = record { one_each = h.0 ∙ sym e; capped = h.1 }
 
-pub returns-in-Published-clause-fits : goal.returns-in-Published-clause-fits
-returns-in-Published-clause-fits g c = c.in_ok-done-in-Published.ensures.fits c.args.budget c.requires.budget.1 c.in-Published.ensures.law
+pub published_run-requires-clause-also : goal.published_run-requires-clause-also
+published_run-requires-clause-also g c =
+    let books = c.args.books.now in
+    let s = c.requires.stands in
+    let e = next books c.requires.accepted c.args.budget s.0 c.args.progress.now s.1 c.args.run s.2 c.requires.last in
+    let of = of-books books c.requires.accepted c.args.budget s.0 c.args.progress.now s.1 c.args.run s.2 c.requires.last c.in_ok-made.made (c.in_ok-made.ensures.market (before_of books s.0) s.1.stands e) in
+    priced-some _ c.in_ok-made.made.market (length books.zones.zones) c.also-also.result of.zones (given-prices books s.0 c.args.progress.now.scheduled s.1.scheduled _ c.also-also.result _ _ c.also-also.ensures)
+
+pub returns-in_ok-done-in-Published-clause-fits : goal.returns-in_ok-done-in-Published-clause-fits
+returns-in_ok-done-in-Published-clause-fits g c = c.in_ok-done-in-Published.ensures.fits c.args.budget c.requires.budget.1 c.in-Published.ensures.law
 
 pub returns-in-Spent-clause-fits : goal.returns-in-Spent-clause-fits
 returns-in-Spent-clause-fits g c =
@@ -79,8 +92,8 @@ returns-in-Spent-clause-fits g c =
     let heading = subst P (sym c.heading.ensures) (heading-fits c.args.books.now c.requires.accepted c.requires.dated c.args.run (omega (arith, s.2)) c.requires.last) in
     (heading, rw c.as_slice.ensures (spent-fits c.args.books.now c.requires.accepted c.requires.dated c.in_ok-made.made.market c.args.budget c.in-Spent.spent c.requires.budget.1 c.in-Spent.ensures.law))
 
-pub returns-in-Published-clause-done : goal.returns-in-Published-clause-done
-returns-in-Published-clause-done g c = λ blocks progress is.
+pub returns-in_ok-done-in-Published-clause-done : goal.returns-in_ok-done-in-Published-clause-done
+returns-in_ok-done-in-Published-clause-done g c = λ blocks progress is.
     let books = c.args.books.now in
     let e = next books c.requires.accepted c.args.budget blocks c.args.progress.now progress c.args.run is c.requires.last in
     let made = c.in_ok-made.ensures.market (before_of books blocks) progress.stands e in

@@ -28,26 +28,26 @@ module _ (books : Books) (ok : IsAccepted books) (budget : ℕ) (blocks : List B
   same-market : settled.made ≡ run_market_of books (before_of books blocks) run
   same-market = addable.made ∙ ap (run_market_of books (before_of books blocks)) (sym is)
 
-pub add-requires-in-Some-clause-stands : goal.add-requires-in-Some-clause-stands
-add-requires-in-Some-clause-stands g c =
+pub add-requires-clause-stands : goal.add-requires-clause-stands
+add-requires-clause-stands g c =
     let books = c.args.books.now in
     let s = c.requires.stands in
     let is_done = c.in_ok-done.ensures.done s.0 s.1 s.2 in
     (before_of books s.0, s.1.stands, next books c.requires.accepted c.args.budget s.0 c.args.progress.now s.1 c.args.run s.2 c.requires.last c.in_ok-done.done is_done c.in-Some.settled c.in-Some.is,
     same-market books c.requires.accepted c.args.budget s.0 c.args.progress.now s.1 c.args.run s.2 c.requires.last c.in_ok-done.done is_done c.in-Some.settled c.in-Some.is)
 
-pub add-requires-in-Some-clause-feasible : goal.add-requires-in-Some-clause-feasible
-add-requires-in-Some-clause-feasible g c =
+pub add-requires-clause-feasible : goal.add-requires-clause-feasible
+add-requires-clause-feasible g c =
     let s = c.requires.stands in
     (addable c.args.books.now c.requires.accepted c.args.budget s.0 c.args.progress.now s.1 c.args.run s.2 c.requires.last c.in_ok-done.done (c.in_ok-done.ensures.done s.0 s.1 s.2) c.in-Some.settled c.in-Some.is).feasible
 
-pub add-requires-in-Some-clause-ledgers : goal.add-requires-in-Some-clause-ledgers
-add-requires-in-Some-clause-ledgers g c =
+pub add-requires-clause-ledgers : goal.add-requires-clause-ledgers
+add-requires-clause-ledgers g c =
     let s = c.requires.stands in
     (addable c.args.books.now c.requires.accepted c.args.budget s.0 c.args.progress.now s.1 c.args.run s.2 c.requires.last c.in_ok-done.done (c.in_ok-done.ensures.done s.0 s.1 s.2) c.in-Some.settled c.in-Some.is).ledgers
 
-pub add-requires-in-Some-clause-few : goal.add-requires-in-Some-clause-few
-add-requires-in-Some-clause-few g c =
+pub add-requires-clause-few : goal.add-requires-clause-few
+add-requires-clause-few g c =
     let s = c.requires.stands in
     (addable c.args.books.now c.requires.accepted c.args.budget s.0 c.args.progress.now s.1 c.args.run s.2 c.requires.last c.in_ok-done.done (c.in_ok-done.ensures.done s.0 s.1 s.2) c.in-Some.settled c.in-Some.is).few
 
@@ -60,8 +60,8 @@ returns-in-Some-clause-stepped g c = λ blocks progress is.
     let m = same-market books c.requires.accepted c.args.budget blocks c.args.progress.now progress c.args.run is last c.in_ok-done.done is_done c.in-Some.settled c.in-Some.is in
     let f = own books c.requires.accepted c.args.budget blocks c.args.progress.now progress c.args.run is last c.in_ok-done.done is_done c.in-Some.settled c.in-Some.is in
     let added = c.add.ensures in
-    let R : ℕ → Type 0 = λ r. StandsFor books (before_of books blocks ++ block_of books r c.in-Some.settled.made.bids c.in-Some.settled.activation ∷ []) c.add.new.progress.remaining in
-    let S : ℕ → Type 0 = λ r. c.add.new.progress.scheduled ≡ (if (run_at books r).direct then c.args.progress.now.scheduled else Some (record { quarter = (run_at books r).quarter; prices = c.in-Some.settled.prices })) in
+    let R : ℕ → Type 0 = λ r. StandsFor books (before_of books blocks ++ block_of books r c.in-Some.settled.made.bids c.in-Some.settled.activation ∷ []) c.add.new.self.remaining in
+    let S : ℕ → Type 0 = λ r. c.add.new.self.scheduled ≡ (if (run_at books r).direct then c.args.progress.now.scheduled else Some (record { quarter = (run_at books r).quarter; prices = c.in-Some.settled.prices })) in
     record {
       block = c.in_ok-done.done.block;
       progress = some-more books c.requires.accepted c.args.budget blocks c.args.progress.now progress (omega (arith, is, last)) c.in_ok-done.done.block is_done.block c.in_ok-done.ensures.fits c.in-Some.settled f _
@@ -69,8 +69,8 @@ returns-in-Some-clause-stepped g c = λ blocks progress is.
       taken = rw (c.deref.ensures.value, c.in_ok-text.ensures) at c.in_ok-write_text.ensures.whole;
     }
 
-pub returns-in-None-clause-stepped : goal.returns-in-None-clause-stepped
-returns-in-None-clause-stepped g c = λ blocks progress is.
+pub returns-clause-stepped : goal.returns-clause-stepped
+returns-clause-stepped g c = λ blocks progress is.
     let books = c.args.books.now in
     let is_done = c.in_ok-done.ensures.done blocks progress is in
     let P : Option Settled → Type 0 = λ s. IsSettledIn books blocks c.in_ok-done.done.block s in

@@ -129,7 +129,7 @@ module _ (books : Books) (ok : IsAccepted books) (dated : IsDated books) where
     pub are-totals : lines ≡ provider_totals books blocks
     are-totals = same-over (amount_line books.bids.providers ledger.providers) (provider_total books blocks) 0 (length books.bids.providers)
         (λ k from below. ap (λ (q : Quarters). record { name = name_at books.bids.providers k; amount = q })
-            (ap (λ (qs : List Quarters). slice_index_or qs k nothing) sums.providers ∙ get_or-map-range_with_len _ 0 (length books.bids.providers) k k nothing (omega (arith, below)) (omega arith)))
+        (ap (λ (qs : List Quarters). slice_index_or qs k nothing) sums.providers ∙ get_or-map-range_with_len _ 0 (length books.bids.providers) k k nothing (omega (arith, below)) (omega arith)))
 
   module _ (budget : ℕ) (node_range : Between 1 50000 budget) (blocks : List Block) (kept : Progress) (progress : IsProgress books budget blocks kept) (every : length blocks ≡ length books.runs.runs) where
     pub few-blocks : length blocks ≤ 1000

@@ -85,8 +85,8 @@ module _ (books : Books) (ok : IsAccepted books) (blocks : List Block) (kept : O
           let rises = quarters-rise books ok (run_behind blocks) r (omega arith) (omega (arith, l, length-append blocks (block.Published b ∷ []))) there in
           prices-more (run_at books r).quarter blocks (block.Published b)
           ∙ pick b.heading.direct b.heading.quarter own new.quarter (run_at books r).quarter (prices_of b) new.prices.cents (scheduled_prices (run_at books r).quarter blocks)
-            (ap (λ (h : Heading). h.direct) heading ∙ direct) (ap (λ (h : Heading). h.quarter) heading) quarter prices rises
-            (λ less. keeps.same r before there ∙ past-quarter own (run_at books r).quarter kept (earlier-of (run_behind blocks) (omega arith) last kept keeps.priced) less);
+          (ap (λ (h : Heading). h.direct) heading ∙ direct) (ap (λ (h : Heading). h.quarter) heading) quarter prices rises
+          (λ less. keeps.same r before there ∙ past-quarter own (run_at books r).quarter kept (earlier-of (run_behind blocks) (omega arith) last kept keeps.priced) less);
       priced = record {
         one_each = ap length prices ∙ many;
         capped = subst (All IsCapped) (sym prices) capped;

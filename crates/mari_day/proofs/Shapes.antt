@@ -76,9 +76,9 @@ module _ (books : Books) (ok : IsAccepted books) (past : List PastBlock) (first 
   small-orders : All (λ (o : Order). o.greatest ≤ 9999) (take (length (numbers_of books past run)) (market_at books past run).orders)
   small-orders =
       rw front (All-map (λ (o : Order). o.greatest ≤ 9999) order-of (numbers_of books past run)
-          (λ k d l. let i = get_or (numbers_of books past run) k d in
-          let own = (ok.bids.bids i no_bid (there_first k d l)).most in
-          omega (arith, own, most_left (gate_of (gated_left books (taken_before books past run) run) i) (bid_at books.bids.bids i).greatest ((taken_before books past run).mw i))))
+      (λ k d l. let i = get_or (numbers_of books past run) k d in
+      let own = (ok.bids.bids i no_bid (there_first k d l)).most in
+      omega (arith, own, most_left (gate_of (gated_left books (taken_before books past run) run) i) (bid_at books.bids.bids i).greatest ((taken_before books past run).mw i))))
 
   pub market-of : 1 ≤ run → run ≤ length books.runs.runs → IsMarketOf books (run_market_of books past run)
   market-of one last = record {

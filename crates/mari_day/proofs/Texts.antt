@@ -133,15 +133,17 @@ module _ (books : Books) (budget : ℕ) where
         → (kept.published ≤ length books.runs.runs) × WroteDay books budget kept.published (length books.runs.runs - kept.published) before after
     day-written after u all (p, is, e) =
         let both = both-kinds first.blocks in
-        let few : published_in first.blocks ≡ kept.published = sym first.progress.published in
-        (omega (arith, both, few, first.counted, all), record {
-          publication = p;
-          day = is.day;
-          in_range = is.in_range;
-          counted = first.progress.published ∙ ap published_in (sym is.of_blocks);
-          others = omega (arith, both, few, first.counted, all) ∙ ap unpublished_in (sym is.of_blocks);
-          taken = totals-taken after p is e;
-        })
+        let few : published_in first.blocks ≡ kept.published = sym first.progress.published in (
+          omega (arith, both, few, first.counted, all),
+          record {
+            publication = p;
+            day = is.day;
+            in_range = is.in_range;
+            counted = first.progress.published ∙ ap published_in (sym is.of_blocks);
+            others = omega (arith, both, few, first.counted, all) ∙ ap unpublished_in (sym is.of_blocks);
+            taken = totals-taken after p is e;
+          },
+        )
 
 -- a failed write ends the day with a first part of the head
 pub head-stops : (books : Books) (budget : ℕ) (before after : Option (List ℕ)) (stop : Stop) → stop ≡ Sink → ((n : ℕ) × (after ≡ then_took before (take n (head books budget)))) → Stopped books budget before after stop

@@ -256,7 +256,9 @@ pub fn published_run(
     let done = assemble(alloc, books, run, made.bids.as_slice(), clearing, &priced)?;
     let Assembled { block, activation } = done;
     let Priced {
-        pricing, ledger, ..
+        pricing,
+        ledger,
+        ..
     } = priced;
     Ok(PublishedRun {
         block,

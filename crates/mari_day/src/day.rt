@@ -58,12 +58,7 @@ fn all_places(alloc: Global, count: u32) -> Result<Vec<u32>, Memory>
 }
 
 /// Writes the head.
-fn begin<K: Sink>(
-    alloc: Global,
-    books: &Books,
-    budget: u32,
-    sink: &mut K,
-) -> Result<Progress, Stop>
+fn begin<K: Sink>(alloc: Global, books: &Books, budget: u32, sink: &mut K) -> Result<Progress, Stop>
     requires accepted { IsAccepted books.now }
     requires dated { IsDated books.now }
     requires budget { (1 ≤ budget) × (budget ≤ 50000) }
@@ -106,15 +101,7 @@ fn write_runs<C: Clearer, K: Sink>(
 {
     let mut progress = begin(alloc, books, budget, sink)?;
     for run in 0..run_count(books) {
-        match step(
-            alloc,
-            books,
-            run + 1,
-            budget,
-            &mut progress,
-            clearer,
-            sink,
-        ) {
+        match step(alloc, books, run + 1, budget, &mut progress, clearer, sink) {
             Ok(()) => {}
             Err(stop) => return Err(stop),
         }
@@ -140,7 +127,13 @@ fn close<K: Sink>(
     let operators = money_lines(alloc, &books.zones.operators, totals.operators.as_slice())?;
     let providers = total_lines(alloc, &books.bids, totals.providers.as_slice())?;
     let unpublished = run_count(books) - progress.published;
-    let text = closing_text(alloc, &operators, &providers, progress.published, unpublished)?;
+    let text = closing_text(
+        alloc,
+        &operators,
+        &providers,
+        progress.published,
+        unpublished,
+    )?;
     write_text(sink, &text)
 }
 

@@ -39,5 +39,5 @@ returns-clause-closes g c = λ budget blocks range progress every.
     let both = both-kinds blocks in
     closes-by books budget blocks _ _ _ c.write_text.result c.write_text.ensures.whole c.write_text.ensures.part c.write_text.ensures.error p
     (is-day books c.requires.accepted c.requires.dated budget range blocks c.args.progress.now progress every)
-    (c.deref-3.ensures.value ∙ c.in_ok-text.ensures ∙ closing-text p _ _ _ _ (rw (c.deref.ensures.value, c.as_slice.ensures) c.in_ok-operators.ensures) (rw (c.deref-2.ensures.value, c.as_slice-2.ensures) c.in_ok-providers.ensures) progress.published
+    (c.deref-3.ensures.value ∙ c.in_ok-text.ensures ∙ closing-text p _ _ _ _ (c.deref.ensures.value ∙ rw c.as_slice.ensures at c.in_ok-operators.ensures) (c.deref-2.ensures.value ∙ rw c.as_slice-2.ensures at c.in_ok-providers.ensures) progress.published
     (omega (arith, c.run_count.ensures, every, progress.published, both)))

@@ -20,9 +20,9 @@ pub returns-in-Err-clause-stopped : goal.returns-in-Err-clause-stopped
 returns-in-Err-clause-stopped g c =
     let w = c.loop-run.invariant.wrote in
     let stops = c.in-Err.ensures.stepped w.blocks w.progress (ap (λ n. n + 1) (sym w.counted)) in
-    step-stops c.args.books.now c.args.budget c.loop-run.run c.loop-run.progress _ _ w _ _ _ (omega arith) stops
+    step-stops c.args.books.now c.args.budget c.loop-run.run c.loop-run.progress _ _ w c.step.new.progress _ _ (omega (arith, c.run_count-run-end.ensures)) stops
 
 pub returns-clause-written : goal.returns-clause-written
 returns-clause-written g c =
     let w = c.loop-run.invariant.wrote in
-    record { blocks = w.blocks; progress = w.progress; counted = omega (arith, w.counted, w.progress.part.few, c.run_count.ensures, c.loop-run-test.false); taken = w.taken }
+    record { blocks = w.blocks; progress = w.progress; counted = omega (arith, w.counted, w.progress.part.few, c.run_count-run-end.ensures, c.loop-run-test.false); taken = w.taken }

@@ -32,9 +32,12 @@ pub add-requires-clause-stands : goal.add-requires-clause-stands
 add-requires-clause-stands g c =
     let books = c.args.books.now in
     let s = c.requires.stands in
-    let is_done = c.in_ok-done.ensures.done s.0 s.1 s.2 in
-    (before_of books s.0, s.1.stands, next books c.requires.accepted c.args.budget s.0 c.args.progress.now s.1 c.args.run s.2 c.requires.last c.in_ok-done.done is_done c.in-Some.settled c.in-Some.is,
-    same-market books c.requires.accepted c.args.budget s.0 c.args.progress.now s.1 c.args.run s.2 c.requires.last c.in_ok-done.done is_done c.in-Some.settled c.in-Some.is)
+    let is_done = c.in_ok-done.ensures.done s.0 s.1 s.2 in (
+      before_of books s.0,
+      s.1.stands,
+      next books c.requires.accepted c.args.budget s.0 c.args.progress.now s.1 c.args.run s.2 c.requires.last c.in_ok-done.done is_done c.in-Some.settled c.in-Some.is,
+      same-market books c.requires.accepted c.args.budget s.0 c.args.progress.now s.1 c.args.run s.2 c.requires.last c.in_ok-done.done is_done c.in-Some.settled c.in-Some.is,
+    )
 
 pub add-requires-clause-feasible : goal.add-requires-clause-feasible
 add-requires-clause-feasible g c =

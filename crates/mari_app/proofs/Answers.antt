@@ -6,24 +6,18 @@ use Rattle.std.specs.Prelude.{◌==◌, Bool, true, false, ◌<◌}
 use Rattle.mari_units.specs.declared.faults.Refusal.{Refusal}
 use Rattle.mari_io.specs.declared.shelf.Fetch.TheVariants as fetch
 use Rattle.mari_io.specs.Outside.{Pages}
-use Rattle.mari_market.specs.SearchTree.{IsLarger}
-use Rattle.mari_market.proofs.SearchTrees.{larger_than_budget}
-use Rattle.mari_publish.specs.declared.publication.Block.{Block}
-use Rattle.mari_publish.specs.declared.publication.Block.TheVariants as block
-use Rattle.mari_publish.specs.Lines.{unpublished_in}
-use Rattle.mari_remain.specs.RunMarket.{market_at}
 use Rattle.mari_remain.specs.declared.books.Books.{Books}
-use Rattle.mari_day.specs.declared.day.PrintedDay.{PrintedDay}
 use Rattle.mari_day.specs.declared.files.File.{File}
 use Rattle.mari_day.specs.Files.{files, page_in, first_gap, AreHeld, Gap, FileGap}
 use Rattle.mari_day.specs.Files.Gap.{NotHeld, OverLimit}
-use Rattle.mari_day.specs.Published.{IsBlock, IsPrintedDay}
+use Rattle.mari_day.specs.Day.{HasEnough}
+use Rattle.mari_day.proofs.Enough.{all-published}
 use Rattle.mari_day.specs.Reading.{HasGap}
 use Rattle.mari_app.specs.declared.outcome.Outcome.{Outcome}
 use Rattle.mari_app.specs.declared.outcome.Outcome.TheVariants.{NoCommand, Day, PartOfDay, NoPage, Refused, NoMemory}
 use Rattle.mari_app.specs.declared.status.Status.{Status}
 use Rattle.mari_app.specs.declared.status.Status.TheVariants as status
-use Rattle.mari_app.specs.Built.{accepted_at}
+use Rattle.mari_day.specs.Reading.{books_at}
 use Rattle.mari_app.specs.Headline.{HasDay, WroteDay}
 use Rattle.mari_app.specs.Outcome.{LacksPage, RefusesPages, Says, IsNoCommand, IsNoPage, Reported, status_of, printed_of}
 use Rattle.mari_app.specs.Outcome.Reports.{Printed, CutOff, Starved}
@@ -128,19 +122,8 @@ gap_of_two pages folder other n k g gap e a b =
     let same : Some (gap_record a.file g) ≡ Some (gap_record b.file gap) = sym here ∙ there in
     ap gap_or_held same
 
--- where a run isn't published, its search tree is larger than the budget
-larger : (books : Books) (nodes run : ℕ) (b : Block) → IsBlock books nodes run b → 0 < unpublished_in (b ∷ []) → IsLarger (market_at books [] run) nodes
-larger books nodes run (block.Published b) is some = absurd (omega (arith, some))
-larger books nodes run (block.Unpublished heading count) is some = is.is_spent.larger
-
 some_unpublished : (n : ℕ) → (n == 0) ≡ false → 0 < n
 some_unpublished n e = grind (arith, nat_tests, e)
-
--- a day whose one run isn't published, of a search tree larger than the budget
-part_is_larger : (books : Books) (nodes : ℕ) (day : PrintedDay) → IsPrintedDay books nodes day → (day.unpublished == 0) ≡ false → IsLarger (market_at books [] 1) nodes
-part_is_larger books nodes day is part =
-    let d = is.is_day in
-    larger books nodes 1 d.block d.run (omega (arith, some_unpublished day.unpublished part, is.unpublished, ap unpublished_in d.one))
 
 module _ (words : List (List ℕ)) where
   done_by : (o : Outcome) (pages : Pages) (before after : Option (List ℕ)) → Says words pages o → status_of o ≡ status.Done → after ≡ then_took before (printed_of o) → WroteDay words pages true before after
@@ -325,7 +308,7 @@ module _ (words : List (List ℕ)) where
   day_not_refused : (pages : Pages) (all : Bool) (text : List ℕ) (refusal : Refusal) → HasDay words pages all text → RefusesPages words pages refusal → ⊥
   day_not_refused pages all text refusal s g =
       let same = same_texts pages s.command.folder g.command.folder s.texts g.texts (same_folder s.command g.command s.asked g.asked) s.held g.held in
-      let a = ap accepted_at same in
+      let a = ap books_at same in
       let b = s.read in
       let d = g.first in
       cc
@@ -345,7 +328,7 @@ module _ (words : List (List ℕ)) where
   refusal_answer (NoPage f fetch.Memory) pages before after r refusal s c rep g = starving _ (one_of (NoPage f fetch.Memory) before after r rep)
   refusal_answer (Refused f) pages before after r refusal s c rep g =
       let same = same_texts pages s.command.folder g.command.folder s.texts g.texts (same_folder s.command g.command s.asked g.asked) s.held g.held in
-      let one : f ≡ refusal = let a = ap accepted_at same in let b = s.first in let d = g.first in cc in
+      let one : f ≡ refusal = let a = ap books_at same in let b = s.first in let d = g.first in cc in
       refusing f refusal r one (one_of (Refused f) before after r rep)
   refusal_answer NoMemory pages before after r refusal s c rep g = starving _ (one_of NoMemory before after r rep)
 
@@ -355,7 +338,7 @@ module _ (words : List (List ℕ)) where
   accepted_not_refused : (pages : Pages) (refusal : Refusal) → RefusesPages words pages refusal → IsAccepted words pages → ⊥
   accepted_not_refused pages refusal s g =
       let same = same_texts pages s.command.folder g.command.folder s.texts g.texts (same_folder s.command g.command s.asked g.asked) s.held g.held in
-      let a = ap accepted_at same in
+      let a = ap books_at same in
       let b = s.first in
       let d = g.read in
       cc
@@ -380,11 +363,13 @@ module _ (words : List (List ℕ)) where
   not_part : (pages : Pages) (text : List ℕ) → HasDay words pages false text → HasBudget words pages → ⊥
   not_part pages text s g =
       let same = same_texts pages s.command.folder g.command.folder s.texts g.texts (same_folder s.command g.command s.asked g.asked) s.held g.held in
-      let books : s.books ≡ g.books = let a = ap accepted_at same in let b = s.read in let d = g.read in cc in
+      let books : s.books ≡ g.books = let a = ap books_at same in let b = s.read in let d = g.read in cc in
       let nodes : s.command.nodes ≡ g.command.nodes = ap (λ (c : Command). c.nodes) (same_command s.command g.command s.asked g.asked) in
-      let P : Books → Type 0 = λ b. IsLarger (market_at b [] 1) s.command.nodes in
-      let large = subst P books (part_is_larger s.books s.command.nodes s.day s.is_day s.published) in
-      omega (arith, nodes, g.enough, larger_than_budget (market_at g.books [] 1) g.size s.command.nodes g.is_size large)
+      let P : Books → Type 0 = λ b. HasEnough b s.command.nodes in
+      let N : ℕ → Type 0 = λ n. HasEnough g.books n in
+      let enough = subst P (sym books) (subst N (sym nodes) g.enough) in
+      let all = all-published s.books s.command.nodes s.is_day.publication s.is_day.is_day enough in
+      omega (arith, all, s.is_day.unpublished, some_unpublished s.day.unpublished s.published)
 
   pub complete_answer : (o : Outcome) (pages : Pages) (before after : Option (List ℕ)) (r : Status) → Says words pages o → (IsNoCommand o → command_at words ≡ None)
       → Reported o before after r → HasBudget words pages → (r ≡ status.Done) ⊎ (IsNoPage fetch.Failed o) ⊎ (r ≡ status.WriteFault) ⊎ (r ≡ status.Memory)

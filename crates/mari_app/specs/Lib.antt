@@ -3,8 +3,6 @@ pub mod Program
 pub mod Outcome
 pub mod Printing
 pub mod Refusals
-pub mod Books
-pub mod Built
 pub mod Words
 pub mod Views
 pub mod Status

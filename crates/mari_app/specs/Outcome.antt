@@ -5,7 +5,7 @@ use Rattle.mari_io.specs.declared.shelf.Fetch.{Fetch}
 use Rattle.mari_io.specs.declared.shelf.Fetch.TheVariants as fetch
 use Rattle.mari_io.specs.Outside.{Pages}
 use Rattle.mari_units.specs.declared.faults.Refusal.{Refusal}
-use Rattle.mari_day.specs.declared.day.PrintedDay.{PrintedDay}
+use Rattle.mari_day.specs.declared.text.PrintedDay.{PrintedDay}
 use Rattle.mari_day.specs.Files.{AreHeld, Gap}
 use Rattle.mari_day.specs.Files.Gap.{NotHeld, OverLimit}
 use Rattle.mari_day.specs.Reading.{HasGap}
@@ -13,7 +13,7 @@ use Rattle.mari_app.specs.declared.outcome.Outcome.{Outcome}
 use Rattle.mari_app.specs.declared.outcome.Outcome.TheVariants.{NoCommand, Day, PartOfDay, NoPage, Refused, NoMemory}
 use Rattle.mari_app.specs.declared.status.Status.{Status}
 use Rattle.mari_app.specs.declared.status.Status.TheVariants as status
-use Rattle.mari_app.specs.Built.{accepted_at}
+use Rattle.mari_day.specs.Reading.{books_at}
 use Rattle.mari_app.specs.Headline.{HasDay}
 use Rattle.mari_app.specs.Printing.{usage_line, file_line, refused_line, then_took}
 use Rattle.mari_app.specs.Words.{Command, command_at}
@@ -30,7 +30,7 @@ pub record RefusesPages (words : List (List ℕ)) (pages : Pages) (refusal : Ref
   pub texts : List (List ℕ)
   pub asked : command_at words ≡ Some command
   pub held : AreHeld pages command.folder texts
-  pub first : accepted_at texts ≡ Err refusal
+  pub first : books_at texts ≡ Err refusal
 
 -- what a failed fetch says of the pages, where they are told
 abbrev pub FetchSays : List (List ℕ) → Pages → ℕ → Fetch → Type 0

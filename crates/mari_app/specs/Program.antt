@@ -5,13 +5,12 @@ use Rattle.mari_units.specs.declared.faults.Refusal.{Refusal}
 use Rattle.mari_io.specs.Outside.{Pages}
 use Rattle.mari_day.specs.Files.{AreHeld, Gap}
 use Rattle.mari_day.specs.Files.Gap.{NotHeld, OverLimit}
-use Rattle.mari_market.specs.SearchTree.{HasSize}
-use Rattle.mari_remain.specs.RunMarket.{market_at}
+use Rattle.mari_day.specs.Day.{HasEnough}
 use Rattle.mari_remain.specs.declared.books.Books.{Books}
 use Rattle.mari_app.specs.declared.outcome.Outcome.{Outcome}
 use Rattle.mari_app.specs.declared.status.Status.{Status}
 use Rattle.mari_app.specs.declared.status.Status.TheVariants as status
-use Rattle.mari_app.specs.Built.{accepted_at}
+use Rattle.mari_day.specs.Reading.{books_at}
 use Rattle.mari_app.specs.Outcome.{LacksPage, RefusesPages, Says, IsNoCommand, printed_of}
 use Rattle.mari_app.specs.Printing.{file_line, refused_line, then_took}
 use Rattle.mari_app.specs.Words.{Command, command_at}
@@ -23,19 +22,17 @@ pub record IsAccepted (words : List (List ℕ)) (pages : Pages) : Type 0 where
   pub books : Books
   pub asked : command_at words ≡ Some command
   pub held : AreHeld pages command.folder texts
-  pub read : accepted_at texts ≡ Ok books
+  pub read : books_at texts ≡ Ok books
 
--- and the budget holds the search tree of the run's market
+-- and the budget holds the search tree of each run's market, whatever blocks are printed before it
 pub record HasBudget (words : List (List ℕ)) (pages : Pages) : Type 0 where
   pub command : Command
   pub texts : List (List ℕ)
   pub books : Books
-  pub size : ℕ
   pub asked : command_at words ≡ Some command
   pub held : AreHeld pages command.folder texts
-  pub read : accepted_at texts ≡ Ok books
-  pub is_size : HasSize (market_at books [] 1) size
-  pub enough : size ≤ command.nodes
+  pub read : books_at texts ≡ Ok books
+  pub enough : HasEnough books command.nodes
 
 -- the pages are refused: where they are told, this is their first refusal; and its line is taken
 pub record IsRefused (words : List (List ℕ)) (pages : Option Pages) (before after : Option (List ℕ)) (refusal : Refusal) : Type 0 where

@@ -4,7 +4,6 @@
 #![tactic(auto)]
 
 mod arguments;
-mod books;
 mod outcome;
 mod program;
 mod refusals;

@@ -16,12 +16,11 @@ ghost use Rattle.mari_app.specs.Program.{HasBudget, IsAccepted, IsRefused, IsRea
 ghost use Rattle.mari_app.specs.Views.{asked};
 ghost use Rattle.mari_app.specs.Words.{command_at};
 
-use crate::books::accepted_books;
 use crate::outcome::Outcome;
 use crate::status::Status;
 use crate::words::{Command, command_of};
 use crate::writing::{file_line, refused_line, usage_line, write_all};
-use mari_day::{BooksFault, PrintedDay, day_of};
+use mari_day::{BooksFault, PrintedDay, day_of, read_books};
 use mari_io::{Fetch, Shelf, Sink};
 use mari_market::{Cleared, Clearer, Market};
 use mari_units::Refusal;
@@ -58,7 +57,7 @@ fn cleared_by<S: Shelf, C: Clearer>(
     ensures missing { Counts (IsNoPage fetch.Missing result) (S.misses shelf.old) (S.misses shelf.new) }
     ensures too_long { Counts (IsNoPage fetch.TooLong result) (S.overs shelf.old) (S.overs shelf.new) }
 {
-    match accepted_books(alloc, shelf, command.folder) {
+    match read_books(alloc, shelf, command.folder) {
         Ok(books) => match day_of(alloc, &books, command.options.nodes, clearer) {
             Ok(day) => day_outcome(day),
             Err(_) => Outcome::NoMemory,
@@ -208,8 +207,8 @@ fn report<K: Sink>(alloc: Global, sink: &mut K, outcome: &Outcome) -> Status
 /// `clear FOLDER` fetches the seven market files of the folder in their order and then reads them in that order. With
 /// `--nodes N` behind it a run's search makes at most N nodes, 1 to 50,000, and without it 10,000. With `--workers K` behind
 /// that K workers search, 1 to 16, and without it 2; two or more take their findings from the turnstile, and the call may then
-/// wait for them. At this stage the day has one form, no link goes to another quarter, and there is one scheduled run; what is
-/// in another form is refused as not built, after all other refusals.
+/// wait for them. At this stage the day has one form, and borders state their limits; what is in another form is refused as not
+/// built.
 pub fn run_program<S: Shelf, K: Sink, G: Turnstile, R: Threads + Wait + Sync>(
     rt: &R,
     alloc: Global,

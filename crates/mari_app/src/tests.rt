@@ -1,7 +1,7 @@
 //! Worked folders and words, with the lines that they print.
 
+mod days;
 mod gated_bids;
-mod not_built;
 mod options;
 mod pair;
 mod two_leaves;

@@ -1,6 +1,6 @@
 -- The block that is put together is that of a published run.
-use Rattle.std.proofs.Common.{[], ◌≡◌, ◌∙◌, ◌++◌, ℕ, ◌+◌, ◌≤◌, List, length, length-append, map, take, drop, refl, sym, ap, subst, arith}
-use Rattle.std.proofs.lemmas.List.{length-drop, length-map, take-append-drop}
+use Rattle.std.proofs.Common.{Option, ◌≡◌, ◌∙◌, ◌++◌, ℕ, ◌+◌, ◌≤◌, List, length, map, take, drop, refl, sym, ap, subst, arith}
+use Rattle.std.proofs.lemmas.List.{length-drop, take-append-drop}
 use Rattle.mari_units.specs.declared.numbers.Cents.{Cents}
 use Rattle.mari_units.specs.declared.numbers.Quarters.{Quarters}
 use Rattle.mari_market.specs.declared.activation.Activation.{Activation}
@@ -11,13 +11,15 @@ use Rattle.mari_market.specs.Interval.{AreLeastPrices, AreGreatestPrices, ArePub
 use Rattle.mari_market.specs.Optimal.{IsConsistent}
 use Rattle.mari_publish.specs.declared.publication.FullBlock.{FullBlock}
 use Rattle.mari_remain.specs.declared.books.Books.{Books}
-use Rattle.mari_remain.specs.RunMarket.{market_at, numbers_of, demands_of_run}
+use Rattle.mari_remain.specs.declared.market.RunMarket.{RunMarket}
+use Rattle.mari_market.specs.declared.activation.Prices.{Prices}
 use Rattle.mari_settle.specs.declared.ledger.OperatorLine.{OperatorLine}
-use Rattle.mari_settle.specs.Ledger.{operator_lines, provider_amounts, rents_of}
+use Rattle.mari_settle.specs.Ledger.{operator_lines, provider_amounts, rents_of, scheduled_or}
 use Rattle.mari_day.specs.declared.block.Priced.{Priced}
-use Rattle.mari_day.specs.Assembled.{IsAssembled, IsPriced}
+use Rattle.mari_day.specs.declared.block.Settled.{Settled}
+use Rattle.mari_day.specs.Assembled.{HasShapes, IsAssembled, IsPriced, IsRunOf}
 use Rattle.mari_day.specs.Money.{amount_line, money_lines_of, providers_among}
-use Rattle.mari_day.specs.Published.{IsPublishedRun}
+use Rattle.mari_day.specs.Published.{amounts_of, IsPublishedOf}
 use Rattle.mari_day.specs.Run.{activation_of, clearing_of, prices_of}
 
 along2 : {A B : Type 0} (P : A → B → Type 0) (a a' : A) (b b' : B) → a' ≡ a → b' ≡ b → P a b → P a' b'
@@ -26,7 +28,7 @@ along2 P a a' b b' e f h = let Q : _ → Type 0 = λ x. P x b' in subst Q (sym e
 same2 : {A B C : Type 0} (f : A → B → C) (a a' : A) (b b' : B) → a' ≡ a → b' ≡ b → f a' b' ≡ f a b
 same2 f a a' b b' e g = ap (λ x. f x b') e ∙ ap (f a) g
 
-module _ (books : Books) (budget run : ℕ) (clearing : Clearing) (priced : Priced) (b : FullBlock) (is : IsAssembled books run clearing priced b) where
+module _ (books : Books) (budget run : ℕ) (made : RunMarket) (also : Option (List Cents)) (clearing : Clearing) (priced : Priced) (b : FullBlock) (is : IsAssembled books run made.bids clearing priced b) where
   -- the block tells the activation that was cleared
   pub same_activation : activation_of b ≡ clearing.activation
   same_activation = rw (is.orders.mw, is.orders.demands, is.borders.flow, take-append-drop) refl
@@ -34,9 +36,13 @@ module _ (books : Books) (budget run : ℕ) (clearing : Clearing) (priced : Pric
   pub same_clearing : clearing_of b ≡ clearing
   same_clearing = rw (is.orders.mw, is.orders.demands, is.borders.flow, take-append-drop, is.welfare, is.tree) refl
 
-  pub published : IsClearing (market_at books [] run) budget clearing → IsPriced books run clearing priced → length clearing.activation.mw ≡ length (market_at books [] run).orders → IsPublishedRun books budget run b
+  -- the amounts of all providers are those of the block's activation at its prices
+  pub same_amounts : IsPriced books made also clearing priced → priced.ledger.providers ≡ amounts_of books made also b
+  same_amounts p = p.providers ∙ sym (same2 (λ x ps. provider_amounts books.bids made.bids x ps (scheduled_or ps also)) clearing.activation (activation_of b) priced.pricing.published.cents (prices_of b) same_activation is.zones.prices)
+
+  pub published : IsClearing made.market budget clearing → IsPriced books made also clearing priced → length clearing.activation.mw ≡ length made.bids + made.demands → IsPublishedOf books budget run made also b
   published clears p long =
-      let m = market_at books [] run in
+      let m = made.market in
       let a = clearing.activation in
       let ps = priced.pricing.published.cents in
       record {
@@ -46,9 +52,7 @@ module _ (books : Books) (budget run : ℕ) (clearing : Clearing) (priced : Pric
           from = is.borders.from;
           to = is.borders.to;
           bids = is.orders.ids;
-          demands =
-              let all : length clearing.activation.mw ≡ length (numbers_of books [] run) + length (demands_of_run books.demands.demands run) = long ∙ simp (length-append, length-map) in
-              ap length is.orders.demands ∙ simp length-drop (omega (arith, all));
+          demands = ap length is.orders.demands ∙ simp length-drop (omega (arith, long));
         };
         clearing = subst (IsClearing m budget) (sym same_clearing) clears;
         prices = record {
@@ -61,11 +65,23 @@ module _ (books : Books) (budget run : ℕ) (clearing : Clearing) (priced : Pric
         ledger = record {
           rents = is.borders.rents ∙ p.rents ∙ sym (same2 (rents_of m) a (activation_of b) ps (prices_of b) same_activation is.zones.prices);
           operators = is.operators ∙ ap (money_lines_of books.zones.operators) (p.operators ∙ sym (same2 (operator_lines books.zones m) a (activation_of b) ps (prices_of b) same_activation is.zones.prices));
-          providers = is.providers ∙ ap (λ amounts. map (amount_line books.bids.providers amounts) (providers_among books.bids.bids (numbers_of books [] run)))
-              (p.providers ∙ sym (same2 (λ x ps. provider_amounts books.bids (numbers_of books [] run) x ps ps) a (activation_of b) ps (prices_of b) same_activation is.zones.prices));
+          providers = is.providers ∙ ap (λ amounts. map (amount_line books.bids.providers amounts) (providers_among books.bids.bids made.bids)) (same_amounts p);
         };
       }
 
-  -- the amounts of all providers are those of the block's activation at its prices
-  pub same_amounts : IsPriced books run clearing priced → priced.ledger.providers ≡ provider_amounts books.bids (numbers_of books [] run) (activation_of b) (prices_of b) (prices_of b)
-  same_amounts p = p.providers ∙ sym (same2 (λ x ps. provider_amounts books.bids (numbers_of books [] run) x ps ps) clearing.activation (activation_of b) priced.pricing.published.cents (prices_of b) same_activation is.zones.prices)
+  -- what the block adds to its day
+  pub run-of : (settled : Settled) → IsPriced books made also clearing priced → HasShapes books made.bids clearing priced → settled.made ≡ made → settled.activation ≡ clearing.activation → settled.prices ≡ priced.pricing.published
+      → settled.ledger ≡ priced.ledger → IsRunOf books made also b settled
+  run-of settled p shapes same of prices ledger = record {
+    market = same;
+    activation = of ∙ sym same_activation;
+    prices = ap (λ (ps : Prices). ps.cents) prices ∙ sym is.zones.prices;
+    operators = rw ledger is.operators;
+    providers = rw ledger (same_amounts p);
+    one_each = rw ledger shapes.operators;
+    rents = rw ledger shapes.rents;
+    small = rw ledger p.small;
+    operators_small = rw ledger p.operators_small;
+    providers_small = rw ledger p.providers_small;
+    nets = rw ledger p.nets;
+  }

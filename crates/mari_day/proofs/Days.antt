@@ -4,8 +4,8 @@ use Rattle.std.specs.Prelude.{not, count_by}
 use Rattle.std.specs.List.{All, range_with_len}
 use Rattle.std.proofs.lemmas.Bool.Decides.{nat_tests}
 use Rattle.std.proofs.lemmas.List.{length-map}
-use Rattle.std.proofs.lemmas.List.FromFn.{get_or-range_with_len, length-range_with_len}
-use Rattle.std.proofs.lemmas.List.Elements.{All-cons, All-filter, All-map, All-nil, filter_passes}
+use Rattle.std.proofs.lemmas.List.FromFn.{get_or-map-range_with_len, get_or-range_with_len, length-map-range_with_len, length-range_with_len}
+use Rattle.std.proofs.lemmas.List.Elements.{All-filter, All-map, All-weaker, filter_passes}
 use Rattle.std.proofs.lemmas.List.Filters.{length-filter_both}
 use Rattle.std.proofs.lemmas.List.Sums.{length-filter, count_by-le-length}
 use Rattle.mari_bids.specs.declared.bids.Bid.{Bid}
@@ -14,19 +14,24 @@ use Rattle.mari_market.specs.Clearing.{ArePartsOfSearch, IsSpent}
 use Rattle.mari_market.specs.declared.clearing.PartItem.{PartItem}
 use Rattle.mari_market.specs.declared.clearing.Spent.{Spent}
 use Rattle.mari_market.specs.declared.market.Market.{Market}
-use Rattle.mari_publish.specs.Ranges.{Between, BlockFits, HasText, IsAmountLine, IsDate, IsHeading, IsMoneyLine, IsName, Listed, TotalsFit}
+use Rattle.mari_publish.specs.declared.publication.AmountLine.{AmountLine}
+use Rattle.mari_publish.specs.Ranges.{Between, IsAmountLine, IsHeading, IsMoneyLine, Listed}
 use Rattle.mari_publish.specs.declared.publication.Block.{Block}
 use Rattle.mari_publish.specs.declared.publication.Publication.{Publication}
 use Rattle.mari_remain.specs.Accepted.{IsAccepted}
-use Rattle.mari_remain.specs.RunMarket.{market_at}
 use Rattle.mari_remain.specs.declared.books.Books.{Books}
 use Rattle.mari_settle.specs.Lines.{nothing}
 use Rattle.mari_settle.specs.declared.ledger.Ledger.{Ledger}
 use Rattle.mari_day.specs.Dated.{IsDated}
 use Rattle.mari_day.specs.Money.{amount_line, money_line, money_lines_of}
-use Rattle.mari_day.specs.Published.{HasEntries, provider_lines_of}
-use Rattle.mari_day.specs.Run.{heading_of}
-use Rattle.mari_day.proofs.BlockFits.{lines-fit, money}
+use Rattle.mari_settle.specs.Conditions.{LineIsWithin}
+use Rattle.mari_day.specs.Assembled.{most_of_operator}
+use Rattle.mari_day.specs.Progress.{AreTotals, IsProgress}
+use Rattle.mari_day.specs.Stepped.{IsDayOf}
+use Rattle.mari_day.specs.Totals.{provider_total, provider_totals}
+use Rattle.mari_day.specs.declared.progress.Progress.{Progress}
+use Rattle.mari_day.specs.Run.{heading_of, name_at}
+use Rattle.mari_day.proofs.BlockFits.{lines-fit, IsHalf}
 use Rattle.mari_day.proofs.Shapes.{along-length}
 
 module _ {X : Type 0} where
@@ -65,6 +70,12 @@ module _ {X : Type 0} where
       other : (m n : ℕ) → not (m == suc n) ≡ true → m ≤ suc n → m ≤ n
       other m n differs l = grind (arith, nat_tests, differs, l)
 
+-- two functions that agree over a range
+same-over : {X : Type 0} (f g : ℕ → X) (a n : ℕ) → ((k : ℕ) → a ≤ k → k < a + n → f k ≡ g k) → map f (range_with_len a n) ≡ map g (range_with_len a n)
+same-over f g a zero same = refl
+same-over f g a (suc n) same =
+    ap (λ x. x ∷ map f (range_with_len (a + 1) n)) (same a (omega arith) (omega arith)) ∙ ap (λ xs. g a ∷ xs) (same-over f g (a + 1) n (λ k from below. same k (omega (arith, from)) (omega (arith, below))))
+
 module _ (books : Books) (ok : IsAccepted books) (dated : IsDated books) where
   few-bids : length books.bids.bids ≤ 1638400
   few-bids =
@@ -84,33 +95,76 @@ module _ (books : Books) (ok : IsAccepted books) (dated : IsDated books) where
   pub spent-fits : (m : Market) (budget : ℕ) (spent : Spent) → budget ≤ 50000 → IsSpent m budget spent → Between 1 50000 (length spent.items)
   spent-fits m budget spent small is = (some-part m spent.items is.part, omega (arith, is.within_budget))
 
-  operators-fit : (ledger : Ledger) → HasEntries books ledger → Listed 1 64 IsMoneyLine (money_lines_of books.zones.operators ledger.operators)
-  operators-fit ledger e =
-      let many = along-length money_line books.zones.operators ledger.operators e.operators in
-      let some : 0 < length books.zones.operators = omega (arith, ok.zones.operator_of 0 0 (omega (arith, ok.zones.one_each, ok.zones.some))) in
-      ((omega (arith, many, some), omega (arith, many, ok.zones.few_operators)), lines-fit books.zones.operators ledger.operators ok.zones.operators e.small.operators)
+  module _ (blocks : List Block) (ledger : Ledger) (sums : AreTotals books blocks ledger) (few : length blocks ≤ 1000) where
+    -- so that the lines of operators can be made
+    pub sums-halves : All IsHalf ledger.operators
+    sums-halves = All-weaker (LineIsWithin (length blocks * most_of_operator)) IsHalf (λ l s. record { payment = omega (arith, few, s.payment); rent = omega (arith, few, s.rent) }) ledger.operators sums.operators_within
 
-  providers-fit : (ledger : Ledger) → HasEntries books ledger → Listed 0 1638400 IsAmountLine (provider_lines_of books ledger.providers)
-  providers-fit ledger e =
-      let places = range_with_len 0 (length books.bids.providers) in
-      let many = length-map places (amount_line books.bids.providers ledger.providers) in
-      let all = length-range_with_len 0 (length books.bids.providers) in (
-        (omega arith, omega (arith, many, all, ok.bids.few_providers, few-bids)),
-        All-map IsAmountLine (amount_line books.bids.providers ledger.providers) places (λ k d l.
-            let there : k < length books.bids.providers = omega (arith, all) in
-            let place = get_or-range_with_len 0 (length books.bids.providers) k d there in
-            (ok.bids.providers (get_or places k d) [] (omega (arith, place)), money (slice_index_or ledger.providers (get_or places k d) nothing) (e.small.providers (get_or places k d) nothing (omega (arith, place, e.providers))))),
-      )
+    pub one-each-provider : length ledger.providers ≡ length books.bids.providers
+    one-each-provider = ap length sums.providers ∙ length-map-range_with_len _ 0 (length books.bids.providers)
 
-  -- the day of a block in range and a ledger has a text
-  pub day-fits : (p : Publication) (block : Block) (ledger : Ledger) → IsDate p.date → p.quarters ≡ books.quarters → Between 1 50000 p.budget → p.blocks ≡ block ∷ [] → BlockFits block
-      → HasEntries books ledger → p.operators ≡ money_lines_of books.zones.operators ledger.operators → p.providers ≡ provider_lines_of books ledger.providers → HasText p
-  day-fits p block ledger date quarters budget one fits e operators providers = record {
-    head = (date, (omega (arith, quarters, dated.quarters.0), omega (arith, quarters, dated.quarters.1)), budget);
-    blocks = rw one (All-cons BlockFits block [] fits (All-nil BlockFits));
-    totals = record {
-      runs = rw one (omega arith);
-      operators = rw operators (operators-fit ledger e);
-      providers = rw providers (providers-fit ledger e);
-    };
-  }
+    pub operators-fit : Listed 1 64 IsMoneyLine (money_lines_of books.zones.operators ledger.operators)
+    operators-fit =
+        let many = along-length money_line books.zones.operators ledger.operators sums.one_each in
+        let some : 0 < length books.zones.operators = omega (arith, ok.zones.operator_of 0 0 (omega (arith, ok.zones.one_each, ok.zones.some))) in
+        ((omega (arith, many, some), omega (arith, many, ok.zones.few_operators)), lines-fit books.zones.operators ledger.operators ok.zones.operators sums-halves)
+
+    abbrev lines : List AmountLine
+    lines = map (amount_line books.bids.providers ledger.providers) (range_with_len 0 (length books.bids.providers))
+
+    pub providers-fit : Listed 0 1638400 IsAmountLine lines
+    providers-fit =
+        let places = range_with_len 0 (length books.bids.providers) in
+        let many = length-map places (amount_line books.bids.providers ledger.providers) in
+        let all = length-range_with_len 0 (length books.bids.providers) in (
+          (omega arith, omega (arith, many, all, ok.bids.few_providers, few-bids)),
+          All-map IsAmountLine (amount_line books.bids.providers ledger.providers) places (λ k d l.
+              let there : k < length books.bids.providers = omega (arith, all) in
+              let place = get_or-range_with_len 0 (length books.bids.providers) k d there in
+              let within = sums.providers_within (get_or places k d) nothing (omega (arith, place, one-each-provider)) in
+              (ok.bids.providers (get_or places k d) [] (omega (arith, place)), omega (arith, few, within))),
+        )
+
+    -- these are the totals of the blocks
+    pub are-totals : lines ≡ provider_totals books blocks
+    are-totals = same-over (amount_line books.bids.providers ledger.providers) (provider_total books blocks) 0 (length books.bids.providers)
+        (λ k from below. ap (λ (q : Quarters). record { name = name_at books.bids.providers k; amount = q })
+        (ap (λ (qs : List Quarters). slice_index_or qs k nothing) sums.providers ∙ get_or-map-range_with_len _ 0 (length books.bids.providers) k k nothing (omega (arith, below)) (omega arith)))
+
+  module _ (budget : ℕ) (node_range : Between 1 50000 budget) (blocks : List Block) (kept : Progress) (progress : IsProgress books budget blocks kept) (every : length blocks ≡ length books.runs.runs) where
+    pub few-blocks : length blocks ≤ 1000
+    few-blocks = omega (arith, every, ok.runs.few)
+
+    -- the day of these blocks and these sums
+    abbrev pub day-of-blocks : Publication
+    day-of-blocks = record {
+      date = books.date;
+      quarters = books.quarters;
+      budget = budget;
+      blocks = blocks;
+      operators = money_lines_of books.zones.operators kept.totals.operators;
+      providers = lines blocks kept.totals progress.totals few-blocks;
+    }
+
+    pub is-day : IsDayOf books budget blocks day-of-blocks
+    is-day = record {
+      day = record {
+        date = refl;
+        quarters = refl;
+        budget = refl;
+        part = progress.part;
+        every = every;
+        operators = progress.totals.operators;
+        providers = are-totals blocks kept.totals progress.totals few-blocks;
+      };
+      in_range = record {
+        head = (dated.date, dated.quarters, node_range);
+        blocks = progress.fits;
+        totals = record {
+          runs = few-blocks;
+          operators = operators-fit blocks kept.totals progress.totals few-blocks;
+          providers = providers-fit blocks kept.totals progress.totals few-blocks;
+        };
+      };
+      of_blocks = refl;
+    }

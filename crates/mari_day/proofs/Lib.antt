@@ -6,3 +6,11 @@ pub mod AreaFits
 pub mod BlockFits
 pub mod Shapes
 pub mod Days
+pub mod Small
+pub mod Past
+pub mod Sums
+pub mod Scheduling
+pub mod Progressing
+pub mod Keeping
+pub mod Enough
+pub mod Texts

@@ -4,8 +4,9 @@ use Rattle.std.specs.List.{All, AllZip}
 use Rattle.std.specs.Prelude.{IsSomeAnd}
 use Rattle.std.proofs.lemmas.List.{length-map, take-append-le}
 use Rattle.std.proofs.lemmas.List.FromFn.{length-map-range_with_len}
-use Rattle.std.proofs.lemmas.List.Elements.{All-head, All-tail}
+use Rattle.std.proofs.lemmas.List.Elements.{All-head, All-map, All-tail}
 use Rattle.std.proofs.lemmas.Option.{slice_get-get_or}
+use Rattle.mari_units.specs.declared.numbers.Cents.{Cents}
 use Rattle.mari_bids.specs.declared.bids.Bid.{Bid}
 use Rattle.mari_market.specs.declared.activation.Activation.{Activation}
 use Rattle.mari_market.specs.declared.clearing.Clearing.{Clearing}
@@ -13,15 +14,18 @@ use Rattle.mari_market.specs.declared.market.Order.{Order}
 use Rattle.mari_market.specs.Activation.{IsWithinLimits}
 use Rattle.mari_market.specs.Optimal.{IsFeasible}
 use Rattle.mari_remain.specs.Accepted.{IsAccepted}
-use Rattle.mari_remain.specs.Lists.{bid_at}
-use Rattle.mari_remain.specs.RunMarket.{bid_order, demand_order, demands_of_run, gate_of, gated_left, market_at, numbers_of, taken_before}
+use Rattle.mari_remain.specs.Lists.{bid_at, run_at}
+use Rattle.mari_remain.specs.Blocks.{PastBlock}
+use Rattle.mari_remain.specs.FirstBlocks.{AreFirstBlocks}
+use Rattle.mari_remain.specs.RunMarket.{bid_order, demand_order, demands_of_run, gate_of, gated_left, greatest_of, market_at, numbers_of, run_market_of, taken_before}
+use Rattle.mari_remain.specs.declared.market.RunMarket.{RunMarket}
 use Rattle.mari_remain.specs.declared.books.Books.{Books}
-use Rattle.mari_remain.proofs.Validity.{there, few_numbers}
+use Rattle.mari_remain.proofs.History.{bounded}
+use Rattle.mari_remain.proofs.Validity.{few, few_numbers, there, valid}
 use Rattle.mari_settle.specs.Conditions.{IsOrderOf, NameOrders}
-use Rattle.mari_settle.specs.Ledger.{operator_line, provider_amount, rent_of}
 use Rattle.mari_settle.specs.Lines.{map_along}
 use Rattle.mari_welfare.proofs.Sizes.{as_long, as_many}
-use Rattle.mari_day.specs.Assembled.{HasShapes, IsPriced}
+use Rattle.mari_day.specs.Assembled.{HasShapes, IsMarketOf, IsPriced}
 use Rattle.mari_day.specs.declared.block.Priced.{Priced}
 
 -- as long as the first of two lists of one length
@@ -42,41 +46,66 @@ take-front : {X : Type 0} (xs ys : List X) → take (length xs) (xs ++ ys) ≡ x
 take-front [] ys = refl
 take-front (x ∷ xs) ys = ap (λ zs. x ∷ zs) (take-front xs ys)
 
-module _ (books : Books) (run : ℕ) (ok : IsAccepted books) where
-  -- no blocks took any flow
-  no_flows : (k : ℕ) → unsigned_abs ((taken_before books [] run).flow k) ≤ 99999
-  no_flows k = omega arith
+most_left : (gate : Option ℕ) (offer taken : ℕ) → greatest_of gate offer taken ≤ offer
+most_left None offer taken = omega arith
+most_left (Some g) offer taken = omega arith
 
-  -- the bids of the first run's market are there, and few
-  pub there_first : All (λ i. i < length books.bids.bids) (numbers_of books [] run)
-  there_first = there books (taken_before books [] run) run ok no_flows
+-- the market of a run behind the blocks of the first runs
+module _ (books : Books) (ok : IsAccepted books) (past : List PastBlock) (first : AreFirstBlocks books past) (run : ℕ) where
+  small-flows : (k : ℕ) → unsigned_abs ((taken_before books past run).flow k) ≤ 99999
+  small-flows k = bounded books ok past first (run_at books run).quarter k
 
-  pub few_first : length (numbers_of books [] run) ≤ 4096
-  few_first = few_numbers books (taken_before books [] run) run ok no_flows
+  there_first : All (λ i. i < length books.bids.bids) (numbers_of books past run)
+  there_first = there books (taken_before books past run) run ok small-flows
+
+  abbrev order-of : ℕ → Order
+  order-of i = bid_order (bid_at books.bids.bids i) (gate_of (gated_left books (taken_before books past run) run) i) ((taken_before books past run).mw i)
+
+  front : take (length (numbers_of books past run)) (market_at books past run).orders ≡ map order-of (numbers_of books past run)
+  front =
+      let rest : List Order = map demand_order (demands_of_run books.demands.demands run) in
+      ap (λ n. take n (map order-of (numbers_of books past run) ++ rest)) (sym (length-map (numbers_of books past run) order-of)) ∙ take-front (map order-of (numbers_of books past run)) rest
 
   -- the first orders of a run's market are those of its bids
-  pub name-orders : NameOrders books.bids.bids (numbers_of books [] run) (market_at books [] run).orders
+  name-orders : NameOrders books.bids.bids (numbers_of books past run) (market_at books past run).orders
   name-orders =
-      let order : ℕ → Order = λ i. bid_order (bid_at books.bids.bids i) (gate_of (gated_left books (taken_before books [] run) run) i) ((taken_before books [] run).mw i) in
       let R : ℕ → Order → Type 0 = λ number o. IsSomeAnd (slice_get books.bids.bids number) (IsOrderOf o) in
-      let each : All (λ i. R i (order i)) (numbers_of books [] run) = λ k d l. rw (slice_get-get_or books.bids.bids (get_or (numbers_of books [] run) k d) no_bid (there_first k d l)) (record { zone = refl; side = refl }) in
-      let rest : List Order = map demand_order (demands_of_run books.demands.demands run) in
-      let front : take (length (numbers_of books [] run)) (map order (numbers_of books [] run) ++ rest) ≡ map order (numbers_of books [] run) =
-      ap (λ n. take n (map order (numbers_of books [] run) ++ rest)) (sym (length-map (numbers_of books [] run) order)) ∙ take-front (map order (numbers_of books [] run)) rest in
-      rw front (zip-map R order (numbers_of books [] run) each)
+      let each : All (λ i. R i (order-of i)) (numbers_of books past run) = λ k d l. rw (slice_get-get_or books.bids.bids (get_or (numbers_of books past run) k d) no_bid (there_first k d l)) (record { zone = refl; side = refl }) in
+      rw front (zip-map R order-of (numbers_of books past run) each)
 
-  pub shapes : (clearing : Clearing) (priced : Priced) → IsPriced books run clearing priced → IsFeasible (market_at books [] run) clearing.activation → HasShapes books run clearing priced
+  small-orders : All (λ (o : Order). o.greatest ≤ 9999) (take (length (numbers_of books past run)) (market_at books past run).orders)
+  small-orders =
+      rw front (All-map (λ (o : Order). o.greatest ≤ 9999) order-of (numbers_of books past run)
+      (λ k d l. let i = get_or (numbers_of books past run) k d in
+      let own = (ok.bids.bids i no_bid (there_first k d l)).most in
+      omega (arith, own, most_left (gate_of (gated_left books (taken_before books past run) run) i) (bid_at books.bids.bids i).greatest ((taken_before books past run).mw i))))
+
+  pub market-of : 1 ≤ run → run ≤ length books.runs.runs → IsMarketOf books (run_market_of books past run)
+  market-of one last = record {
+    valid = valid books (taken_before books past run) run ok small-flows one last;
+    zones = refl;
+    borders = length-map-range_with_len _ 0 (length books.borders.borders);
+    orders = length-append (map order-of (numbers_of books past run)) (map demand_order (demands_of_run books.demands.demands run)) ∙ simp length-map refl;
+    there = there_first;
+    few = few_numbers books (taken_before books past run) run ok small-flows;
+    few_demands = few books ok run;
+    named = name-orders;
+    small = small-orders;
+  }
+
+module _ (books : Books) (made : RunMarket) (is : IsMarketOf books made) (also : Option (List Cents)) where
+  pub shapes : (clearing : Clearing) (priced : Priced) → IsPriced books made also clearing priced → IsFeasible made.market clearing.activation → HasShapes books made.bids clearing priced
   shapes clearing priced p f =
-      let flow : length clearing.activation.flow ≡ length books.borders.borders = as_long IsWithinLimits (market_at books [] run).borders clearing.activation.flow f.borders ∙ length-map-range_with_len _ 0 (length books.borders.borders) in
-      let mw = as_many (market_at books [] run) clearing.activation f in
+      let flow = as_long IsWithinLimits made.market.borders clearing.activation.flow f.borders in
+      let mw = as_many made.market clearing.activation f in
       record {
-        published = p.published.one_each;
-        least = p.least.one_each;
-        greatest = p.greatest.one_each;
-        areas = p.areas.one_each;
-        flow = flow;
-        rents = ap length p.rents ∙ along-length _ (market_at books [] run).borders clearing.activation.flow (as_long IsWithinLimits (market_at books [] run).borders clearing.activation.flow f.borders) ∙ length-map-range_with_len _ 0 (length books.borders.borders);
-        mw = let all = simp (length-append, length-map) at mw in omega (arith, all);
+        published = p.published.one_each ∙ is.zones;
+        least = p.least.one_each ∙ is.zones;
+        greatest = p.greatest.one_each ∙ is.zones;
+        areas = p.areas.one_each ∙ is.zones;
+        flow = flow ∙ is.borders;
+        rents = ap length p.rents ∙ along-length _ made.market.borders clearing.activation.flow flow ∙ is.borders;
+        mw = omega (arith, mw, is.orders);
         operators = ap length p.operators ∙ length-map-range_with_len _ 0 (length books.zones.operators);
         providers = ap length p.providers ∙ length-map-range_with_len _ 0 (length books.bids.providers);
         small = p.small;

@@ -1,5 +1,6 @@
 -- A block put together from what was computed of a run.
-use Rattle.std.specs.Prelude.{[], ◌≡◌, ◌≤◌, ℕ, List, length, map, take, drop}
+use Rattle.std.specs.Prelude.{◌≡◌, ◌<◌, ◌≤◌, ◌+◌, ◌*◌, ◌^◌, ℕ, pos, List, Option, length, map, take, drop}
+use Rattle.std.specs.List.{All}
 use Rattle.mari_units.specs.declared.numbers.Cents.{Cents}
 use Rattle.mari_zones.specs.declared.borders.BorderEnds.{BorderEnds}
 use Rattle.mari_market.specs.declared.clearing.Clearing.{Clearing}
@@ -8,17 +9,22 @@ use Rattle.mari_publish.specs.declared.publication.BorderLine.{BorderLine}
 use Rattle.mari_publish.specs.declared.publication.FullBlock.{FullBlock}
 use Rattle.mari_publish.specs.declared.publication.ZoneLine.{ZoneLine}
 use Rattle.mari_remain.specs.declared.books.Books.{Books}
-use Rattle.mari_remain.specs.RunMarket.{market_at, numbers_of}
+use Rattle.mari_remain.specs.declared.market.RunMarket.{RunMarket}
 use Rattle.mari_market.specs.Area.{AreAreas}
 use Rattle.mari_market.specs.Interval.{AreLeastPrices, AreGreatestPrices, ArePublishedPrices}
+use Rattle.mari_market.specs.declared.market.Order.{Order}
+use Rattle.mari_market.specs.Market.{IsValid}
 use Rattle.mari_market.specs.Optimal.{IsConsistent}
-use Rattle.mari_settle.specs.Ledger.{operator_lines, provider_amounts, rents_of}
+use Rattle.mari_market.specs.Sums.{int_sum}
+use Rattle.mari_settle.specs.Ledger.{net_of, operator_lines, provider_amounts, rents_of, scheduled_or}
 use Rattle.mari_settle.specs.declared.ledger.Ledger.{Ledger}
-use Rattle.mari_settle.specs.Conditions.{HasSmallNumbers}
+use Rattle.mari_settle.specs.Conditions.{HasSmallNumbers, IsWithin, LineIsWithin, NameOrders}
 use Rattle.mari_prices.specs.declared.published.Pricing.{Pricing}
 use Rattle.mari_day.specs.declared.block.Priced.{Priced}
+use Rattle.mari_day.specs.declared.block.Settled.{Settled}
 use Rattle.mari_day.specs.Money.{amount_line, money_lines_of, providers_among}
-use Rattle.mari_day.specs.Run.{heading_of, name_at}
+use Rattle.mari_day.specs.Published.{amounts_of}
+use Rattle.mari_day.specs.Run.{activation_of, heading_of, name_at, prices_of}
 
 -- the lines of zones
 pub record HasZoneLines (books : Books) (priced : Priced) (b : FullBlock) : Type 0 where
@@ -36,44 +42,82 @@ pub record HasBorderLines (books : Books) (clearing : Clearing) (priced : Priced
   pub rents : map (λ (l : BorderLine). l.rent) b.borders ≡ priced.ledger.rents
 
 -- the lines of bids, and the demands
-pub record HasOrderLines (books : Books) (run : ℕ) (clearing : Clearing) (b : FullBlock) : Type 0 where
-  pub ids : map (λ (l : BidLine). l.id) b.bids ≡ map (name_at books.bids.ids) (numbers_of books [] run)
-  pub mw : map (λ (l : BidLine). l.mw) b.bids ≡ take (length (numbers_of books [] run)) clearing.activation.mw
-  pub demands : b.demands ≡ drop (length (numbers_of books [] run)) clearing.activation.mw
+pub record HasOrderLines (books : Books) (numbers : List ℕ) (clearing : Clearing) (b : FullBlock) : Type 0 where
+  pub ids : map (λ (l : BidLine). l.id) b.bids ≡ map (name_at books.bids.ids) numbers
+  pub mw : map (λ (l : BidLine). l.mw) b.bids ≡ take (length numbers) clearing.activation.mw
+  pub demands : b.demands ≡ drop (length numbers) clearing.activation.mw
 
 -- the block of a clearing, with what is known of its prices and its money
-pub record IsAssembled (books : Books) (run : ℕ) (clearing : Clearing) (priced : Priced) (b : FullBlock) : Type 0 where
+pub record IsAssembled (books : Books) (run : ℕ) (numbers : List ℕ) (clearing : Clearing) (priced : Priced) (b : FullBlock) : Type 0 where
   pub heading : b.heading ≡ heading_of books run
   pub welfare : b.welfare ≡ clearing.welfare
   pub tree : b.tree ≡ clearing.tree
   pub zones : HasZoneLines books priced b
   pub borders : HasBorderLines books clearing priced b
-  pub orders : HasOrderLines books run clearing b
+  pub orders : HasOrderLines books numbers clearing b
   pub operators : b.operators ≡ money_lines_of books.zones.operators priced.ledger.operators
-  pub providers : b.providers ≡ map (amount_line books.bids.providers priced.ledger.providers) (providers_among books.bids.bids (numbers_of books [] run))
+  pub providers : b.providers ≡ map (amount_line books.bids.providers priced.ledger.providers) (providers_among books.bids.bids numbers)
 
 -- one price of each kind and one area for each zone, a flow and a rent for each border, a quantity for each bid, an amount for
 -- each provider, and a line for each operator, all of them small
-pub record HasShapes (books : Books) (run : ℕ) (clearing : Clearing) (priced : Priced) : Type 0 where
+pub record HasShapes (books : Books) (numbers : List ℕ) (clearing : Clearing) (priced : Priced) : Type 0 where
   pub published : length priced.pricing.published.cents ≡ length books.zones.zones
   pub least : length priced.pricing.least.cents ≡ length books.zones.zones
   pub greatest : length priced.pricing.greatest.cents ≡ length books.zones.zones
   pub areas : length priced.areas.items ≡ length books.zones.zones
   pub flow : length clearing.activation.flow ≡ length books.borders.borders
   pub rents : length priced.ledger.rents ≡ length books.borders.borders
-  pub mw : length (numbers_of books [] run) ≤ length clearing.activation.mw
+  pub mw : length numbers ≤ length clearing.activation.mw
   pub operators : length priced.ledger.operators ≡ length books.zones.operators
   pub providers : length priced.ledger.providers ≡ length books.bids.providers
   pub small : HasSmallNumbers priced.ledger
 
--- the prices, areas and ledger of a run's clearing
-pub record IsPriced (books : Books) (run : ℕ) (clearing : Clearing) (priced : Priced) : Type 0 where
-  pub published : ArePublishedPrices (market_at books [] run) clearing.activation priced.pricing.published.cents
-  pub consistent : IsConsistent (market_at books [] run) clearing.activation priced.pricing.published.cents
-  pub least : AreLeastPrices (market_at books [] run) clearing.activation priced.pricing.least.cents
-  pub greatest : AreGreatestPrices (market_at books [] run) clearing.activation priced.pricing.greatest.cents
-  pub areas : AreAreas (market_at books [] run) clearing.activation priced.areas.items
-  pub operators : priced.ledger.operators ≡ operator_lines books.zones (market_at books [] run) clearing.activation priced.pricing.published.cents
-  pub providers : priced.ledger.providers ≡ provider_amounts books.bids (numbers_of books [] run) clearing.activation priced.pricing.published.cents priced.pricing.published.cents
-  pub rents : priced.ledger.rents ≡ rents_of (market_at books [] run) clearing.activation priced.pricing.published.cents
+-- how large a run's ledger is, so that those of a day can be added up: an operator's numbers within 2 * 10^15 quarter-cents of 0,
+-- and a provider's within 4 * 10^15
+abbrev pub most_of_operator : ℕ
+most_of_operator = 2 * 10 ^ 15
+
+abbrev pub most_of_provider : ℕ
+most_of_provider = 4 * 10 ^ 15
+
+-- the prices, areas and ledger of a run's clearing, whose quarter has these scheduled prices, or none
+pub record IsPriced (books : Books) (made : RunMarket) (also : Option (List Cents)) (clearing : Clearing) (priced : Priced) : Type 0 where
+  pub published : ArePublishedPrices made.market clearing.activation priced.pricing.published.cents
+  pub consistent : IsConsistent made.market clearing.activation priced.pricing.published.cents
+  pub least : AreLeastPrices made.market clearing.activation priced.pricing.least.cents
+  pub greatest : AreGreatestPrices made.market clearing.activation priced.pricing.greatest.cents
+  pub areas : AreAreas made.market clearing.activation priced.areas.items
+  pub operators : priced.ledger.operators ≡ operator_lines books.zones made.market clearing.activation priced.pricing.published.cents
+  pub providers : priced.ledger.providers ≡ provider_amounts books.bids made.bids clearing.activation priced.pricing.published.cents (scheduled_or priced.pricing.published.cents also)
+  pub rents : priced.ledger.rents ≡ rents_of made.market clearing.activation priced.pricing.published.cents
   pub small : HasSmallNumbers priced.ledger
+  pub operators_small : All (LineIsWithin most_of_operator) priced.ledger.operators
+  pub providers_small : All (IsWithin most_of_provider) priced.ledger.providers
+  pub nets : int_sum net_of priced.ledger.operators ≡ pos 0
+
+-- a market of these books: it is valid, over their zones and borders; its first orders are those of bids that are there, of at most
+-- 9,999 MW, and the others those of at most 512 demands
+pub record IsMarketOf (books : Books) (made : RunMarket) : Type 0 where
+  pub valid : IsValid made.market
+  pub zones : made.market.zones ≡ length books.zones.zones
+  pub borders : length made.market.borders ≡ length books.borders.borders
+  pub orders : length made.market.orders ≡ length made.bids + made.demands
+  pub there : All (λ number. number < length books.bids.bids) made.bids
+  pub few : length made.bids ≤ 4096
+  pub few_demands : made.demands ≤ 512
+  pub named : NameOrders books.bids.bids made.bids made.market.orders
+  pub small : All (λ (o : Order). o.greatest ≤ 9999) (take (length made.bids) made.market.orders)
+
+-- what the block of a run adds to its day: the market, the activation and the prices that it tells, and its ledger, which is small
+pub record IsRunOf (books : Books) (made : RunMarket) (also : Option (List Cents)) (b : FullBlock) (settled : Settled) : Type 0 where
+  pub market : settled.made ≡ made
+  pub activation : settled.activation ≡ activation_of b
+  pub prices : settled.prices.cents ≡ prices_of b
+  pub operators : b.operators ≡ money_lines_of books.zones.operators settled.ledger.operators
+  pub providers : settled.ledger.providers ≡ amounts_of books made also b
+  pub one_each : length settled.ledger.operators ≡ length books.zones.operators
+  pub rents : length settled.ledger.rents ≡ length books.borders.borders
+  pub small : HasSmallNumbers settled.ledger
+  pub operators_small : All (LineIsWithin most_of_operator) settled.ledger.operators
+  pub providers_small : All (IsWithin most_of_provider) settled.ledger.providers
+  pub nets : int_sum net_of settled.ledger.operators ≡ pos 0

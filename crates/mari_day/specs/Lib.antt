@@ -2,7 +2,13 @@ pub mod Files
 pub mod Fetching
 pub mod Reading
 pub mod Run
+pub mod Before
 pub mod Money
 pub mod Published
+pub mod Totals
+pub mod Day
 pub mod Dated
 pub mod Assembled
+pub mod Progress
+pub mod Stepped
+pub mod Keeps

@@ -19,7 +19,7 @@ use Rattle.mari_publish.specs.declared.publication.Heading.{Heading}
 use Rattle.mari_publish.specs.declared.publication.ZoneLine.{ZoneLine}
 use Rattle.mari_remain.specs.declared.books.Books.{Books}
 use Rattle.mari_remain.specs.Lists.{run_at}
-use Rattle.mari_remain.specs.RunMarket.{market_at, numbers_of, demands_of_run}
+use Rattle.mari_remain.specs.declared.market.RunMarket.{RunMarket}
 
 -- a name by its place
 abbrev pub name_at : List (List ℕ) → ℕ → List ℕ
@@ -45,12 +45,12 @@ abbrev pub heading_of : Books → ℕ → Heading
 heading_of books run = record { run = run; quarter = (run_at books run).quarter; direct = (run_at books run).direct }
 
 -- the lines name the zones, the borders and the bids of the run's market, in their order, and there is one for each demand
-pub record NamesMarket (books : Books) (run : ℕ) (b : FullBlock) : Type 0 where
+pub record NamesMarket (books : Books) (made : RunMarket) (b : FullBlock) : Type 0 where
   pub zones : map (λ (l : ZoneLine). l.name) b.zones ≡ books.zones.zones
   pub from : map (λ (l : BorderLine). l.from) b.borders ≡ map (λ (ends : BorderEnds). name_at books.zones.zones ends.from) books.borders.borders
   pub to : map (λ (l : BorderLine). l.to) b.borders ≡ map (λ (ends : BorderEnds). name_at books.zones.zones ends.to) books.borders.borders
-  pub bids : map (λ (l : BidLine). l.id) b.bids ≡ map (name_at books.bids.ids) (numbers_of books [] run)
-  pub demands : length b.demands ≡ length (demands_of_run books.demands.demands run)
+  pub bids : map (λ (l : BidLine). l.id) b.bids ≡ map (name_at books.bids.ids) made.bids
+  pub demands : length b.demands ≡ made.demands
 
 -- each zone has its published price, which together are consistent with the activation; its least and its greatest consistent
 -- price; and the number of its area

@@ -1,21 +1,21 @@
-//! The block of a run.
+//! The block of a published run.
 
-ghost use Rattle.std.specs.Prelude.{[], ◌≡◌, ◌≤◌, ◌<◌, ◌==◌, ℕ, List, IfOk, OnOk, true, length, map};
+ghost use Rattle.std.specs.Prelude.{◌≡◌, ◌≤◌, ◌<◌, ◌==◌, ℕ, List, IfOk, IfSome, OnOk, Some, true, length, map, option_map, pos};
 ghost use Rattle.std.specs.List.{All, list_any};
 ghost use Rattle.mari_units.specs.Names.{is_name};
 ghost use Rattle.mari_market.specs.Clearing.{IsClearing};
-ghost use Rattle.mari_market.specs.Market.{IsValid};
 ghost use Rattle.mari_market.specs.Optimal.{IsAdmissible, IsConsistent, IsFeasible, IsOptimal};
+ghost use Rattle.mari_market.specs.Price.{ArePrices};
+ghost use Rattle.mari_market.specs.Sums.{int_sum};
 ghost use Rattle.mari_publish.specs.Ranges.{FullFits};
 ghost use Rattle.mari_remain.specs.Accepted.{IsAccepted};
 ghost use Rattle.mari_remain.specs.Lists.{bid_at};
-ghost use Rattle.mari_remain.specs.RunMarket.{numbers_of, run_market_of};
-ghost use Rattle.mari_day.specs.Assembled.{HasShapes, IsAssembled, IsPriced};
-ghost use Rattle.mari_settle.specs.Conditions.{HasSmallNumbers};
-ghost use Rattle.mari_settle.specs.Ledger.{operator_lines, provider_amounts, rents_of};
+ghost use Rattle.mari_settle.specs.Conditions.{HasSmallNumbers, IsWithin, LineIsWithin};
+ghost use Rattle.mari_settle.specs.Ledger.{net_of, operator_lines, provider_amounts, rents_of, scheduled_or};
+ghost use Rattle.mari_day.specs.Assembled.{HasShapes, IsAssembled, IsMarketOf, IsPriced, IsRunOf, most_of_operator, most_of_provider};
 ghost use Rattle.mari_day.specs.Dated.{IsDated};
 ghost use Rattle.mari_day.specs.Money.{amount_line, money_lines_of, providers_among, with_number};
-ghost use Rattle.mari_day.specs.Published.{amounts_of, HasEntries, IsPublishedRun};
+ghost use Rattle.mari_day.specs.Published.{IsPublishedOf};
 ghost use Rattle.mari_day.specs.Run.{heading_of};
 
 use crate::lines::{amount_lines, bid_lines, border_lines, demand_mws, money_lines, zone_lines};
@@ -34,6 +34,29 @@ pub struct Priced {
     pub pricing: Pricing,
     pub areas: Vec<u32>,
     pub ledger: Ledger,
+}
+
+/// What a published block adds to its day: its run's market, the activation in it, the published prices, and the ledger.
+#[derive(Drop)]
+pub struct Settled {
+    pub made: RunMarket,
+    pub activation: Activation,
+    pub prices: Prices,
+    pub ledger: Ledger,
+}
+
+/// The block of a published run, and what it adds to its day.
+#[derive(Drop)]
+pub struct PublishedRun {
+    pub block: FullBlock,
+    pub settled: Settled,
+}
+
+/// A block, and the activation that it tells.
+#[derive(Drop)]
+struct Assembled {
+    block: FullBlock,
+    activation: Activation,
 }
 
 /// The providers of these bids, by the first bid of each.
@@ -95,12 +118,13 @@ fn assemble(
     numbers: &[u32],
     clearing: Clearing,
     priced: &Priced,
-) -> Result<FullBlock, Memory>
+) -> Result<Assembled, Memory>
     requires accepted { IsAccepted books.now }
     requires run { 1 ≤ run }
-    requires numbers { numbers.now ≡ numbers_of books.now [] run }
-    requires shapes { HasShapes books.now run clearing priced.now }
-    ensures { IfOk result (IsAssembled books.now run clearing priced.now) }
+    requires there { All (λ number. number < length books.now.bids.bids) numbers.now }
+    requires shapes { HasShapes books.now numbers.now clearing priced.now }
+    ensures block { IfOk result (λ made. IsAssembled books.now run numbers.now clearing priced.now made.block) }
+    ensures activation { IfOk result (λ made. made.activation ≡ clearing.activation) }
 {
     let names = &books.zones.zones;
     let mw = clearing.activation.mw.as_slice();
@@ -113,7 +137,7 @@ fn assemble(
     let demands = demand_mws(alloc, mw, numbers.len())?;
     let operators = money_lines(alloc, &books.zones.operators, ledger.operators.as_slice())?;
     let providers = provider_lines(alloc, &books.bids, numbers, ledger.providers.as_slice())?;
-    Ok(FullBlock {
+    let block = FullBlock {
         heading: heading(books, run),
         welfare: clearing.welfare,
         zones: Items::of(zones),
@@ -123,6 +147,10 @@ fn assemble(
         tree: clearing.tree,
         operators: Items::of(operators),
         providers: Items::of(providers),
+    };
+    Ok(Assembled {
+        block,
+        activation: clearing.activation,
     })
 }
 
@@ -142,22 +170,28 @@ fn provider_lines(
     amount_lines(alloc, &bids.providers, &places, amounts)
 }
 
-/// The ledger of a run's clearing at its published prices.
+/// The ledger of a run's clearing at its published prices. A direct run's bids are paid with regard to the scheduled prices of
+/// its quarter, where there are any.
 fn ledger_of(
     alloc: Global,
     books: &Books,
     made: &RunMarket,
     prices: &Prices,
     activation: &Activation,
+    also: Option<&Prices>,
 ) -> Result<Ledger, Memory>
     requires accepted { IsAccepted books.now }
-    requires run { (run : ℕ) × (made.now ≡ run_market_of books.now [] run) × IsValid made.now.market }
+    requires made { IsMarketOf books.now made.now }
     requires feasible { IsFeasible made.now.market activation.now }
     requires consistent { IsConsistent made.now.market activation.now prices.now.cents }
+    requires also { IfSome also (λ scheduled. ArePrices made.now.market scheduled.now.cents) }
     ensures operators { IfOk result (λ ledger. ledger.operators ≡ operator_lines books.now.zones made.now.market activation.now prices.now.cents) }
-    ensures providers { IfOk result (λ ledger. ledger.providers ≡ provider_amounts books.now.bids made.now.bids activation.now prices.now.cents prices.now.cents) }
+    ensures providers { IfOk result (λ ledger. ledger.providers ≡ provider_amounts books.now.bids made.now.bids activation.now prices.now.cents (scheduled_or prices.now.cents (option_map (λ scheduled. scheduled.now.cents) also.entry))) }
     ensures rents { IfOk result (λ ledger. ledger.rents ≡ rents_of made.now.market activation.now prices.now.cents) }
     ensures small { IfOk result HasSmallNumbers }
+    ensures operators_small { IfOk result (λ ledger. All (LineIsWithin most_of_operator) ledger.operators) }
+    ensures providers_small { IfOk result (λ ledger. All (IsWithin most_of_provider) ledger.providers) }
+    ensures nets { IfOk result (λ ledger. int_sum net_of ledger.operators ≡ pos 0) }
 {
     let mut ledger = Ledger::start(alloc, &books.zones, &books.borders, &books.bids)?;
     settle_run(
@@ -168,7 +202,7 @@ fn ledger_of(
         prices,
         activation,
         &mut ledger,
-        None,
+        also,
     );
     Ok(ledger)
 }
@@ -177,21 +211,20 @@ fn ledger_of(
 fn priced_of(
     alloc: Global,
     books: &Books,
-    run: u32,
     made: &RunMarket,
     clearing: &Clearing,
+    also: Option<&Prices>,
 ) -> Result<Priced, Memory>
     requires accepted { IsAccepted books.now }
-    requires run { (1 ≤ run) × (run ≤ length books.now.runs.runs) }
-    requires made { made.now ≡ run_market_of books.now [] run }
-    requires valid { IsValid made.now.market }
+    requires made { IsMarketOf books.now made.now }
     requires admissible { IsAdmissible made.now.market clearing.now.activation }
-    ensures { IfOk result (IsPriced books.now run clearing.now) }
+    requires also { IfSome also (λ scheduled. ArePrices made.now.market scheduled.now.cents) }
+    ensures { IfOk result (IsPriced books.now made.now (option_map (λ scheduled. scheduled.now.cents) also.entry) clearing.now) }
 {
     let activation = &clearing.activation;
     let pricing = published_prices(alloc, &made.market, activation)?;
     let areas = areas(alloc, &made.market, activation)?;
-    let ledger = ledger_of(alloc, books, made, &pricing.published, activation)?;
+    let ledger = ledger_of(alloc, books, made, &pricing.published, activation, also)?;
     Ok(Priced {
         pricing,
         areas,
@@ -199,37 +232,41 @@ fn priced_of(
     })
 }
 
-/// The block of a published run, and its ledger.
-#[derive(Drop)]
-pub struct PublishedRun {
-    pub block: FullBlock,
-    pub ledger: Ledger,
-}
-
-/// The block of a published run, and its ledger.
+/// The block of a published run, and what it adds to its day. The run's quarter has these scheduled prices, or none.
 pub fn published_run(
     alloc: Global,
     books: &Books,
     run: u32,
-    made: &RunMarket,
+    made: RunMarket,
     clearing: Clearing,
+    also: Option<&Prices>,
 ) -> Result<PublishedRun, Memory>
     requires accepted { IsAccepted books.now }
     requires dated { IsDated books.now }
     requires run { (1 ≤ run) × (run ≤ length books.now.runs.runs) }
-    requires made { made.now ≡ run_market_of books.now [] run }
-    requires valid { IsValid made.now.market }
-    requires optimal { IsOptimal made.now.market clearing.activation }
-    ensures published { (budget : ℕ) → IsClearing made.now.market budget clearing → IfOk result (λ p. IsPublishedRun books.now budget run p.block) }
-    ensures fits { (budget : ℕ) → budget ≤ 50000 → IsClearing made.now.market budget clearing → IfOk result (λ p. FullFits p.block) }
-    ensures operators { IfOk result (λ p. p.block.operators ≡ money_lines_of books.now.zones.operators p.ledger.operators) }
-    ensures providers { IfOk result (λ p. p.ledger.providers ≡ amounts_of books.now run p.block) }
-    ensures lengths { IfOk result (λ p. HasEntries books.now p.ledger) }
+    requires made { IsMarketOf books.now made }
+    requires optimal { IsOptimal made.market clearing.activation }
+    requires also { IfSome also (λ scheduled. ArePrices made.market scheduled.now.cents) }
+    ensures published { (budget : ℕ) → IsClearing made.market budget clearing
+        → IfOk result (λ p. IsPublishedOf books.now budget run made (option_map (λ scheduled. scheduled.now.cents) also.entry) p.block) }
+    ensures fits { (budget : ℕ) → budget ≤ 50000 → IsClearing made.market budget clearing → IfOk result (λ p. FullFits p.block) }
+    ensures settled { IfOk result (λ p. IsRunOf books.now made (option_map (λ scheduled. scheduled.now.cents) also.entry) p.block p.settled) }
 {
-    let priced = priced_of(alloc, books, run, made, &clearing)?;
-    let block = assemble(alloc, books, run, made.bids.as_slice(), clearing, &priced)?;
+    let priced = priced_of(alloc, books, &made, &clearing, also)?;
+    let done = assemble(alloc, books, run, made.bids.as_slice(), clearing, &priced)?;
+    let Assembled { block, activation } = done;
+    let Priced {
+        pricing,
+        ledger,
+        ..
+    } = priced;
     Ok(PublishedRun {
         block,
-        ledger: priced.ledger,
+        settled: Settled {
+            made,
+            activation,
+            prices: pricing.published,
+            ledger,
+        },
     })
 }

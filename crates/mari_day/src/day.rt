@@ -1,81 +1,35 @@
-//! The day of books with one run: its text, and how much of it is published.
+//! The day of books: its head, a block for each run, and the totals, each written as soon as it is made.
 
-ghost use Rattle.std.specs.Prelude.{◌≡◌, ◌≤◌, ◌-◌, ◌∷◌, [], IfOk, true, length, map};
+ghost use Rattle.std.specs.Prelude.{◌≡◌, ◌≤◌, ◌-◌, ℕ, List, IfErr, IfOk, OnErr, OnOk, Err, length, map, true};
 ghost use Rattle.std.specs.List.{All, range_with_len};
 ghost use Rattle.mari_units.specs.Names.{is_name};
-ghost use Rattle.mari_publish.specs.Lines.{published_in, unpublished_in};
-ghost use Rattle.mari_publish.specs.Ranges.{BlockFits, HasText};
+ghost use Rattle.mari_io.specs.Outside.{Counts};
+ghost use Rattle.mari_publish.specs.declared.publication.Block.{Block as PrintedBlock};
 ghost use Rattle.mari_remain.specs.Accepted.{IsAccepted};
 ghost use Rattle.mari_day.specs.Dated.{IsDated};
-ghost use Rattle.mari_day.specs.Money.{amount_line, money_lines_of};
-ghost use Rattle.mari_day.specs.Published.{amount_totals, operator_totals, HasEntries, IsBlock, IsDay, IsPrintedDay};
+ghost use Rattle.mari_day.specs.Day.{EndsDay, WroteDay};
+ghost use Rattle.mari_day.specs.Money.{amount_line};
+ghost use Rattle.mari_day.specs.Progress.{IsProgress};
+ghost use Rattle.mari_day.specs.Stepped.{Closes, Stopped, WroteFirst};
 
-use crate::block::{heading, published_run};
 use crate::lines::{amount_lines, money_lines};
+use crate::progress::Progress;
+use crate::step::{Stop, step, write_text};
 use mari_bids::BidBook;
-use mari_market::{Cleared, Clearer};
-use mari_publish::{AmountLine, Block, Publication, write_text};
-use mari_remain::{Books, Remaining};
-use mari_settle::Ledger;
-use mari_units::{Items, Memory, Name, NameFault, Quarters, read_name};
+use mari_io::Sink;
+use mari_market::Clearer;
+use mari_publish::{AmountLine, closing_text, head_text};
+use mari_remain::Books;
+use mari_units::{Memory, Quarters};
 use std::alloc::Global;
 
-/// The text of a day, and how many of its runs are published, and how many are not.
-#[derive(Drop)]
-pub struct PrintedDay {
-    pub text: Vec<u8>,
-    pub published: u32,
-    pub unpublished: u32,
-}
-
-/// The block of a run, and the ledger that it adds to the day's.
-#[derive(Drop)]
-struct RunDone {
-    block: Block,
-    ledger: Ledger,
-}
-
-/// Clears the first run, and makes its block.
-fn run_done<C: Clearer>(
-    alloc: Global,
-    books: &Books,
-    run: u32,
-    budget: u32,
-    clearer: &mut C,
-) -> Result<RunDone, Memory>
-    requires accepted { IsAccepted books.now }
-    requires dated { IsDated books.now }
-    requires run { (1 ≤ run) × (run ≤ length books.now.runs.runs) }
-    requires first { run ≡ 1 }
-    requires budget { (1 ≤ budget) × (budget ≤ 50000) }
-    requires ready { C.ready clearer.old }
-    ensures block { IfOk result (λ done. IsBlock books.now budget run done.block) }
-    ensures fits { IfOk result (λ done. BlockFits done.block) }
-    ensures operators { IfOk result (λ done. money_lines_of books.now.zones.operators done.ledger.operators ≡ operator_totals books.now done.block) }
-    ensures providers { IfOk result (λ done. done.ledger.providers ≡ amount_totals books.now run done.block) }
-    ensures entries { IfOk result (λ done. HasEntries books.now done.ledger) }
-    ensures ready { C.ready clearer.new }
-{
-    let remaining = Remaining::start(alloc, books)?;
-    let made = remaining.market_of(alloc, books, run)?;
-    match clearer.clear(alloc, &made.market, budget) {
-        Cleared::Published(clearing) => {
-            let done = published_run(alloc, books, run, &made, clearing)?;
-            Ok(RunDone {
-                block: Block::Published(done.block),
-                ledger: done.ledger,
-            })
-        }
-        Cleared::Spent(spent) => {
-            let count = spent.items.as_slice().len() as u32;
-            let ledger = Ledger::start(alloc, &books.zones, &books.borders, &books.bids)?;
-            Ok(RunDone {
-                block: Block::Unpublished(heading(books, run), count),
-                ledger,
-            })
-        }
-        Cleared::Memory => Err(Memory),
-    }
+/// How a day ended: it was written whole, with so many published runs and so many that aren't; a write failed; or there was no
+/// memory.
+#[derive(Clone, Copy, Debug, PartialEq, Eq)]
+pub enum DayEnd {
+    Done { published: u32, unpublished: u32 },
+    WriteFault,
+    Memory,
 }
 
 /// A line for each provider of the book of bids.
@@ -103,86 +57,136 @@ fn all_places(alloc: Global, count: u32) -> Result<Vec<u32>, Memory>
     Ok(places)
 }
 
-/// A copy of the date.
-fn date_of(alloc: Global, books: &Books) -> Result<Name, Memory>
-    ensures { IfOk result (λ date. date ≡ books.now.date) }
-{
-    match read_name(alloc, books.date.bytes()) {
-        Ok(date) => Ok(date),
-        Err(NameFault::Memory) => Err(Memory),
-        Err(NameFault::NotAName) => unreachable!(),
-    }
-}
-
-/// What a day of one run says.
-fn publication_of(
-    alloc: Global,
-    books: &Books,
-    budget: u32,
-    done: RunDone,
-) -> Result<Publication, Memory>
+/// Writes the head.
+fn begin<K: Sink>(alloc: Global, books: &Books, budget: u32, sink: &mut K) -> Result<Progress, Stop>
     requires accepted { IsAccepted books.now }
     requires dated { IsDated books.now }
     requires budget { (1 ≤ budget) × (budget ≤ 50000) }
-    requires block { IsBlock books.now budget 1 done.block }
-    requires fits { BlockFits done.block }
-    requires operators { money_lines_of books.now.zones.operators done.ledger.operators ≡ operator_totals books.now done.block }
-    requires providers { done.ledger.providers ≡ amount_totals books.now 1 done.block }
-    requires entries { HasEntries books.now done.ledger }
-    ensures day { IfOk result (IsDay books.now budget) }
-    ensures blocks { IfOk result (λ p. p.blocks ≡ done.block ∷ []) }
-    ensures in_range { IfOk result HasText }
+    ensures begun { IfOk result (λ progress. WroteFirst books.now budget 0 progress (K.taken sink.old) (K.taken sink.new)) }
+    ensures stopped { IfErr result (Stopped books.now budget (K.taken sink.old) (K.taken sink.new)) }
+    ensures cause { Counts (result ≡ Err Stop.Sink) (K.faults sink.old) (K.faults sink.new) }
 {
-    let date = date_of(alloc, books)?;
-    let lines = done.ledger.operators.as_slice();
-    let operators = money_lines(alloc, &books.zones.operators, lines)?;
-    let amounts = done.ledger.providers.as_slice();
-    let providers = total_lines(alloc, &books.bids, amounts)?;
-    let blocks = vec![in alloc; done.block]?;
-    Ok(Publication {
-        date,
-        quarters: books.quarters,
-        budget,
-        blocks: Items::of(blocks),
-        operators: Items::of(operators),
-        providers: Items::of(providers),
-    })
-}
-
-/// How many runs a block publishes.
-fn published_count(block: &Block) -> u32
-    ensures published { result ≡ published_in (block.now ∷ []) }
-    ensures unpublished { 1 - result ≡ unpublished_in (block.now ∷ []) }
-    ensures most { result ≤ 1 }
-{
-    match block {
-        Block::Published(_) => 1,
-        Block::Unpublished(..) => 0,
+    let progress = Progress::start(alloc, books)?;
+    let head = head_text(alloc, &books.date, books.quarters, budget)?;
+    match write_text(sink, &head) {
+        Ok(()) => Ok(progress),
+        Err(stop) => Err(stop),
     }
 }
 
-/// Clears the one run of these books within a budget of nodes, and gives the text of their day.
-pub fn day_of<C: Clearer>(
+/// How many runs the day has.
+fn run_count(books: &Books) -> u32
+    requires { length books.now.runs.runs ≤ 1000 }
+    ensures { result ≡ length books.now.runs.runs }
+{
+    books.runs.runs.as_slice().len() as u32
+}
+
+/// Writes the head and the blocks of all runs, in order.
+fn write_runs<C: Clearer, K: Sink>(
     alloc: Global,
     books: &Books,
     budget: u32,
     clearer: &mut C,
-) -> Result<PrintedDay, Memory>
+    sink: &mut K,
+) -> Result<Progress, Stop>
     requires accepted { IsAccepted books.now }
     requires dated { IsDated books.now }
-    requires one_run { length books.now.runs.runs ≡ 1 }
     requires budget { (1 ≤ budget) × (budget ≤ 50000) }
     requires ready { C.ready clearer.old }
-    ensures day { IfOk result (IsPrintedDay books.now budget) }
+    ensures written { IfOk result (λ progress. WroteFirst books.now budget (length books.now.runs.runs) progress (K.taken sink.old) (K.taken sink.new)) }
+    ensures stopped { IfErr result (Stopped books.now budget (K.taken sink.old) (K.taken sink.new)) }
+    ensures cause { Counts (result ≡ Err Stop.Sink) (K.faults sink.old) (K.faults sink.new) }
     ensures ready { C.ready clearer.new }
 {
-    let done = run_done(alloc, books, 1, budget, clearer)?;
-    let published = published_count(&done.block);
-    let publication = publication_of(alloc, books, budget, done)?;
-    let text = write_text(alloc, &publication)?;
-    Ok(PrintedDay {
-        text,
-        published,
-        unpublished: 1 - published,
-    })
+    let mut progress = begin(alloc, books, budget, sink)?;
+    for run in 0..run_count(books) {
+        match step(alloc, books, run + 1, budget, &mut progress, clearer, sink) {
+            Ok(()) => {}
+            Err(stop) => return Err(stop),
+        }
+    }
+    Ok(progress)
+}
+
+/// Writes the totals, behind the blocks of all runs.
+fn close<K: Sink>(
+    alloc: Global,
+    books: &Books,
+    progress: &Progress,
+    sink: &mut K,
+) -> Result<(), Stop>
+    requires accepted { IsAccepted books.now }
+    requires dated { IsDated books.now }
+    requires stands { (budget : ℕ) × (blocks : List PrintedBlock) × IsProgress books.now budget blocks progress.now × (length blocks ≡ length books.now.runs.runs) }
+    ensures closes { (budget : ℕ) (blocks : List PrintedBlock) → (1 ≤ budget) × (budget ≤ 50000) → IsProgress books.now budget blocks progress.now
+        → length blocks ≡ length books.now.runs.runs → Closes books.now budget blocks (K.taken sink.old) (K.taken sink.new) result }
+    ensures cause { Counts (result ≡ Err Stop.Sink) (K.faults sink.old) (K.faults sink.new) }
+{
+    let totals = &progress.totals;
+    let operators = money_lines(alloc, &books.zones.operators, totals.operators.as_slice())?;
+    let providers = total_lines(alloc, &books.bids, totals.providers.as_slice())?;
+    let unpublished = run_count(books) - progress.published;
+    let text = closing_text(
+        alloc,
+        &operators,
+        &providers,
+        progress.published,
+        unpublished,
+    )?;
+    write_text(sink, &text)
+}
+
+/// Writes a whole day, and tells how many of its runs are published.
+fn write_day<C: Clearer, K: Sink>(
+    alloc: Global,
+    books: &Books,
+    budget: u32,
+    clearer: &mut C,
+    sink: &mut K,
+) -> Result<u32, Stop>
+    requires accepted { IsAccepted books.now }
+    requires dated { IsDated books.now }
+    requires budget { (1 ≤ budget) × (budget ≤ 50000) }
+    requires ready { C.ready clearer.old }
+    ensures written { IfOk result (λ published. (published ≤ length books.now.runs.runs)
+        × WroteDay books.now budget published (length books.now.runs.runs - published) (K.taken sink.old) (K.taken sink.new)) }
+    ensures stopped { IfErr result (Stopped books.now budget (K.taken sink.old) (K.taken sink.new)) }
+    ensures cause { Counts (result ≡ Err Stop.Sink) (K.faults sink.old) (K.faults sink.new) }
+    ensures ready { C.ready clearer.new }
+{
+    let progress = write_runs(alloc, books, budget, clearer, sink)?;
+    match close(alloc, books, &progress, sink) {
+        Ok(()) => Ok(progress.published),
+        Err(stop) => Err(stop),
+    }
+}
+
+/// Clears the runs of these books in order, each within a budget of nodes, and writes their day.
+///
+/// The head, each block and the totals are one text each, written as soon as it is made. After a write fault the sink has taken a
+/// first part of the text of a day part or of a day; after want of memory the head and whole blocks, or nothing.
+pub fn run_day<C: Clearer, K: Sink>(
+    alloc: Global,
+    books: &Books,
+    budget: u32,
+    clearer: &mut C,
+    sink: &mut K,
+) -> DayEnd
+    requires accepted { IsAccepted books.now }
+    requires dated { IsDated books.now }
+    requires budget { (1 ≤ budget) × (budget ≤ 50000) }
+    requires ready { C.ready clearer.old }
+    ensures day { EndsDay books.now budget (K.taken sink.old) (K.taken sink.new) result }
+    ensures cause { Counts (result ≡ DayEnd.WriteFault) (K.faults sink.old) (K.faults sink.new) }
+    ensures ready { C.ready clearer.new }
+{
+    match write_day(alloc, books, budget, clearer, sink) {
+        Ok(published) => DayEnd::Done {
+            published,
+            unpublished: run_count(books) - published,
+        },
+        Err(Stop::Sink) => DayEnd::WriteFault,
+        Err(Stop::NoMemory) => DayEnd::Memory,
+    }
 }

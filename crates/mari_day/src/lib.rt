@@ -7,10 +7,18 @@
 mod block;
 mod day;
 mod files;
+mod laws;
 mod lines;
 mod pages;
+mod progress;
 mod reading;
+mod step;
+mod text;
+mod writing;
 
-pub use day::{PrintedDay, day_of};
+pub use day::{DayEnd, run_day};
 pub use files::file_name;
+pub use laws::days_keep;
 pub use reading::{BooksFault, read_books};
+pub use text::{PrintedDay, day_of};
+pub use writing::write_all;

@@ -1,13 +1,13 @@
 //! The lines of a block: zones, borders, bids, operators and providers, each by its name.
 
-ghost use Rattle.std.specs.Prelude.{◌≡◌, ◌≤◌, ◌<◌, ◌==◌, ℕ, List, IfOk, true, length, map, take, drop};
+ghost use Rattle.std.specs.Prelude.{◌≡◌, ◌≤◌, ◌<◌, ◌==◌, ◌*◌, ◌^◌, ℕ, List, IfOk, true, length, map, take, drop};
 ghost use Rattle.std.specs.List.{All};
 ghost use Rattle.mari_units.specs.Names.{is_name};
 ghost use Rattle.mari_zones.specs.declared.borders.BorderEnds.{BorderEnds as Ends};
 ghost use Rattle.mari_publish.specs.declared.publication.BidLine.{BidLine as BidLineOf};
 ghost use Rattle.mari_publish.specs.declared.publication.BorderLine.{BorderLine as BorderLineOf};
 ghost use Rattle.mari_publish.specs.declared.publication.ZoneLine.{ZoneLine as ZoneLineOf};
-ghost use Rattle.mari_settle.specs.Conditions.{IsSmallLine};
+ghost use Rattle.mari_settle.specs.Conditions.{LineIsWithin};
 ghost use Rattle.mari_day.specs.Run.{name_at};
 ghost use Rattle.mari_day.specs.Money.{amount_line, money_lines_of};
 
@@ -140,7 +140,7 @@ pub fn money_lines(
     requires few { length operators.now ≤ 64 }
     requires names { All (λ name. is_name name ≡ true) operators.now }
     requires one_each { length lines.now ≡ length operators.now }
-    requires small { All IsSmallLine lines.now }
+    requires small { All (LineIsWithin (2 * 10 ^ 18)) lines.now }
     ensures { IfOk result (λ money. money.items ≡ money_lines_of operators.now lines.now) }
 {
     let mut money = Vec::new(alloc);

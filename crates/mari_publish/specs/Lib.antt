@@ -5,3 +5,4 @@ pub mod Spelling
 pub mod Order
 pub mod Faults
 pub mod Gathering
+pub mod Closing

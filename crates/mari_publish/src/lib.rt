@@ -28,4 +28,4 @@ pub use publication::{
     AmountLine, BidLine, Block, BorderLine, FullBlock, Heading, MoneyLine, Publication, ZoneLine,
 };
 pub use reading::read_text;
-pub use write::{block_text, head_text, total_text, write_text};
+pub use write::{block_text, closing_text, head_text, total_text, write_text};

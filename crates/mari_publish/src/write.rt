@@ -2,6 +2,7 @@
 
 ghost use Rattle.std.specs.Prelude.{◌≡◌, ◌++◌, ◌+◌, ◌≤◌, ◌<◌, ◌^◌, OnOk, IfOk, map, length};
 ghost use Rattle.std.specs.List.{All, flat_map};
+ghost use Rattle.mari_publish.specs.Closing.{closing_lines_by};
 ghost use Rattle.mari_publish.specs.Lines.{demand_lines, opening_lines, market_lines, ending_lines, full_lines, block_lines, closing_lines, published_in as published_of, unpublished_in as unpublished_of};
 ghost use Rattle.mari_publish.specs.Ranges.{InRange, IsMoney, IsMoneyLine, IsAmountLine, FullFits, BlockFits, TotalsFit, HasText};
 ghost use Rattle.mari_publish.specs.Spelling.{text_of_lines, head_text_of, block_text_of, total_text_of, text_of};
@@ -220,6 +221,25 @@ pub fn total_text(alloc: Global, publication: &Publication) -> Result<Vec<u8>, M
 {
     let mut out = Vec::new(alloc);
     put_totals(alloc, &mut out, publication)?;
+    Ok(out)
+}
+
+/// The text behind the last block, of a day of which so many blocks are published and so many are not.
+pub fn closing_text(
+    alloc: Global,
+    operators: &[MoneyLine],
+    providers: &[AmountLine],
+    published: u32,
+    unpublished: u32,
+) -> Result<Vec<u8>, Memory>
+    requires operators { All IsMoneyLine operators.now }
+    requires providers { All IsAmountLine providers.now }
+    ensures { IfOk result (λ text. text.items ≡ text_of_lines (closing_lines_by operators.now providers.now published unpublished)) }
+{
+    let mut out = Vec::new(alloc);
+    put_total_operators(alloc, &mut out, operators)?;
+    put_total_providers(alloc, &mut out, providers)?;
+    put_done(alloc, &mut out, published, unpublished)?;
     Ok(out)
 }
 

@@ -12,13 +12,13 @@ use Rattle.mari_settle.specs.Lines.{lines_together, map_along, together}
 use Rattle.mari_settle.proofs.Laws.{All-map_along}
 
 -- what follows of an item of each list holds at each place
-side_by_side : {X Y : Type 0} (P : X → Type 0) (Q : Y → Type 0) (R : X → Y → Type 0) → ((x : X) (y : Y) → P x → Q y → R x y) → (xs : List X) (ys : List Y) → length xs ≡ length ys → All P xs → All Q ys → AllZip R xs ys
+pub side_by_side : {X Y : Type 0} (P : X → Type 0) (Q : Y → Type 0) (R : X → Y → Type 0) → ((x : X) (y : Y) → P x → Q y → R x y) → (xs : List X) (ys : List Y) → length xs ≡ length ys → All P xs → All Q ys → AllZip R xs ys
 side_by_side P Q R h [] [] l p q = tt
 side_by_side P Q R h (x ∷ xs) (y ∷ ys) l p q = (h x y (All-head P x xs p) (All-head Q y ys q), side_by_side P Q R h xs ys (omega (arith, l)) (All-tail P x xs p) (All-tail Q y ys q))
 side_by_side P Q R h [] (y ∷ ys) l p q = absurd (omega (arith, l))
 side_by_side P Q R h (x ∷ xs) [] l p q = absurd (omega (arith, l))
 
-sum_within : (m n : ℕ) (a b : Quarters) → IsWithin m a → IsWithin n b → IsWithin (m + n) (together a b)
+pub sum_within : (m n : ℕ) (a b : Quarters) → IsWithin m a → IsWithin n b → IsWithin (m + n) (together a b)
 sum_within m n a b h l = omega (arith, ints, h, l)
 
 add_up : (m n : ℕ) (a b : Quarters) → m + n ≤ 10 ^ 30 → IsWithin m a → IsWithin n b → AddUp a b
@@ -27,7 +27,7 @@ add_up m n a b k h l = omega (arith, ints, h, l, k)
 lines_add_up : (m n : ℕ) (a b : OperatorLine) → m + n ≤ 10 ^ 30 → LineIsWithin m a → LineIsWithin n b → LinesAddUp a b
 lines_add_up m n a b k h l = record { payment = add_up m n a.payment b.payment k h.payment l.payment; rent = add_up m n a.rent b.rent k h.rent l.rent }
 
-lines_within : (m n : ℕ) (a b : OperatorLine) → LineIsWithin m a → LineIsWithin n b → LineIsWithin (m + n) (lines_together a b)
+pub lines_within : (m n : ℕ) (a b : OperatorLine) → LineIsWithin m a → LineIsWithin n b → LineIsWithin (m + n) (lines_together a b)
 lines_within m n a b h l = record { payment = sum_within m n a.payment b.payment h.payment l.payment; rent = sum_within m n a.rent b.rent h.rent l.rent }
 
 -- ledgers of equal lengths, whose numbers are within bounds that add up to at most 10^30
@@ -38,7 +38,7 @@ ledgers_add_up m n a b k os ps rs h l = record {
   rents = side_by_side (IsWithin m) (IsWithin n) AddUp (λ x y p q. add_up m n x y k p q) a.rents b.rents rs h.rents l.rents;
 }
 
-sums_within : {X : Type 0} (f : X → X → X) (P Q R : X → Type 0) → ((x y : X) → P x → Q y → R (f x y)) → (xs ys : List X) → length xs ≡ length ys → All P xs → All Q ys → All R (map_along f xs ys)
+pub sums_within : {X : Type 0} (f : X → X → X) (P Q R : X → Type 0) → ((x y : X) → P x → Q y → R (f x y)) → (xs ys : List X) → length xs ≡ length ys → All P xs → All Q ys → All R (map_along f xs ys)
 sums_within f P Q R h xs ys l p q = All-map_along f (λ x y. R (f x y)) R (λ x y r. r) xs ys (side_by_side P Q (λ x y. R (f x y)) h xs ys l p q)
 
 -- the sum of two ledgers is within the sum of their bounds

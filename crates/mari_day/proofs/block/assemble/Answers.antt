@@ -1,21 +1,23 @@
 use Rattle.std.proofs.Common.{◌≡◌, ◌≤◌, ◌<◌, ◌∙◌, length, arith, refl}
 use Rattle.std.specs.List.{All}
+use Rattle.mari_day.proofs.BlockFits.{halves}
 use Rattle.mari_day.proofs.Money.{providers-there}
-use Rattle.mari_day.proofs.Shapes.{there_first}
 use Rattle.mari_day.proofs.block.assemble.Goals as goal
 
 pub bid_lines-requires-clause-there : goal.bid_lines-requires-clause-there
-bid_lines-requires-clause-there c = rw (c.requires.numbers, c.requires.accepted.bids.named) (there_first c.args.books.now c.args.run c.requires.accepted)
+bid_lines-requires-clause-there c = rw c.requires.accepted.bids.named c.requires.there
 
 pub money_lines-requires-clause-few : goal.money_lines-requires-clause-few
 money_lines-requires-clause-few c = c.requires.accepted.zones.few_operators
 
-pub provider_lines-requires-clause-there : goal.provider_lines-requires-clause-there
-provider_lines-requires-clause-there c =
-    rw c.requires.numbers (providers-there c.args.books.now.bids.bids _ _ (λ k d l. (c.requires.accepted.bids.bids k d l).provider) (there_first c.args.books.now c.args.run c.requires.accepted))
+pub money_lines-requires-clause-small : goal.money_lines-requires-clause-small
+money_lines-requires-clause-small c = rw c.as_slice-2.ensures (halves c.args.priced.now.ledger.operators c.requires.shapes.small.operators)
 
-pub returns : goal.returns
-returns c = record {
+pub provider_lines-requires-clause-there : goal.provider_lines-requires-clause-there
+provider_lines-requires-clause-there c = providers-there c.args.books.now.bids.bids _ _ (λ k d l. (c.requires.accepted.bids.bids k d l).provider) c.requires.there
+
+pub returns-clause-block : goal.returns-clause-block
+returns-clause-block c = record {
   heading = c.heading.ensures;
   welfare = refl;
   tree = refl;
@@ -33,10 +35,10 @@ returns c = record {
     rents = rw c.of-2.ensures (c.in_ok-borders.ensures.rents ∙ c.as_slice.ensures);
   };
   orders = record {
-    ids = rw c.of-3.ensures (rw c.requires.numbers at c.in_ok-bids.ensures.ids);
-    mw = rw c.of-3.ensures (rw (c.requires.numbers, c.as_slice-mw.ensures) at c.in_ok-bids.ensures.mw);
-    demands = rw c.of-4.ensures (rw (c.requires.numbers, c.as_slice-mw.ensures) at c.in_ok-demands.ensures);
+    ids = rw c.of-3.ensures c.in_ok-bids.ensures.ids;
+    mw = rw c.of-3.ensures (rw c.as_slice-mw.ensures at c.in_ok-bids.ensures.mw);
+    demands = rw c.of-4.ensures (rw c.as_slice-mw.ensures at c.in_ok-demands.ensures);
   };
   operators = c.of-5.ensures ∙ rw c.as_slice-2.ensures at c.in_ok-operators.ensures;
-  providers = c.of-6.ensures ∙ rw (c.as_slice-3.ensures, c.requires.numbers) at c.in_ok-providers.ensures;
+  providers = c.of-6.ensures ∙ rw c.as_slice-3.ensures at c.in_ok-providers.ensures;
 }

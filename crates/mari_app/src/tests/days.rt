@@ -1,0 +1,128 @@
+//! Days of several runs: what earlier blocks leave, links across quarters, and what direct runs pay.
+
+use super::{Folder, ONE_ZONE, TWO_ZONES, clears, prints};
+use std::test::Fail;
+
+const SCHEDULED_AND_DIRECT: &str =
+    "run,quarter,kind,reference\n1,1,scheduled,40.00\n2,1,direct,40.00\n";
+
+#[test]
+fn remainder_for_a_direct_run(rt: HostRuntime) -> Result<(), Fail> {
+    let folder = Folder {
+        runs: SCHEDULED_AND_DIRECT,
+        demands: "run,zone,mw,price\n1,Z,70,\n2,Z,50,\n",
+        ..ONE_ZONE
+    };
+    let printed =
+        "mari 1 2025-03-12 96 10000\nrun 1 1 scheduled published\nwelfare 699643000\nzone Z 50.00 50.00 50.00 1\nbid u1 70\ndemand 1 70\ntree 1\nbound 50.00\noperator T 0.0000 0.0000 0.0000\nprovider P 875.0000\nend 1\nrun 2 1 direct published\nwelfare 299847000\nzone Z 99999.00 99999.00 99999.00 1\nbid u1 30\ndemand 1 30\ntree 1\nbound 99999.00\noperator T 0.0000 0.0000 0.0000\nprovider P 749992.5000\nend 2\ntotal-operator T 0.0000 0.0000 0.0000\ntotal-provider P 750867.5000\ndone 2 0\n";
+    clears(&rt, rt.alloc(), folder, 0, printed)
+}
+
+#[test]
+fn border_remainder_for_a_direct_run(rt: HostRuntime) -> Result<(), Fail> {
+    let folder = Folder {
+        borders: "from,to,limit,back\nA,B,50,20\n",
+        runs: SCHEDULED_AND_DIRECT,
+        demands: "run,zone,mw,price\n1,B,80,\n2,B,10,\n",
+        ..TWO_ZONES
+    };
+    let lines = "run 2 1 direct published\nwelfare 99939000\nzone A 20.00 -99999.00 20.00 1\nzone B 60.00 60.00 60.00 2\nborder A B 0 0.0000\nbid a1 0\nbid b1 10\ndemand 1 10\n";
+    prints(&rt, rt.alloc(), folder, lines)
+}
+
+const LINKED_BIDS: &str = "id,provider,zone,quarter,direction,price,least,greatest,kind\ny,P,Z,1,up,10.00,0,10,both\nw,P,Z,2,up,20.00,0,10,both\nx,P,Z,3,up,20.00,0,10,both\nz,P,Z,3,up,15.00,0,10,both\nv,P,Z,3,up,50.00,0,100,both\n";
+
+const LINKED: Folder<'static> = Folder {
+    bids: LINKED_BIDS,
+    links: "kind,first,second\nneeds,x,y\nbars,z,y\ntechnical,w,y\n",
+    ..ONE_ZONE
+};
+
+#[test]
+fn links_across_quarters(rt: HostRuntime) -> Result<(), Fail> {
+    let folder = Folder {
+        runs: "run,quarter,kind,reference\n1,1,scheduled,40.00\n2,3,scheduled,40.00\n",
+        demands: "run,zone,mw,price\n1,Z,5,\n2,Z,20,\n",
+        ..LINKED
+    };
+    let lines = "run 2 3 scheduled published\nwelfare 199928000\nzone Z 50.00 50.00 50.00 1\nbid x 10\nbid v 10\ndemand 1 20\n";
+    prints(&rt, rt.alloc(), folder, lines)?;
+
+    // Without the first demand y isn't activated.
+    let folder = Folder {
+        demands: "run,zone,mw,price\n2,Z,20,\n",
+        ..folder
+    };
+    let lines = "run 2 3 scheduled published\nwelfare 199933000\nzone Z 50.00 50.00 50.00 1\nbid z 10\nbid v 10\ndemand 1 20\n";
+    prints(&rt, rt.alloc(), folder, lines)
+}
+
+#[test]
+fn technical_link_after_a_scheduled_and_after_a_direct_run(rt: HostRuntime) -> Result<(), Fail> {
+    let folder = Folder {
+        runs: "run,quarter,kind,reference\n1,1,scheduled,40.00\n2,2,scheduled,40.00\n",
+        demands: "run,zone,mw,price\n1,Z,5,\n",
+        ..LINKED
+    };
+    let lines = "run 2 2 scheduled published\nwelfare 0\nzone Z 20.00 -99999.00 20.00 1\nbid w 0\ntree 1\n";
+    prints(&rt, rt.alloc(), folder, lines)?;
+
+    let folder = Folder {
+        runs: "run,quarter,kind,reference\n1,1,direct,40.00\n2,2,scheduled,40.00\n",
+        ..folder
+    };
+    let lines = "run 2 2 scheduled published\nwelfare 0\nzone Z 40.00 -99999.00 99999.00 1\ntree 1\n";
+    prints(&rt, rt.alloc(), folder, lines)
+}
+
+#[test]
+fn day_without_runs(rt: HostRuntime) -> Result<(), Fail> {
+    let folder = Folder {
+        runs: "run,quarter,kind,reference\n",
+        demands: "run,zone,mw,price\n",
+        ..ONE_ZONE
+    };
+    let printed = "mari 1 2025-03-12 96 10000\ntotal-operator T 0.0000 0.0000 0.0000\ntotal-provider P 0.0000\ndone 0 0\n";
+    clears(&rt, rt.alloc(), folder, 0, printed)
+}
+
+#[test]
+fn pay_of_a_direct_run(rt: HostRuntime) -> Result<(), Fail> {
+    let folder = Folder {
+        bids: "id,provider,zone,quarter,direction,price,least,greatest,kind\ni1,P,Z,1,up,30.00,40,40,both\nu1,P,Z,1,up,50.00,0,100,both\n",
+        runs: SCHEDULED_AND_DIRECT,
+        demands: "run,zone,mw,price\n1,Z,30,\n2,Z,40,\n",
+        ..ONE_ZONE
+    };
+    let lines = "run 2 1 direct published\nwelfare 399876000\nzone Z 40.00 30.00 50.00 1\nbid i1 40\nbid u1 0\ndemand 1 40\n";
+    prints(&rt, rt.alloc(), folder, lines)?;
+    let lines = "operator T 0.0000 0.0000 0.0000\nprovider P 500.0000\nend 2\ntotal-operator T 0.0000 0.0000 0.0000\ntotal-provider P 875.0000\ndone 2 0\n";
+    prints(&rt, rt.alloc(), folder, lines)
+}
+
+#[test]
+fn direct_run_without_a_scheduled_price(rt: HostRuntime) -> Result<(), Fail> {
+    // The direct run of quarter 2 is paid at its own price: the scheduled one of quarter 1 isn't its.
+    let folder = Folder {
+        bids: "id,provider,zone,quarter,direction,price,least,greatest,kind\nu1,P,Z,1,up,90.00,0,100,both\nu2,P,Z,2,up,50.00,0,100,both\n",
+        runs: "run,quarter,kind,reference\n1,1,scheduled,40.00\n2,2,direct,40.00\n",
+        demands: "run,zone,mw,price\n1,Z,10,\n2,Z,10,\n",
+        ..ONE_ZONE
+    };
+    let lines = "operator T 0.0000 0.0000 0.0000\nprovider P 125.0000\nend 2\ntotal-operator T 0.0000 0.0000 0.0000\ntotal-provider P 350.0000\ndone 2 0\n";
+    prints(&rt, rt.alloc(), folder, lines)
+}
+
+/// A day of four runs in three quarters, worked out by hand; the folder `examples/linked-day` has these pages.
+#[test]
+fn a_day_of_linked_quarters(rt: HostRuntime) -> Result<(), Fail> {
+    let folder = Folder {
+        bids: "id,provider,zone,quarter,direction,price,least,greatest,kind\ny,P,Z,1,up,10.00,0,10,both\nw,P,Z,2,up,20.00,0,10,both\nu,Q,Z,2,up,70.00,0,20,both\nx,P,Z,3,up,20.00,0,10,both\nz,P,Z,3,up,15.00,0,10,both\nv,P,Z,3,up,50.00,0,100,both\n",
+        runs: "run,quarter,kind,reference\n1,1,scheduled,40.00\n2,1,direct,40.00\n3,2,scheduled,40.00\n4,3,scheduled,40.00\n",
+        demands: "run,zone,mw,price\n1,Z,5,\n2,Z,3,\n3,Z,10,\n4,Z,20,\n",
+        ..LINKED
+    };
+    let printed =
+        "mari 1 2025-03-12 96 10000\nrun 1 1 scheduled published\nwelfare 49994500\nzone Z 10.00 10.00 10.00 1\nbid y 5\ndemand 1 5\ntree 1\nbound 10.00\noperator T 0.0000 0.0000 0.0000\nprovider P 12.5000\nend 1\nrun 2 1 direct published\nwelfare 29996700\nzone Z 10.00 10.00 10.00 1\nbid y 3\ndemand 1 3\ntree 1\nbound 10.00\noperator T 0.0000 0.0000 0.0000\nprovider P 7.5000\nend 2\nrun 3 2 scheduled published\nwelfare 99929000\nzone Z 70.00 70.00 70.00 1\nbid u 10\ndemand 1 10\ntree 1\nbound 70.00\noperator T 0.0000 0.0000 0.0000\nprovider Q 175.0000\nend 3\nrun 4 3 scheduled published\nwelfare 199928000\nzone Z 50.00 50.00 50.00 1\nbid x 10\nbid v 10\ndemand 1 20\ntree 1\nbound 50.00\noperator T 0.0000 0.0000 0.0000\nprovider P 250.0000\nend 4\ntotal-operator T 0.0000 0.0000 0.0000\ntotal-provider P 270.0000\ntotal-provider Q 175.0000\ndone 4 0\n";
+    clears(&rt, rt.alloc(), folder, 0, printed)
+}

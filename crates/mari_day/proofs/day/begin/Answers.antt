@@ -1,0 +1,16 @@
+use Rattle.std.proofs.Common.{◌≡◌, ◌∙◌, [], refl, inl, ap}
+use Rattle.mari_day.specs.Day.{then_took}
+use Rattle.mari_day.proofs.Texts.{head-stops, head-taken}
+use Rattle.mari_day.proofs.day.begin.Goals as goal
+
+pub returns-in-Ok-clause-begun : goal.returns-in-Ok-clause-begun
+returns-in-Ok-clause-begun g c = record {
+  blocks = [];
+  progress = c.in_ok-progress.ensures c.args.budget;
+  counted = refl;
+  taken = head-taken c.args.books.now c.args.budget _ _ (rw (c.deref.ensures.value, c.in_ok-head.ensures) at c.in-Ok.ensures.whole);
+}
+
+pub returns-in-Err-clause-stopped : goal.returns-in-Err-clause-stopped
+returns-in-Err-clause-stopped g c =
+    head-stops c.args.books.now c.args.budget _ _ _ c.in-Err.ensures.error (rw (c.deref.ensures.value, c.in_ok-head.ensures) at c.in-Err.ensures.part)

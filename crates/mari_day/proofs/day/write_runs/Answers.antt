@@ -1,0 +1,28 @@
+use Rattle.std.proofs.Common.{◌≡◌, ◌∙◌, ◌+◌, ◌<◌, ◌≤◌, ℕ, inr, length, ap, sym, arith}
+use Rattle.mari_day.specs.Before.{run_behind}
+use Rattle.mari_day.proofs.Texts.{block-more, step-stops}
+use Rattle.mari_day.proofs.day.write_runs.Goals as goal
+
+pub step-requires-clause-stands : goal.step-requires-clause-stands
+step-requires-clause-stands g c = let w = c.loop-run.invariant.wrote in (w.blocks, w.progress, ap (λ n. n + 1) (sym w.counted))
+
+pub loop-run-preserved : goal.loop-run-preserved
+loop-run-preserved g c =
+    let w = c.loop-run.invariant.wrote in
+    let more = c.in-Ok.ensures.stepped w.blocks w.progress (ap (λ n. n + 1) (sym w.counted)) in
+    record {
+      wrote = block-more c.args.books.now c.args.budget c.loop-run.run c.loop-run.progress _ _ w _ _ more;
+      faults = omega (arith, c.loop-run.invariant.faults, c.in-Ok.ensures.cause.later);
+      ready = c.in-Ok.ensures.ready;
+    }
+
+pub returns-in-Err-clause-stopped : goal.returns-in-Err-clause-stopped
+returns-in-Err-clause-stopped g c =
+    let w = c.loop-run.invariant.wrote in
+    let stops = c.in-Err.ensures.stepped w.blocks w.progress (ap (λ n. n + 1) (sym w.counted)) in
+    step-stops c.args.books.now c.args.budget c.loop-run.run c.loop-run.progress _ _ w c.step.new.progress _ _ (omega (arith, c.run_count-run-end.ensures)) stops
+
+pub returns-clause-written : goal.returns-clause-written
+returns-clause-written g c =
+    let w = c.loop-run.invariant.wrote in
+    record { blocks = w.blocks; progress = w.progress; counted = omega (arith, w.counted, w.progress.part.few, c.run_count-run-end.ensures, c.loop-run-test.false); taken = w.taken }

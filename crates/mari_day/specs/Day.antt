@@ -1,0 +1,93 @@
+-- The day of books within a budget of nodes, a part of it, and their texts.
+use Rattle.std.specs.Prelude.{ℕ, ◌≡◌, ◌<◌, ◌≤◌, ◌⊎◌, List, Option, Some, ◌++◌, length, slice_get, take}
+use Rattle.std.specs.List.{flat_map}
+use Rattle.std.specs.Option.{option_map}
+use Rattle.mari_publish.specs.declared.publication.Block.{Block}
+use Rattle.mari_publish.specs.declared.publication.Publication.{Publication}
+use Rattle.mari_publish.specs.Lines.{published_in, unpublished_in}
+use Rattle.mari_publish.specs.Ranges.{HasText}
+use Rattle.mari_publish.specs.Spelling.{block_text_of, head_text_of, text_of}
+use Rattle.mari_remain.specs.declared.books.Books.{Books}
+use Rattle.mari_market.specs.SearchTree.{HasSize}
+use Rattle.mari_day.specs.Before.{market_behind}
+use Rattle.mari_day.specs.Published.{IsBlock}
+use Rattle.mari_day.specs.Totals.{operator_totals, provider_totals}
+use Rattle.mari_day.specs.declared.text.PrintedDay.{PrintedDay}
+use Rattle.mari_day.specs.declared.day.DayEnd.{DayEnd}
+use Rattle.mari_day.specs.declared.day.DayEnd.TheVariants.{Done, WriteFault, Memory}
+
+-- the blocks of a day part: those of the first runs in order, each behind the blocks printed before it
+pub record IsDayPart (books : Books) (budget : ℕ) (blocks : List Block) : Type 0 where
+  pub few : length blocks ≤ length books.runs.runs
+  pub each : (k : ℕ) (b : Block) → slice_get blocks k ≡ Some b → IsBlock books budget (take k blocks) b
+
+-- a day: the date, the quarters and the budget, a block for every run, and the sums over the published blocks
+pub record IsDay (books : Books) (nodes : ℕ) (p : Publication) : Type 0 where
+  pub date : p.date ≡ books.date
+  pub quarters : p.quarters ≡ books.quarters
+  pub budget : p.budget ≡ nodes
+  pub part : IsDayPart books nodes p.blocks
+  pub every : length p.blocks ≡ length books.runs.runs
+  pub operators : p.operators ≡ operator_totals books p.blocks
+  pub providers : p.providers ≡ provider_totals books p.blocks
+
+-- the text of a day part: the head and the blocks
+abbrev pub part_text : Books → (budget : ℕ) → List Block → List ℕ
+part_text books budget blocks = head_text_of books.date books.quarters budget ++ flat_map block_text_of blocks
+
+-- the text is that of a day part, or of a day
+pub record IsPartText (books : Books) (budget : ℕ) (text : List ℕ) : Type 0 where
+  pub blocks : List Block
+  pub part : IsDayPart books budget blocks
+  pub spelled : text ≡ part_text books budget blocks
+
+pub record IsDayText (books : Books) (budget : ℕ) (text : List ℕ) : Type 0 where
+  pub publication : Publication
+  pub day : IsDay books budget publication
+  pub in_range : HasText publication
+  pub spelled : text ≡ text_of publication
+
+-- the sink has taken this text too
+abbrev pub then_took : Option (List ℕ) → List ℕ → Option (List ℕ)
+then_took taken text = option_map (λ t. t ++ text) taken
+
+-- a day was written whole, with so many published blocks and so many others
+pub record WroteDay (books : Books) (budget published unpublished : ℕ) (before after : Option (List ℕ)) : Type 0 where
+  pub publication : Publication
+  pub day : IsDay books budget publication
+  pub in_range : HasText publication
+  pub counted : published ≡ published_in publication.blocks
+  pub others : unpublished ≡ unpublished_in publication.blocks
+  pub taken : after ≡ then_took before (text_of publication)
+
+-- a first part of the text of a day part, or of a day, was written
+pub record WrotePrefix (books : Books) (budget : ℕ) (before after : Option (List ℕ)) : Type 0 where
+  pub text : List ℕ
+  pub is_text : IsPartText books budget text ⊎ IsDayText books budget text
+  pub count : ℕ
+  pub taken : after ≡ then_took before (take count text)
+
+-- the head and whole blocks were written
+pub record WrotePart (books : Books) (budget : ℕ) (before after : Option (List ℕ)) : Type 0 where
+  pub text : List ℕ
+  pub is_text : IsPartText books budget text
+  pub taken : after ≡ then_took before text
+
+-- what a sink has taken of a day, by how it ended
+abbrev pub EndsDay : Books → (budget : ℕ) → (before after : Option (List ℕ)) → DayEnd → Type 0
+EndsDay books budget before after (Done published unpublished) = WroteDay books budget published unpublished before after
+EndsDay books budget before after WriteFault = WrotePrefix books budget before after
+EndsDay books budget before after Memory = (after ≡ before) ⊎ WrotePart books budget before after
+
+-- whatever blocks are printed, the budget holds the search tree of the market of the next run
+abbrev pub HasEnough : Books → (budget : ℕ) → Type 0
+HasEnough books budget = (blocks : List Block) → IsDayPart books budget blocks → length blocks < length books.runs.runs → (size : ℕ) × HasSize (market_behind books blocks).market size × (size ≤ budget)
+
+-- the text of a day, and how many of its blocks are published, and how many are not
+pub record IsPrintedDay (books : Books) (nodes : ℕ) (day : PrintedDay) : Type 0 where
+  pub publication : Publication
+  pub is_day : IsDay books nodes publication
+  pub in_range : HasText publication
+  pub text : day.text.items ≡ text_of publication
+  pub published : day.published ≡ published_in publication.blocks
+  pub unpublished : day.unpublished ≡ unpublished_in publication.blocks

@@ -1,0 +1,134 @@
+//! One run of a day: its market is made and cleared, and its block is written and added to what the day keeps.
+
+ghost use Rattle.std.specs.Prelude.{◌≡◌, ◌≤◌, ℕ, List, IfErr, IfOk, IsErr, OnErr, OnOk, Err, length, take};
+ghost use Rattle.mari_io.specs.Outside.{Counts};
+ghost use Rattle.mari_publish.specs.Ranges.{BlockFits};
+ghost use Rattle.mari_publish.specs.declared.publication.Block.{Block as PrintedBlock};
+ghost use Rattle.mari_remain.specs.Accepted.{IsAccepted};
+ghost use Rattle.mari_day.specs.Before.{run_behind};
+ghost use Rattle.mari_day.specs.Dated.{IsDated};
+ghost use Rattle.mari_day.specs.Day.{then_took};
+ghost use Rattle.mari_day.specs.Progress.{IsProgress, IsRunDone};
+ghost use Rattle.mari_day.specs.Stepped.{Stepped};
+
+use crate::block::{Settled, heading, published_run};
+use crate::progress::Progress;
+use crate::writing::write_all;
+use mari_io::Sink;
+use mari_market::{Cleared, Clearer};
+use mari_publish::{Block, block_text};
+use mari_remain::Books;
+use mari_units::Memory;
+use std::alloc::Global;
+
+/// Why a day ends before its totals: a write failed, or there was no memory.
+#[derive(Clone, Copy, Debug, PartialEq, Eq)]
+pub enum Stop {
+    Sink,
+    NoMemory,
+}
+
+impl From<Memory> for Stop {
+    ghost use Rattle.std.specs.Prelude.{◌≡◌};
+    ghost use Rattle.mari_day.specs.declared.step.Stop.TheVariants.{NoMemory};
+
+    ghost from_gives = { λ _ e. e ≡ NoMemory };
+
+    fn from(_: Memory) -> Self {
+        Stop::NoMemory
+    }
+}
+
+/// The block of a run, and what it adds to the day where it is published.
+#[derive(Drop)]
+pub struct RunDone {
+    pub block: Block,
+    pub settled: Option<Settled>,
+}
+
+/// Makes the market of a run behind the blocks so far, clears it, and makes its block.
+fn run_done<C: Clearer>(
+    alloc: Global,
+    books: &Books,
+    run: u32,
+    budget: u32,
+    progress: &Progress,
+    clearer: &mut C,
+) -> Result<RunDone, Memory>
+    requires accepted { IsAccepted books.now }
+    requires dated { IsDated books.now }
+    requires last { run ≤ length books.now.runs.runs }
+    requires stands { (blocks : List PrintedBlock) × IsProgress books.now budget blocks progress.now × (run ≡ run_behind blocks) }
+    requires budget { (1 ≤ budget) × (budget ≤ 50000) }
+    requires ready { C.ready clearer.old }
+    ensures done { (blocks : List PrintedBlock) → IsProgress books.now budget blocks progress.now → run ≡ run_behind blocks → IfOk result (IsRunDone books.now budget blocks) }
+    ensures fits { IfOk result (λ done. BlockFits done.block) }
+    ensures ready { C.ready clearer.new }
+{
+    let made = progress.remaining.market_of(alloc, books, run)?;
+    match clearer.clear(alloc, &made.market, budget) {
+        Cleared::Published(clearing) => {
+            let also = progress.also(books, run);
+            let done = published_run(alloc, books, run, made, clearing, also)?;
+            Ok(RunDone {
+                block: Block::Published(done.block),
+                settled: Some(done.settled),
+            })
+        }
+        Cleared::Spent(spent) => {
+            let count = spent.items.as_slice().len() as u32;
+            Ok(RunDone {
+                block: Block::Unpublished(heading(books, run), count),
+                settled: None,
+            })
+        }
+        Cleared::Memory => Err(Memory),
+    }
+}
+
+/// Writes a text, whose failure ends the day.
+pub fn write_text<K: Sink>(sink: &mut K, text: &[u8]) -> Result<(), Stop>
+    ensures whole { OnOk result (K.taken sink.new ≡ then_took (K.taken sink.old) text.now) }
+    ensures part { OnErr result ((n : ℕ) × (K.taken sink.new ≡ then_took (K.taken sink.old) (take n text.now))) }
+    ensures error { IfErr result (λ stop. stop ≡ Stop.Sink) }
+    ensures cause { Counts (IsErr result) (K.faults sink.old) (K.faults sink.new) }
+{
+    match write_all(sink, text) {
+        Ok(()) => Ok(()),
+        Err(_) => Err(Stop::Sink),
+    }
+}
+
+/// Clears a run, writes its block, and adds it to what the day keeps.
+pub fn step<C: Clearer, K: Sink>(
+    alloc: Global,
+    books: &Books,
+    run: u32,
+    budget: u32,
+    progress: &mut Progress,
+    clearer: &mut C,
+    sink: &mut K,
+) -> Result<(), Stop>
+    requires accepted { IsAccepted books.now }
+    requires dated { IsDated books.now }
+    requires last { run ≤ length books.now.runs.runs }
+    requires stands { (blocks : List PrintedBlock) × IsProgress books.now budget blocks progress.old × (run ≡ run_behind blocks) }
+    requires budget { (1 ≤ budget) × (budget ≤ 50000) }
+    requires ready { C.ready clearer.old }
+    ensures stepped { (blocks : List PrintedBlock) → IsProgress books.now budget blocks progress.old → run ≡ run_behind blocks
+        → Stepped books.now budget blocks progress.new (K.taken sink.old) (K.taken sink.new) result }
+    ensures cause { Counts (result ≡ Err Stop.Sink) (K.faults sink.old) (K.faults sink.new) }
+    ensures ready { C.ready clearer.new }
+{
+    let done = run_done(alloc, books, run, budget, progress, clearer)?;
+    let text = block_text(alloc, &done.block)?;
+    write_text(sink, &text)?;
+    let RunDone { settled, .. } = done;
+    match settled {
+        Some(settled) => {
+            progress.add(books, run, settled);
+            Ok(())
+        }
+        None => Ok(()),
+    }
+}

@@ -26,11 +26,13 @@ fn border_remainder_for_a_direct_run(rt: HostRuntime) -> Result<(), Fail> {
         demands: "run,zone,mw,price\n1,B,80,\n2,B,10,\n",
         ..TWO_ZONES
     };
-    let lines = "run 2 1 direct published\nwelfare 99939000\nzone A 20.00 -99999.00 20.00 1\nzone B 60.00 60.00 60.00 2\nborder A B 0 0.0000\nbid a1 0\nbid b1 10\ndemand 1 10\n";
+    let lines =
+        "run 2 1 direct published\nwelfare 99939000\nzone A 20.00 -99999.00 20.00 1\nzone B 60.00 60.00 60.00 2\nborder A B 0 0.0000\nbid a1 0\nbid b1 10\ndemand 1 10\n";
     prints(&rt, rt.alloc(), folder, lines)
 }
 
-const LINKED_BIDS: &str = "id,provider,zone,quarter,direction,price,least,greatest,kind\ny,P,Z,1,up,10.00,0,10,both\nw,P,Z,2,up,20.00,0,10,both\nx,P,Z,3,up,20.00,0,10,both\nz,P,Z,3,up,15.00,0,10,both\nv,P,Z,3,up,50.00,0,100,both\n";
+const LINKED_BIDS: &str =
+    "id,provider,zone,quarter,direction,price,least,greatest,kind\ny,P,Z,1,up,10.00,0,10,both\nw,P,Z,2,up,20.00,0,10,both\nx,P,Z,3,up,20.00,0,10,both\nz,P,Z,3,up,15.00,0,10,both\nv,P,Z,3,up,50.00,0,100,both\n";
 
 const LINKED: Folder<'static> = Folder {
     bids: LINKED_BIDS,
@@ -45,7 +47,8 @@ fn links_across_quarters(rt: HostRuntime) -> Result<(), Fail> {
         demands: "run,zone,mw,price\n1,Z,5,\n2,Z,20,\n",
         ..LINKED
     };
-    let lines = "run 2 3 scheduled published\nwelfare 199928000\nzone Z 50.00 50.00 50.00 1\nbid x 10\nbid v 10\ndemand 1 20\n";
+    let lines =
+        "run 2 3 scheduled published\nwelfare 199928000\nzone Z 50.00 50.00 50.00 1\nbid x 10\nbid v 10\ndemand 1 20\n";
     prints(&rt, rt.alloc(), folder, lines)?;
 
     // Without the first demand y isn't activated.
@@ -53,7 +56,8 @@ fn links_across_quarters(rt: HostRuntime) -> Result<(), Fail> {
         demands: "run,zone,mw,price\n2,Z,20,\n",
         ..folder
     };
-    let lines = "run 2 3 scheduled published\nwelfare 199933000\nzone Z 50.00 50.00 50.00 1\nbid z 10\nbid v 10\ndemand 1 20\n";
+    let lines =
+        "run 2 3 scheduled published\nwelfare 199933000\nzone Z 50.00 50.00 50.00 1\nbid z 10\nbid v 10\ndemand 1 20\n";
     prints(&rt, rt.alloc(), folder, lines)
 }
 
@@ -64,14 +68,16 @@ fn technical_link_after_a_scheduled_and_after_a_direct_run(rt: HostRuntime) -> R
         demands: "run,zone,mw,price\n1,Z,5,\n",
         ..LINKED
     };
-    let lines = "run 2 2 scheduled published\nwelfare 0\nzone Z 20.00 -99999.00 20.00 1\nbid w 0\ntree 1\n";
+    let lines =
+        "run 2 2 scheduled published\nwelfare 0\nzone Z 20.00 -99999.00 20.00 1\nbid w 0\ntree 1\n";
     prints(&rt, rt.alloc(), folder, lines)?;
 
     let folder = Folder {
         runs: "run,quarter,kind,reference\n1,1,direct,40.00\n2,2,scheduled,40.00\n",
         ..folder
     };
-    let lines = "run 2 2 scheduled published\nwelfare 0\nzone Z 40.00 -99999.00 99999.00 1\ntree 1\n";
+    let lines =
+        "run 2 2 scheduled published\nwelfare 0\nzone Z 40.00 -99999.00 99999.00 1\ntree 1\n";
     prints(&rt, rt.alloc(), folder, lines)
 }
 
@@ -82,7 +88,8 @@ fn day_without_runs(rt: HostRuntime) -> Result<(), Fail> {
         demands: "run,zone,mw,price\n",
         ..ONE_ZONE
     };
-    let printed = "mari 1 2025-03-12 96 10000\ntotal-operator T 0.0000 0.0000 0.0000\ntotal-provider P 0.0000\ndone 0 0\n";
+    let printed =
+        "mari 1 2025-03-12 96 10000\ntotal-operator T 0.0000 0.0000 0.0000\ntotal-provider P 0.0000\ndone 0 0\n";
     clears(&rt, rt.alloc(), folder, 0, printed)
 }
 
@@ -94,9 +101,11 @@ fn pay_of_a_direct_run(rt: HostRuntime) -> Result<(), Fail> {
         demands: "run,zone,mw,price\n1,Z,30,\n2,Z,40,\n",
         ..ONE_ZONE
     };
-    let lines = "run 2 1 direct published\nwelfare 399876000\nzone Z 40.00 30.00 50.00 1\nbid i1 40\nbid u1 0\ndemand 1 40\n";
+    let lines =
+        "run 2 1 direct published\nwelfare 399876000\nzone Z 40.00 30.00 50.00 1\nbid i1 40\nbid u1 0\ndemand 1 40\n";
     prints(&rt, rt.alloc(), folder, lines)?;
-    let lines = "operator T 0.0000 0.0000 0.0000\nprovider P 500.0000\nend 2\ntotal-operator T 0.0000 0.0000 0.0000\ntotal-provider P 875.0000\ndone 2 0\n";
+    let lines =
+        "operator T 0.0000 0.0000 0.0000\nprovider P 500.0000\nend 2\ntotal-operator T 0.0000 0.0000 0.0000\ntotal-provider P 875.0000\ndone 2 0\n";
     prints(&rt, rt.alloc(), folder, lines)
 }
 
@@ -109,7 +118,8 @@ fn direct_run_without_a_scheduled_price(rt: HostRuntime) -> Result<(), Fail> {
         demands: "run,zone,mw,price\n1,Z,10,\n2,Z,10,\n",
         ..ONE_ZONE
     };
-    let lines = "operator T 0.0000 0.0000 0.0000\nprovider P 125.0000\nend 2\ntotal-operator T 0.0000 0.0000 0.0000\ntotal-provider P 350.0000\ndone 2 0\n";
+    let lines =
+        "operator T 0.0000 0.0000 0.0000\nprovider P 125.0000\nend 2\ntotal-operator T 0.0000 0.0000 0.0000\ntotal-provider P 350.0000\ndone 2 0\n";
     prints(&rt, rt.alloc(), folder, lines)
 }
 

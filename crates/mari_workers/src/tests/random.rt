@@ -52,7 +52,9 @@ impl Dice {
     }
 
     /// The group and the parent of a gate, each of which it may be without.
-    fn gate(&mut self, gate: u32) -> GateInfo {
+    fn gate(&mut self, gate: u32) -> GateInfo
+        requires { gate < 512 }
+    {
         let grouped = self.below(3) == 0;
         let group = self.below(2);
         let parent = self.below(3 + gate);

@@ -1,9 +1,10 @@
 -- The shelf and the sink in memory, as contracts see them.
-use Rattle.std.specs.Prelude.{◌==◌, ◌||◌, ◌&&◌, ℕ, ◌-◌, ◌++◌, Bool, nat_eq, nat_lt, min, List, length, map, take, Result}
+use Rattle.std.specs.Prelude.{◌==◌, ◌||◌, ◌&&◌, ℕ, zero, suc, ◌+◌, ◌-◌, ◌++◌, Bool, true, false, nat_eq, nat_lt, min, List, [], ◌∷◌, length, map, take, drop, unwrap_or, Option, Some, None, Result, Ok, Err}
 use Rattle.std.specs.List.{list_any}
-use Rattle.mari_io.specs.Outside.{Pages, counted, counted_if, is_failed, is_missing, is_too_long, taken_count}
+use Rattle.mari_io.specs.Outside.{Pages, page_of, counted, counted_if, is_failed, is_missing, is_too_long, taken_count}
 use Rattle.mari_io.specs.declared.page.Page.{Page}
 use Rattle.mari_io.specs.declared.plan.FaultPlan.{FaultPlan}
+use Rattle.mari_io.specs.declared.shelf.TheConstants.{MOST_GIVEN}
 use Rattle.mari_io.specs.declared.shelf.Fetch.{Fetch}
 
 -- each page by its name
@@ -14,7 +15,19 @@ pages_of pages = map (λ p. (p.name, p.bytes)) pages
 abbrev pub is_planned : FaultPlan → ℕ → Bool
 is_planned plan call = list_any (λ n. n == call) plan.calls
 
--- a shelf in memory: its pages, its plan, how many fetches were made, and its counts
+-- the bytes of the page at this place
+abbrev pub bytes_of : List Page → ℕ → List ℕ
+bytes_of [] place = []
+bytes_of (page ∷ pages) zero = page.bytes
+bytes_of (page ∷ pages) (suc place) = bytes_of pages place
+
+-- what is left of the page at this place behind so many bytes; nothing where no page was opened
+abbrev pub left_of : List Page → Option ℕ → ℕ → List ℕ
+left_of pages None given = []
+left_of pages (Some place) given = drop given (bytes_of pages place)
+
+-- a shelf in memory: its pages, its plan, how many calls were made, and its counts; the most bytes of a piece, whether a page
+-- was opened, what is left of it, and how many bytes of it were given
 pub record ShelfState : Type 0 where
   pub pages : Pages
   pub plan : FaultPlan
@@ -22,10 +35,33 @@ pub record ShelfState : Type 0 where
   pub faults : ℕ
   pub misses : ℕ
   pub overs : ℕ
+  pub piece : ℕ
+  pub is_open : Bool
+  pub left : List ℕ
+  pub given : ℕ
 
--- whether the plan names the next fetch
+-- a shelf of which nothing was asked yet
+abbrev pub new_shelf : Pages → FaultPlan → ℕ → ShelfState
+new_shelf pages plan piece = record {
+  pages = pages;
+  plan = plan;
+  calls = 0;
+  faults = 0;
+  misses = 0;
+  overs = 0;
+  piece = piece;
+  is_open = false;
+  left = [];
+  given = 0;
+}
+
+-- whether the plan names the next call
 abbrev pub fetch_fails : ShelfState → Bool
 fetch_fails s = is_planned s.plan (counted s.calls)
+
+-- a call that gave this fault
+abbrev pub refusal : Fetch → Result ℕ Fetch
+refusal fault = Err fault
 
 -- the shelf after a fetch
 abbrev pub after_fetch : {T : Type 0} → ShelfState → Result T Fetch → ShelfState
@@ -35,6 +71,20 @@ after_fetch s result = record s {
   misses = counted_if (is_missing result) s.misses;
   overs = counted_if (is_too_long result) s.overs;
 }
+
+-- the shelf after a page was opened or not
+abbrev pub after_open : {T : Type 0} → ShelfState → List ℕ → Result T Fetch → ShelfState
+after_open s name (Ok done) = record s { calls = counted s.calls; is_open = true; left = unwrap_or (page_of s.pages name) []; given = 0 }
+after_open s name (Err fault) = after_fetch s (refusal fault)
+
+-- how many bytes the next piece has: as many as a piece may have, as are left, and as may still be given
+abbrev pub piece_length : ShelfState → ℕ
+piece_length s = min s.piece (min (length s.left) (MOST_GIVEN - s.given))
+
+-- the shelf after a piece was given or not
+abbrev pub after_piece : ShelfState → Result ℕ Fetch → ShelfState
+after_piece s (Ok count) = record s { calls = counted s.calls; left = drop count s.left; given = s.given + count }
+after_piece s (Err fault) = after_fetch s (refusal fault)
 
 -- a sink in memory: what it took, how much it takes in a call and in all, its plan, how many writes were made, and its count
 pub record SinkState : Type 0 where

@@ -1,8 +1,9 @@
 -- What a shelf gives and what a sink takes, and the counts that show why one of them failed.
-use Rattle.std.specs.Prelude.{ℕ, zero, suc, ◌+◌, ◌-◌, ◌^◌, ◌≤◌, ◌<◌, ◌≡◌, Bool, true, false, min, List, [], ◌∷◌, ◌++◌, length, take, drop, Option, Some, None, Result, Ok, Err, if◌then◌else◌, IsSomeAnd, ⊤}
+use Rattle.std.specs.Prelude.{ℕ, zero, suc, ◌+◌, ◌-◌, ◌^◌, ◌≤◌, ◌<◌, ◌≡◌, ◌≢◌, ◌↔◌, Bool, true, false, min, List, [], ◌∷◌, ◌++◌, length, take, drop, Option, Some, None, Result, Ok, Err, if◌then◌else◌, IsSomeAnd, IsSome, ⊤}
 use Rattle.std.specs.Str.{bytes_eq}
 use Rattle.std.specs.Option.{option_map}
 use Rattle.mari_units.specs.declared.limits.TheConstants.{MOST_PAGE}
+use Rattle.mari_io.specs.declared.shelf.TheConstants.{MOST_GIVEN}
 use Rattle.mari_io.specs.declared.shelf.Fetch.{Fetch}
 use Rattle.mari_io.specs.declared.shelf.Fetch.TheVariants.{Failed, Missing, TooLong, Memory}
 
@@ -67,6 +68,34 @@ pub record AppendsAtMost (most : ℕ) (old new : List ℕ) : Type 0 where
 abbrev pub taken_count : {E : Type 0} → Result ℕ E → ℕ
 taken_count (Ok n) = n
 taken_count (Err e) = 0
+
+-- what opening a page answers where the page of that name is known: all of it is left
+abbrev pub OpenTells : {T : Type 0} → Option (List ℕ) → Option (List ℕ) → Result T Fetch → Type 0
+OpenTells page rest (Ok done) = IsSome page × (rest ≡ page)
+OpenTells page rest (Err Missing) = page ≡ None
+OpenTells page rest (Err TooLong) = ⊥
+OpenTells page rest (Err Failed) = ⊤
+OpenTells page rest (Err Memory) = IsSome page
+
+-- new is old with exactly so many bytes more
+pub record AppendsExactly (count : ℕ) (old new : List ℕ) : Type 0 where
+  pub front : take (length old) new ≡ old
+  pub more : length new ≡ length old + count
+
+-- the piece is the first bytes of what is left of the page, and is empty exactly at its end
+pub record IsPiece (left old new : List ℕ) (count : ℕ) : Type 0 where
+  pub bytes : new ≡ old ++ take count left
+  pub fits : count ≤ length left
+  pub at_end : (count ≡ 0) ↔ (left ≡ [])
+
+-- what is left of the page, where that is told, after a piece was given or not
+abbrev pub rest_after : {E : Type 0} → Option (List ℕ) → Result ℕ E → Option (List ℕ)
+rest_after rest result = option_map (λ left. drop (taken_count result) left) rest
+
+-- a page is too long to be given in pieces: as many bytes as may be were given, and where it is known what is left, some are
+abbrev pub IsOverlong : Option (List ℕ) → ℕ → Type 0
+IsOverlong None given = given ≡ MOST_GIVEN
+IsOverlong (Some left) given = (given ≡ MOST_GIVEN) × (left ≢ [])
 
 -- what was taken, where it is told
 abbrev pub taken_after : {E : Type 0} → Option (List ℕ) → List ℕ → Result ℕ E → Option (List ℕ)

@@ -1,7 +1,7 @@
 -- Real files and the real standard output: why the system's errors are told as they are, and what is counted.
-use Rattle.std.specs.Prelude.{ℕ, ◌&&◌, Bool, true, nat_eq, nat_lt, List, length, Result, Ok, Err}
+use Rattle.std.specs.Prelude.{ℕ, ◌+◌, ◌&&◌, Bool, true, false, nat_eq, nat_lt, List, length, Result, Ok, Err}
 use Rattle.std.specs.declared.io.ErrorKind.{ErrorKind}
-use Rattle.mari_io.specs.Outside.{counted, counted_if, is_failed, is_missing, is_too_long}
+use Rattle.mari_io.specs.Outside.{counted, counted_if, is_failed, is_missing, is_too_long, taken_count}
 use Rattle.mari_io.specs.declared.shelf.Fetch.{Fetch}
 use Rattle.mari_io.specs.declared.shelf.Fetch.TheVariants.{Failed, Missing, Memory}
 
@@ -16,21 +16,37 @@ abbrev pub fault_of_reading : ErrorKind → Fetch
 fault_of_reading ErrorKind.OutOfMemory = Memory
 fault_of_reading _ = Failed
 
--- what a shelf of real files counted: its fetches, and those that failed, found no file, or found one that is too long
+-- what a shelf of real files counted: its calls, and those that failed, found no file, or found one that is too long; whether
+-- a file was opened to be given in pieces, and how many bytes of it were given
 pub record DiskCounts : Type 0 where
   pub calls : ℕ
   pub faults : ℕ
   pub misses : ℕ
   pub overs : ℕ
+  pub is_open : Bool
+  pub given : ℕ
 
--- the counts after a fetch: that of fetches goes up, and that of its answer, if it has one
-abbrev pub after_disk_fetch : {T : Type 0} → DiskCounts → Result T Fetch → DiskCounts
-after_disk_fetch s result = record {
+-- a shelf of which nothing was asked yet
+abbrev pub new_disk : DiskCounts
+new_disk = record { calls = 0; faults = 0; misses = 0; overs = 0; is_open = false; given = 0 }
+
+-- the counts after a call: that of calls goes up, and that of its answer, if it has one
+abbrev pub after_disk_call : {T : Type 0} → DiskCounts → Result T Fetch → DiskCounts
+after_disk_call s result = record s {
   calls = counted s.calls;
   faults = counted_if (is_failed result) s.faults;
   misses = counted_if (is_missing result) s.misses;
   overs = counted_if (is_too_long result) s.overs;
 }
+
+-- a file was opened, of which nothing was given yet, or none was
+abbrev pub opened : {T : Type 0} → DiskCounts → Result T Fetch → DiskCounts
+opened s (Ok done) = record s { is_open = true; given = 0 }
+opened s (Err fault) = s
+
+-- a piece was given, or none was
+abbrev pub more_given : DiskCounts → Result ℕ Fetch → DiskCounts
+more_given s result = record s { given = s.given + taken_count result }
 
 -- what the standard output counted
 pub record PrintCount : Type 0 where

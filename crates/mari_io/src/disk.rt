@@ -1,21 +1,27 @@
 //! A shelf of real files.
 
-ghost use Rattle.std.specs.Prelude.{None, Some, Err, ◌≡◌, ◌++◌, ◌<◌, length, take, OnOk, OnErr, IfOk, IfErr, IsOk, IsErr, IfSome, IsErrOf};
+ghost use Rattle.std.specs.Prelude.{None, Some, Err, ◌≡◌, ◌≤◌, ◌+◌, ◌++◌, ◌<◌, ◌↔◌, List, ℕ, true, length, take, drop, OnOk, OnErr, IfOk, IfErr, IsOk, IsErr, IfSome, IsErrOf};
 ghost use Rattle.std.specs.IoError.{error_kind};
+ghost use Rattle.std.specs.Io.KnownBytes.{Consumes, Keeps, IsAtEnd};
 ghost use Rattle.mari_units.specs.declared.limits.TheConstants.{MOST_PAGE};
+ghost use Rattle.mari_io.specs.declared.shelf.TheConstants.{MOST_PIECE, MOST_GIVEN};
 ghost use Rattle.mari_io.specs.declared.shelf.Fetch.TheVariants.{Failed, Missing, TooLong};
-ghost use Rattle.mari_io.specs.Outside.{Counts, Pages, counted, page_of, FetchTells, AppendsAtMost};
-ghost use Rattle.mari_io.specs.System.{fault_of_opening, fault_of_reading, after_disk_fetch};
+ghost use Rattle.mari_io.specs.Outside.{Counts, Pages, counted, page_of, FetchTells, AppendsAtMost, OpenTells, AppendsExactly, IsPiece, rest_after, IsOverlong, taken_count};
+ghost use Rattle.mari_io.specs.System.{fault_of_opening, fault_of_reading, after_disk_call, new_disk, opened, more_given};
 
 #[cfg(test)]
 mod tests;
 
+use crate::shelf::MOST_GIVEN;
 use crate::{Fetch, Shelf};
 use mari_units::MOST_PAGE;
 use std::io::{ErrorKind, Read};
 use std::marker::Model;
 use std::rt::Files;
 use std::{fs, io};
+
+/// How many bytes of a file are read at once.
+const BUFFER: usize = 8192;
 
 /// Files by their paths. It tells no pages: what a file holds is trusted. Contracts see its counts.
 #[derive(Drop)]
@@ -25,20 +31,26 @@ pub struct DiskShelf<R: Files + Drop> {
     faults: u64,
     misses: u64,
     overs: u64,
+    file: Option<R::File>,
+    given: u64,
 }
 
 impl<R: Files + Drop> Model for DiskShelf<R> {
+    ghost use Rattle.std.specs.Prelude.{◌≤◌, is_some};
+    ghost use Rattle.mari_io.specs.declared.shelf.TheConstants.{MOST_GIVEN};
     ghost use Rattle.mari_io.specs.System.{DiskCounts};
 
     ghost Value = { DiskCounts };
 
-    ghost view = { λ s. record { calls = s.calls; faults = s.faults; misses = s.misses; overs = s.overs } };
+    ghost view = { λ s. record { calls = s.calls; faults = s.faults; misses = s.misses; overs = s.overs; is_open = is_some s.file; given = s.given } };
+
+    ghost invariant = { λ s. s.given ≤ MOST_GIVEN };
 }
 
 impl<R: Files + Drop> DiskShelf<R> {
-    /// A shelf that opens files by this runtime, and from which nothing was fetched yet.
+    /// A shelf that opens files by this runtime, and of which nothing was asked yet.
     pub fn new(rt: R) -> DiskShelf<R>
-        ensures { result ≡ record { calls = 0; faults = 0; misses = 0; overs = 0 } }
+        ensures { result ≡ new_disk }
     {
         DiskShelf {
             rt,
@@ -46,12 +58,14 @@ impl<R: Files + Drop> DiskShelf<R> {
             faults: 0,
             misses: 0,
             overs: 0,
+            file: None,
+            given: 0,
         }
     }
 
-    /// Counts what a fetch answered.
-    fn count(&mut self, answer: &Result<(), Fetch>)
-        ensures counts { self.new ≡ after_disk_fetch self.old answer.now }
+    /// Counts what a call answered.
+    fn count<T>(&mut self, answer: &Result<T, Fetch>)
+        ensures counts { self.new ≡ after_disk_call self.old answer.now }
         ensures failed { Counts (IsErrOf answer.now Failed) self.old.faults self.new.faults }
         ensures missing { Counts (IsErrOf answer.now Missing) self.old.misses self.new.misses }
         ensures too_long { Counts (IsErrOf answer.now TooLong) self.old.overs self.new.overs }
@@ -61,8 +75,46 @@ impl<R: Files + Drop> DiskShelf<R> {
             Err(Fetch::Failed) => self.faults = self.faults.saturating_add(1),
             Err(Fetch::Missing) => self.misses = self.misses.saturating_add(1),
             Err(Fetch::TooLong) => self.overs = self.overs.saturating_add(1),
-            Ok(()) | Err(Fetch::Memory) => {}
+            Ok(_) | Err(Fetch::Memory) => {}
         }
+    }
+
+    /// Opens the file of that path in place of the one that is open.
+    fn open_file(&mut self, name: &str) -> Result<(), Fetch>
+        ensures opened { self.new ≡ opened self.old result }
+        ensures not_too_long { IsErrOf result TooLong → ⊥ }
+    {
+        match fs::open(&self.rt, name) {
+            Ok(file) => {
+                self.file = Some(file);
+                self.given = 0;
+                Ok(())
+            }
+            Err(error) => Err(opening_fault(&error)),
+        }
+    }
+
+    /// Appends the next bytes of the file that is open, unless as many were given as may be.
+    fn read_on(&mut self, into: &mut Vec<u8>) -> Result<u32, Fetch>
+        requires open { self.old.is_open ≡ true }
+        ensures given { self.new ≡ more_given self.old result }
+        ensures limit { self.new.given ≤ MOST_GIVEN }
+        ensures ok { IfOk result (λ n. AppendsExactly n into.old.items into.new.items) }
+        ensures few { IfOk result (λ n. n ≤ MOST_PIECE) }
+        ensures err { OnErr result (into.new.items ≡ into.old.items) }
+        ensures not_missing { IsErrOf result Missing → ⊥ }
+        ensures over { IsErrOf result TooLong ↔ (self.old.given ≡ MOST_GIVEN) }
+    {
+        let most = MOST_GIVEN - self.given;
+        if most == 0 {
+            return Err(Fetch::TooLong);
+        }
+        let Some(file) = &mut self.file else {
+            unreachable!();
+        };
+        let count = read_piece(file, into, most)?;
+        self.given += u64::from(count);
+        Ok(count)
     }
 }
 
@@ -96,7 +148,7 @@ fn read_page<F: Read>(file: &mut F, into: &mut Vec<u8>) -> Result<(), Fetch>
     ensures too_long { IsErrOf result TooLong → IfSome (F.remaining file.old) (λ xs. MOST_PAGE < length xs) }
     ensures not_missing { IsErrOf result Missing → ⊥ }
 {
-    let mut buffer = [0u8; 8192];
+    let mut buffer = [0u8; BUFFER];
     let mut total = 0;
     for _ in 0..u64::MAX {
         let count = match file.read(&mut buffer) {
@@ -115,6 +167,32 @@ fn read_page<F: Read>(file: &mut F, into: &mut Vec<u8>) -> Result<(), Fetch>
         total += count;
     }
     Err(Fetch::Failed)
+}
+
+/// Appends the next bytes of a file, at most so many. Room for them is made before they are read, so that none is lost.
+fn read_piece<F: Read>(file: &mut F, into: &mut Vec<u8>, most: u64) -> Result<u32, Fetch>
+    requires some { 1 ≤ most }
+    ensures ok { IfOk result (λ n. AppendsExactly n into.old.items into.new.items) }
+    ensures few { IfOk result (λ n. (n ≤ most) × (n ≤ MOST_PIECE)) }
+    ensures bytes { OnOk result (Consumes (F.remaining file.old) (F.remaining file.new) (drop (length into.old.items) into.new.items)) }
+    ensures at_end { IfOk result (λ n. n ≡ 0 → IsAtEnd (F.remaining file.old)) }
+    ensures err { OnErr result (into.new.items ≡ into.old.items) }
+    ensures none_lost { OnErr result (Keeps (F.remaining file.old) (F.remaining file.new)) }
+    ensures not_missing { IsErrOf result Missing → ⊥ }
+    ensures not_too_long { IsErrOf result TooLong → ⊥ }
+{
+    let mut buffer = [0u8; BUFFER];
+    if into.reserve(BUFFER).is_err() {
+        return Err(Fetch::Memory);
+    }
+    let room = most.min(BUFFER as u64) as usize;
+    match file.read(&mut buffer[..room]) {
+        Ok(count) => {
+            into.extend_from_slice(&buffer[..count]).unwrap();
+            Ok(count as u32)
+        }
+        Err(error) => Err(reading_fault(&error)),
+    }
 }
 
 /// What the opening of a file comes to: its bytes are appended, or why they aren't is told, and nothing is.
@@ -156,6 +234,12 @@ impl<R: Files + Drop> Shelf for DiskShelf<R> {
 
     ghost overs = { λ s. s.overs };
 
+    ghost rest = { λ _. None };
+
+    ghost given = { λ s. s.given };
+
+    ghost is_open = { λ s. s.is_open };
+
     fn fetch(&mut self, name: &str, into: &mut Vec<u8>) -> Result<(), Fetch>
         ensures fetched { self.new.calls ≡ counted self.old.calls }
 
@@ -169,10 +253,71 @@ impl<R: Files + Drop> Shelf for DiskShelf<R> {
         ensures missing { Counts (IsErrOf result Missing) self.old.misses self.new.misses }
         ensures too_long { Counts (IsErrOf result TooLong) self.old.overs self.new.overs }
 
-        // The counts of fetches and of the answer go up by one, and no other count changes.
-        ensures counts { self.new ≡ after_disk_fetch self.old result }
+        // The file that is open stays open, and as much of it is left.
+        ensures open_stays { self.new.is_open ≡ self.old.is_open }
+        ensures given_stays { self.new.given ≡ self.old.given }
+
+        // The counts of calls and of the answer go up by one, and nothing else changes.
+        ensures counts { self.new ≡ after_disk_call self.old result }
     {
         let answer = fetch_opened(fs::open(&self.rt, name), into);
+        self.count(&answer);
+        answer
+    }
+
+    fn open_page(&mut self, name: &str) -> Result<(), Fetch>
+        ensures fetched { self.new.calls ≡ counted self.old.calls }
+
+        // What is open: that file, of which nothing was given; no page is told.
+        ensures open { OnOk result (self.new.is_open ≡ true) }
+        ensures given { OnOk result (self.new.given ≡ 0) }
+        ensures told { (told : Pages) → None ≡ Some told → OpenTells (page_of told name.now) None result }
+
+        // After an error, what was open.
+        ensures open_stays { OnErr result (self.new.is_open ≡ self.old.is_open) }
+        ensures given_stays { OnErr result (self.new.given ≡ self.old.given) }
+
+        // Why no file was opened; its length is no cause.
+        ensures failed { Counts (IsErrOf result Failed) self.old.faults self.new.faults }
+        ensures missing { Counts (IsErrOf result Missing) self.old.misses self.new.misses }
+        ensures too_long { Counts (IsErrOf result TooLong) self.old.overs self.new.overs }
+        ensures not_too_long { IsErrOf result TooLong → ⊥ }
+
+        // The counts of calls and of the answer go up by one, and only what is open changes with them.
+        ensures counts { self.new ≡ after_disk_call (opened self.old result) result }
+    {
+        let answer = self.open_file(name);
+        self.count(&answer);
+        answer
+    }
+
+    fn next_piece(&mut self, into: &mut Vec<u8>) -> Result<u32, Fetch>
+        requires open { self.old.is_open ≡ true }
+        ensures fetched { self.new.calls ≡ counted self.old.calls }
+
+        // What was given; it isn't told what was left.
+        ensures ok { IfOk result (λ n. AppendsExactly n into.old.items into.new.items) }
+        ensures few { IfOk result (λ n. n ≤ MOST_PIECE) }
+        ensures told { (left : List ℕ) → None ≡ Some left → IfOk result (λ n. IsPiece left into.old.items into.new.items n) }
+        ensures err { OnErr result (into.new.items ≡ into.old.items) }
+
+        // What is left: the rest of the same file.
+        ensures open_stays { self.new.is_open ≡ true }
+        ensures rest { None ≡ rest_after None result }
+        ensures given { self.new.given ≡ self.old.given + taken_count result }
+        ensures limit { self.new.given ≤ MOST_GIVEN }
+
+        // Why nothing was given; that there is no such file is no cause.
+        ensures failed { Counts (IsErrOf result Failed) self.old.faults self.new.faults }
+        ensures missing { Counts (IsErrOf result Missing) self.old.misses self.new.misses }
+        ensures not_missing { IsErrOf result Missing → ⊥ }
+        ensures too_long { Counts (IsErrOf result TooLong) self.old.overs self.new.overs }
+        ensures over { (IsErrOf result Failed → ⊥) → IsErrOf result TooLong ↔ IsOverlong None self.old.given }
+
+        // The counts of calls and of the answer go up by one, and only what was given changes with them.
+        ensures counts { self.new ≡ after_disk_call (more_given self.old result) result }
+    {
+        let answer = self.read_on(into);
         self.count(&answer);
         answer
     }

@@ -1,4 +1,5 @@
-//! The outside as two traits: a shelf that gives pages by their names, and a sink that takes bytes. Both count what went wrong,
+//! The outside as two traits: a shelf that gives pages by their names, whole or in pieces, and a sink that takes bytes. Both
+//! count what went wrong,
 //! so that whoever calls them can say why a call failed.
 //!
 //! In memory a shelf tells its pages and a sink what it took, and both fail by a plan; over real files and standard output
@@ -23,5 +24,5 @@ pub use memory_sink::MemorySink;
 pub use output::StdSink;
 pub use page::{Name64, Page};
 pub use plan::FaultPlan;
-pub use shelf::{Fetch, Shelf};
+pub use shelf::{Fetch, MOST_GIVEN, MOST_PIECE, Shelf};
 pub use sink::{Failed, Sink};

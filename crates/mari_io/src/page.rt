@@ -1,9 +1,8 @@
 //! Pages by their names.
 
-ghost use Rattle.std.specs.Prelude.{◌≡◌, ◌≤◌, ◌<◌, length, IfOk};
-ghost use Rattle.std.specs.Option.{option_copied};
+ghost use Rattle.std.specs.Prelude.{◌≡◌, ◌≤◌, ◌<◌, length, IfOk, MatchOption, Some, None, drop};
 ghost use Rattle.mari_io.specs.Outside.{page_of};
-ghost use Rattle.mari_io.specs.Memory.{pages_of};
+ghost use Rattle.mari_io.specs.Memory.{pages_of, bytes_of};
 
 use mari_units::{Items, Memory};
 use std::alloc::Global;
@@ -53,14 +52,32 @@ pub struct Page {
     pub bytes: Items<u8>,
 }
 
-/// The bytes of the first page of that name.
-pub fn find_page<'a>(pages: &'a [Page], name: &str) -> Option<&'a [u8]>
-    ensures { option_copied result ≡ page_of (pages_of pages.now) name.now }
+/// The place of the first page of that name.
+pub fn find_page(pages: &[Page], name: &str) -> Option<usize>
+    ensures { MatchOption result (page_of (pages_of pages.now) name.now ≡ None) (λ i. (i < length pages.now) × (page_of (pages_of pages.now) name.now ≡ Some (bytes_of pages.now i))) }
 {
-    for page in pages {
+    for (i, page) in pages.iter().enumerate() {
         if page.name.as_str() == name {
-            return Some(page.bytes.as_slice());
+            return Some(i);
         }
     }
     None
+}
+
+/// The bytes of the page at this place.
+pub fn bytes_at(pages: &[Page], place: usize) -> &[u8]
+    requires { place < length pages.now }
+    ensures { result.now ≡ bytes_of pages.now place }
+{
+    pages[place].bytes.as_slice()
+}
+
+/// What is left of the page at this place.
+pub fn left_at(pages: &[Page], place: usize, given: usize) -> &[u8]
+    requires place { place < length pages.now }
+    requires given { given ≤ length (bytes_of pages.now place) }
+    ensures { result.now ≡ drop given (bytes_of pages.now place) }
+{
+    let bytes = bytes_at(pages, place);
+    &bytes[given..]
 }

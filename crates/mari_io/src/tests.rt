@@ -62,3 +62,38 @@ fn the_real_standard_output_takes_a_line(rt: HostRuntime) {
     let mut sink = StdSink::new(rt);
     assert_eq!(rt; sink.write(b"taken\n"), Ok(6));
 }
+
+#[test]
+fn a_page_is_given_in_pieces_and_the_plan_numbers_all_calls(rt: HostRuntime) -> Result<(), Fail> {
+    let alloc = rt.alloc();
+    let pages = vec![in alloc; page(alloc, b"Z,T\nA".to_vec(alloc)?)?]?;
+    let mut shelf = MemoryShelf::with_piece(pages, plan(alloc, &[2, 6])?, 3);
+    let mut into = b"A".to_vec(alloc)?;
+    let mut whole = Vec::new(alloc);
+    assert_eq!(rt; shelf.open_page("F/bids.csv"), Err(Fetch::Missing));
+    assert_eq!(rt; shelf.open_page("F/zones.csv"), Err(Fetch::Failed));
+    assert_eq!(rt; shelf.open_page("F/zones.csv"), Ok(()));
+    assert_eq!(rt; shelf.next_piece(&mut into), Ok(3));
+    assert_eq!(rt; shelf.fetch("F/zones.csv", &mut whole), Ok(()));
+    assert_eq!(rt; shelf.next_piece(&mut into), Err(Fetch::Failed));
+    assert_eq!(rt; shelf.next_piece(&mut into), Ok(2));
+    assert_eq!(rt; shelf.next_piece(&mut into), Ok(0));
+    assert_eq!(rt; into.as_slice(), b"AZ,T\nA".as_slice());
+    assert_eq!(rt; whole.as_slice(), b"Z,T\nA".as_slice());
+    Ok(())
+}
+
+#[test]
+fn a_page_opened_again_is_given_from_its_start(rt: HostRuntime) -> Result<(), Fail> {
+    let alloc = rt.alloc();
+    let pages = vec![in alloc; page(alloc, vec![in alloc; b'Z'; 70_000]?)?]?;
+    let mut shelf = MemoryShelf::new(pages, plan(alloc, &[])?);
+    let mut into = Vec::new(alloc);
+    assert_eq!(rt; shelf.open_page("F/zones.csv"), Ok(()));
+    assert_eq!(rt; shelf.next_piece(&mut into), Ok(65_536));
+    assert_eq!(rt; shelf.open_page("F/zones.csv"), Ok(()));
+    assert_eq!(rt; shelf.next_piece(&mut into), Ok(65_536));
+    assert_eq!(rt; shelf.next_piece(&mut into), Ok(4_464));
+    assert_eq!(rt; shelf.next_piece(&mut into), Ok(0));
+    Ok(())
+}

@@ -1,6 +1,8 @@
 //! Real files, and what is counted of them.
 
-use super::{DiskShelf, fetch_opened};
+ghost use Rattle.std.specs.Prelude.{◌≡◌, true};
+
+use super::{DiskShelf, fetch_opened, read_piece};
 use crate::{Fetch, Shelf};
 use std::io::{ErrorKind, Read};
 use std::test::Fail;
@@ -86,6 +88,58 @@ fn short_reads_lose_nothing_and_a_fault_is_no_end(rt: HostRuntime) -> Result<(),
         let fetched = fetch_opened(Ok(Pieces { rest, most, fault }), &mut into);
         assert_eq!(rt; fetched, want);
         assert_eq!(rt; into.as_slice(), text.as_bytes());
+    }
+    Ok(())
+}
+
+/// The next piece of the file that is open.
+fn next(shelf: &mut DiskShelf<HostRuntime>, into: &mut Vec<u8>) -> Result<u32, Fetch>
+    requires { shelf.old.is_open ≡ true }
+    ensures { shelf.new.is_open ≡ true }
+{
+    shelf.next_piece(into)
+}
+
+/// What the first pieces of a real file are, and what they give together.
+fn first_pieces(rt: HostRuntime, path: &str) -> Result<([u32; 3], Vec<u8>), Fetch> {
+    let mut into = Vec::new(rt.alloc());
+    let mut shelf = DiskShelf::new(rt);
+    shelf.open_page(path)?;
+    let first = next(&mut shelf, &mut into)?;
+    let second = next(&mut shelf, &mut into)?;
+    let third = next(&mut shelf, &mut into)?;
+    Ok(([first, second, third], into))
+}
+
+#[test]
+fn a_real_file_is_given_in_pieces(rt: HostRuntime) -> Result<(), Fail> {
+    let path = "mari_io_test_pieces";
+    let mut text = vec![in rt.alloc(); b'Z'; 8_000]?;
+    text.extend_from_slice(vec![in rt.alloc(); b'Y'; 8_000]?.as_slice())?;
+    fs::write(&rt, path, text.as_slice())?;
+    let given = first_pieces(rt, path);
+    fs::remove_file(&rt, path)?;
+    assert_eq!(rt; given, Ok(([8_192, 7_808, 0], text)));
+    Ok(())
+}
+
+#[test]
+fn a_fault_between_pieces_is_no_end_of_the_file(rt: HostRuntime) -> Result<(), Fail> {
+    for (fault, want) in [
+        (ErrorKind::Other, Err(Fetch::Failed)),
+        (ErrorKind::OutOfMemory, Err(Fetch::Memory)),
+    ] {
+        let mut pieces = Pieces {
+            rest: b"done 1 0\n",
+            most: 4,
+            fault: Some(fault),
+        };
+        let mut into = Vec::new(rt.alloc());
+        assert_eq!(rt; read_piece(&mut pieces, &mut into, 3), Ok(3));
+        assert_eq!(rt; read_piece(&mut pieces, &mut into, 30), Ok(4));
+        assert_eq!(rt; read_piece(&mut pieces, &mut into, 30), Ok(2));
+        assert_eq!(rt; read_piece(&mut pieces, &mut into, 30), want);
+        assert_eq!(rt; into.as_slice(), b"done 1 0\n".as_slice());
     }
     Ok(())
 }

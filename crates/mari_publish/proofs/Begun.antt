@@ -21,17 +21,17 @@ use Rattle.mari_publish.specs.declared.held.Growing.{Growing}
 use Rattle.mari_publish.specs.declared.held.Ending.{Ending}
 use Rattle.mari_publish.specs.declared.held.Held.{Held}
 use Rattle.mari_publish.specs.declared.held.Held.TheVariants as held
-use Rattle.mari_publish.specs.declared.held.Part.{Part}
-use Rattle.mari_publish.specs.declared.held.Part.TheVariants as part
+use Rattle.mari_publish.specs.declared.publication.Part.{Part}
+use Rattle.mari_publish.specs.declared.publication.Part.TheVariants as part
 use Rattle.mari_publish.specs.declared.held.Kept.{Kept}
 use Rattle.mari_publish.specs.Faults.{Begins}
 use Rattle.mari_publish.specs.Ranges.{InRange, HasText, IsPriceLine, IsMoneyLine, Listed}
-use Rattle.mari_publish.specs.Order.{with_item, conflict_item, after_listing, after_growing, full_block, after, grown, front_lines}
+use Rattle.mari_publish.specs.Order.{kept_with, with_item, conflict_item, after_listing, after_growing, full_block, after, grown, front_lines}
 use Rattle.mari_publish.proofs.Counts.{counted}
 use Rattle.mari_publish.proofs.Gathered.{cons_all}
 use Rattle.mari_publish.proofs.Fits.{Fit, has_text}
 use Rattle.mari_publish.proofs.Follows.{if_true, and_true, kept_some, same}
-use Rattle.mari_publish.proofs.Whole.{all_back, all_push, Stands, kept_with, next}
+use Rattle.mari_publish.proofs.Whole.{all_back, all_push, Stands, next}
 
 shorter : (ls : List Line) (l : Line) → Begins (ls ++ l ∷ []) → Begins ls
 shorter ls l b = (b.0, l ∷ b.1, b.2, b.3 ∙ append_assoc ls (l ∷ []) b.1)

@@ -24,16 +24,16 @@ use Rattle.mari_publish.specs.declared.held.Growing.{Growing}
 use Rattle.mari_publish.specs.declared.held.Ending.{Ending}
 use Rattle.mari_publish.specs.declared.held.Held.{Held}
 use Rattle.mari_publish.specs.declared.held.Held.TheVariants as held
-use Rattle.mari_publish.specs.declared.held.Part.{Part}
-use Rattle.mari_publish.specs.declared.held.Part.TheVariants as part
+use Rattle.mari_publish.specs.declared.publication.Part.{Part}
+use Rattle.mari_publish.specs.declared.publication.Part.TheVariants as part
 use Rattle.mari_publish.specs.declared.held.Kept.{Kept}
 use Rattle.mari_publish.specs.Lines.{item_lines, demand_lines, market_lines, tree_lines, ending_lines, block_lines, closing_lines, published_in, unpublished_in, lines_of}
 use Rattle.mari_publish.specs.Ranges.{Between, HasText}
 use Rattle.mari_publish.specs.Faults.{Begins}
-use Rattle.mari_publish.specs.Order.{after_listing, after_ending, after_totals, keeps, after, grown, nothing_read, nothing_kept, and_then, after_all}
+use Rattle.mari_publish.specs.Order.{kept_with, after_listing, after_ending, after_totals, keeps, after, grown, nothing_read, nothing_kept, and_then, after_all}
 use Rattle.mari_publish.proofs.Fits.{blocks_within}
 use Rattle.mari_publish.proofs.Steps.{some}
-use Rattle.mari_publish.proofs.Whole.{Stands, kept_with, ones, others, IsWithinLimits}
+use Rattle.mari_publish.proofs.Whole.{Stands, ones, others, IsWithinLimits}
 
 abbrev So : Type 0
 So = Option (Publication × Kept)

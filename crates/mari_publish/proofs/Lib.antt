@@ -16,3 +16,7 @@ pub mod Follows
 pub mod Begun
 pub mod Progress
 pub mod Outcomes
+pub mod Lengths
+pub mod PartsGiven
+pub mod Pieces
+pub mod MoreText

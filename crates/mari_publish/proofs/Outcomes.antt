@@ -42,14 +42,14 @@ no_cut [] x a = not_feed 10 (and_parts _ (list_all (λ b. not (eqb b 10)) x) a).
 no_cut (c ∷ u) x a = no_cut u x (and_parts _ (list_all (λ b. not (eqb b 10)) (u ++ 10 ∷ x)) a).1
 
 -- the text of a first line, and of the others
-first_text : (l : Line) (ls : List Line) (y : List ℕ) → text_of_lines (l ∷ ls) ++ y ≡ spelling l ++ 10 ∷ (text_of_lines ls ++ y)
+pub first_text : (l : Line) (ls : List Line) (y : List ℕ) → text_of_lines (l ∷ ls) ++ y ≡ spelling l ++ 10 ∷ (text_of_lines ls ++ y)
 first_text l ls y = append_assoc (line_text l) (text_of_lines ls) y ∙ append_assoc (spelling l) (10 ∷ []) (text_of_lines ls ++ y)
 
-abbrev Longer : List Line → List Line → List ℕ → List ℕ → Type 0
+abbrev pub Longer : List Line → List Line → List ℕ → List ℕ → Type 0
 Longer A B X Y = (C : List Line) × (B ≡ A ++ C) × (X ≡ text_of_lines C ++ Y)
 
 -- two ways to begin a text: one is longer
-compare : (A B : List Line) (X Y : List ℕ) → Fit A → Fit B → text_of_lines A ++ X ≡ text_of_lines B ++ Y → Longer A B X Y ⊎ Longer B A Y X
+pub compare : (A B : List Line) (X Y : List ℕ) → Fit A → Fit B → text_of_lines A ++ X ≡ text_of_lines B ++ Y → Longer A B X Y ⊎ Longer B A Y X
 compare [] B X Y a b e = inl (B, refl, e)
 compare (l ∷ A) [] X Y a b e = inr (l ∷ A, refl, sym e)
 compare (l ∷ A) (m ∷ B) X Y a b e =
@@ -60,14 +60,14 @@ compare (l ∷ A) (m ∷ B) X Y a b e =
       | inr h ↦ inr (h.0, ap (λ z. z ∷ A) same ∙ ap (λ (ls : List Line). m ∷ ls) h.1, h.2)
     ]
 
-fit_begun : (ls : List Line) → Begins ls → Fit ls
+pub fit_begun : (ls : List Line) → Begins ls → Fit ls
 fit_begun ls b = all_front InRange ls b.1 (subst Fit b.3 (lines_in_range b.0 b.2))
 
 -- lines that begin a text, behind which no line goes on
-record Stop (text : List ℕ) (A : List Line) (R : List ℕ) : Type 0 where
-  parts : text ≡ text_of_lines A ++ R
-  begins : Begins A
-  stops : (c : Line) (C : List Line) (Y : List ℕ) → InRange c → Begins (A ++ c ∷ C) → R ≡ text_of_lines (c ∷ C) ++ Y → ⊥
+pub record Stop (text : List ℕ) (A : List Line) (R : List ℕ) : Type 0 where
+  pub parts : text ≡ text_of_lines A ++ R
+  pub begins : Begins A
+  pub stops : (c : Line) (C : List Line) (Y : List ℕ) → InRange c → Begins (A ++ c ∷ C) → R ≡ text_of_lines (c ∷ C) ++ Y → ⊥
 
 no_more : (text : List ℕ) (A B : List Line) (R S : List ℕ) → Stop text A R → Begins B → (C : List Line) → B ≡ A ++ C → R ≡ text_of_lines C ++ S → (A ≡ B) × (R ≡ S)
 no_more text A B R S s b [] e r = (sym (e ∙ append-nil A), r)
@@ -77,7 +77,7 @@ no_more text A B R S s b (c ∷ C) e r =
     absurd (s.stops c C S range longer r)
 
 -- two stops of a text are one
-one_stop : (text : List ℕ) (A B : List Line) (R S : List ℕ) → Stop text A R → Stop text B S → (A ≡ B) × (R ≡ S)
+pub one_stop : (text : List ℕ) (A B : List Line) (R S : List ℕ) → Stop text A R → Stop text B S → (A ≡ B) × (R ≡ S)
 one_stop text A B R S s t = elim (compare A B R S (fit_begun A s.begins) (fit_begun B t.begins) (sym s.parts ∙ t.parts)) [
   | inl h ↦ no_more text A B R S s t.begins h.0 h.1 h.2
   | inr h ↦ (let q = no_more text B A S R t s.begins h.0 h.1 h.2 in (sym q.0, sym q.1))
@@ -95,17 +95,17 @@ text_stop text p t = record {
   stops = λ c C Y r b e. not_empty (spelling c) (text_of_lines C ++ Y) (e ∙ first_text c C Y);
 }
 
-line_stop : (text : List ℕ) (n : ℕ) (a : BadLineAt text n) → Stop text a.before (a.here ++ 10 ∷ a.after)
+pub line_stop : (text : List ℕ) (n : ℕ) (a : BadLineAt text n) → Stop text a.before (a.here ++ 10 ∷ a.after)
 line_stop text n a = record {
   parts = a.parts;
   begins = a.begins;
   stops = λ c C Y r b e. a.formless c r (sym (line_cut a.here (spelling c) a.after (text_of_lines C ++ Y) a.whole (no_feed c r) (e ∙ first_text c C Y)).0);
 }
 
-order_text : (l : Line) (after : List ℕ) → line_text l ++ after ≡ spelling l ++ 10 ∷ after
+pub order_text : (l : Line) (after : List ℕ) → line_text l ++ after ≡ spelling l ++ 10 ∷ after
 order_text l after = append_assoc (spelling l) (10 ∷ []) after
 
-order_stop : (text : List ℕ) (n : ℕ) (a : BadOrderAt text n) → Stop text a.before (line_text a.here ++ a.after)
+pub order_stop : (text : List ℕ) (n : ℕ) (a : BadOrderAt text n) → Stop text a.before (line_text a.here ++ a.after)
 order_stop text n a = record {
   parts = a.parts;
   begins = a.begins;
@@ -115,7 +115,7 @@ order_stop text n a = record {
       a.misplaced (subst (λ z. Begins (a.before ++ z ∷ [])) is (b.0, C ++ b.1, b.2, b.3 ∙ append_assoc a.before (c ∷ C) b.1 ∙ sym (append_assoc a.before (c ∷ []) (C ++ b.1))));
 }
 
-truncated_stop : (text : List ℕ) (n : ℕ) (a : TruncatedAt text n) → Stop text a.before a.rest
+pub truncated_stop : (text : List ℕ) (n : ℕ) (a : TruncatedAt text n) → Stop text a.before a.rest
 truncated_stop text n a = record {
   parts = a.parts;
   begins = a.begins;
@@ -132,10 +132,10 @@ text_line text p n a b = not_empty b.here b.after (one_stop text _ _ _ _ (text_s
 text_order : (text : List ℕ) (p : Publication) (n : ℕ) → IsText text p → BadOrderAt text n → ⊥
 text_order text p n a b = not_empty (spelling b.here) b.after ((one_stop text _ _ _ _ (text_stop text p a) (order_stop text n b)).1 ∙ order_text b.here b.after)
 
-text_truncated : (text : List ℕ) (p : Publication) (n : ℕ) → IsText text p → TruncatedAt text n → ⊥
+pub text_truncated : (text : List ℕ) (p : Publication) (n : ℕ) → IsText text p → TruncatedAt text n → ⊥
 text_truncated text p n a b = let s = one_stop text _ _ _ _ (text_stop text p a) (truncated_stop text n b) in b.unfinished (sym s.1) p a.has s.0
 
-line_order : (text : List ℕ) (m n : ℕ) → BadLineAt text m → BadOrderAt text n → ⊥
+pub line_order : (text : List ℕ) (m n : ℕ) → BadLineAt text m → BadOrderAt text n → ⊥
 line_order text m n a b =
     let s = one_stop text _ _ _ _ (line_stop text m a) (order_stop text n b) in
     a.formless b.here b.in_range (sym (line_cut a.here (spelling b.here) a.after b.after a.whole (no_feed b.here b.in_range) (s.1 ∙ order_text b.here b.after)).0)
@@ -151,6 +151,16 @@ order_truncated text m n a b =
 number : (A B : List Line) (m n : ℕ) → A ≡ B → m ≡ length A + 1 → n ≡ length B + 1 → m ≡ n
 number A B m n e em en = em ∙ ap (λ (ls : List Line). length ls + 1) e ∙ sym en
 
+-- a fault of a kind stands at one line
+pub line_number : (text : List ℕ) (m n : ℕ) → BadLineAt text m → BadLineAt text n → m ≡ n
+line_number text m n a b = number _ _ m n (one_stop text _ _ _ _ (line_stop text m a) (line_stop text n b)).0 a.number b.number
+
+pub order_number : (text : List ℕ) (m n : ℕ) → BadOrderAt text m → BadOrderAt text n → m ≡ n
+order_number text m n a b = number _ _ m n (one_stop text _ _ _ _ (order_stop text m a) (order_stop text n b)).0 a.number b.number
+
+pub truncated_number : (text : List ℕ) (m n : ℕ) → TruncatedAt text m → TruncatedAt text n → m ≡ n
+truncated_number text m n a b = number _ _ m n (one_stop text _ _ _ _ (truncated_stop text m a) (truncated_stop text n b)).0 a.number b.number
+
 abbrev bad : TextFault → Result Publication TextFault
 bad f = Err f
 
@@ -163,7 +173,7 @@ text_answer text (Err fault.Memory) o p t = inr refl
 
 pub line_answer : (text : List ℕ) (result : Result Publication TextFault) → IsOutcome text result → (m : ℕ) → BadLineAt text m → Answers (Err (fault.BadLine m)) result
 line_answer text (Ok q) o m t = absurd (text_line text q m o t)
-line_answer text (Err (fault.BadLine n)) o m t = inl (ap (λ k. bad (fault.BadLine k)) (number _ _ n m (one_stop text _ _ _ _ (line_stop text n o) (line_stop text m t)).0 o.number t.number))
+line_answer text (Err (fault.BadLine n)) o m t = inl (ap (λ k. bad (fault.BadLine k)) (line_number text n m o t))
 line_answer text (Err (fault.BadOrder n)) o m t = absurd (line_order text m n t o)
 line_answer text (Err (fault.Truncated n)) o m t = absurd (line_truncated text m n t o)
 line_answer text (Err fault.Memory) o m t = inr refl
@@ -171,7 +181,7 @@ line_answer text (Err fault.Memory) o m t = inr refl
 pub order_answer : (text : List ℕ) (result : Result Publication TextFault) → IsOutcome text result → (m : ℕ) → BadOrderAt text m → Answers (Err (fault.BadOrder m)) result
 order_answer text (Ok q) o m t = absurd (text_order text q m o t)
 order_answer text (Err (fault.BadLine n)) o m t = absurd (line_order text n m o t)
-order_answer text (Err (fault.BadOrder n)) o m t = inl (ap (λ k. bad (fault.BadOrder k)) (number _ _ n m (one_stop text _ _ _ _ (order_stop text n o) (order_stop text m t)).0 o.number t.number))
+order_answer text (Err (fault.BadOrder n)) o m t = inl (ap (λ k. bad (fault.BadOrder k)) (order_number text n m o t))
 order_answer text (Err (fault.Truncated n)) o m t = absurd (order_truncated text m n t o)
 order_answer text (Err fault.Memory) o m t = inr refl
 
@@ -179,5 +189,5 @@ pub truncated_answer : (text : List ℕ) (result : Result Publication TextFault)
 truncated_answer text (Ok q) o m t = absurd (text_truncated text q m o t)
 truncated_answer text (Err (fault.BadLine n)) o m t = absurd (line_truncated text n m o t)
 truncated_answer text (Err (fault.BadOrder n)) o m t = absurd (order_truncated text n m o t)
-truncated_answer text (Err (fault.Truncated n)) o m t = inl (ap (λ k. bad (fault.Truncated k)) (number _ _ n m (one_stop text _ _ _ _ (truncated_stop text n o) (truncated_stop text m t)).0 o.number t.number))
+truncated_answer text (Err (fault.Truncated n)) o m t = inl (ap (λ k. bad (fault.Truncated k)) (truncated_number text n m o t))
 truncated_answer text (Err fault.Memory) o m t = inr refl

@@ -5,6 +5,7 @@ use Rattle.std.specs.List.{AllByRecursion}
 use Rattle.std.proofs.lemmas.List.{append-nil}
 use Rattle.std.proofs.lemmas.Grind.{flat_map-append}
 use Rattle.mari_units.specs.Names.{is_name}
+use Rattle.mari_publish.specs.declared.publication.Part.{Part}
 use Rattle.mari_publish.specs.declared.publication.Publication.{Publication}
 use Rattle.mari_publish.specs.declared.line.Line.{Line}
 use Rattle.mari_publish.specs.declared.held.Held.{Held}
@@ -13,8 +14,8 @@ use Rattle.mari_publish.specs.declared.held.Kept.{Kept}
 use Rattle.mari_publish.specs.declared.fault.TextFault.{TextFault}
 use Rattle.mari_publish.specs.declared.fault.TextFault.TheVariants as fault
 use Rattle.mari_publish.specs.declared.reading.Gathered.{Gathered}
-use Rattle.mari_publish.specs.declared.reading.LineFault.{LineFault}
-use Rattle.mari_publish.specs.declared.reading.LineFault.TheVariants as line_fault
+use Rattle.mari_publish.specs.declared.taking.LineFault.{LineFault}
+use Rattle.mari_publish.specs.declared.taking.LineFault.TheVariants as line_fault
 use Rattle.mari_publish.specs.Gathering.{seen, Took, Finishes}
 use Rattle.mari_publish.specs.Lines.{lines_of}
 use Rattle.mari_publish.specs.Ranges.{InRange}
@@ -69,7 +70,7 @@ pub has_room : (bytes rest : List ℕ) (n : ℕ) (p : Publication) (k : Kept) �
 has_room bytes rest n p k a = let c = counted p.blocks in let s = a.stands in room_in k.held p k.published k.unpublished (omega (arith, c, s.published, s.unpublished)) s.fits
 
 -- one line more
-more_text : (before : List Line) (l : Line) (here after : List ℕ) → spelling l ≡ here → text_of_lines before ++ (here ++ 10 ∷ after) ≡ text_of_lines (before ++ l ∷ []) ++ after
+pub more_text : (before : List Line) (l : Line) (here after : List ℕ) → spelling l ≡ here → text_of_lines before ++ (here ++ 10 ∷ after) ≡ text_of_lines (before ++ l ∷ []) ++ after
 more_text before l here after e =
     let one : text_of_lines (before ++ l ∷ []) ≡ text_of_lines before ++ (here ++ 10 ∷ []) = flat_map-append line_text before (l ∷ []) ∙ ap (λ (xs : List ℕ). text_of_lines before ++ xs) (append-nil (spelling l ++ 10 ∷ []) ∙ ap (λ (xs : List ℕ). xs ++ 10 ∷ []) e) in
     sym (ap (λ (xs : List ℕ). xs ++ after) one ∙ append_assoc (text_of_lines before) (here ++ 10 ∷ []) after ∙ ap (λ (xs : List ℕ). text_of_lines before ++ xs) (append_assoc here (10 ∷ []) after))
@@ -77,24 +78,22 @@ more_text before l here after e =
 pub shorter : (rest here after : List ℕ) → rest ≡ here ++ 10 ∷ after → length after < length rest
 shorter rest here after e = let len : length rest ≡ length here + (length after + 1) = ap length e ∙ length-append here (10 ∷ after) ∙ ap (λ m. length here + m) (omega arith) in omega (arith, len)
 
-pub forward : (bytes rest here after : List ℕ) (n : ℕ) (p q : Publication) (k r : Kept) → Progress bytes rest n p k → rest ≡ here ++ 10 ∷ after → Took p k here q (Ok r)
-    → Progress bytes after (n + 1) q r
-forward bytes rest here after n p q k r a parts t =
+pub forward : (bytes rest here after : List ℕ) (n : ℕ) (p : Publication) (k r : Kept) (x : Option Part) → Progress bytes rest n p k → rest ≡ here ++ 10 ∷ after → Took k here r (Ok x)
+    → Progress bytes after (n + 1) (grown p x) r
+forward bytes rest here after n p k r x a parts t =
     let l = t.0 in
-    let x = t.1 in
     let line_len : length (a.before ++ l ∷ []) ≡ length a.before + 1 = simp (length-append) in
-    let made : Progress bytes after (n + 1) (grown p x.1) x.0 = record {
+    record {
       before = a.before ++ l ∷ [];
-      parts = a.parts ∙ ap (λ (xs : List ℕ). text_of_lines a.before ++ xs) parts ∙ more_text a.before l here after t.3;
+      parts = a.parts ∙ ap (λ (xs : List ℕ). text_of_lines a.before ++ xs) parts ∙ more_text a.before l here after t.2;
       number_is = ap (λ m. m + 1) a.number_is ∙ sym (ap (λ m. m + 1) line_len);
-      fit = all_push InRange a.before l a.fit t.2;
-      came = came_more a.before p k l x a.came t.4;
-      stands = next a.before p k k.held l x a.stands t.4;
-    } in
-    subst (λ y. Progress bytes after (n + 1) q y) (sym t.6) (subst (λ y. Progress bytes after (n + 1) y x.0) (sym t.5) made)
+      fit = all_push InRange a.before l a.fit t.1;
+      came = came_more a.before p k l (r, x) a.came t.3;
+      stands = next a.before p k k.held l (r, x) a.stands t.3;
+    }
 
-pub bad_line : (bytes rest here after : List ℕ) (n : ℕ) (p q : Publication) (k : Kept) → Progress bytes rest n p k → Lacks 10 here → rest ≡ here ++ 10 ∷ after → (f : LineFault) → f ≡ line_fault.Form → Took p k here q (Err f) → BadLineAt bytes n
-bad_line bytes rest here after n p q k a whole parts f is took = let t = subst (λ g. Took p k here q (Err g)) is took in record {
+pub bad_line : (bytes rest here after : List ℕ) (n : ℕ) (p : Publication) (k r : Kept) → Progress bytes rest n p k → Lacks 10 here → rest ≡ here ++ 10 ∷ after → (f : LineFault) → f ≡ line_fault.Form → Took k here r (Err f) → BadLineAt bytes n
+bad_line bytes rest here after n p k r a whole parts f is took = let t = subst (λ g. Took k here r (Err g)) is took in record {
   before = a.before;
   here = here;
   after = after;
@@ -102,11 +101,11 @@ bad_line bytes rest here after n p q k a whole parts f is took = let t = subst (
   whole = whole;
   begins = begins a.before p k k.held a.stands a.fit;
   number = a.number_is;
-  formless = t;
+  formless = t.0;
 }
 
-pub bad_order : (bytes rest here after : List ℕ) (n : ℕ) (p q : Publication) (k : Kept) → Progress bytes rest n p k → rest ≡ here ++ 10 ∷ after → (f : LineFault) → f ≡ line_fault.Order → Took p k here q (Err f) → BadOrderAt bytes n
-bad_order bytes rest here after n p q k a parts f is took = let t = subst (λ g. Took p k here q (Err g)) is took in record {
+pub bad_order : (bytes rest here after : List ℕ) (n : ℕ) (p : Publication) (k r : Kept) → Progress bytes rest n p k → rest ≡ here ++ 10 ∷ after → (f : LineFault) → f ≡ line_fault.Order → Took k here r (Err f) → BadOrderAt bytes n
+bad_order bytes rest here after n p k r a parts f is took = let t = subst (λ g. Took k here r (Err g)) is took in record {
   before = a.before;
   here = t.0;
   after = after;

@@ -12,12 +12,12 @@ use Rattle.mari_publish.specs.declared.line.Line.TheVariants as line
 use Rattle.mari_publish.specs.declared.held.Ending.{Ending}
 use Rattle.mari_publish.specs.declared.held.Held.{Held}
 use Rattle.mari_publish.specs.declared.held.Held.TheVariants as held
-use Rattle.mari_publish.specs.declared.held.Part.{Part}
-use Rattle.mari_publish.specs.declared.held.Part.TheVariants as part
+use Rattle.mari_publish.specs.declared.publication.Part.{Part}
+use Rattle.mari_publish.specs.declared.publication.Part.TheVariants as part
 use Rattle.mari_publish.specs.declared.held.Kept.{Kept}
 use Rattle.mari_publish.specs.Lines.{item_lines, demand_lines, block_lines, published_in, unpublished_in}
 use Rattle.mari_publish.specs.Ranges.{Between}
-use Rattle.mari_publish.specs.Order.{ending_part, after_listing, after_growing, after_ending, after_totals, full_block, keeps, starts_block, after, grown, front_lines, lines_so_far}
+use Rattle.mari_publish.specs.Order.{ending_part, after_listing, after_growing, after_ending, after_totals, full_block, keeps, kept_with, starts_block, after, grown, front_lines, lines_so_far}
 use Rattle.mari_publish.proofs.Counts.{counted}
 use Rattle.mari_publish.proofs.Steps.{some_if, some_is, both, ListingFits, HeldFits, Moves, listing_step, growing_step, ending_step, totals_step}
 
@@ -69,9 +69,6 @@ pub record Stands (ls : List Line) (p : Publication) (k : Kept) (h : Held) : Typ
   pub unpublished : k.unpublished ≡ unpublished_in p.blocks
   pub blocks : AllByRecursion IsWithinLimits p.blocks
   pub runs : length p.blocks ≤ 1000
-
-abbrev pub kept_with : Kept → Held → Kept
-kept_with k h = record { held = h; published = k.published; unpublished = k.unpublished }
 
 moved : (ls : List Line) (p : Publication) (k : Kept) (h new : Held) (l : Line) → Stands ls p k h → Moves p h l new → Stands (ls ++ l ∷ []) p (kept_with k new) new
 moved ls p k h new l s m = record {

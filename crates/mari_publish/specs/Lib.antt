@@ -6,3 +6,5 @@ pub mod Order
 pub mod Faults
 pub mod Gathering
 pub mod Closing
+pub mod Pieces
+pub mod Handling

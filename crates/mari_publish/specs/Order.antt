@@ -19,8 +19,8 @@ use Rattle.mari_publish.specs.declared.held.Growing.{Growing}
 use Rattle.mari_publish.specs.declared.held.Ending.{Ending}
 use Rattle.mari_publish.specs.declared.held.Held.{Held}
 use Rattle.mari_publish.specs.declared.held.Held.TheVariants as held
-use Rattle.mari_publish.specs.declared.held.Part.{Part}
-use Rattle.mari_publish.specs.declared.held.Part.TheVariants as part
+use Rattle.mari_publish.specs.declared.publication.Part.{Part}
+use Rattle.mari_publish.specs.declared.publication.Part.TheVariants as part
 use Rattle.mari_publish.specs.declared.held.Kept.{Kept}
 use Rattle.mari_publish.specs.declared.follow.Refused.{Refused}
 use Rattle.mari_publish.specs.declared.follow.Refused.TheVariants as refused
@@ -191,11 +191,21 @@ abbrev pub after_all : Publication → Kept → List Line → Option (Publicatio
 after_all p k [] = Some (p, k)
 after_all p k (l ∷ ls) = and_then (after k k.held l) (λ x. after_all (grown p x.1) x.0 ls)
 
--- what a step gives is what it should give, or memory ran out
-abbrev pub Follows : {A : Type 0} → Option A → Result A Refused → Type 0
-Follows expected (Ok x) = expected ≡ Some x
-Follows expected (Err refused.Order) = expected ≡ None
-Follows expected (Err refused.Memory) = ⊤
+-- what is kept, with this in place of what is held
+abbrev pub kept_with : Kept → Held → Kept
+kept_with k h = record { held = h; published = k.published; unpublished = k.unpublished }
+
+-- what is held becomes what it should, or stays as it is: the line may not follow, or memory ran out
+abbrev pub Steps : {T : Type 0} → Option Held → Held → Held → Result T Refused → Type 0
+Steps expected old new (Ok done) = expected ≡ Some new
+Steps expected old new (Err refused.Order) = (expected ≡ None) × (new ≡ old)
+Steps expected old new (Err refused.Memory) = new ≡ old
+
+-- the same of what is kept, with the part that is whole
+abbrev pub Follows : Option (Kept × Option Part) → Kept → Kept → Result (Option Part) Refused → Type 0
+Follows expected old new (Ok x) = expected ≡ Some (new, x)
+Follows expected old new (Err refused.Order) = (expected ≡ None) × (new ≡ old)
+Follows expected old new (Err refused.Memory) = new ≡ old
 
 -- in a block there is room for it among the runs
 abbrev pub HasRoom : Held → ℕ → ℕ → Type 0
@@ -204,6 +214,3 @@ HasRoom (held.Listing b) m n = m + n < 1000
 HasRoom (held.Growing g) m n = m + n < 1000
 HasRoom (held.Ending e) m n = m + n < 1000
 HasRoom _ m n = ⊤
-
-abbrev pub counts : ℕ → ℕ → Kept
-counts m n = record { held = held.Done; published = m; unpublished = n }

@@ -1,17 +1,19 @@
-//! Which line may follow, and what has come with it.
+//! Which line may follow, and what has come with it. A line that is refused changes nothing.
 
-ghost use Rattle.std.specs.Prelude.{◌≡◌, ◌<◌, ◌≤◌, ◌+◌, ◌∷◌, ◌++◌, [], length, nat_lt, if◌then◌else◌, Option, Some, None, IfOk};
-ghost use Rattle.mari_publish.specs.Order.{after, after_growing, after_listing, after_ending, after_totals, with_item, conflict_item, full_block as full_block_of, starts_block, keeps, Follows, HasRoom, counts};
+ghost use Rattle.std.specs.Prelude.{◌≡◌, ◌<◌, ◌≤◌, ◌+◌, ◌∷◌, ◌++◌, [], length, nat_lt, if◌then◌else◌, Option, Some, None, OnOk, OnErr, IsOk, Ok, Err, MatchResult, true, vec_len, vec_capacity};
+ghost use Rattle.mari_publish.specs.Order.{after, after_growing, after_listing, after_ending, after_totals, with_item, with_pending, conflict_item, full_block as full_block_of, starts_block, keeps, kept_with, Steps, Follows, HasRoom};
+ghost use Rattle.mari_publish.specs.declared.held.Held.TheVariants as held_as;
 ghost use Rattle.mari_publish.specs.declared.held.Held.{Held as HeldValue};
 
-use crate::held::{Ending, Growing, Held, Kept, Listing, Part, Pending};
+use crate::held::{Ending, Growing, Held, Kept, Listing, Pending};
 use crate::line::Line;
 use crate::publication::{
-    AmountLine, BidLine, Block, BorderLine, FullBlock, Heading, MoneyLine, ZoneLine,
+    AmountLine, BidLine, Block, BorderLine, FullBlock, Heading, MoneyLine, Part, ZoneLine,
 };
 use mari_market::{Activation, Conflict, Leaf, Prices, TreeItem};
 use mari_units::{Cents, Items, Memory};
 use std::alloc::Global;
+use std::mem;
 
 /// Why a line does not go on.
 #[derive(Clone, Copy, Debug, PartialEq, Eq)]
@@ -31,13 +33,22 @@ impl From<Memory> for Refused {
     }
 }
 
-/// A list with one item more.
-fn pushed<T: Drop>(items: Items<T>, item: T) -> Result<Items<T>, Memory>
-    ensures { IfOk result (λ list. list ≡ items ++ item ∷ []) }
+/// Appends an item. Without memory for it the list stays as it is.
+fn push<T: Drop>(alloc: Global, items: &mut Items<T>, item: T) -> Result<(), Memory>
+    ensures pushed { OnOk result (items.new ≡ items.old ++ item ∷ []) }
+    ensures same { OnErr result (items.new ≡ items.old) }
 {
-    let mut items = items.into_vec();
-    items.push(item)?;
-    Ok(Items::of(items))
+    let mut list = mem::replace(items, empty(alloc)).into_vec();
+    let pushed = list.push(item).is_ok();
+    *items = Items::of(list);
+    if pushed { Ok(()) } else { Err(Memory) }
+}
+
+/// Whether there was memory for an item, as a step's answer.
+fn more(pushed: Result<(), Memory>) -> Result<(), Refused>
+    ensures { MatchResult pushed (λ _. IsOk result) (λ _. result ≡ Err Refused.Memory) }
+{
+    Ok(pushed?)
 }
 
 fn empty<T>(alloc: Global) -> Items<T>
@@ -47,10 +58,9 @@ fn empty<T>(alloc: Global) -> Items<T>
 }
 
 /// A zone's line in a block before its tree.
-fn zone_line(block: Listing, zone: ZoneLine) -> Result<Held, Refused>
-    ensures { Follows (after_listing block (Line.Zone zone)) result }
+fn zone_line(alloc: Global, block: &mut Listing, zone: ZoneLine) -> Result<(), Refused>
+    ensures { Steps (after_listing block.old (Line.Zone zone)) (held_as.Listing block.old) (held_as.Listing block.new) result }
 {
-    let mut block = block;
     if !block.borders.as_slice().is_empty() {
         return Err(Refused::Order);
     }
@@ -63,15 +73,13 @@ fn zone_line(block: Listing, zone: ZoneLine) -> Result<Held, Refused>
     if block.zones.as_slice().len() >= 64 {
         return Err(Refused::Order);
     }
-    block.zones = pushed(block.zones, zone)?;
-    Ok(Held::Listing(block))
+    Ok(push(alloc, &mut block.zones, zone)?)
 }
 
 /// A border's line in a block before its tree.
-fn border_line(block: Listing, border: BorderLine) -> Result<Held, Refused>
-    ensures { Follows (after_listing block (Line.Border border)) result }
+fn border_line(alloc: Global, block: &mut Listing, border: BorderLine) -> Result<(), Refused>
+    ensures { Steps (after_listing block.old (Line.Border border)) (held_as.Listing block.old) (held_as.Listing block.new) result }
 {
-    let mut block = block;
     if block.zones.as_slice().is_empty() {
         return Err(Refused::Order);
     }
@@ -84,15 +92,13 @@ fn border_line(block: Listing, border: BorderLine) -> Result<Held, Refused>
     if block.borders.as_slice().len() >= 256 {
         return Err(Refused::Order);
     }
-    block.borders = pushed(block.borders, border)?;
-    Ok(Held::Listing(block))
+    Ok(push(alloc, &mut block.borders, border)?)
 }
 
 /// A bid's line in a block before its tree.
-fn bid_line(block: Listing, bid: BidLine) -> Result<Held, Refused>
-    ensures { Follows (after_listing block (Line.Bid bid)) result }
+fn bid_line(alloc: Global, block: &mut Listing, bid: BidLine) -> Result<(), Refused>
+    ensures { Steps (after_listing block.old (Line.Bid bid)) (held_as.Listing block.old) (held_as.Listing block.new) result }
 {
-    let mut block = block;
     if block.zones.as_slice().is_empty() {
         return Err(Refused::Order);
     }
@@ -102,125 +108,200 @@ fn bid_line(block: Listing, bid: BidLine) -> Result<Held, Refused>
     if block.bids.as_slice().len() >= 4096 {
         return Err(Refused::Order);
     }
-    block.bids = pushed(block.bids, bid)?;
-    Ok(Held::Listing(block))
+    Ok(push(alloc, &mut block.bids, bid)?)
 }
 
 /// A demand's line in a block before its tree.
-fn demand_line(block: Listing, place: u32, mw: u32) -> Result<Held, Refused>
-    ensures { Follows (after_listing block (Line.Demand place mw)) result }
+fn demand_line(alloc: Global, block: &mut Listing, place: u32, mw: u32) -> Result<(), Refused>
+    ensures { Steps (after_listing block.old (Line.Demand place mw)) (held_as.Listing block.old) (held_as.Listing block.new) result }
 {
-    let mut block = block;
     if block.zones.as_slice().is_empty() {
         return Err(Refused::Order);
     }
     if u64::from(place) != block.demands.as_slice().len() as u64 + 1 {
         return Err(Refused::Order);
     }
-    block.demands = pushed(block.demands, mw)?;
-    Ok(Held::Listing(block))
+    Ok(push(alloc, &mut block.demands, mw)?)
+}
+
+/// The first line of a block's tree.
+fn count_line(alloc: Global, block: Listing, count: u32) -> (Held, Result<(), Refused>)
+    ensures { Steps (after_listing block (Line.Tree count)) (held_as.Listing block) result.0 result.1 }
+{
+    if block.zones.as_slice().is_empty() {
+        return (Held::Listing(block), Err(Refused::Order));
+    }
+    let growing = Growing {
+        listing: block,
+        count,
+        tree: empty(alloc),
+        pending: Pending::Nothing,
+    };
+    (Held::Growing(growing), Ok(()))
 }
 
 /// A line of a block before its tree.
-fn list_line(alloc: Global, block: Listing, line: Line) -> Result<Held, Refused>
-    ensures { Follows (after_listing block line) result }
+fn list_line(alloc: Global, block: Listing, line: Line) -> (Held, Result<(), Refused>)
+    ensures { Steps (after_listing block line) (held_as.Listing block) result.0 result.1 }
 {
+    let mut block = block;
     match line {
-        Line::Zone(zone) => zone_line(block, zone),
-        Line::Border(border) => border_line(block, border),
-        Line::Bid(bid) => bid_line(block, bid),
-        Line::Demand(place, mw) => demand_line(block, place, mw),
-        Line::Tree(count) => {
-            if block.zones.as_slice().is_empty() {
-                return Err(Refused::Order);
-            }
-            Ok(Held::Growing(Growing {
-                listing: block,
-                count,
-                tree: empty(alloc),
-                pending: Pending::Nothing,
-            }))
+        Line::Zone(zone) => {
+            let step = zone_line(alloc, &mut block, zone);
+            (Held::Listing(block), step)
         }
-        _ => Err(Refused::Order),
+        Line::Border(border) => {
+            let step = border_line(alloc, &mut block, border);
+            (Held::Listing(block), step)
+        }
+        Line::Bid(bid) => {
+            let step = bid_line(alloc, &mut block, bid);
+            (Held::Listing(block), step)
+        }
+        Line::Demand(place, mw) => {
+            let step = demand_line(alloc, &mut block, place, mw);
+            (Held::Listing(block), step)
+        }
+        Line::Tree(count) => count_line(alloc, block, count),
+        _ => (Held::Listing(block), Err(Refused::Order)),
     }
 }
 
 /// An item of one line.
-fn item_line(growing: Growing, item: TreeItem) -> Result<Held, Refused>
+fn item_line(alloc: Global, growing: Growing, item: TreeItem) -> (Held, Result<(), Refused>)
     requires { growing.pending ≡ Pending.Nothing }
-    ensures { Follows (if nat_lt (length growing.tree) growing.count then Some (with_item growing item) else None) result }
+    ensures { Steps (if nat_lt (length growing.tree) growing.count then Some (with_item growing item) else None) (held_as.Growing growing) result.0 result.1 }
 {
     let mut growing = growing;
     if growing.tree.as_slice().len() as u64 >= u64::from(growing.count) {
-        return Err(Refused::Order);
+        return (Held::Growing(growing), Err(Refused::Order));
     }
-    growing.tree = pushed(growing.tree, item)?;
-    Ok(Held::Growing(growing))
+    let step = more(push(alloc, &mut growing.tree, item));
+    (Held::Growing(growing), step)
 }
 
 /// The first of a conflict's lines.
-fn conflict_line(growing: Growing, zones: Items<u32>) -> Result<Held, Refused>
-    ensures { Follows (after_growing growing Pending.Nothing (Line.Conflict zones)) result }
+fn conflict_line(growing: Growing, zones: Items<u32>) -> (Held, Result<(), Refused>)
+    requires { growing.pending ≡ Pending.Nothing }
+    ensures { Steps (after_growing growing Pending.Nothing (Line.Conflict zones)) (held_as.Growing growing) result.0 result.1 }
 {
     let mut growing = growing;
     if growing.tree.as_slice().len() as u64 >= u64::from(growing.count) {
-        return Err(Refused::Order);
+        return (Held::Growing(growing), Err(Refused::Order));
     }
     growing.pending = Pending::Zones(zones);
-    Ok(Held::Growing(growing))
+    (Held::Growing(growing), Ok(()))
 }
 
 /// The first operator's line behind a tree.
-fn first_operator(alloc: Global, growing: Growing, operator: MoneyLine) -> Result<Held, Refused>
-    ensures { Follows (after_growing growing Pending.Nothing (Line.Operator operator)) result }
+fn first_operator(
+    alloc: Global,
+    growing: Growing,
+    operator: MoneyLine,
+) -> (Held, Result<(), Refused>)
+    requires { growing.pending ≡ Pending.Nothing }
+    ensures { Steps (after_growing growing Pending.Nothing (Line.Operator operator)) (held_as.Growing growing) result.0 result.1 }
 {
     if growing.tree.as_slice().len() as u64 != u64::from(growing.count) {
-        return Err(Refused::Order);
+        return (Held::Growing(growing), Err(Refused::Order));
     }
-    Ok(Held::Ending(Ending {
+    let mut operators = empty(alloc);
+    if push(alloc, &mut operators, operator).is_err() {
+        return (Held::Growing(growing), Err(Refused::Memory));
+    }
+    let ending = Ending {
         listing: growing.listing,
         tree: growing.tree,
-        operators: pushed(empty(alloc), operator)?,
+        operators,
         providers: empty(alloc),
-    }))
+    };
+    (Held::Ending(ending), Ok(()))
 }
 
 /// The first line of an item, or the first operator's line.
-fn due_line(alloc: Global, growing: Growing, line: Line) -> Result<Held, Refused>
+fn due_line(alloc: Global, growing: Growing, line: Line) -> (Held, Result<(), Refused>)
     requires { growing.pending ≡ Pending.Nothing }
-    ensures { Follows (after_growing growing Pending.Nothing line) result }
+    ensures { Steps (after_growing growing Pending.Nothing line) (held_as.Growing growing) result.0 result.1 }
 {
     match line {
-        Line::Branch => item_line(growing, TreeItem::Branch),
-        Line::Bound(cents) => item_line(growing, TreeItem::Leaf(Leaf::Bound(Prices { cents }))),
-        Line::Cut(cut) => item_line(growing, TreeItem::Leaf(Leaf::Cut(cut))),
+        Line::Branch => item_line(alloc, growing, TreeItem::Branch),
+        Line::Bound(cents) => {
+            let item = TreeItem::Leaf(Leaf::Bound(Prices { cents }));
+            item_line(alloc, growing, item)
+        }
+        Line::Cut(cut) => item_line(alloc, growing, TreeItem::Leaf(Leaf::Cut(cut))),
         Line::Conflict(zones) => conflict_line(growing, zones),
         Line::Operator(operator) => first_operator(alloc, growing, operator),
-        _ => Err(Refused::Order),
+        _ => (Held::Growing(growing), Err(Refused::Order)),
     }
 }
 
-/// The last of a conflict's lines.
-fn mws_line(
-    tree: Items<TreeItem>,
-    chain: Items<u32>,
-    cents: Items<Cents>,
-    flow: Items<i64>,
-    mw: Items<u32>,
-) -> Result<Items<TreeItem>, Memory>
-    ensures { IfOk result (λ list. list ≡ tree ++ conflict_item chain cents flow mw ∷ []) }
+/// A block in its tree.
+fn in_tree(listing: Listing, count: u32, tree: Items<TreeItem>, pending: Pending) -> Held
+    ensures { result ≡ held_as.Growing (record { listing = listing; count = count; tree = tree; pending = pending }) }
 {
-    let conflict = Conflict {
+    Held::Growing(Growing {
+        listing,
+        count,
+        tree,
+        pending,
+    })
+}
+
+/// The item of a conflict's four lines.
+fn conflict_of(chain: Items<u32>, cents: Items<Cents>, flow: Items<i64>, mw: Items<u32>) -> TreeItem
+    ensures { result ≡ conflict_item chain cents flow mw }
+{
+    TreeItem::Leaf(Leaf::Conflict(Conflict {
         chain,
         potentials: Prices { cents },
         activation: Activation { mw, flow },
-    };
-    pushed(tree, TreeItem::Leaf(Leaf::Conflict(conflict)))
+    }))
+}
+
+/// Room for one item more. The items stay.
+fn reserve<T>(items: Vec<T>) -> (Vec<T>, bool)
+    ensures items { result.0.items ≡ items.items }
+    ensures room { result.1 ≡ true → vec_len result.0 < vec_capacity result.0 }
+{
+    let mut items = items;
+    let has_room = items.reserve(1).is_ok();
+    (items, has_room)
+}
+
+/// The last of a conflict's lines. Room for the item is made first, so that the lines that have come are not lost.
+fn mws_line(
+    growing: Growing,
+    zones: Items<u32>,
+    prices: Items<Cents>,
+    flows: Items<i64>,
+    mws: Items<u32>,
+) -> (Held, Result<(), Refused>)
+    requires { growing.pending ≡ Pending.Nothing }
+    ensures { Steps (Some (with_item growing (conflict_item zones prices flows mws))) (with_pending growing (Pending.Flows zones prices flows)) result.0 result.1 }
+{
+    let Growing {
+        listing,
+        count,
+        tree,
+        ..
+    } = growing;
+    let (mut tree, has_room) = reserve(tree.into_vec());
+    if !has_room {
+        let pending = Pending::Flows(zones, prices, flows);
+        let held = in_tree(listing, count, Items::of(tree), pending);
+        return (held, Err(Refused::Memory));
+    }
+    if tree.push(conflict_of(zones, prices, flows, mws)).is_err() {
+        unreachable!();
+    }
+    let held = in_tree(listing, count, Items::of(tree), Pending::Nothing);
+    (held, Ok(()))
 }
 
 /// A line of a block's tree.
-fn grow_line(alloc: Global, growing: Growing, line: Line) -> Result<Held, Refused>
-    ensures { Follows (after_growing growing growing.pending line) result }
+fn grow_line(alloc: Global, growing: Growing, line: Line) -> (Held, Result<(), Refused>)
+    ensures { Steps (after_growing growing growing.pending line) (held_as.Growing growing) result.0 result.1 }
 {
     let Growing {
         listing,
@@ -228,8 +309,7 @@ fn grow_line(alloc: Global, growing: Growing, line: Line) -> Result<Held, Refuse
         tree,
         pending,
     } = growing;
-    let mut tree = tree;
-    let pending = match pending {
+    match pending {
         Pending::Nothing => {
             let growing = Growing {
                 listing,
@@ -237,37 +317,50 @@ fn grow_line(alloc: Global, growing: Growing, line: Line) -> Result<Held, Refuse
                 tree,
                 pending: Pending::Nothing,
             };
-            return due_line(alloc, growing, line);
+            due_line(alloc, growing, line)
         }
         Pending::Zones(zones) => match line {
-            Line::At(at) => Pending::At(zones, at),
-            _ => return Err(Refused::Order),
+            Line::At(at) => (
+                in_tree(listing, count, tree, Pending::At(zones, at)),
+                Ok(()),
+            ),
+            _ => (
+                in_tree(listing, count, tree, Pending::Zones(zones)),
+                Err(Refused::Order),
+            ),
         },
         Pending::At(zones, at) => match line {
-            Line::Flows(flows) => Pending::Flows(zones, at, flows),
-            _ => return Err(Refused::Order),
+            Line::Flows(flows) => (
+                in_tree(listing, count, tree, Pending::Flows(zones, at, flows)),
+                Ok(()),
+            ),
+            _ => (
+                in_tree(listing, count, tree, Pending::At(zones, at)),
+                Err(Refused::Order),
+            ),
         },
         Pending::Flows(zones, at, flows) => match line {
             Line::Mws(mws) => {
-                tree = mws_line(tree, zones, at, flows, mws)?;
-                Pending::Nothing
+                let growing = Growing {
+                    listing,
+                    count,
+                    tree,
+                    pending: Pending::Nothing,
+                };
+                mws_line(growing, zones, at, flows, mws)
             }
-            _ => return Err(Refused::Order),
+            _ => (
+                in_tree(listing, count, tree, Pending::Flows(zones, at, flows)),
+                Err(Refused::Order),
+            ),
         },
-    };
-    Ok(Held::Growing(Growing {
-        listing,
-        count,
-        tree,
-        pending,
-    }))
+    }
 }
 
 /// A line behind a tree.
-fn ending_line(ending: Ending, line: Line) -> Result<Held, Refused>
-    ensures { Follows (after_ending ending line) result }
+fn ending_line(alloc: Global, ending: &mut Ending, line: Line) -> Result<(), Refused>
+    ensures { Steps (after_ending ending.old line) (held_as.Ending ending.old) (held_as.Ending ending.new) result }
 {
-    let mut ending = ending;
     match line {
         Line::Operator(operator) => {
             if !ending.providers.as_slice().is_empty() {
@@ -276,17 +369,16 @@ fn ending_line(ending: Ending, line: Line) -> Result<Held, Refused>
             if ending.operators.as_slice().len() >= 64 {
                 return Err(Refused::Order);
             }
-            ending.operators = pushed(ending.operators, operator)?;
+            Ok(push(alloc, &mut ending.operators, operator)?)
         }
         Line::Provider(provider) => {
             if ending.providers.as_slice().len() >= 4096 {
                 return Err(Refused::Order);
             }
-            ending.providers = pushed(ending.providers, provider)?;
+            Ok(push(alloc, &mut ending.providers, provider)?)
         }
-        _ => return Err(Refused::Order),
+        _ => Err(Refused::Order),
     }
-    Ok(Held::Ending(ending))
 }
 
 /// The block that ends.
@@ -321,322 +413,322 @@ fn full_block(ending: Ending) -> FullBlock
 }
 
 /// The block that ends with this run's number.
-fn end_line(
-    published: u32,
-    unpublished: u32,
-    ending: Ending,
-    run: u32,
-) -> Result<(Kept, Option<Part>), Refused>
-    requires { published < 1000 }
-    ensures { Follows (after (counts published unpublished) (Held.Ending ending) (Line.End run)) result }
+fn end_line(kept: &mut Kept, ending: Ending, run: u32) -> Result<Option<Part>, Refused>
+    requires { kept.old.published < 1000 }
+    ensures { Follows (after kept.old (held_as.Ending ending) (Line.End run)) (kept_with kept.old (held_as.Ending ending)) kept.new result }
 {
     if run != ending.listing.heading.run {
+        kept.held = Held::Ending(ending);
         return Err(Refused::Order);
     }
-    let kept = Kept {
-        held: Held::Between,
-        published: published + 1,
-        unpublished,
-    };
-    Ok((
-        kept,
-        Some(Part::Block(Block::Published(full_block(ending)))),
-    ))
+    kept.held = Held::Between;
+    kept.published += 1;
+    Ok(Some(Part::Block(Block::Published(full_block(ending)))))
 }
 
-/// The same counts, and what is held now.
-fn keep(
-    published: u32,
-    unpublished: u32,
-    held: Result<Held, Refused>,
-) -> Result<(Kept, Option<Part>), Refused>
-    ensures { (expected : Option HeldValue) → Follows expected held → Follows (keeps (counts published unpublished) expected) result }
+/// What is held now, with the same counts.
+fn keep(kept: &mut Kept, held: Held, step: Result<(), Refused>) -> Result<Option<Part>, Refused>
+    ensures { (expected : Option HeldValue) (old : HeldValue) → Steps expected old held step → Follows (keeps kept.old expected) (kept_with kept.old old) kept.new result }
 {
-    let held = held?;
-    Ok((
-        Kept {
-            held,
-            published,
-            unpublished,
-        },
-        None,
-    ))
+    kept.held = held;
+    match step {
+        Ok(()) => Ok(None),
+        Err(refused) => Err(refused),
+    }
 }
 
 /// The heading of a run that is published, behind the head or a block.
-fn run_line(
-    published: u32,
-    unpublished: u32,
-    heading: Heading,
-) -> Result<(Kept, Option<Part>), Refused>
-    requires { published + unpublished ≤ 1000 }
-    ensures { Follows (starts_block (counts published unpublished) (Line.Run heading)) result }
+fn run_line(kept: &mut Kept, heading: Heading) -> Result<Option<Part>, Refused>
+    requires { kept.old.published + kept.old.unpublished ≤ 1000 }
+    ensures { Follows (starts_block kept.old (Line.Run heading)) (kept_with kept.old held_as.Between) kept.new result }
 {
-    if published + unpublished >= 1000 {
+    if kept.published + kept.unpublished >= 1000 {
+        kept.held = Held::Between;
         return Err(Refused::Order);
     }
-    Ok((
-        Kept {
-            held: Held::Run(heading),
-            published,
-            unpublished,
-        },
-        None,
-    ))
+    kept.held = Held::Run(heading);
+    Ok(None)
 }
 
 /// The line of a run that isn't published, behind the head or a block.
-fn unpublished_line(
-    published: u32,
-    unpublished: u32,
-    heading: Heading,
-    count: u32,
-) -> Result<(Kept, Option<Part>), Refused>
-    requires { published + unpublished ≤ 1000 }
-    ensures { Follows (starts_block (counts published unpublished) (Line.Unpublished heading count)) result }
+fn unpublished_line(kept: &mut Kept, heading: Heading, count: u32) -> Result<Option<Part>, Refused>
+    requires { kept.old.published + kept.old.unpublished ≤ 1000 }
+    ensures { Follows (starts_block kept.old (Line.Unpublished heading count)) (kept_with kept.old held_as.Between) kept.new result }
 {
-    if published + unpublished >= 1000 {
+    kept.held = Held::Between;
+    if kept.published + kept.unpublished >= 1000 {
         return Err(Refused::Order);
     }
-    Ok((
-        Kept {
-            held: Held::Between,
-            published,
-            unpublished: unpublished + 1,
-        },
-        Some(Part::Block(Block::Unpublished(heading, count))),
-    ))
+    kept.unpublished += 1;
+    Ok(Some(Part::Block(Block::Unpublished(heading, count))))
 }
 
 /// The first operator's line of the totals, behind the head or a block.
-fn first_total(
-    alloc: Global,
-    published: u32,
-    unpublished: u32,
-    operator: MoneyLine,
-) -> Result<(Kept, Option<Part>), Refused>
-    ensures { Follows (starts_block (counts published unpublished) (Line.TotalOperator operator)) result }
+fn first_total(alloc: Global, kept: &mut Kept, operator: MoneyLine) -> Result<Option<Part>, Refused>
+    ensures { Follows (starts_block kept.old (Line.TotalOperator operator)) (kept_with kept.old held_as.Between) kept.new result }
 {
-    let operators = pushed(empty(alloc), operator)?;
-    Ok((
-        Kept {
-            held: Held::Totals(operators, empty(alloc)),
-            published,
-            unpublished,
-        },
-        None,
-    ))
+    let mut operators = empty(alloc);
+    if push(alloc, &mut operators, operator).is_err() {
+        kept.held = Held::Between;
+        return Err(Refused::Memory);
+    }
+    kept.held = Held::Totals(operators, empty(alloc));
+    Ok(None)
 }
 
 /// A line behind the head or a block.
-fn block_line(
-    alloc: Global,
-    published: u32,
-    unpublished: u32,
-    line: Line,
-) -> Result<(Kept, Option<Part>), Refused>
-    requires { published + unpublished ≤ 1000 }
-    ensures { Follows (starts_block (counts published unpublished) line) result }
+fn block_line(alloc: Global, kept: &mut Kept, line: Line) -> Result<Option<Part>, Refused>
+    requires { kept.old.published + kept.old.unpublished ≤ 1000 }
+    ensures { Follows (starts_block kept.old line) (kept_with kept.old held_as.Between) kept.new result }
 {
     match line {
-        Line::Run(heading) => run_line(published, unpublished, heading),
-        Line::Unpublished(heading, count) => {
-            unpublished_line(published, unpublished, heading, count)
+        Line::Run(heading) => run_line(kept, heading),
+        Line::Unpublished(heading, count) => unpublished_line(kept, heading, count),
+        Line::TotalOperator(operator) => first_total(alloc, kept, operator),
+        _ => {
+            kept.held = Held::Between;
+            Err(Refused::Order)
         }
-        Line::TotalOperator(operator) => first_total(alloc, published, unpublished, operator),
-        _ => Err(Refused::Order),
     }
+}
+
+/// An operator's line of the totals.
+fn total_operator(
+    alloc: Global,
+    operators: Items<MoneyLine>,
+    providers: Items<AmountLine>,
+    operator: MoneyLine,
+) -> (Held, Result<(), Refused>)
+    ensures { Steps (after_totals operators providers (Line.TotalOperator operator)) (held_as.Totals operators providers) result.0 result.1 }
+{
+    let mut operators = operators;
+    if !providers.as_slice().is_empty() {
+        return (Held::Totals(operators, providers), Err(Refused::Order));
+    }
+    if operators.as_slice().len() >= 64 {
+        return (Held::Totals(operators, providers), Err(Refused::Order));
+    }
+    let step = more(push(alloc, &mut operators, operator));
+    (Held::Totals(operators, providers), step)
+}
+
+/// A provider's.
+fn total_provider(
+    alloc: Global,
+    operators: Items<MoneyLine>,
+    providers: Items<AmountLine>,
+    provider: AmountLine,
+) -> (Held, Result<(), Refused>)
+    ensures { Steps (after_totals operators providers (Line.TotalProvider provider)) (held_as.Totals operators providers) result.0 result.1 }
+{
+    let mut providers = providers;
+    if providers.as_slice().len() >= 1_638_400 {
+        return (Held::Totals(operators, providers), Err(Refused::Order));
+    }
+    let step = more(push(alloc, &mut providers, provider));
+    (Held::Totals(operators, providers), step)
 }
 
 /// A line of the totals' lists.
 fn total_line(
+    alloc: Global,
     operators: Items<MoneyLine>,
     providers: Items<AmountLine>,
     line: Line,
-) -> Result<Held, Refused>
-    ensures { Follows (after_totals operators providers line) result }
+) -> (Held, Result<(), Refused>)
+    ensures { Steps (after_totals operators providers line) (held_as.Totals operators providers) result.0 result.1 }
 {
     match line {
-        Line::TotalOperator(operator) => {
-            if !providers.as_slice().is_empty() {
-                return Err(Refused::Order);
-            }
-            if operators.as_slice().len() >= 64 {
-                return Err(Refused::Order);
-            }
-            Ok(Held::Totals(pushed(operators, operator)?, providers))
-        }
-        Line::TotalProvider(provider) => {
-            if providers.as_slice().len() >= 1_638_400 {
-                return Err(Refused::Order);
-            }
-            Ok(Held::Totals(operators, pushed(providers, provider)?))
-        }
-        _ => Err(Refused::Order),
+        Line::TotalOperator(operator) => total_operator(alloc, operators, providers, operator),
+        Line::TotalProvider(provider) => total_provider(alloc, operators, providers, provider),
+        _ => (Held::Totals(operators, providers), Err(Refused::Order)),
     }
 }
 
 /// The last line.
 fn done_line(
-    published: u32,
-    unpublished: u32,
+    kept: &mut Kept,
     operators: Items<MoneyLine>,
     providers: Items<AmountLine>,
-    said: (u32, u32),
-) -> Result<(Kept, Option<Part>), Refused>
-    ensures { Follows (after (counts published unpublished) (Held.Totals operators providers) (Line.Done said.0 said.1)) result }
+    published: u32,
+    unpublished: u32,
+) -> Result<Option<Part>, Refused>
+    ensures { Follows (after kept.old (held_as.Totals operators providers) (Line.Done published unpublished)) (kept_with kept.old (held_as.Totals operators providers)) kept.new result }
 {
-    if said.0 != published {
+    if published != kept.published {
+        kept.held = Held::Totals(operators, providers);
         return Err(Refused::Order);
     }
-    if said.1 != unpublished {
+    if unpublished != kept.unpublished {
+        kept.held = Held::Totals(operators, providers);
         return Err(Refused::Order);
     }
-    Ok((
-        Kept {
-            held: Held::Done,
-            published,
-            unpublished,
-        },
-        Some(Part::Totals(operators, providers)),
-    ))
+    kept.held = Held::Done;
+    Ok(Some(Part::Totals {
+        operators,
+        providers,
+    }))
 }
 
 /// A line of the totals.
 fn totals_line(
-    published: u32,
-    unpublished: u32,
+    alloc: Global,
+    kept: &mut Kept,
     operators: Items<MoneyLine>,
     providers: Items<AmountLine>,
     line: Line,
-) -> Result<(Kept, Option<Part>), Refused>
-    ensures { Follows (after (counts published unpublished) (Held.Totals operators providers) line) result }
+) -> Result<Option<Part>, Refused>
+    ensures { Follows (after kept.old (held_as.Totals operators providers) line) (kept_with kept.old (held_as.Totals operators providers)) kept.new result }
 {
     match line {
-        Line::Done(said, said_not) => done_line(
-            published,
-            unpublished,
-            operators,
-            providers,
-            (said, said_not),
-        ),
-        line => keep(
-            published,
-            unpublished,
-            total_line(operators, providers, line),
-        ),
+        Line::Done(published, unpublished) => {
+            done_line(kept, operators, providers, published, unpublished)
+        }
+        line => {
+            let (held, step) = total_line(alloc, operators, providers, line);
+            keep(kept, held, step)
+        }
     }
 }
 
+/// A line that may not follow: what was held is held again.
+fn refuse(kept: &mut Kept, held: Held) -> Result<Option<Part>, Refused>
+    ensures kept { kept.new ≡ kept_with kept.old held }
+    ensures refused { result ≡ Err Refused.Order }
+{
+    kept.held = held;
+    Err(Refused::Order)
+}
+
+/// The same, with the line.
+fn refuse_line(kept: &mut Kept, held: Held, line: Line) -> Result<Option<Part>, Refused>
+    ensures kept { kept.new ≡ kept_with kept.old held }
+    ensures refused { result ≡ Err Refused.Order }
+{
+    drop(line);
+    refuse(kept, held)
+}
+
+/// A line that may, and the part that is whole with it.
+fn go_on(kept: &mut Kept, held: Held, part: Option<Part>) -> Result<Option<Part>, Refused>
+    ensures kept { kept.new ≡ kept_with kept.old held }
+    ensures part { result ≡ Ok part }
+{
+    kept.held = held;
+    Ok(part)
+}
+
 /// The first line.
-fn head_line(published: u32, unpublished: u32, line: Line) -> Result<(Kept, Option<Part>), Refused>
-    ensures { Follows (after (counts published unpublished) Held.Start line) result }
+fn head_line(kept: &mut Kept, line: Line) -> Result<Option<Part>, Refused>
+    ensures { Follows (after kept.old held_as.Start line) (kept_with kept.old held_as.Start) kept.new result }
 {
     match line {
-        Line::Head(date, quarters, budget) => Ok((
-            Kept {
-                held: Held::Between,
-                published,
-                unpublished,
-            },
-            Some(Part::Head(date, quarters, budget)),
-        )),
-        _ => Err(Refused::Order),
+        Line::Head(date, quarters, budget) => {
+            let head = Part::Head {
+                date,
+                quarters,
+                budget,
+            };
+            go_on(kept, Held::Between, Some(head))
+        }
+        _ => refuse(kept, Held::Start),
     }
+}
+
+/// A block of which the heading and the welfare have come.
+fn opened(alloc: Global, heading: Heading, welfare: u64) -> Held
+    ensures { result ≡ held_as.Listing (record { heading = heading; welfare = welfare; zones = []; borders = []; bids = []; demands = [] }) }
+{
+    Held::Listing(Listing {
+        heading,
+        welfare,
+        zones: empty(alloc),
+        borders: empty(alloc),
+        bids: empty(alloc),
+        demands: empty(alloc),
+    })
 }
 
 /// The line behind a run's heading.
 fn welfare_line(
     alloc: Global,
-    published: u32,
-    unpublished: u32,
+    kept: &mut Kept,
     heading: Heading,
     line: Line,
-) -> Result<(Kept, Option<Part>), Refused>
-    ensures { Follows (after (counts published unpublished) (Held.Run heading) line) result }
+) -> Result<Option<Part>, Refused>
+    ensures { Follows (after kept.old (held_as.Run heading) line) (kept_with kept.old (held_as.Run heading)) kept.new result }
 {
     match line {
-        Line::Welfare(welfare) => Ok((
-            Kept {
-                held: Held::Listing(Listing {
-                    heading,
-                    welfare,
-                    zones: empty(alloc),
-                    borders: empty(alloc),
-                    bids: empty(alloc),
-                    demands: empty(alloc),
-                }),
-                published,
-                unpublished,
-            },
-            None,
-        )),
-        _ => Err(Refused::Order),
+        Line::Welfare(welfare) => {
+            let block = opened(alloc, heading, welfare);
+            go_on(kept, block, None)
+        }
+        line => refuse_line(kept, Held::Run(heading), line),
     }
 }
 
 /// A line behind a block's tree.
 fn last_line(
-    published: u32,
-    unpublished: u32,
+    alloc: Global,
+    kept: &mut Kept,
     ending: Ending,
     line: Line,
-) -> Result<(Kept, Option<Part>), Refused>
-    requires { published < 1000 }
-    ensures { Follows (after (counts published unpublished) (Held.Ending ending) line) result }
+) -> Result<Option<Part>, Refused>
+    requires { kept.old.published < 1000 }
+    ensures { Follows (after kept.old (held_as.Ending ending) line) (kept_with kept.old (held_as.Ending ending)) kept.new result }
 {
     match line {
-        Line::End(run) => end_line(published, unpublished, ending, run),
-        line => keep(published, unpublished, ending_line(ending, line)),
+        Line::End(run) => end_line(kept, ending, run),
+        line => {
+            let mut ending = ending;
+            let step = ending_line(alloc, &mut ending, line);
+            keep(kept, Held::Ending(ending), step)
+        }
     }
 }
 
 /// A line in a block's tree.
 fn tree_line(
     alloc: Global,
-    published: u32,
-    unpublished: u32,
+    kept: &mut Kept,
     growing: Growing,
     line: Line,
-) -> Result<(Kept, Option<Part>), Refused>
-    ensures { Follows (after (counts published unpublished) (Held.Growing growing) line) result }
+) -> Result<Option<Part>, Refused>
+    ensures { Follows (after kept.old (held_as.Growing growing) line) (kept_with kept.old (held_as.Growing growing)) kept.new result }
 {
-    keep(published, unpublished, grow_line(alloc, growing, line))
+    let (held, step) = grow_line(alloc, growing, line);
+    keep(kept, held, step)
 }
 
 /// A line before a block's tree.
 fn listing_line(
     alloc: Global,
-    published: u32,
-    unpublished: u32,
+    kept: &mut Kept,
     block: Listing,
     line: Line,
-) -> Result<(Kept, Option<Part>), Refused>
-    ensures { Follows (after (counts published unpublished) (Held.Listing block) line) result }
+) -> Result<Option<Part>, Refused>
+    ensures { Follows (after kept.old (held_as.Listing block) line) (kept_with kept.old (held_as.Listing block)) kept.new result }
 {
-    keep(published, unpublished, list_line(alloc, block, line))
+    let (held, step) = list_line(alloc, block, line);
+    keep(kept, held, step)
 }
 
-/// What is kept after a line, and the part that is whole with it.
-pub fn follow(alloc: Global, kept: Kept, line: Line) -> Result<(Kept, Option<Part>), Refused>
-    requires counts { kept.published + kept.unpublished ≤ 1000 }
-    requires room { HasRoom kept.held kept.published kept.unpublished }
-    ensures { Follows (after kept kept.held line) result }
+/// Takes a line, and gives the part that is whole with it. What is kept stays as it is where the line may not follow, and
+/// where there is no memory for it.
+pub fn follow(alloc: Global, kept: &mut Kept, line: Line) -> Result<Option<Part>, Refused>
+    requires counts { kept.old.published + kept.old.unpublished ≤ 1000 }
+    requires room { HasRoom kept.old.held kept.old.published kept.old.unpublished }
+    ensures { Follows (after kept.old kept.old.held line) kept.old kept.new result }
 {
-    let Kept {
-        held,
-        published,
-        unpublished,
-    } = kept;
-    match held {
-        Held::Start => head_line(published, unpublished, line),
-        Held::Between => block_line(alloc, published, unpublished, line),
-        Held::Run(heading) => welfare_line(alloc, published, unpublished, heading, line),
-        Held::Listing(block) => listing_line(alloc, published, unpublished, block, line),
-        Held::Growing(growing) => tree_line(alloc, published, unpublished, growing, line),
-        Held::Ending(ending) => last_line(published, unpublished, ending, line),
+    match mem::replace(&mut kept.held, Held::Done) {
+        Held::Start => head_line(kept, line),
+        Held::Between => block_line(alloc, kept, line),
+        Held::Run(heading) => welfare_line(alloc, kept, heading, line),
+        Held::Listing(block) => listing_line(alloc, kept, block, line),
+        Held::Growing(growing) => tree_line(alloc, kept, growing, line),
+        Held::Ending(ending) => last_line(alloc, kept, ending, line),
         Held::Totals(operators, providers) => {
-            totals_line(published, unpublished, operators, providers, line)
+            totals_line(alloc, kept, operators, providers, line)
         }
         Held::Done => Err(Refused::Order),
     }

@@ -1,8 +1,8 @@
 //! A part of a text as far as it has come.
 
-use crate::publication::{AmountLine, BidLine, Block, BorderLine, Heading, MoneyLine, ZoneLine};
+use crate::publication::{AmountLine, BidLine, BorderLine, Heading, MoneyLine, ZoneLine};
 use mari_market::TreeItem;
-use mari_units::{Cents, Items, Name};
+use mari_units::{Cents, Items};
 
 /// What has come of a conflict's four lines.
 #[derive(Drop)]
@@ -53,14 +53,6 @@ pub enum Held {
     Ending(Ending),
     Totals(Items<MoneyLine>, Items<AmountLine>),
     Done,
-}
-
-/// A part that is whole.
-#[derive(Drop)]
-pub enum Part {
-    Head(Name, u32, u32),
-    Block(Block),
-    Totals(Items<MoneyLine>, Items<AmountLine>),
 }
 
 /// What a reader keeps between two lines.

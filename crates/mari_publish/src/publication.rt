@@ -85,3 +85,18 @@ pub struct Publication {
     pub operators: Items<MoneyLine>,
     pub providers: Items<AmountLine>,
 }
+
+/// A part of a publication: its head, a block of it, or its totals.
+#[derive(Drop)]
+pub enum Part {
+    Head {
+        date: Name,
+        quarters: u32,
+        budget: u32,
+    },
+    Block(Block),
+    Totals {
+        operators: Items<MoneyLine>,
+        providers: Items<AmountLine>,
+    },
+}

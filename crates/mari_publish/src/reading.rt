@@ -1,27 +1,18 @@
 //! Reading a text.
 
-ghost use Rattle.std.specs.Prelude.{◌≡◌, ◌<◌, ◌≤◌, ◌+◌, ℕ, OnOk, Option, Some, Ok, Err};
-ghost use Rattle.mari_publish.specs.Order.{grown, nothing_read, HasRoom};
+ghost use Rattle.std.specs.Prelude.{◌≡◌, ℕ, OnOk, Ok, Err};
+ghost use Rattle.mari_publish.specs.Order.{grown, nothing_read};
 ghost use Rattle.mari_publish.specs.Faults.{IsText, BadLineAt, BadOrderAt, TruncatedAt, IsOutcome, Answers};
-ghost use Rattle.mari_publish.specs.Gathering.{seen, Took, Finishes};
+ghost use Rattle.mari_publish.specs.Gathering.{seen, Finishes};
 ghost use Rattle.mari_publish.specs.declared.publication.Publication.{Publication as PublicationValue};
 
 use crate::cut::cut;
-use crate::fault::{TextFault, Unread};
-use crate::follow::{Refused, follow};
-use crate::held::{Held, Kept, Part};
-use crate::line_reading::read_line;
-use crate::publication::{AmountLine, Block, MoneyLine, Publication};
+use crate::fault::TextFault;
+use crate::held::{Held, Kept};
+use crate::publication::{AmountLine, Block, MoneyLine, Part, Publication};
+use crate::taking::{LineFault, take_line};
 use mari_units::{Items, Memory, Name};
 use std::alloc::Global;
-
-/// Why a line is no next line.
-#[derive(Clone, Copy, Debug, PartialEq, Eq)]
-pub enum LineFault {
-    Form,
-    Order,
-    Memory,
-}
 
 /// The parts so far.
 #[derive(Drop)]
@@ -48,12 +39,19 @@ fn nothing(alloc: Global) -> Gathered
     }
 }
 
-/// The parts with one more.
-fn gather(alloc: Global, gathered: &mut Gathered, part: Part) -> Result<(), Memory>
-    ensures { OnOk result (seen gathered.new ≡ grown (seen gathered.old) (Some part)) }
+/// The parts with one more, if there is one.
+fn gather(alloc: Global, gathered: &mut Gathered, part: Option<Part>) -> Result<(), Memory>
+    ensures { OnOk result (seen gathered.new ≡ grown (seen gathered.old) part) }
 {
+    let Some(part) = part else {
+        return Ok(());
+    };
     match part {
-        Part::Head(date, quarters, budget) => {
+        Part::Head {
+            date,
+            quarters,
+            budget,
+        } => {
             gathered.date = Some(date);
             gathered.quarters = quarters;
             gathered.budget = budget;
@@ -66,41 +64,14 @@ fn gather(alloc: Global, gathered: &mut Gathered, part: Part) -> Result<(), Memo
             gathered.blocks.push(block)?;
             Ok(())
         }
-        Part::Totals(operators, providers) => {
+        Part::Totals {
+            operators,
+            providers,
+        } => {
             gathered.operators = operators;
             gathered.providers = providers;
             Ok(())
         }
-    }
-}
-
-/// What has come with a line.
-fn take_line(
-    alloc: Global,
-    gathered: &mut Gathered,
-    kept: Kept,
-    here: &[u8],
-) -> Result<Kept, LineFault>
-    requires counts { kept.published + kept.unpublished ≤ 1000 }
-    requires room { HasRoom kept.held kept.published kept.unpublished }
-    ensures { Took (seen gathered.old) kept here.now (seen gathered.new) result }
-{
-    let line = match read_line(alloc, here) {
-        Ok(line) => line,
-        Err(Unread::Formless) => return Err(LineFault::Form),
-        Err(Unread::Memory) => return Err(LineFault::Memory),
-    };
-    let (kept, part) = match follow(alloc, kept, line) {
-        Ok(followed) => followed,
-        Err(Refused::Order) => return Err(LineFault::Order),
-        Err(Refused::Memory) => return Err(LineFault::Memory),
-    };
-    match part {
-        None => Ok(kept),
-        Some(part) => match gather(alloc, gathered, part) {
-            Ok(()) => Ok(kept),
-            Err(Memory) => Err(LineFault::Memory),
-        },
     }
 }
 
@@ -153,11 +124,14 @@ fn read_lines(alloc: Global, bytes: &[u8]) -> Result<Publication, TextFault>
     let mut rest = bytes;
     let mut number = 1u32;
     while let Some((here, after)) = cut(b'\n', rest) {
-        match take_line(alloc, &mut gathered, kept, here) {
-            Ok(next) => kept = next,
+        let part = match take_line(alloc, &mut kept, here) {
+            Ok(part) => part,
             Err(LineFault::Form) => return Err(TextFault::BadLine(number)),
             Err(LineFault::Order) => return Err(TextFault::BadOrder(number)),
             Err(LineFault::Memory) => return Err(TextFault::Memory),
+        };
+        if gather(alloc, &mut gathered, part).is_err() {
+            return Err(TextFault::Memory);
         }
         rest = after;
         number += 1;

@@ -1,0 +1,59 @@
+-- What handling the first line behind the handled ones comes to.
+use Rattle.std.specs.Prelude.{◌≡◌, ℕ, ◌+◌, List, ◌∷◌, ◌++◌, Option, Some, None, Result, Ok, Err, ◌⊎◌}
+use Rattle.mari_publish.specs.declared.publication.Part.{Part}
+use Rattle.mari_publish.specs.declared.line.Line.{Line}
+use Rattle.mari_publish.specs.declared.fault.TextFault.{TextFault}
+use Rattle.mari_publish.specs.declared.fault.TextFault.TheVariants as fault
+use Rattle.mari_publish.specs.declared.coming.Ahead.TheVariants as mark
+use Rattle.mari_publish.specs.declared.coming.Step.{Step}
+use Rattle.mari_publish.specs.declared.coming.Step.TheVariants as step
+use Rattle.mari_publish.specs.Ranges.{InRange}
+use Rattle.mari_publish.specs.Reading.{Lacks}
+use Rattle.mari_publish.specs.Spelling.{spelling}
+use Rattle.mari_publish.specs.Order.{after}
+use Rattle.mari_publish.specs.Pieces.{ComeState, HasNoLine}
+
+-- the bytes are all there, and begin with this line
+pub record BeginsWith (r : ComeState) (here behind : List ℕ) : Type 0 where
+  pub all : r.ahead ≡ mark.Kept
+  pub is : r.unread ≡ here ++ 10 ∷ behind
+  pub whole : Lacks 10 here
+
+-- the line was taken, with the part that is whole with it
+pub record IsTaken (old new : ComeState) (x : Option Part) : Type 0 where
+  pub here : List ℕ
+  pub behind : List ℕ
+  pub begins : BeginsWith old here behind
+  pub line : Line
+  pub in_range : InRange line
+  pub spelled : spelling line ≡ here
+  pub follows : after old.kept old.kept.held line ≡ Some (new.kept, x)
+  pub one_more : new.lines ≡ old.lines + 1
+  pub all : new.ahead ≡ mark.Kept
+  pub left : new.unread ≡ behind
+
+-- the line has no form
+abbrev pub IsFormless : List ℕ → Type 0
+IsFormless here = (l : Line) → InRange l → spelling l ≡ here → ⊥
+
+abbrev pub HasBadLine : ComeState → Type 0
+HasBadLine r = (r.ahead ≡ mark.Ended) ⊎ ((here : List ℕ) × (behind : List ℕ) × BeginsWith r here behind × IsFormless here)
+
+-- the line may not follow
+pub record HasBadOrder (r : ComeState) : Type 0 where
+  pub here : List ℕ
+  pub behind : List ℕ
+  pub begins : BeginsWith r here behind
+  pub line : Line
+  pub in_range : InRange line
+  pub spelled : spelling line ≡ here
+  pub misplaced : after r.kept r.kept.held line ≡ None
+
+-- a line was taken, or no whole one is there; or what is wrong with it, and nothing changed
+abbrev pub Handles : ComeState → ComeState → Result Step TextFault → Type 0
+Handles old new (Ok (step.Line x)) = IsTaken old new x
+Handles old new (Ok step.Nothing) = HasNoLine old × (new ≡ old)
+Handles old new (Err (fault.BadLine n)) = HasBadLine old × (n ≡ old.lines + 1) × (new ≡ old)
+Handles old new (Err (fault.BadOrder n)) = HasBadOrder old × (n ≡ old.lines + 1) × (new ≡ old)
+Handles old new (Err (fault.Truncated n)) = ⊥
+Handles old new (Err fault.Memory) = new ≡ old

@@ -1,0 +1,152 @@
+//! A text as far as it has come: what is kept of the handled lines, and the bytes behind them.
+
+ghost use Rattle.std.specs.Prelude.{◌≡◌, ◌≤◌, ◌<◌, ◌+◌, ◌++◌, ◌^◌, ℕ, List, Ok, None, OnOk, OnErr, true, false, vec_len};
+ghost use Rattle.mari_publish.specs.declared.publication.Part.{Part as PartValue};
+ghost use Rattle.mari_publish.specs.Order.{HasRoom};
+ghost use Rattle.mari_publish.specs.Pieces.{StandsFor, IsCome, IsNext, HasNoLine, IsWhole, with_answer, come_of};
+ghost use Rattle.mari_publish.specs.Handling.{Handles};
+
+use crate::cut::cut;
+use crate::fault::TextFault;
+use crate::held::{Held, Kept};
+use crate::publication::Part;
+use crate::taking::{LineFault, take_line};
+use mari_units::Memory;
+use std::alloc::Global;
+
+/// The most bytes of a line: no line of a text has more.
+pub const MOST_LINE: usize = 32_768;
+
+/// What is there of the bytes behind the handled lines: all of them, or of a line that is too long a mark, and whether it has
+/// ended.
+#[derive(Clone, Copy, Debug, PartialEq, Eq)]
+pub enum Ahead {
+    Kept,
+    TooLong,
+    Ended,
+}
+
+/// What has come of a text: what is kept of the handled lines and how many they are, and the bytes of which so many are
+/// handled.
+#[derive(Drop)]
+pub struct Coming {
+    pub kept: Kept,
+    pub lines: u32,
+    pub ahead: Ahead,
+    pub bytes: Vec<u8>,
+    pub handled: usize,
+}
+
+/// What comes of the first line behind the handled ones: the part that is whole with it, if one is; or no line is whole.
+#[derive(Drop)]
+pub enum Step {
+    Line(Option<Part>),
+    Nothing,
+}
+
+/// Handles the first line behind the handled ones, if it is whole.
+fn handle_line(alloc: Global, coming: &mut Coming) -> Result<Step, TextFault>
+    requires handled { coming.old.handled ≤ vec_len coming.old.bytes }
+    requires counts { coming.old.kept.published + coming.old.kept.unpublished ≤ 1000 }
+    requires room { HasRoom coming.old.kept.held coming.old.kept.published coming.old.kept.unpublished }
+    requires lines { coming.old.lines < 2 ^ 31 }
+    ensures handles { Handles (come_of coming.old) (come_of coming.new) result }
+    ensures handled { coming.new.handled ≤ vec_len coming.new.bytes }
+{
+    match coming.ahead {
+        Ahead::Kept => {}
+        Ahead::TooLong => return Ok(Step::Nothing),
+        Ahead::Ended => return Err(TextFault::BadLine(coming.lines + 1)),
+    }
+    let Some((here, _after)) = cut(b'\n', &coming.bytes[coming.handled..]) else {
+        return Ok(Step::Nothing);
+    };
+    if here.len() > MOST_LINE {
+        return Err(TextFault::BadLine(coming.lines + 1));
+    }
+    let length = here.len() + 1;
+    match take_line(alloc, &mut coming.kept, here) {
+        Ok(part) => {
+            coming.handled += length;
+            coming.lines += 1;
+            Ok(Step::Line(part))
+        }
+        Err(LineFault::Form) => Err(TextFault::BadLine(coming.lines + 1)),
+        Err(LineFault::Order) => Err(TextFault::BadOrder(coming.lines + 1)),
+        Err(LineFault::Memory) => Err(TextFault::Memory),
+    }
+}
+
+/// Handles lines up to the next part, or as far as whole lines have come.
+pub fn next_part(alloc: Global, coming: &mut Coming) -> Result<Option<Part>, TextFault>
+    requires handled { coming.old.handled ≤ vec_len coming.old.bytes }
+    requires reader { IsCome (come_of coming.old) }
+    ensures handled { coming.new.handled ≤ vec_len coming.new.bytes }
+    ensures next { (text : List ℕ) (parts : List PartValue) → StandsFor (come_of coming.old) text parts → IsNext text parts result }
+    ensures stands { (text : List ℕ) (parts : List PartValue) → StandsFor (come_of coming.old) text parts → StandsFor (come_of coming.new) text (with_answer parts result) }
+    ensures no_line { result ≡ Ok None → HasNoLine (come_of coming.new) }
+{
+    'lines: loop {
+        match handle_line(alloc, coming) {
+            Ok(Step::Line(None)) => {}
+            Ok(Step::Line(Some(part))) => return Ok(Some(part)),
+            Ok(Step::Nothing) => return Ok(None),
+            Err(fault) => return Err(fault),
+        }
+    }
+}
+
+/// Forgets the bytes of handled lines, and those of a line that is too long.
+pub fn forget(coming: &mut Coming)
+    requires handled { coming.old.handled ≤ vec_len coming.old.bytes }
+    requires no_line { HasNoLine (come_of coming.old) }
+    ensures handled { coming.new.handled ≤ vec_len coming.new.bytes }
+    ensures stands { (text : List ℕ) (parts : List PartValue) → StandsFor (come_of coming.old) text parts → StandsFor (come_of coming.new) text parts }
+    ensures no_line { HasNoLine (come_of coming.new) }
+{
+    let handled = coming.handled;
+    coming.handled = 0;
+    if coming.bytes.len() - handled > MOST_LINE {
+        coming.ahead = Ahead::TooLong;
+        coming.bytes.clear();
+    } else {
+        drop(coming.bytes.drain(..handled));
+    }
+}
+
+/// Appends to the text. Of a line that is too long it keeps only whether the line has ended.
+pub fn append(coming: &mut Coming, piece: &[u8]) -> Result<(), Memory>
+    requires handled { coming.old.handled ≤ vec_len coming.old.bytes }
+    ensures handled { coming.new.handled ≤ vec_len coming.new.bytes }
+    ensures appended { (text : List ℕ) (parts : List PartValue) → StandsFor (come_of coming.old) text parts → OnOk result (StandsFor (come_of coming.new) (text ++ piece.now) parts) }
+    ensures same { OnErr result (come_of coming.new ≡ come_of coming.old) }
+{
+    match coming.ahead {
+        Ahead::Kept => coming.bytes.extend_from_slice(piece)?,
+        Ahead::TooLong => {
+            if cut(b'\n', piece).is_some() {
+                coming.ahead = Ahead::Ended;
+            }
+        }
+        Ahead::Ended => {}
+    }
+    Ok(())
+}
+
+/// Whether all that has come is handled, and the last line of a publication with it.
+pub fn is_whole(coming: &Coming) -> bool
+    requires handled { coming.now.handled ≤ vec_len coming.now.bytes }
+    ensures whole { result ≡ true → IsWhole (come_of coming.now) }
+    ensures unfinished { result ≡ false → IsWhole (come_of coming.now) → ⊥ }
+{
+    if coming.ahead != Ahead::Kept {
+        return false;
+    }
+    if coming.handled < coming.bytes.len() {
+        return false;
+    }
+    match coming.kept.held {
+        Held::Done => true,
+        _ => false,
+    }
+}

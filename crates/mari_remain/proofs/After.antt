@@ -1,5 +1,5 @@
 -- What stands for blocks stands for one more after it is added.
-use Rattle.std.proofs.Common.{◌≡◌, ◌∙◌, ℕ, zero, suc, ◌+◌, ◌-◌, ◌<◌, ◌≤◌, ◌==◌, ℤ, pos, Bool, true, false, cond, if◌then◌else◌, List, [], ◌∷◌, ◌++◌, Option, Some, None, refl, ap, sym, subst, arith, length, get_or, filter, map, take, zero-add, inl, inr}
+use Rattle.std.proofs.Common.{◌≡◌, ◌∙◌, ℕ, zero, suc, ◌+◌, ◌<◌, ◌≤◌, ◌==◌, ℤ, pos, Bool, true, false, cond, if◌then◌else◌, List, [], ◌∷◌, ◌++◌, Some, None, refl, ap, sym, subst, arith, length, get_or, map, take, inl, inr}
 use Rattle.std.specs.Prelude.{◌+ℤ◌, ◌&&◌, ◌||◌, is_some, nat_lt, slice_get, unsigned_abs, unwrap_or}
 use Rattle.std.specs.List.{All, range_with_len}
 use Rattle.std.specs.Option.{option_map_or}
@@ -15,8 +15,8 @@ use Rattle.std.proofs.lemmas.List.Sums.{sum_by_push}
 use Rattle.std.proofs.lemmas.Option.{slice_get_within}
 use Rattle.mari_remain.specs.declared.books.Books.{Books}
 use Rattle.mari_remain.specs.Accepted.{IsAccepted}
-use Rattle.mari_remain.specs.Blocks.{PastBlock, PastRun, flow_in, flow_of, is_activated, mw_beside, mw_in, mw_of, of_direct_runs, of_quarter}
-use Rattle.mari_remain.specs.FirstBlocks.{AreFirstBlocks, IsKeptAfter, IsNextBlock, IsPastRun, Kept, StandsFor, block_of, last_quarter}
+use Rattle.mari_remain.specs.Blocks.{PastBlock, flow_in, flow_of, is_activated, mw_beside, mw_in, mw_of, of_direct_runs, of_quarter}
+use Rattle.mari_remain.specs.FirstBlocks.{AreFirstBlocks, IsKeptAfter, IsNextBlock, IsPastRun, Kept, StandsFor, block_of}
 use Rattle.mari_remain.proofs.History.{bounded, flow-more, own-blocks}
 use Rattle.mari_remain.proofs.Standing.{flow-before, kept-direct, kept-mw, last-more}
 use Rattle.mari_remain.specs.Lists.{bid_at, bids_of_quarter, run_at}
@@ -77,6 +77,7 @@ module _ (books : Books) (ok : IsAccepted books) (blocks : List PastBlock) (b : 
           (λ k l. is.flow k ∙ ap (λ v. v +ℤ flow_in k b) (flow-before books ok blocks kept stands b.quarter k b.run (omega (arith, next.run)) next.there (sym next.quarter))
           ∙ sym (flow-more k b.quarter blocks b ∙ rw (eq-eqb b.quarter b.quarter refl) refl)));
       of_quarter = is.of_quarter ∙ stands.of_quarter;
+      of_run = is.of_run ∙ stands.of_run;
     }
 
     -- an unpublished block changes nothing
@@ -91,6 +92,7 @@ module _ (books : Books) (ok : IsAccepted books) (blocks : List PastBlock) (b : 
           quarter = stands.quarter ∙ sym (last-more books ok blocks b ∙ rw none refl);
           flow = stands.flow ∙ ap (λ (f : ℕ → ℤ). map f (range_with_len 0 (length books.borders.borders))) (fun_ext (λ k. sym (flow-more k (unwrap_or kept.quarter 0) blocks b ∙ rw (no_flow k) (none-flows (b.quarter == unwrap_or kept.quarter 0) (flow_of (of_quarter (unwrap_or kept.quarter 0) blocks) k)))));
           of_quarter = stands.of_quarter;
+          of_run = stands.of_run;
         }
       where
         none-marked : (t d : Bool) → (t || (d && nat_lt 0 0)) ≡ t

@@ -1,5 +1,5 @@
 -- One step of marking the bids of a block.
-use Rattle.std.proofs.Common.{◌≡◌, ◌∙◌, ℕ, zero, suc, ◌+◌, ◌<◌, ◌≤◌, ◌==◌, Bool, true, false, List, [], ◌∷◌, refl, ap, sym, arith, length, get_or, set, drop, if◌then◌else◌, get_or-set_same, get_or-set_other, add-one, ◌≢◌}
+use Rattle.std.proofs.Common.{◌≡◌, ◌∙◌, ℕ, suc, ◌+◌, ◌<◌, ◌==◌, Bool, true, false, List, ◌∷◌, refl, ap, sym, arith, length, get_or, set, drop, if◌then◌else◌, get_or-set_same, get_or-set_other, add-one, ◌≢◌}
 use Rattle.std.specs.Prelude.{◌||◌, nat_lt}
 use Rattle.std.proofs.Math.Seq.{drop-cons}
 use Rattle.std.proofs.lemmas.Bool.{eqb-true, eqb-false}

@@ -1,8 +1,8 @@
 -- What the choice of a run's bids reads off what is kept is what its definition says.
-use Rattle.std.proofs.Common.{◌≡◌, ◌∙◌, ℕ, zero, suc, ◌+◌, ◌<◌, ◌≤◌, ◌==◌, Bool, true, false, cond, if◌then◌else◌, List, [], ◌∷◌, ◌++◌, Option, Some, None, refl, ap, sym, arith, length, get_or, filter, take, drop, zero-add, add-one, map, slice_index_or, pos, inl, inr}
-use Rattle.std.specs.Prelude.{not, ◌&&◌, ◌||◌, nat_lt, is_some, slice_get}
+use Rattle.std.proofs.Common.{◌≡◌, ◌∙◌, ℕ, zero, suc, ◌+◌, ◌<◌, ◌≤◌, ◌==◌, Bool, true, false, cond, if◌then◌else◌, List, [], ◌∷◌, ◌++◌, Option, Some, None, refl, ap, sym, arith, length, get_or, filter, take, drop, zero-add, add-one, map, pos, inl, inr}
+use Rattle.std.specs.Prelude.{not, ◌&&◌, ◌||◌, nat_lt, is_some}
 use Rattle.std.specs.List.{All, AllPairs, list_any, range_with_len}
-use Rattle.std.specs.Option.{option_map_or, option_and_then}
+use Rattle.std.specs.Option.{option_map_or}
 use Rattle.std.proofs.lemmas.Bool.{eqb-true, eq-eqb}
 use Rattle.std.proofs.lemmas.Bool.{cases_lt}
 use Rattle.std.proofs.lemmas.Bool.Decides.{nat_tests}
@@ -17,15 +17,16 @@ use Rattle.std.proofs.lemmas.Map.Views.{any-filter_same}
 use Rattle.mari_bids.specs.declared.bids.Bid.{Bid}
 use Rattle.mari_bids.specs.declared.bids.BidBook.{BidBook}
 use Rattle.mari_links.specs.Links.{has_gate, quarter_of}
-use Rattle.mari_links.specs.declared.links.BidLinks.{BidLinks}
+use Rattle.mari_demands.specs.declared.demands.Demand.{Demand}
 use Rattle.mari_demands.specs.declared.runs.Run.{Run}
 use Rattle.mari_remain.specs.declared.books.Books.{Books}
 use Rattle.mari_remain.specs.Accepted.{IsAccepted}
-use Rattle.mari_remain.specs.Available.{Taken, has_free_group, is_available, is_available_up, is_used, may_run, parent_allows, share_group}
+use Rattle.mari_remain.specs.Available.{Taken, is_available, is_available_up, is_used, may_run, parent_allows, share_group}
 use Rattle.mari_remain.specs.Choice.{rivals_in}
 use Rattle.mari_remain.specs.FirstBlocks.{Kept, taken_in}
-use Rattle.mari_remain.specs.Lists.{bid_at, bids_of_quarter, group_at, parent_at}
-use Rattle.mari_remain.proofs.Places.{IsPlace, places-filter, places-rise, places-within}
+use Rattle.mari_remain.specs.Lists.{bid_at, bids_of_quarter, demand_at, group_at, numbers_of_run, parent_at}
+use Rattle.mari_remain.specs.RunMarket.{demands_of_run}
+use Rattle.mari_remain.proofs.Places.{places-filter, places-items, places-rise, places-within}
 use Rattle.mari_remain.proofs.Validity.{few_of_quarter, parents}
 
 -- a test on what passes another
@@ -208,6 +209,24 @@ has-quarter books kept quarter index l =
       there = omega (arith, long, l);
       bids = ap (λ (lists : List (List ℕ)). get_or lists quarter []) index ∙ get_or-map-range_with_len (bids_of_quarter books.bids.bids) 0 (books.quarters + 1) quarter quarter [] (omega (arith, l)) (zero-add quarter);
     }
+
+-- what the index has for a run of the day
+pub record HasRun (books : Books) (kept : Kept) (run : ℕ) : Type 0 where
+  pub there : run < length kept.of_run
+  pub demands : get_or kept.of_run run [] ≡ numbers_of_run books.demands.demands run
+
+pub has-run : (books : Books) (kept : Kept) (run : ℕ) → kept.of_run ≡ map (numbers_of_run books.demands.demands) (range_with_len 0 (length books.runs.runs + 1)) → run ≤ length books.runs.runs → HasRun books kept run
+has-run books kept run index l =
+    let runs : ℕ = length books.runs.runs in
+    let long : length kept.of_run ≡ runs + 1 = ap length index ∙ length-map-range_with_len (numbers_of_run books.demands.demands) 0 (runs + 1) in
+    record {
+      there = omega (arith, long, l);
+      demands = ap (λ (lists : List (List ℕ)). get_or lists run []) index ∙ get_or-map-range_with_len (numbers_of_run books.demands.demands) 0 (runs + 1) run run [] (omega (arith, l)) (zero-add run);
+    }
+
+-- the demands of a run's numbers are the run's
+pub demands-are : (demands : List Demand) (run : ℕ) → map (demand_at demands) (numbers_of_run demands run) ≡ demands_of_run demands run
+demands-are demands run = places-items (λ (d : Demand). d.run == run) (demand_at demands) 0 demands (λ i d l. rw (zero-add i) (get_or_default demands i _ d l))
 
 -- what is chosen of one number more: where it passes it is put behind, and among the gated ones where it has a gate
 pub record IsChosen (avail gate : ℕ → Bool) (all : List ℕ) (k : ℕ) (numbers gated : List ℕ) : Type 0 where

@@ -1,5 +1,5 @@
 -- Runs behind earlier ones, by hand: what is left of bids, of borders, and of links to earlier quarters.
-use Rattle.std.proofs.Common.{◌≡◌, ℕ, ◌+◌, ℤ, pos, negsuc, Bool, true, false, List, [], ◌∷◌, Option, Some, None, refl, map, length}
+use Rattle.std.proofs.Common.{◌≡◌, ℕ, ℤ, pos, Bool, true, false, List, [], ◌∷◌, Some, None, refl, map}
 use Rattle.mari_units.specs.declared.Cents.{Cents}
 use Rattle.mari_zones.specs.declared.borders.BorderEnds.{BorderEnds}
 use Rattle.mari_bids.specs.declared.bids.Bid.{Bid}
@@ -10,7 +10,7 @@ use Rattle.mari_market.specs.declared.market.Border.{Border}
 use Rattle.mari_market.specs.declared.market.GateInfo.{GateInfo}
 use Rattle.mari_market.specs.declared.market.Order.{Order}
 use Rattle.mari_remain.specs.declared.books.Books.{Books}
-use Rattle.mari_remain.specs.Blocks.{PastBlock, PastRun}
+use Rattle.mari_remain.specs.Blocks.{PastBlock}
 use Rattle.mari_remain.specs.RunMarket.{market_at, numbers_of}
 
 abbrev cents : ℕ → Cents

@@ -1,7 +1,6 @@
 -- Gates by their places among the gated bids, which rise.
-use Rattle.std.proofs.Common.{◌≡◌, ◌≢◌, ℕ, suc, ◌+◌, ◌<◌, ◌≤◌, ◌==◌, ◌⊎◌, inl, inr, Bool, true, false, List, [], ◌∷◌, length, map, cond, refl, ap, ◌∙◌, arith, Option, Some, None, filter, slice_get, slice_index_or, subst, sym, get_or, nat_lt}
-use Rattle.std.specs.Option.{option_and_then}
-use Rattle.std.specs.List.{All, AllPairs, Any, position, position_or_len}
+use Rattle.std.proofs.Common.{◌≡◌, ℕ, ◌<◌, ◌≤◌, ◌==◌, inl, inr, Bool, true, false, List, length, refl, ap, arith, Some, get_or, nat_lt}
+use Rattle.std.specs.List.{AllPairs, position, position_or_len}
 use Rattle.std.proofs.lemmas.Bool.{eqb-true, eq-eqb, lt-ltb, cases_lt}
 use Rattle.std.proofs.lemmas.Bool.Decides.{eqb_tells}
 use Rattle.std.proofs.lemmas.List.Quantifiers.{position-Some}

@@ -1,4 +1,5 @@
 pub mod Places
+pub mod Counts
 pub mod Beginning
 pub mod Gates
 pub mod Validity
@@ -9,3 +10,10 @@ pub mod Offers
 pub mod After
 pub mod Beside
 pub mod ExampleRuns
+pub mod ReadBack
+pub mod PrintedFields
+pub mod MigratedBorders
+pub mod MigratedLimits
+pub mod MigratedBooks
+pub mod Printing
+pub mod ShortPages

@@ -1,5 +1,5 @@
 -- No bid is activated above its offer over a day, and a gated one in at most one block.
-use Rattle.std.proofs.Common.{◌≡◌, ◌∙◌, ℕ, zero, suc, ◌+◌, ◌-◌, ◌<◌, ◌≤◌, ◌==◌, Bool, true, false, cond, if◌then◌else◌, List, [], ◌∷◌, ◌++◌, Option, Some, None, refl, ap, sym, subst, arith, length, get_or, filter, map, inl, inr, ◌⊎◌}
+use Rattle.std.proofs.Common.{◌≡◌, ◌∙◌, ℕ, suc, ◌+◌, ◌-◌, ◌<◌, ◌≤◌, ◌==◌, Bool, true, false, if◌then◌else◌, List, [], ◌∷◌, ◌++◌, Option, Some, None, refl, ap, sym, arith, get_or, map, inl, inr, ◌⊎◌}
 use Rattle.std.specs.Prelude.{IfSome, not, ◌&&◌, nat_lt}
 use Rattle.std.specs.List.{All, AllPairs, AllZip}
 use Rattle.std.specs.Option.{option_map_or}
@@ -11,21 +11,20 @@ use Rattle.std.proofs.lemmas.List.Sums.{sum_by_push}
 use Rattle.mari_bids.specs.declared.bids.Bid.{Bid}
 use Rattle.mari_links.specs.Links.{has_gate}
 use Rattle.mari_market.specs.Activation.{is_open}
-use Rattle.mari_market.specs.Bounds.{GateState, IsWithin, own_bounds, span_of}
+use Rattle.mari_market.specs.Bounds.{GateState, IsWithin, span_of}
 use Rattle.mari_market.specs.Bounds.GateState.{Open, Closed, Free}
 use Rattle.mari_market.specs.declared.market.Order.{Order}
 use Rattle.mari_market.specs.declared.market.Market.{Market}
-use Rattle.mari_market.specs.declared.activation.Activation.{Activation}
 use Rattle.mari_remain.specs.declared.books.Books.{Books}
 use Rattle.mari_remain.specs.Accepted.{IsAccepted}
-use Rattle.mari_remain.specs.Available.{Taken, is_available, is_left, is_used, may_run}
+use Rattle.mari_remain.specs.Available.{Taken, is_available, is_left, may_run}
 use Rattle.mari_remain.specs.Blocks.{PastBlock, PastRun, mw_beside, mw_in, mw_of}
 use Rattle.mari_remain.specs.FirstBlocks.{AreFirstBlocks, IsNextBlock, IsPastRun}
 use Rattle.mari_remain.specs.Lists.{bid_at, bids_of_quarter, run_at}
 use Rattle.mari_remain.specs.RunMarket.{bid_order, demand_order, demands_of_run, gate_of, gated_left, greatest_of, market_at, numbers_of, taken_before}
 use Rattle.mari_remain.proofs.Choosing.{own-chosen}
 use Rattle.mari_remain.proofs.Gates.{gate-at}
-use Rattle.mari_remain.proofs.History.{IsOwnBlock, by_blocks, beside-none, own-block, own-blocks}
+use Rattle.mari_remain.proofs.History.{IsOwnBlock, by_blocks, beside-none, own-block}
 use Rattle.mari_remain.proofs.Places.{places-rise}
 use Rattle.mari_remain.proofs.Standing.{mw-own}
 

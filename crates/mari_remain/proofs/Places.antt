@@ -1,6 +1,6 @@
 -- The places of the items of a list that pass a test.
-use Rattle.std.proofs.Common.{◌≡◌, ℕ, suc, ◌+◌, ◌<◌, ◌≤◌, ◌==◌, Bool, true, false, List, [], ◌∷◌, length, cond, refl, ap, ◌∙◌, arith, Option, Some, None, filter, add-one, slice_index_or, subst, sym, add-zero}
-use Rattle.std.specs.List.{All, AllPairs, count_by, position, range_with_len}
+use Rattle.std.proofs.Common.{◌≡◌, ℕ, suc, ◌+◌, ◌<◌, ◌≤◌, Bool, true, false, List, [], ◌∷◌, length, map, cond, refl, ap, ◌∙◌, arith, filter, slice_index_or, sym, add-zero}
+use Rattle.std.specs.List.{All, AllPairs, count_by, range_with_len}
 use Rattle.std.proofs.lemmas.List.Elements.{All-nil, All-cons, All-weaker}
 use Rattle.std.proofs.lemmas.List.Kept.{AllPairs-cons}
 use Rattle.std.proofs.lemmas.List.Sums.{length-filter}
@@ -56,3 +56,15 @@ places-filter p q k (x ∷ xs) h =
     let here : q k ≡ p x = ap q (sym (add-zero k)) ∙ h 0 x (omega arith) in
     let rest : places_from p (k + 1) xs ≡ filter q (range_with_len (k + 1) (length xs)) = places-filter p q (k + 1) xs (λ i d l. ap q (omega arith) ∙ h (suc i) d (omega arith)) in
     rw (here, rest) refl
+
+-- the items at the places of those that pass are those that pass
+pub places-items : {X : Type 0} (p : X → Bool) (at : ℕ → X) (k : ℕ) (xs : List X) → ((i : ℕ) (d : X) → i < length xs → at (k + i) ≡ slice_index_or xs i d) → map at (places_from p k xs) ≡ filter p xs
+places-items p at k [] h = refl
+places-items p at k (x ∷ xs) h =
+    let here : at k ≡ x = ap at (sym (add-zero k)) ∙ h 0 x (omega arith) in
+    let rest : map at (places_from p (k + 1) xs) ≡ filter p xs = places-items p at (k + 1) xs (λ i d l. ap at (omega arith) ∙ h (suc i) d (omega arith)) in
+    more (p x) here rest
+  where
+    more : (b : Bool) → at k ≡ x → map at (places_from p (k + 1) xs) ≡ filter p xs → map at (cond b (k ∷ places_from p (k + 1) xs) (places_from p (k + 1) xs)) ≡ cond b (x ∷ filter p xs) (filter p xs)
+    more true here rest = rw (here, rest) refl
+    more false here rest = rest

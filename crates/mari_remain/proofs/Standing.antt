@@ -1,5 +1,5 @@
 -- What is read off what stands for blocks is what the blocks took.
-use Rattle.std.proofs.Common.{◌≡◌, ◌∙◌, ℕ, zero, suc, ◌+◌, ◌-◌, ◌<◌, ◌≤◌, ◌==◌, ℤ, pos, Bool, true, false, cond, if◌then◌else◌, List, [], ◌∷◌, ◌++◌, Option, Some, None, refl, ap, sym, subst, arith, length, get_or, filter, map, zero-add, fold, inl, inr}
+use Rattle.std.proofs.Common.{◌≡◌, ◌∙◌, ℕ, ◌+◌, ◌-◌, ◌<◌, ◌≤◌, ◌==◌, ℤ, pos, Bool, true, false, cond, if◌then◌else◌, List, [], ◌∷◌, ◌++◌, Option, Some, None, refl, ap, sym, arith, length, get_or, zero-add, inl, inr}
 use Rattle.std.specs.Prelude.{is_some, nat_lt, unsigned_abs, unwrap_or}
 use Rattle.std.specs.List.{All, range_with_len}
 use Rattle.std.specs.Option.{option_map_or}
@@ -13,11 +13,11 @@ use Rattle.std.proofs.lemmas.List.Sums.{fold-append, sum_by-cons}
 use Rattle.std.proofs.lemmas.List.{length-append}
 use Rattle.mari_remain.specs.declared.books.Books.{Books}
 use Rattle.mari_remain.specs.Accepted.{IsAccepted}
-use Rattle.mari_remain.specs.Available.{Taken, taken_by}
-use Rattle.mari_remain.specs.Blocks.{PastBlock, PastRun, flow_in, flow_of, is_activated, mw_beside, mw_in, mw_of, of_direct_runs, of_quarter}
+use Rattle.mari_remain.specs.Available.{taken_by}
+use Rattle.mari_remain.specs.Blocks.{PastBlock, PastRun, flow_in, flow_of, is_activated, mw_in, mw_of, of_direct_runs, of_quarter}
 use Rattle.mari_remain.specs.FirstBlocks.{AreFirstBlocks, IsNextBlock, Kept, StandsFor, last_quarter, taken_in}
-use Rattle.mari_remain.specs.Lists.{bid_at, bids_of_quarter, run_at}
-use Rattle.mari_remain.proofs.History.{IsOwnBlock, bounded, by_blocks, flow-none, mw-none, own-blocks}
+use Rattle.mari_remain.specs.Lists.{bid_at, run_at}
+use Rattle.mari_remain.proofs.History.{IsOwnBlock, bounded, by_blocks, mw-none, own-blocks}
 
 module _ (books : Books) (ok : IsAccepted books) where
   -- quarters of runs don't fall

@@ -1,10 +1,9 @@
 -- The market of a run of accepted books is valid.
-use Rattle.std.proofs.Common.{◌≡◌, ℕ, ◌+◌, ◌-◌, ◌<◌, ◌≤◌, ◌==◌, ℤ, Bool, true, false, List, [], ◌∷◌, ◌++◌, length, map, cond, refl, ap, ◌∙◌, sym, subst, arith, Option, Some, None, IfSome, filter, unwrap_or, slice_get, slice_index_or, get_or, zero-add, length-append, int_lt, unsigned_abs, pos, negsuc, neg_ℤ, count_by, ◌≤ℤ◌, ◌+ℤ◌, ◌-ℤ◌}
+use Rattle.std.proofs.Common.{◌≡◌, ℕ, ◌+◌, ◌-◌, ◌<◌, ◌≤◌, ◌==◌, ℤ, Bool, true, false, List, [], ◌∷◌, length, map, cond, refl, ap, ◌∙◌, sym, arith, Option, Some, None, IfSome, filter, unwrap_or, slice_get, slice_index_or, get_or, zero-add, length-append, int_lt, unsigned_abs, pos, negsuc, neg_ℤ, ◌≤ℤ◌, ◌+ℤ◌, ◌-ℤ◌}
 use Rattle.std.proofs.lemmas.Int.{ints}
 use Rattle.std.specs.Option.{option_and_then}
-use Rattle.std.specs.List.{All, AllPairs, Any, Contains, position, range_with_len}
-use Rattle.std.specs.Option.{option_map_or}
-use Rattle.std.proofs.lemmas.List.Elements.{All-append, All-contains, All-filter, Contains-append_left, Contains-get_or, All-contains_itself, All-map, All-weaker, All-get_or, filter_passes}
+use Rattle.std.specs.List.{All, AllPairs, Contains, range_with_len}
+use Rattle.std.proofs.lemmas.List.Elements.{All-append, All-filter, Contains-append_left, All-contains_itself, All-map, All-weaker}
 use Rattle.std.proofs.lemmas.List.Kept.{AllPairs-filter}
 use Rattle.std.proofs.lemmas.List.Sums.{count_by-le-length, length-filter}
 use Rattle.std.proofs.lemmas.List.FromFn.{get_or-range_with_len, length-range_with_len}
@@ -18,14 +17,11 @@ use Rattle.mari_bids.specs.declared.bids.BidBook.{BidBook}
 use Rattle.mari_zones.specs.Borders.{IsBorder}
 use Rattle.mari_bids.specs.Bids.{IsBid}
 use Rattle.mari_demands.specs.Demands.{IsDemand}
-use Rattle.mari_demands.specs.Runs.{IsRun}
-use Rattle.mari_links.specs.Links.{has_gate, count_of, quarter_of, AreLinks, IsParent}
+use Rattle.mari_links.specs.Links.{has_gate, count_of, quarter_of, IsParent}
 use Rattle.mari_links.specs.declared.links.BidLinks.{BidLinks}
 use Rattle.mari_demands.specs.declared.demands.Demand.{Demand}
-use Rattle.mari_demands.specs.declared.runs.Run.{Run}
 use Rattle.mari_rows.specs.Fields.{IsWithinCap}
 use Rattle.mari_market.specs.declared.market.Order.{Order}
-use Rattle.mari_market.specs.declared.market.GateInfo.{GateInfo}
 use Rattle.mari_market.specs.Gates.{parent_of}
 use Rattle.mari_market.specs.Market.{IsValid, IsValidBorder, IsValidGate, IsValidOrder, GateFits}
 use Rattle.mari_market.specs.Price.{IsPrice}
@@ -35,7 +31,7 @@ use Rattle.mari_demands.specs.LimitPairs.{IsLimitTable}
 use Rattle.mari_demands.specs.declared.limits.Limits.{Limits}
 use Rattle.mari_remain.specs.Available.{Taken, is_available}
 use Rattle.mari_remain.specs.Lists.{bid_at, bids_of_quarter, parent_at, run_at}
-use Rattle.mari_remain.specs.RunMarket.{at_least_0, bid_order, border_of, demand_order, demands_of_run, ends_at, gate_at, gate_of, gated_left, greatest_of, inelastic_price, least_of, limits_at, market_left, numbers_left, orders_of, stated_limits}
+use Rattle.mari_remain.specs.RunMarket.{at_least_0, bid_order, border_of, demand_order, demands_of_run, ends_at, gate_at, gate_of, gated_left, greatest_of, inelastic_price, least_of, limits_at, market_left, numbers_left, stated_limits}
 use Rattle.mari_remain.proofs.Places.{IsPlace, places-filter, places-within, places-rise, length-places}
 use Rattle.mari_remain.proofs.Gates.{gate-at, gate-is, gate-less}
 

@@ -1,5 +1,5 @@
 -- Which bids of its quarter are available in a run.
-use Rattle.std.specs.Prelude.{ℕ, zero, suc, ◌+◌, ◌-◌, ◌==◌, ℤ, Bool, true, false, List, Option, Some, None, if◌then◌else◌, not, ◌&&◌, ◌||◌, length, nat_lt, slice_get}
+use Rattle.std.specs.Prelude.{ℕ, zero, suc, ◌-◌, ◌==◌, ℤ, Bool, true, false, List, Option, Some, None, if◌then◌else◌, not, ◌&&◌, ◌||◌, length, nat_lt, slice_get}
 use Rattle.std.specs.List.{list_all, list_any, range_with_len}
 use Rattle.std.specs.Option.{option_map_or}
 use Rattle.mari_bids.specs.declared.bids.Bid.{Bid}

@@ -1,5 +1,5 @@
 -- The blocks of the first runs of a day, and what stands in memory for them.
-use Rattle.std.specs.Prelude.{◌≡◌, ◌≤◌, ◌+◌, ◌==◌, ◌+ℤ◌, ◌&&◌, ◌||◌, ℕ, ℤ, pos, Bool, false, get_or, nat_lt, List, [], ◌∷◌, ◌++◌, Option, Some, None, IfSome, if◌then◌else◌, fold, is_some, length, map, slice_get, take, unwrap_or}
+use Rattle.std.specs.Prelude.{◌≡◌, ◌≤◌, ◌+◌, ◌==◌, ◌+ℤ◌, ◌&&◌, ◌||◌, ℕ, ℤ, pos, Bool, false, get_or, nat_lt, List, Option, Some, None, IfSome, if◌then◌else◌, fold, is_some, length, map, slice_get, take, unwrap_or}
 use Rattle.std.specs.List.{range_with_len}
 use Rattle.std.specs.Option.{option_map_or}
 use Rattle.mari_market.specs.Optimal.{IsFeasible}
@@ -7,7 +7,7 @@ use Rattle.mari_market.specs.declared.activation.Activation.{Activation}
 use Rattle.mari_remain.specs.declared.books.Books.{Books}
 use Rattle.mari_remain.specs.Blocks.{PastBlock, PastRun, flow_in, flow_of, is_activated, mw_in, mw_of, of_direct_runs, of_quarter}
 use Rattle.mari_remain.specs.Available.{Taken}
-use Rattle.mari_remain.specs.Lists.{bid_at, bids_of_quarter, run_at}
+use Rattle.mari_remain.specs.Lists.{bid_at, bids_of_quarter, numbers_of_run, run_at}
 use Rattle.mari_remain.specs.RunMarket.{market_at, numbers_of}
 
 -- what a published block of a run tells: the bids of the run's market behind these blocks, and an activation that is feasible there
@@ -49,6 +49,8 @@ pub record Kept : Type 0 where
   pub flow : List ℤ
   -- the bids of each quarter, from quarter 0 on
   pub of_quarter : List (List ℕ)
+  -- the numbers of the demands of each run, from run 0 on, which has none
+  pub of_run : List (List ℕ)
 
 -- what is kept stands for a list of blocks: they are those of the first runs, and the MW, the marks, the quarter and the flows are theirs
 pub record StandsFor (books : Books) (blocks : List PastBlock) (kept : Kept) : Type 0 where
@@ -58,6 +60,7 @@ pub record StandsFor (books : Books) (blocks : List PastBlock) (kept : Kept) : T
   pub quarter : kept.quarter ≡ last_quarter blocks
   pub flow : kept.flow ≡ map (flow_of (of_quarter (unwrap_or kept.quarter 0) blocks)) (range_with_len 0 (length books.borders.borders))
   pub of_quarter : kept.of_quarter ≡ map (bids_of_quarter books.bids.bids) (range_with_len 0 (books.quarters + 1))
+  pub of_run : kept.of_run ≡ map (numbers_of_run books.demands.demands) (range_with_len 0 (length books.runs.runs + 1))
 
 -- what is taken, as it is read off what is kept, for a run of a quarter
 abbrev pub taken_in : Books → Kept → (quarter : ℕ) → Taken
@@ -79,3 +82,4 @@ pub record IsKeptAfter (b : PastBlock) (kept after : Kept) : Type 0 where
   pub flows : length after.flow ≡ length kept.flow
   pub flow : (k : ℕ) → get_or after.flow k (pos 0) ≡ (if option_map_or (λ last. last == b.quarter) kept.quarter false then get_or kept.flow k (pos 0) else pos 0) +ℤ flow_in k b
   pub of_quarter : after.of_quarter ≡ kept.of_quarter
+  pub of_run : after.of_run ≡ kept.of_run

@@ -5,3 +5,4 @@ pub mod RunMarket
 pub mod FirstBlocks
 pub mod Accepted
 pub mod Choice
+pub mod Migrated

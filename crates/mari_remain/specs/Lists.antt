@@ -1,9 +1,9 @@
 -- Words on the books: a bid, its links, a run, by their numbers.
-use Rattle.std.specs.Prelude.{ℕ, ◌+◌, ◌-◌, ◌==◌, pos, Bool, false, List, [], ◌∷◌, Option, if◌then◌else◌, slice_get, slice_index_or}
+use Rattle.std.specs.Prelude.{ℕ, ◌+◌, ◌-◌, ◌==◌, pos, Bool, false, List, [], ◌∷◌, Option, None, if◌then◌else◌, slice_get, slice_index_or}
 use Rattle.std.specs.Option.{option_and_then}
-use Rattle.mari_units.specs.declared.Cents.{Cents}
 use Rattle.mari_bids.specs.declared.bids.Bid.{Bid}
 use Rattle.mari_links.specs.declared.links.BidLinks.{BidLinks}
+use Rattle.mari_demands.specs.declared.demands.Demand.{Demand}
 use Rattle.mari_demands.specs.declared.runs.Run.{Run}
 use Rattle.mari_remain.specs.declared.books.Books.{Books}
 
@@ -23,6 +23,14 @@ bids_of_quarter bids quarter = places_from (λ (b : Bid). b.quarter == quarter) 
 -- the bid of a number that is there
 abbrev pub bid_at : List Bid → ℕ → Bid
 bid_at bids i = slice_index_or bids i (record { provider = 0; zone = 0; quarter = 0; up = false; price = record { 0 = pos 0 }; least = 0; greatest = 0; both = false })
+
+-- the demands of a run, by their numbers, in the order of the file of demands
+abbrev pub numbers_of_run : List Demand → ℕ → List ℕ
+numbers_of_run demands run = places_from (λ (d : Demand). d.run == run) 0 demands
+
+-- the demand of a number that is there
+abbrev pub demand_at : List Demand → ℕ → Demand
+demand_at demands i = slice_index_or demands i (record { run = 0; zone = 0; mw = pos 0; price = None })
 
 -- the group of the bid of a number, and its parent
 abbrev pub group_at : List BidLinks → ℕ → Option ℕ

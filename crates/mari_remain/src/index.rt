@@ -1,4 +1,4 @@
-//! Bids by their quarter.
+//! Bids by their quarter, and demands by their run.
 
 ghost use Rattle.std.specs.Prelude.{◌≡◌, ◌≤◌, ◌<◌, ◌++◌, ◌∷◌, [], IfOk, OnOk, length, map};
 ghost use Rattle.std.specs.List.{All, range_with_len};
@@ -8,7 +8,7 @@ use mari_units::Memory;
 use std::alloc::{AllocFailed, Global};
 use std::marker::Model;
 
-/// The numbers of one quarter's bids, which contracts see as their list.
+/// The numbers of one quarter's bids or of one run's demands, which contracts see as their list.
 #[derive(Debug, Drop)]
 pub(crate) struct Numbers {
     numbers: Vec<u32>,

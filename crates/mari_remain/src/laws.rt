@@ -1,11 +1,16 @@
-//! What holds of every list of blocks of a day's first runs.
+//! What holds of every list of blocks of a day's first runs, and of the pages that state limits for each run.
 
-ghost use Rattle.std.specs.Prelude.{◌≡◌, ◌≤◌, ◌⊎◌, ◌∷◌, ◌++◌, [], ℕ, List, is_some, true};
+ghost use Rattle.std.specs.Prelude.{◌≡◌, ◌≤◌, ◌<◌, ◌⊎◌, ◌↔◌, ◌∷◌, ◌++◌, [], ℕ, List, Ok, is_some, length, true};
 ghost use Rattle.mari_links.specs.Links.{has_gate};
+ghost use Rattle.mari_zones.specs.Borders.{borders_in};
+ghost use Rattle.mari_zones.specs.declared.borders.BorderBook.{BorderBook};
+ghost use Rattle.mari_demands.specs.declared.limits.Limits.{Limits};
 ghost use Rattle.mari_remain.specs.Accepted.{IsAccepted};
 ghost use Rattle.mari_remain.specs.Blocks.{PastBlock, mw_in, mw_of};
 ghost use Rattle.mari_remain.specs.FirstBlocks.{AreFirstBlocks, IsKeptAfter, IsNextBlock, Kept, StandsFor};
 ghost use Rattle.mari_remain.specs.Lists.{bid_at};
+ghost use Rattle.mari_remain.specs.Migrated.{AreRead, borders_page, limits_page, with_limits};
+ghost use Rattle.mari_remain.specs.RunMarket.{limits_at, run_market_of};
 
 use crate::books::Books;
 
@@ -27,6 +32,33 @@ pub fn stands_after(books: &Books)
         → is_some next.published ≡ true → IsKeptAfter next kept after → StandsFor books.now (blocks ++ next ∷ []) after }
     ensures unpublished { (blocks : List PastBlock) (next : PastBlock) (kept : Kept) → StandsFor books.now blocks kept → IsNextBlock books.now blocks next
         → next.published ≡ None → StandsFor books.now (blocks ++ next ∷ []) kept }
+{
+    let _books = books;
+}
+
+/// A folder whose borders are read from a page may state their limits for each run instead: the pages that
+/// `borders_text` and `limits_text` write are read as such a folder's, and every run has the market that it had,
+/// behind every list of blocks.
+pub fn migration_keeps_markets(books: &Books)
+    requires accepted { IsAccepted books.now }
+    requires read { (page : List ℕ) × (borders_in books.now.zones page ≡ Ok books.now.borders) }
+
+    // The two pages are read, without a refusal, and are no longer than a page may be.
+    ensures read { (borders : BorderBook) × (limits : List (List Limits)) × AreRead books.now borders limits }
+    ensures short { (length (borders_page books.now) ≤ 268435456) × (length (limits_page books.now) ≤ 268435456) }
+
+    // With what they say in place of what the folder said, the books are accepted, and state the same limits.
+    ensures accepted { (borders : BorderBook) (limits : List (List Limits)) → AreRead books.now borders limits → IsAccepted (with_limits books.now borders limits) }
+    ensures limits { (borders : BorderBook) (limits : List (List Limits)) → AreRead books.now borders limits
+        → (run border : ℕ) → 1 ≤ run → run ≤ length books.now.runs.runs → border < length books.now.borders.borders
+        → limits_at (with_limits books.now borders limits) run border ≡ limits_at books.now run border }
+
+    // So each run has its market, and the lists of blocks of first runs are the same.
+    ensures markets { (borders : BorderBook) (limits : List (List Limits)) → AreRead books.now borders limits
+        → (blocks : List PastBlock) (run : ℕ) → 1 ≤ run → run ≤ length books.now.runs.runs
+        → run_market_of (with_limits books.now borders limits) blocks run ≡ run_market_of books.now blocks run }
+    ensures blocks { (borders : BorderBook) (limits : List (List Limits)) → AreRead books.now borders limits
+        → (blocks : List PastBlock) → AreFirstBlocks books.now blocks ↔ AreFirstBlocks (with_limits books.now borders limits) blocks }
 {
     let _books = books;
 }

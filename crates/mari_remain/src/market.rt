@@ -9,7 +9,7 @@ ghost use Rattle.mari_remain.specs.Accepted.{IsAccepted};
 ghost use Rattle.mari_remain.specs.Available.{Taken};
 ghost use Rattle.mari_remain.specs.Blocks.{PastBlock};
 ghost use Rattle.mari_remain.specs.FirstBlocks.{Kept, StandsFor, block_of, taken_in};
-ghost use Rattle.mari_remain.specs.Lists.{bid_at, bids_of_quarter, run_at};
+ghost use Rattle.mari_remain.specs.Lists.{bid_at, bids_of_quarter, demand_at, numbers_of_run, run_at};
 ghost use Rattle.mari_remain.specs.RunMarket.{at_least_0 as at_least_0_of, bid_order as bid_order_of, border_of as border_in, borders_left, demand_order as demand_order_of, demands_of_run as demands_in, ends_at, gate_at, gate_of as gate_in, gated_left, gates_of as gates_in, inelastic_price as inelastic_price_of, limits_at, numbers_left, orders_of as orders_in, run_market_left, run_market_of};
 
 use crate::adding::{add_mw, carry, mark_if};
@@ -41,6 +41,13 @@ const NO_BID: Bid = Bid {
     least: 0,
     greatest: 0,
     both: false,
+};
+
+const NO_DEMAND: Demand = Demand {
+    run: 0,
+    zone: 0,
+    mw: 0,
+    price: None,
 };
 
 const NO_RUN: Run = Run {
@@ -145,16 +152,37 @@ fn bid_orders(
     Ok(orders)
 }
 
-/// The demands of a run.
-fn demands_of(alloc: Global, demands: &[Demand], run: u32) -> Result<Vec<Demand>, Memory>
-    ensures { IfOk result (λ own. own.items ≡ demands_in demands.now run) }
+/// The demand of a number.
+fn demand_of(demands: &[Demand], number: u32) -> Demand
+    ensures { result ≡ demand_at demands.now number }
+{
+    demands.get(number as usize).copied().unwrap_or(NO_DEMAND)
+}
+
+/// The demands of these numbers.
+fn demands_at(alloc: Global, demands: &[Demand], numbers: &[u32]) -> Result<Vec<Demand>, Memory>
+    ensures { IfOk result (λ own. own.items ≡ map (demand_at demands.now) numbers.now) }
 {
     let mut own = Vec::new(alloc);
-    for demand in demands {
-        if demand.run == run {
-            own.push(*demand)?;
-        }
+    for number in numbers {
+        own.push(demand_of(demands, *number))?;
     }
+    Ok(own)
+}
+
+/// The demands of a run.
+fn demands_of(
+    alloc: Global,
+    books: &Books,
+    remaining: &Remaining,
+    run: u32,
+) -> Result<Vec<Demand>, Memory>
+    requires last { run ≤ length books.now.runs.runs }
+    requires index { remaining.now.of_run ≡ map (numbers_of_run books.now.demands.demands) (range_with_len 0 (length books.now.runs.runs + 1)) }
+    ensures { IfOk result (λ own. own.items ≡ demands_in books.now.demands.demands run) }
+{
+    let numbers = remaining.demands_of(run);
+    let own = demands_at(alloc, books.demands.demands.as_slice(), numbers)?;
     Ok(own)
 }
 
@@ -185,7 +213,7 @@ fn gate_info(links: &[BidLinks], gated: &[u32], number: u32) -> GateInfo
 }
 
 /// The limits that the files state for a border in a run.
-fn limits_of(books: &Books, run: u32, border: u32, ends: BorderEnds) -> Limits
+pub(crate) fn limits_of(books: &Books, run: u32, border: u32, ends: BorderEnds) -> Limits
     requires accepted { IsAccepted books.now }
     requires first { 1 ≤ run }
     requires last { run ≤ length books.now.runs.runs }
@@ -303,11 +331,12 @@ fn made_of(
     requires last { run ≤ length books.now.runs.runs }
     requires small { All (λ flow. unsigned_abs flow ≤ 99999) remaining.now.flow }
     requires index { remaining.now.of_quarter ≡ map (bids_of_quarter books.now.bids.bids) (range_with_len 0 (books.now.quarters + 1)) }
+    requires demands { remaining.now.of_run ≡ map (numbers_of_run books.now.demands.demands) (range_with_len 0 (length books.now.runs.runs + 1)) }
     ensures { IfOk result (λ made. made ≡ run_market_left books.now (taken_in books.now remaining.now (run_at books.now run).quarter) run) }
 {
     let entry = run_entry(books, run);
     let choice = choose(alloc, books, remaining, entry)?;
-    let demands = demands_of(alloc, books.demands.demands.as_slice(), run)?;
+    let demands = demands_of(alloc, books, remaining, run)?;
     let orders = orders_of(alloc, books, remaining, entry.quarter, &choice, &demands)?;
     let gates = gates_of(alloc, books.links.links.as_slice(), &choice.gated)?;
     let borders = borders_of(alloc, books, remaining, run, entry.quarter)?;

@@ -5,18 +5,21 @@ ghost use Rattle.std.specs.List.{All, range_with_len};
 ghost use Rattle.std.specs.Option.{option_map_or};
 ghost use Rattle.mari_remain.specs.Accepted.{IsAccepted};
 ghost use Rattle.mari_remain.specs.FirstBlocks.{StandsFor};
-ghost use Rattle.mari_remain.specs.Lists.{bids_of_quarter};
+ghost use Rattle.mari_remain.specs.Lists.{bids_of_quarter, numbers_of_run};
 ghost use Rattle.mari_bids.specs.declared.bids.Bid.{Bid as TheBid};
+ghost use Rattle.mari_demands.specs.declared.demands.Demand.{Demand as TheDemand};
 
 use crate::books::Books;
 use crate::index::{Numbers, index_of};
 use mari_bids::Bid;
+use mari_demands::Demand;
 use mari_units::Memory;
 use std::alloc::Global;
 use std::marker::Model;
 
 /// What the blocks of a day's first runs took: the MW of each bid, which bids a direct run activated, the quarter of the last
-/// published block, and the sum of each border's flows in that quarter. It also holds the bids of each quarter.
+/// published block, and the sum of each border's flows in that quarter. It also holds the bids of each quarter and the demands of
+/// each run.
 #[derive(Debug, Drop)]
 pub struct Remaining {
     pub(crate) mw: Vec<u32>,
@@ -24,6 +27,7 @@ pub struct Remaining {
     pub(crate) quarter: Option<u32>,
     pub(crate) flow: Vec<i64>,
     pub(crate) of_quarter: Vec<Numbers>,
+    pub(crate) of_run: Vec<Numbers>,
 }
 
 impl Model for Remaining {
@@ -31,7 +35,7 @@ impl Model for Remaining {
 
     ghost Value = { Kept };
 
-    ghost view = { λ r. record { mw = r.mw.items; direct = r.direct.items; quarter = r.quarter; flow = r.flow.items; of_quarter = r.of_quarter.items } };
+    ghost view = { λ r. record { mw = r.mw.items; direct = r.direct.items; quarter = r.quarter; flow = r.flow.items; of_quarter = r.of_quarter.items; of_run = r.of_run.items } };
 }
 
 // The quarter of each bid.
@@ -55,6 +59,28 @@ fn bids_by_quarter(alloc: Global, books: &Books) -> Result<Vec<Numbers>, Memory>
     Ok(index)
 }
 
+// The run of each demand.
+fn runs_of(alloc: Global, demands: &[Demand]) -> Result<Vec<u32>, Memory>
+    ensures { IfOk result (λ runs. runs.items ≡ map (λ (demand : TheDemand). demand.run) demands.now) }
+{
+    let mut runs = Vec::new(alloc);
+    for demand in demands {
+        runs.push(demand.run)?;
+    }
+    Ok(runs)
+}
+
+// The demands of each run of the day.
+fn demands_by_run(alloc: Global, books: &Books) -> Result<Vec<Numbers>, Memory>
+    requires { IsAccepted books.now }
+    ensures { IfOk result (λ index. index.items ≡ map (numbers_of_run books.now.demands.demands) (range_with_len 0 (length books.now.runs.runs + 1))) }
+{
+    let runs = runs_of(alloc, books.demands.demands.as_slice())?;
+    let count = books.runs.runs.as_slice().len() as u32;
+    let index = index_of(alloc, &runs, count + 1)?;
+    Ok(index)
+}
+
 impl Remaining {
     /// What is left before the first run: everything.
     pub fn start(alloc: Global, books: &Books) -> Result<Remaining, Memory>
@@ -69,6 +95,7 @@ impl Remaining {
             quarter: None,
             flow: vec![in alloc; 0i64; borders]?,
             of_quarter: bids_by_quarter(alloc, books)?,
+            of_run: demands_by_run(alloc, books)?,
         })
     }
 
@@ -118,5 +145,13 @@ impl Remaining {
         ensures { result.now ≡ get_or self.now.of_quarter quarter [] }
     {
         self.of_quarter[quarter as usize].as_slice()
+    }
+
+    /// The demands of a run.
+    pub(crate) fn demands_of(&self, run: u32) -> &[u32]
+        requires { run < length self.now.of_run }
+        ensures { result.now ≡ get_or self.now.of_run run [] }
+    {
+        self.of_run[run as usize].as_slice()
     }
 }

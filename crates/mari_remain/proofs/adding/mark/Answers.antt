@@ -1,4 +1,4 @@
-use Rattle.std.proofs.Common.{◌≡◌, ◌∙◌, ◌<◌, ℕ, arith, get_or, length, rules}
+use Rattle.std.proofs.Common.{◌∙◌, arith}
 use Rattle.mari_remain.proofs.Beside.{mark-no, mark-yes}
 use Rattle.mari_remain.proofs.adding.mark.Goals as goal
 use Rattle.mari_remain.proofs.adding.mark.Goals.{then-more-place-gt0, else-more-place-gt0}

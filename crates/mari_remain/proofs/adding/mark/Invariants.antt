@@ -1,4 +1,4 @@
-use Rattle.std.proofs.Common.{◌≡◌, ◌+◌, ℕ, drop, false, get_or}
+use Rattle.std.proofs.Common.{◌≡◌, ℕ, drop, false, get_or}
 use Rattle.std.specs.Prelude.{◌||◌, nat_lt}
 use Rattle.mari_remain.specs.Blocks.{mw_beside}
 use Rattle.mari_remain.proofs.adding.mark.Given as goal

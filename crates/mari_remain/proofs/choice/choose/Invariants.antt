@@ -1,4 +1,3 @@
-use Rattle.std.proofs.Common.{filter}
 use Rattle.mari_links.specs.Links.{has_gate}
 use Rattle.mari_remain.specs.Available.{is_available}
 use Rattle.mari_remain.specs.FirstBlocks.{taken_in}

@@ -1,4 +1,4 @@
-use Rattle.std.proofs.Common.{◌≡◌, ◌∙◌, ap}
+use Rattle.std.proofs.Common.{ap}
 use Rattle.std.specs.Prelude.{not}
 use Rattle.mari_remain.proofs.Choosing.{free}
 use Rattle.mari_remain.proofs.choice.has_free_group.Goals as goal

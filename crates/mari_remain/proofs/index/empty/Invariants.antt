@@ -1,4 +1,4 @@
-use Rattle.std.proofs.Common.{◌≡◌, List, [], ℕ, map}
+use Rattle.std.proofs.Common.{◌≡◌, [], map}
 use Rattle.std.specs.List.{range_with_len}
 use Rattle.mari_remain.proofs.index.empty.Given as goal
 

@@ -1,8 +1,8 @@
-use Rattle.std.proofs.Common.{◌≡◌, ◌∙◌, ◌++◌, ◌==◌, ◌<◌, ℕ, List, [], ap, get_or, sym, arith, length, zero-add, drop, rules}
+use Rattle.std.proofs.Common.{◌≡◌, ◌∙◌, ◌++◌, ℕ, List, [], ap, get_or, sym, arith, length, zero-add, drop, rules}
 use Rattle.std.proofs.lemmas.List.{append-nil}
 use Rattle.std.proofs.lemmas.List.FromFn.{fill_by_all, get_or-map-range_with_len, length-map-range_with_len}
 use Rattle.std.proofs.Math.ListN.{drop_of_length-le}
-use Rattle.mari_remain.specs.Lists.{places_from, places_of}
+use Rattle.mari_remain.specs.Lists.{places_of}
 use Rattle.mari_remain.proofs.index.index_of.Goals as goal
 
 pub loop-place-init : goal.loop-place-init

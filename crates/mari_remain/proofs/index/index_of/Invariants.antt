@@ -1,4 +1,4 @@
-use Rattle.std.proofs.Common.{◌≡◌, ◌<◌, ◌++◌, ◌==◌, ℕ, List, [], drop, get_or, length}
+use Rattle.std.proofs.Common.{◌≡◌, ◌<◌, ◌++◌, ◌==◌, ℕ, [], drop, get_or, length}
 use Rattle.mari_remain.specs.Lists.{places_from, places_of}
 use Rattle.mari_remain.proofs.index.index_of.Given as goal
 

@@ -1,4 +1,4 @@
-use Rattle.std.proofs.Common.{◌≡◌, ◌≤◌, ℕ, Bool, arith, length, refl}
+use Rattle.std.proofs.Common.{◌≡◌, ℕ, Bool, arith, length, refl}
 use Rattle.mari_remain.specs.Available.{is_available}
 use Rattle.mari_remain.specs.FirstBlocks.{taken_in}
 use Rattle.mari_remain.specs.RunMarket.{demands_of_run}
@@ -19,7 +19,7 @@ orders_of-requires-clause-own c =
     own-chosen c.args.books.now avail run.quarter c.in_ok-choice.choice.numbers.items c.in_ok-choice.ensures.numbers
 
 pub orders_of-requires-clause-small : goal.orders_of-requires-clause-small
-orders_of-requires-clause-small c = rw (c.deref.ensures.value, c.in_ok-demands.ensures, c.as_slice.ensures) (small c.args.books.now c.requires.accepted c.args.run)
+orders_of-requires-clause-small c = rw (c.deref.ensures.value, c.in_ok-demands.ensures) (small c.args.books.now c.requires.accepted c.args.run)
 
 pub gates_of-requires : goal.gates_of-requires
 gates_of-requires c =
@@ -30,5 +30,5 @@ gates_of-requires c =
 
 pub overflow_cast-result : goal.overflow_cast-result
 overflow_cast-result c =
-    let count : length c.in_ok-demands.demands.items ≡ length (demands_of_run c.args.books.now.demands.demands c.args.run) = rw (c.in_ok-demands.ensures, c.as_slice.ensures) refl in
+    let count : length c.in_ok-demands.demands.items ≡ length (demands_of_run c.args.books.now.demands.demands c.args.run) = rw c.in_ok-demands.ensures refl in
     omega (arith, few c.args.books.now c.requires.accepted c.args.run, count, c.len-2.ensures)

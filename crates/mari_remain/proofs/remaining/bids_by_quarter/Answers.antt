@@ -1,4 +1,4 @@
-use Rattle.std.proofs.Common.{◌≡◌, ◌∙◌, ◌+◌, ◌<◌, ℕ, List, ap, map, refl}
+use Rattle.std.proofs.Common.{◌≡◌, ◌∙◌, ◌+◌, ℕ, List, ap, map, refl}
 use Rattle.std.specs.List.{range_with_len}
 use Rattle.mari_bids.specs.declared.bids.Bid.{Bid}
 use Rattle.mari_remain.specs.Lists.{places_of}

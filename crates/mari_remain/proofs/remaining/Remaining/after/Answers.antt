@@ -1,4 +1,4 @@
-use Rattle.std.proofs.Common.{◌≡◌, ◌∙◌, ap, length, arith, sym, refl, ◌==◌, ℕ, ℤ, pos, List, Bool, false, Some, get_or}
+use Rattle.std.proofs.Common.{◌∙◌, ap, length, refl, ◌==◌, ℕ, ℤ, pos, List, Bool, false, Some, get_or}
 use Rattle.std.specs.Option.{option_map_or}
 use Rattle.std.proofs.lemmas.List.{with_items_is}
 use Rattle.mari_demands.specs.declared.runs.Run.{Run}
@@ -82,4 +82,5 @@ returns c = λ blocks stands is_next made_is.
       flows = ap length flows ∙ c.carry.auto.flow ∙ ap length same_flow;
       flow = λ k. ap (λ (fs : List ℤ). get_or fs k (pos 0)) flows ∙ flow k;
       of_quarter = ap (λ (k : Kept). k.of_quarter) c.self.view_is;
+      of_run = ap (λ (k : Kept). k.of_run) c.self.view_is;
     })

@@ -11,9 +11,11 @@ returns c =
       quarter = None;
       flow = c.in_ok-vec-3.field-0.items;
       of_quarter = c.in_ok-bids_by_quarter.field-0.items;
+      of_run = c.in_ok-demands_by_run.field-0.items;
     })
     (rw (sym c.as_slice-bids.ensures) (search rules))
     (rw (sym c.as_slice-bids.ensures) (search rules))
     refl
     (rw (sym c.as_slice-borders.ensures) (search rules))
     c.in_ok-bids_by_quarter.ensures
+    c.in_ok-demands_by_run.ensures

@@ -1,9 +1,7 @@
 -- The block that is put together is that of a published run.
-use Rattle.std.proofs.Common.{Option, ◌≡◌, ◌∙◌, ◌++◌, ℕ, ◌+◌, ◌≤◌, List, length, map, take, drop, refl, sym, ap, subst, arith}
+use Rattle.std.proofs.Common.{Option, ◌≡◌, ◌∙◌, ℕ, ◌+◌, List, length, map, refl, sym, ap, subst, arith}
 use Rattle.std.proofs.lemmas.List.{length-drop, take-append-drop}
 use Rattle.mari_units.specs.declared.numbers.Cents.{Cents}
-use Rattle.mari_units.specs.declared.numbers.Quarters.{Quarters}
-use Rattle.mari_market.specs.declared.activation.Activation.{Activation}
 use Rattle.mari_market.specs.declared.clearing.Clearing.{Clearing}
 use Rattle.mari_market.specs.Area.{AreAreas}
 use Rattle.mari_market.specs.Clearing.{IsClearing}
@@ -13,7 +11,6 @@ use Rattle.mari_publish.specs.declared.publication.FullBlock.{FullBlock}
 use Rattle.mari_remain.specs.declared.books.Books.{Books}
 use Rattle.mari_remain.specs.declared.market.RunMarket.{RunMarket}
 use Rattle.mari_market.specs.declared.activation.Prices.{Prices}
-use Rattle.mari_settle.specs.declared.ledger.OperatorLine.{OperatorLine}
 use Rattle.mari_settle.specs.Ledger.{operator_lines, provider_amounts, rents_of, scheduled_or}
 use Rattle.mari_day.specs.declared.block.Priced.{Priced}
 use Rattle.mari_day.specs.declared.block.Settled.{Settled}

@@ -1,10 +1,9 @@
 -- The numbers of a published run's block are in range.
-use Rattle.std.proofs.Common.{◌≡◌, ◌∙◌, ℕ, suc, ◌+◌, ◌*◌, ◌-◌, ◌^◌, ◌<◌, ◌≤◌, ℤ, pos, ◌-ℤ◌, ◌≤ℤ◌, true, List, [], ◌∷◌, Option, length, map, take, drop, get_or, slice_index_or, refl, sym, ap, subst, arith, unsigned_abs}
+use Rattle.std.proofs.Common.{◌≡◌, ◌∙◌, ℕ, ◌*◌, ◌-◌, ◌^◌, ◌<◌, ◌≤◌, pos, ◌-ℤ◌, List, [], ◌∷◌, Option, length, map, get_or, slice_index_or, sym, ap, subst, arith}
 use Rattle.std.proofs.lemmas.Int.{ints}
 use Rattle.std.specs.List.{All}
 use Rattle.std.proofs.lemmas.List.{length-map, get_or-map}
 use Rattle.std.proofs.lemmas.List.Elements.{All-cons, All-nil, All-map, All-take, All-drop, All-weaker, All-tail, All-head}
-use Rattle.mari_units.specs.Names.{is_name}
 use Rattle.mari_units.specs.declared.numbers.Cents.{Cents}
 use Rattle.mari_units.specs.declared.numbers.Quarters.{Quarters}
 use Rattle.mari_zones.specs.Borders.{IsBorder}
@@ -16,14 +15,11 @@ use Rattle.mari_market.specs.Optimal.{IsFeasible}
 use Rattle.mari_market.specs.declared.clearing.Clearing.{Clearing}
 use Rattle.mari_publish.specs.Ranges.{Between, FullFits, InRange, IsAmountLine, IsMoney, IsMoneyLine, IsName, IsPriceLine, Listed, Within}
 use Rattle.mari_publish.specs.declared.line.Line.TheVariants as line
-use Rattle.mari_publish.specs.declared.publication.AmountLine.{AmountLine}
 use Rattle.mari_publish.specs.declared.publication.BidLine.{BidLine}
 use Rattle.mari_publish.specs.declared.publication.BorderLine.{BorderLine}
 use Rattle.mari_publish.specs.declared.publication.FullBlock.{FullBlock}
-use Rattle.mari_publish.specs.declared.publication.MoneyLine.{MoneyLine}
 use Rattle.mari_publish.specs.declared.publication.ZoneLine.{ZoneLine}
 use Rattle.mari_remain.specs.Accepted.{IsAccepted}
-use Rattle.mari_remain.specs.Lists.{run_at}
 use Rattle.mari_remain.specs.declared.market.RunMarket.{RunMarket}
 use Rattle.mari_remain.specs.declared.books.Books.{Books}
 use Rattle.mari_settle.specs.Conditions.{IsSmall, IsSmallLine, IsWithin, LineIsWithin}

@@ -1,12 +1,12 @@
 -- Fetching one file after the other.
-use Rattle.std.proofs.Common.{◌≡◌, ◌∙◌, ◌⊎◌, inl, inr, ℕ, zero, suc, ◌+◌, ◌<◌, ◌≤◌, sym, ap, add-one, List, [], ◌∷◌, ◌++◌, Option, Some, None, length, map, take, drop, slice_index_or, arith, refl, subst}
+use Rattle.std.proofs.Common.{◌≡◌, ◌∙◌, inl, inr, ℕ, zero, suc, ◌+◌, ◌<◌, ◌≤◌, sym, ap, add-one, List, [], ◌∷◌, ◌++◌, Some, None, length, map, take, drop, slice_index_or, arith, refl, subst}
 use Rattle.mari_io.specs.Outside.{Pages, counted, counted_by}
 use Rattle.mari_day.specs.declared.files.File.{File}
 use Rattle.mari_day.specs.declared.files.File.TheVariants.{Day}
 use Rattle.mari_day.specs.declared.pages.PagesFault.{PagesFault}
 use Rattle.mari_day.specs.declared.pages.PagesFault.TheVariants.{Of, NoMemory}
 use Rattle.mari_day.specs.Fetching.{FetchedOne, FetchedUpTo, IsFaultOf, SomeFetched}
-use Rattle.mari_day.specs.Files.{files, place_of, page_in, gap_of, gap_or, first_gap, AreHeld, Gap, FileGap}
+use Rattle.mari_day.specs.Files.{files, place_of, page_in, gap_of, first_gap, ArePages, Gap}
 
 -- the file at a place has that place
 place_is : (n : ℕ) → n < 7 → place_of (slice_index_or files n Day) ≡ n
@@ -24,7 +24,7 @@ pub one_more : (n before mid now : ℕ) → mid ≡ counted_by n before → now 
 one_more n before mid now e f = rw add-one (f ∙ ap counted e)
 
 -- the fetch of the file at this place gave no page
-pub at_fault : (n before mid now : ℕ) (fault : PagesFault) → mid ≡ counted_by n before → n < 7 → FetchedOne mid now fault → IsFaultOf (slice_index_or files n Day) fault → FetchedUpTo before now fault
+pub at_fault : (n before mid now : ℕ) (fault : PagesFault) → mid ≡ counted_by n before → n < 7 → FetchedOne mid now fault → IsFaultOf (slice_index_or files n Day) fault → FetchedUpTo 7 before now fault
 at_fault n before mid now NoMemory e l (inl same) is = record { count = n; within = omega (arith, l); fetched = same ∙ e }
 at_fault n before mid now NoMemory e l (inr one) is = record { count = n + 1; within = omega (arith, l); fetched = one_more n before mid now e one }
 at_fault n before mid now (Of file why) e l one is =
@@ -35,7 +35,7 @@ at_fault n before mid now (Of file why) e l one is =
 pub all_fetched : (n before now : ℕ) → now ≡ counted_by n before → n ≡ 7 → now ≡ counted_by 7 before
 all_fetched n before now e is = e ∙ ap (λ (k : ℕ). counted_by k before) is
 
-pub some_fetched : (n before now : ℕ) → now ≡ counted_by n before → n ≤ 7 → SomeFetched before now
+pub some_fetched : (n before now : ℕ) → now ≡ counted_by n before → n ≤ 7 → SomeFetched 7 before now
 some_fetched n before now e l = record { count = n; within = l; fetched = e }
 
 module _ (pages : Pages) (folder : List ℕ) where
@@ -67,7 +67,7 @@ module _ (pages : Pages) (folder : List ℕ) where
       rw (first, more) refl
 
   -- all files were fetched
-  pub whole : (texts : List (List ℕ)) (i : ℕ) → i ≡ 7 → map (page_in pages folder) (take i files) ≡ map Some texts → first_gap pages folder files ≡ first_gap pages folder (drop i files) → AreHeld pages folder texts
+  pub whole : (texts : List (List ℕ)) (i : ℕ) → i ≡ 7 → map (page_in pages folder) (take i files) ≡ map Some texts → first_gap pages folder files ≡ first_gap pages folder (drop i files) → ArePages pages folder files texts
   whole texts i e h g =
       let P : ℕ → Type 0 = λ n. map (page_in pages folder) (take n files) ≡ map Some texts in
       let Q : ℕ → Type 0 = λ n. first_gap pages folder files ≡ first_gap pages folder (drop n files) in

@@ -1,4 +1,6 @@
 pub mod Fetched
+pub mod Folders
+pub mod Digits
 pub mod Money
 pub mod Assembles
 pub mod TreeFits

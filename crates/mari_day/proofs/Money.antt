@@ -1,8 +1,8 @@
 -- Providers of a run's bids.
-use Rattle.std.proofs.Common.{◌≡◌, ℕ, ◌+◌, ◌<◌, ◌≤◌, ◌==◌, Bool, true, false, List, [], ◌∷◌, ◌++◌, length, length-append, map, fold, cond, refl, arith}
+use Rattle.std.proofs.Common.{ℕ, ◌+◌, ◌<◌, ◌≤◌, ◌==◌, true, false, List, [], ◌∷◌, ◌++◌, length, length-append, map, fold, cond, arith}
 use Rattle.std.specs.List.{All, list_any}
 use Rattle.std.proofs.lemmas.List.{length-map}
-use Rattle.std.proofs.lemmas.List.Elements.{All-head, All-tail, All-push, All-nil, All-map, All-weaker}
+use Rattle.std.proofs.lemmas.List.Elements.{All-head, All-tail, All-push, All-nil, All-map}
 use Rattle.mari_bids.specs.declared.bids.Bid.{Bid}
 use Rattle.mari_remain.specs.Lists.{bid_at}
 use Rattle.mari_day.specs.Money.{each_once, providers_among, with_number}

@@ -1,7 +1,6 @@
 -- The blocks of a day part, as the market of a later run reads them.
-use Rattle.std.proofs.Common.{◌≡◌, ◌≢◌, ◌∙◌, ℕ, zero, suc, ◌+◌, ◌<◌, ◌≤◌, Bool, true, false, List, [], ◌∷◌, ◌++◌, length, map, take, get_or, Option, Some, None, refl, sym, ap, subst, arith}
+use Rattle.std.proofs.Common.{◌≡◌, ◌≢◌, ◌∙◌, ℕ, ◌+◌, ◌<◌, ◌≤◌, Bool, true, false, List, [], ◌∷◌, length, map, get_or, Some, refl, sym, ap, subst, arith}
 use Rattle.std.specs.List.{All, AllPairs}
-use Rattle.std.specs.Prelude.{slice_get}
 use Rattle.std.specs.Str.{bytes_eq}
 use Rattle.std.proofs.lemmas.List.{length-map}
 use Rattle.std.proofs.lemmas.List.Elements.{All-head, All-tail}
@@ -20,7 +19,7 @@ use Rattle.mari_remain.specs.Blocks.{PastBlock, PastRun}
 use Rattle.mari_remain.specs.FirstBlocks.{AreFirstBlocks, IsNextBlock, IsPastRun, block_of}
 use Rattle.mari_remain.specs.Lists.{run_at}
 use Rattle.mari_day.specs.Before.{before_of, market_behind, past_of, run_behind}
-use Rattle.mari_day.specs.Published.{IsBlock, IsPublishedRun, IsUnpublishedRun}
+use Rattle.mari_day.specs.Published.{IsBlock, IsPublishedRun}
 use Rattle.mari_day.specs.Run.{activation_of, heading_of, name_at}
 use Rattle.mari_day.proofs.Shapes.{market-of}
 

@@ -1,14 +1,12 @@
 -- What is kept of a day stands for one block more after each run.
-use Rattle.std.proofs.Common.{◌≡◌, ◌∙◌, ℕ, zero, suc, ◌+◌, ◌-◌, ◌<◌, ◌≤◌, Bool, true, false, if◌then◌else◌, List, [], ◌∷◌, ◌++◌, length, map, take, Option, Some, None, refl, sym, ap, subst, arith, inl, inr, add-one}
+use Rattle.std.proofs.Common.{◌≡◌, ◌∙◌, ℕ, zero, suc, ◌+◌, ◌<◌, ◌≤◌, Bool, true, false, if◌then◌else◌, List, [], ◌∷◌, ◌++◌, length, take, Option, Some, None, refl, sym, ap, subst, arith, inl, inr}
 use Rattle.std.specs.Prelude.{slice_get}
-use Rattle.std.specs.List.{All, flat_map}
 use Rattle.std.proofs.Math.Seq.{take-length}
 use Rattle.std.proofs.lemmas.Bool.{cases_lt}
 use Rattle.std.proofs.lemmas.List.{length-append, map-append, take-append-le}
 use Rattle.std.proofs.lemmas.List.Elements.{All-push}
 use Rattle.std.proofs.lemmas.Option.{slice_get_within}
 use Rattle.mari_market.specs.declared.activation.Activation.{Activation}
-use Rattle.mari_market.specs.declared.activation.Prices.{Prices}
 use Rattle.mari_publish.specs.declared.publication.Block.{Block}
 use Rattle.mari_publish.specs.declared.publication.Block.TheVariants as block
 use Rattle.mari_publish.specs.declared.publication.FullBlock.{FullBlock}
@@ -19,7 +17,7 @@ use Rattle.mari_remain.specs.declared.books.Books.{Books}
 use Rattle.mari_remain.specs.declared.market.RunMarket.{RunMarket}
 use Rattle.mari_remain.specs.Accepted.{IsAccepted}
 use Rattle.mari_remain.specs.Blocks.{PastBlock}
-use Rattle.mari_remain.specs.FirstBlocks.{Kept, StandsFor, block_of}
+use Rattle.mari_remain.specs.FirstBlocks.{StandsFor, block_of}
 use Rattle.mari_remain.specs.Lists.{run_at}
 use Rattle.mari_remain.proofs.After.{nothing-more}
 use Rattle.mari_settle.specs.Lines.{lines_together, map_along, together}
@@ -33,7 +31,7 @@ use Rattle.mari_market.specs.Optimal.{IsFeasible}
 use Rattle.mari_settle.specs.Conditions.{LedgersAddUp}
 use Rattle.mari_day.specs.Progress.{IsProgress, IsSettledIn, KeepsPrices}
 use Rattle.mari_day.specs.Published.{IsBlock, IsPublishedRun, IsUnpublishedRun}
-use Rattle.mari_day.specs.Run.{activation_of, prices_of}
+use Rattle.mari_day.specs.Run.{activation_of}
 use Rattle.mari_day.proofs.Past.{next-block, past-published}
 use Rattle.mari_day.proofs.Scheduling.{keeps-direct, keeps-scheduled, keeps-unpublished}
 use Rattle.mari_day.proofs.Sums.{adds-up, totals-more, totals-same}

@@ -1,8 +1,8 @@
 -- Sums of lines and amounts over blocks, one block after the other.
-use Rattle.std.proofs.Common.{◌≡◌, ◌∙◌, ℕ, zero, suc, ◌+◌, ◌*◌, ◌^◌, ◌≤◌, ℤ, pos, ◌+ℤ◌, ◌-ℤ◌, List, [], ◌∷◌, ◌++◌, length, map, refl, sym, ap, arith}
+use Rattle.std.proofs.Common.{◌≡◌, ◌∙◌, ℕ, zero, suc, ◌+◌, ◌*◌, ◌^◌, ◌≤◌, ℤ, pos, ◌+ℤ◌, List, [], ◌∷◌, ◌++◌, length, map, refl, sym, ap, arith}
 use Rattle.std.proofs.lemmas.Int.{ints}
 use Rattle.std.specs.Prelude.{replicate}
-use Rattle.std.specs.List.{All, range_with_len}
+use Rattle.std.specs.List.{range_with_len}
 use Rattle.std.proofs.lemmas.List.{append_assoc, append-nil, length-append, length-replicate}
 use Rattle.std.proofs.lemmas.List.FromFn.{length-map-range_with_len}
 use Rattle.std.proofs.lemmas.List.Elements.{All-weaker}
@@ -13,7 +13,6 @@ use Rattle.mari_publish.specs.declared.publication.Block.{Block}
 use Rattle.mari_publish.specs.declared.publication.Block.TheVariants as block
 use Rattle.mari_publish.specs.declared.publication.FullBlock.{FullBlock}
 use Rattle.mari_publish.specs.declared.publication.Heading.{Heading}
-use Rattle.mari_publish.specs.declared.publication.MoneyLine.{MoneyLine}
 use Rattle.mari_remain.specs.declared.books.Books.{Books}
 use Rattle.mari_settle.specs.Conditions.{IsWithin, LedgerIsWithin, LedgersAddUp, LineIsWithin}
 use Rattle.mari_settle.specs.Ledger.{net_of}

@@ -1,5 +1,5 @@
 -- The texts of day parts and days, piece by piece.
-use Rattle.std.proofs.Common.{◌≡◌, ◌∙◌, ℕ, ◌+◌, ◌-◌, ◌<◌, ◌≤◌, ◌⊎◌, inl, inr, List, [], ◌∷◌, ◌++◌, length, take, Option, Some, None, Result, Ok, Err, refl, sym, ap, subst, arith}
+use Rattle.std.proofs.Common.{◌≡◌, ◌∙◌, ℕ, ◌+◌, ◌-◌, ◌<◌, ◌≤◌, inl, inr, List, [], ◌∷◌, ◌++◌, length, take, Option, Some, None, Result, Ok, Err, refl, sym, ap, arith}
 use Rattle.std.specs.List.{flat_map}
 use Rattle.std.proofs.Math.Seq.{take-append-add}
 use Rattle.std.proofs.lemmas.Grind.{flat_map-append}
@@ -15,9 +15,7 @@ use Rattle.mari_publish.specs.declared.publication.MoneyLine.{MoneyLine}
 use Rattle.mari_publish.specs.Spelling.{block_text_of, head_text_of, line_text, text_of, text_of_lines, total_text_of}
 use Rattle.mari_publish.proofs.Parts.{text_of_blocks}
 use Rattle.mari_remain.specs.declared.books.Books.{Books}
-use Rattle.mari_day.specs.Before.{run_behind}
-use Rattle.mari_day.specs.Day.{IsDayPart, IsDayText, IsPartText, part_text, then_took, WroteDay, WrotePart, WrotePrefix}
-use Rattle.mari_day.specs.Progress.{IsProgress}
+use Rattle.mari_day.specs.Day.{IsDayPart, part_text, then_took, WroteDay, WrotePart, WrotePrefix}
 use Rattle.mari_day.specs.Stepped.{BrokeOff, Closes, IsDayOf, Stepped, Stopped, WroteBlock, WroteFirst}
 use Rattle.mari_day.specs.declared.step.Stop.TheVariants.{Sink, NoMemory}
 use Rattle.mari_day.specs.declared.progress.Progress.{Progress}

@@ -1,12 +1,11 @@
 -- The items of a certificate tree that holds are in range.
-use Rattle.std.proofs.Common.{◌≡◌, ◌∙◌, ℕ, suc, ◌+◌, ◌-◌, ◌<◌, ◌≤◌, ℤ, pos, neg_ℤ, ◌<ℤ◌, ◌≤ℤ◌, Bool, true, false, List, [], ◌∷◌, ◌++◌, length, map, if◌then◌else◌, refl, sym, ap, arith, unsigned_abs, Option, Some, None}
+use Rattle.std.proofs.Common.{◌≡◌, ℕ, suc, ◌+◌, ◌-◌, ◌<◌, ◌≤◌, ℤ, pos, Bool, List, [], ◌∷◌, ◌++◌, length, refl, arith}
 use Rattle.std.proofs.lemmas.Int.{ints}
 use Rattle.std.specs.List.{All, AllZip}
 use Rattle.std.proofs.lemmas.List.Elements.{All-cons, All-nil, All-weaker}
 use Rattle.mari_welfare.proofs.Sizes.{as_long, as_many, at_most}
 use Rattle.mari_units.specs.declared.numbers.Cents.{Cents}
 use Rattle.mari_market.specs.declared.activation.Activation.{Activation}
-use Rattle.mari_market.specs.declared.certificate.Conflict.{Conflict as ConflictRecord}
 use Rattle.mari_market.specs.declared.certificate.Cut.{Cut as CutRecord}
 use Rattle.mari_market.specs.declared.certificate.CutSide.{CutSide}
 use Rattle.mari_market.specs.declared.certificate.CutSide.TheVariants.{Out, In}
@@ -18,9 +17,8 @@ use Rattle.mari_market.specs.declared.market.Border.{Border}
 use Rattle.mari_market.specs.declared.market.Market.{Market}
 use Rattle.mari_market.specs.declared.market.Order.{Order}
 use Rattle.mari_market.specs.Activation.{IsWithinLimits, is_open}
-use Rattle.mari_market.specs.Bounds.{IsWithin, Span, own_bounds, span_of, gated_span}
-use Rattle.mari_market.specs.Bounds.GateState.{Open, Closed}
-use Rattle.mari_market.specs.Conflict.{IsConflict, IsContradiction}
+use Rattle.mari_market.specs.Bounds.{IsWithin, Span, own_bounds}
+use Rattle.mari_market.specs.Conflict.{IsContradiction}
 use Rattle.mari_market.specs.Cut.{IsCut, IsRising, CannotBalance, least_of, most_of, most_in, most_out}
 use Rattle.mari_market.specs.Market.{IsValid, IsValidBorder, IsValidOrder}
 use Rattle.mari_market.specs.Optimal.{IsFeasible}

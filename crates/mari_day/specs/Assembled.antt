@@ -17,9 +17,7 @@ use Rattle.mari_market.specs.Market.{IsValid}
 use Rattle.mari_market.specs.Optimal.{IsConsistent}
 use Rattle.mari_market.specs.Sums.{int_sum}
 use Rattle.mari_settle.specs.Ledger.{net_of, operator_lines, provider_amounts, rents_of, scheduled_or}
-use Rattle.mari_settle.specs.declared.ledger.Ledger.{Ledger}
 use Rattle.mari_settle.specs.Conditions.{HasSmallNumbers, IsWithin, LineIsWithin, NameOrders}
-use Rattle.mari_prices.specs.declared.published.Pricing.{Pricing}
 use Rattle.mari_day.specs.declared.block.Priced.{Priced}
 use Rattle.mari_day.specs.declared.block.Settled.{Settled}
 use Rattle.mari_day.specs.Money.{amount_line, money_lines_of, providers_among}

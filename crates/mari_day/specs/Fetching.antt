@@ -1,12 +1,12 @@
 -- What fetching a folder's pages gives.
-use Rattle.std.specs.Prelude.{◌≡◌, ◌≤◌, ◌+◌, ◌⊎◌, ℕ, List, Result, Ok, Err, Option, Some, None, ⊤}
+use Rattle.std.specs.Prelude.{◌≡◌, ◌≤◌, ◌+◌, ◌⊎◌, ℕ, List, length, Result, Ok, Err, Option, Some, None, ⊤}
 use Rattle.mari_io.specs.declared.shelf.Fetch.{Fetch}
 use Rattle.mari_io.specs.declared.shelf.Fetch.TheVariants.{Failed, Missing, TooLong, Memory}
 use Rattle.mari_io.specs.Outside.{Pages, counted, counted_by}
 use Rattle.mari_day.specs.declared.files.File.{File}
 use Rattle.mari_day.specs.declared.pages.PagesFault.{PagesFault}
 use Rattle.mari_day.specs.declared.pages.PagesFault.TheVariants.{Of, NoMemory}
-use Rattle.mari_day.specs.Files.{files, place_of, gap_of, first_gap, AreHeld}
+use Rattle.mari_day.specs.Files.{files_in, place_of, gap_of, first_gap, ArePages}
 use Rattle.mari_day.specs.Files.Gap.{NotHeld, OverLimit}
 
 -- the fetch of some file gave this answer
@@ -33,20 +33,31 @@ abbrev pub FetchesPage : {T : Type 0} → (before now : ℕ) → Result T PagesF
 FetchesPage before now (Ok x) = now ≡ counted before
 FetchesPage before now (Err fault) = FetchedOne before now fault
 
--- some of the seven files were fetched, each once
-pub record SomeFetched (before now : ℕ) : Type 0 where
+-- at most so many files were fetched, each once
+pub record SomeFetched (most before now : ℕ) : Type 0 where
   pub count : ℕ
-  pub within : count ≤ 7
+  pub within : count ≤ most
   pub fetched : now ≡ counted_by count before
 
--- how many fetches the pages take: one for each file, and where a file's page can't be had one for it and each before it
-abbrev pub FetchedUpTo : (before now : ℕ) → PagesFault → Type 0
-FetchedUpTo before now NoMemory = SomeFetched before now
-FetchedUpTo before now (Of file why) = now ≡ counted_by (place_of file + 1) before
+-- how many fetches the pages of so many files take: one for each, and where a file's page can't be had one for it and each before it
+abbrev pub FetchedUpTo : (count before now : ℕ) → PagesFault → Type 0
+FetchedUpTo count before now NoMemory = SomeFetched count before now
+FetchedUpTo count before now (Of file why) = now ≡ counted_by (place_of file + 1) before
 
-abbrev pub FetchesPages : {T : Type 0} → (before now : ℕ) → Result T PagesFault → Type 0
-FetchesPages before now (Ok x) = now ≡ counted_by 7 before
-FetchesPages before now (Err fault) = FetchedUpTo before now fault
+abbrev pub FetchesPages : (count before now : ℕ) → Result (List (List ℕ)) PagesFault → Type 0
+FetchesPages count before now (Ok texts) = (length texts ≡ count) × (now ≡ counted_by count before)
+FetchesPages count before now (Err fault) = FetchedUpTo count before now fault
+
+-- so many files a folder has: seven, or eight with limits.csv; where its pages are told, they tell which
+pub record HasFiles (pages : Option Pages) (folder : List ℕ) (count : ℕ) : Type 0 where
+  pub seven_or_eight : (count ≡ 7) ⊎ (count ≡ 8)
+  pub told : (told : Pages) → pages ≡ Some told → count ≡ length (files_in told folder)
+
+-- how many fetches the pages of all files of a folder take
+pub record FetchesFolder (pages : Option Pages) (folder : List ℕ) (before now : ℕ) (result : Result (List (List ℕ)) PagesFault) : Type 0 where
+  pub count : ℕ
+  pub files : HasFiles pages folder count
+  pub fetched : FetchesPages count before now result
 
 -- what fetching one file says of its page, where that is known
 abbrev pub PageTells : File → Option (List ℕ) → Result (List ℕ) PagesFault → Type 0
@@ -57,11 +68,11 @@ PageTells file page (Err (Of f Missing)) = (f ≡ file) × (gap_of page ≡ Some
 PageTells file page (Err (Of f TooLong)) = (f ≡ file) × (gap_of page ≡ Some OverLimit)
 PageTells file page (Err (Of f Memory)) = f ≡ file
 
--- what fetching says of the pages, where they are told: all of them, or the first that isn't held or is too long
-abbrev pub FetchingTells : Pages → List ℕ → Result (List (List ℕ)) PagesFault → Type 0
-FetchingTells pages folder (Ok texts) = AreHeld pages folder texts
-FetchingTells pages folder (Err NoMemory) = ⊤
-FetchingTells pages folder (Err (Of file Failed)) = ⊤
-FetchingTells pages folder (Err (Of file Missing)) = first_gap pages folder files ≡ Some (record { file = file; gap = NotHeld })
-FetchingTells pages folder (Err (Of file TooLong)) = first_gap pages folder files ≡ Some (record { file = file; gap = OverLimit })
-FetchingTells pages folder (Err (Of file Memory)) = ⊤
+-- what fetching these files says of the pages, where they are told: all of them, or the first that isn't held or is too long
+abbrev pub FetchingTells : Pages → List ℕ → List File → Result (List (List ℕ)) PagesFault → Type 0
+FetchingTells pages folder fs (Ok texts) = ArePages pages folder fs texts
+FetchingTells pages folder fs (Err NoMemory) = ⊤
+FetchingTells pages folder fs (Err (Of file Failed)) = ⊤
+FetchingTells pages folder fs (Err (Of file Missing)) = first_gap pages folder fs ≡ Some (record { file = file; gap = NotHeld })
+FetchingTells pages folder fs (Err (Of file TooLong)) = first_gap pages folder fs ≡ Some (record { file = file; gap = OverLimit })
+FetchingTells pages folder fs (Err (Of file Memory)) = ⊤

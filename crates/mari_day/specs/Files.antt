@@ -1,10 +1,11 @@
--- The seven market files of a folder, and which of them are missing or too long.
-use Rattle.std.specs.Prelude.{◌-◌, slice_index_or, ℕ, nat_lt, ◌≡◌, List, [], ◌∷◌, ◌++◌, length, map, Option, Some, None, if◌then◌else◌}
+-- The market files of a folder, and which of them are missing or too long.
+use Rattle.std.specs.Prelude.{◌-◌, slice_index_or, ℕ, nat_lt, ◌==◌, ◌≡◌, ◌≢◌, ◌≤◌, List, [], ◌∷◌, ◌++◌, length, map, Option, Some, None, if◌then◌else◌}
 use lib.Chars.{codes}
 use Rattle.mari_units.specs.declared.limits.TheConstants.{MOST_PAGE}
-use Rattle.mari_io.specs.Outside.{Pages, page_of}
+use Rattle.mari_io.specs.Outside.{Pages, page_of as page_named}
+use Rattle.mari_zones.specs.Borders.{version_in}
 use Rattle.mari_day.specs.declared.files.File.{File}
-use Rattle.mari_day.specs.declared.files.File.TheVariants.{Day, Zones, Borders, Bids, Links, Runs, Demands}
+use Rattle.mari_day.specs.declared.files.File.TheVariants.{Day, Zones, Borders, Bids, Links, Runs, Demands, Limits}
 
 -- a file's name in its folder
 abbrev pub name_of : File → List ℕ
@@ -15,8 +16,9 @@ name_of Bids = codes "bids.csv"
 name_of Links = codes "links.csv"
 name_of Runs = codes "runs.csv"
 name_of Demands = codes "demands.csv"
+name_of Limits = codes "limits.csv"
 
--- a file's place, from 0
+-- a file's place among those of its folder, from 0
 abbrev pub place_of : File → ℕ
 place_of Day = 0
 place_of Zones = 1
@@ -25,14 +27,43 @@ place_of Bids = 3
 place_of Links = 4
 place_of Runs = 5
 place_of Demands = 6
+place_of Limits = 7
 
--- the files in the order in which they are fetched and read
+-- the number by which a file is named: eight is that of the publication, which is no market file
+abbrev pub number_of : File → ℕ
+number_of Day = 1
+number_of Zones = 2
+number_of Borders = 3
+number_of Bids = 4
+number_of Links = 5
+number_of Runs = 6
+number_of Demands = 7
+number_of Limits = 9
+
+-- the number of a market file: 1 to 7, or 9
+pub record IsFileNumber (number : ℕ) : Type 0 where
+  pub first : 1 ≤ number
+  pub last : number ≤ 9
+  pub other : number ≢ 8
+
+-- the seven files that every folder has, in the order in which they are fetched and read
 abbrev pub files : List File
 files = Day ∷ Zones ∷ Borders ∷ Bids ∷ Links ∷ Runs ∷ Demands ∷ []
 
--- the name of the file of a number, counted from 1
+-- the files of a folder whose page of borders is of this version: in version 2 limits.csv stands behind the seven
+abbrev pub files_of : (version : ℕ) → List File
+files_of version = if version == 2 then files ++ Limits ∷ [] else files
+
+-- the name of the file of a number
 abbrev pub file_named : ℕ → List ℕ
-file_named number = name_of (slice_index_or files (number - 1) Day)
+file_named number =
+    if number == 8 then codes "publication.txt" else
+    if number == 9 then name_of Limits else
+    name_of (slice_index_or files (number - 1) Day)
+
+-- a file's page among the pages of its folder
+abbrev pub page_of : List (List ℕ) → File → List ℕ
+page_of pages file = slice_index_or pages (place_of file) []
 
 -- the path of a file
 abbrev pub path_of : List ℕ → File → List ℕ
@@ -40,7 +71,16 @@ path_of folder file = folder ++ 47 ∷ name_of file
 
 -- the page of a folder's file
 abbrev pub page_in : Pages → List ℕ → File → Option (List ℕ)
-page_in pages folder file = page_of pages (path_of folder file)
+page_in pages folder file = page_named pages (path_of folder file)
+
+-- the version of a folder's files, which its page of borders tells
+abbrev pub version_by : Option (List ℕ) → ℕ
+version_by None = 1
+version_by (Some borders) = version_in borders
+
+-- the files of a folder whose pages are told
+abbrev pub files_in : Pages → List ℕ → List File
+files_in pages folder = files_of (version_by (page_in pages folder Borders))
 
 -- why a page can't be had: it isn't held, or it is longer than a page may be
 pub data Gap : Type 0 where
@@ -67,7 +107,11 @@ abbrev pub first_gap : Pages → List ℕ → List File → Option FileGap
 first_gap pages folder [] = None
 first_gap pages folder (file ∷ more) = gap_or file (gap_of (page_in pages folder file)) (first_gap pages folder more)
 
--- the pages of a folder's files: each of them is held, and none is longer than a page may be
-pub record AreHeld (pages : Pages) (folder : List ℕ) (texts : List (List ℕ)) : Type 0 where
-  pub held : map (page_in pages folder) files ≡ map Some texts
-  pub no_gap : first_gap pages folder files ≡ None
+-- the pages of these files of a folder: each of them is held, and none is longer than a page may be
+pub record ArePages (pages : Pages) (folder : List ℕ) (fs : List File) (texts : List (List ℕ)) : Type 0 where
+  pub held : map (page_in pages folder) fs ≡ map Some texts
+  pub no_gap : first_gap pages folder fs ≡ None
+
+-- the pages of all files of a folder
+abbrev pub AreHeld : Pages → List ℕ → List (List ℕ) → Type 0
+AreHeld pages folder texts = ArePages pages folder (files_in pages folder) texts

@@ -1,4 +1,6 @@
 pub mod Files
+pub mod DateChecks
+pub mod CalendarPage
 pub mod Fetching
 pub mod Reading
 pub mod Run

@@ -1,5 +1,5 @@
 -- What a day keeps between its runs, and the blocks that it stands for.
-use Rattle.std.specs.Prelude.{ℕ, ◌≡◌, ◌≤◌, ◌<◌, ◌+◌, ◌*◌, ◌^◌, ◌==◌, pos, List, [], Option, Some, None, IfSome, ⊤, if◌then◌else◌, length, map}
+use Rattle.std.specs.Prelude.{ℕ, ◌≡◌, ◌≤◌, ◌<◌, ◌*◌, ◌^◌, ◌==◌, pos, List, [], Option, Some, None, IfSome, ⊤, if◌then◌else◌, length, map}
 use Rattle.std.specs.List.{All, range_with_len}
 use Rattle.mari_units.specs.declared.numbers.Cents.{Cents}
 use Rattle.mari_market.specs.Sums.{int_sum}

@@ -1,5 +1,5 @@
 -- A published run: what its block promises, and what an unpublished one says.
-use Rattle.std.specs.Prelude.{◌≡◌, ◌≤◌, ℕ, List, Option, length, map}
+use Rattle.std.specs.Prelude.{◌≡◌, ℕ, List, Option, length, map}
 use Rattle.mari_units.specs.declared.numbers.Cents.{Cents}
 use Rattle.mari_units.specs.declared.numbers.Quarters.{Quarters}
 use Rattle.mari_market.specs.declared.clearing.Spent.{Spent}

@@ -1,7 +1,5 @@
 -- The books of a folder, or its first refusal.
-use Rattle.std.specs.Prelude.{ℕ, ◌+◌, ◌==◌, ◌≡◌, ◌≤◌, List, [], length, Result, Ok, Err, None, Some, slice_index_or, if◌then◌else◌, ⊤}
-use lib.Chars.{codes}
-use Rattle.std.specs.Str.{bytes_eq}
+use Rattle.std.specs.Prelude.{ℕ, ◌==◌, ◌≡◌, List, length, min, Result, Ok, Err, Option, None, Some, is_some, if◌then◌else◌, ⊤}
 use Rattle.mari_units.specs.declared.faults.Refusal.{Refusal}
 use Rattle.mari_io.specs.declared.shelf.Fetch.{Fetch}
 use Rattle.mari_io.specs.declared.shelf.Fetch.TheVariants as fetch
@@ -16,19 +14,22 @@ use Rattle.mari_zones.specs.declared.zones.ZoneBook.{ZoneBook}
 use Rattle.mari_bids.specs.Bids.{bid_grammar}
 use Rattle.mari_links.specs.Links.{link_grammar}
 use Rattle.mari_demands.specs.Demands.{demand_grammar}
+use Rattle.mari_demands.specs.Limits.{limit_grammar}
 use Rattle.mari_demands.specs.Runs.{run_grammar}
+use Rattle.mari_demands.specs.declared.limits.Limits.{Limits as BorderLimits}
 use Rattle.mari_remain.specs.declared.books.Books.{Books}
 use Rattle.mari_day.specs.declared.files.File.{File}
-use Rattle.mari_day.specs.declared.files.File.TheVariants.{Day, Zones, Borders, Bids, Links, Runs, Demands}
+use Rattle.mari_day.specs.declared.files.File.TheVariants.{Day, Zones, Borders, Bids, Links, Runs, Demands, Limits}
 use Rattle.mari_day.specs.declared.reading.BooksFault.{BooksFault}
 use Rattle.mari_day.specs.declared.reading.BooksFault.TheVariants as why
-use Rattle.mari_day.specs.Fetching.{SomeFetched}
-use Rattle.mari_day.specs.Files.{files, place_of, first_gap, AreHeld, Gap}
+use Rattle.mari_day.specs.CalendarPage.{calendar_day_in}
+use Rattle.mari_day.specs.Fetching.{HasFiles, SomeFetched}
+use Rattle.mari_day.specs.Files.{files_in, number_of, page_of, first_gap, AreHeld, Gap, IsFileNumber}
 use Rattle.mari_day.specs.Files.Gap.{NotHeld, OverLimit}
 
 -- the refusal of a file at a line, by the number of the check that fails
 abbrev pub refusal_at : File → (line number : ℕ) → Refusal
-refusal_at file line number = record { file = place_of file + 1; line = line; number = number }
+refusal_at file line number = record { file = number_of file; line = line; number = number }
 
 infixl 10 ◌>>>◌
 abbrev pub ◌>>>◌ : {A B E : Type 0} → Result A E → (A → Result B E) → Result B E
@@ -41,36 +42,25 @@ of_file file (Ok book) = Ok book
 of_file file (Err (refused.At line number)) = Err (refusal_at file line number)
 of_file file (Err refused.Memory) = Err (refusal_at file 0 0)
 
--- a file's page among the pages of a folder
-abbrev pub page_of : List (List ℕ) → File → List ℕ
-page_of pages file = slice_index_or pages (place_of file) []
-
--- the one page of the day that this stage knows, and its date
-unfoldable pub day_page : List ℕ
-day_page = codes "date,rule\n2025-03-12,\"CET-1CEST,M3.5.0,M10.5.0/3\"\n"
-
-unfoldable pub date_text : List ℕ
-date_text = codes "2025-03-12"
-
--- the page of the day is that page, or it is refused as not built
-abbrev pub day_at : List (List ℕ) → Result (Unit {0}) Refusal
-day_at pages = if bytes_eq (page_of pages Day) day_page then Ok tt else Err (refusal_at Day 1 20)
-
--- the borders of their page; version 2, whose limits are stated for each run, is refused as not built
-abbrev pub borders_at : ZoneBook → List ℕ → Result BorderBook Refusal
-borders_at zones page = if version_in page == 2 then Err (refusal_at Borders 1 20) else of_file Borders (borders_in zones page)
+-- the limits that limits.csv states for each run, in the version that has it
+abbrev pub limits_at : ZoneBook → BorderBook → (runs : ℕ) → List (List ℕ) → Result (Option (List (List BorderLimits))) Refusal
+limits_at zones borders runs pages =
+    if version_in (page_of pages Borders) == 2
+    then (of_file Limits (book_in (limit_grammar zones borders runs) (page_of pages Limits)) >>> λ limits. Ok (Some limits))
+    else Ok None
 
 -- the books of the pages, read in the order of the files, or the first refusal
 unfoldable pub books_at : List (List ℕ) → Result Books Refusal
 books_at pages =
-    day_at pages >>> λ _.
+    of_file Day (calendar_day_in (page_of pages Day)) >>> λ day.
     of_file Zones (book_in zone_grammar (page_of pages Zones)) >>> λ zones.
-    borders_at zones (page_of pages Borders) >>> λ borders.
-    of_file Bids (book_in (bid_grammar zones 96) (page_of pages Bids)) >>> λ bids.
+    of_file Borders (borders_in zones (page_of pages Borders)) >>> λ borders.
+    of_file Bids (book_in (bid_grammar zones day.quarters) (page_of pages Bids)) >>> λ bids.
     of_file Links (book_in (link_grammar bids) (page_of pages Links)) >>> λ links.
-    of_file Runs (book_in (run_grammar 96) (page_of pages Runs)) >>> λ runs.
+    of_file Runs (book_in (run_grammar day.quarters) (page_of pages Runs)) >>> λ runs.
     of_file Demands (book_in (demand_grammar zones (length runs.runs)) (page_of pages Demands)) >>> λ demands.
-    Ok (record { date = date_text; quarters = 96; zones = zones; borders = borders; bids = bids; links = links; runs = runs; demands = demands; limits = None })
+    limits_at zones borders (length runs.runs) pages >>> λ limits.
+    Ok (record { date = day.date; quarters = day.quarters; zones = zones; borders = borders; bids = bids; links = links; runs = runs; demands = demands; limits = limits })
 
 -- this is what was to be read, or its refusal, unless memory was wanted
 abbrev pub Reads : {X : Type 0} → Result X BooksFault → Result X Refusal → Type 0
@@ -94,8 +84,8 @@ pub record HasRefusal (pages : Pages) (folder : List ℕ) (refusal : Refusal) : 
 -- the page of the file of this number is the first of the folder that can't be had, and this is why
 pub record HasGap (pages : Pages) (folder : List ℕ) (number : ℕ) (gap : Gap) : Type 0 where
   pub file : File
-  pub numbered : number ≡ place_of file + 1
-  pub first : first_gap pages folder files ≡ Some (record { file = file; gap = gap })
+  pub numbered : number ≡ number_of file
+  pub first : first_gap pages folder (files_in pages folder) ≡ Some (record { file = file; gap = gap })
 
 -- what reading says of the pages, where they are told
 abbrev pub BooksTell : Pages → List ℕ → Result Books BooksFault → Type 0
@@ -114,16 +104,23 @@ IsFetchFault fault (Err (why.Fetch number f)) = f ≡ fault
 IsFetchFault fault (Err (why.Refused refusal)) = ⊥
 IsFetchFault fault (Err why.Memory) = ⊥
 
--- how many fetches reading takes: one for each file, and where a file's page can't be had one for it and each before it
-abbrev pub FetchesFiles : {T : Type 0} → (before now : ℕ) → Result T BooksFault → Type 0
-FetchesFiles before now (Ok x) = now ≡ counted_by 7 before
-FetchesFiles before now (Err (why.Fetch number f)) = now ≡ counted_by number before
-FetchesFiles before now (Err (why.Refused refusal)) = now ≡ counted_by 7 before
-FetchesFiles before now (Err why.Memory) = SomeFetched before now
+-- how many fetches reading so many files takes: one for each, and where a file's page can't be had one for it and each before it;
+-- limits.csv, the ninth by its number, is the eighth that is fetched
+abbrev pub FetchesBooks : (count before now : ℕ) → Result Books BooksFault → Type 0
+FetchesBooks count before now (Ok books) = (count ≡ (if is_some books.limits then 8 else 7)) × (now ≡ counted_by count before)
+FetchesBooks count before now (Err (why.Fetch number f)) = now ≡ counted_by (min number 8) before
+FetchesBooks count before now (Err (why.Refused refusal)) = now ≡ counted_by count before
+FetchesBooks count before now (Err why.Memory) = SomeFetched count before now
 
--- a fault of a fetch and a refusal are of one of the seven files, by its number from 1
+-- how many fetches reading the files of a folder takes
+pub record FetchesFiles (pages : Option Pages) (folder : List ℕ) (before now : ℕ) (result : Result Books BooksFault) : Type 0 where
+  pub count : ℕ
+  pub files : HasFiles pages folder count
+  pub fetched : FetchesBooks count before now result
+
+-- a fault of a fetch and a refusal are of a market file, by its number
 abbrev pub NamesAFile : {T : Type 0} → Result T BooksFault → Type 0
 NamesAFile (Ok x) = ⊤
-NamesAFile (Err (why.Fetch number f)) = (1 ≤ number) × (number ≤ 7)
-NamesAFile (Err (why.Refused refusal)) = (1 ≤ refusal.file) × (refusal.file ≤ 7)
+NamesAFile (Err (why.Fetch number f)) = IsFileNumber number
+NamesAFile (Err (why.Refused refusal)) = IsFileNumber refusal.file
 NamesAFile (Err why.Memory) = ⊤

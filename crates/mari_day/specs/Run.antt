@@ -1,15 +1,11 @@
 -- The block of a run: what is published of it, or that it isn't published.
-use Rattle.std.specs.Prelude.{◌≡◌, ◌≤◌, ℕ, ◌==◌, ℤ, pos, List, [], ◌∷◌, ◌++◌, fold, length, map, slice_index_or, if◌then◌else◌}
-use Rattle.std.specs.List.{list_any}
+use Rattle.std.specs.Prelude.{◌≡◌, ℕ, List, [], ◌++◌, length, map, slice_index_or}
 use Rattle.mari_units.specs.declared.numbers.Cents.{Cents}
-use Rattle.mari_units.specs.declared.numbers.Quarters.{Quarters}
 use Rattle.mari_zones.specs.declared.borders.BorderEnds.{BorderEnds}
 use Rattle.mari_market.specs.declared.market.Market.{Market}
 use Rattle.mari_market.specs.declared.activation.Activation.{Activation}
 use Rattle.mari_market.specs.declared.clearing.Clearing.{Clearing}
-use Rattle.mari_market.specs.declared.clearing.Spent.{Spent}
 use Rattle.mari_market.specs.Area.{AreAreas}
-use Rattle.mari_market.specs.Clearing.{IsClearing, IsSpent}
 use Rattle.mari_market.specs.Interval.{AreLeastPrices, AreGreatestPrices, ArePublishedPrices}
 use Rattle.mari_market.specs.Optimal.{IsConsistent}
 use Rattle.mari_publish.specs.declared.publication.BidLine.{BidLine}

@@ -1,7 +1,7 @@
-//! The seven market files of a folder.
+//! The market files of a folder.
 
-ghost use Rattle.std.specs.Prelude.{◌≡◌, ◌≤◌, ◌+◌, ◌<◌};
-ghost use Rattle.mari_day.specs.Files.{file_named, name_of, place_of};
+ghost use Rattle.std.specs.Prelude.{◌≡◌, ◌≤◌, ◌<◌};
+ghost use Rattle.mari_day.specs.Files.{IsFileNumber, file_named, name_of, number_of, place_of};
 
 /// A market file, in the order in which the files are fetched and read.
 #[derive(Clone, Copy, Debug, PartialEq, Eq)]
@@ -13,9 +13,10 @@ pub enum File {
     Links,
     Runs,
     Demands,
+    Limits,
 }
 
-/// The market files in their order.
+/// The files that every folder has, in their order. `Limits` stands behind them where the borders state no limits.
 pub const FILES: [File; 7] = [
     File::Day,
     File::Zones,
@@ -39,13 +40,14 @@ impl File {
             File::Links => "links.csv",
             File::Runs => "runs.csv",
             File::Demands => "demands.csv",
+            File::Limits => "limits.csv",
         }
     }
 
-    /// The file's place, from 0.
+    /// The file's place among those of its folder, from 0.
     pub fn place(self) -> usize
         ensures place { result ≡ place_of self }
-        ensures within { result < 7 }
+        ensures within { result < 8 }
     {
         match self {
             File::Day => 0,
@@ -55,22 +57,30 @@ impl File {
             File::Links => 4,
             File::Runs => 5,
             File::Demands => 6,
+            File::Limits => 7,
         }
     }
 
-    /// The file's number, from 1.
+    /// The number by which the file is named, from 1. Eight is that of the publication, which is no market file.
     pub fn number(self) -> u8
-        ensures number { result ≡ place_of self + 1 }
-        ensures within { (1 ≤ result) × (result ≤ 7) }
+        ensures number { result ≡ number_of self }
+        ensures within { IsFileNumber result }
     {
-        self.place() as u8 + 1
+        match self {
+            File::Limits => 9,
+            _ => self.place() as u8 + 1,
+        }
     }
 }
 
-/// The name of the file of a number, from 1.
+/// The name of the file of a number, from 1: of a market file, or of the publication, which is the eighth.
 pub fn file_name(number: u8) -> &'static str
-    requires { (1 ≤ number) × (number ≤ 7) }
+    requires { (1 ≤ number) × (number ≤ 9) }
     ensures { result.now ≡ file_named number }
 {
-    FILES[number as usize - 1].name()
+    match number {
+        8 => "publication.txt",
+        9 => File::Limits.name(),
+        _ => FILES[number as usize - 1].name(),
+    }
 }

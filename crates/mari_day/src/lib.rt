@@ -5,6 +5,7 @@
 #![tactic(auto)]
 
 mod block;
+mod calendar_page;
 mod day;
 mod files;
 mod laws;
@@ -13,9 +14,12 @@ mod pages;
 mod progress;
 mod reading;
 mod step;
+#[cfg(test)]
+mod tests;
 mod text;
 mod writing;
 
+pub use calendar_page::DateCheck;
 pub use day::{DayEnd, run_day};
 pub use files::file_name;
 pub use laws::days_keep;

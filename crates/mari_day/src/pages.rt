@@ -1,15 +1,18 @@
 //! The pages of a folder, fetched in the order of its files.
 
-ghost use Rattle.std.specs.Prelude.{◌≡◌, ◌≤◌, IfOk, Some, length, slice_index_or, []};
+ghost use Rattle.std.specs.Prelude.{◌≡◌, ◌≤◌, ◌<◌, ◌==◌, ◌++◌, ◌∷◌, [], ℕ, List, IfErr, IfOk, IfSome, Some, is_some, length, if◌then◌else◌};
+ghost use Rattle.std.specs.List.{All};
 ghost use Rattle.mari_units.specs.declared.limits.TheConstants.{MOST_PAGE};
 ghost use Rattle.mari_io.specs.Outside.{Counts, Pages};
-ghost use Rattle.mari_io.specs.declared.shelf.Fetch.TheVariants.{Failed, Missing, TooLong, Memory};
-ghost use Rattle.mari_day.specs.Files.{page_in, place_of};
-ghost use Rattle.mari_day.specs.Fetching.{IsFault, IsOfFile, FetchesPage, FetchesPages, FetchingTells, PageTells};
+ghost use Rattle.mari_io.specs.declared.shelf.Fetch.TheVariants as fetch;
+ghost use Rattle.mari_zones.specs.Borders.{version_in};
+ghost use Rattle.mari_day.specs.Files.{files, files_in, page_in, page_of, place_of};
+ghost use Rattle.mari_day.specs.Fetching.{IsFault, IsOfFile, FetchesFolder, FetchesPage, FetchesPages, FetchingTells, PageTells};
 
 use crate::files::{FILES, File};
 use mari_io::{Fetch, Shelf};
-use mari_units::Items;
+use mari_units::{Items, Memory};
+use mari_zones::version_of;
 use std::alloc::Global;
 use std::marker::Model;
 
@@ -20,31 +23,49 @@ pub enum PagesFault {
     NoMemory,
 }
 
-/// The pages of the seven files. Contracts see the list of their bytes, in the order of the files.
+/// The pages of a folder's files, limits.csv among them exactly where the borders are of version 2. Contracts see the
+/// list of their bytes, in the order of the files.
 #[derive(Drop)]
 pub struct Folder {
-    pages: Vec<Items<u8>>,
+    pages: Items<Items<u8>>,
 }
 
 impl Model for Folder {
     ghost use Rattle.std.specs.Prelude.{◌≡◌, ◌≤◌, List, ℕ, length};
     ghost use Rattle.std.specs.List.{All};
     ghost use Rattle.mari_units.specs.declared.limits.TheConstants.{MOST_PAGE};
+    ghost use Rattle.mari_zones.specs.Borders.{version_in};
+    ghost use Rattle.mari_day.specs.Files.{files_of, page_of};
+    ghost use Rattle.mari_day.specs.declared.files.File.TheVariants.{Borders};
 
     ghost Value = { List (List ℕ) };
 
-    ghost view = { λ f. f.pages.items };
+    ghost view = { λ f. f.pages };
 
-    ghost invariant = { λ f. (length f.pages.items ≡ 7) × All (λ (page : List ℕ). length page ≤ MOST_PAGE) f.pages.items };
+    ghost invariant = { λ f. (length f.pages ≡ length (files_of (version_in (page_of f.pages Borders)))) × All (λ (page : List ℕ). length page ≤ MOST_PAGE) f.pages };
 }
 
 impl Folder {
-    /// The bytes of a file.
+    /// The bytes of one of the seven files.
     pub fn page(&self, file: File) -> &[u8]
-        ensures page { result.now ≡ slice_index_or self.now (place_of file) [] }
+        requires { place_of file < 7 }
+        ensures page { result.now ≡ page_of self.now file }
         ensures small { length result.now ≤ MOST_PAGE }
     {
-        self.pages[file.place()].as_slice()
+        self.pages.as_slice()[file.place()].as_slice()
+    }
+
+    /// The bytes of limits.csv, where it is one of the folder's files.
+    pub fn limits(&self) -> Option<&[u8]>
+        ensures there { is_some result ≡ (version_in (page_of self.now File.Borders) == 2) }
+        ensures count { length self.now ≡ (if is_some result then 8 else 7) }
+        ensures page { IfSome result (λ page. page.now ≡ page_of self.now File.Limits) }
+        ensures small { IfSome result (λ page. length page.now ≤ MOST_PAGE) }
+    {
+        match self.pages.as_slice().get(File::Limits.place()) {
+            Some(page) => Some(page.as_slice()),
+            None => None,
+        }
     }
 }
 
@@ -59,11 +80,11 @@ fn fetch_page<S: Shelf>(
     ensures small { IfOk result (λ page. length page ≤ MOST_PAGE) }
     ensures fetched { FetchesPage (S.fetches shelf.old) (S.fetches shelf.new) result }
     ensures file { IsOfFile file result }
-    ensures memory { IsFault Memory result → ⊥ }
+    ensures memory { IsFault fetch.Memory result → ⊥ }
     ensures told { (told : Pages) → S.pages shelf.old ≡ Some told → PageTells file (page_in told folder.now file) result }
-    ensures failed { Counts (IsFault Failed result) (S.faults shelf.old) (S.faults shelf.new) }
-    ensures missing { Counts (IsFault Missing result) (S.misses shelf.old) (S.misses shelf.new) }
-    ensures too_long { Counts (IsFault TooLong result) (S.overs shelf.old) (S.overs shelf.new) }
+    ensures failed { Counts (IsFault fetch.Failed result) (S.faults shelf.old) (S.faults shelf.new) }
+    ensures missing { Counts (IsFault fetch.Missing result) (S.misses shelf.old) (S.misses shelf.new) }
+    ensures too_long { Counts (IsFault fetch.TooLong result) (S.overs shelf.old) (S.overs shelf.new) }
 {
     let name = file.name();
     let Ok(path) = format!(in alloc; "{folder}/{name}") else {
@@ -77,19 +98,20 @@ fn fetch_page<S: Shelf>(
     }
 }
 
-/// Fetches the pages of a folder's files, in order.
-pub fn fetch_pages<S: Shelf>(
+/// Fetches the pages of the seven files that every folder has, in order.
+fn fetch_seven<S: Shelf>(
     alloc: Global,
     shelf: &mut S,
     folder: &str,
-) -> Result<Folder, PagesFault>
+) -> Result<Items<Items<u8>>, PagesFault>
     ensures same { S.pages shelf.new ≡ S.pages shelf.old }
-    ensures fetched { FetchesPages (S.fetches shelf.old) (S.fetches shelf.new) result }
-    ensures memory { IsFault Memory result → ⊥ }
-    ensures told { (told : Pages) → S.pages shelf.old ≡ Some told → FetchingTells told folder.now result }
-    ensures failed { Counts (IsFault Failed result) (S.faults shelf.old) (S.faults shelf.new) }
-    ensures missing { Counts (IsFault Missing result) (S.misses shelf.old) (S.misses shelf.new) }
-    ensures too_long { Counts (IsFault TooLong result) (S.overs shelf.old) (S.overs shelf.new) }
+    ensures small { IfOk result (All (λ (page : List ℕ). length page ≤ MOST_PAGE)) }
+    ensures fetched { FetchesPages 7 (S.fetches shelf.old) (S.fetches shelf.new) result }
+    ensures memory { IsFault fetch.Memory result → ⊥ }
+    ensures told { (told : Pages) → S.pages shelf.old ≡ Some told → FetchingTells told folder.now files result }
+    ensures failed { Counts (IsFault fetch.Failed result) (S.faults shelf.old) (S.faults shelf.new) }
+    ensures missing { Counts (IsFault fetch.Missing result) (S.misses shelf.old) (S.misses shelf.new) }
+    ensures too_long { Counts (IsFault fetch.TooLong result) (S.overs shelf.old) (S.overs shelf.new) }
 {
     let mut pages = Vec::new(alloc);
     for file in FILES {
@@ -101,5 +123,60 @@ pub fn fetch_pages<S: Shelf>(
             Err(fault) => return Err(fault),
         }
     }
-    Ok(Folder { pages })
+    Ok(Items::of(pages))
+}
+
+/// The version of the borders among the seven pages.
+fn version_among(alloc: Global, seven: &[Items<u8>]) -> Result<u8, Memory>
+    requires { length seven.now ≡ 7 }
+    ensures { IfOk result (λ version. version ≡ version_in (page_of seven.now File.Borders)) }
+{
+    version_of(alloc, seven[File::Borders.place()].as_slice())
+}
+
+/// The folder of the seven pages and of limits.csv behind them.
+fn with_limits(seven: Items<Items<u8>>, limits: Items<u8>) -> Result<Folder, PagesFault>
+    requires seven { length seven ≡ 7 }
+    requires version { version_in (page_of seven File.Borders) ≡ 2 }
+    requires small { All (λ (page : List ℕ). length page ≤ MOST_PAGE) seven }
+    requires small_too { length limits ≤ MOST_PAGE }
+    ensures folder { IfOk result (λ folder. folder ≡ seven ++ limits ∷ []) }
+    ensures memory { IfErr result (λ fault. fault ≡ PagesFault.NoMemory) }
+{
+    let mut pages = seven.into_vec();
+    match pages.push(limits) {
+        Ok(()) => Ok(Folder {
+            pages: Items::of(pages),
+        }),
+        Err(_) => Err(PagesFault::NoMemory),
+    }
+}
+
+/// Fetches the pages of a folder's files, in order: the seven, and limits.csv behind them where the borders are of
+/// version 2.
+pub fn fetch_pages<S: Shelf>(
+    alloc: Global,
+    shelf: &mut S,
+    folder: &str,
+) -> Result<Folder, PagesFault>
+    ensures same { S.pages shelf.new ≡ S.pages shelf.old }
+    ensures fetched { FetchesFolder (S.pages shelf.old) folder.now (S.fetches shelf.old) (S.fetches shelf.new) result }
+    ensures memory { IsFault fetch.Memory result → ⊥ }
+    ensures told { (told : Pages) → S.pages shelf.old ≡ Some told → FetchingTells told folder.now (files_in told folder.now) result }
+    ensures failed { Counts (IsFault fetch.Failed result) (S.faults shelf.old) (S.faults shelf.new) }
+    ensures missing { Counts (IsFault fetch.Missing result) (S.misses shelf.old) (S.misses shelf.new) }
+    ensures too_long { Counts (IsFault fetch.TooLong result) (S.overs shelf.old) (S.overs shelf.new) }
+{
+    let seven = match fetch_seven(alloc, shelf, folder) {
+        Ok(seven) => seven,
+        Err(fault) => return Err(fault),
+    };
+    match version_among(alloc, seven.as_slice()) {
+        Ok(2) => match fetch_page(alloc, shelf, folder, File::Limits) {
+            Ok(limits) => with_limits(seven, limits),
+            Err(fault) => Err(fault),
+        },
+        Ok(_) => Ok(Folder { pages: seven }),
+        Err(_) => Err(PagesFault::NoMemory),
+    }
 }

@@ -1,35 +1,35 @@
 //! The books of a folder, or the first refusal.
 
-ghost use Rattle.std.specs.Prelude.{◌≡◌, ◌≤◌, IfOk, IfErr, Some, Result as Res, length};
+ghost use Rattle.std.specs.Prelude.{◌≡◌, ◌≤◌, IfOk, IfSome, Some, Result as Res, is_some, length, if◌then◌else◌};
 ghost use Rattle.mari_io.specs.Outside.{Counts, Pages};
 ghost use Rattle.mari_io.specs.declared.shelf.Fetch.TheVariants as fetch;
 ghost use Rattle.mari_rows.specs.Books.{book_in, GivesBook};
 ghost use Rattle.mari_rows.specs.declared.faults.BookFault.{BookFault as Fault};
 ghost use Rattle.mari_zones.specs.Zones.{zone_grammar, IsZoneBook};
-ghost use Rattle.mari_zones.specs.Borders.{IsBorderBook};
+ghost use Rattle.mari_zones.specs.Borders.{borders_in, IsBorderBook};
 ghost use Rattle.mari_bids.specs.Bids.{bid_grammar, IsBidBook};
 ghost use Rattle.mari_links.specs.Links.{link_grammar, IsLinkBook};
 ghost use Rattle.mari_demands.specs.Demands.{demand_grammar, IsDemandBook};
+ghost use Rattle.mari_demands.specs.LimitPairs.{IsLimitTable};
 ghost use Rattle.mari_demands.specs.Runs.{run_grammar, IsRunBook};
 ghost use Rattle.mari_remain.specs.Accepted.{IsAccepted};
-ghost use Rattle.mari_publish.specs.Ranges.{IsDate};
+ghost use Rattle.mari_day.specs.CalendarPage.{calendar_day_in, IsCalendarDay};
 ghost use Rattle.mari_day.specs.Dated.{IsDated};
-ghost use Rattle.mari_day.specs.Reading.{books_at, borders_at, day_at, day_page as day_page_of, date_text, of_file, page_of, refusal_at, BooksTell, FetchesFiles, IsFetchFault, NamesAFile, Reads};
+ghost use Rattle.mari_day.specs.Files.{page_of, IsFileNumber};
+ghost use Rattle.mari_day.specs.Reading.{books_at, limits_at, of_file, refusal_at, BooksTell, FetchesFiles, IsFetchFault, NamesAFile, Reads};
 
+use crate::calendar_page::CalendarDay;
 use crate::files::File;
 use crate::pages::{Folder, PagesFault, fetch_pages};
 use mari_bids::BidBook;
-use mari_demands::{DemandBook, RunBook};
+use mari_demands::{DemandBook, LimitBook, RunBook};
 use mari_io::{Fetch, Shelf};
 use mari_links::LinkBook;
 use mari_remain::Books;
 use mari_rows::BookFault;
-use mari_units::{Memory, Name, NameFault, Refusal, read_name};
-use mari_zones::{BorderBook, ZoneBook, version_of};
+use mari_units::Refusal;
+use mari_zones::{BorderBook, ZoneBook};
 use std::alloc::Global;
-
-/// How many quarter hours the day has, at this stage.
-const QUARTERS: u32 = 96;
 
 /// Why there are no books: the fetch of the file of this number gave no page; the first refusal of a page; or no memory.
 #[derive(Clone, Copy, Debug, PartialEq, Eq)]
@@ -42,7 +42,7 @@ pub enum BooksFault {
 /// The refusal of a file.
 fn refusal_of(file: File, line: u32, number: u8) -> Refusal
     ensures refusal { result ≡ refusal_at file line number }
-    ensures file { (1 ≤ result.file) × (result.file ≤ 7) }
+    ensures file { IsFileNumber result.file }
 {
     Refusal {
         file: file.number(),
@@ -66,37 +66,12 @@ fn named<T: Drop>(file: File, read: Result<T, BookFault>) -> Result<T, BooksFaul
     }
 }
 
-/// The page of the day that this stage knows.
-#[tactic(auto, unfolding(crate::specs::Reading::day_page))]
-fn day_page() -> &'static [u8]
-    ensures { result.now ≡ day_page_of }
-{
-    b"date,rule\n2025-03-12,\"CET-1CEST,M3.5.0,M10.5.0/3\"\n"
-}
-
-/// Accepts the page of the day, which at this stage has one form.
-fn read_day(folder: &Folder) -> Result<(), BooksFault>
-    ensures reads { Reads result (day_at folder.now) }
+fn read_day(alloc: Global, folder: &Folder) -> Result<CalendarDay, BooksFault>
+    ensures reads { Reads result (of_file File.Day (calendar_day_in (page_of folder.now File.Day))) }
     ensures file { NamesAFile result }
+    ensures facts { IfOk result IsCalendarDay }
 {
-    if folder.page(File::Day) == day_page() {
-        Ok(())
-    } else {
-        Err(BooksFault::Refused(refusal_of(File::Day, 1, 20)))
-    }
-}
-
-/// The date of that page.
-#[tactic(auto, unfolding(crate::specs::Reading::date_text))]
-fn date_of(alloc: Global) -> Result<Name, BooksFault>
-    ensures date { IfOk result (λ date. date ≡ date_text) }
-    ensures is_date { IfOk result IsDate }
-    ensures memory { IfErr result (λ fault. fault ≡ BooksFault.Memory) }
-{
-    match read_name(alloc, b"2025-03-12") {
-        Ok(date) => Ok(date),
-        Err(NameFault::NotAName | NameFault::Memory) => Err(BooksFault::Memory),
-    }
+    named(File::Day, CalendarDay::read(alloc, folder.page(File::Day)))
 }
 
 fn read_zones(alloc: Global, folder: &Folder) -> Result<ZoneBook, BooksFault>
@@ -107,28 +82,30 @@ fn read_zones(alloc: Global, folder: &Folder) -> Result<ZoneBook, BooksFault>
     named(File::Zones, ZoneBook::read(alloc, folder.page(File::Zones)))
 }
 
-/// Reads the borders, whose limits at this stage stand in their own page.
 fn read_borders(alloc: Global, folder: &Folder, zones: &ZoneBook) -> Result<BorderBook, BooksFault>
-    ensures reads { Reads result (borders_at zones.now (page_of folder.now File.Borders)) }
+    ensures reads { Reads result (of_file File.Borders (borders_in zones.now (page_of folder.now File.Borders))) }
     ensures file { NamesAFile result }
     ensures facts { IfOk result (IsBorderBook zones.now) }
 {
-    let page = folder.page(File::Borders);
-    match version_of(alloc, page) {
-        Ok(2) => Err(BooksFault::Refused(refusal_of(File::Borders, 1, 20))),
-        Ok(_) => named(File::Borders, BorderBook::read(alloc, page, zones)),
-        Err(Memory) => Err(BooksFault::Memory),
-    }
+    named(
+        File::Borders,
+        BorderBook::read(alloc, folder.page(File::Borders), zones),
+    )
 }
 
-fn read_bids(alloc: Global, folder: &Folder, zones: &ZoneBook) -> Result<BidBook, BooksFault>
-    ensures reads { Reads result (of_file File.Bids (book_in (bid_grammar zones.now 96) (page_of folder.now File.Bids))) }
+fn read_bids(
+    alloc: Global,
+    folder: &Folder,
+    zones: &ZoneBook,
+    quarters: u32,
+) -> Result<BidBook, BooksFault>
+    ensures reads { Reads result (of_file File.Bids (book_in (bid_grammar zones.now quarters) (page_of folder.now File.Bids))) }
     ensures file { NamesAFile result }
-    ensures facts { IfOk result (IsBidBook zones.now 96) }
+    ensures facts { IfOk result (IsBidBook zones.now quarters) }
 {
     named(
         File::Bids,
-        BidBook::read(alloc, folder.page(File::Bids), zones, QUARTERS),
+        BidBook::read(alloc, folder.page(File::Bids), zones, quarters),
     )
 }
 
@@ -143,14 +120,14 @@ fn read_links(alloc: Global, folder: &Folder, bids: &BidBook) -> Result<LinkBook
     )
 }
 
-fn read_runs(alloc: Global, folder: &Folder) -> Result<RunBook, BooksFault>
-    ensures reads { Reads result (of_file File.Runs (book_in (run_grammar 96) (page_of folder.now File.Runs))) }
+fn read_runs(alloc: Global, folder: &Folder, quarters: u32) -> Result<RunBook, BooksFault>
+    ensures reads { Reads result (of_file File.Runs (book_in (run_grammar quarters) (page_of folder.now File.Runs))) }
     ensures file { NamesAFile result }
-    ensures facts { IfOk result (IsRunBook 96) }
+    ensures facts { IfOk result (IsRunBook quarters) }
 {
     named(
         File::Runs,
-        RunBook::read(alloc, folder.page(File::Runs), QUARTERS),
+        RunBook::read(alloc, folder.page(File::Runs), quarters),
     )
 }
 
@@ -171,43 +148,72 @@ fn read_demands(
     )
 }
 
+/// Reads the limits of each run, where the folder states them in a file of their own.
+fn read_limits(
+    alloc: Global,
+    folder: &Folder,
+    zones: &ZoneBook,
+    borders: &BorderBook,
+    runs: &RunBook,
+) -> Result<Option<LimitBook>, BooksFault>
+    requires borders { length borders.now.borders ≤ 256 }
+    requires runs { length runs.now.runs ≤ 1000 }
+    ensures reads { Reads result (limits_at zones.now borders.now (length runs.now.runs) folder.now) }
+    ensures file { NamesAFile result }
+    ensures count { IfOk result (λ limits. length folder.now ≡ (if is_some limits then 8 else 7)) }
+    ensures facts { IfOk result (λ limits. IfSome limits (IsLimitTable (length runs.now.runs) (length borders.now.borders))) }
+{
+    let Some(page) = folder.limits() else {
+        return Ok(None);
+    };
+    match named(
+        File::Limits,
+        LimitBook::read(alloc, page, zones, borders, runs),
+    ) {
+        Ok(limits) => Ok(Some(limits)),
+        Err(fault) => Err(fault),
+    }
+}
+
 /// The books of the pages, in the order of their files, or the first refusal.
 #[tactic(auto, unfolding(crate::specs::Reading::books_at))]
 fn books_of(alloc: Global, folder: &Folder) -> Result<Books, BooksFault>
     ensures reads { Reads result (books_at folder.now) }
     ensures file { NamesAFile result }
+    ensures count { IfOk result (λ books. length folder.now ≡ (if is_some books.limits then 8 else 7)) }
     ensures accepted { IfOk result IsAccepted }
     ensures dated { IfOk result IsDated }
 {
-    read_day(folder)?;
-    let date = date_of(alloc)?;
+    let day = read_day(alloc, folder)?;
     let zones = read_zones(alloc, folder)?;
     let borders = read_borders(alloc, folder, &zones)?;
-    let bids = read_bids(alloc, folder, &zones)?;
+    let bids = read_bids(alloc, folder, &zones, day.quarters)?;
     let links = read_links(alloc, folder, &bids)?;
-    let runs = read_runs(alloc, folder)?;
+    let runs = read_runs(alloc, folder, day.quarters)?;
     let demands = read_demands(alloc, folder, &runs, &zones)?;
+    let limits = read_limits(alloc, folder, &zones, &borders, &runs)?;
     Ok(Books {
-        date,
-        quarters: QUARTERS,
+        date: day.date,
+        quarters: day.quarters,
         zones,
         borders,
         bids,
         links,
         runs,
         demands,
-        limits: None,
+        limits,
     })
 }
 
-/// Fetches the seven pages of a folder in the order of their files, and then reads them in that order.
+/// Fetches the pages of a folder in the order of its files, and then reads them in that order.
 ///
-/// At this stage the page of the day has one form; another is refused as not built.
+/// The files are the seven that every folder has, and behind them limits.csv exactly where the borders are of version 2,
+/// which leave their limits to it.
 pub fn read_books<S: Shelf>(alloc: Global, shelf: &mut S, folder: &str) -> Result<Books, BooksFault>
     ensures same { S.pages shelf.new ≡ S.pages shelf.old }
 
-    // The files are fetched in their order, each once, up to the first whose page can't be had.
-    ensures fetched { FetchesFiles (S.fetches shelf.old) (S.fetches shelf.new) result }
+    // The folder's files are fetched in their order, each once, up to the first whose page can't be had.
+    ensures fetched { FetchesFiles (S.pages shelf.old) folder.now (S.fetches shelf.old) (S.fetches shelf.new) result }
 
     // What was read.
     ensures told { (told : Pages) → S.pages shelf.old ≡ Some told → BooksTell told folder.now result }

@@ -1,5 +1,4 @@
-use Rattle.std.proofs.Common.{◌≡◌, ◌≤◌, ◌<◌, ◌∙◌, length, arith, refl}
-use Rattle.std.specs.List.{All}
+use Rattle.std.proofs.Common.{◌∙◌, refl}
 use Rattle.mari_day.proofs.BlockFits.{halves}
 use Rattle.mari_day.proofs.Money.{providers-there}
 use Rattle.mari_day.proofs.block.assemble.Goals as goal

@@ -1,5 +1,4 @@
-use Rattle.std.proofs.Common.{◌≡◌, ◌∙◌, ◌≤◌, length, ap, sym, take, arith}
-use Rattle.std.specs.List.{All}
+use Rattle.std.proofs.Common.{◌∙◌, length, ap, sym}
 use Rattle.std.proofs.lemmas.List.{length-replicate}
 use Rattle.mari_settle.specs.Lines.{no_line, nothing}
 use Rattle.mari_day.proofs.Small.{small-bids}

@@ -1,4 +1,4 @@
-use Rattle.std.proofs.Common.{◌≡◌, ℕ, ◌+◌, ◌<◌, List, ◌∷◌, length, map, drop, fold, get_or, refl, add-one, drop-cons, ◌∙◌, arith}
+use Rattle.std.proofs.Common.{◌≡◌, ℕ, ◌+◌, ◌<◌, List, length, map, drop, fold, get_or, refl, add-one, drop-cons, ◌∙◌}
 use Rattle.mari_bids.specs.declared.bids.Bid.{Bid}
 use Rattle.mari_remain.specs.Lists.{bid_at}
 use Rattle.mari_day.specs.Money.{with_number}

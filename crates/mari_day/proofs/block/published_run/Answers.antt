@@ -1,4 +1,4 @@
-use Rattle.std.proofs.Common.{◌≡◌, ◌^◌, ◌<◌, ◌≤◌, ◌+◌, ◌∙◌, ℕ, pos, ◌≤ℤ◌, length, refl, arith}
+use Rattle.std.proofs.Common.{◌^◌, ◌<◌, ◌∙◌, ℕ, refl, arith}
 use Rattle.std.proofs.lemmas.Int.{ints}
 use Rattle.mari_market.specs.Clearing.{IsClearing}
 use Rattle.mari_market.specs.Market.{IsValid}

@@ -1,4 +1,4 @@
-use Rattle.std.proofs.Common.{◌≡◌, sym, ℕ, zero, suc, ◌+◌, List, [], ◌∷◌, ◌++◌, ap, refl, add-one, arith}
+use Rattle.std.proofs.Common.{◌≡◌, sym, ℕ, zero, suc, ◌+◌, [], ◌∷◌, ◌++◌, ap, add-one, arith}
 use Rattle.std.specs.List.{range_with_len}
 use Rattle.mari_day.proofs.day.all_places.Goals as goal
 

@@ -1,5 +1,4 @@
-use Rattle.std.proofs.Common.{◌≡◌, ◌∙◌, [], refl, inl, ap}
-use Rattle.mari_day.specs.Day.{then_took}
+use Rattle.std.proofs.Common.{[], refl}
 use Rattle.mari_day.proofs.Texts.{head-stops, head-taken}
 use Rattle.mari_day.proofs.day.begin.Goals as goal
 

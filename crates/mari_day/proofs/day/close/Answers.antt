@@ -1,5 +1,5 @@
-use Rattle.std.proofs.Common.{◌≡◌, ◌∙◌, ◌+◌, ◌≤◌, length, ap, sym, arith}
-use Rattle.mari_day.proofs.Days.{day-of-blocks, few-blocks, is-day, one-each-provider, operators-fit, providers-fit, sums-halves}
+use Rattle.std.proofs.Common.{◌∙◌, arith}
+use Rattle.mari_day.proofs.Days.{day-of-blocks, is-day, one-each-provider, operators-fit, providers-fit, sums-halves}
 use Rattle.mari_day.proofs.Progressing.{both-kinds}
 use Rattle.mari_day.proofs.Texts.{closes-by, closing-text}
 use Rattle.mari_day.proofs.day.close.Goals as goal

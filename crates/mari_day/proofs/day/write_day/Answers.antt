@@ -1,4 +1,4 @@
-use Rattle.std.proofs.Common.{◌≡◌, length, refl}
+use Rattle.std.proofs.Common.{length, refl}
 use Rattle.mari_day.proofs.Texts.{close-stops, day-written}
 use Rattle.mari_day.proofs.day.write_day.Goals as goal
 

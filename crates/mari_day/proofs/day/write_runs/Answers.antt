@@ -1,5 +1,4 @@
-use Rattle.std.proofs.Common.{◌≡◌, ◌∙◌, ◌+◌, ◌<◌, ◌≤◌, ℕ, inr, length, ap, sym, arith}
-use Rattle.mari_day.specs.Before.{run_behind}
+use Rattle.std.proofs.Common.{◌+◌, ap, sym, arith}
 use Rattle.mari_day.proofs.Texts.{block-more, step-stops}
 use Rattle.mari_day.proofs.day.write_runs.Goals as goal
 

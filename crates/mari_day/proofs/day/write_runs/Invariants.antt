@@ -1,4 +1,4 @@
-use Rattle.std.proofs.Common.{◌≡◌, ◌≤◌}
+use Rattle.std.proofs.Common.{◌≤◌}
 use Rattle.mari_day.specs.Stepped.{WroteFirst}
 use Rattle.mari_day.proofs.day.write_runs.Given as goal
 

@@ -1,37 +1,39 @@
-use Rattle.std.proofs.lemmas.List.Elements.{All-push}
-use Rattle.std.proofs.Common.{◌≡◌, ℕ, ◌+◌, ◌<◌, ◌≤◌, List, ◌∷◌, ◌++◌, [], Some, None, length, arith, refl, sym, ◌∙◌, ap, map, add-one, take, drop, length-append}
-use Rattle.mari_units.specs.declared.limits.TheConstants.{MOST_PAGE}
-use Rattle.mari_day.specs.declared.files.File.TheVariants.{Day}
-use Rattle.mari_day.specs.Files.{files, page_in, first_gap}
-use Rattle.mari_day.proofs.Fetched.{at_fault, gap_behind, held_more, whole, one_more, some_fetched}
+use Rattle.std.proofs.Common.{◌≡◌, ◌==◌, true, rules}
+use Rattle.mari_zones.specs.Borders.{version_in}
+use Rattle.mari_day.specs.declared.files.File.TheVariants.{Borders}
+use Rattle.mari_day.specs.Files.{page_of}
+use Rattle.mari_day.proofs.Folders.{all-eight, at_limits, files-there, has-eight, seven-lack, up-to}
 use Rattle.mari_day.proofs.pages.fetch_pages.Goals as goal
 
-pub loop-file-preserved : goal.loop-file-preserved
-loop-file-preserved g c = record {
-  same = c.in-Ok.ensures.same ∙ c.loop-file.invariant.same;
-  all = refl;
-  count = simp (c.in-Ok-push.ensures.items, length-append) (omega (arith, c.loop-file.invariant.count));
-  small = rw c.in-Ok-push.ensures.items (All-push (λ (page : List ℕ). length page ≤ MOST_PAGE) c.loop-file.pages.items c.in-Ok.page c.loop-file.invariant.small c.in-Ok.ensures.small);
-  fetched = one_more c.loop-file.file-index (g.S.Shelf.fetches c.args.shelf.now) _ _ c.loop-file.invariant.fetched c.in-Ok.ensures.fetched;
-  held = λ told e.
-      let tells = c.in-Ok.ensures.told told (c.loop-file.invariant.same ∙ e) in
-      rw (c.in-Ok-push.ensures.items, add-one) (held_more told c.args.folder.now files c.loop-file.pages.items c.in-Ok.page c.loop-file.file-index Day c.loop-file-test.true (c.loop-file.invariant.held told e) tells.0);
-  no_gap = λ told e.
-      let tells = c.in-Ok.ensures.told told (c.loop-file.invariant.same ∙ e) in
-      c.loop-file.invariant.no_gap told e ∙ rw add-one (gap_behind told c.args.folder.now files c.loop-file.file-index Day c.loop-file-test.true tells.1);
-  faults = omega (arith, c.loop-file.invariant.faults, c.in-Ok.ensures.failed.later);
-  misses = omega (arith, c.loop-file.invariant.misses, c.in-Ok.ensures.missing.later);
-  overs = omega (arith, c.loop-file.invariant.overs, c.in-Ok.ensures.too_long.later);
-}
-
-pub returns-clause-told : goal.returns-clause-told
-returns-clause-told g c = λ told e. whole told c.args.folder.now c.loop-file.pages.items c.loop-file.file-index (omega arith) (c.loop-file.invariant.held told e) (c.loop-file.invariant.no_gap told e)
-
-pub invariant_of-result : goal.invariant_of-result
-invariant_of-result g c = (omega (arith, c.loop-file.invariant.count), c.loop-file.invariant.small)
-
 pub returns-in-Err-clause-fetched : goal.returns-in-Err-clause-fetched
-returns-in-Err-clause-fetched g c = at_fault c.loop-file.file-index (g.S.Shelf.fetches c.args.shelf.now) _ _ c.in-Err.fault c.loop-file.invariant.fetched (c.loop-file-test.true) c.in-Err.ensures.fetched c.in-Err.ensures.file
+returns-in-Err-clause-fetched g c =
+    let there = files-there (g.S.Shelf.pages c.args.shelf.now) c.args.folder.now in record {
+      count = there.0;
+      files = there.1;
+      fetched = up-to there.0 (g.S.Shelf.fetches c.args.shelf.now) _ c.in-Err.fault there.2 c.in-Err.ensures.fetched;
+    }
 
-pub returns-in-Err-push-clause-fetched : goal.returns-in-Err-push-clause-fetched
-returns-in-Err-push-clause-fetched g c = some_fetched (c.loop-file.file-index + 1) (g.S.Shelf.fetches c.args.shelf.now) _ (one_more c.loop-file.file-index (g.S.Shelf.fetches c.args.shelf.now) _ _ c.loop-file.invariant.fetched c.in-Ok.ensures.fetched) (omega (arith, c.loop-file-test.true))
+pub returns-in-Err-clause-told : goal.returns-in-Err-clause-told
+returns-in-Err-clause-told g c = λ told e. seven-lack told c.args.folder.now c.in-Err.fault (c.in-Err.ensures.told told e)
+
+pub returns-in-Ok-fetch_page-clause-fetched : goal.returns-in-Ok-fetch_page-clause-fetched
+returns-in-Ok-fetch_page-clause-fetched g c =
+    let e : (version_in (page_of c.in-Ok.seven Borders) == 2) ≡ true = search rules in
+    all-eight (g.S.Shelf.pages c.args.shelf.now) c.args.folder.now c.in-Ok.seven c.in-Ok.ensures.fetched.0 c.in-Ok.ensures.told e
+    (g.S.Shelf.fetches c.args.shelf.now) _ _ c.in-Ok-fetch_page.limits c.with_limits.result c.in-Ok.ensures.fetched.1 c.in-Ok-fetch_page.ensures.fetched c.with_limits.ensures.folder c.with_limits.ensures.memory
+
+pub returns-in-Err-fetch_page-clause-fetched : goal.returns-in-Err-fetch_page-clause-fetched
+returns-in-Err-fetch_page-clause-fetched g c =
+    let e : (version_in (page_of c.in-Ok.seven Borders) == 2) ≡ true = search rules in record {
+      count = 8;
+      files = has-eight (g.S.Shelf.pages c.args.shelf.now) c.args.folder.now c.in-Ok.seven c.in-Ok.ensures.fetched.0 c.in-Ok.ensures.told e;
+      fetched = at_limits (g.S.Shelf.fetches c.args.shelf.now) _ _ c.in-Err-fetch_page.fault c.in-Ok.ensures.fetched.1 c.in-Err-fetch_page.ensures.fetched c.in-Err-fetch_page.ensures.file;
+    }
+
+pub returns-in-Err-version_among-clause-fetched : goal.returns-in-Err-version_among-clause-fetched
+returns-in-Err-version_among-clause-fetched g c =
+    let there = files-there (g.S.Shelf.pages c.args.shelf.now) c.args.folder.now in record {
+      count = there.0;
+      files = there.1;
+      fetched = record { count = 7; within = there.2; fetched = c.in-Ok.ensures.fetched.1 };
+    }

@@ -1,4 +1,3 @@
-use Rattle.std.proofs.Common.{◌≡◌, ◌++◌, List, [], Some, refl}
 use Rattle.mari_day.proofs.text.day_of.Goals as goal
 
 pub returns-in-Done-clause-day : goal.returns-in-Done-clause-day

@@ -1,4 +1,4 @@
-use Rattle.std.proofs.Common.{◌≡◌, [], None, refl, arith}
+use Rattle.std.proofs.Common.{refl, arith}
 use Rattle.std.proofs.lemmas.List.Elements.{All-nil}
 use Rattle.mari_publish.specs.Ranges.{BlockFits}
 use Rattle.mari_day.proofs.Sums.{no-totals}

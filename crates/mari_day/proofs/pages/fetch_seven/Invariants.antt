@@ -3,7 +3,7 @@ use Rattle.std.proofs.Common.{ℕ, List, ◌≡◌, ◌≤◌, Some, length, tak
 use Rattle.mari_io.specs.Outside.{Pages, counted_by}
 use Rattle.mari_units.specs.declared.limits.TheConstants.{MOST_PAGE}
 use Rattle.mari_day.specs.Files.{files, page_in, first_gap}
-use Rattle.mari_day.proofs.pages.fetch_pages.Given as goal
+use Rattle.mari_day.proofs.pages.fetch_seven.Given as goal
 
 -- the pages so far are held and none of them has a gap; the counts haven't fallen
 abbrev pub invariant-loop-file : goal.invariant-loop-file

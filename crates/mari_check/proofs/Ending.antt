@@ -1,0 +1,189 @@
+-- Verdicts on a publication, by what was found.
+use Rattle.std.proofs.Common.{◌≡◌, ◌∙◌, ◌≤◌, ◌<◌, ◌+◌, ◌*◌, ◌^◌, ℕ, zero, suc, Bool, true, false, List, [], ◌∷◌, ◌++◌, Option, Some, None, get_or, length, map, take, refl, sym, ap, subst, arith, inl, inr}
+use Rattle.std.specs.Prelude.{◌↔◌, slice_get, slice_index_or}
+use Rattle.std.specs.List.{All, range_with_len}
+use Rattle.std.proofs.lemmas.List.{length-take-le}
+use Rattle.std.proofs.lemmas.List.Elements.{All-weaker}
+use Rattle.std.proofs.lemmas.List.FromFn.{get_or-map-range_with_len, length-map-range_with_len}
+use Rattle.std.proofs.lemmas.Option.{slice_get-get_or}
+use Rattle.mari_units.specs.declared.numbers.Quarters.{Quarters}
+use Rattle.mari_publish.specs.declared.publication.AmountLine.{AmountLine}
+use Rattle.mari_publish.specs.declared.publication.Block.{Block}
+use Rattle.mari_publish.specs.declared.publication.Block.TheVariants as block
+use Rattle.mari_publish.specs.declared.publication.Heading.{Heading}
+use Rattle.mari_publish.specs.declared.publication.MoneyLine.{MoneyLine}
+use Rattle.mari_publish.specs.declared.publication.Publication.{Publication}
+use Rattle.mari_remain.specs.Accepted.{IsAccepted}
+use Rattle.mari_remain.specs.declared.books.Books.{Books}
+use Rattle.mari_settle.specs.Conditions.{LineIsWithin}
+use Rattle.mari_settle.specs.Lines.{nothing}
+use Rattle.mari_settle.specs.declared.ledger.Ledger.{Ledger}
+use Rattle.mari_settle.specs.declared.ledger.OperatorLine.{OperatorLine}
+use Rattle.mari_check.specs.declared.day.DayCheck.{DayCheck}
+use Rattle.mari_check.specs.declared.fault.Fault.{Fault}
+use Rattle.mari_check.specs.declared.fault.Fault.TheVariants as fault
+use Rattle.mari_check.specs.Behind.{run_behind}
+use Rattle.mari_check.specs.Checked.{AreTotals, FindsHead, IsChecked}
+use Rattle.mari_check.specs.Day.{AreFree, FillsBudget, HasHead, HasTotals, IsFirstFault, IsFreeIn, IsNextHeading, IsValidPublication}
+use Rattle.mari_check.specs.Faults.{FindsNumber, IsLeast, NoneBelow}
+use Rattle.mari_check.specs.Money.{amount_line, money_lines_of}
+use Rattle.mari_check.specs.Told.{heading_of, name_at}
+use Rattle.mari_check.specs.Totals.{operator_totals, provider_total, provider_totals}
+use Rattle.mari_check.proofs.Least.{least-is, none-first}
+use Rattle.mari_check.proofs.Progressing.{both-kinds}
+use Rattle.mari_check.proofs.Zips.{refuted}
+
+-- ---- an unpublished block
+
+module _ (books : Books) (ok : IsAccepted books) (blocks : List Block) (kept : DayCheck) (checked : IsChecked books blocks kept) where
+  pub few-runs : kept.published + kept.unpublished ≤ 1000
+  few-runs = omega (arith, checked.published, checked.unpublished, both-kinds blocks, checked.few, ok.runs.few)
+
+  pub few-others : kept.unpublished ≤ 1000
+  few-others = omega (arith, few-runs)
+
+  module _ (run : ℕ) (is : run ≡ kept.published + kept.unpublished + 1) where
+    pub behind-is : run ≡ run_behind blocks
+    behind-is = omega (arith, is, checked.published, checked.unpublished, both-kinds blocks)
+
+    -- there is no run behind the last
+    pub none-next : (told : Heading) → length books.runs.runs < run → (false ≡ true) ↔ IsNextHeading books blocks told
+    none-next told past = refuted (IsNextHeading books blocks told) false refl (λ h. absurd (omega (arith, h.there, past, behind-is)))
+
+    pub next-is : (told : Heading) (b : Bool) → run ≤ length books.runs.runs → (b ≡ true) ↔ (told ≡ heading_of books run) → (b ≡ true) ↔ IsNextHeading books blocks told
+    next-is told b there test = (
+      λ t. record { there = omega (arith, there, behind-is); is_of = test.0 t ∙ ap (heading_of books) behind-is },
+      λ h. test.1 (h.is_of ∙ sym (ap (heading_of books) behind-is)),
+    )
+
+module _ (books : Books) (budget : ℕ) (blocks : List Block) (told : Heading) (count : ℕ) where
+  abbrev free : Fault → Type 0
+  free any = IsFreeIn books budget blocks (block.Unpublished told count) any
+
+  pub other-heading : (IsNextHeading books blocks told → ⊥) → IsLeast free fault.Heading
+  other-heading h = least-is free fault.Heading (none-first free) h
+
+  pub other-tree : IsNextHeading books blocks told → (FillsBudget budget count → ⊥) → IsLeast free fault.Tree
+  other-tree next h = least-is free fault.Tree below h
+    where
+      below : NoneBelow free 9
+      below fault.Heading l = next
+      below fault.Lines l = tt
+      below fault.Infeasible l = tt
+      below fault.Welfare l = tt
+      below fault.Inconsistent l = tt
+      below fault.Interval l = tt
+      below fault.Price l = tt
+      below fault.Area l = tt
+      below fault.Tree l = absurd (omega (arith, l))
+      below fault.Leaf l = tt
+      below fault.Ledger l = tt
+      below fault.Totals l = tt
+
+  pub no-other : IsNextHeading books blocks told → FillsBudget budget count → (any : Fault) → free any
+  no-other next fills fault.Heading = next
+  no-other next fills fault.Lines = tt
+  no-other next fills fault.Infeasible = tt
+  no-other next fills fault.Welfare = tt
+  no-other next fills fault.Inconsistent = tt
+  no-other next fills fault.Interval = tt
+  no-other next fills fault.Price = tt
+  no-other next fills fault.Area = tt
+  no-other next fills fault.Tree = fills
+  no-other next fills fault.Leaf = tt
+  no-other next fills fault.Ledger = tt
+  no-other next fills fault.Totals = tt
+
+-- ---- the totals
+
+same-over : {X : Type 0} (f g : ℕ → X) (a n : ℕ) → ((k : ℕ) → a ≤ k → k < a + n → f k ≡ g k) → map f (range_with_len a n) ≡ map g (range_with_len a n)
+same-over f g a zero same = refl
+same-over f g a (suc n) same =
+    ap (λ x. x ∷ map f (range_with_len (a + 1) n)) (same a (omega arith) (omega arith)) ∙ ap (λ xs. g a ∷ xs) (same-over f g (a + 1) n (λ k from below. same k (omega (arith, from)) (omega (arith, below))))
+
+module _ (books : Books) (blocks : List Block) (ledger : Ledger) (sums : AreTotals books blocks ledger) where
+  pub small-lines : length blocks ≤ 1000 → All (LineIsWithin (10 ^ 30)) ledger.operators
+  small-lines few = All-weaker (LineIsWithin (length blocks * 10 ^ 17)) (LineIsWithin (10 ^ 30)) (λ (x : OperatorLine) s. record { payment = omega (arith, few, s.payment); rent = omega (arith, few, s.rent) }) ledger.operators sums.within.operators
+
+  pub one-each-provider : length ledger.providers ≡ length books.bids.providers
+  one-each-provider = ap length sums.providers ∙ length-map-range_with_len _ 0 (length books.bids.providers)
+
+  own-lines : map (amount_line books.bids.providers ledger.providers) (range_with_len 0 (length books.bids.providers)) ≡ provider_totals books blocks
+  own-lines = same-over (amount_line books.bids.providers ledger.providers) (provider_total books blocks) 0 (length books.bids.providers)
+      (λ k from below. ap (λ (q : Quarters). record { name = name_at books.bids.providers k; amount = q })
+      (ap (λ (qs : List Quarters). slice_index_or qs k nothing) sums.providers ∙ get_or-map-range_with_len _ 0 (length books.bids.providers) k k nothing (omega (arith, below)) (omega arith)))
+
+  module _ (p : Publication) (same : p.blocks ≡ blocks) (operators : List MoneyLine) (providers : List AmountLine) (first : p.operators ≡ operators) (second : p.providers ≡ providers)
+      (lines : Bool) (test : (lines ≡ true) ↔ (operators ≡ money_lines_of books.zones.operators ledger.operators)) where
+    pub other-operators : lines ≡ false → (false ≡ true) ↔ HasTotals books p
+    other-operators wrong = refuted (HasTotals books p) lines wrong (λ h. test.1 (sym first ∙ h.operators ∙ ap (operator_totals books) same ∙ sym sums.operators))
+
+    pub both-totals : lines ≡ true → (amounts : Bool) → (amounts ≡ true) ↔ (providers ≡ map (amount_line books.bids.providers ledger.providers) (range_with_len 0 (length books.bids.providers)))
+        → (amounts ≡ true) ↔ HasTotals books p
+    both-totals right amounts also = (
+      λ t. record { operators = first ∙ test.0 right ∙ sums.operators ∙ sym (ap (operator_totals books) same); providers = second ∙ also.0 t ∙ own-lines ∙ sym (ap (provider_totals books) same) },
+      λ h. also.1 (sym second ∙ h.providers ∙ ap (provider_totals books) same ∙ sym own-lines),
+    )
+
+-- ---- the whole
+
+pub take-more : {X : Type 0} (xs : List X) (i : ℕ) (x : X) → i < length xs → x ≡ get_or xs i x → take i xs ++ x ∷ [] ≡ take (i + 1) xs
+take-more [] i x l at = absurd (omega (arith, l))
+take-more (y ∷ ys) zero x l at = ap (λ z. z ∷ []) at
+take-more {X} (y ∷ ys) (suc i) x l at =
+    let k : suc (i + 1) ≡ suc i + 1 = omega arith in
+    subst (λ (n : ℕ). take (suc i) (y ∷ ys) ++ x ∷ [] ≡ take n (y ∷ ys)) k (ap (λ zs. y ∷ zs) (take-more ys i x (omega (arith, l)) at))
+
+-- the first line
+pub head-fault : (books : Books) (p : Publication) (found : Option ℕ) (number : ℕ) → found ≡ Some number → FindsHead (HasHead books p) found → IsFirstFault books p 0 number
+head-fault books p None number e f = cc e
+head-fault books p (Some n) number e f = let same : n ≡ number = cc e in inl (record { differs = f.0; run_is = refl; number_is = sym same ∙ f.1 })
+
+pub head-right : (books : Books) (p : Publication) (found : Option ℕ) → found ≡ None → FindsHead (HasHead books p) found → HasHead books p
+head-right books p None e f = f
+head-right books p (Some n) e f = absurd (cc e)
+
+module _ (books : Books) (p : Publication) (head : HasHead books p) (kept : DayCheck) (budget : p.budget ≡ kept.budget) where
+  free-of : (blocks : List Block) → AreFree books kept.budget blocks → AreFree books p.budget blocks
+  free-of blocks h = let P : ℕ → Type 0 = λ n. AreFree books n blocks in subst P (sym budget) h
+
+  -- a block has a fault
+  pub block-fault : (blocks : List Block) → p.blocks ≡ blocks → (i : ℕ) (x : Block) → i < length blocks → x ≡ get_or blocks i x → IsChecked books (take i blocks) kept → (run number : ℕ)
+      → run ≡ kept.published + kept.unpublished + 1 → FindsNumber (IsFreeIn books kept.budget (take i blocks) x) (Some number) → IsFirstFault books p run number
+  block-fault blocks same i x l at checked run number is found =
+      let there : slice_get blocks i ≡ Some x = slice_get-get_or blocks i x l ∙ ap Some (sym at) in
+      let F : ℕ → Type 0 = λ n. IsLeast (IsFreeIn books n (take i blocks) x) found.0 in
+      let L : List Block → Type 0 = λ bs. IsLeast (IsFreeIn books p.budget (take i bs) x) found.0 in
+      let A : List Block → Type 0 = λ bs. AreFree books p.budget (take i bs) in
+      inr (inl (record {
+        head = head;
+        place = i;
+        block = x;
+        there = ap (λ bs. slice_get bs i) same ∙ there;
+        before = subst A (sym same) (free-of (take i blocks) checked.free);
+        least = found.0;
+        is_least = subst L (sym same) (subst F (sym budget) found.1);
+        run_is = omega (arith, is, checked.published, checked.unpublished, both-kinds (take i blocks), length-take-le i blocks (omega (arith, l)));
+        number_is = found.2;
+      }))
+
+  module _ (checked : IsChecked books p.blocks kept) where
+    pub is-missing : (run number : ℕ) → kept.published + kept.unpublished < length books.runs.runs → run ≡ kept.published + kept.unpublished + 1 → number ≡ 1 → IsFirstFault books p run number
+    is-missing run number less is e =
+        inr (inr (inl (record {
+          head = head;
+          blocks = free-of p.blocks checked.free;
+          missing = omega (arith, less, checked.published, checked.unpublished, both-kinds p.blocks);
+          run_is = omega (arith, is, checked.published, checked.unpublished, both-kinds p.blocks);
+          number_is = e;
+        })))
+
+    module _ (runs : ℕ) (all : runs ≡ length books.runs.runs) (full : runs ≤ kept.published + kept.unpublished) where
+      every : length p.blocks ≡ length books.runs.runs
+      every = omega (arith, all, full, checked.few, checked.published, checked.unpublished, both-kinds p.blocks)
+
+      pub other-totals : (number : ℕ) → (HasTotals books p → ⊥) → number ≡ 12 → IsFirstFault books p runs number
+      other-totals number differ e = inr (inr (inr (record { head = head; blocks = free-of p.blocks checked.free; every = every; differ = differ; run_is = all; number_is = e })))
+
+      pub is-valid : HasTotals books p → IsValidPublication books p
+      is-valid totals = record { head = head; blocks = free-of p.blocks checked.free; every = every; totals = totals }

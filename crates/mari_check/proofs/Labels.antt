@@ -1,0 +1,93 @@
+-- Labels that spread along uncongested borders are those of areas.
+use Rattle.std.proofs.Common.{◌≡◌, ℕ, zero, suc, ◌+◌, ◌<◌, ℤ, List, [], ◌∷◌, ◌++◌, length, arith, refl, sym, ap, subst, ◌∙◌, inl, inr}
+use Rattle.std.specs.Prelude.{slice_index}
+use Rattle.std.specs.List.{range_with_len}
+use Rattle.mari_market.specs.declared.activation.Activation.{Activation}
+use Rattle.mari_market.specs.declared.market.Border.{Border}
+use Rattle.mari_market.specs.declared.market.Market.{Market}
+use Rattle.mari_market.specs.Area.{AreAreas, InOneArea, Joins, JoinsBy}
+use Rattle.mari_market.specs.Area.InOneArea.{further, itself}
+use Rattle.mari_check.specs.declared.spread.Along.TheVariants.{Joined}
+use Rattle.mari_check.specs.Areas.{AgreeAt, AreNumbered}
+use Rattle.mari_check.specs.Spread.{IsSpread, LeadsOver, LeadsTo, Reaches}
+use Rattle.mari_check.specs.Spread.Reaches.{further as leads-on, itself as starts}
+use Rattle.mari_check.proofs.Agree.{zip-widen}
+
+joins-over : (y z : ℕ) (b : Border) (f : ℤ) → LeadsOver Joined y z b f → JoinsBy y z b f
+joins-over y z b f (inl l) = record { uncongested = l.2; ends = inl (l.0, l.1) }
+joins-over y z b f (inr l) = record { uncongested = l.2; ends = inr (l.1, l.0) }
+
+over-joins : (y z : ℕ) (b : Border) (f : ℤ) → JoinsBy y z b f → LeadsOver Joined y z b f
+over-joins y z b f j = elim j.ends [ inl e ↦ inl (e.0, e.1, j.uncongested) | inr e ↦ inr (e.1, e.0, j.uncongested) ]
+
+joins-back : (y z : ℕ) (b : Border) (f : ℤ) → JoinsBy y z b f → JoinsBy z y b f
+joins-back y z b f j = elim j.ends [ inl e ↦ record { uncongested = j.uncongested; ends = inr e } | inr e ↦ record { uncongested = j.uncongested; ends = inl e } ]
+
+module _ (m : Market) (a : Activation) where
+  abbrev Lead : ℕ → ℕ → Type 0
+  Lead y z = LeadsTo Joined m.borders a.flow y z
+
+  joins-from : (y z : ℕ) → Lead y z → Joins m a y z
+  joins-from y z l = zip-widen (LeadsOver Joined y z) (JoinsBy y z) (joins-over y z) m.borders a.flow l
+
+  from-joins : (y z : ℕ) → Joins m a y z → Lead y z
+  from-joins y z j = zip-widen (JoinsBy y z) (LeadsOver Joined y z) (over-joins y z) m.borders a.flow j
+
+  joins-other : (y z : ℕ) → Joins m a y z → Joins m a z y
+  joins-other y z j = zip-widen (JoinsBy y z) (JoinsBy z y) (joins-back y z) m.borders a.flow j
+
+  area-on : (x y z : ℕ) → InOneArea m a x y → InOneArea m a y z → InOneArea m a x z
+  area-on x y _ h itself = h
+  area-on x y _ h (further w z k j) = further w z (area-on x y w h k) j
+
+  area-back : (y z : ℕ) → InOneArea m a y z → InOneArea m a z y
+  area-back y _ itself = itself
+  area-back y _ (further w z k j) = area-on z w y (further z w itself (joins-other w z j)) (area-back y w k)
+
+  reached : (y z : ℕ) → Reaches Lead y z → InOneArea m a y z
+  reached y _ starts = itself
+  reached y _ (leads-on x z r l) = further x z (reached y x r) (joins-from x z l)
+
+  module _ (own labels : List ℕ) (s : IsSpread Lead own labels) (places : (z : ℕ) → z < length own → slice_index own z ≡ z) where
+    same-label : (y z : ℕ) → InOneArea m a y z → slice_index labels y ≡ slice_index labels z
+    same-label y _ itself = refl
+    same-label y _ (further w z k j) = omega (arith, same-label y w k, s.rises w z (from-joins w z j), s.rises z w (from-joins z w (joins-other w z j)))
+
+    one-area : (y z : ℕ) → y < length own → z < length own → slice_index labels y ≡ slice_index labels z → InOneArea m a y z
+    one-area y z ly lz e =
+        let p = s.source y ly in
+        let q = s.source z lz in
+        let same : p.from ≡ q.from = sym (places p.from p.there) ∙ sym p.value ∙ e ∙ q.value ∙ places q.from q.there in
+        area-on y p.from z (area-back p.from y (reached p.from y p.reaches)) (subst (λ (x : ℕ). InOneArea m a x z) (sym same) (reached q.from z q.reaches))
+
+    pub areas-by-labels : (areas : List ℕ) → length own ≡ m.zones → length areas ≡ m.zones → ((zone : ℕ) → zone < length areas → AgreeAt areas labels zone) → AreNumbered areas → AreAreas m a areas
+    areas-by-labels areas long many agree numbered = record {
+      one_each = many;
+      together = λ y z ly lz. (
+        λ e. one-area y z (omega (arith, long, ly)) (omega (arith, long, lz)) ((agree y (omega (arith, many, ly)) z (omega (arith, many, lz))).0 e),
+        λ j. (agree y (omega (arith, many, ly)) z (omega (arith, many, lz))).1 (same-label y z j),
+      );
+      from_one = λ z l. (numbered z (omega (arith, many, l))).from_one;
+      by_first = λ z k l one up. (numbered z (omega (arith, many, l))).by_first k one up;
+    }
+
+    pub labels-by-areas : (areas : List ℕ) → length own ≡ m.zones → AreAreas m a areas → (zone : ℕ) → zone < length areas → AgreeAt areas labels zone
+    labels-by-areas areas long is y ly z lz = (
+      λ e. same-label y z ((is.together y z (omega (arith, is.one_each, ly)) (omega (arith, is.one_each, lz))).0 e),
+      λ e. (is.together y z (omega (arith, is.one_each, ly)) (omega (arith, is.one_each, lz))).1 (one-area y z (omega (arith, is.one_each, long, ly)) (omega (arith, is.one_each, long, lz)) e),
+    )
+
+  pub numbered-areas : (areas : List ℕ) → AreAreas m a areas → AreNumbered areas
+  numbered-areas areas is z l = record { from_one = is.from_one z (omega (arith, is.one_each, l)); by_first = λ k one up. is.by_first z k (omega (arith, is.one_each, l)) one up }
+
+-- ---- places
+
+-- one number more
+pub range-more : (a n m : ℕ) → a + n ≡ m → range_with_len a (suc n) ≡ range_with_len a n ++ m ∷ []
+range-more a zero m e = ap (λ k. k ∷ []) (omega arith)
+range-more a (suc n) m e = ap (λ ks. a ∷ ks) (range-more (a + 1) n m (omega arith))
+
+pub place-at : (a n z : ℕ) → z < n → slice_index (range_with_len a n) z ≡ a + z
+place-at a zero z l = absurd (omega arith)
+place-at a (suc n) zero l = omega arith
+place-at a (suc n) (suc z) l = omega (arith, place-at (a + 1) n z (omega arith))

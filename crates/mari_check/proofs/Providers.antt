@@ -1,0 +1,89 @@
+-- Providers of bids, and the ledger that a block tells.
+use Rattle.std.proofs.Common.{◌≡◌, ℕ, ◌<◌, ◌==◌, Bool, true, false, List, [], ◌∷◌, ◌++◌, length, map, fold, cond, Option, refl, sym, ap, ◌∙◌}
+use Rattle.std.specs.Prelude.{◌↔◌}
+use Rattle.std.specs.List.{All, AllZip, list_any}
+use Rattle.std.proofs.lemmas.List.Elements.{All-head, All-map, All-nil, All-push, All-tail}
+use Rattle.mari_units.specs.declared.numbers.Cents.{Cents}
+use Rattle.mari_units.specs.declared.numbers.Quarters.{Quarters}
+use Rattle.mari_bids.specs.declared.bids.Bid.{Bid}
+use Rattle.mari_market.specs.declared.activation.Activation.{Activation}
+use Rattle.mari_publish.specs.declared.publication.BorderLine.{BorderLine}
+use Rattle.mari_publish.specs.declared.publication.FullBlock.{FullBlock}
+use Rattle.mari_remain.specs.Lists.{bid_at}
+use Rattle.mari_remain.specs.declared.books.Books.{Books}
+use Rattle.mari_remain.specs.declared.market.RunMarket.{RunMarket}
+use Rattle.mari_settle.specs.declared.ledger.Ledger.{Ledger}
+use Rattle.mari_settle.specs.Ledger.{operator_lines, provider_amounts, rent_of, rents_of, scheduled_or}
+use Rattle.mari_check.specs.Lines.{TellsRent}
+use Rattle.mari_check.specs.Money.{HasLedger, TellsLedger, amount_line, amounts_of, money_lines_of, providers_among, with_number}
+use Rattle.mari_check.specs.Told.{activation_of, prices_of}
+use Rattle.mari_check.specs.Checked.{IsRunOf}
+use Rattle.mari_check.specs.Markets.{IsMarketOf}
+use Rattle.mari_check.proofs.Zips.{along-long, map-itself, zip-from, zip-to}
+use Rattle.std.proofs.lemmas.List.FromFn.{length-map-range_with_len}
+use Rattle.std.proofs.lemmas.Slice.Zip.{AllZip-long}
+use Rattle.mari_market.specs.declared.activation.Prices.{Prices}
+use Rattle.mari_market.specs.declared.market.Border.{Border}
+use Rattle.mari_market.specs.Optimal.{IsConsistent}
+use Rattle.mari_settle.specs.Conditions.{HasSmallNumbers}
+use Rattle.mari_settle.specs.Lines.{map_along}
+
+-- what holds of each number holds of each one once
+module _ (P : ℕ → Type 0) where
+  one-more : (ns : List ℕ) (n : ℕ) → All P ns → P n → All P (with_number ns n)
+  one-more ns n all here = elim (list_any (λ m. m == n) ns) as (λ b. All P (cond b ns (ns ++ n ∷ []))) [
+    | true ↦ all
+    | false ↦ All-push P ns n all here
+  ]
+
+  more : (ns xs : List ℕ) → All P ns → All P xs → All P (fold with_number ns xs)
+  more ns [] all rest = all
+  more ns (x ∷ xs) all rest = more (with_number ns x) xs (one-more ns x all (All-head P x xs rest)) (All-tail P x xs rest)
+
+-- each is the provider of a bid
+pub providers-there : (bids : List Bid) (numbers : List ℕ) (n : ℕ) → All (λ (bid : Bid). bid.provider < n) bids → All (λ i. i < length bids) numbers → All (λ place. place < n) (providers_among bids numbers)
+providers-there bids numbers n all there =
+    more (λ place. place < n) [] (map (λ i. (bid_at bids i).provider) numbers) (All-nil (λ place. place < n))
+    (All-map (λ place. place < n) (λ i. (bid_at bids i).provider) numbers (λ k d below. all _ _ (there k d below)))
+
+pub rents-to : (lines : List BorderLine) (rents : List Quarters) → AllZip TellsRent lines rents → map (λ (l : BorderLine). l.rent) lines ≡ rents
+rents-to lines rents all = zip-to TellsRent (λ (l : BorderLine). l.rent) (λ (q : Quarters). q) (λ l q e. e) lines rents all ∙ map-itself rents
+
+pub rents-from : (lines : List BorderLine) (rents : List Quarters) → map (λ (l : BorderLine). l.rent) lines ≡ rents → AllZip TellsRent lines rents
+rents-from lines rents e =
+    let all = e ∙ sym (map-itself rents) in
+    zip-from TellsRent (λ (l : BorderLine). l.rent) (λ (l : BorderLine). l.rent) (λ (q : Quarters). q) (λ (q : Quarters). q) (λ l q e f. e) lines rents all all
+
+-- the ledger that a block tells is the run's where it is this one
+module _ (books : Books) (made : RunMarket) (also : Option (List Cents)) (b : FullBlock) (ledger : Ledger) (places : List ℕ) (a : Activation) (ps : List Cents) (told : a ≡ activation_of b) (priced : ps ≡ prices_of b) where
+  same2 : {Z : Type 0} (f : Activation → List Cents → Z) → f a ps ≡ f (activation_of b) (prices_of b)
+  same2 f = ap (λ x. f x ps) told ∙ ap (f (activation_of b)) priced
+
+  pub tells-is : ledger.rents ≡ rents_of made.market a ps → ledger.operators ≡ operator_lines books.zones made.market a ps → ledger.providers ≡ provider_amounts books.bids made.bids a ps (scheduled_or ps also)
+      → places ≡ providers_among books.bids.bids made.bids → (t : Bool) → (t ≡ true) ↔ TellsLedger books b ledger places → (t ≡ true) ↔ HasLedger books made also b
+  tells-is rents operators providers listed t test =
+      let own_rents : ledger.rents ≡ rents_of made.market (activation_of b) (prices_of b) = rents ∙ same2 (rents_of made.market) in
+      let own_lines : ledger.operators ≡ operator_lines books.zones made.market (activation_of b) (prices_of b) = operators ∙ same2 (operator_lines books.zones made.market) in
+      let own_amounts : ledger.providers ≡ amounts_of books made also b = providers ∙ same2 (λ x qs. provider_amounts books.bids made.bids x qs (scheduled_or qs also)) in
+      let lines = ap (money_lines_of books.zones.operators) own_lines in
+      let amounts = ap (λ (qs : List Quarters). map (amount_line books.bids.providers qs) places) own_amounts ∙ ap (map (amount_line books.bids.providers (amounts_of books made also b))) listed in (
+        λ e. let h = test.0 e in record { rents = h.rents ∙ own_rents; operators = h.operators ∙ lines; providers = h.providers ∙ amounts },
+        λ h. test.1 (record { rents = h.rents ∙ sym own_rents; operators = h.operators ∙ sym lines; providers = h.providers ∙ sym amounts }),
+      )
+
+-- what the block adds to its day
+pub run-of : (books : Books) (made : RunMarket) (also : Option (List Cents)) (b : FullBlock) (ledger : Ledger) (a : Activation) (ps : Prices) → a ≡ activation_of b → ps.cents ≡ prices_of b → IsMarketOf books made → IsConsistent made.market (activation_of b) (prices_of b)
+    → HasLedger books made also b → ledger.rents ≡ rents_of made.market a ps.cents → ledger.operators ≡ operator_lines books.zones made.market a ps.cents → ledger.providers ≡ provider_amounts books.bids made.bids a ps.cents (scheduled_or ps.cents also)
+    → HasSmallNumbers ledger → IsRunOf books made also b (record { made = made; activation = a; prices = ps; ledger = ledger })
+run-of books made also b ledger a ps told priced of agrees h rents operators providers small = record {
+  market = refl;
+  activation = told;
+  prices = priced;
+  operators = h.operators ∙ ap (money_lines_of books.zones.operators) (sym (operators ∙ same2 books made also b ledger [] a ps.cents told priced (operator_lines books.zones made.market)));
+  providers = providers ∙ same2 books made also b ledger [] a ps.cents told priced (λ x qs. provider_amounts books.bids made.bids x qs (scheduled_or qs also));
+  one_each = ap length operators ∙ length-map-range_with_len _ 0 (length books.zones.operators);
+  rents =
+      let many : length (map_along (λ (x : Border) f. record { 0 = rent_of (prices_of b) x f }) made.market.borders (activation_of b).flow) ≡ length made.market.borders = along-long _ made.market.borders (activation_of b).flow (AllZip-long _ made.market.borders (activation_of b).flow agrees.borders) in
+      ap length (rents ∙ same2 books made also b ledger [] a ps.cents told priced (rents_of made.market)) ∙ many ∙ of.borders;
+  small = small;
+}

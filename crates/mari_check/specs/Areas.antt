@@ -1,0 +1,23 @@
+-- The numbers of areas, held against labels that the zones of one area share.
+use Rattle.std.specs.Prelude.{◌≡◌, ◌<◌, ◌≤◌, ◌↔◌, ℕ, List, length, slice_index}
+use Rattle.mari_market.specs.Area.{area_at}
+
+-- two zones have one number exactly where they have one label
+abbrev pub AreAlike : (areas labels : List ℕ) → (zone other : ℕ) → Type 0
+AreAlike areas labels zone other = (area_at areas zone ≡ area_at areas other) ↔ (slice_index labels zone ≡ slice_index labels other)
+
+-- a zone has one number with exactly the zones that have its label
+abbrev pub AgreeAt : (areas labels : List ℕ) → ℕ → Type 0
+AgreeAt areas labels zone = (other : ℕ) → other < length areas → AreAlike areas labels zone other
+
+-- a number is that of a zone no later than this one
+abbrev pub HasBefore : (areas : List ℕ) → (zone number : ℕ) → Type 0
+HasBefore areas zone number = (y : ℕ) × (y ≤ zone) × (area_at areas y ≡ number)
+
+-- a zone's number is at least 1, and each number up to it is that of a zone no later
+pub record IsNumbered (areas : List ℕ) (zone : ℕ) : Type 0 where
+  pub from_one : 1 ≤ area_at areas zone
+  pub by_first : (number : ℕ) → 1 ≤ number → number ≤ area_at areas zone → HasBefore areas zone number
+
+abbrev pub AreNumbered : List ℕ → Type 0
+AreNumbered areas = (zone : ℕ) → zone < length areas → IsNumbered areas zone

@@ -1,0 +1,48 @@
+-- Lines of a block beside what they are to tell, one beside the other.
+use Rattle.std.specs.Prelude.{◌≡◌, ◌≤ℤ◌, ℕ, List}
+use Rattle.mari_units.specs.declared.numbers.Cents.{Cents}
+use Rattle.mari_units.specs.declared.numbers.Quarters.{Quarters}
+use Rattle.mari_zones.specs.declared.borders.BorderEnds.{BorderEnds}
+use Rattle.mari_market.specs.Interval.{IsNearest}
+use Rattle.mari_publish.specs.declared.publication.AmountLine.{AmountLine}
+use Rattle.mari_publish.specs.declared.publication.BidLine.{BidLine}
+use Rattle.mari_publish.specs.declared.publication.BorderLine.{BorderLine}
+use Rattle.mari_publish.specs.declared.publication.MoneyLine.{MoneyLine}
+use Rattle.mari_publish.specs.declared.publication.ZoneLine.{ZoneLine}
+use Rattle.mari_check.specs.Told.{name_at}
+
+-- the line of a zone has the name
+abbrev pub NamesZone : ZoneLine → List ℕ → Type 0
+NamesZone l name = l.name ≡ name
+
+-- the line of a border has the names of its zones
+pub record NamesEnds (zones : List (List ℕ)) (l : BorderLine) (ends : BorderEnds) : Type 0 where
+  pub from : l.from ≡ name_at zones ends.from
+  pub to : l.to ≡ name_at zones ends.to
+
+-- the line of a bid has the name of the bid of this number
+abbrev pub NamesBid : List (List ℕ) → BidLine → ℕ → Type 0
+NamesBid ids l number = l.id ≡ name_at ids number
+
+-- the least price of a zone's line is at most its greatest
+abbrev pub IsInOrder : ZoneLine → Type 0
+IsInOrder l = l.least.0 ≤ℤ l.greatest.0
+
+-- its price is the one between them that is nearest to the reference
+abbrev pub IsNearestLine : Cents → ZoneLine → Type 0
+IsNearestLine reference l = IsNearest l.least.0 l.greatest.0 reference.0 l.price.0
+
+-- one price beside another
+abbrev pub IsSamePrice : Cents → Cents → Type 0
+IsSamePrice c own = c ≡ own
+
+-- the line of a border has the rent
+abbrev pub TellsRent : BorderLine → Quarters → Type 0
+TellsRent l rent = l.rent ≡ rent
+
+-- a line is the one that it is to be
+abbrev pub IsMoneyLine : MoneyLine → MoneyLine → Type 0
+IsMoneyLine l own = l ≡ own
+
+abbrev pub IsAmountLine : AmountLine → AmountLine → Type 0
+IsAmountLine l own = l ≡ own

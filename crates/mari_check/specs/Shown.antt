@@ -1,0 +1,33 @@
+-- What a published block shows where it has none of the faults.
+use Rattle.std.specs.Prelude.{◌≡◌, ◌≤ℤ◌, ℤ, pos, List, Option}
+use Rattle.std.specs.List.{All}
+use Rattle.mari_units.specs.declared.numbers.Cents.{Cents}
+use Rattle.mari_units.specs.declared.numbers.Quarters.{Quarters}
+use Rattle.mari_market.specs.Activation.{welfare_of}
+use Rattle.mari_market.specs.Area.{AreAreas}
+use Rattle.mari_market.specs.First.{IsFirst}
+use Rattle.mari_market.specs.Interval.{AreGreatestPrices, AreLeastPrices, ArePublishedPrices}
+use Rattle.mari_market.specs.Sums.{int_sum}
+use Rattle.mari_publish.specs.declared.publication.FullBlock.{FullBlock}
+use Rattle.mari_publish.specs.declared.publication.MoneyLine.{MoneyLine}
+use Rattle.mari_remain.specs.declared.books.Books.{Books}
+use Rattle.mari_remain.specs.declared.market.RunMarket.{RunMarket}
+use Rattle.mari_check.specs.Money.{HasLedger}
+use Rattle.mari_check.specs.Told.{activation_of, areas_of, greatest_of, least_of, prices_of, rents_told}
+
+-- the sum of the operators' nets
+abbrev pub net_sum : List MoneyLine → ℤ
+net_sum lines = int_sum (λ (l : MoneyLine). l.net.0) lines
+
+-- the first activation of the market, whoever printed it; its welfare; the prices, intervals and areas; the ledger, whose nets sum to 0
+-- and in which no rent is negative
+pub record ShowsRun (books : Books) (made : RunMarket) (also : Option (List Cents)) (b : FullBlock) : Type 0 where
+  pub first : IsFirst made.market (activation_of b)
+  pub welfare : welfare_of made.market (activation_of b) ≡ pos b.welfare
+  pub prices : ArePublishedPrices made.market (activation_of b) (prices_of b)
+  pub least : AreLeastPrices made.market (activation_of b) (least_of b)
+  pub greatest : AreGreatestPrices made.market (activation_of b) (greatest_of b)
+  pub areas : AreAreas made.market (activation_of b) (areas_of b)
+  pub ledger : HasLedger books made also b
+  pub nets : net_sum b.operators ≡ pos 0
+  pub rents : All (λ (rent : Quarters). pos 0 ≤ℤ rent.0) (rents_told b)

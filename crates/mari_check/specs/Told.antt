@@ -1,0 +1,44 @@
+-- What a printed block tells of its run.
+use Rattle.std.specs.Prelude.{ℕ, List, [], ◌++◌, map, slice_index_or}
+use Rattle.mari_units.specs.declared.numbers.Cents.{Cents}
+use Rattle.mari_units.specs.declared.numbers.Quarters.{Quarters}
+use Rattle.mari_market.specs.declared.activation.Activation.{Activation}
+use Rattle.mari_publish.specs.declared.publication.BidLine.{BidLine}
+use Rattle.mari_publish.specs.declared.publication.BorderLine.{BorderLine}
+use Rattle.mari_publish.specs.declared.publication.FullBlock.{FullBlock}
+use Rattle.mari_publish.specs.declared.publication.Heading.{Heading}
+use Rattle.mari_publish.specs.declared.publication.ZoneLine.{ZoneLine}
+use Rattle.mari_remain.specs.declared.books.Books.{Books}
+use Rattle.mari_remain.specs.Lists.{run_at}
+
+-- the name at a place
+abbrev pub name_at : List (List ℕ) → ℕ → List ℕ
+name_at names place = slice_index_or names place []
+
+-- the activation: how many MW the bids and then the demands run, and what flows over the borders
+abbrev pub activation_of : FullBlock → Activation
+activation_of b = record {
+  mw = map (λ (l : BidLine). l.mw) b.bids ++ b.demands;
+  flow = map (λ (l : BorderLine). l.flow) b.borders;
+}
+
+-- zone by zone the price, the least and the greatest price, and the number of the area
+abbrev pub prices_of : FullBlock → List Cents
+prices_of b = map (λ (l : ZoneLine). l.price) b.zones
+
+abbrev pub least_of : FullBlock → List Cents
+least_of b = map (λ (l : ZoneLine). l.least) b.zones
+
+abbrev pub greatest_of : FullBlock → List Cents
+greatest_of b = map (λ (l : ZoneLine). l.greatest) b.zones
+
+abbrev pub areas_of : FullBlock → List ℕ
+areas_of b = map (λ (l : ZoneLine). l.area) b.zones
+
+-- the rents of the borders
+abbrev pub rents_told : FullBlock → List Quarters
+rents_told b = map (λ (l : BorderLine). l.rent) b.borders
+
+-- the heading that a run has, counted from 1
+abbrev pub heading_of : Books → ℕ → Heading
+heading_of books run = record { run = run; quarter = (run_at books run).quarter; direct = (run_at books run).direct }

@@ -1,0 +1,214 @@
+//! The check of a published block.
+
+ghost use Rattle.std.specs.Prelude.{◌≡◌, ◌≤◌, ℕ, List, Option, IfOk, IfSome, IsTrue, ◌↔◌, None, option_map, pos};
+ghost use Rattle.mari_market.specs.Activation.{gate_word_of, welfare_of};
+ghost use Rattle.mari_units.specs.declared.numbers.Cents.{Cents as TheCents};
+ghost use Rattle.mari_market.specs.Market.{IsValid};
+ghost use Rattle.mari_market.specs.Optimal.{IsConsistent, IsFeasible};
+ghost use Rattle.mari_market.specs.Price.{ArePrices};
+ghost use Rattle.mari_remain.specs.Accepted.{IsAccepted};
+ghost use Rattle.mari_check.specs.Faults.{Finds, FindsNumber, FindsUpTo, IsFreeOf, IsShaped, NoneBelow};
+ghost use Rattle.mari_remain.specs.declared.books.Books.{Books as TheBooks};
+ghost use Rattle.mari_remain.specs.declared.market.RunMarket.{RunMarket as TheRunMarket};
+ghost use Rattle.mari_market.specs.Tree.{TreeHoldsFor};
+ghost use Rattle.mari_check.specs.Markets.{IsMadeFor, IsMarketOf};
+ghost use Rattle.mari_check.specs.Told.{activation_of as activation_told, prices_of as prices_told};
+
+use crate::areas::are_areas;
+use crate::fault::Fault;
+use crate::ledger::has_ledger;
+use crate::names::names_market;
+use crate::pricing::{has_intervals, has_published_prices};
+use crate::told::{activation_of, areas_of, heading, prices_of};
+use crate::tree::has_shape;
+use mari_gates::gate_word;
+use mari_market::{Activation, Market, Prices, TreeItem};
+use mari_proofs::{TreeVerdict, check_tree};
+use mari_publish::FullBlock;
+use mari_remain::{Books, RunMarket};
+use mari_units::{Memory, Quarters};
+use mari_welfare::{is_consistent, is_feasible, welfare};
+use std::alloc::Global;
+
+// A fault of the heading or of the names.
+fn naming_fault(books: &Books, run: u32, made: &RunMarket, block: &FullBlock) -> Option<Fault>
+    requires { 1 ≤ run }
+    ensures { (also : Option (List TheCents)) (budget : Option ℕ) → FindsUpTo (IsFreeOf books.now run made.now also budget block.now) 3 result }
+{
+    if block.heading != heading(books, run) {
+        return Some(Fault::Heading);
+    }
+    if !names_market(books, made, block) {
+        return Some(Fault::Lines);
+    }
+    None
+}
+
+// Whether the block states the welfare of its activation.
+fn has_welfare(market: &Market, activation: &Activation, block: &FullBlock) -> bool
+    requires valid { IsValid market.now }
+    requires feasible { IsFeasible market.now activation.now }
+    ensures { IsTrue result ↔ (welfare_of market.now activation.now ≡ pos block.now.welfare) }
+{
+    welfare(market, activation).0 == i128::from(block.welfare)
+}
+
+// A fault of the activation, of its welfare, or of the prices.
+fn trading_fault(
+    market: &Market,
+    block: &FullBlock,
+    activation: &Activation,
+    prices: &Prices,
+) -> Option<Fault>
+    requires valid { IsValid market.now }
+    requires activation { activation.now ≡ activation_told block.now }
+    requires prices { prices.now.cents ≡ prices_told block.now }
+    ensures { (books : TheBooks) (run : ℕ) (made : TheRunMarket) (also : Option (List TheCents)) (budget : Option ℕ) → made.market ≡ market.now
+        → NoneBelow (IsFreeOf books run made also budget block.now) 3 → FindsUpTo (IsFreeOf books run made also budget block.now) 6 result }
+{
+    if !is_feasible(market, activation) {
+        return Some(Fault::Infeasible);
+    }
+    if !has_welfare(market, activation, block) {
+        return Some(Fault::Welfare);
+    }
+    if !is_consistent(market, activation, prices) {
+        return Some(Fault::Inconsistent);
+    }
+    None
+}
+
+// A fault of the intervals, of the prices in them, or of the areas, where the prices are consistent.
+fn pricing_fault(
+    alloc: Global,
+    market: &Market,
+    block: &FullBlock,
+    activation: &Activation,
+) -> Result<Option<Fault>, Memory>
+    requires valid { IsValid market.now }
+    requires activation { activation.now ≡ activation_told block.now }
+    requires feasible { IsFeasible market.now activation.now }
+    requires some { (ps : List TheCents) × IsConsistent market.now activation.now ps }
+    ensures { (books : TheBooks) (run : ℕ) (made : TheRunMarket) (also : Option (List TheCents)) (budget : Option ℕ) → made.market ≡ market.now
+        → NoneBelow (IsFreeOf books run made also budget block.now) 6 → IfOk result (FindsUpTo (IsFreeOf books run made also budget block.now) 9) }
+{
+    if !has_intervals(alloc, market, activation, block)? {
+        return Ok(Some(Fault::Interval));
+    }
+    if !has_published_prices(market, block) {
+        return Ok(Some(Fault::Price));
+    }
+    let areas = areas_of(alloc, block)?;
+    if !are_areas(alloc, market, activation, &areas)? {
+        return Ok(Some(Fault::Area));
+    }
+    Ok(None)
+}
+
+// Whether the tree is a whole one, of no more items than the budget, where there is one.
+fn is_shaped(market: &Market, tree: &[TreeItem], budget: Option<u32>) -> bool
+    requires { IsValid market.now }
+    ensures { IsTrue result ↔ IsShaped market.now budget tree.now }
+{
+    let fits = match budget {
+        Some(most) => tree.len() <= most as usize,
+        None => true,
+    };
+    fits && has_shape(market, tree)
+}
+
+// Whether each leaf of the tree holds at the block's welfare for the gate word of its activation.
+fn has_leaves(market: &Market, block: &FullBlock, activation: &Activation) -> bool
+    requires valid { IsValid market.now }
+    requires activation { activation.now ≡ activation_told block.now }
+    requires feasible { IsFeasible market.now activation.now }
+    ensures { IsTrue result ↔ TreeHoldsFor market.now (pos block.now.welfare) (gate_word_of market.now (activation_told block.now)) block.now.tree }
+{
+    let word = gate_word(market, activation);
+    let cutoff = Quarters(i128::from(block.welfare));
+    check_tree(market, block.tree.as_slice(), cutoff, &word) == TreeVerdict::Holds
+}
+
+// A fault of the tree's shape, or of a leaf.
+fn tree_fault(
+    market: &Market,
+    block: &FullBlock,
+    activation: &Activation,
+    budget: Option<u32>,
+) -> Option<Fault>
+    requires valid { IsValid market.now }
+    requires activation { activation.now ≡ activation_told block.now }
+    requires feasible { IsFeasible market.now activation.now }
+    ensures { (books : TheBooks) (run : ℕ) (made : TheRunMarket) (also : Option (List TheCents)) → made.market ≡ market.now
+        → NoneBelow (IsFreeOf books run made also budget block.now) 9 → FindsUpTo (IsFreeOf books run made also budget block.now) 11 result }
+{
+    if !is_shaped(market, block.tree.as_slice(), budget) {
+        return Some(Fault::Tree);
+    }
+    if !has_leaves(market, block, activation) {
+        return Some(Fault::Leaf);
+    }
+    None
+}
+
+// The least fault of a published block of a run with this market, whose quarter has these scheduled prices, or none.
+pub(crate) fn fault_in(
+    alloc: Global,
+    books: &Books,
+    run: u32,
+    made: &RunMarket,
+    block: &FullBlock,
+    also: Option<&Prices>,
+    budget: Option<u32>,
+) -> Result<Option<Fault>, Memory>
+    requires accepted { IsAccepted books.now }
+    requires run { 1 ≤ run }
+    requires made { IsMarketOf books.now made.now }
+    requires also { IfSome also (λ scheduled. ArePrices made.now.market scheduled.now.cents) }
+    ensures { IfOk result (Finds (IsFreeOf books.now run made.now (option_map (λ scheduled. scheduled.now.cents) also.entry) budget block.now)) }
+{
+    if let Some(fault) = naming_fault(books, run, made, block) {
+        return Ok(Some(fault));
+    }
+    let market = &made.market;
+    let activation = activation_of(alloc, block)?;
+    let prices = prices_of(alloc, block)?;
+    if let Some(fault) = trading_fault(market, block, &activation, &prices) {
+        return Ok(Some(fault));
+    }
+    if let Some(fault) = pricing_fault(alloc, market, block, &activation)? {
+        return Ok(Some(fault));
+    }
+    if let Some(fault) = tree_fault(market, block, &activation, budget) {
+        return Ok(Some(fault));
+    }
+    if !has_ledger(alloc, books, made, block, &prices, &activation, also)? {
+        return Ok(Some(Fault::Ledger));
+    }
+    Ok(None)
+}
+
+/// The number of the least fault of a published block, or none exactly where it has none: of its heading, its lines, its activation,
+/// its welfare, its prices, intervals and areas, its tree and its ledger.
+///
+/// The market is the one that is made of this run behind the blocks before. A direct run whose quarter has a published scheduled block is
+/// checked with the prices of that block; for any other run there are none. How many items the tree may have is no matter here.
+pub fn check_run(
+    alloc: Global,
+    books: &Books,
+    run: u32,
+    made: &RunMarket,
+    block: &FullBlock,
+    also: Option<&Prices>,
+) -> Result<Option<u8>, Memory>
+    requires accepted { IsAccepted books.now }
+    requires made { IsMadeFor books.now run made.now }
+    requires also { IfSome also (λ scheduled. ArePrices made.now.market scheduled.now.cents) }
+    ensures { IfOk result (FindsNumber (IsFreeOf books.now run made.now (option_map (λ scheduled. scheduled.now.cents) also.entry) None block.now)) }
+{
+    let found = fault_in(alloc, books, run, made, block, also, None)?;
+    match found {
+        Some(fault) => Ok(Some(fault.number())),
+        None => Ok(None),
+    }
+}

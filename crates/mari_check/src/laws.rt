@@ -1,0 +1,25 @@
+//! What a block shows that has none of the faults, whoever printed it.
+
+ghost use Rattle.std.specs.Prelude.{ℕ, List, Option};
+ghost use Rattle.mari_units.specs.declared.numbers.Cents.{Cents as TheCents};
+ghost use Rattle.mari_publish.specs.declared.publication.FullBlock.{FullBlock as TheFullBlock};
+ghost use Rattle.mari_remain.specs.Accepted.{IsAccepted};
+ghost use Rattle.mari_remain.specs.declared.market.RunMarket.{RunMarket as TheRunMarket};
+ghost use Rattle.mari_check.specs.Faults.{IsFreeOf};
+ghost use Rattle.mari_check.specs.Markets.{IsMadeFor};
+ghost use Rattle.mari_check.specs.Shown.{ShowsRun};
+ghost use Rattle.mari_check.specs.declared.fault.Fault.{Fault as TheFault};
+
+use mari_remain::Books;
+
+/// A published block that has none of the faults tells the first activation of its run's market, with its welfare, the prices, the
+/// intervals and areas, and the ledger. In it the operators' nets sum to 0, and no rent is negative.
+///
+/// The call does nothing: its contract is the law.
+pub fn free_blocks_show(books: &Books)
+    requires { IsAccepted books.now }
+    ensures { (run : ℕ) (made : TheRunMarket) (also : Option (List TheCents)) (budget : Option ℕ) (b : TheFullBlock) → IsMadeFor books.now run made
+        → ((any : TheFault) → IsFreeOf books.now run made also budget b any) → ShowsRun books.now made also b }
+{
+    let _books = books;
+}

@@ -1,0 +1,258 @@
+//! The money of a block.
+
+ghost use Rattle.std.specs.Prelude.{◌≡◌, ◌≤◌, ◌<◌, ◌==◌, ◌^◌, ◌*◌, ℕ, List, IfOk, IfSome, OnOk, IsTrue, ◌↔◌, length, map, option_map};
+ghost use Rattle.std.specs.List.{All, AllZip, list_any, range_with_len};
+ghost use Rattle.mari_market.specs.Optimal.{IsConsistent, IsFeasible};
+ghost use Rattle.mari_market.specs.Price.{ArePrices};
+ghost use Rattle.mari_remain.specs.Accepted.{IsAccepted};
+ghost use Rattle.mari_remain.specs.Lists.{bid_at};
+ghost use Rattle.mari_settle.specs.Conditions.{HasSmallNumbers, LineIsWithin};
+ghost use Rattle.mari_settle.specs.Ledger.{net_of as net_in, operator_lines, provider_amounts, rents_of, scheduled_or};
+ghost use Rattle.mari_check.specs.Lines.{TellsRent};
+ghost use Rattle.mari_check.specs.Markets.{IsMarketOf};
+ghost use Rattle.mari_check.specs.Money.{HasLedger, TellsLedger, amount_line, money_line, money_lines_of, providers_among, with_number};
+ghost use Rattle.mari_check.specs.Told.{activation_of as activation_told, name_at, prices_of as prices_told};
+ghost use Rattle.mari_publish.specs.declared.publication.AmountLine.{AmountLine as TheAmountLine};
+ghost use Rattle.mari_publish.specs.declared.publication.MoneyLine.{MoneyLine as TheMoneyLine};
+
+use crate::names::is_named;
+use mari_bids::Bid;
+use mari_market::{Activation, Prices};
+use mari_publish::{AmountLine, BorderLine, FullBlock, MoneyLine};
+use mari_remain::{Books, RunMarket};
+use mari_rows::NameIndex;
+use mari_settle::{Ledger, OperatorLine, settle_run};
+use mari_units::{Memory, Quarters};
+use std::alloc::Global;
+
+// The provider of the bid of a number.
+fn provider_of(bids: &[Bid], number: u32) -> u32
+    ensures { result ≡ (bid_at bids.now number).provider }
+{
+    match bids.get(number as usize) {
+        Some(bid) => bid.provider,
+        None => 0,
+    }
+}
+
+// Whether a place is listed.
+fn is_listed(places: &[u32], place: u32) -> bool
+    ensures { result ≡ list_any (λ m. m == place) places.now }
+{
+    places.contains(&place)
+}
+
+// Lists a place behind others, unless it is listed.
+fn list_once(places: &mut Vec<u32>, place: u32) -> Result<(), Memory>
+    ensures { OnOk result (places.new.items ≡ with_number places.old.items place) }
+{
+    if is_listed(places, place) {
+        return Ok(());
+    }
+    Ok(places.push(place)?)
+}
+
+// The providers of these bids, by the first bid of each.
+fn providers_of(alloc: Global, bids: &[Bid], numbers: &[u32]) -> Result<Vec<u32>, Memory>
+    ensures { IfOk result (λ places. places.items ≡ providers_among bids.now numbers.now) }
+{
+    let mut places = Vec::new(alloc);
+    for number in numbers {
+        list_once(&mut places, provider_of(bids, *number))?;
+    }
+    Ok(places)
+}
+
+fn is_rent(line: &BorderLine, rent: Quarters) -> bool
+    ensures { IsTrue result ↔ TellsRent line.now rent }
+{
+    line.rent == rent
+}
+
+// Whether the lines tell these rents.
+fn are_rents(lines: &[BorderLine], rents: &[Quarters]) -> bool
+    ensures { IsTrue result ↔ AllZip TellsRent lines.now rents.now }
+{
+    if lines.len() != rents.len() {
+        return false;
+    }
+    for (border, line) in lines.iter().enumerate() {
+        if !is_rent(line, rents[border]) {
+            return false;
+        }
+    }
+    true
+}
+
+// An operator's payment less its rent.
+fn net_of(own: OperatorLine) -> Quarters
+    requires { LineIsWithin (10 ^ 30) own }
+    ensures { result.0 ≡ net_in own }
+{
+    Quarters(own.payment.0 - own.rent.0)
+}
+
+// Whether a line tells the name at a place, and an operator's payment, rent and net.
+fn is_money_line(line: &MoneyLine, names: &NameIndex, place: u32, own: OperatorLine) -> bool
+    requires { LineIsWithin (10 ^ 30) own }
+    ensures { IsTrue result ↔ (line.now ≡ money_line (name_at names.now place) own) }
+{
+    if !is_named(&line.name, names, place) {
+        return false;
+    }
+    let told = OperatorLine {
+        payment: line.payment,
+        rent: line.rent,
+    };
+    told == own && line.net == net_of(own)
+}
+
+/// Whether these are the lines of all operators.
+pub(crate) fn are_money_lines(lines: &[MoneyLine], names: &NameIndex, own: &[OperatorLine]) -> bool
+    requires one_each { length own.now ≡ length names.now }
+    requires small { All (LineIsWithin (10 ^ 30)) own.now }
+    ensures { IsTrue result ↔ (lines.now ≡ money_lines_of names.now own.now) }
+{
+    if lines.len() != names.len() as usize {
+        return false;
+    }
+    for (operator, line) in lines.iter().enumerate() {
+        if !is_money_line(line, names, operator as u32, own[operator]) {
+            return false;
+        }
+    }
+    true
+}
+
+// Whether a line tells the name of a provider, and its amount.
+fn is_amount_line(line: &AmountLine, names: &NameIndex, amounts: &[Quarters], place: u32) -> bool
+    requires { place < length amounts.now }
+    ensures { IsTrue result ↔ (line.now ≡ amount_line names.now amounts.now place) }
+{
+    if !is_named(&line.name, names, place) {
+        return false;
+    }
+    line.amount == amounts[place as usize]
+}
+
+/// Whether these are the lines of these providers.
+pub(crate) fn are_amount_lines(
+    lines: &[AmountLine],
+    names: &NameIndex,
+    amounts: &[Quarters],
+    places: &[u32],
+) -> bool
+    requires there { All (λ place. place < length amounts.now) places.now }
+    ensures { IsTrue result ↔ (lines.now ≡ map (amount_line names.now amounts.now) places.now) }
+{
+    if lines.len() != places.len() {
+        return false;
+    }
+    for (order, line) in lines.iter().enumerate() {
+        if !is_amount_line(line, names, amounts, places[order]) {
+            return false;
+        }
+    }
+    true
+}
+
+/// Whether these are the lines of all providers.
+pub(crate) fn are_total_lines(lines: &[AmountLine], names: &NameIndex, amounts: &[Quarters]) -> bool
+    requires one_each { length amounts.now ≡ length names.now }
+    ensures { IsTrue result ↔ (lines.now ≡ map (amount_line names.now amounts.now) (range_with_len 0 (length names.now))) }
+{
+    if lines.len() != names.len() as usize {
+        return false;
+    }
+    for (provider, line) in lines.iter().enumerate() {
+        if !is_amount_line(line, names, amounts, provider as u32) {
+            return false;
+        }
+    }
+    true
+}
+
+// The ledger of a run's activation at these prices.
+pub(crate) fn ledger_of(
+    alloc: Global,
+    books: &Books,
+    made: &RunMarket,
+    prices: &Prices,
+    activation: &Activation,
+    also: Option<&Prices>,
+) -> Result<Ledger, Memory>
+    requires accepted { IsAccepted books.now }
+    requires made { IsMarketOf books.now made.now }
+    requires feasible { IsFeasible made.now.market activation.now }
+    requires consistent { IsConsistent made.now.market activation.now prices.now.cents }
+    requires also { IfSome also (λ scheduled. ArePrices made.now.market scheduled.now.cents) }
+    ensures operators { IfOk result (λ ledger. ledger.operators ≡ operator_lines books.now.zones made.now.market activation.now prices.now.cents) }
+    ensures providers { IfOk result (λ ledger. ledger.providers ≡ provider_amounts books.now.bids made.now.bids activation.now prices.now.cents (scheduled_or prices.now.cents (option_map (λ scheduled. scheduled.now.cents) also.entry))) }
+    ensures rents { IfOk result (λ ledger. ledger.rents ≡ rents_of made.now.market activation.now prices.now.cents) }
+    ensures small { IfOk result HasSmallNumbers }
+{
+    let mut ledger = Ledger::start(alloc, &books.zones, &books.borders, &books.bids)?;
+    settle_run(
+        &books.zones,
+        &books.bids,
+        &made.market,
+        made.bids.as_slice(),
+        prices,
+        activation,
+        &mut ledger,
+        also,
+    );
+    Ok(ledger)
+}
+
+/// Whether the block tells the ledger of its run.
+pub(crate) fn has_ledger(
+    alloc: Global,
+    books: &Books,
+    made: &RunMarket,
+    block: &FullBlock,
+    prices: &Prices,
+    activation: &Activation,
+    also: Option<&Prices>,
+) -> Result<bool, Memory>
+    requires accepted { IsAccepted books.now }
+    requires made { IsMarketOf books.now made.now }
+    requires activation { activation.now ≡ activation_told block.now }
+    requires prices { prices.now.cents ≡ prices_told block.now }
+    requires feasible { IsFeasible made.now.market activation.now }
+    requires consistent { IsConsistent made.now.market activation.now prices.now.cents }
+    requires also { IfSome also (λ scheduled. ArePrices made.now.market scheduled.now.cents) }
+    ensures { IfOk result (λ is. IsTrue is ↔ HasLedger books.now made.now (option_map (λ scheduled. scheduled.now.cents) also.entry) block.now) }
+{
+    let ledger = ledger_of(alloc, books, made, prices, activation, also)?;
+    let places = providers_of(alloc, books.bids.bids.as_slice(), made.bids.as_slice())?;
+    Ok(tells_ledger(books, block, &ledger, &places))
+}
+
+// Whether the block tells this ledger, and of the providers those at these places.
+fn tells_ledger(books: &Books, block: &FullBlock, ledger: &Ledger, places: &[u32]) -> bool
+    requires operators { length ledger.now.operators ≡ length books.now.zones.operators }
+    requires providers { length ledger.now.providers ≡ length books.now.bids.providers }
+    requires places { All (λ place. place < length books.now.bids.providers) places.now }
+    requires small { HasSmallNumbers ledger.now }
+    ensures { IsTrue result ↔ TellsLedger books.now block.now ledger.now places.now }
+{
+    let operators = ledger.operators.as_slice();
+    let amounts = ledger.providers.as_slice();
+    if !are_rents(block.borders.as_slice(), ledger.rents.as_slice()) {
+        return false;
+    }
+    if !are_money_lines(
+        block.operators.as_slice(),
+        &books.zones.operators,
+        operators,
+    ) {
+        return false;
+    }
+    are_amount_lines(
+        block.providers.as_slice(),
+        &books.bids.providers,
+        amounts,
+        places,
+    )
+}

@@ -1,0 +1,28 @@
+//! The check of a printed day against its books, by whoever reads it.
+//!
+//! The crate stands on the definitions and on plain tests, and on nothing that clears a market: what the tests answer is all that a
+//! reader has to trust. Its promise: of each block the least fault is told, exactly where one is there, whoever printed it; and of a
+//! whole publication the first run that has a fault, or that there is none.
+#![tactic(auto)]
+
+mod areas;
+mod block;
+mod day;
+mod ends;
+mod fault;
+mod laws;
+mod ledger;
+mod names;
+mod pricing;
+mod spread;
+#[cfg(test)]
+mod tests;
+mod told;
+mod tree;
+mod verdict;
+
+pub use block::check_run;
+pub use day::DayCheck;
+pub use fault::Fault;
+pub use laws::free_blocks_show;
+pub use verdict::{Verdict, check_day};

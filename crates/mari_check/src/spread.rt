@@ -1,0 +1,135 @@
+//! Values that spread from zone to zone along borders, until no border raises any of them.
+
+ghost use Rattle.std.specs.Prelude.{◌≡◌, ◌<◌, ◌≤◌, IsTrue, ◌↔◌, true, false, length};
+ghost use Rattle.std.specs.List.{All};
+ghost use Rattle.mari_market.specs.Area.{IsUncongested};
+ghost use Rattle.mari_check.specs.Spread.{IsAmong, AreSmall, IsClosed, IsClosedOver, IsRaise, IsRaiseIf, IsSpread, LeadsBack, LeadsOn, LeadsOver, LeadsTo, Spreads, room_of};
+
+use mari_market::Border;
+
+/// Lower bounds of prices go where prices are at least as high, upper bounds where they are at least as low, and the labels of areas
+/// over uncongested borders.
+#[derive(Clone, Copy, Debug, Drop, PartialEq, Eq)]
+pub(crate) enum Along {
+    Rising,
+    Falling,
+    Joined,
+}
+
+fn is_uncongested(border: &Border, flow: i64) -> bool
+    ensures { IsTrue result ↔ IsUncongested border.now flow }
+{
+    border.has_room_back(flow) && border.has_room_on(flow)
+}
+
+impl Along {
+    // Whether the border leads from its first zone to its second.
+    fn leads_on(self, border: &Border, flow: i64) -> bool
+        ensures { IsTrue result ↔ LeadsOn self border.now flow }
+    {
+        match self {
+            Along::Rising => border.has_room_back(flow),
+            Along::Falling => border.has_room_on(flow),
+            Along::Joined => is_uncongested(border, flow),
+        }
+    }
+
+    // Whether it leads from its second zone to its first.
+    fn leads_back(self, border: &Border, flow: i64) -> bool
+        ensures { IsTrue result ↔ LeadsBack self border.now flow }
+    {
+        match self {
+            Along::Rising => border.has_room_on(flow),
+            Along::Falling => border.has_room_back(flow),
+            Along::Joined => is_uncongested(border, flow),
+        }
+    }
+}
+
+// Raises the second zone's value to that of the first, and tells whether it was below.
+fn raise(values: &mut [u64], from: u32, to: u32) -> bool
+    requires from { from < length values.old }
+    requires to { to < length values.old }
+    ensures { IsRaise values.old from to values.new result }
+{
+    let value = values[from as usize];
+    if values[to as usize] >= value {
+        return false;
+    }
+    values[to as usize] = value;
+    true
+}
+
+// The same where the first zone leads to the second.
+fn raise_if(leads: bool, values: &mut [u64], from: u32, to: u32) -> bool
+    requires from { from < length values.old }
+    requires to { to < length values.old }
+    ensures { IsRaiseIf leads values.old from to values.new result }
+{
+    if leads {
+        raise(values, from, to)
+    } else {
+        false
+    }
+}
+
+// Raises the values at both ends of a border as far as it leads, and tells whether one was raised.
+fn over_border(values: &mut [u64], border: &Border, flow: i64, along: Along) -> bool
+    requires from { border.now.from < length values.old }
+    requires to { border.now.to < length values.old }
+    requires small { AreSmall values.old }
+    ensures spreads { Spreads (λ y z. LeadsOver along y z border.now flow) values.old values.new }
+    ensures settled { result ≡ false → (values.new ≡ values.old) × IsClosedOver along values.new border.now flow }
+    ensures raised { result ≡ true → room_of values.new < room_of values.old }
+{
+    let on = raise_if(along.leads_on(border, flow), values, border.from, border.to);
+    let back = raise_if(
+        along.leads_back(border, flow),
+        values,
+        border.to,
+        border.from,
+    );
+    on || back
+}
+
+// Goes over all borders once, and tells whether a value was raised.
+fn round(values: &mut [u64], borders: &[Border], flow: &[i64], along: Along) -> bool
+    requires lengths { length flow.now ≡ length borders.now }
+    requires ends { All (IsAmong (length values.old)) borders.now }
+    requires small { AreSmall values.old }
+    ensures spreads { Spreads (LeadsTo along borders.now flow.now) values.old values.new }
+    ensures settled { result ≡ false → (values.new ≡ values.old) × IsClosed along values.new borders.now flow.now }
+    ensures raised { result ≡ true → room_of values.new < room_of values.old }
+{
+    let mut raised = false;
+    for (i, border) in borders.iter().enumerate() {
+        if over_border(values, border, flow[i], along) {
+            raised = true;
+        }
+    }
+    raised
+}
+
+// Raises the values until no border raises any.
+fn spread_out(values: &mut [u64], borders: &[Border], flow: &[i64], along: Along)
+    requires lengths { length flow.now ≡ length borders.now }
+    requires ends { All (IsAmong (length values.old)) borders.now }
+    requires small { AreSmall values.old }
+    ensures { IsSpread (LeadsTo along borders.now flow.now) values.old values.new }
+{
+    'rounds: while round(values, borders, flow, along) {}
+}
+
+/// Each zone's value, raised to the greatest of the zones that lead to it, directly or through others.
+///
+/// There are at most as many rounds over the borders as zones, and one that raises nothing.
+pub(crate) fn spread(values: Vec<u64>, borders: &[Border], flow: &[i64], along: Along) -> Vec<u64>
+    requires lengths { length flow.now ≡ length borders.now }
+    requires ends { All (IsAmong (length values.items)) borders.now }
+    requires small { AreSmall values.items }
+    ensures { IsSpread (LeadsTo along borders.now flow.now) values.items result.items }
+{
+    let mut spread = values;
+    spread_out(&mut spread, borders, flow, along);
+    spread
+}

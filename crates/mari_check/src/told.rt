@@ -1,0 +1,100 @@
+//! What a block tells of its run.
+
+ghost use Rattle.std.specs.Prelude.{◌≡◌, ◌≤◌, IfOk, map};
+ghost use Rattle.mari_publish.specs.declared.publication.BidLine.{BidLine as TheBidLine};
+ghost use Rattle.mari_publish.specs.declared.publication.BorderLine.{BorderLine as TheBorderLine};
+ghost use Rattle.mari_publish.specs.declared.publication.ZoneLine.{ZoneLine as TheZoneLine};
+ghost use Rattle.mari_check.specs.Told.{activation_of as activation_told, areas_of as areas_told, greatest_of as greatest_told, heading_of, least_of as least_told, prices_of as prices_told};
+
+use mari_market::{Activation, Prices};
+use mari_publish::{BidLine, BorderLine, FullBlock, Heading, ZoneLine};
+use mari_remain::{Books, run_entry};
+use mari_units::{Cents, Items, Memory};
+use std::alloc::Global;
+
+// How many MW the bids run.
+fn mws_of(alloc: Global, lines: &[BidLine]) -> Result<Vec<u32>, Memory>
+    ensures { IfOk result (λ mw. mw.items ≡ map (λ (l : TheBidLine). l.mw) lines.now) }
+{
+    let mw: Vec<u32> = lines.iter().map(|line| line.mw).collect(alloc)?;
+    Ok(mw)
+}
+
+// What flows over the borders.
+fn flows_of(alloc: Global, lines: &[BorderLine]) -> Result<Vec<i64>, Memory>
+    ensures { IfOk result (λ flow. flow.items ≡ map (λ (l : TheBorderLine). l.flow) lines.now) }
+{
+    let flow: Vec<i64> = lines.iter().map(|line| line.flow).collect(alloc)?;
+    Ok(flow)
+}
+
+// What the zones' prices are.
+fn cents_of(alloc: Global, lines: &[ZoneLine]) -> Result<Vec<Cents>, Memory>
+    ensures { IfOk result (λ cents. cents.items ≡ map (λ (l : TheZoneLine). l.price) lines.now) }
+{
+    let cents: Vec<Cents> = lines.iter().map(|line| line.price).collect(alloc)?;
+    Ok(cents)
+}
+
+/// The activation that a block tells.
+pub(crate) fn activation_of(alloc: Global, block: &FullBlock) -> Result<Activation, Memory>
+    ensures { IfOk result (λ activation. activation ≡ activation_told block.now) }
+{
+    let mut mw = mws_of(alloc, block.bids.as_slice())?;
+    mw.extend_from_slice(block.demands.as_slice())?;
+    let flow = flows_of(alloc, block.borders.as_slice())?;
+    Ok(Activation {
+        mw: Items::of(mw),
+        flow: Items::of(flow),
+    })
+}
+
+/// The prices that it tells.
+pub(crate) fn prices_of(alloc: Global, block: &FullBlock) -> Result<Prices, Memory>
+    ensures { IfOk result (λ prices. prices.cents ≡ prices_told block.now) }
+{
+    let cents = cents_of(alloc, block.zones.as_slice())?;
+    Ok(Prices {
+        cents: Items::of(cents),
+    })
+}
+
+/// The least prices that it tells.
+pub(crate) fn least_of(alloc: Global, block: &FullBlock) -> Result<Vec<Cents>, Memory>
+    ensures { IfOk result (λ cents. cents.items ≡ least_told block.now) }
+{
+    let zones = block.zones.as_slice();
+    let cents: Vec<Cents> = zones.iter().map(|line| line.least).collect(alloc)?;
+    Ok(cents)
+}
+
+/// The greatest prices that it tells.
+pub(crate) fn greatest_of(alloc: Global, block: &FullBlock) -> Result<Vec<Cents>, Memory>
+    ensures { IfOk result (λ cents. cents.items ≡ greatest_told block.now) }
+{
+    let zones = block.zones.as_slice();
+    let cents: Vec<Cents> = zones.iter().map(|line| line.greatest).collect(alloc)?;
+    Ok(cents)
+}
+
+/// The numbers of areas that it tells.
+pub(crate) fn areas_of(alloc: Global, block: &FullBlock) -> Result<Vec<u32>, Memory>
+    ensures { IfOk result (λ areas. areas.items ≡ areas_told block.now) }
+{
+    let zones = block.zones.as_slice();
+    let areas: Vec<u32> = zones.iter().map(|line| line.area).collect(alloc)?;
+    Ok(areas)
+}
+
+/// The heading that a run has.
+pub(crate) fn heading(books: &Books, run: u32) -> Heading
+    requires { 1 ≤ run }
+    ensures { result ≡ heading_of books.now run }
+{
+    let entry = run_entry(books, run);
+    Heading {
+        run,
+        quarter: entry.quarter,
+        direct: entry.direct,
+    }
+}

@@ -1,0 +1,123 @@
+//! The verdict on a whole publication.
+
+ghost use Rattle.std.specs.Prelude.{◌≡◌, [], List, None, IfOk, IfSome, IsTrue, ◌↔◌};
+ghost use Rattle.mari_publish.specs.declared.publication.Block.{Block as PrintedBlock};
+ghost use Rattle.mari_publish.specs.declared.publication.Publication.{Publication as ThePublication};
+ghost use Rattle.mari_remain.specs.Accepted.{IsAccepted};
+ghost use Rattle.mari_check.specs.Checked.{IsChecked};
+ghost use Rattle.mari_check.specs.Day.{HasHead, HasTotals};
+ghost use Rattle.mari_check.specs.Verdicts.{IsVerdict};
+
+use crate::day::{DayCheck, run_count};
+use crate::fault::Fault;
+use crate::ledger::{are_money_lines, are_total_lines};
+use mari_publish::{AmountLine, Block, MoneyLine, Publication};
+use mari_remain::Books;
+use mari_units::Memory;
+use std::alloc::Global;
+
+/// A publication is valid, with so many published runs and so many that aren't; or the first run that has a fault, and the number of its
+/// least one. Run 0 is told where the first line isn't that of the books, the last run where the totals are other sums.
+#[derive(Clone, Copy, Debug, Drop, PartialEq, Eq)]
+pub enum Verdict {
+    Valid { published: u32, unpublished: u32 },
+    Invalid { run: u32, fault: u8 },
+}
+
+impl DayCheck {
+    /// Whether these lines are the sums over the published blocks.
+    fn has_totals(&self, books: &Books, operators: &[MoneyLine], providers: &[AmountLine]) -> bool
+        requires accepted { IsAccepted books.now }
+        requires stands { (blocks : List PrintedBlock) × IsChecked books.now blocks self.now }
+        ensures { (p : ThePublication) → IsChecked books.now p.blocks self.now → p.operators ≡ operators.now → p.providers ≡ providers.now → (IsTrue result ↔ HasTotals books.now p) }
+    {
+        let totals = &self.totals;
+        if !are_money_lines(
+            operators,
+            &books.zones.operators,
+            totals.operators.as_slice(),
+        ) {
+            return false;
+        }
+        are_total_lines(
+            providers,
+            &books.bids.providers,
+            totals.providers.as_slice(),
+        )
+    }
+
+    /// The verdict on a publication whose first line and blocks have no fault and that ends with these totals: a block may be missing, or
+    /// the totals may be other sums. No fault was found before.
+    pub fn end(&self, books: &Books, operators: &[MoneyLine], providers: &[AmountLine]) -> Verdict
+        requires accepted { IsAccepted books.now }
+        requires stands { (blocks : List PrintedBlock) × IsChecked books.now blocks self.now }
+        ensures { (p : ThePublication) → HasHead books.now p → p.budget ≡ self.now.budget → IsChecked books.now p.blocks self.now → p.operators ≡ operators.now → p.providers ≡ providers.now
+            → IsVerdict books.now p result }
+    {
+        let runs = run_count(books);
+        if self.published + self.unpublished < runs {
+            return Verdict::Invalid {
+                run: self.next_run(),
+                fault: Fault::Heading.number(),
+            };
+        }
+        if !self.has_totals(books, operators, providers) {
+            return Verdict::Invalid {
+                run: runs,
+                fault: Fault::Totals.number(),
+            };
+        }
+        Verdict::Valid {
+            published: self.published,
+            unpublished: self.unpublished,
+        }
+    }
+
+    /// The first fault of these blocks, behind none.
+    fn all_blocks(
+        &mut self,
+        alloc: Global,
+        books: &Books,
+        blocks: &[Block],
+    ) -> Result<Option<Verdict>, Memory>
+        requires accepted { IsAccepted books.now }
+        requires stands { IsChecked books.now [] self.old }
+        ensures found { (p : ThePublication) → HasHead books.now p → p.budget ≡ self.old.budget → p.blocks ≡ blocks.now → IfOk result (λ found. IfSome found (IsVerdict books.now p)) }
+        ensures none { IfOk result (λ found. found ≡ None → IsChecked books.now blocks.now self.new) }
+        ensures budget { self.new.budget ≡ self.old.budget }
+    {
+        for block in blocks {
+            let run = self.next_run();
+            match self.block(alloc, books, block)? {
+                Some(fault) => return Ok(Some(Verdict::Invalid { run, fault })),
+                None => {}
+            }
+        }
+        Ok(None)
+    }
+}
+
+/// The verdict on a publication against its books: valid exactly where it has no fault, and else the first run that has one, with the
+/// run's least fault.
+pub fn check_day(alloc: Global, books: &Books, publication: &Publication) -> Result<Verdict, Memory>
+    requires accepted { IsAccepted books.now }
+    ensures { IfOk result (IsVerdict books.now publication.now) }
+{
+    let mut day = DayCheck::start(alloc, books)?;
+    let head = day.head(
+        books,
+        &publication.date,
+        publication.quarters,
+        publication.budget,
+    );
+    if let Some(fault) = head {
+        return Ok(Verdict::Invalid { run: 0, fault });
+    }
+    match day.all_blocks(alloc, books, publication.blocks.as_slice())? {
+        Some(verdict) => Ok(verdict),
+        None => {
+            let operators = publication.operators.as_slice();
+            Ok(day.end(books, operators, publication.providers.as_slice()))
+        }
+    }
+}

@@ -8,7 +8,7 @@ use Rattle.mari_io.specs.declared.shelf.Fetch.TheVariants as fetch
 use Rattle.mari_io.specs.Outside.{Pages}
 use Rattle.mari_remain.specs.declared.books.Books.{Books}
 use Rattle.mari_day.specs.declared.files.File.{File}
-use Rattle.mari_day.specs.Files.{files, page_in, first_gap, AreHeld, Gap, FileGap}
+use Rattle.mari_day.specs.Files.{files_in, page_in, first_gap, AreHeld, Gap, FileGap}
 use Rattle.mari_day.specs.Files.Gap.{NotHeld, OverLimit}
 use Rattle.mari_day.specs.Day.{HasEnough}
 use Rattle.mari_day.proofs.Enough.{all-published}
@@ -116,9 +116,9 @@ gap_or_held (Some x) = x.gap
 
 gap_of_two : (pages : Pages) (folder other : List ℕ) (n k : ℕ) (g gap : Gap) → folder ≡ other → HasGap pages folder n g → HasGap pages other k gap → g ≡ gap
 gap_of_two pages folder other n k g gap e a b =
-    let P : List ℕ → Type 0 = λ x. first_gap pages x files ≡ Some (record { file = a.file; gap = g }) in
-    let here : first_gap pages other files ≡ Some (record { file = a.file; gap = g }) = subst P e a.first in
-    let there : first_gap pages other files ≡ Some (record { file = b.file; gap = gap }) = b.first in
+    let P : List ℕ → Type 0 = λ x. first_gap pages x (files_in pages x) ≡ Some (record { file = a.file; gap = g }) in
+    let here : first_gap pages other (files_in pages other) ≡ Some (record { file = a.file; gap = g }) = subst P e a.first in
+    let there : first_gap pages other (files_in pages other) ≡ Some (record { file = b.file; gap = gap }) = b.first in
     let same : Some (gap_record a.file g) ≡ Some (gap_record b.file gap) = sym here ∙ there in
     ap gap_or_held same
 
@@ -256,8 +256,8 @@ module _ (words : List (List ℕ)) where
   -- pages that are held leave no gap and are of one text each
   no_gap_held : (pages : Pages) (folder other : List ℕ) (texts : List (List ℕ)) (n : ℕ) (gap : Gap) → folder ≡ other → AreHeld pages folder texts → HasGap pages other n gap → ⊥
   no_gap_held pages folder other texts n gap e h g =
-      let P : List ℕ → Type 0 = λ f. first_gap pages f files ≡ None in
-      let none : first_gap pages other files ≡ None = subst P e h.no_gap in
+      let P : List ℕ → Type 0 = λ f. first_gap pages f (files_in pages f) ≡ None in
+      let none : first_gap pages other (files_in pages other) ≡ None = subst P e h.no_gap in
       let some = g.first in
       cc
 
@@ -279,8 +279,8 @@ module _ (words : List (List ℕ)) where
 
   same_texts : (pages : Pages) (folder other : List ℕ) (xs ys : List (List ℕ)) → folder ≡ other → AreHeld pages folder xs → AreHeld pages other ys → xs ≡ ys
   same_texts pages folder other xs ys e h k =
-      let P : List ℕ → Type 0 = λ f. map (page_in pages f) files ≡ map Some xs in
-      let here : map (page_in pages other) files ≡ map Some xs = subst P e h.held in
+      let P : List ℕ → Type 0 = λ f. map (page_in pages f) (files_in pages f) ≡ map Some xs in
+      let here : map (page_in pages other) (files_in pages other) ≡ map Some xs = subst P e h.held in
       some_same xs ys (sym here ∙ k.held)
 
   same_gap : (pages : Pages) (r : Status) (n k : ℕ) (g gap : Gap) → LacksPage words pages n g → LacksPage words pages k gap

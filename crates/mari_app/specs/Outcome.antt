@@ -1,12 +1,12 @@
 -- What the words and the pages come to, and how it is reported.
-use Rattle.std.specs.Prelude.{ℕ, ◌≡◌, ◌≤◌, ◌==◌, if◌then◌else◌, true, false, List, [], Option, Some, Err, take, ⊤}
+use Rattle.std.specs.Prelude.{ℕ, ◌≡◌, ◌==◌, if◌then◌else◌, true, false, List, [], Option, Some, Err, take, ⊤}
 use lib.Chars.{codes}
 use Rattle.mari_io.specs.declared.shelf.Fetch.{Fetch}
 use Rattle.mari_io.specs.declared.shelf.Fetch.TheVariants as fetch
 use Rattle.mari_io.specs.Outside.{Pages}
 use Rattle.mari_units.specs.declared.faults.Refusal.{Refusal}
 use Rattle.mari_day.specs.declared.text.PrintedDay.{PrintedDay}
-use Rattle.mari_day.specs.Files.{AreHeld, Gap}
+use Rattle.mari_day.specs.Files.{AreHeld, Gap, IsFileNumber}
 use Rattle.mari_day.specs.Files.Gap.{NotHeld, OverLimit}
 use Rattle.mari_day.specs.Reading.{HasGap}
 use Rattle.mari_app.specs.declared.outcome.Outcome.{Outcome}
@@ -74,13 +74,13 @@ IsNoPage why (NoPage file w) = w ≡ why
 IsNoPage why (Refused refusal) = ⊥
 IsNoPage why NoMemory = ⊥
 
--- a page that can't be had, or a refusal, is of one of the seven files
+-- a page that can't be had, or a refusal, is of a market file
 abbrev pub NamesAPage : Outcome → Type 0
 NamesAPage NoCommand = ⊤
 NamesAPage (Day text) = ⊤
 NamesAPage (PartOfDay text) = ⊤
-NamesAPage (NoPage file why) = (1 ≤ file) × (file ≤ 7)
-NamesAPage (Refused refusal) = (1 ≤ refusal.file) × (refusal.file ≤ 7)
+NamesAPage (NoPage file why) = IsFileNumber file
+NamesAPage (Refused refusal) = IsFileNumber refusal.file
 NamesAPage NoMemory = ⊤
 
 -- the status of a page that can't be had

@@ -65,23 +65,43 @@ demand_check number =
     if number == 15 then codes "TooMany" else
     []
 
+-- a check of day.csv, by its number
+unfoldable pub day_check : ℕ → List ℕ
+day_check number =
+    if number == 11 then codes "BadDate" else
+    if number == 12 then codes "BadZoneText" else
+    if number == 13 then codes "NotWholeQuarters" else
+    if number == 14 then codes "OutOfRange" else
+    if number == 15 then codes "NotOneRecord" else
+    []
+
+-- a check of limits.csv, by its number
+unfoldable pub limit_check : ℕ → List ℕ
+limit_check number =
+    if number == 11 then codes "BadField" else
+    if number == 12 then codes "UnknownRun" else
+    if number == 13 then codes "UnknownBorder" else
+    if number == 14 then codes "Repeated" else
+    if number == 15 then codes "Range" else
+    []
+
 -- a check of one file's own book, by the file's number from 1
 abbrev pub own_check : ℕ → ℕ → List ℕ
 own_check file number =
+    if file == 1 then day_check number else
     if file == 2 then zone_check number else
     if file == 3 then border_check number else
     if file == 4 then bid_check number else
     if file == 5 then link_check number else
     if file == 6 then run_check number else
     if file == 7 then demand_check number else
+    if file == 9 then limit_check number else
     []
 
--- a check by its file's number from 1 and its own: the first three are of records, and the twentieth is of forms that this stage
--- doesn't know
+-- a check by its file's number from 1 and its own: the first three are of records
 unfoldable pub check_name : ℕ → ℕ → List ℕ
 check_name file number =
     if number == 1 then codes "BadHeader" else
     if number == 2 then codes "BadRow" else
     if number == 3 then codes "NotUtf8" else
-    if number == 20 then codes "NotBuilt" else
     own_check file number

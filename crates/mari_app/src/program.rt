@@ -7,7 +7,7 @@ ghost use Rattle.mari_market.specs.Clearing.{Clears};
 ghost use Rattle.mari_market.specs.Market.{IsValid};
 ghost use Rattle.mari_io.specs.Outside.{Counts, Pages, Rose};
 ghost use Rattle.mari_io.specs.declared.shelf.Fetch.TheVariants as fetch;
-ghost use Rattle.mari_day.specs.Files.{Gap};
+ghost use Rattle.mari_day.specs.Files.{Gap, IsFileNumber};
 ghost use Rattle.mari_day.specs.Files.Gap.{NotHeld, OverLimit};
 ghost use Rattle.mari_app.specs.Headline.{WroteDay};
 ghost use Rattle.mari_app.specs.Outcome.{day_comes_to, LacksPage, RefusesPages, Says, SaysFor, IsNoCommand, IsNoPage, NamesAPage, Reports, Reported, fetch_line, fetch_status};
@@ -149,7 +149,7 @@ fn say<K: Sink>(sink: &mut K, text: &[u8], status: Status) -> Status
 
 /// Writes a line that names a file.
 fn say_file<K: Sink>(alloc: Global, sink: &mut K, word: &[u8], file: u8, status: Status) -> Status
-    requires number { (1 ≤ file) × (file ≤ 7) }
+    requires number { IsFileNumber file }
     requires status { status ≢ Status.WriteFault }
     ensures reports { Reports (file_text word.now file) status (K.taken sink.old) (K.taken sink.new) result }
     ensures cause { Counts (result ≡ Status.WriteFault) (K.faults sink.old) (K.faults sink.new) }
@@ -162,7 +162,7 @@ fn say_file<K: Sink>(alloc: Global, sink: &mut K, word: &[u8], file: u8, status:
 
 /// Writes the line of a file whose page can't be had.
 fn say_no_page<K: Sink>(alloc: Global, sink: &mut K, file: u8, why: Fetch) -> Status
-    requires { (1 ≤ file) × (file ≤ 7) }
+    requires { IsFileNumber file }
     ensures reports { Reports (fetch_line file why) (fetch_status why) (K.taken sink.old) (K.taken sink.new) result }
     ensures cause { Counts (result ≡ Status.WriteFault) (K.faults sink.old) (K.faults sink.new) }
 {
@@ -176,7 +176,7 @@ fn say_no_page<K: Sink>(alloc: Global, sink: &mut K, file: u8, why: Fetch) -> St
 
 /// Writes the line of a refusal.
 fn say_refused<K: Sink>(alloc: Global, sink: &mut K, refusal: Refusal) -> Status
-    requires { (1 ≤ refusal.file) × (refusal.file ≤ 7) }
+    requires { IsFileNumber refusal.file }
     ensures reports { Reported (Outcome.Refused refusal) (K.taken sink.old) (K.taken sink.new) result }
     ensures cause { Counts (result ≡ Status.WriteFault) (K.faults sink.old) (K.faults sink.new) }
 {
@@ -204,11 +204,10 @@ fn report<K: Sink>(alloc: Global, sink: &mut K, outcome: &Outcome) -> Status
 
 /// Does all that the program does: clears the folder that the words name, and prints its day, or says why not.
 ///
-/// `clear FOLDER` fetches the seven market files of the folder in their order and then reads them in that order. With
+/// `clear FOLDER` fetches the market files of the folder in their order and then reads them in that order. With
 /// `--nodes N` behind it a run's search makes at most N nodes, 1 to 50,000, and without it 10,000. With `--workers K` behind
 /// that K workers search, 1 to 16, and without it 2; two or more take their findings from the turnstile, and the call may then
-/// wait for them. At this stage the day has one form, and borders state their limits; what is in another form is refused as not
-/// built.
+/// wait for them.
 pub fn run_program<S: Shelf, K: Sink, G: Turnstile, R: Threads + Wait + Sync>(
     rt: &R,
     alloc: Global,

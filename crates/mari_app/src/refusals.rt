@@ -1,7 +1,7 @@
 //! The names of the checks by which a file may be refused.
 
 ghost use Rattle.std.specs.Prelude.{◌≡◌, ℕ};
-ghost use Rattle.mari_app.specs.Refusals.{check_name as check_named, zone_check as zone_checks, border_check as border_checks, bid_check as bid_checks, link_check as link_checks, run_check as run_checks, demand_check as demand_checks, own_check as own_checks};
+ghost use Rattle.mari_app.specs.Refusals.{check_name as check_named, day_check as day_checks, zone_check as zone_checks, border_check as border_checks, bid_check as bid_checks, link_check as link_checks, run_check as run_checks, demand_check as demand_checks, limit_check as limit_checks, own_check as own_checks};
 
 /// A check of zones.csv.
 #[tactic(auto, unfolding(crate::specs::Refusals::zone_check))]
@@ -96,17 +96,49 @@ fn demand_check(number: u8) -> &'static str
     }
 }
 
+/// A check of day.csv.
+#[tactic(auto, unfolding(crate::specs::Refusals::day_check))]
+fn day_check(number: u8) -> &'static str
+    ensures { result.now ≡ day_checks number }
+{
+    match number {
+        11 => "BadDate",
+        12 => "BadZoneText",
+        13 => "NotWholeQuarters",
+        14 => "OutOfRange",
+        15 => "NotOneRecord",
+        _ => "",
+    }
+}
+
+/// A check of limits.csv.
+#[tactic(auto, unfolding(crate::specs::Refusals::limit_check))]
+fn limit_check(number: u8) -> &'static str
+    ensures { result.now ≡ limit_checks number }
+{
+    match number {
+        11 => "BadField",
+        12 => "UnknownRun",
+        13 => "UnknownBorder",
+        14 => "Repeated",
+        15 => "Range",
+        _ => "",
+    }
+}
+
 /// A check of one file's own book, by the file's number from 1.
 fn own_check(file: u8, number: u8) -> &'static str
     ensures { result.now ≡ own_checks file number }
 {
     match file {
+        1 => day_check(number),
         2 => zone_check(number),
         3 => border_check(number),
         4 => bid_check(number),
         5 => link_check(number),
         6 => run_check(number),
         7 => demand_check(number),
+        9 => limit_check(number),
         _ => "",
     }
 }
@@ -120,7 +152,6 @@ pub fn check_name(file: u8, number: u8) -> &'static str
         1 => "BadHeader",
         2 => "BadRow",
         3 => "NotUtf8",
-        20 => "NotBuilt",
         _ => own_check(file, number),
     }
 }

@@ -2,6 +2,7 @@
 
 mod days;
 mod gated_bids;
+mod limits;
 mod options;
 mod pair;
 mod two_leaves;
@@ -39,6 +40,7 @@ struct Folder<'a> {
     links: &'a str,
     runs: &'a str,
     demands: &'a str,
+    limits: Option<&'a str>,
 }
 
 /// A folder of one zone, without a border or a link, and with one run.
@@ -49,6 +51,7 @@ const ONE_ZONE: Folder<'static> = Folder {
     links: "kind,first,second\n",
     runs: "run,quarter,kind,reference\n1,1,scheduled,40.00\n",
     demands: ONE_DEMAND,
+    limits: None,
 };
 
 /// A folder of two zones, joined by a border of 50 MW.
@@ -87,6 +90,9 @@ fn pages(alloc: Global, folder: Folder<'_>) -> Result<Vec<Page>, Fail> {
         ("F/demands.csv", folder.demands),
     ] {
         pages.push(text_page(alloc, name, text)?)?;
+    }
+    if let Some(limits) = folder.limits {
+        pages.push(text_page(alloc, "F/limits.csv", limits)?)?;
     }
     Ok(pages)
 }
@@ -323,7 +329,7 @@ fn first_refusal_of_each_file_by_its_name(rt: HostRuntime) -> Result<(), Fail> {
     let alloc = rt.alloc();
     let zones = Folder {
         zones: "zone,operator\n",
-        borders: "from,to\n",
+        borders: "from\n",
         ..ONE_ZONE
     };
     refuses(&rt, alloc, zones, "refused zones.csv 1 14 NoZone\n")?;

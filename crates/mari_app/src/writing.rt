@@ -3,6 +3,7 @@
 ghost use Rattle.std.specs.Prelude.{◌≡◌, ◌≤◌, ◌≢◌, ◌⊎◌, ℕ, take, OnOk, OnErr, IsErr, IfOk, ◌++◌};
 ghost use Rattle.std.specs.Fmt.{decimal};
 ghost use Rattle.mari_io.specs.Outside.{Counts};
+ghost use Rattle.mari_day.specs.Files.{IsFileNumber};
 ghost use Rattle.mari_app.specs.Printing.{then_took, usage_line as usage_text, file_line as file_text, refused_line as refused_text};
 
 use crate::refusals::check_name;
@@ -52,7 +53,7 @@ fn put_number(alloc: Global, out: &mut Vec<u8>, number: u32) -> Result<(), Memor
 
 /// The line of a file, by its number from 1, whose page can't be had.
 pub fn file_line(alloc: Global, word: &[u8], file: u8) -> Result<Vec<u8>, Memory>
-    requires { (1 ≤ file) × (file ≤ 7) }
+    requires { IsFileNumber file }
     ensures { IfOk result (λ line. line.items ≡ file_text word.now file) }
 {
     let mut line = Vec::new(alloc);
@@ -65,7 +66,7 @@ pub fn file_line(alloc: Global, word: &[u8], file: u8) -> Result<Vec<u8>, Memory
 
 /// The line of a refusal.
 pub fn refused_line(alloc: Global, refusal: Refusal) -> Result<Vec<u8>, Memory>
-    requires { (1 ≤ refusal.file) × (refusal.file ≤ 7) }
+    requires { IsFileNumber refusal.file }
     ensures { IfOk result (λ line. line.items ≡ refused_text refusal) }
 {
     let mut line = Vec::new(alloc);

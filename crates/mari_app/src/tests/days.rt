@@ -1,6 +1,6 @@
 //! Days of several runs: what earlier blocks leave, links across quarters, and what direct runs pay.
 
-use super::{Folder, ONE_ZONE, TWO_ZONES, clears, prints};
+use super::{Folder, ONE_ZONE, TWO_ZONES, clears, clears_within, prints};
 use std::test::Fail;
 
 const SCHEDULED_AND_DIRECT: &str =
@@ -121,6 +121,20 @@ fn direct_run_without_a_scheduled_price(rt: HostRuntime) -> Result<(), Fail> {
     let lines =
         "operator T 0.0000 0.0000 0.0000\nprovider P 125.0000\nend 2\ntotal-operator T 0.0000 0.0000 0.0000\ntotal-provider P 350.0000\ndone 2 0\n";
     prints(&rt, rt.alloc(), folder, lines)
+}
+
+#[test]
+fn direct_run_behind_an_unpublished_scheduled_run(rt: HostRuntime) -> Result<(), Fail> {
+    // The scheduled run wants a branch on i1. It takes nothing, and it has no price by which the direct run could be paid.
+    let folder = Folder {
+        bids: "id,provider,zone,quarter,direction,price,least,greatest,kind\nu1,P,Z,1,up,50.00,0,100,both\ni1,Q,Z,1,up,70.00,50,50,scheduled\n",
+        runs: SCHEDULED_AND_DIRECT,
+        demands: "run,zone,mw,price\n1,Z,120,\n2,Z,30,\n",
+        ..ONE_ZONE
+    };
+    let printed =
+        "mari 1 2025-03-12 96 1\nrun 1 1 scheduled unpublished 1\nrun 2 1 direct published\nwelfare 299847000\nzone Z 50.00 50.00 50.00 1\nbid u1 30\ndemand 1 30\ntree 1\nbound 50.00\noperator T 0.0000 0.0000 0.0000\nprovider P 375.0000\nend 2\ntotal-operator T 0.0000 0.0000 0.0000\ntotal-provider P 375.0000\ntotal-provider Q 0.0000\ndone 1 1\n";
+    clears_within(&rt, rt.alloc(), folder, "1", 1, printed)
 }
 
 /// A day of four runs in three quarters, worked out by hand; the folder `examples/linked-day` has these pages.

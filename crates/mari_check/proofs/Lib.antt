@@ -12,8 +12,11 @@ pub mod Providers
 pub mod Made
 pub mod Showing
 pub mod Past
+pub mod Keeping
 pub mod Scheduling
 pub mod Sums
 pub mod Progressing
 pub mod DayRuns
 pub mod Ending
+pub mod Streaming
+pub mod Piecewise

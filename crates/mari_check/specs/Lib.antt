@@ -11,5 +11,7 @@ pub mod Markets
 pub mod Totals
 pub mod Day
 pub mod Shown
+pub mod Keeps
 pub mod Checked
 pub mod Verdicts
+pub mod Streams

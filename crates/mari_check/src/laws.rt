@@ -1,11 +1,16 @@
-//! What a block shows that has none of the faults, whoever printed it.
+//! What a block shows that has none of the faults, and what a valid publication keeps, whoever printed them.
 
-ghost use Rattle.std.specs.Prelude.{ℕ, List, Option};
+ghost use Rattle.std.specs.Prelude.{◌≡◌, ℕ, List, Option, Some, slice_get, take};
 ghost use Rattle.mari_units.specs.declared.numbers.Cents.{Cents as TheCents};
+ghost use Rattle.mari_publish.specs.declared.publication.Block.TheVariants as printed;
 ghost use Rattle.mari_publish.specs.declared.publication.FullBlock.{FullBlock as TheFullBlock};
+ghost use Rattle.mari_publish.specs.declared.publication.Publication.{Publication as ThePublication};
 ghost use Rattle.mari_remain.specs.Accepted.{IsAccepted};
 ghost use Rattle.mari_remain.specs.declared.market.RunMarket.{RunMarket as TheRunMarket};
+ghost use Rattle.mari_check.specs.Behind.{also_behind, market_behind};
+ghost use Rattle.mari_check.specs.Day.{IsValidPublication};
 ghost use Rattle.mari_check.specs.Faults.{IsFreeOf};
+ghost use Rattle.mari_check.specs.Keeps.{KeepsOffers};
 ghost use Rattle.mari_check.specs.Markets.{IsMadeFor};
 ghost use Rattle.mari_check.specs.Shown.{ShowsRun};
 ghost use Rattle.mari_check.specs.declared.fault.Fault.{Fault as TheFault};
@@ -20,6 +25,19 @@ pub fn free_blocks_show(books: &Books)
     requires { IsAccepted books.now }
     ensures { (run : ℕ) (made : TheRunMarket) (also : Option (List TheCents)) (budget : Option ℕ) (b : TheFullBlock) → IsMadeFor books.now run made
         → ((any : TheFault) → IsFreeOf books.now run made also budget b any) → ShowsRun books.now made also b }
+{
+    let _books = books;
+}
+
+/// Over the blocks of a valid publication no bid runs above its offer, and a gated one in at most one block; and each published block
+/// shows its run, behind the blocks before it: so its operators' nets sum to 0, and no rent is negative.
+///
+/// The call does nothing: its contract is the law.
+pub fn valid_days_keep(books: &Books)
+    requires { IsAccepted books.now }
+    ensures offers { (p : ThePublication) → IsValidPublication books.now p → KeepsOffers books.now p.blocks }
+    ensures blocks { (p : ThePublication) → IsValidPublication books.now p → (k : ℕ) (b : TheFullBlock) → slice_get p.blocks k ≡ Some (printed.Published b)
+        → ShowsRun books.now (market_behind books.now (take k p.blocks)) (also_behind books.now (take k p.blocks)) b }
 {
     let _books = books;
 }

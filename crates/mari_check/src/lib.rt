@@ -2,7 +2,7 @@
 //!
 //! The crate stands on the definitions and on plain tests, and on nothing that clears a market: what the tests answer is all that a
 //! reader has to trust. Its promise: of each block the least fault is told, exactly where one is there, whoever printed it; and of a
-//! whole publication the first run that has a fault, or that there is none.
+//! whole publication the first run that has a fault, or that there is none. Of one that is read in pieces it tells the same.
 #![tactic(auto)]
 
 mod areas;
@@ -15,6 +15,7 @@ mod ledger;
 mod names;
 mod pricing;
 mod spread;
+mod stream;
 #[cfg(test)]
 mod tests;
 mod told;
@@ -24,5 +25,6 @@ mod verdict;
 pub use block::check_run;
 pub use day::DayCheck;
 pub use fault::Fault;
-pub use laws::free_blocks_show;
+pub use laws::{free_blocks_show, valid_days_keep};
+pub use stream::{StreamFault, check_stream};
 pub use verdict::{Verdict, check_day};

@@ -1,15 +1,18 @@
-//! A printed block of two zones with a border that is full, as it was printed and with one line altered.
+//! A printed block of two zones with a border that is full, as it was printed and with one line altered, whole and in pieces; and a
+//! block whose price is free.
 
-ghost use Rattle.std.specs.Prelude.{IfOk};
+ghost use Rattle.std.specs.Prelude.{◌≤◌, IfOk};
+ghost use Rattle.mari_io.specs.declared.shelf.TheConstants.{MOST_PIECE};
 ghost use Rattle.mari_remain.specs.Accepted.{IsAccepted};
 
-use crate::{Verdict, check_day, check_run};
+use crate::{StreamFault, Verdict, check_day, check_run, check_stream};
 use mari_bids::BidBook;
 use mari_demands::{DemandBook, RunBook};
+use mari_io::{FaultPlan, MemoryShelf, Name64, Page};
 use mari_links::LinkBook;
-use mari_publish::{Block, FullBlock, read_text};
+use mari_publish::{Block, FullBlock, TextFault, read_text};
 use mari_remain::{Books, Remaining};
-use mari_units::read_name;
+use mari_units::{Items, read_name};
 use mari_zones::{BorderBook, ZoneBook};
 use std::alloc::Global;
 use std::test::Fail;
@@ -60,22 +63,29 @@ const OUTSIDE: [(usize, &str, u32, u8); 3] = [
     (19, "total-provider P2 450.0025", 1, 12),
 ];
 
-/// The books of the day.
-fn books(alloc: Global) -> Result<Books, Fail>
+/// The pages of a day that differ between the tests.
+#[derive(Clone, Copy)]
+struct Pages {
+    zones: &'static [u8],
+    borders: &'static [u8],
+    bids: &'static [u8],
+    demands: &'static [u8],
+}
+
+/// The books of these pages.
+fn books_of(alloc: Global, pages: &Pages) -> Result<Books, Fail>
     ensures { IfOk result IsAccepted }
 {
     let Ok(date) = read_name(alloc, b"2025-03-12") else {
         return Err(Fail::from("a book of the day is refused"));
     };
-    let Ok(zones) = ZoneBook::read(alloc, b"zone,operator\nA,TA\nB,TB\n") else {
+    let Ok(zones) = ZoneBook::read(alloc, pages.zones) else {
         return Err(Fail::from("a book of the day is refused"));
     };
-    let Ok(borders) = BorderBook::read(alloc, b"from,to,limit,back\nA,B,50,50\n", &zones) else {
+    let Ok(borders) = BorderBook::read(alloc, pages.borders, &zones) else {
         return Err(Fail::from("a book of the day is refused"));
     };
-    let page = b"id,provider,zone,quarter,direction,price,least,greatest,kind\n\
-        a1,P1,A,1,up,20.00,0,100,both\nb1,P2,B,1,up,60.00,0,100,both\n";
-    let Ok(bids) = BidBook::read(alloc, page, &zones, 96) else {
+    let Ok(bids) = BidBook::read(alloc, pages.bids, &zones, 96) else {
         return Err(Fail::from("a book of the day is refused"));
     };
     let Ok(links) = LinkBook::read(alloc, b"kind,first,second\n", &bids) else {
@@ -88,7 +98,7 @@ fn books(alloc: Global) -> Result<Books, Fail>
     ) else {
         return Err(Fail::from("a book of the day is refused"));
     };
-    let Ok(demands) = DemandBook::read(alloc, b"run,zone,mw,price\n1,B,80,\n", &runs, &zones) else {
+    let Ok(demands) = DemandBook::read(alloc, pages.demands, &runs, &zones) else {
         return Err(Fail::from("a book of the day is refused"));
     };
     Ok(Books {
@@ -102,6 +112,45 @@ fn books(alloc: Global) -> Result<Books, Fail>
         demands,
         limits: None,
     })
+}
+
+/// The books of the day.
+fn books(alloc: Global) -> Result<Books, Fail>
+    ensures { IfOk result IsAccepted }
+{
+    let pages = Pages {
+        zones: b"zone,operator\nA,TA\nB,TB\n",
+        borders: b"from,to,limit,back\nA,B,50,50\n",
+        bids: b"id,provider,zone,quarter,direction,price,least,greatest,kind\n\
+            a1,P1,A,1,up,20.00,0,100,both\nb1,P2,B,1,up,60.00,0,100,both\n",
+        demands: b"run,zone,mw,price\n1,B,80,\n",
+    };
+    books_of(alloc, &pages)
+}
+
+/// The books of a day of one zone with no bid and no demand, so that every price is consistent.
+fn free_books(alloc: Global) -> Result<Books, Fail>
+    ensures { IfOk result IsAccepted }
+{
+    let pages = Pages {
+        zones: b"zone,operator\nZ,T\n",
+        borders: b"from,to,limit,back\n",
+        bids: b"id,provider,zone,quarter,direction,price,least,greatest,kind\n",
+        demands: b"run,zone,mw,price\n",
+    };
+    books_of(alloc, &pages)
+}
+
+/// The text of that day with this price.
+fn free_text(alloc: Global, price: &str) -> Result<Vec<u8>, Fail> {
+    let mut text = Vec::new(alloc);
+    let lines = "mari 1 2025-03-12 96 10000\nrun 1 1 scheduled published\nwelfare 0\nzone Z ";
+    text.extend_from_slice(lines.as_bytes())?;
+    text.extend_from_slice(price.as_bytes())?;
+    let lines = " -99999.00 99999.00 1\ntree 1\nbound 40.00\noperator T 0.0000 0.0000 0.0000\n\
+        end 1\ntotal-operator T 0.0000 0.0000 0.0000\ndone 1 0\n";
+    text.extend_from_slice(lines.as_bytes())?;
+    Ok(text)
 }
 
 /// The text of the day, with this line at this place.
@@ -139,6 +188,28 @@ fn verdict_on(alloc: Global, books: &Books, text: &[u8]) -> Result<Verdict, Fail
         Ok(verdict) => Ok(verdict),
         Err(_) => Err(Fail::from("no memory")),
     }
+}
+
+/// What is answered on a text that a shelf gives in pieces of so many bytes.
+fn streamed(
+    alloc: Global,
+    books: &Books,
+    text: Vec<u8>,
+    piece: u32,
+) -> Result<Result<Verdict, StreamFault>, Fail>
+    requires accepted { IsAccepted books.now }
+    requires some { 1 ≤ piece }
+    requires few { piece ≤ MOST_PIECE }
+{
+    let page = Page {
+        name: Name64::of(alloc, "F/publication.txt")?,
+        bytes: Items::of(text),
+    };
+    let plan = FaultPlan {
+        calls: Items::of(Vec::new(alloc)),
+    };
+    let mut shelf = MemoryShelf::with_piece(vec![in alloc; page]?, plan, piece);
+    Ok(check_stream(alloc, books, &mut shelf, "F/publication.txt"))
 }
 
 /// The fault that is told of the first run's block.
@@ -209,5 +280,63 @@ fn a_line_outside_the_block_has_its_run_and_fault(rt: HostRuntime) -> Result<(),
         let verdict = verdict_on(alloc, &books, &text)?;
         assert_eq!(rt; verdict, Verdict::Invalid { run, fault });
     }
+    Ok(())
+}
+
+#[test]
+fn a_text_in_pieces_of_one_byte_has_the_verdict_of_the_whole(rt: HostRuntime) -> Result<(), Fail> {
+    let alloc = rt.alloc();
+    let books = books(alloc)?;
+    let text = text_with(alloc, 0, DAY[0])?;
+    let whole = verdict_on(alloc, &books, &text)?;
+    assert_eq!(rt; streamed(alloc, &books, text, 1)?, Ok(whole));
+    for (place, line, run, fault) in OUTSIDE {
+        let text = text_with(alloc, place, line)?;
+        let verdict = Verdict::Invalid { run, fault };
+        assert_eq!(rt; streamed(alloc, &books, text, 1)?, Ok(verdict));
+    }
+    Ok(())
+}
+
+#[test]
+fn a_line_of_40_000_digits_is_bad_and_without_its_end_truncated(
+    rt: HostRuntime,
+) -> Result<(), Fail> {
+    let alloc = rt.alloc();
+    let books = books(alloc)?;
+    for piece in [1, 65_536] {
+        let mut text = Vec::new(alloc);
+        for line in DAY[..20].iter() {
+            text.extend_from_slice(line.as_bytes())?;
+            text.push(b'\n')?;
+        }
+        for _ in 0..40_000 {
+            text.push(b'7')?;
+        }
+        let mut ended = Vec::new(alloc);
+        ended.extend_from_slice(&text)?;
+        ended.push(b'\n')?;
+        let bad = Err(StreamFault::Text(TextFault::BadLine(21)));
+        assert_eq!(rt; streamed(alloc, &books, ended, piece)?, bad);
+        let cut_off = Err(StreamFault::Text(TextFault::Truncated(21)));
+        assert_eq!(rt; streamed(alloc, &books, text, piece)?, cut_off);
+    }
+    Ok(())
+}
+
+#[test]
+fn a_price_between_the_bounds_is_to_be_the_nearest(rt: HostRuntime) -> Result<(), Fail> {
+    let alloc = rt.alloc();
+    let books = free_books(alloc)?;
+    let nearest = verdict_on(alloc, &books, &free_text(alloc, "40.00")?)?;
+    assert_eq!(rt;
+        nearest,
+        Verdict::Valid {
+            published: 1,
+            unpublished: 0
+        }
+    );
+    let other = verdict_on(alloc, &books, &free_text(alloc, "40.01")?)?;
+    assert_eq!(rt; other, Verdict::Invalid { run: 1, fault: 7 });
     Ok(())
 }

@@ -1,0 +1,320 @@
+-- A page that is read piece by piece.
+use Rattle.std.proofs.Common.{◌≡◌, ◌≢◌, ◌∙◌, ◌+◌, ◌<◌, ◌≤◌, ℕ, true, List, [], ◌∷◌, ◌++◌, length, take, drop, Option, Some, None, Result, Ok, Err, ◌⊎◌, inl, inr, refl, sym, ap, subst, arith, append_assoc, length-append}
+use Rattle.std.specs.Prelude.{IsErrOf, is_some}
+use Rattle.std.specs.Option.{option_map}
+use Rattle.std.proofs.Math.Seq.{take-append_seam}
+use Rattle.std.proofs.lemmas.List.{append-nil, take-append-drop}
+use Rattle.mari_io.specs.Outside.{AppendsExactly, Counts, IsOverlong, IsPiece, OpenTells, counted}
+use Rattle.mari_io.specs.declared.shelf.Fetch.{Fetch}
+use Rattle.mari_io.specs.declared.shelf.Fetch.TheVariants as fetch
+use Rattle.mari_io.specs.declared.shelf.TheConstants.{MOST_GIVEN}
+use Rattle.mari_publish.specs.Faults.{IsOutcome, IsText, BadLineAt, BadOrderAt}
+use Rattle.mari_publish.specs.Pieces.{ComeState, HasPart, IsEnd, IsNext, NoFault, StandsFor, found_none, with_part}
+use Rattle.mari_publish.specs.Spelling.{line_text, spelling, text_of_lines}
+use Rattle.mari_publish.specs.declared.fault.TextFault.{TextFault}
+use Rattle.mari_publish.specs.declared.fault.TextFault.TheVariants as fault
+use Rattle.mari_publish.specs.declared.publication.Part.{Part}
+use Rattle.mari_publish.specs.declared.publication.Publication.{Publication}
+use Rattle.mari_publish.proofs.MoreText.{line_stays, order_stays}
+use Rattle.mari_publish.proofs.Outcomes.{line_answer, order_answer, order_text, text_answer, truncated_answer}
+use Rattle.mari_remain.specs.declared.books.Books.{Books}
+use Rattle.mari_check.specs.declared.day.DayCheck.{DayCheck}
+use Rattle.mari_check.specs.declared.stream.Stream.{Stream}
+use Rattle.mari_check.specs.declared.stream.StreamFault.{StreamFault}
+use Rattle.mari_check.specs.declared.stream.StreamFault.TheVariants.{Fetch as OfFetch, Text as OfText, Memory as NoMemory}
+use Rattle.mari_check.specs.declared.verdict.Verdict.{Verdict}
+use Rattle.mari_check.specs.Streams.{EndTells, FaultTells, IsAllRead, IsFound, IsLineFault, IsRead, IsStreamFetch, IsTextFault, IsTooLong, IsWrappedMemory, LineTells, SameAsRead, StreamTells, fault_of_fetch, fault_of_text}
+use Rattle.mari_check.specs.Verdicts.{IsVerdict}
+
+-- ---- faults
+
+-- no line of nothing has a fault
+none-so : (before here after : List ℕ) → [] ≡ before ++ (here ++ 10 ∷ after) → ⊥
+none-so before here after e =
+    let outer = length-append before (here ++ 10 ∷ after) in
+    let inner = length-append here (10 ∷ after) in
+    let none = ap length e in
+    absurd (omega (arith, outer, inner, none))
+
+pub nothing-faulty : NoFault []
+nothing-faulty n = (
+  λ b. none-so (text_of_lines b.before) b.here b.after b.parts,
+  λ b. none-so (text_of_lines b.before) (spelling b.here) b.after (b.parts ∙ ap (λ (xs : List ℕ). text_of_lines b.before ++ xs) (order_text b.here b.after)),
+)
+
+-- the fault of a line stays, whatever comes behind it
+pub fault-stays : (text more : List ℕ) (f : TextFault) → IsLineFault text f → IsTextFault (text ++ more) f
+fault-stays text more (fault.BadLine n) h = line_stays text more n h
+fault-stays text more (fault.BadOrder n) h = order_stays text more n h
+fault-stays text more (fault.Truncated n) h = absurd h
+fault-stays text more fault.Memory h = absurd h
+
+-- a fault that the reader tells
+pub next-fault : (text : List ℕ) (parts : List Part) (f : TextFault) → IsNext text parts (Err f) → LineTells text (fault_of_text f)
+next-fault text parts (fault.BadLine n) h = h.0
+next-fault text parts (fault.BadOrder n) h = h.0
+next-fault text parts (fault.Truncated n) h = absurd h
+next-fault text parts fault.Memory h = tt
+
+pub end-fault : (T : Type 0) (books : Books) (text : List ℕ) (parts : List Part) (f : TextFault) → IsEnd {T = T} text parts (Err f) → EndTells books text (Err (fault_of_text f))
+end-fault T books text parts (fault.BadLine n) h = absurd h
+end-fault T books text parts (fault.BadOrder n) h = absurd h
+end-fault T books text parts (fault.Truncated n) h = h
+end-fault T books text parts fault.Memory h = absurd h
+
+-- no fault of the text is want of memory, nor one of the shelf
+pub line-never : (T : Type 0) (text : List ℕ) (f : StreamFault) → LineTells text f → IsWrappedMemory {T = T} (Err f) → ⊥
+line-never T text (OfText fault.Memory) h w = h
+line-never T text (OfText (fault.BadLine n)) h w = absurd cc
+line-never T text (OfText (fault.BadOrder n)) h w = absurd cc
+line-never T text (OfText (fault.Truncated n)) h w = h
+line-never T text (OfFetch f) h w = h
+line-never T text NoMemory h w = w
+
+pub line-no-fetch : (T : Type 0) (text : List ℕ) (f : StreamFault) (g : Fetch) → LineTells text f → IsStreamFetch {T = T} g (Err f) → ⊥
+line-no-fetch T text (OfText f) g h w = w
+line-no-fetch T text (OfFetch f) g h w = h
+line-no-fetch T text NoMemory g h w = w
+
+pub end-never : (books : Books) (text : List ℕ) (result : Result Verdict StreamFault) → EndTells books text result → IsWrappedMemory result → ⊥
+end-never books text (Ok v) h w = w
+end-never books text (Err (OfText fault.Memory)) h w = h
+end-never books text (Err (OfText (fault.BadLine n))) h w = absurd cc
+end-never books text (Err (OfText (fault.BadOrder n))) h w = absurd cc
+end-never books text (Err (OfText (fault.Truncated n))) h w = absurd cc
+end-never books text (Err (OfFetch f)) h w = h
+end-never books text (Err NoMemory) h w = w
+
+pub end-no-fetch : (books : Books) (text : List ℕ) (result : Result Verdict StreamFault) (g : Fetch) → EndTells books text result → IsStreamFetch g result → ⊥
+end-no-fetch books text (Ok v) g h w = w
+end-no-fetch books text (Err (OfText f)) g h w = w
+end-no-fetch books text (Err (OfFetch f)) g h w = h
+end-no-fetch books text (Err NoMemory) g h w = w
+
+-- what is settled at the end
+pub end-verdict : {T : Type 0} (done : T) (books : Books) (text : List ℕ) (parts : List Part) (day : DayCheck) (found : Option Verdict) (v : Verdict) → IsEnd text parts (Ok done) → IsFound books parts day found → found ≡ Some v
+    → (p : Publication) × IsText text p × IsVerdict books p v
+end-verdict done books text parts day None v e f is = absurd cc
+end-verdict done books text parts day (Some w) v e f is =
+    let same : w ≡ v = cc in
+    let p = e.0 in
+    (p, e.1, subst (IsVerdict books p) same (f p [] (sym e.2 ∙ sym (append-nil parts))))
+
+-- ---- what the reader gives
+
+pub next-part : (text : List ℕ) (parts : List Part) (o : Option Part) (x : Part) → o ≡ Some x → IsNext text parts (Ok o) → HasPart text parts x
+next-part text parts None x e n = absurd cc
+next-part text parts (Some y) x e n = let same : y ≡ x = cc in subst (HasPart text parts) same n
+
+pub next-stands : (come : ComeState) (text : List ℕ) (parts : List Part) (o : Option Part) (x : Part) → o ≡ Some x → StandsFor come text (with_part parts o) → StandsFor come text (parts ++ x ∷ [])
+next-stands come text parts None x e s = absurd cc
+next-stands come text parts (Some y) x e s = let same : y ≡ x = cc in subst (λ (z : Part). StandsFor come text (parts ++ z ∷ [])) same s
+
+-- there is no further part: all that has come is taken
+pub all-read : (books : Books) (text : List ℕ) (parts : List Part) (stream : Stream) (o : Option Part) → o ≡ None → IsNext text parts (Ok o) → StandsFor stream.reader.come text (with_part parts o) → stream.reader.waits ≡ found_none (Ok o)
+    → IsFound books parts stream.day stream.found → IsAllRead books text stream
+all-read books text parts stream (Some x) e n s w f = absurd cc
+all-read books text parts stream None e n s w f = record { parts = parts; read = record { stands = s; found = f }; waits = w; no_fault = n.1 }
+
+-- ---- faults of the shelf
+
+-- any fault but want of memory is told as it is
+pub other-fetch : (f : Fetch) → (f ≡ fetch.Memory → ⊥) → OfFetch f ≡ fault_of_fetch f
+other-fetch fetch.Failed h = refl
+other-fetch fetch.Missing h = refl
+other-fetch fetch.TooLong h = refl
+other-fetch fetch.Memory h = absurd (h refl)
+
+pub other-text : (f : TextFault) → (f ≡ fault.Memory → ⊥) → OfText f ≡ fault_of_text f
+other-text (fault.BadLine n) h = refl
+other-text (fault.BadOrder n) h = refl
+other-text (fault.Truncated n) h = refl
+other-text fault.Memory h = absurd (h refl)
+
+pub never-wrapped : (T : Type 0) (f : Fetch) → IsWrappedMemory {T = T} (Err (fault_of_fetch f)) → ⊥
+never-wrapped T fetch.Failed h = absurd cc
+never-wrapped T fetch.Missing h = absurd cc
+never-wrapped T fetch.TooLong h = absurd cc
+never-wrapped T fetch.Memory h = h
+
+-- a fault of the shelf counts as the same
+same-fetch : (T : Type 0) (f g : Fetch) → IsStreamFetch {T = T} g (Err (fault_of_fetch f)) → f ≡ g
+same-fetch T fetch.Failed g h = h
+same-fetch T fetch.Missing g h = h
+same-fetch T fetch.TooLong g h = h
+same-fetch T fetch.Memory g h = absurd h
+
+pub counts-on : (T U : Type 0) (f g : Fetch) (a b c : ℕ) → a ≤ b → Counts (IsErrOf {T = T} (Err f) g) b c → Counts (IsStreamFetch {T = U} g (Err (fault_of_fetch f))) a c
+counts-on T U f g a b c l n = record {
+  later = omega (arith, l, n.later);
+  rose = λ h.
+      let e : f ≡ g = same-fetch U f g h in
+      let r : counted b ≤ c = n.rose (ap (λ (x : Fetch). Err x) e) in
+      omega (arith, l, r);
+}
+
+pub counts-none : (X : Type 0) (a b c : ℕ) → (X → ⊥) → a ≤ b → b ≤ c → Counts X a c
+counts-none X a b c never l m = record { later = omega (arith, l, m); rose = λ h. absurd (never h) }
+
+-- ---- a page as far as it was read
+
+-- what was appended to nothing is the piece
+pub all-new : (old items piece : List ℕ) (n : ℕ) → old ≡ [] → piece ≡ items → AppendsExactly n old items → length piece ≡ n
+all-new old items piece n none same a = let e = ap length none in let f = ap length same in omega (arith, e, f, a.more)
+
+pub first-of : (left old items piece : List ℕ) (n : ℕ) → old ≡ [] → piece ≡ items → IsPiece left old items n → IsPiece left [] piece n
+first-of left old items piece n none same h = subst (λ (xs : List ℕ). IsPiece left [] xs n) (sym same) (subst (λ (o : List ℕ). IsPiece left o items n) none h)
+
+-- so much of the page has come, and this is left of it, where that is told
+pub record Under (books : Books) (page rest : Option (List ℕ)) (given : ℕ) (stream : Stream) : Type 0 where
+  pub text : List ℕ
+  pub parts : List Part
+  pub read : IsRead books text parts stream
+  pub given_is : given ≡ length text
+  pub no_fault : NoFault text
+  pub told : (whole : List ℕ) → page ≡ Some whole → (left : List ℕ) × (rest ≡ Some left) × (text ++ left ≡ whole)
+
+pub nothing-yet : (books : Books) (page : Option (List ℕ)) (given : ℕ) (stream : Stream) → given ≡ 0 → IsRead books [] [] stream → Under books page page given stream
+nothing-yet books page given stream e read = record { text = []; parts = []; read = read; given_is = e; no_fault = nothing-faulty; told = λ whole is. (whole, is, refl) }
+
+dropped : (rest now : Option (List ℕ)) (left : List ℕ) (n : ℕ) → rest ≡ Some left → now ≡ option_map (λ l. drop n l) rest → now ≡ Some (drop n left)
+dropped rest now left n e f = f ∙ ap (option_map (λ l. drop n l)) e
+
+module _ (books : Books) (page rest : Option (List ℕ)) (given : ℕ) (old : Stream) (u : Under books page rest given old) where
+  -- the fetch of a piece failed
+  pub piece-fault : (f : Fetch) → (f ≡ fetch.Missing → ⊥) → (f ≡ fetch.TooLong → IsOverlong rest given) → (whole : List ℕ) → page ≡ Some whole → FaultTells (Some whole) (fault_of_fetch f)
+  piece-fault fetch.Failed not over whole is = tt
+  piece-fault fetch.Missing not over whole is = absurd (not refl)
+  piece-fault fetch.Memory not over whole is = tt
+  piece-fault fetch.TooLong not over whole is =
+      let t = u.told whole is in
+      let o : (given ≡ MOST_GIVEN) × (t.0 ≢ []) = subst (λ r. IsOverlong r given) t.1 (over refl) in
+      let many = length-append u.text t.0 in
+      let some = not-empty t.0 o.1 in
+      let sum : length (u.text ++ t.0) ≡ length whole = ap length t.2 in
+      let front : take MOST_GIVEN whole ≡ u.text = ap (λ (xs : List ℕ). take MOST_GIVEN xs) (sym t.2) ∙ ap (λ (n : ℕ). take n (u.text ++ t.0)) (sym o.0 ∙ u.given_is) ∙ take-append_seam u.text t.0 in
+      record { longer = omega (arith, many, some, sum, o.0, u.given_is); no_fault = subst NoFault (sym front) u.no_fault }
+    where
+      not-empty : (xs : List ℕ) → (xs ≢ []) → 0 < length xs
+      not-empty [] h = absurd (h refl)
+      not-empty (x ∷ xs) h = omega arith
+
+  module _ (piece : List ℕ) (n : ℕ) (many : length piece ≡ n) (is_piece : (left : List ℕ) → rest ≡ Some left → IsPiece left [] piece n) where
+    -- a line of what has come has a fault
+    pub line-fault : (f : TextFault) → IsLineFault (u.text ++ piece) f → (whole : List ℕ) → page ≡ Some whole → IsTextFault whole f
+    line-fault f h whole is =
+        let t = u.told whole is in
+        let own : piece ≡ take n t.0 = (is_piece t.0 t.1).bytes in
+        let all : (u.text ++ piece) ++ drop n t.0 ≡ whole = append_assoc u.text piece (drop n t.0) ∙ ap (λ (xs : List ℕ). u.text ++ (xs ++ drop n t.0)) own ∙ ap (λ (xs : List ℕ). u.text ++ xs) (take-append-drop n t.0) ∙ t.2 in
+        subst (λ (xs : List ℕ). IsTextFault xs f) all (fault-stays (u.text ++ piece) (drop n t.0) f h)
+
+    pub push-fault : (f : StreamFault) → LineTells (u.text ++ piece) f → (whole : List ℕ) → page ≡ Some whole → FaultTells (Some whole) f
+    push-fault (OfText f) h whole is = line-fault f h whole is
+    push-fault (OfFetch f) h whole is = absurd h
+    push-fault NoMemory h whole is = tt
+
+    module _ (new : Stream) (read : IsAllRead books (u.text ++ piece) new) where
+      -- there is more of it
+      pub one-piece : (now : Option (List ℕ)) (more : ℕ) → now ≡ option_map (λ l. drop n l) rest → more ≡ given + n → Under books page now more new
+      one-piece now more left_is given_is =
+          let longer = length-append u.text piece in
+          record {
+            text = u.text ++ piece;
+            parts = read.parts;
+            read = read.read;
+            given_is = omega (arith, longer, many, given_is, u.given_is);
+            no_fault = read.no_fault;
+            told = λ whole is.
+                let t = u.told whole is in
+                let own : piece ≡ take n t.0 = (is_piece t.0 t.1).bytes in (
+                  drop n t.0,
+                  dropped rest now t.0 n t.1 left_is,
+                  append_assoc u.text piece (drop n t.0) ∙ ap (λ (xs : List ℕ). u.text ++ (xs ++ drop n t.0)) own ∙ ap (λ (xs : List ℕ). u.text ++ xs) (take-append-drop n t.0) ∙ t.2,
+                );
+          }
+
+      -- that was its end
+      pub last-piece : n ≡ 0 → (whole : List ℕ) → page ≡ Some whole → IsAllRead books whole new
+      last-piece none whole is =
+          let t = u.told whole is in
+          let q = is_piece t.0 t.1 in
+          let empty : t.0 ≡ [] = q.at_end.0 none in
+          let own : piece ≡ [] = nothing piece (many ∙ none) in
+          let all : u.text ++ piece ≡ whole = ap (λ (xs : List ℕ). u.text ++ xs) (own ∙ sym empty) ∙ t.2 in
+          subst (λ (xs : List ℕ). IsAllRead books xs new) all read
+        where
+          nothing : (xs : List ℕ) → length xs ≡ 0 → xs ≡ []
+          nothing [] e = refl
+          nothing (x ∷ xs) e = absurd (omega (arith, e))
+
+-- ---- the whole
+
+-- opening a page gave none
+pub open-fault : (T : Type 0) (page rest : Option (List ℕ)) (f : Fetch) → OpenTells {T = T} page rest (Err f) → FaultTells page (fault_of_fetch f)
+open-fault T None rest fetch.Failed h = tt
+open-fault T None rest fetch.Missing h = tt
+open-fault T None rest fetch.TooLong h = absurd h
+open-fault T None rest fetch.Memory h = tt
+open-fault T (Some page) rest fetch.Failed h = tt
+open-fault T (Some page) rest fetch.Missing h = absurd cc
+open-fault T (Some page) rest fetch.TooLong h = absurd h
+open-fault T (Some page) rest fetch.Memory h = tt
+
+-- without memory nothing is said
+pub memory-tells : (page : Option (List ℕ)) → FaultTells page NoMemory
+memory-tells None = tt
+memory-tells (Some page) = tt
+
+-- a page that was opened
+pub opened-page : {T : Type 0} (done : T) (page rest : Option (List ℕ)) → OpenTells page rest (Ok done) → (bytes : List ℕ) × (page ≡ Some bytes) × (rest ≡ Some bytes)
+opened-page done None rest h = let e = h.0 in absurd cc
+opened-page done (Some bytes) rest h = (bytes, refl, h.1)
+
+pub end-tells : (books : Books) (page : Option (List ℕ)) (bytes : List ℕ) (result : Result Verdict StreamFault) → page ≡ Some bytes → EndTells books bytes result → StreamTells books page result
+end-tells books page bytes result e h = subst (λ p. StreamTells books p result) (sym e) (own result h)
+  where
+    own : (r : Result Verdict StreamFault) → EndTells books bytes r → StreamTells books (Some bytes) r
+    own (Ok v) h = h
+    own (Err (OfText f)) h = h
+    own (Err (OfFetch f)) h = absurd h
+    own (Err NoMemory) h = absurd h
+
+-- ---- the same as reading the page whole
+
+same-fault : (page : List ℕ) (answer : Result Publication TextFault) (f : TextFault) → IsOutcome page answer → IsTextFault page f → (answer ≡ Err f) ⊎ (answer ≡ Err fault.Memory)
+same-fault page answer (fault.BadLine n) o h = line_answer page answer o n h
+same-fault page answer (fault.BadOrder n) o h = order_answer page answer o n h
+same-fault page answer (fault.Truncated n) o h = truncated_answer page answer o n h
+same-fault page answer fault.Memory o h = absurd h
+
+fault-same : (books : Books) (answer : Result Publication TextFault) (f : TextFault) → (answer ≡ Err f) ⊎ (answer ≡ Err fault.Memory) → SameAsRead books answer (Err (OfText f))
+fault-same books (Ok p) f (inl e) = absurd cc
+fault-same books (Ok p) f (inr e) = absurd cc
+fault-same books (Err g) f (inl e) = inl cc
+fault-same books (Err g) f (inr e) = inr cc
+
+verdict-same : (books : Books) (answer : Result Publication TextFault) (p : Publication) (v : Verdict) → IsVerdict books p v → (answer ≡ Ok p) ⊎ (answer ≡ Err fault.Memory) → SameAsRead books answer (Ok v)
+verdict-same books (Ok q) p v h (inl e) = let same : p ≡ q = cc in subst (λ x. IsVerdict books x v) same h
+verdict-same books (Ok q) p v h (inr e) = absurd cc
+verdict-same books (Err g) p v h (inl e) = absurd cc
+verdict-same books (Err g) p v h (inr e) = cc
+
+pub same-as-read : (books : Books) (page : List ℕ) (answer : Result Publication TextFault) (result : Result Verdict StreamFault) → IsOutcome page answer → StreamTells books (Some page) result → SameAsRead books answer result
+same-as-read books page answer (Ok v) o h = verdict-same books answer h.0 v h.2 (text_answer page answer o h.0 h.1)
+same-as-read books page answer (Err (OfText f)) o h = fault-same books answer f (same-fault page answer f o h)
+same-as-read books page answer (Err (OfFetch f)) o h = nothing-said answer f
+  where
+    nothing-said : (a : Result Publication TextFault) (f : Fetch) → SameAsRead books a (Err (OfFetch f))
+    nothing-said (Ok p) f = tt
+    nothing-said (Err e) f = tt
+same-as-read books page answer (Err NoMemory) o h = nothing-said answer
+  where
+    nothing-said : (a : Result Publication TextFault) → SameAsRead books a (Err NoMemory)
+    nothing-said (Ok p) = tt
+    nothing-said (Err e) = tt
+
+pub tells-whole : (books : Books) (told : Option (List ℕ)) (page : List ℕ) (answer : Result Publication TextFault) (result : Result Verdict StreamFault) → StreamTells books told result → told ≡ Some page → IsOutcome page answer → SameAsRead books answer result
+tells-whole books told page answer result tells is o = same-as-read books page answer result o (subst (λ p. StreamTells books p result) is tells)
+
+pub tells-same : (books : Books) (told : Option (List ℕ)) (page : List ℕ) (answer : Result Publication TextFault) (f : StreamFault) → FaultTells told f → told ≡ Some page → IsOutcome page answer → SameAsRead books answer (Err f)
+tells-same books told page answer f tells is o = tells-whole books told page answer (Err f) tells is o

@@ -1,0 +1,8 @@
+use Rattle.mari_check.proofs.Keeping.{keeps-offers, shows}
+use Rattle.mari_check.proofs.laws.valid_days_keep.Goals as goal
+
+pub returns-clause-offers : goal.returns-clause-offers
+returns-clause-offers c = λ p valid. keeps-offers c.args.books.now c.requires p valid
+
+pub returns-clause-blocks : goal.returns-clause-blocks
+returns-clause-blocks c = λ p valid k b e. shows c.args.books.now c.requires p valid k b e

@@ -1,0 +1,55 @@
+use Rattle.std.proofs.Common.{arith, subst, sym}
+use Rattle.mari_io.specs.Outside.{page_of}
+use Rattle.mari_io.specs.declared.shelf.Fetch.TheVariants as fetch
+use Rattle.mari_check.specs.Streams.{FaultTells}
+use Rattle.mari_check.specs.declared.verdict.Verdict.{Verdict}
+use Rattle.mari_check.proofs.Piecewise.{counts-none, counts-on, end-never, end-no-fetch, end-tells, never-wrapped, open-fault, opened-page, tells-same, tells-whole}
+use Rattle.mari_check.proofs.stream.check_stream.Goals as goal
+
+pub returns-in-Err-open_page-clause-told : goal.returns-in-Err-open_page-clause-told
+returns-in-Err-open_page-clause-told g c = λ told e. rw c.fault_of_shelf.ensures (open-fault (Unit {0}) (page_of told c.args.name.now) (g.S.Shelf.rest c.open_page.new.self) c.in-Err-open_page.fault (c.in-Err-open_page.ensures.told told e))
+
+pub returns-in-Err-open_page-clause-whole : goal.returns-in-Err-open_page-clause-whole
+returns-in-Err-open_page-clause-whole g c = λ told page answer e is o.
+    rw c.fault_of_shelf.ensures (tells-same c.args.books.now (page_of told c.args.name.now) page answer _ (open-fault (Unit {0}) (page_of told c.args.name.now) (g.S.Shelf.rest c.open_page.new.self) c.in-Err-open_page.fault (c.in-Err-open_page.ensures.told told e)) is o)
+
+pub returns-in-Err-open_page-clause-memory : goal.returns-in-Err-open_page-clause-memory
+returns-in-Err-open_page-clause-memory g c = rw c.fault_of_shelf.ensures (never-wrapped Verdict c.in-Err-open_page.fault)
+
+pub returns-in-Err-open_page-clause-failed : goal.returns-in-Err-open_page-clause-failed
+returns-in-Err-open_page-clause-failed g c = rw c.fault_of_shelf.ensures (counts-on (Unit {0}) Verdict c.in-Err-open_page.fault fetch.Failed _ _ _ (omega arith) c.in-Err-open_page.ensures.failed)
+
+pub returns-in-Err-open_page-clause-missing : goal.returns-in-Err-open_page-clause-missing
+returns-in-Err-open_page-clause-missing g c = rw c.fault_of_shelf.ensures (counts-on (Unit {0}) Verdict c.in-Err-open_page.fault fetch.Missing _ _ _ (omega arith) c.in-Err-open_page.ensures.missing)
+
+pub returns-in-Err-open_page-clause-too_long : goal.returns-in-Err-open_page-clause-too_long
+returns-in-Err-open_page-clause-too_long g c = rw c.fault_of_shelf.ensures (counts-on (Unit {0}) Verdict c.in-Err-open_page.fault fetch.TooLong _ _ _ (omega arith) c.in-Err-open_page.ensures.too_long)
+
+pub returns-in-Ok-read_pieces-clause-whole : goal.returns-in-Ok-read_pieces-clause-whole
+returns-in-Ok-read_pieces-clause-whole g c = λ told page answer e is o.
+    let open_is = opened-page (tt {0}) (page_of told c.args.name.now) _ (c.in-Ok-open_page.ensures.told told e) in
+    tells-whole c.args.books.now (page_of told c.args.name.now) page answer c.end.result
+    (end-tells c.args.books.now (page_of told c.args.name.now) open_is.0 c.end.result open_is.1 (c.end.ensures c.args.books.now open_is.0 (c.in-Ok-read_pieces.ensures.told open_is.0 open_is.2))) is o
+
+pub returns-in-Ok-read_pieces-clause-memory : goal.returns-in-Ok-read_pieces-clause-memory
+returns-in-Ok-read_pieces-clause-memory g c = let r = c.in-Ok-read_pieces.ensures.read in end-never c.args.books.now r.0 c.end.result (c.end.ensures c.args.books.now r.0 r.1)
+
+pub returns-in-Ok-read_pieces-clause-failed : goal.returns-in-Ok-read_pieces-clause-failed
+returns-in-Ok-read_pieces-clause-failed g c =
+    let r = c.in-Ok-read_pieces.ensures.read in
+    counts-none _ _ _ _ (end-no-fetch c.args.books.now r.0 c.end.result fetch.Failed (c.end.ensures c.args.books.now r.0 r.1)) c.in-Ok-open_page.ensures.failed.later c.in-Ok-read_pieces.ensures.failed.later
+
+pub returns-in-Ok-read_pieces-clause-missing : goal.returns-in-Ok-read_pieces-clause-missing
+returns-in-Ok-read_pieces-clause-missing g c =
+    let r = c.in-Ok-read_pieces.ensures.read in
+    counts-none _ _ _ _ (end-no-fetch c.args.books.now r.0 c.end.result fetch.Missing (c.end.ensures c.args.books.now r.0 r.1)) c.in-Ok-open_page.ensures.missing.later c.in-Ok-read_pieces.ensures.missing.later
+
+pub returns-in-Ok-read_pieces-clause-too_long : goal.returns-in-Ok-read_pieces-clause-too_long
+returns-in-Ok-read_pieces-clause-too_long g c =
+    let r = c.in-Ok-read_pieces.ensures.read in
+    counts-none _ _ _ _ (end-no-fetch c.args.books.now r.0 c.end.result fetch.TooLong (c.end.ensures c.args.books.now r.0 r.1)) c.in-Ok-open_page.ensures.too_long.later c.in-Ok-read_pieces.ensures.too_long.later
+
+pub returns-in-Err-read_pieces-clause-whole : goal.returns-in-Err-read_pieces-clause-whole
+returns-in-Err-read_pieces-clause-whole g c = λ told page answer e is o.
+    let open_is = opened-page (tt {0}) (page_of told c.args.name.now) _ (c.in-Ok-open_page.ensures.told told e) in
+    tells-same c.args.books.now (page_of told c.args.name.now) page answer c.in-Err-read_pieces.fault (subst (λ p. FaultTells p c.in-Err-read_pieces.fault) (sym open_is.1) (c.in-Err-read_pieces.ensures.told open_is.0 open_is.2)) is o

@@ -1,0 +1,60 @@
+use Rattle.std.proofs.Common.{◌∙◌, Err, ap, arith}
+use Rattle.mari_io.specs.declared.shelf.Fetch.TheVariants as fetch
+use Rattle.mari_check.proofs.Piecewise.{all-new, counts-none, first-of, last-piece, line-never, line-no-fetch, one-piece, piece-fault, push-fault}
+use Rattle.mari_check.proofs.stream.read_pieces.Goals as goal
+
+pub returns-in-Err-clause-told : goal.returns-in-Err-clause-told
+returns-in-Err-clause-told g c = λ whole is.
+    rw c.fault_of_shelf.ensures (piece-fault c.args.books.now _ _ _ c.pieces.stream c.pieces.invariant.under c.in-Err.fault (λ e. c.in-Err.ensures.not_missing (ap (λ x. Err x) e)) (λ e. (c.in-Err.ensures.over (λ f. absurd cc)).0 (ap (λ x. Err x) e)) whole is)
+
+pub pieces-preserved : goal.pieces-preserved
+pieces-preserved g c =
+    let u = c.pieces.invariant.under in
+    let none = c.clear.ensures.items in
+    let same = c.as_slice.ensures.value in
+    record {
+      same = c.in-Ok.ensures.same ∙ c.pieces.invariant.same;
+      stays = c.in-Ok.ensures.open_stays;
+      under = one-piece c.args.books.now _ _ _ c.pieces.stream u _ c.in-Ok.count (all-new _ _ _ c.in-Ok.count none same c.in-Ok.ensures.ok)
+          (λ left is. first-of left _ _ _ c.in-Ok.count none same (c.in-Ok.ensures.told left is)) _ (c.in-Ok-push.ensures u.text u.parts u.read) _ _ c.in-Ok.ensures.rest c.in-Ok.ensures.given;
+      faults = omega (arith, c.pieces.invariant.faults, c.in-Ok.ensures.failed.later);
+      misses = omega (arith, c.pieces.invariant.misses, c.in-Ok.ensures.missing.later);
+      overs = omega (arith, c.pieces.invariant.overs, c.in-Ok.ensures.too_long.later);
+    }
+
+pub returns-in-Err-push-clause-told : goal.returns-in-Err-push-clause-told
+returns-in-Err-push-clause-told g c = λ whole is.
+    let u = c.pieces.invariant.under in
+    let none = c.clear.ensures.items in
+    let same = c.as_slice.ensures.value in
+    push-fault c.args.books.now _ _ _ c.pieces.stream u _ c.in-Ok.count (all-new _ _ _ c.in-Ok.count none same c.in-Ok.ensures.ok) (λ left e. first-of left _ _ _ c.in-Ok.count none same (c.in-Ok.ensures.told left e)) c.in-Err-push.fault
+    (c.in-Err-push.ensures u.text u.parts u.read) whole is
+
+pub returns-in-Err-push-clause-memory : goal.returns-in-Err-push-clause-memory
+returns-in-Err-push-clause-memory g c = let u = c.pieces.invariant.under in line-never (Unit {0}) _ c.in-Err-push.fault (c.in-Err-push.ensures u.text u.parts u.read)
+
+pub returns-in-Err-push-clause-failed : goal.returns-in-Err-push-clause-failed
+returns-in-Err-push-clause-failed g c =
+    let u = c.pieces.invariant.under in
+    counts-none _ _ _ _ (line-no-fetch (Unit {0}) _ c.in-Err-push.fault fetch.Failed (c.in-Err-push.ensures u.text u.parts u.read)) c.pieces.invariant.faults c.in-Ok.ensures.failed.later
+
+pub returns-in-Err-push-clause-missing : goal.returns-in-Err-push-clause-missing
+returns-in-Err-push-clause-missing g c =
+    let u = c.pieces.invariant.under in
+    counts-none _ _ _ _ (line-no-fetch (Unit {0}) _ c.in-Err-push.fault fetch.Missing (c.in-Err-push.ensures u.text u.parts u.read)) c.pieces.invariant.misses c.in-Ok.ensures.missing.later
+
+pub returns-in-Err-push-clause-too_long : goal.returns-in-Err-push-clause-too_long
+returns-in-Err-push-clause-too_long g c =
+    let u = c.pieces.invariant.under in
+    counts-none _ _ _ _ (line-no-fetch (Unit {0}) _ c.in-Err-push.fault fetch.TooLong (c.in-Err-push.ensures u.text u.parts u.read)) c.pieces.invariant.overs c.in-Ok.ensures.too_long.later
+
+pub returns-then-count-eq0-clause-read : goal.returns-then-count-eq0-clause-read
+returns-then-count-eq0-clause-read g c = let u = c.pieces.invariant.under in (_, c.in-Ok-push.ensures u.text u.parts u.read)
+
+pub returns-then-count-eq0-clause-told : goal.returns-then-count-eq0-clause-told
+returns-then-count-eq0-clause-told g c = λ whole is.
+    let u = c.pieces.invariant.under in
+    let none = c.clear.ensures.items in
+    let same = c.as_slice.ensures.value in
+    last-piece c.args.books.now _ _ _ c.pieces.stream u _ c.in-Ok.count (all-new _ _ _ c.in-Ok.count none same c.in-Ok.ensures.ok) (λ left e. first-of left _ _ _ c.in-Ok.count none same (c.in-Ok.ensures.told left e)) _
+    (c.in-Ok-push.ensures u.text u.parts u.read) c.if-count-eq0.true whole is

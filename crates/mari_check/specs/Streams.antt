@@ -1,0 +1,169 @@
+-- A publication that is read in pieces: what has come of it, and what is answered.
+use Rattle.std.specs.Prelude.{◌≡◌, ◌<◌, ◌⊎◌, ℕ, true, List, [], ◌∷◌, ◌++◌, length, map, take, Option, Some, None, Result, Ok, Err, ⊤}
+use Rattle.mari_io.specs.declared.shelf.Fetch.{Fetch}
+use Rattle.mari_io.specs.declared.shelf.Fetch.TheVariants as fetch
+use Rattle.mari_io.specs.declared.shelf.TheConstants.{MOST_GIVEN}
+use Rattle.mari_publish.specs.Faults.{IsText, BadLineAt, BadOrderAt, TruncatedAt}
+use Rattle.mari_publish.specs.Pieces.{NoFault, StandsFor, parts_of}
+use Rattle.mari_publish.specs.declared.fault.TextFault.{TextFault}
+use Rattle.mari_publish.specs.declared.fault.TextFault.TheVariants as fault
+use Rattle.mari_publish.specs.declared.publication.Block.{Block}
+use Rattle.mari_publish.specs.declared.publication.Part.{Part}
+use Rattle.mari_publish.specs.declared.publication.Part.TheVariants as part
+use Rattle.mari_publish.specs.declared.publication.Publication.{Publication}
+use Rattle.mari_remain.specs.declared.books.Books.{Books}
+use Rattle.mari_check.specs.declared.day.DayCheck.{DayCheck}
+use Rattle.mari_check.specs.declared.stream.Stream.{Stream}
+use Rattle.mari_check.specs.declared.stream.StreamFault.{StreamFault}
+use Rattle.mari_check.specs.declared.stream.StreamFault.TheVariants.{Fetch as OfFetch, Text as OfText, Memory as NoMemory}
+use Rattle.mari_check.specs.declared.verdict.Verdict.{Verdict}
+use Rattle.mari_check.specs.Checked.{IsChecked}
+use Rattle.mari_check.specs.Verdicts.{IsVerdict}
+
+-- ---- what is answered
+
+-- the first fault of a text
+abbrev pub IsTextFault : List ℕ → TextFault → Type 0
+IsTextFault text (fault.BadLine n) = BadLineAt text n
+IsTextFault text (fault.BadOrder n) = BadOrderAt text n
+IsTextFault text (fault.Truncated n) = TruncatedAt text n
+IsTextFault text fault.Memory = ⊥
+
+-- a page has more bytes than are given in pieces, and as far as they are given no whole line has a fault
+pub record IsTooLong (page : List ℕ) : Type 0 where
+  pub longer : MOST_GIVEN < length page
+  pub no_fault : NoFault (take MOST_GIVEN page)
+
+-- why there is no verdict on a page, or where it isn't held
+abbrev pub FaultTells : Option (List ℕ) → StreamFault → Type 0
+FaultTells None (OfFetch fetch.Failed) = ⊤
+FaultTells None (OfFetch fetch.Missing) = ⊤
+FaultTells None (OfFetch fetch.TooLong) = ⊥
+FaultTells None (OfFetch fetch.Memory) = ⊥
+FaultTells None (OfText f) = ⊥
+FaultTells None NoMemory = ⊤
+FaultTells (Some page) (OfFetch fetch.Failed) = ⊤
+FaultTells (Some page) (OfFetch fetch.Missing) = ⊥
+FaultTells (Some page) (OfFetch fetch.TooLong) = IsTooLong page
+FaultTells (Some page) (OfFetch fetch.Memory) = ⊥
+FaultTells (Some page) (OfText f) = IsTextFault page f
+FaultTells (Some page) NoMemory = ⊤
+
+-- the verdict on the publication whose text the page is
+abbrev pub VerdictTells : Books → Option (List ℕ) → Verdict → Type 0
+VerdictTells books None verdict = ⊥
+VerdictTells books (Some page) verdict = (p : Publication) × IsText page p × IsVerdict books p verdict
+
+-- what the check says of the page of a name, where pages are told
+abbrev pub StreamTells : Books → Option (List ℕ) → Result Verdict StreamFault → Type 0
+StreamTells books page (Ok verdict) = VerdictTells books page verdict
+StreamTells books page (Err why) = FaultTells page why
+
+-- where a text is read whole, the check says the same of it: a verdict on the publication, or the same fault
+abbrev pub SameAsRead : Books → Result Publication TextFault → Result Verdict StreamFault → Type 0
+SameAsRead books (Ok p) (Ok verdict) = IsVerdict books p verdict
+SameAsRead books (Ok p) (Err (OfText f)) = ⊥
+SameAsRead books (Err e) (Ok verdict) = e ≡ fault.Memory
+SameAsRead books (Err e) (Err (OfText f)) = (e ≡ f) ⊎ (e ≡ fault.Memory)
+SameAsRead books answer (Err (OfFetch f)) = ⊤
+SameAsRead books answer (Err NoMemory) = ⊤
+
+-- a call of the shelf gave this fault
+abbrev pub IsStreamFetch : {T : Type 0} → Fetch → Result T StreamFault → Type 0
+IsStreamFetch f (Err (OfFetch g)) = g ≡ f
+IsStreamFetch f (Err (OfText g)) = ⊥
+IsStreamFetch f (Err NoMemory) = ⊥
+IsStreamFetch f (Ok x) = ⊥
+
+-- want of memory is told as a fault of the shelf or of the text
+abbrev pub IsWrappedMemory : {T : Type 0} → Result T StreamFault → Type 0
+IsWrappedMemory (Err (OfFetch f)) = f ≡ fetch.Memory
+IsWrappedMemory (Err (OfText f)) = f ≡ fault.Memory
+IsWrappedMemory (Err NoMemory) = ⊥
+IsWrappedMemory (Ok x) = ⊥
+
+-- how a fault of the shelf is told, and one of the text
+abbrev pub fault_of_fetch : Fetch → StreamFault
+fault_of_fetch fetch.Failed = OfFetch fetch.Failed
+fault_of_fetch fetch.Missing = OfFetch fetch.Missing
+fault_of_fetch fetch.TooLong = OfFetch fetch.TooLong
+fault_of_fetch fetch.Memory = NoMemory
+
+abbrev pub fault_of_text : TextFault → StreamFault
+fault_of_text (fault.BadLine n) = OfText (fault.BadLine n)
+fault_of_text (fault.BadOrder n) = OfText (fault.BadOrder n)
+fault_of_text (fault.Truncated n) = OfText (fault.Truncated n)
+fault_of_text fault.Memory = NoMemory
+
+-- ---- what has come
+
+-- behind these parts this one may come: they begin a publication together
+pub record Comes (parts : List Part) (x : Part) : Type 0 where
+  pub whole : Publication
+  pub more : List Part
+  pub are : parts_of whole ≡ parts ++ x ∷ more
+
+-- the head that was given is that of the books, and the blocks behind it have no fault
+pub record HasNoFault (books : Books) (date : List ℕ) (quarters budget : ℕ) (rest : List Part) (day : DayCheck) : Type 0 where
+  pub date_is : date ≡ books.date
+  pub quarters_is : quarters ≡ books.quarters
+  pub budget_is : budget ≡ day.budget
+  pub blocks : List Block
+  pub are : rest ≡ map part.Block blocks
+  pub checked : IsChecked books blocks day
+
+-- the parts so far settle no verdict: there are none, or a head and blocks that have no fault
+abbrev pub IsOpen : Books → List Part → DayCheck → Type 0
+IsOpen books [] day = IsChecked books [] day
+IsOpen books (part.Head date quarters budget ∷ rest) day = HasNoFault books date quarters budget rest day
+IsOpen books (part.Block b ∷ rest) day = ⊥
+IsOpen books (part.Totals operators providers ∷ rest) day = ⊥
+
+-- the parts so far settle the verdict on each publication that begins with them
+abbrev pub IsSettled : Books → List Part → Verdict → Type 0
+IsSettled books parts verdict = (p : Publication) (more : List Part) → parts_of p ≡ parts ++ more → IsVerdict books p verdict
+
+abbrev pub IsFound : Books → List Part → DayCheck → Option Verdict → Type 0
+IsFound books parts day None = IsOpen books parts day
+IsFound books parts day (Some verdict) = IsSettled books parts verdict
+
+-- a text has come, and these parts of it were taken
+pub record IsRead (books : Books) (text : List ℕ) (parts : List Part) (stream : Stream) : Type 0 where
+  pub stands : StandsFor stream.reader.come text parts
+  pub found : IsFound books parts stream.day stream.found
+
+-- all parts that have come of a text were taken, and no whole line of it has a fault
+pub record IsAllRead (books : Books) (text : List ℕ) (stream : Stream) : Type 0 where
+  pub parts : List Part
+  pub read : IsRead books text parts stream
+  pub waits : stream.reader.waits ≡ true
+  pub no_fault : NoFault text
+
+-- a fault of a whole line
+abbrev pub IsLineFault : List ℕ → TextFault → Type 0
+IsLineFault text (fault.BadLine n) = BadLineAt text n
+IsLineFault text (fault.BadOrder n) = BadOrderAt text n
+IsLineFault text (fault.Truncated n) = ⊥
+IsLineFault text fault.Memory = ⊥
+
+abbrev pub LineTells : List ℕ → StreamFault → Type 0
+LineTells text (OfText f) = IsLineFault text f
+LineTells text (OfFetch f) = ⊥
+LineTells text NoMemory = ⊤
+
+-- what is told when a text has come as far as this: all of it is taken, or a line has a fault
+abbrev pub PushTells : {T : Type 0} → Books → List ℕ → Stream → Result T StreamFault → Type 0
+PushTells books text stream (Ok done) = IsAllRead books text stream
+PushTells books text stream (Err why) = LineTells text why
+
+-- what is told when the page was read to its end, or as far as could be
+abbrev pub PiecesTell : {T : Type 0} → Books → List ℕ → Stream → Result T StreamFault → Type 0
+PiecesTell books page stream (Ok done) = IsAllRead books page stream
+PiecesTell books page stream (Err why) = FaultTells (Some page) why
+
+-- what is told at the end of a text
+abbrev pub EndTells : Books → List ℕ → Result Verdict StreamFault → Type 0
+EndTells books text (Ok verdict) = (p : Publication) × IsText text p × IsVerdict books p verdict
+EndTells books text (Err (OfText f)) = IsTextFault text f
+EndTells books text (Err (OfFetch f)) = ⊥
+EndTells books text (Err NoMemory) = ⊥

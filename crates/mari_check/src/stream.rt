@@ -1,0 +1,231 @@
+//! The check of a publication that is read in pieces.
+
+ghost use Rattle.std.specs.Prelude.{◌≡◌, ◌++◌, ◌∷◌, [], ℕ, List, Result as Res, Some, true, IfOk, OnOk};
+ghost use Rattle.mari_io.specs.Outside.{Counts, Pages, page_of};
+ghost use Rattle.mari_io.specs.declared.shelf.Fetch.TheVariants as fetch;
+ghost use Rattle.mari_publish.specs.Faults.{IsOutcome};
+ghost use Rattle.mari_publish.specs.declared.fault.TextFault.{TextFault as TheTextFault};
+ghost use Rattle.mari_publish.specs.declared.publication.Part.{Part as ThePart};
+ghost use Rattle.mari_publish.specs.declared.publication.Publication.{Publication as ThePublication};
+ghost use Rattle.mari_remain.specs.Accepted.{IsAccepted};
+ghost use Rattle.mari_remain.specs.declared.books.Books.{Books as TheBooks};
+ghost use Rattle.mari_check.specs.Streams.{Comes, EndTells, IsAllRead, IsFound, IsOpen, IsRead, IsStreamFetch, IsWrappedMemory, PiecesTell, PushTells, SameAsRead, StreamTells, fault_of_fetch, fault_of_text};
+
+use crate::day::DayCheck;
+use crate::verdict::Verdict;
+use mari_io::{Fetch, Shelf};
+use mari_publish::{Part, TextFault, TextReader};
+use mari_remain::Books;
+use mari_units::Memory;
+use std::alloc::Global;
+
+/// Why there is no verdict: the shelf gave no page or no further piece, the text is that of no publication, or there was no memory,
+/// which is never told as a fault of the shelf or of the text.
+#[derive(Clone, Copy, Debug, PartialEq, Eq)]
+pub enum StreamFault {
+    Fetch(Fetch),
+    Text(TextFault),
+    Memory,
+}
+
+fn fault_of_shelf(fault: Fetch) -> StreamFault
+    ensures { result ≡ fault_of_fetch fault }
+{
+    match fault {
+        Fetch::Memory => StreamFault::Memory,
+        other => StreamFault::Fetch(other),
+    }
+}
+
+fn fault_of_reader(fault: TextFault) -> StreamFault
+    ensures { result ≡ fault_of_text fault }
+{
+    match fault {
+        TextFault::Memory => StreamFault::Memory,
+        other => StreamFault::Text(other),
+    }
+}
+
+impl DayCheck {
+    /// The verdict as soon as this part settles it, behind parts that didn't.
+    fn part(&mut self, alloc: Global, books: &Books, part: &Part) -> Result<Option<Verdict>, Memory>
+        requires accepted { IsAccepted books.now }
+        requires comes { (parts : List ThePart) × IsOpen books.now parts self.old × Comes parts part.now }
+        ensures { (parts : List ThePart) → IsOpen books.now parts self.old → Comes parts part.now → IfOk result (IsFound books.now (parts ++ part.now ∷ []) self.new) }
+    {
+        match part {
+            Part::Head {
+                date,
+                quarters,
+                budget,
+            } => match self.head(books, date, *quarters, *budget) {
+                Some(fault) => Ok(Some(Verdict::Invalid { run: 0, fault })),
+                None => Ok(None),
+            },
+            Part::Block(block) => {
+                let run = self.next_run();
+                match self.block(alloc, books, block)? {
+                    Some(fault) => Ok(Some(Verdict::Invalid { run, fault })),
+                    None => Ok(None),
+                }
+            }
+            Part::Totals {
+                operators,
+                providers,
+            } => {
+                let lines = operators.as_slice();
+                Ok(Some(self.end(books, lines, providers.as_slice())))
+            }
+        }
+    }
+}
+
+/// A publication as far as it has come: the reader of its text, the check of its day, and the verdict once it is settled.
+#[derive(Drop)]
+pub struct Stream {
+    pub reader: TextReader,
+    pub day: DayCheck,
+    pub found: Option<Verdict>,
+}
+
+impl Stream {
+    /// What there is before the first piece.
+    fn start(alloc: Global, books: &Books) -> Result<Stream, Memory>
+        requires accepted { IsAccepted books.now }
+        ensures { IfOk result (IsRead books.now [] []) }
+    {
+        let day = DayCheck::start(alloc, books)?;
+        Ok(Stream {
+            reader: TextReader::start(alloc),
+            day,
+            found: None,
+        })
+    }
+
+    /// Takes a part. What is settled stays so.
+    fn take(&mut self, alloc: Global, books: &Books, part: Part) -> Result<(), Memory>
+        requires accepted { IsAccepted books.now }
+        requires comes { (parts : List ThePart) × IsFound books.now parts self.old.day self.old.found × Comes parts part }
+        ensures found { (parts : List ThePart) → IsFound books.now parts self.old.day self.old.found → Comes parts part → OnOk result (IsFound books.now (parts ++ part ∷ []) self.new.day self.new.found) }
+        ensures reader { self.new.reader ≡ self.old.reader }
+    {
+        if self.found.is_some() {
+            return Ok(());
+        }
+        self.found = self.day.part(alloc, books, &part)?;
+        Ok(())
+    }
+
+    /// Takes all parts that have come, up to a fault of the text.
+    fn take_parts(&mut self, alloc: Global, books: &Books) -> Result<(), StreamFault>
+        requires accepted { IsAccepted books.now }
+        requires read { (text : List ℕ) × (parts : List ThePart) × IsRead books.now text parts self.old }
+        ensures { (text : List ℕ) (parts : List ThePart) → IsRead books.now text parts self.old → PushTells books.now text self.new result }
+    {
+        'parts: loop {
+            match self.reader.next(alloc) {
+                Ok(Some(part)) => match self.take(alloc, books, part) {
+                    Ok(()) => {}
+                    Err(_) => return Err(StreamFault::Memory),
+                },
+                Ok(None) => return Ok(()),
+                Err(fault) => return Err(fault_of_reader(fault)),
+            }
+        }
+    }
+
+    /// Takes a piece of the text, and all parts that have come with it.
+    fn push(&mut self, alloc: Global, books: &Books, piece: &[u8]) -> Result<(), StreamFault>
+        requires accepted { IsAccepted books.now }
+        requires read { (text : List ℕ) × (parts : List ThePart) × IsRead books.now text parts self.old }
+        ensures { (text : List ℕ) (parts : List ThePart) → IsRead books.now text parts self.old → PushTells books.now (text ++ piece.now) self.new result }
+    {
+        match self.reader.push(piece) {
+            Ok(()) => self.take_parts(alloc, books),
+            Err(_) => Err(StreamFault::Memory),
+        }
+    }
+
+    /// The verdict on the text that has come, if it is whole.
+    fn end(self) -> Result<Verdict, StreamFault>
+        requires read { (books : TheBooks) × (text : List ℕ) × IsAllRead books text self }
+        ensures { (books : TheBooks) (text : List ℕ) → IsAllRead books text self → EndTells books text result }
+    {
+        let Stream { reader, found, .. } = self;
+        match reader.end() {
+            Ok(()) => Ok(found.unwrap()),
+            Err(fault) => Err(fault_of_reader(fault)),
+        }
+    }
+}
+
+/// Reads the page that is open to its end, piece by piece, up to a fault of the shelf or of the text.
+fn read_pieces<S: Shelf>(
+    alloc: Global,
+    books: &Books,
+    shelf: &mut S,
+    stream: &mut Stream,
+) -> Result<(), StreamFault>
+    requires accepted { IsAccepted books.now }
+    requires open { S.is_open shelf.old ≡ true }
+    requires given { S.given shelf.old ≡ 0 }
+    requires read { IsRead books.now [] [] stream.old }
+    ensures same { S.pages shelf.new ≡ S.pages shelf.old }
+    ensures read { OnOk result ((text : List ℕ) × IsAllRead books.now text stream.new) }
+    ensures told { (page : List ℕ) → S.rest shelf.old ≡ Some page → PiecesTell books.now page stream.new result }
+    ensures memory { IsWrappedMemory result → ⊥ }
+    ensures failed { Counts (IsStreamFetch fetch.Failed result) (S.faults shelf.old) (S.faults shelf.new) }
+    ensures missing { Counts (IsStreamFetch fetch.Missing result) (S.misses shelf.old) (S.misses shelf.new) }
+    ensures too_long { Counts (IsStreamFetch fetch.TooLong result) (S.overs shelf.old) (S.overs shelf.new) }
+{
+    let mut piece = Vec::new(alloc);
+    'pieces: loop {
+        piece.clear();
+        let count = match shelf.next_piece(&mut piece) {
+            Ok(count) => count,
+            Err(fault) => return Err(fault_of_shelf(fault)),
+        };
+        match stream.push(alloc, books, piece.as_slice()) {
+            Ok(()) => {}
+            Err(fault) => return Err(fault),
+        }
+        if count == 0 {
+            return Ok(());
+        }
+    }
+}
+
+/// The verdict on the publication whose text is the page of that name, which is read in pieces; or the first fault of the text. A
+/// fault of the text is answered as soon as it has come, and before any fault that the check finds.
+pub fn check_stream<S: Shelf>(
+    alloc: Global,
+    books: &Books,
+    shelf: &mut S,
+    name: &str,
+) -> Result<Verdict, StreamFault>
+    requires accepted { IsAccepted books.now }
+    ensures same { S.pages shelf.new ≡ S.pages shelf.old }
+
+    // What it says of the page, where pages are told; and that nothing else is said of that page, whole.
+    ensures told { (told : Pages) → S.pages shelf.old ≡ Some told → StreamTells books.now (page_of told name.now) result }
+    ensures whole { (told : Pages) (page : List ℕ) (answer : Res ThePublication TheTextFault) → S.pages shelf.old ≡ Some told → page_of told name.now ≡ Some page → IsOutcome page answer → SameAsRead books.now answer result }
+
+    // Why there is no verdict. Want of memory is told as such.
+    ensures memory { IsWrappedMemory result → ⊥ }
+    ensures failed { Counts (IsStreamFetch fetch.Failed result) (S.faults shelf.old) (S.faults shelf.new) }
+    ensures missing { Counts (IsStreamFetch fetch.Missing result) (S.misses shelf.old) (S.misses shelf.new) }
+    ensures too_long { Counts (IsStreamFetch fetch.TooLong result) (S.overs shelf.old) (S.overs shelf.new) }
+{
+    let mut stream = match Stream::start(alloc, books) {
+        Ok(stream) => stream,
+        Err(_) => return Err(StreamFault::Memory),
+    };
+    match shelf.open_page(name) {
+        Ok(()) => {}
+        Err(fault) => return Err(fault_of_shelf(fault)),
+    }
+    match read_pieces(alloc, books, shelf, &mut stream) {
+        Ok(()) => stream.end(),
+        Err(fault) => Err(fault),
+    }
+}

@@ -1,5 +1,12 @@
-pub mod Answers
-pub mod Commands
+pub mod Complete
+pub mod Ending
+pub mod Folder
+pub mod Gates
+pub mod GeneratedBooks
+pub mod Limits
 pub mod Marks
 pub mod Reporting
-pub mod Saying
+pub mod ShortWords
+pub mod Summaries
+pub mod Telling
+pub mod valid

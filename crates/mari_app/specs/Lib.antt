@@ -1,8 +1,8 @@
+pub mod Commands
 pub mod Headline
-pub mod Program
 pub mod Outcome
 pub mod Printing
+pub mod Program
 pub mod Refusals
-pub mod Words
-pub mod Views
 pub mod Status
+pub mod Summary

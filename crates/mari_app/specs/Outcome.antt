@@ -1,119 +1,89 @@
 -- What the words and the pages come to, and how it is reported.
-use Rattle.std.specs.Prelude.{ℕ, ◌≡◌, ◌==◌, if◌then◌else◌, true, false, List, [], Option, Some, Err, take, ⊤}
+use Rattle.std.specs.Prelude.{ℕ, ◌≡◌, ◌≢◌, ◌≤◌, ◌==◌, if◌then◌else◌, List, Option, Some, None, Result, Ok, Err, take, ⊤}
 use lib.Chars.{codes}
 use Rattle.mari_io.specs.declared.shelf.Fetch.{Fetch}
 use Rattle.mari_io.specs.declared.shelf.Fetch.TheVariants as fetch
-use Rattle.mari_io.specs.Outside.{Pages}
+use Rattle.mari_io.specs.Outside.{Pages, page_of}
 use Rattle.mari_units.specs.declared.faults.Refusal.{Refusal}
-use Rattle.mari_day.specs.declared.text.PrintedDay.{PrintedDay}
-use Rattle.mari_day.specs.Files.{AreHeld, Gap, IsFileNumber}
+use Rattle.mari_publish.specs.declared.fault.TextFault.{TextFault}
+use Rattle.mari_publish.specs.declared.fault.TextFault.TheVariants as text_fault
+use Rattle.mari_remain.specs.declared.books.Books.{Books}
+use Rattle.mari_remain.specs.Accepted.{IsAccepted as AreAccepted}
+use Rattle.mari_day.specs.Dated.{IsDated}
+use Rattle.mari_day.specs.Day.{EndsDay}
+use Rattle.mari_day.specs.declared.day.DayEnd.{DayEnd}
+use Rattle.mari_day.specs.declared.day.DayEnd.TheVariants as end
+use Rattle.mari_day.specs.Files.{Gap}
 use Rattle.mari_day.specs.Files.Gap.{NotHeld, OverLimit}
-use Rattle.mari_day.specs.Reading.{HasGap}
+use Rattle.mari_day.specs.Reading.{HasBooks, HasGap, HasRefusal}
+use Rattle.mari_day.specs.declared.reading.BooksFault.{BooksFault}
+use Rattle.mari_day.specs.declared.reading.BooksFault.TheVariants as why
+use Rattle.mari_publish.specs.declared.publication.Publication.{Publication}
+use Rattle.mari_publish.specs.Faults.{IsText}
+use Rattle.mari_publish.specs.Lines.{published_in, unpublished_in}
+use Rattle.mari_check.specs.declared.verdict.Verdict.{Verdict}
+use Rattle.mari_check.specs.declared.verdict.Verdict.TheVariants as verdict
+use Rattle.mari_check.specs.Day.{IsFirstFault, IsValidPublication}
+use Rattle.mari_check.specs.Streams.{IsTextFault, IsTooLong}
+use Rattle.mari_words.specs.Asked.{Asked}
+use Rattle.mari_words.specs.Asked.Asked.{Clear, Check, Generate, Migrate}
+use Rattle.mari_words.specs.declared.command.TheConstants.{MOST_NODES, MOST_WORKERS}
+use Rattle.mari_app.specs.declared.outcome.Job.{Job}
 use Rattle.mari_app.specs.declared.outcome.Outcome.{Outcome}
-use Rattle.mari_app.specs.declared.outcome.Outcome.TheVariants.{NoCommand, Day, PartOfDay, NoPage, Refused, NoMemory}
+use Rattle.mari_app.specs.declared.outcome.Outcome.TheVariants.{NoCommand, Day, Text, Invalid, NoPage, Refused, NoMemory}
 use Rattle.mari_app.specs.declared.status.Status.{Status}
 use Rattle.mari_app.specs.declared.status.Status.TheVariants as status
-use Rattle.mari_day.specs.Reading.{books_at}
-use Rattle.mari_app.specs.Headline.{HasDay}
-use Rattle.mari_app.specs.Printing.{usage_line, file_line, refused_line, then_took}
-use Rattle.mari_app.specs.Words.{Command, command_at}
+use Rattle.mari_words.specs.declared.command.FilePart.{FilePart}
+use Rattle.mari_app.specs.Commands.{ReadsFolder, already_two, page_of_part, publication_number, publication_path, text_refusal, text_refusal_at}
+use Rattle.mari_app.specs.Summary.{IsGenerated}
+use Rattle.mari_app.specs.Printing.{file_line, invalid_line, refused_line, then_took, usage_line, valid_line}
 
--- the page of the file of this number is the first of the folder that can't be had, and this is why
-pub record LacksPage (words : List (List ℕ)) (pages : Pages) (file : ℕ) (gap : Gap) : Type 0 where
-  pub command : Command
-  pub asked : command_at words ≡ Some command
-  pub first : HasGap pages command.folder file gap
+-- the words ask for a text: for the check or for a new file of a folder, or for the summary of a generated day, which it is
+abbrev pub AsksForText : Option Asked → List ℕ → Type 0
+AsksForText None text = ⊥
+AsksForText (Some (Clear folder nodes workers)) text = ⊥
+AsksForText (Some (Check folder)) text = ⊤
+AsksForText (Some (Migrate folder part)) text = ⊤
+AsksForText (Some (Generate number)) text = IsGenerated number text
 
--- the pages are held, and this is their first refusal
-pub record RefusesPages (words : List (List ℕ)) (pages : Pages) (refusal : Refusal) : Type 0 where
-  pub command : Command
-  pub texts : List (List ℕ)
-  pub asked : command_at words ≡ Some command
-  pub held : AreHeld pages command.folder texts
-  pub first : books_at texts ≡ Err refusal
-
--- what a failed fetch says of the pages, where they are told
-abbrev pub FetchSays : List (List ℕ) → Pages → ℕ → Fetch → Type 0
-FetchSays words pages file fetch.Failed = ⊤
-FetchSays words pages file fetch.Missing = LacksPage words pages file NotHeld
-FetchSays words pages file fetch.TooLong = LacksPage words pages file OverLimit
-FetchSays words pages file fetch.Memory = ⊤
-
--- what an outcome says of the words and of the pages, where they are told
-abbrev pub Says : List (List ℕ) → Pages → Outcome → Type 0
-Says words pages NoCommand = ⊤
-Says words pages (Day text) = HasDay words pages true text.items
-Says words pages (PartOfDay text) = HasDay words pages false text.items
-Says words pages (NoPage file why) = FetchSays words pages file why
-Says words pages (Refused refusal) = RefusesPages words pages refusal
-Says words pages NoMemory = ⊤
-
--- what an outcome says of words that ask for this command, and of the pages, where they are told
-abbrev pub SaysFor : Command → Option Pages → Outcome → Type 0
-SaysFor command pages outcome = (words : List (List ℕ)) (told : Pages) → command_at words ≡ Some command → pages ≡ Some told → Says words told outcome
-
--- what the text of a day comes to
-abbrev pub day_comes_to : PrintedDay → Outcome
-day_comes_to day = if day.unpublished == 0 then Day day.text else PartOfDay day.text
-
--- the words are no command
-abbrev pub IsNoCommand : Outcome → Type 0
-IsNoCommand NoCommand = ⊤
-IsNoCommand (Day text) = ⊥
-IsNoCommand (PartOfDay text) = ⊥
-IsNoCommand (NoPage file why) = ⊥
-IsNoCommand (Refused refusal) = ⊥
-IsNoCommand NoMemory = ⊥
+-- the words ask for what may come to this outcome, whatever the pages are
+abbrev pub IsOfWords : Option Asked → Outcome → Type 0
+IsOfWords asked NoCommand = asked ≡ None
+IsOfWords asked (Day job) = (folder : List ℕ) × (asked ≡ Some (Clear folder job.nodes job.workers))
+IsOfWords asked (Text text) = AsksForText asked text.items
+IsOfWords asked (Invalid run number) = (folder : List ℕ) × (asked ≡ Some (Check folder))
+IsOfWords asked (NoPage file why) = (folder : List ℕ) × ReadsFolder asked folder
+IsOfWords asked (Refused refusal) = (folder : List ℕ) × ReadsFolder asked folder
+IsOfWords asked NoMemory = ⊤
 
 -- the fetch of some file gave this answer
 abbrev pub IsNoPage : Fetch → Outcome → Type 0
-IsNoPage why NoCommand = ⊥
-IsNoPage why (Day text) = ⊥
-IsNoPage why (PartOfDay text) = ⊥
 IsNoPage why (NoPage file w) = w ≡ why
-IsNoPage why (Refused refusal) = ⊥
-IsNoPage why NoMemory = ⊥
+IsNoPage why _ = ⊥
 
--- a page that can't be had, or a refusal, is of a market file
-abbrev pub NamesAPage : Outcome → Type 0
-NamesAPage NoCommand = ⊤
-NamesAPage (Day text) = ⊤
-NamesAPage (PartOfDay text) = ⊤
-NamesAPage (NoPage file why) = IsFileNumber file
-NamesAPage (Refused refusal) = IsFileNumber refusal.file
-NamesAPage NoMemory = ⊤
+-- the number of a file that is named: of a market file, or of the publication
+abbrev pub IsNamed : ℕ → Type 0
+IsNamed file = (1 ≤ file) × (file ≤ 9)
 
--- the status of a page that can't be had
-abbrev pub fetch_status : Fetch → Status
-fetch_status fetch.Failed = status.ReadFault
-fetch_status fetch.Missing = status.Missing
-fetch_status fetch.TooLong = status.TooLong
-fetch_status fetch.Memory = status.Memory
+-- a job that can be done: its books are a folder's, and its numbers are within their limits
+pub record IsReady (job : Job) : Type 0 where
+  pub accepted : AreAccepted job.books
+  pub dated : IsDated job.books
+  pub nodes : (1 ≤ job.nodes) × (job.nodes ≤ MOST_NODES)
+  pub workers : (1 ≤ job.workers) × (job.workers ≤ MOST_WORKERS)
 
--- the status of an outcome
-abbrev pub status_of : Outcome → Status
-status_of NoCommand = status.Usage
-status_of (Day text) = status.Done
-status_of (PartOfDay text) = status.Unpublished
-status_of (NoPage file why) = fetch_status why
-status_of (Refused refusal) = status.Refused refusal
-status_of NoMemory = status.Memory
+-- an outcome that can be reported
+abbrev pub IsReportable : Outcome → Type 0
+IsReportable (Day job) = IsReady job
+IsReportable (NoPage file why) = IsNamed file
+IsReportable (Refused refusal) = IsNamed refusal.file
+IsReportable _ = ⊤
 
--- the line of a page that can't be had
-abbrev pub fetch_line : ℕ → Fetch → List ℕ
-fetch_line file fetch.Failed = file_line (codes "readfault") file
-fetch_line file fetch.Missing = file_line (codes "missing") file
-fetch_line file fetch.TooLong = file_line (codes "toolong") file
-fetch_line file fetch.Memory = []
-
--- what is printed of an outcome
-abbrev pub printed_of : Outcome → List ℕ
-printed_of NoCommand = usage_line
-printed_of (Day text) = text.items
-printed_of (PartOfDay text) = text.items
-printed_of (NoPage file why) = fetch_line file why
-printed_of (Refused refusal) = refused_line refusal
-printed_of NoMemory = []
+-- the status of a day, by how it ended
+abbrev pub day_status : DayEnd → Status
+day_status (end.Done published unpublished) = if unpublished == 0 then status.Done else status.Unpublished
+day_status end.WriteFault = status.WriteFault
+day_status end.Memory = status.Memory
 
 -- how a text is reported with a status: it is printed whole; or a write failed, and a first part of it was taken; or there was no
 -- memory for it, and nothing was taken
@@ -122,6 +92,108 @@ pub data Reports (text : List ℕ) (wanted : Status) (before after : Option (Lis
   CutOff : result ≡ status.WriteFault → (n : ℕ) → after ≡ then_took before (take n text) → Reports text wanted before after result
   Starved : result ≡ status.Memory → after ≡ before → Reports text wanted before after result
 
+-- how a job is reported: its day is written as it is made
+pub record ReportsDay (job : Job) (before after : Option (List ℕ)) (result : Status) : Type 0 where
+  pub ended : DayEnd
+  pub ends : EndsDay job.books job.nodes before after ended
+  pub status : result ≡ day_status ended
+
+-- how a page that can't be had is reported
+abbrev pub ReportsNoPage : ℕ → Fetch → (before after : Option (List ℕ)) → Status → Type 0
+ReportsNoPage file fetch.Failed before after result = Reports (file_line (codes "readfault") file) status.ReadFault before after result
+ReportsNoPage file fetch.Missing before after result = Reports (file_line (codes "missing") file) status.Missing before after result
+ReportsNoPage file fetch.TooLong before after result = Reports (file_line (codes "toolong") file) status.TooLong before after result
+ReportsNoPage file fetch.Memory before after result = (result ≡ status.Memory) × (after ≡ before)
+
 -- how an outcome is reported
 abbrev pub Reported : Outcome → (before after : Option (List ℕ)) → Status → Type 0
-Reported o before after result = Reports (printed_of o) (status_of o) before after result
+Reported NoCommand before after result = Reports usage_line status.Usage before after result
+Reported (Day job) before after result = ReportsDay job before after result
+Reported (Text text) before after result = Reports text.items status.Done before after result
+Reported (Invalid run fault) before after result = Reports (invalid_line run fault) (status.Invalid run fault) before after result
+Reported (NoPage file why) before after result = ReportsNoPage file why before after result
+Reported (Refused refusal) before after result = Reports (refused_line refusal) (status.Refused refusal) before after result
+Reported NoMemory before after result = (result ≡ status.Memory) × (after ≡ before)
+
+-- the fetch of some file gave this answer, and there are no books
+abbrev pub IsNoBooks : Fetch → Result Books Outcome → Type 0
+IsNoBooks why (Ok books) = ⊥
+IsNoBooks why (Err outcome) = IsNoPage why outcome
+
+-- what comes of a folder that has no books
+abbrev pub no_books : BooksFault → Outcome
+no_books (why.Fetch file fault) = NoPage file fault
+no_books (why.Refused refusal) = Refused refusal
+no_books why.Memory = NoMemory
+
+-- what comes of books whose file is asked for in its new form
+abbrev pub IsMigrated : Books → FilePart → Outcome → Type 0
+IsMigrated books part (Text text) = (books.limits ≡ None) × (text.items ≡ page_of_part part books)
+IsMigrated books part (Refused refusal) = (books.limits ≢ None) × (refusal ≡ already_two)
+IsMigrated books part NoMemory = ⊤
+IsMigrated books part _ = ⊥
+
+-- what comes of a number whose day is generated
+abbrev pub IsSummarised : ℕ → Outcome → Type 0
+IsSummarised number (Text text) = IsGenerated number text.items
+IsSummarised number NoMemory = ⊤
+IsSummarised number _ = ⊥
+
+-- what comes of a publication whose text has a fault
+abbrev pub text_outcome : TextFault → Outcome
+text_outcome (text_fault.BadLine n) = Refused (text_refusal_at n 11)
+text_outcome (text_fault.BadOrder n) = Refused (text_refusal_at n 12)
+text_outcome (text_fault.Truncated n) = Refused (text_refusal_at n 13)
+text_outcome text_fault.Memory = NoMemory
+
+-- what comes of the verdict on a publication
+abbrev pub IsToldVerdict : Verdict → Outcome → Type 0
+IsToldVerdict (verdict.Valid published unpublished) (Text text) = text.items ≡ valid_line published unpublished
+IsToldVerdict (verdict.Valid published unpublished) NoMemory = ⊤
+IsToldVerdict (verdict.Invalid run fault) (Invalid r f) = (r ≡ run) × (f ≡ fault)
+IsToldVerdict _ _ = ⊥
+
+-- a publication that isn't held, or is longer than may be given in pieces
+abbrev pub PageTells : Option (List ℕ) → (file : ℕ) → Fetch → Type 0
+PageTells page file fetch.Failed = ⊤
+PageTells page file fetch.Missing = (page ≡ None) × (file ≡ publication_number)
+PageTells None file fetch.TooLong = ⊥
+PageTells (Some page) file fetch.TooLong = IsTooLong page × (file ≡ publication_number)
+PageTells page file fetch.Memory = ⊤
+
+-- what is said of the page of a publication that is checked against these books
+abbrev pub CheckTells : Books → Option (List ℕ) → Outcome → Type 0
+CheckTells books page NoCommand = ⊥
+CheckTells books page (Day job) = ⊥
+CheckTells books None (Text text) = ⊥
+CheckTells books (Some page) (Text text) = (p : Publication) × IsText page p × IsValidPublication books p × (text.items ≡ valid_line (published_in p.blocks) (unpublished_in p.blocks))
+CheckTells books None (Invalid run number) = ⊥
+CheckTells books (Some page) (Invalid run number) = (p : Publication) × IsText page p × IsFirstFault books p run number
+CheckTells books page (NoPage file why) = PageTells page file why
+CheckTells books None (Refused refusal) = ⊥
+CheckTells books (Some page) (Refused refusal) = (f : TextFault) × IsTextFault page f × (refusal ≡ text_refusal f)
+CheckTells books page NoMemory = ⊤
+
+-- the answer of a fetch of a page that can't be had
+abbrev pub fetch_of : Gap → Fetch
+fetch_of NotHeld = fetch.Missing
+fetch_of OverLimit = fetch.TooLong
+
+-- what an outcome says of what the words ask for and of the pages: the words are no command; a folder's market files are refused, or a
+-- page of them can't be had; or they give books, which are cleared, checked or migrated; a day is generated; or a fetch failed, or there
+-- was no memory
+pub data Says (asked : Option Asked) (pages : Pages) (o : Outcome) : Type 0 where
+  OfUsage : asked ≡ None → o ≡ NoCommand → Says asked pages o
+  OfRefusal : (folder : List ℕ) (refusal : Refusal) → ReadsFolder asked folder → HasRefusal pages folder refusal → o ≡ Refused refusal → Says asked pages o
+  OfGap : (folder : List ℕ) (file : ℕ) (gap : Gap) → ReadsFolder asked folder → HasGap pages folder file gap → o ≡ NoPage file (fetch_of gap) → Says asked pages o
+  OfClear : (folder : List ℕ) (job : Job) → asked ≡ Some (Clear folder job.nodes job.workers) → HasBooks pages folder job.books → o ≡ Day job → Says asked pages o
+  OfCheck : (folder : List ℕ) (books : Books) → asked ≡ Some (Check folder) → HasBooks pages folder books → CheckTells books (page_of pages (publication_path folder)) o → Says asked pages o
+  OfMigrate : (folder : List ℕ) (part : FilePart) (books : Books) → asked ≡ Some (Migrate folder part) → HasBooks pages folder books → IsMigrated books part o → Says asked pages o
+  OfGenerate : (number : ℕ) → asked ≡ Some (Generate number) → IsSummarised number o → Says asked pages o
+  Fails : (folder : List ℕ) (file : ℕ) → ReadsFolder asked folder → o ≡ NoPage file fetch.Failed → Says asked pages o
+  Starves : o ≡ NoMemory → Says asked pages o
+
+-- books, or the outcome of a folder that has none
+abbrev pub Found : Option Asked → Pages → List ℕ → Result Books Outcome → Type 0
+Found asked pages folder (Ok books) = HasBooks pages folder books
+Found asked pages folder (Err outcome) = Says asked pages outcome

@@ -1,79 +1,111 @@
 -- What each answer of the program says.
-use Rattle.std.specs.Prelude.{[], ℕ, ◌≤◌, ◌≡◌, ◌⊎◌, List, Option, Some, None, Ok, take}
+use Rattle.std.specs.Prelude.{ℕ, ◌≡◌, ◌⊎◌, true, false, List, Option, Some, None, take}
 use lib.Chars.{codes}
 use Rattle.mari_units.specs.declared.faults.Refusal.{Refusal}
 use Rattle.mari_io.specs.Outside.{Pages}
-use Rattle.mari_day.specs.Files.{AreHeld, Gap}
+use Rattle.mari_day.specs.Day.{WrotePart, WrotePrefix}
+use Rattle.mari_day.specs.Files.{Gap}
 use Rattle.mari_day.specs.Files.Gap.{NotHeld, OverLimit}
-use Rattle.mari_day.specs.Day.{HasEnough}
+use Rattle.mari_day.specs.Reading.{HasBooks}
 use Rattle.mari_remain.specs.declared.books.Books.{Books}
-use Rattle.mari_app.specs.declared.outcome.Outcome.{Outcome}
+use Rattle.mari_words.specs.Asked.{Asked}
+use Rattle.mari_words.specs.Asked.Asked.{Clear, Check, Generate}
 use Rattle.mari_app.specs.declared.status.Status.{Status}
-use Rattle.mari_app.specs.declared.status.Status.TheVariants as status
-use Rattle.mari_day.specs.Reading.{books_at}
-use Rattle.mari_app.specs.Outcome.{LacksPage, RefusesPages, Says, IsNoCommand, printed_of}
-use Rattle.mari_app.specs.Printing.{file_line, refused_line, then_took}
-use Rattle.mari_app.specs.Words.{Command, command_at}
+use Rattle.mari_app.specs.declared.status.Status.TheVariants.{Done, Unpublished, Usage, Refused, ReadFault, WriteFault, Memory, Invalid, Missing, TooLong}
+use Rattle.mari_app.specs.Commands.{IsInvalid, IsRefused, LacksPage, Prints, ReadsFolder}
+use Rattle.mari_app.specs.Headline.{WroteDay}
+use Rattle.mari_app.specs.Summary.{IsGenerated}
+use Rattle.mari_app.specs.Printing.{file_line, invalid_line, refused_line, then_took, usage_line}
 
--- the words name a folder whose pages are held and give books
-pub record IsAccepted (words : List (List ℕ)) (pages : Pages) : Type 0 where
-  pub command : Command
-  pub texts : List (List ℕ)
-  pub books : Books
-  pub asked : command_at words ≡ Some command
-  pub held : AreHeld pages command.folder texts
-  pub read : books_at texts ≡ Ok books
+-- all was done: a day is written whose runs are all published, or a text that is printed where all is well
+pub data IsDone (asked : Option Asked) (pages : Pages) (before after : Option (List ℕ)) : Type 0 where
+  Cleared : WroteDay asked pages true before after → IsDone asked pages before after
+  Printed : (text : List ℕ) → Prints asked pages text → after ≡ then_took before text → IsDone asked pages before after
 
--- and the budget holds the search tree of each run's market, whatever blocks are printed before it
-pub record HasBudget (words : List (List ℕ)) (pages : Pages) : Type 0 where
-  pub command : Command
-  pub texts : List (List ℕ)
-  pub books : Books
-  pub asked : command_at words ≡ Some command
-  pub held : AreHeld pages command.folder texts
-  pub read : books_at texts ≡ Ok books
-  pub enough : HasEnough books command.nodes
+-- the books of the folder that the words ask to clear, and its budget of nodes
+pub record AreCleared (asked : Option Asked) (pages : Pages) (books : Books) (nodes : ℕ) : Type 0 where
+  pub folder : List ℕ
+  pub workers : ℕ
+  pub clear : asked ≡ Some (Clear folder nodes workers)
+  pub gives : HasBooks pages folder books
 
--- the pages are refused: where they are told, this is their first refusal; and its line is taken
-pub record IsRefused (words : List (List ℕ)) (pages : Option Pages) (before after : Option (List ℕ)) (refusal : Refusal) : Type 0 where
-  pub first : (told : Pages) → pages ≡ Some told → RefusesPages words told refusal
-  pub line : after ≡ then_took before (refused_line refusal)
+-- a text that may be printed where no day is, by what it tells; that a fetch failed is told only where one did
+pub data IsLine (asked : Option Asked) (pages : Pages) (failed : Type 0) (text : List ℕ) : Type 0 where
+  OfUsage : asked ≡ None → text ≡ usage_line → IsLine asked pages failed text
+  OfRefusal : (refusal : Refusal) → IsRefused asked pages refusal → text ≡ refused_line refusal → IsLine asked pages failed text
+  OfFault : failed → (folder : List ℕ) (file : ℕ) → ReadsFolder asked folder → text ≡ file_line (codes "readfault") file → IsLine asked pages failed text
+  OfMissing : (file : ℕ) → LacksPage asked pages file NotHeld → text ≡ file_line (codes "missing") file → IsLine asked pages failed text
+  OfTooLong : (file : ℕ) → LacksPage asked pages file OverLimit → text ≡ file_line (codes "toolong") file → IsLine asked pages failed text
+  OfInvalid : (run fault : ℕ) → IsInvalid asked pages run fault → text ≡ invalid_line run fault → IsLine asked pages failed text
+  OfText : Prints asked pages text → IsLine asked pages failed text
 
--- a fetch failed, and the line of its file is taken
-pub record IsReadFault (before after : Option (List ℕ)) : Type 0 where
+-- a write failed: a first part was taken of the text of a day part or of a day, or of another text that may be printed
+pub data IsCutOff (asked : Option Asked) (pages : Pages) (failed : Type 0) (before after : Option (List ℕ)) : Type 0 where
+  Day : (books : Books) (nodes : ℕ) → AreCleared asked pages books nodes → WrotePrefix books nodes before after → IsCutOff asked pages failed before after
+  Line : (text : List ℕ) (count : ℕ) → IsLine asked pages failed text → after ≡ then_took before (take count text) → IsCutOff asked pages failed before after
+
+-- there was no memory: nothing was taken, or the head and whole blocks of a day part
+pub data IsStarved (asked : Option Asked) (pages : Pages) (before after : Option (List ℕ)) : Type 0 where
+  Nothing : after ≡ before → IsStarved asked pages before after
+  Part : (books : Books) (nodes : ℕ) → AreCleared asked pages books nodes → WrotePart books nodes before after → IsStarved asked pages before after
+
+-- a page can't be had, and the line of its file is taken
+pub record Lacks (asked : Option Asked) (pages : Option Pages) (gap : Gap) (word : List ℕ) (before after : Option (List ℕ)) : Type 0 where
   pub file : ℕ
-  pub line : after ≡ then_took before (file_line (codes "readfault") file)
+  pub first : (told : Pages) → pages ≡ Some told → LacksPage asked told file gap
+  pub line : after ≡ then_took before (file_line word file)
 
--- the word of a line that names a file whose page can't be had
-abbrev pub gap_word : Gap → List ℕ
-gap_word NotHeld = codes "missing"
-gap_word OverLimit = codes "toolong"
+-- where the pages are told, this is so of them
+abbrev pub WhereTold : Option Pages → (Pages → Type 0) → Type 0
+WhereTold pages IsSo = (told : Pages) → pages ≡ Some told → IsSo told
+
+-- the words ask to clear a folder, or to check its publication, or for what reads its market files
+abbrev pub AsksToClear : Option Asked → Type 0
+AsksToClear asked = (folder : List ℕ) × (nodes : ℕ) × (workers : ℕ) × (asked ≡ Some (Clear folder nodes workers))
+
+abbrev pub AsksToCheck : Option Asked → Type 0
+AsksToCheck asked = (folder : List ℕ) × (asked ≡ Some (Check folder))
+
+abbrev pub AsksForFiles : Option Asked → Type 0
+AsksForFiles asked = (folder : List ℕ) × ReadsFolder asked folder
+
+-- where a day is generated, its summary was taken
+abbrev pub TookSummary : Option Asked → (before after : Option (List ℕ)) → Type 0
+TookSummary asked before after = (number : ℕ) → asked ≡ Some (Generate number) → (text : List ℕ) × IsGenerated number text × (after ≡ then_took before text)
+
+-- what each answer says of what the words ask for, of the pages where they are told, of a fetch that failed, and of what the sink has
+-- taken
+abbrev pub Answers : Option Asked → Option Pages → (failed : Type 0) → (before after : Option (List ℕ)) → Status → Type 0
+Answers asked pages failed before after Done = WhereTold pages (λ told. IsDone asked told before after) × TookSummary asked before after
+Answers asked pages failed before after Unpublished = AsksToClear asked × WhereTold pages (λ told. WroteDay asked told false before after)
+Answers asked pages failed before after Usage = (asked ≡ None) × (after ≡ then_took before usage_line)
+Answers asked pages failed before after (Refused refusal) =
+    AsksForFiles asked × WhereTold pages (λ told. IsRefused asked told refusal) × (after ≡ then_took before (refused_line refusal))
+Answers asked pages failed before after ReadFault = AsksForFiles asked × ((file : ℕ) × (after ≡ then_took before (file_line (codes "readfault") file)))
+Answers asked pages failed before after WriteFault = WhereTold pages (λ told. IsCutOff asked told failed before after)
+Answers asked pages failed before after Memory = WhereTold pages (λ told. IsStarved asked told before after) × ((after ≡ before) ⊎ AsksToClear asked)
+Answers asked pages failed before after (Invalid run fault) =
+    AsksToCheck asked × WhereTold pages (λ told. IsInvalid asked told run fault) × (after ≡ then_took before (invalid_line run fault))
+Answers asked pages failed before after Missing = AsksForFiles asked × Lacks asked pages NotHeld (codes "missing") before after
+Answers asked pages failed before after TooLong = AsksForFiles asked × Lacks asked pages OverLimit (codes "toolong") before after
 
 -- the status of a page that can't be had
 abbrev pub gap_status : Gap → Status
-gap_status NotHeld = status.Missing
-gap_status OverLimit = status.TooLong
-
--- a page can't be had: where the pages are told, it is that of the first such file; and the line of its file is taken
-pub record Lacks (words : List (List ℕ)) (pages : Option Pages) (before after : Option (List ℕ)) (gap : Gap) : Type 0 where
-  pub file : ℕ
-  pub first : (told : Pages) → pages ≡ Some told → LacksPage words told file gap
-  pub line : after ≡ then_took before (file_line (gap_word gap) file)
-
--- a text that may be printed: that of an outcome to which these words and pages may come
-pub record MayPrint (words : List (List ℕ)) (pages : Pages) (text : List ℕ) : Type 0 where
-  pub outcome : Outcome
-  pub says : Says words pages outcome
-  pub command : IsNoCommand outcome → command_at words ≡ None
-  pub printed : text ≡ printed_of outcome
-
--- a first part of a text is taken: where the pages are told, of one that may be printed
-pub record IsCutOff (words : List (List ℕ)) (pages : Option Pages) (before after : Option (List ℕ)) : Type 0 where
-  pub text : List ℕ
-  pub count : ℕ
-  pub may_print : (told : Pages) → pages ≡ Some told → MayPrint words told text
-  pub part : after ≡ then_took before (take count text)
+gap_status NotHeld = Missing
+gap_status OverLimit = TooLong
 
 -- this answer, or that of a failed fetch, of a failed write, or of no memory
-abbrev pub Or : Status → Status → Type 0
-Or wanted result = (result ≡ wanted) ⊎ (result ≡ status.ReadFault) ⊎ (result ≡ status.WriteFault) ⊎ (result ≡ status.Memory)
+abbrev pub Or : (Status → Type 0) → Status → Type 0
+Or IsWanted result = IsWanted result ⊎ ((result ≡ ReadFault) ⊎ ((result ≡ WriteFault) ⊎ (result ≡ Memory)))
+
+-- this answer alone
+abbrev pub Is : Status → Status → Type 0
+Is wanted result = result ≡ wanted
+
+-- a day was written
+abbrev pub IsDayStatus : Status → Type 0
+IsDayStatus result = (result ≡ Done) ⊎ (result ≡ Unpublished)
+
+-- a publication was checked
+abbrev pub IsVerdictStatus : Status → Type 0
+IsVerdictStatus result = (result ≡ Done) ⊎ ((run : ℕ) × (fault : ℕ) × (result ≡ Invalid run fault))

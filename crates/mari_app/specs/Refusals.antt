@@ -11,7 +11,7 @@ zone_check number =
     if number == 14 then codes "NoZone" else
     []
 
--- a check of borders.csv, by its number
+-- a check of borders.csv, by its number; the last is that of a folder that is migrated though it has limits.csv
 unfoldable pub border_check : ℕ → List ℕ
 border_check number =
     if number == 11 then codes "TooManyBorders" else
@@ -19,6 +19,7 @@ border_check number =
     if number == 13 then codes "SelfBorder" else
     if number == 14 then codes "Repeated" else
     if number == 15 then codes "Range" else
+    if number == 17 then codes "AlreadyTwo" else
     []
 
 -- a check of bids.csv, by its number
@@ -85,7 +86,15 @@ limit_check number =
     if number == 15 then codes "Range" else
     []
 
--- a check of one file's own book, by the file's number from 1
+-- a check of the publication's text, by its number
+unfoldable pub text_check : ℕ → List ℕ
+text_check number =
+    if number == 11 then codes "BadLine" else
+    if number == 12 then codes "BadOrder" else
+    if number == 13 then codes "Truncated" else
+    []
+
+-- a check of one file of its own, by the file's number from 1
 abbrev pub own_check : ℕ → ℕ → List ℕ
 own_check file number =
     if file == 1 then day_check number else
@@ -95,6 +104,7 @@ own_check file number =
     if file == 5 then link_check number else
     if file == 6 then run_check number else
     if file == 7 then demand_check number else
+    if file == 8 then text_check number else
     if file == 9 then limit_check number else
     []
 

@@ -1,21 +1,34 @@
-//! The words behind the program's name.
+//! The words that the program was called with.
+
+ghost use Rattle.std.specs.Prelude.{◌≡◌, drop};
 
 use crate::status::Status;
 use std::env;
 use std::io::ErrorKind;
 use std::rt::Env;
 
-/// The words. One that isn't text makes them no words at all, which are no command; want of memory has its own status.
+/// The words behind the first, which is the program's name.
+fn behind_name(mut words: Vec<String>) -> Vec<String>
+    ensures { result.items ≡ drop 1 words.items }
+{
+    if !words.is_empty() {
+        words.remove(0);
+    }
+    words
+}
+
+/// The words behind the program's name. One that isn't text makes them no words at all, which are no command; want of memory has its own
+/// status.
 pub fn words_of(rt: &(impl Env + AllocGlobal)) -> Result<Vec<String>, Status> {
     let mut words = Vec::new(rt.alloc());
     match env::args(rt) {
         Ok(arguments) => {
-            for word in arguments.skip(1) {
+            for word in arguments {
                 if words.push(word).is_err() {
                     return Err(Status::Memory);
                 }
             }
-            Ok(words)
+            Ok(behind_name(words))
         }
         Err(error) if error.kind() == ErrorKind::OutOfMemory => Err(Status::Memory),
         Err(_) => Ok(words),

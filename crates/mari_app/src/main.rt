@@ -1,16 +1,24 @@
-//! Clears a folder of market files: `mari clear FOLDER [--nodes N] [--workers K]`.
+//! The program: `mari clear FOLDER [--nodes N] [--workers K]`, `mari check FOLDER`, `mari generate NUMBER`, `mari migrate FOLDER borders`
+//! and `mari migrate FOLDER limits`.
 //!
-//! `run_program` is the whole program over any shelf and sink: words, the books of a folder, the text of their day, and bytes. Its contract carries the headline (`specs/Headline.antt`). `main` calls it over real files and standard output.
+//! `run_program` is all of it over any shelf and sink: words, the books of a folder, the text of their day, its check, and bytes. Its
+//! contract carries the headline (`specs/Headline.antt`). `main` calls it over real files and standard output.
 #![tactic(auto)]
 
 mod arguments;
+mod books;
+mod checking;
+mod clearing;
+mod generating;
+mod migrating;
 mod outcome;
 mod program;
 mod refusals;
+mod saying;
 mod status;
+mod summary;
 #[cfg(test)]
 mod tests;
-mod words;
 mod writing;
 
 use arguments::words_of;
@@ -23,7 +31,7 @@ use std::process::ExitCode;
 fn main(rt: HostRuntime) -> ExitCode {
     let words = match words_of(&rt) {
         Ok(words) => words,
-        Err(status) => return ExitCode::from(status.code()),
+        Err(status) => return status.exit_code(),
     };
     let mut shelf = DiskShelf::new(rt);
     let mut sink = StdSink::new(rt);
@@ -35,5 +43,5 @@ fn main(rt: HostRuntime) -> ExitCode {
         &mut sink,
         &FreeTurnstile,
     );
-    ExitCode::from(status.code())
+    status.exit_code()
 }

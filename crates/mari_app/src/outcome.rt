@@ -1,15 +1,25 @@
-//! What the words and the pages come to, and how it is reported.
+//! What the words and the pages come to, before anything is written of it.
 
 use mari_io::Fetch;
+use mari_remain::Books;
 use mari_units::Refusal;
 
-/// What the words and the pages come to: no command; the text of a day whose runs are all published, or of one with a run that
-/// isn't; a file, by its number, whose page can't be had, and why; the first refusal; or no memory.
-#[derive(Debug, Drop)]
+/// A day to clear: its books, how many nodes each run's search may make, 1 to 50,000, and how many workers search, 1 to 16.
+#[derive(Drop)]
+pub struct Job {
+    pub books: Books,
+    pub nodes: u32,
+    pub workers: u32,
+}
+
+/// What the words and the pages come to: no command; a day to clear; a text to print; a publication that isn't valid, with the first
+/// run that has a fault and the fault's number; a file, by its number, whose page can't be had, and why; a refusal; or no memory.
+#[derive(Drop)]
 pub enum Outcome {
     NoCommand,
-    Day(Vec<u8>),
-    PartOfDay(Vec<u8>),
+    Day(Job),
+    Text(Vec<u8>),
+    Invalid { run: u32, fault: u8 },
     NoPage(u8, Fetch),
     Refused(Refusal),
     NoMemory,

@@ -1,7 +1,7 @@
 //! The names of the checks by which a file may be refused.
 
 ghost use Rattle.std.specs.Prelude.{◌≡◌, ℕ};
-ghost use Rattle.mari_app.specs.Refusals.{check_name as check_named, day_check as day_checks, zone_check as zone_checks, border_check as border_checks, bid_check as bid_checks, link_check as link_checks, run_check as run_checks, demand_check as demand_checks, limit_check as limit_checks, own_check as own_checks};
+ghost use Rattle.mari_app.specs.Refusals.{check_name as check_named, day_check as day_checks, zone_check as zone_checks, border_check as border_checks, bid_check as bid_checks, link_check as link_checks, run_check as run_checks, demand_check as demand_checks, limit_check as limit_checks, text_check as text_checks, own_check as own_checks};
 
 /// A check of zones.csv.
 #[tactic(auto, unfolding(crate::specs::Refusals::zone_check))]
@@ -28,6 +28,7 @@ fn border_check(number: u8) -> &'static str
         13 => "SelfBorder",
         14 => "Repeated",
         15 => "Range",
+        17 => "AlreadyTwo",
         _ => "",
     }
 }
@@ -126,7 +127,20 @@ fn limit_check(number: u8) -> &'static str
     }
 }
 
-/// A check of one file's own book, by the file's number from 1.
+/// A check of the publication's text.
+#[tactic(auto, unfolding(crate::specs::Refusals::text_check))]
+fn text_check(number: u8) -> &'static str
+    ensures { result.now ≡ text_checks number }
+{
+    match number {
+        11 => "BadLine",
+        12 => "BadOrder",
+        13 => "Truncated",
+        _ => "",
+    }
+}
+
+/// A check of one file of its own, by the file's number from 1.
 fn own_check(file: u8, number: u8) -> &'static str
     ensures { result.now ≡ own_checks file number }
 {
@@ -138,6 +152,7 @@ fn own_check(file: u8, number: u8) -> &'static str
         5 => link_check(number),
         6 => run_check(number),
         7 => demand_check(number),
+        8 => text_check(number),
         9 => limit_check(number),
         _ => "",
     }

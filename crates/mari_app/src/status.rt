@@ -1,9 +1,11 @@
 //! How the program ended.
 
 ghost use Rattle.std.specs.Prelude.{◌≡◌};
+ghost use Rattle.std.specs.Process.{exit_status};
 ghost use Rattle.mari_app.specs.Status.{code_of};
 
 use mari_units::Refusal;
+use std::process::ExitCode;
 
 /// How the program ended: all is printed; at least one run is unpublished; the words are no command; the input is refused; a
 /// fetch failed; a write failed; there was no memory; the checked text is wrong at a run; a page is missing; a page is too
@@ -39,5 +41,12 @@ impl Status {
             Status::Missing => 8,
             Status::TooLong => 9,
         }
+    }
+
+    /// The same as the process ends with it.
+    pub fn exit_code(&self) -> ExitCode
+        ensures { exit_status result ≡ code_of self.now }
+    {
+        ExitCode::from(self.code())
     }
 }

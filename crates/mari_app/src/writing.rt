@@ -3,8 +3,8 @@
 ghost use Rattle.std.specs.Prelude.{◌≡◌, ◌≤◌, ◌≢◌, ◌⊎◌, ℕ, take, OnOk, OnErr, IsErr, IfOk, ◌++◌};
 ghost use Rattle.std.specs.Fmt.{decimal};
 ghost use Rattle.mari_io.specs.Outside.{Counts};
-ghost use Rattle.mari_day.specs.Files.{IsFileNumber};
-ghost use Rattle.mari_app.specs.Printing.{then_took, usage_line as usage_text, file_line as file_text, refused_line as refused_text};
+ghost use Rattle.mari_app.specs.Outcome.{IsNamed};
+ghost use Rattle.mari_app.specs.Printing.{then_took, usage_line as usage_text, file_line as file_text, pair_line as pair_text, refused_line as refused_text};
 
 use crate::refusals::check_name;
 use mari_day::file_name;
@@ -34,18 +34,18 @@ pub fn write_all<K: Sink>(sink: &mut K, text: &[u8]) -> Result<(), Failed>
 pub fn usage_line() -> &'static [u8]
     ensures { result.now ≡ usage_text }
 {
-    b"usage: mari clear FOLDER [--nodes N] [--workers K]\n"
+    b"usage: mari clear FOLDER [--nodes N] [--workers K] | mari check FOLDER | mari generate NUMBER | mari migrate FOLDER borders | mari migrate FOLDER limits\n"
 }
 
 /// Appends a piece.
-fn put(out: &mut Vec<u8>, piece: &[u8]) -> Result<(), Memory>
+pub fn put(out: &mut Vec<u8>, piece: &[u8]) -> Result<(), Memory>
     ensures { OnOk result (out.new.items ≡ out.old.items ++ piece.now) }
 {
     Ok(out.extend_from_slice(piece)?)
 }
 
 /// Appends a number.
-fn put_number(alloc: Global, out: &mut Vec<u8>, number: u32) -> Result<(), Memory>
+pub fn put_number(alloc: Global, out: &mut Vec<u8>, number: u128) -> Result<(), Memory>
     ensures { OnOk result (out.new.items ≡ out.old.items ++ decimal number) }
 {
     put(out, number.to_string(alloc)?.as_bytes())
@@ -53,7 +53,7 @@ fn put_number(alloc: Global, out: &mut Vec<u8>, number: u32) -> Result<(), Memor
 
 /// The line of a file, by its number from 1, whose page can't be had.
 pub fn file_line(alloc: Global, word: &[u8], file: u8) -> Result<Vec<u8>, Memory>
-    requires { IsFileNumber file }
+    requires { IsNamed file }
     ensures { IfOk result (λ line. line.items ≡ file_text word.now file) }
 {
     let mut line = Vec::new(alloc);
@@ -66,21 +66,34 @@ pub fn file_line(alloc: Global, word: &[u8], file: u8) -> Result<Vec<u8>, Memory
 
 /// The line of a refusal.
 pub fn refused_line(alloc: Global, refusal: Refusal) -> Result<Vec<u8>, Memory>
-    requires { IsFileNumber refusal.file }
+    requires { IsNamed refusal.file }
     ensures { IfOk result (λ line. line.items ≡ refused_text refusal) }
 {
     let mut line = Vec::new(alloc);
     put(&mut line, b"refused ")?;
     put(&mut line, file_name(refusal.file).as_bytes())?;
     put(&mut line, b" ")?;
-    put_number(alloc, &mut line, refusal.line)?;
+    put_number(alloc, &mut line, u128::from(refusal.line))?;
     put(&mut line, b" ")?;
-    put_number(alloc, &mut line, u32::from(refusal.number))?;
+    put_number(alloc, &mut line, u128::from(refusal.number))?;
     put(&mut line, b" ")?;
     put(
         &mut line,
         check_name(refusal.file, refusal.number).as_bytes(),
     )?;
+    put(&mut line, b"\n")?;
+    Ok(line)
+}
+
+/// A line of a word and two numbers.
+pub fn pair_line(alloc: Global, word: &[u8], first: u32, second: u32) -> Result<Vec<u8>, Memory>
+    ensures { IfOk result (λ line. line.items ≡ pair_text word.now first second) }
+{
+    let mut line = Vec::new(alloc);
+    put(&mut line, word)?;
+    put_number(alloc, &mut line, u128::from(first))?;
+    put(&mut line, b" ")?;
+    put_number(alloc, &mut line, u128::from(second))?;
     put(&mut line, b"\n")?;
     Ok(line)
 }

@@ -137,16 +137,65 @@ fn direct_run_behind_an_unpublished_scheduled_run(rt: HostRuntime) -> Result<(),
     clears_within(&rt, rt.alloc(), folder, "1", 1, printed)
 }
 
-/// A day of four runs in three quarters, worked out by hand; the folder `examples/linked-day` has these pages.
+/// A day of four runs in three quarters; the folder `examples/linked-day` has these pages.
+pub(super) const LINKED_DAY: Folder<'static> = Folder {
+    bids: "id,provider,zone,quarter,direction,price,least,greatest,kind\ny,P,Z,1,up,10.00,0,10,both\nw,P,Z,2,up,20.00,0,10,both\nu,Q,Z,2,up,70.00,0,20,both\nx,P,Z,3,up,20.00,0,10,both\nz,P,Z,3,up,15.00,0,10,both\nv,P,Z,3,up,50.00,0,100,both\n",
+    runs: "run,quarter,kind,reference\n1,1,scheduled,40.00\n2,1,direct,40.00\n3,2,scheduled,40.00\n4,3,scheduled,40.00\n",
+    demands: "run,zone,mw,price\n1,Z,5,\n2,Z,3,\n3,Z,10,\n4,Z,20,\n",
+    ..LINKED
+};
+
+/// The same day's text, worked out by hand.
+pub(super) const LINKED_DAY_TEXT: &str = "\
+mari 1 2025-03-12 96 10000
+run 1 1 scheduled published
+welfare 49994500
+zone Z 10.00 10.00 10.00 1
+bid y 5
+demand 1 5
+tree 1
+bound 10.00
+operator T 0.0000 0.0000 0.0000
+provider P 12.5000
+end 1
+run 2 1 direct published
+welfare 29996700
+zone Z 10.00 10.00 10.00 1
+bid y 3
+demand 1 3
+tree 1
+bound 10.00
+operator T 0.0000 0.0000 0.0000
+provider P 7.5000
+end 2
+run 3 2 scheduled published
+welfare 99929000
+zone Z 70.00 70.00 70.00 1
+bid u 10
+demand 1 10
+tree 1
+bound 70.00
+operator T 0.0000 0.0000 0.0000
+provider Q 175.0000
+end 3
+run 4 3 scheduled published
+welfare 199928000
+zone Z 50.00 50.00 50.00 1
+bid x 10
+bid v 10
+demand 1 20
+tree 1
+bound 50.00
+operator T 0.0000 0.0000 0.0000
+provider P 250.0000
+end 4
+total-operator T 0.0000 0.0000 0.0000
+total-provider P 270.0000
+total-provider Q 175.0000
+done 4 0
+";
+
 #[test]
 fn a_day_of_linked_quarters(rt: HostRuntime) -> Result<(), Fail> {
-    let folder = Folder {
-        bids: "id,provider,zone,quarter,direction,price,least,greatest,kind\ny,P,Z,1,up,10.00,0,10,both\nw,P,Z,2,up,20.00,0,10,both\nu,Q,Z,2,up,70.00,0,20,both\nx,P,Z,3,up,20.00,0,10,both\nz,P,Z,3,up,15.00,0,10,both\nv,P,Z,3,up,50.00,0,100,both\n",
-        runs: "run,quarter,kind,reference\n1,1,scheduled,40.00\n2,1,direct,40.00\n3,2,scheduled,40.00\n4,3,scheduled,40.00\n",
-        demands: "run,zone,mw,price\n1,Z,5,\n2,Z,3,\n3,Z,10,\n4,Z,20,\n",
-        ..LINKED
-    };
-    let printed =
-        "mari 1 2025-03-12 96 10000\nrun 1 1 scheduled published\nwelfare 49994500\nzone Z 10.00 10.00 10.00 1\nbid y 5\ndemand 1 5\ntree 1\nbound 10.00\noperator T 0.0000 0.0000 0.0000\nprovider P 12.5000\nend 1\nrun 2 1 direct published\nwelfare 29996700\nzone Z 10.00 10.00 10.00 1\nbid y 3\ndemand 1 3\ntree 1\nbound 10.00\noperator T 0.0000 0.0000 0.0000\nprovider P 7.5000\nend 2\nrun 3 2 scheduled published\nwelfare 99929000\nzone Z 70.00 70.00 70.00 1\nbid u 10\ndemand 1 10\ntree 1\nbound 70.00\noperator T 0.0000 0.0000 0.0000\nprovider Q 175.0000\nend 3\nrun 4 3 scheduled published\nwelfare 199928000\nzone Z 50.00 50.00 50.00 1\nbid x 10\nbid v 10\ndemand 1 20\ntree 1\nbound 50.00\noperator T 0.0000 0.0000 0.0000\nprovider P 250.0000\nend 4\ntotal-operator T 0.0000 0.0000 0.0000\ntotal-provider P 270.0000\ntotal-provider Q 175.0000\ndone 4 0\n";
-    clears(&rt, rt.alloc(), folder, 0, printed)
+    clears(&rt, rt.alloc(), LINKED_DAY, 0, LINKED_DAY_TEXT)
 }

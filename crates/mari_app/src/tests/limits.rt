@@ -4,7 +4,7 @@ use super::{Folder, TWO_ZONES, clears, prints, refuses};
 use std::test::Fail;
 
 /// The two zones with their limits stated for the run.
-const STATED: Folder<'static> = Folder {
+pub(super) const STATED: Folder<'static> = Folder {
     borders: "from,to\nA,B\n",
     limits: Some("run,from,to,limit,back\n1,A,B,50,50\n"),
     ..TWO_ZONES

@@ -1,0 +1,42 @@
+-- The summary of a day that was printed and read.
+use Rattle.std.proofs.Common.{◌≡◌, ◌∙◌, ℕ, List, ap, arith, length, subst}
+use Rattle.std.specs.Prelude.{IfOk, Result, Ok, Err}
+use lib.Chars.{codes}
+use Rattle.mari_publish.specs.declared.publication.Publication.{Publication}
+use Rattle.mari_publish.specs.Faults.{IsText}
+use Rattle.mari_publish.proofs.Outcomes.{one_text}
+use Rattle.mari_remain.specs.declared.books.Books.{Books}
+use Rattle.mari_day.specs.Day.{IsDay, IsPrintedDay}
+use Rattle.mari_day.specs.Reading.{HasBooks}
+use Rattle.mari_day.specs.declared.text.PrintedDay.{PrintedDay}
+use Rattle.mari_scenario.specs.Accepted.{AreAccepted}
+use Rattle.mari_scenario.specs.Pages.{scenario_at}
+use Rattle.mari_words.specs.declared.command.TheConstants.{USUAL_NODES}
+use Rattle.mari_app.proofs.Gates.{generated-published}
+use Rattle.mari_app.proofs.GeneratedBooks.{same-books, whole}
+use Rattle.mari_app.specs.Summary.{IsGenerated, summary_of}
+
+pub if-ok : {A E : Type 0} (P Q : A → Type 0) (r : Result A E) → ((x : A) → P x → Q x) → IfOk r P → IfOk r Q
+if-ok P Q (Ok x) f h = f x h
+if-ok P Q (Err e) f h = tt
+
+pub summarised : (number : ℕ) (books : Books) (day : PrintedDay) (p : Publication) (text : List ℕ) → AreAccepted (scenario_at number) → HasBooks (scenario_at number) (codes "s") books
+    → IsPrintedDay books USUAL_NODES day → IsText day.text.items p → text ≡ summary_of number books p.blocks → IsGenerated number text
+summarised number books day p text accepted gives is read spelled =
+    let printed : IsText day.text.items is.publication = record { has = is.in_range; is = is.text } in
+    let same : is.publication ≡ p = one_text day.text.items is.publication p printed read in
+    let P : Publication → Type 0 = λ q. IsDay books USUAL_NODES q in
+    let day-is : IsDay books USUAL_NODES p = subst P same is.is_day in
+    let whole-is : books ≡ whole (scenario_at number) accepted = same-books (scenario_at number) accepted books gives in
+    record {
+      books = books;
+      gives = gives;
+      zones = ap (λ (b : Books). length b.zones.zones) whole-is ∙ accepted.eight_zones;
+      borders = ap (λ (b : Books). length b.borders.borders) whole-is ∙ accepted.ten_borders;
+      bids = ap (λ (b : Books). length b.bids.bids) whole-is ∙ accepted.bids_there;
+      runs = ap (λ (b : Books). length b.runs.runs) whole-is ∙ accepted.runs_there;
+      publication = p;
+      is_day = day-is;
+      published = generated-published number USUAL_NODES books p accepted gives (omega arith) day-is;
+      printed = spelled;
+    }

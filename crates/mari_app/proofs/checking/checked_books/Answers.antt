@@ -1,0 +1,9 @@
+use Rattle.std.proofs.Common.{refl}
+use Rattle.mari_app.proofs.Telling.{words-of-text}
+use Rattle.mari_app.proofs.checking.checked_books.Goals as goal
+
+pub returns-in-Err-Fetch-clause-words : goal.returns-in-Err-Fetch-clause-words
+returns-in-Err-Fetch-clause-words g c = (c.args.folder.now, refl)
+
+pub returns-in-Err-Text-clause-words : goal.returns-in-Err-Text-clause-words
+returns-in-Err-Text-clause-words g c = rw c.text_outcome.ensures (words-of-text _ _)

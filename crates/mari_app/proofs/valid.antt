@@ -1,0 +1,4 @@
+pub mod Behind
+pub mod Totals
+pub mod Blocks
+pub mod Days

@@ -1,0 +1,144 @@
+-- What the words and the pages decide: which folder is read, what is refused, which page can't be had, and what is printed.
+use Rattle.std.specs.Prelude.{ℕ, ◌≡◌, ◌≢◌, ◌≤◌, List, ◌++◌, length, Option, Some, None, option_and_then}
+use lib.Chars.{codes}
+use Rattle.mari_units.specs.declared.faults.Refusal.{Refusal}
+use Rattle.mari_io.specs.Outside.{Pages, page_of}
+use Rattle.mari_io.specs.declared.shelf.TheConstants.{MOST_GIVEN}
+use Rattle.mari_publish.specs.declared.fault.TextFault.{TextFault}
+use Rattle.mari_publish.specs.declared.fault.TextFault.TheVariants as text_fault
+use Rattle.mari_publish.specs.declared.publication.Publication.{Publication}
+use Rattle.mari_publish.specs.Faults.{IsText}
+use Rattle.mari_publish.specs.Lines.{published_in, unpublished_in}
+use Rattle.mari_remain.specs.declared.books.Books.{Books}
+use Rattle.mari_remain.specs.Migrated.{borders_page, limits_page}
+use Rattle.mari_day.specs.Files.{Gap}
+use Rattle.mari_day.specs.Files.Gap.{NotHeld, OverLimit}
+use Rattle.mari_day.specs.Reading.{HasBooks, HasGap, HasRefusal}
+use Rattle.mari_check.specs.Day.{IsFirstFault, IsValidPublication}
+use Rattle.mari_check.specs.Streams.{IsTextFault, IsTooLong}
+use Rattle.mari_words.specs.Asked.{Asked}
+use Rattle.mari_words.specs.Asked.Asked.{Clear, Check, Generate, Migrate}
+use Rattle.mari_words.specs.declared.command.FilePart.{FilePart}
+use Rattle.mari_words.specs.declared.command.FilePart.TheVariants.{Borders, Limits}
+use Rattle.mari_app.specs.Printing.{valid_line}
+use Rattle.mari_app.specs.Summary.{IsGenerated}
+
+-- the folder whose market files a command reads
+abbrev pub folder_of : Asked → Option (List ℕ)
+folder_of (Clear folder nodes workers) = Some folder
+folder_of (Check folder) = Some folder
+folder_of (Generate number) = None
+folder_of (Migrate folder part) = Some folder
+
+-- the words ask for what reads the market files of this folder
+abbrev pub ReadsFolder : Option Asked → List ℕ → Type 0
+ReadsFolder asked folder = option_and_then folder_of asked ≡ Some folder
+
+-- the name of a folder's publication
+abbrev pub publication_path : List ℕ → List ℕ
+publication_path folder = folder ++ codes "/publication.txt"
+
+-- the number by which the publication is named among a folder's files
+abbrev pub publication_number : ℕ
+publication_number = 8
+
+-- the folder's publication is checked: its market files give these books, and it is this page
+pub record HasPublication (asked : Option Asked) (pages : Pages) (books : Books) (page : List ℕ) : Type 0 where
+  pub folder : List ℕ
+  pub check : asked ≡ Some (Check folder)
+  pub gives : HasBooks pages folder books
+  pub held : page_of pages (publication_path folder) ≡ Some page
+
+-- the publication is refused at a line, by the number of a check
+abbrev pub text_refusal_at : (line number : ℕ) → Refusal
+text_refusal_at line number = record { file = publication_number; line = line; number = number }
+
+-- the refusal of a text with this fault
+abbrev pub text_refusal : TextFault → Refusal
+text_refusal (text_fault.BadLine n) = text_refusal_at n 11
+text_refusal (text_fault.BadOrder n) = text_refusal_at n 12
+text_refusal (text_fault.Truncated n) = text_refusal_at n 13
+text_refusal text_fault.Memory = text_refusal_at 0 0
+
+-- the refusal of borders that leave their limits to limits.csv already
+abbrev pub already_two : Refusal
+already_two = record { file = 3; line = 1; number = 17 }
+
+-- the market files are refused: the first refusal of the folder's; or the folder is migrated though it has limits.csv already
+pub data RefusesFiles (asked : Option Asked) (pages : Pages) (refusal : Refusal) : Type 0 where
+  OfBooks : (folder : List ℕ) → ReadsFolder asked folder → HasRefusal pages folder refusal → RefusesFiles asked pages refusal
+  OfVersion : (folder : List ℕ) (part : FilePart) (books : Books) → asked ≡ Some (Migrate folder part) → HasBooks pages folder books
+      → books.limits ≢ None → refusal ≡ already_two → RefusesFiles asked pages refusal
+
+-- the text of the publication that is checked has a first fault
+pub record RefusesText (asked : Option Asked) (pages : Pages) (page : List ℕ) (fault : TextFault) : Type 0 where
+  pub books : Books
+  pub checked : HasPublication asked pages books page
+  pub first : IsTextFault page fault
+
+-- what is refused: the market files, or the text of the publication
+pub data IsRefused (asked : Option Asked) (pages : Pages) (refusal : Refusal) : Type 0 where
+  OfFiles : RefusesFiles asked pages refusal → IsRefused asked pages refusal
+  OfText : (page : List ℕ) (fault : TextFault) → RefusesText asked pages page fault → refusal ≡ text_refusal fault → IsRefused asked pages refusal
+
+-- the first file whose page can't be had, by its number, and why: a market file of the folder; or the publication that is checked, which
+-- isn't held
+pub data LacksFile (asked : Option Asked) (pages : Pages) (file : ℕ) (gap : Gap) : Type 0 where
+  OfBooks : (folder : List ℕ) → ReadsFolder asked folder → HasGap pages folder file gap → LacksFile asked pages file gap
+  NoPublication : (folder : List ℕ) (books : Books) → asked ≡ Some (Check folder) → HasBooks pages folder books → page_of pages (publication_path folder) ≡ None
+      → file ≡ publication_number → gap ≡ NotHeld → LacksFile asked pages file gap
+
+-- a page that can't be had; of the publication that is checked also one that is longer than may be given in pieces
+pub data LacksPage (asked : Option Asked) (pages : Pages) (file : ℕ) (gap : Gap) : Type 0 where
+  OfFile : LacksFile asked pages file gap → LacksPage asked pages file gap
+  LongPublication : (books : Books) (page : List ℕ) → HasPublication asked pages books page → IsTooLong page → file ≡ publication_number → gap ≡ OverLimit → LacksPage asked pages file gap
+
+-- the new form of a file
+abbrev pub page_of_part : FilePart → Books → List ℕ
+page_of_part Borders books = borders_page books
+page_of_part Limits books = limits_page books
+
+-- a text that is printed whole, where all is well: that the publication that is checked is valid, with the numbers of its published and
+-- of its other blocks; the new form of a file of a folder whose borders state their limits; or the summary of a generated day
+pub data Prints (asked : Option Asked) (pages : Pages) (text : List ℕ) : Type 0 where
+  Valid : (books : Books) (page : List ℕ) (p : Publication) → HasPublication asked pages books page → IsText page p → IsValidPublication books p
+      → text ≡ valid_line (published_in p.blocks) (unpublished_in p.blocks) → Prints asked pages text
+  Migrated : (folder : List ℕ) (part : FilePart) (books : Books) → asked ≡ Some (Migrate folder part) → HasBooks pages folder books → books.limits ≡ None
+      → text ≡ page_of_part part books → Prints asked pages text
+  Generated : (number : ℕ) → asked ≡ Some (Generate number) → IsGenerated number text → Prints asked pages text
+
+-- the publication that is checked has a fault: the first run that has one, and its least
+pub record IsInvalid (asked : Option Asked) (pages : Pages) (run fault : ℕ) : Type 0 where
+  pub books : Books
+  pub page : List ℕ
+  pub publication : Publication
+  pub checked : HasPublication asked pages books page
+  pub read : IsText page publication
+  pub first : IsFirstFault books publication run fault
+
+-- the folder's pages give books that may be cleared within this budget of nodes
+pub record IsAccepted (asked : Option Asked) (pages : Pages) : Type 0 where
+  pub folder : List ℕ
+  pub nodes : ℕ
+  pub workers : ℕ
+  pub clear : asked ≡ Some (Clear folder nodes workers)
+  pub books : Books
+  pub gives : HasBooks pages folder books
+
+-- the publication that is checked is read
+pub record IsReadable (asked : Option Asked) (pages : Pages) : Type 0 where
+  pub books : Books
+  pub page : List ℕ
+  pub publication : Publication
+  pub checked : HasPublication asked pages books page
+  pub short : length page ≤ MOST_GIVEN
+  pub read : IsText page publication
+
+-- the folder that is migrated has borders that state their limits
+pub record IsMigratable (asked : Option Asked) (pages : Pages) : Type 0 where
+  pub folder : List ℕ
+  pub part : FilePart
+  pub migrate : asked ≡ Some (Migrate folder part)
+  pub books : Books
+  pub gives : HasBooks pages folder books
+  pub first : books.limits ≡ None

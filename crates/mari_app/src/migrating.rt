@@ -1,0 +1,65 @@
+//! `migrate FOLDER borders` and `migrate FOLDER limits`: a folder's files in the form that states border limits for each run.
+
+ghost use Rattle.std.specs.Prelude.{◌≡◌, Some, IfOk};
+ghost use Rattle.mari_io.specs.Outside.{Counts, Pages};
+ghost use Rattle.mari_io.specs.declared.shelf.Fetch.TheVariants as fetch;
+ghost use Rattle.mari_remain.specs.Accepted.{IsAccepted};
+ghost use Rattle.mari_words.specs.Asked.Asked.{Migrate};
+ghost use Rattle.mari_app.specs.Commands.{already_two, page_of_part};
+ghost use Rattle.mari_app.specs.Outcome.{IsMigrated, IsNoPage, IsOfWords, IsReportable, Says};
+
+use crate::books::books_in;
+use crate::outcome::Outcome;
+use mari_io::Shelf;
+use mari_remain::{Books, borders_text, limits_text};
+use mari_units::{Memory, Refusal};
+use mari_words::FilePart;
+use std::alloc::Global;
+
+/// The refusal of a folder whose borders leave their limits to limits.csv already.
+pub const ALREADY_TWO: Refusal = Refusal {
+    file: 3,
+    line: 1,
+    number: 17,
+};
+
+/// The new form of a file.
+fn page_of(alloc: Global, books: &Books, part: FilePart) -> Result<Vec<u8>, Memory>
+    requires { IsAccepted books.now }
+    ensures { IfOk result (λ text. text.items ≡ page_of_part part books.now) }
+{
+    match part {
+        FilePart::Borders => borders_text(alloc, books),
+        FilePart::Limits => limits_text(alloc, books),
+    }
+}
+
+/// What comes of books whose file is asked for in its new form.
+fn migrated_books(alloc: Global, books: &Books, part: FilePart) -> Outcome
+    requires { IsAccepted books.now }
+    ensures { IsMigrated books.now part result }
+{
+    if books.limits.is_some() {
+        return Outcome::Refused(ALREADY_TWO);
+    }
+    match page_of(alloc, books, part) {
+        Ok(text) => Outcome::Text(text),
+        Err(Memory) => Outcome::NoMemory,
+    }
+}
+
+/// What comes of a folder, a file of which is asked for in its new form.
+pub fn migrated<S: Shelf>(alloc: Global, shelf: &mut S, folder: &str, part: FilePart) -> Outcome
+    ensures same { S.pages shelf.new ≡ S.pages shelf.old }
+    ensures told { (told : Pages) → S.pages shelf.old ≡ Some told → Says (Some (Migrate folder.now part)) told result }
+    ensures words { IsOfWords (Some (Migrate folder.now part)) result }
+    ensures reportable { IsReportable result }
+    ensures failed { Counts (IsNoPage fetch.Failed result) (S.faults shelf.old) (S.faults shelf.new) }
+    ensures missing { Counts (IsNoPage fetch.Missing result) (S.misses shelf.old) (S.misses shelf.new) }
+    ensures too_long { Counts (IsNoPage fetch.TooLong result) (S.overs shelf.old) (S.overs shelf.new) }
+{
+    match books_in(alloc, shelf, folder) {
+        Ok(books) => migrated_books(alloc, &books, part),
+        Err(outcome) => outcome,
+    }
+}

@@ -1,3 +1,5 @@
 pub mod Rooms
+pub mod Orders
+pub mod Queues
 pub mod Keeps
 pub mod Returns

@@ -37,7 +37,7 @@ owed_new true (w ∷ ws) = omega (arith, owed_new true ws)
 owed_new false [] = omega arith
 owed_new false (w ∷ ws) = omega (arith, owed_new false ws)
 
-taken_new : (words : List (List Bool)) → taken_among (map new_node words) ≡ 0
+pub taken_new : (words : List (List Bool)) → taken_among (map new_node words) ≡ 0
 taken_new [] = refl
 taken_new (w ∷ ws) = omega (arith, taken_new ws)
 
@@ -57,7 +57,7 @@ branch_owes full first [] = refl
 branch_owes full first (c ∷ []) = refl
 branch_owes full first (c ∷ o ∷ rest) = refl
 
-branch_untaken : (first : ℕ) (words : List (List Bool)) → taken_in (branch_of first words) ≡ 0
+pub branch_untaken : (first : ℕ) (words : List (List Bool)) → taken_in (branch_of first words) ≡ 0
 branch_untaken first [] = refl
 branch_untaken first (c ∷ []) = refl
 branch_untaken first (c ∷ o ∷ rest) = refl

@@ -1,3 +1,4 @@
 pub mod Name
+pub mod Queued
 pub mod Pooled
 pub mod Taking

@@ -11,24 +11,26 @@ use Rattle.mari_core.specs.Nodes.{TreeNode, words_of, state_at}
 use Rattle.mari_core.specs.Growth.{Grown, Entry, seed, grown, grown_by, settling, in_journal, IsGrowth, LeadsTo}
 use Rattle.mari_core.specs.Growth.Entry.{Take, Close, Branch, Full, GiveBack}
 use Rattle.mari_incumbent.specs.Word.{WordId, Standing, standing}
+use Rattle.mari_pool.specs.Queued.{first_key, child_key}
 use Rattle.mari_pool.specs.declared.ticket.Settled.{Settled}
 use Rattle.mari_pool.specs.declared.ticket.Settled.TheVariants as settled
 
 -- ---- what a pool is
 
--- a pool: its tree; its journal, and for how many entries that has room; the turn at which each node was last taken, where a
--- turn is the place of its entry; which worker numbers gave a ticket back; and the pool's own seat
+-- a pool: its tree; the key of each node; its journal, and for how many entries that has room; the turn at which each node was
+-- last taken, where a turn is the place of its entry; which worker numbers gave a ticket back; and the pool's own seat
 pub record Pooled : Type 0 where
   pub tree : Grown
+  pub keys : List ℕ
   pub journal : List JournalEntry
   pub room : ℕ
   pub turns : List ℕ
   pub returned : List Bool
   pub seat : Standing
 
--- at the start the empty word waits
+-- at the start the empty word waits, with the greatest key
 abbrev pub started : Market → ℕ → ℕ → ℕ → Standing → Pooled
-started m budget workers room seat = record { tree = seed m budget; journal = []; room = room; turns = replicate budget 0; returned = replicate (workers + 1) false; seat = seat }
+started m budget workers room seat = record { tree = seed m budget; keys = first_key ∷ []; journal = []; room = room; turns = replicate budget 0; returned = replicate (workers + 1) false; seat = seat }
 
 -- ---- the journal's room
 
@@ -68,13 +70,14 @@ taken_among [] = 0
 taken_among (n ∷ ns) = taken_in n.state + taken_among ns
 
 -- what holds of a pool whenever its lock is free: its tree is a growth of the search's market within its budget, to which the
--- journal leads at cutoffs that the pool's seat has seen; that seat is of the search's word, which starts at the closed welfare,
--- and has one part, by which nothing was offered; and the journal has room for all that may still come
+-- journal leads at cutoffs that the pool's seat has seen; each node has a key; that seat is of the search's word, which starts at
+-- the closed welfare, and has one part, by which nothing was offered; and the journal has room for all that may still come
 pub record IsPool (m : Market) (budget workers : ℕ) (word : WordId) (p : Pooled) : Type 0 where
   pub market_is : p.tree.market ≡ m
   pub budget_is : p.tree.budget ≡ budget
   pub grows : IsGrowth p.tree
   pub leads : LeadsTo p.journal p.seat.seen p.tree
+  pub keys_are : length p.keys ≡ length p.tree.nodes
   pub closed : IsClosedWelfare m (pos word.first)
   pub seat_word : p.seat.word ≡ word
   pub seat_parts : p.seat.parts ≡ 1
@@ -105,9 +108,14 @@ taking p worker node = record (entered p (Take worker node)) { turns = slice_set
 abbrev pub meeting : Pooled → ℕ → Pooled
 meeting p seen = record p { seat = standing p.seat.word (max p.seat.seen seen) p.seat.offered p.seat.parts }
 
--- the seats meet, and the node is settled at what the other saw
+-- the keys after an entry: each node that it makes has this one
+abbrev pub keys_after : Grown → Entry → List ℕ → ℕ → List ℕ
+keys_after g e keys key = keys ++ replicate (length (grown g e).nodes - length g.nodes) key
+
+-- the seats meet, and the node is settled at what the other saw; the keys of its children are the bound that was found at it
 abbrev pub settled_with : Pooled → ℕ → ℕ → ℕ → Finding → Pooled
-settled_with p worker node seen finding = entered (meeting p seen) (settling p.tree worker node seen finding)
+settled_with p worker node seen finding =
+    record (entered (meeting p seen) (settling p.tree worker node seen finding)) { keys = keys_after p.tree (settling p.tree worker node seen finding) p.keys (child_key finding) }
 
 -- what the entry says of a node that was settled
 abbrev pub answer_of : Grown → Entry → Settled

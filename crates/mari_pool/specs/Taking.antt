@@ -5,11 +5,12 @@ use Rattle.mari_core.specs.Nodes.{TreeNode, words_of}
 use Rattle.mari_core.specs.Preorder.{IsFirstOpen}
 use Rattle.mari_pool.specs.declared.pool.PoolFault.{PoolFault}
 use Rattle.mari_pool.specs.declared.pool.PoolFault.TheVariants.{NotClosed, Memory}
-use Rattle.mari_core.specs.Growth.{IsLeastUntaken, NoneWaits}
+use Rattle.mari_core.specs.Growth.{NoneWaits}
 use Rattle.mari_pool.specs.declared.name.SearchName.{Ghosts}
 use Rattle.mari_pool.specs.declared.ticket.Ticket.{Ticket}
 use Rattle.mari_pool.specs.declared.ticket.Took.{Took}
 use Rattle.mari_pool.specs.declared.ticket.Took.TheVariants as took
+use Rattle.mari_pool.specs.Queued.{IsFirstWaiting}
 use Rattle.mari_pool.specs.Pooled.{Pooled, taking, taken_among}
 
 -- why there is no tree yet; want of memory is free
@@ -25,10 +26,11 @@ pub record IsIdle (p q : Pooled) (n : ℕ) : Type 0 where
   pub same : q ≡ p
 
 module _ {N : Type 0} {g : Ghosts N} where
-  -- the first node that waits is taken by the worker, at the turn that is the place of the entry
+  -- of the nodes that wait that of the greatest key, and of equal keys the one of the lowest number, is taken by the worker, at
+  -- the turn that is the place of the entry
   pub record IsTaken (worker : ℕ) (p q : Pooled) (x : Ticket N g) : Type 0 where
     pub not_full : p.tree.full ≡ false
-    pub waits : IsLeastUntaken p.tree.nodes x.node
+    pub waits : IsFirstWaiting p.keys p.tree.nodes x.node
     pub worker_is : x.worker ≡ worker
     pub turn_is : x.turn ≡ length p.journal
     pub word_is : slice_get (words_of p.tree.nodes) x.node ≡ Some (word_of x.prefix)

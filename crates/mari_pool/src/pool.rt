@@ -16,6 +16,7 @@ ghost use Rattle.mari_pool.specs.Taking.{Takes, IsOpenAt};
 ghost use Rattle.mari_pool.specs.declared.ticket.Settled.TheVariants.{Stale};
 
 use crate::name::SearchName;
+use crate::queue::{Queue, child_key};
 use crate::ticket::{Settled, Ticket, Took};
 use mari_core::{FinishFault, Growth, JournalEntry};
 use mari_incumbent::{Incumbent, Seat};
@@ -26,10 +27,12 @@ use std::marker::{Model, PhantomData};
 
 /// The tree of a search that workers share, its journal, and a seat of its own.
 ///
-/// Rows for the whole budget and the journal are reserved: only `start`, `reclaim`, `finish` and `part` take memory.
+/// Each node has a key: the bound that was found at its parent. Rows for the whole budget and the journal are reserved: only
+/// `start`, `reclaim`, `finish` and `part` take memory.
 #[derive(Drop)]
 pub struct Pool<'m, N: SearchName> {
     tree: Growth<'m>,
+    queue: Queue,
     journal: Vec<JournalEntry>,
     turns: Vec<u64>,
     returned: Vec<bool>,
@@ -40,13 +43,14 @@ pub struct Pool<'m, N: SearchName> {
 
 impl<'m, N: SearchName> Model for Pool<'m, N> {
     ghost use Rattle.std.specs.Prelude.{◌≡◌, vec_capacity};
+    ghost use Rattle.mari_pool.specs.Queued.{IsQueueOf};
     ghost use Rattle.mari_pool.specs.Pooled.{Pooled, IsPool, taken_among};
 
     ghost Value = { Pooled };
 
-    ghost view = { λ p. record { tree = p.tree; journal = p.journal.items; room = vec_capacity p.journal; turns = p.turns.items; returned = p.returned.items; seat = p.seat } };
+    ghost view = { λ p. record { tree = p.tree; keys = p.queue.keys; journal = p.journal.items; room = vec_capacity p.journal; turns = p.turns.items; returned = p.returned.items; seat = p.seat } };
 
-    ghost invariant = { λ p. IsPool N.market N.budget N.workers N.word (record { tree = p.tree; journal = p.journal.items; room = vec_capacity p.journal; turns = p.turns.items; returned = p.returned.items; seat = p.seat }) × (taken_among p.tree.nodes ≡ p.taken) };
+    ghost invariant = { λ p. IsPool N.market N.budget N.workers N.word (record { tree = p.tree; keys = p.queue.keys; journal = p.journal.items; room = vec_capacity p.journal; turns = p.turns.items; returned = p.returned.items; seat = p.seat }) × (taken_among p.tree.nodes ≡ p.taken) × IsQueueOf p.tree.nodes p.queue × (p.queue.room ≡ p.tree.budget) };
 }
 
 /// Why a pool has no tree yet.
@@ -79,12 +83,14 @@ impl<'m, N: SearchName> Pool<'m, N> {
         ensures room { IfOk result (λ p. 2 * budget + 2 * workers + 2 ≤ p.room) }
     {
         let tree = Growth::start(alloc, market, budget)?;
+        let queue = Queue::start(alloc, budget)?;
         let room = 2 * budget as usize + 2 * workers as usize + 2;
         let journal = Vec::with_capacity(alloc, room)?;
         let turns = vec![in alloc; 0; budget as usize]?;
         let returned = vec![in alloc; false; workers as usize + 1]?;
         Ok(Pool {
             tree,
+            queue,
             journal,
             turns,
             returned,
@@ -94,7 +100,7 @@ impl<'m, N: SearchName> Pool<'m, N> {
         })
     }
 
-    /// A worker takes the waiting node of the least number.
+    /// A worker takes the waiting node of the greatest key, and of equal keys that of the lowest number.
     ///
     /// Else the answer says why there is none: a node could not branch within the budget, or all that is left is taken, or
     /// nothing is left.
@@ -105,7 +111,7 @@ impl<'m, N: SearchName> Pool<'m, N> {
         if self.tree.is_full() {
             return Took::Spent(self.tree.len());
         }
-        let Some(node) = self.tree.untaken() else {
+        let Some(node) = self.queue.take_first() else {
             return if self.taken == 0 {
                 Took::Finished
             } else {
@@ -142,7 +148,8 @@ impl<'m, N: SearchName> Pool<'m, N> {
 
     /// Settles a ticket's node with what was found there, at what the worker's seat saw. The pool's seat first meets that one.
     ///
-    /// The certificate is moved out of the finding into the tree. A stale ticket changes nothing.
+    /// The certificate is moved out of the finding into the tree, and the finding's bound is the key of the children. A stale
+    /// ticket changes nothing.
     pub fn settle(
         &mut self,
         incumbent: &Incumbent,
@@ -162,6 +169,7 @@ impl<'m, N: SearchName> Pool<'m, N> {
         }
         let _offered = seat.offered();
         let cutoff = seat.seen();
+        let key = child_key(&finding);
         incumbent.meet(&mut self.seat, seat);
         let Ok(entry) = self
             .tree
@@ -169,12 +177,14 @@ impl<'m, N: SearchName> Pool<'m, N> {
         else {
             unreachable!()
         };
+        let nodes = self.tree.len();
+        self.queue.follow(entry, nodes, key);
         self.journal.push_reserved(entry);
         self.taken -= 1;
         match entry {
             JournalEntry::Close { .. } => Settled::Closed,
             JournalEntry::Branch { .. } => Settled::Branched,
-            JournalEntry::Full { .. } => Settled::Full(self.tree.len()),
+            JournalEntry::Full { .. } => Settled::Full(nodes),
             JournalEntry::Take { .. } | JournalEntry::GiveBack { .. } => unreachable!(),
         }
     }
@@ -196,6 +206,7 @@ impl<'m, N: SearchName> Pool<'m, N> {
             actor: ticket.worker,
             node: ticket.node,
         });
+        self.queue.put_back(ticket.node);
         self.returned[worker] = true;
         self.taken -= 1;
         true
@@ -214,6 +225,7 @@ impl<'m, N: SearchName> Pool<'m, N> {
             actor: worker,
             node,
         });
+        self.queue.put_back(node);
         self.taken -= 1;
     }
 

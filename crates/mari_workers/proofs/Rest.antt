@@ -1,6 +1,5 @@
 -- The end of a search of several workers.
-use Rattle.std.proofs.Common.{◌≡◌, ℕ, zero, suc, ◌+◌, ◌<◌, ◌≤◌, max, ℤ, pos, true, false, List, [], ◌∷◌, length, map, inl, inr, Option, Some, None, arith, refl, sym, ap, subst, ◌∙◌}
-use Rattle.std.specs.Prelude.{slice_get}
+use Rattle.std.proofs.Common.{◌≡◌, ℕ, zero, suc, ◌<◌, ◌≤◌, ℤ, pos, true, List, [], ◌∷◌, length, map, inl, inr, Option, Some, None, arith, refl, sym, ap, subst, ◌∙◌}
 use Rattle.mari_market.specs.declared.market.Market.{Market}
 use Rattle.mari_market.specs.declared.finding.Attained.{Attained}
 use Rattle.std.specs.Option.{unwrap_or}

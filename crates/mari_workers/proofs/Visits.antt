@@ -1,11 +1,12 @@
 -- What a visit keeps, and what is so in the end.
-use Rattle.std.proofs.Common.{pos, ◌≡◌, ◌≢◌, ◌⊎◌, ◌∙◌, inl, inr, if◌then◌else◌, Bool, true, false, ℕ, zero, suc, ◌+◌, ◌-◌, ◌<◌, ◌≤◌, max, List, [], ◌∷◌, ◌++◌, length, map, get_or, Result, Option, Some, None, arith, refl, sym, ap, subst}
+use Rattle.std.proofs.Common.{pos, ◌≡◌, ◌∙◌, inl, inr, if◌then◌else◌, Bool, true, false, ℕ, ◌+◌, ◌-◌, ◌*◌, ◌<◌, ◌≤◌, max, List, [], ◌∷◌, append-nil, length, map, get_or, is_some, true≢false, Result, Option, Some, None, arith, refl, sym, ap, subst}
 use Rattle.std.specs.Prelude.{nat_le, nat_lt, slice_get, IfSome, IsSomeAnd, MatchOption, OnOk}
 use Rattle.std.specs.Option.{option_map}
 use Rattle.std.proofs.lemmas.Bool.{cases_eq, cases_lt}
 use Rattle.std.proofs.lemmas.Int.{ints, clamps}
-use Rattle.std.proofs.lemmas.Option.{slice_get_within, slice_get-get_or, slice_get-map}
-use Rattle.std.proofs.lemmas.List.{length-append}
+use Rattle.std.proofs.lemmas.List.{length-map}
+use Rattle.std.proofs.lemmas.Option.{slice_get-get_or, slice_get-map, slice_get_within}
+use Rattle.std.proofs.lemmas.List.Sorted.{length_permutation}
 use Rattle.mari_market.specs.declared.certificate.Leaf.{Leaf}
 use Rattle.mari_market.specs.declared.certificate.Conflict.{Conflict as ConflictRecord}
 use Rattle.mari_market.specs.declared.finding.Attained.{Attained}
@@ -13,124 +14,82 @@ use Rattle.mari_market.specs.declared.finding.Finding.{Finding}
 use Rattle.mari_market.specs.declared.finding.Finding.TheVariants.{Empty, Relaxed}
 use Rattle.mari_market.specs.declared.finding.Relaxed.{Relaxed as RelaxedRecord}
 use Rattle.mari_market.specs.declared.market.Market.{Market}
+use Rattle.mari_market.specs.declared.prefix.Prefix.{Prefix}
 use Rattle.mari_market.specs.declared.clearing.PartItem.{PartItem}
 use Rattle.mari_market.specs.declared.clearing.Clearing.{Clearing}
 use Rattle.mari_market.specs.Activation.{gate_word_of}
 use Rattle.mari_market.specs.Clearing.{ArePartsOfSearch, IsOptimalClearing, IsSpent}
 use Rattle.mari_market.specs.Relaxation.{all_closed, IsClosedWelfare}
 use Rattle.mari_market.specs.Conflict.{IsConflict}
+use Rattle.mari_market.specs.Prefix.{word_of}
 use Rattle.mari_market.specs.Finding.{IsAttained, IsFinding, IsRefuted, IsRelaxedFinding, IsSettled}
 use Rattle.mari_core.specs.declared.event.Event.TheVariants.{Offer, Take as TakeEvent, Settle}
 use Rattle.mari_core.specs.declared.event.StepFault.{StepFault}
-use Rattle.mari_core.specs.declared.node.NodeState.{NodeState}
 use Rattle.mari_core.specs.declared.node.NodeState.TheVariants.{Untaken, Taken, Closed}
 use Rattle.mari_core.specs.declared.search.Actor.{Actor}
-use Rattle.mari_core.specs.Growth.{Entry, Grown, MaySettle, IsReached, children_at, closing_leaf, grown, settling, settling_by, take_refused, return_refused, seed, with_state}
+use Rattle.mari_core.specs.Growth.{Entry, Grown, MaySettle, IsReached, children_at, closing_leaf, grown, settling_by, take_refused, return_refused, seed, with_state}
 use Rattle.mari_core.specs.Growth.Entry.{Take, Close, Branch, Full, GiveBack}
 use Rattle.mari_core.specs.Machine.{Machine, after, by_actor, greatest, offering, refusal, seen_by, IsProper, KeepsFacts}
 use Rattle.mari_core.specs.Nodes.{TreeNode, branch_of, in_state, new_node, state_at, words_of}
-use Rattle.mari_core.specs.Preorder.{is_done, shape_of, IsFirstOpen}
-use Rattle.mari_core.proofs.Changes.{length-with_state, state_other, state_same}
-use Rattle.mari_core.proofs.Lists.{changed_same, get_back, get_front}
+use Rattle.mari_core.specs.Preorder.{shape_of, IsFirstOpen}
+use Rattle.mari_core.proofs.Changes.{IsAt, length-with_state, node_at, state_same}
+use Rattle.mari_core.proofs.Lists.{changed_same}
 use Rattle.mari_core.proofs.Machines.{actor_there, by_actor_there}
-use Rattle.mari_core.proofs.Walks.{number_within}
-use Rattle.mari_workers.specs.Alone.{after_offer, best_in, visited, IsSwept, IsUnderWay, IsVisited}
+use Rattle.mari_pool.specs.Pooled.{taken_among}
+use Rattle.mari_pool.specs.Queued.{Queued, no_nodes, first_key, waits_in, IsFirst, IsIdleQueue, IsMore, IsQueueOf}
+use Rattle.mari_pool.proofs.Keeps.{grown_longer}
+use Rattle.mari_pool.proofs.Queues.{first_waits, length_waiting, made, none_waits, queue_done, queue_more, queue_start, queue_taken, state_same_as, untaken_few}
+use Rattle.mari_pool.proofs.Rooms.{branch_untaken, taken-append, taken_new, taken_state}
+use Rattle.mari_workers.specs.Alone.{after_offer, best_in, IsAtNode, IsUnderWay, IsVisited}
 use Rattle.mari_workers.specs.Refine.{MayRefine}
+use Rattle.mari_workers.proofs.Rest.{all_done}
 
--- ---- the nodes
+-- ---- the tree
 
--- the state of a node in front of others
-state_front : (xs ys : List TreeNode) (y : ℕ) → y < length xs → state_at (xs ++ ys) y ≡ state_at xs y
-state_front xs ys y l = ap (λ (o : Option TreeNode). option_map (λ (n : TreeNode). n.state) o) (get_front xs ys y l)
+-- a node is taken and then settled by this certificate, or without one
+abbrev taken_and : Grown → ℕ → ℕ → Option Leaf → Grown
+taken_and g x cutoff o = grown (grown g (Take 0 x)) (settling_by (grown g (Take 0 x)) 0 x cutoff o)
 
-state_back : (xs ys : List TreeNode) (y : ℕ) → state_at (xs ++ ys) (length xs + y) ≡ state_at ys y
-state_back xs ys y = ap (λ (o : Option TreeNode). option_map (λ (n : TreeNode). n.state) o) (get_back xs ys y)
-
--- new nodes wait
-new_wait : (kids : List (List Bool)) (y : ℕ) → y < length (map new_node kids) → state_at (map new_node kids) y ≡ Some Untaken
-new_wait [] y l = absurd (omega arith)
-new_wait (k ∷ kids) zero l = refl
-new_wait (k ∷ kids) (suc y) l = new_wait kids y (omega arith)
-
--- a node has got this state, and the others are as they were
-record IsSettledAt (old new : List TreeNode) (x : ℕ) (s : NodeState) : Type 0 where
-  here : state_at new x ≡ Some s
-  others : (y : ℕ) → y ≢ x → state_at new y ≡ state_at old y
-  long : length new ≡ length old
-
-settled_at : (nodes : List TreeNode) (x : ℕ) (s : NodeState) → x < length nodes → IsSettledAt nodes (with_state s (with_state (Taken 0) nodes x) x) x s
-settled_at nodes x s l =
-    let taken = with_state (Taken 0) nodes x in
-    let long : length taken ≡ length nodes = length-with_state (Taken 0) nodes x in
-    let d = new_node [] in
-    record {
-      here = state_same s taken x (get_or taken x d) (slice_get-get_or taken x d (omega (arith, long, l)));
-      others = λ y n. state_other s taken x y n ∙ state_other (Taken 0) nodes x y n;
-      long = length-with_state s taken x ∙ long;
-    }
-
--- where the first node that waits is done, the next one is the first that waits
-swept_next : (old new : List TreeNode) (x : ℕ) (s : NodeState) → IsSwept old x → IsSettledAt old new x s → is_done (Some s) ≡ true → IsSwept new (x + 1)
-swept_next old new x s swept at done = record { done = before; waits = λ y l h. at.others y (omega arith) ∙ swept.waits y (omega arith) (omega (arith, h, at.long)) }
-  where
-    before : (y : ℕ) → y < x + 1 → is_done (state_at new y) ≡ true
-    before y l = elim (cases_eq y x) [
-      | inl e ↦ ap is_done (ap (state_at new) e ∙ at.here) ∙ done
-      | inr n ↦ ap is_done (at.others y n) ∙ swept.done y (omega arith)
-    ]
-
--- and new nodes behind wait too
-swept_more : (nodes : List TreeNode) (kids : List (List Bool)) (n : ℕ) → n ≤ length nodes → IsSwept nodes n → IsSwept (nodes ++ map new_node kids) n
-swept_more nodes kids n l swept = record {
-  done = λ y b. ap is_done (state_front nodes (map new_node kids) y (omega arith)) ∙ swept.done y b;
-  waits = behind;
-}
-  where
-    behind : (y : ℕ) → n ≤ y → y < length (nodes ++ map new_node kids) → state_at (nodes ++ map new_node kids) y ≡ Some Untaken
-    behind y b h = elim (cases_lt y (length nodes)) [
-      | inl front ↦ state_front nodes (map new_node kids) y front ∙ swept.waits y b front
-      | inr back ↦
-          let at : y ≡ length nodes + (y - length nodes) = omega arith in
-          let within : y - length nodes < length (map new_node kids) = omega (arith, length-append nodes (map new_node kids), h) in
-          ap (state_at (nodes ++ map new_node kids)) at ∙ state_back nodes (map new_node kids) (y - length nodes) ∙ new_wait kids (y - length nodes) within
-    ]
-
-branch_done : (first : ℕ) (kids : List (List Bool)) → is_done (Some (branch_of first kids)) ≡ true
+branch_done : (first : ℕ) (kids : List (List Bool)) → waits_in (Some (branch_of first kids)) ≡ 0
 branch_done first [] = refl
 branch_done first (c ∷ []) = refl
 branch_done first (c ∷ o ∷ rest) = refl
 
--- ---- the tree
+-- what a queue is of the nodes after one that was taken is settled, where those that were made wait
+record IsSettledBy (old new : Grown) (r s : Queued) : Type 0 where
+  queue : IsQueueOf new.nodes s
+  taken : taken_among new.nodes + 1 ≡ taken_among old.nodes
+  longer : length old.nodes ≤ length new.nodes
 
--- the mark is on, or the nodes below this number are done and the others wait
-abbrev pub IsSweptOrFull : Grown → ℕ → Type 0
-IsSweptOrFull g n = (g.full ≡ true) ⊎ IsSwept g.nodes n
+settled_by_close : (g : Grown) (x cutoff key : ℕ) (leaf : Leaf) (r s : Queued) → IsQueueOf g.nodes r → state_at g.nodes x ≡ Some (Taken 0) → IsMore key (length (grown g (Close 0 x leaf cutoff)).nodes - length r.keys) r s → IsSettledBy g (grown g (Close 0 x leaf cutoff)) r s
+settled_by_close g x cutoff key leaf r s h taken more =
+    let nodes = with_state (Closed leaf cutoff) g.nodes x in
+    let none : length nodes - length r.keys ≡ 0 = omega (arith, length-with_state (Closed leaf cutoff) g.nodes x, h.keys) in
+    record {
+      queue = subst (λ (ns : List TreeNode). IsQueueOf ns s) (append-nil nodes) (queue_more nodes [] r s key (queue_done g.nodes r (Closed leaf cutoff) x 0 h taken refl) (subst (λ (n : ℕ). IsMore key n r s) none more));
+      taken = omega (arith, taken_state (Closed leaf cutoff) (Taken 0) g.nodes x taken);
+      longer = omega (arith, length-with_state (Closed leaf cutoff) g.nodes x);
+    }
 
--- a node is taken and then settled by this entry
-abbrev taken_and : Grown → ℕ → Entry → Grown
-taken_and g x e = grown (grown g (Take 0 x)) e
+settled_by_branch : (g : Grown) (x cutoff key : ℕ) (r s : Queued) → IsQueueOf g.nodes r → state_at g.nodes x ≡ Some (Taken 0) → IsMore key (length (grown g (Branch 0 x cutoff)).nodes - length r.keys) r s → IsSettledBy g (grown g (Branch 0 x cutoff)) r s
+settled_by_branch g x cutoff key r s h taken more =
+    let kids = children_at g x in
+    let state = branch_of (length g.nodes) kids in
+    let nodes = with_state state g.nodes x in
+    let many : length (grown g (Branch 0 x cutoff)).nodes - length r.keys ≡ length kids = omega (arith, made g 0 x cutoff, h.keys) in
+    record {
+      queue = queue_more nodes kids r s key (queue_done g.nodes r state x 0 h taken (branch_done (length g.nodes) kids)) (subst (λ (n : ℕ). IsMore key n r s) many more);
+      taken = omega (arith, taken-append nodes (map new_node kids), taken_new kids, branch_untaken (length g.nodes) kids, taken_state state (Taken 0) g.nodes x taken);
+      longer = omega (arith, made g 0 x cutoff);
+    }
 
-swept_by_close : (g : Grown) (x : ℕ) (leaf : Leaf) (cutoff : ℕ) → IsSwept g.nodes x → x < length g.nodes → IsSwept (taken_and g x (Close 0 x leaf cutoff)).nodes (x + 1)
-swept_by_close g x leaf cutoff swept l = swept_next g.nodes (with_state (Closed leaf cutoff) (with_state (Taken 0) g.nodes x) x) x (Closed leaf cutoff) swept (settled_at g.nodes x (Closed leaf cutoff) l) refl
-
-swept_by_branch : (g : Grown) (x cutoff : ℕ) → IsSwept g.nodes x → x < length g.nodes → IsSwept (taken_and g x (Branch 0 x cutoff)).nodes (x + 1)
-swept_by_branch g x cutoff swept l =
-    let before = with_state (Taken 0) g.nodes x in
-    let kids = children_at (grown g (Take 0 x)) x in
-    let s = branch_of (length before) kids in
-    let at = settled_at g.nodes x s l in
-    swept_more (with_state s before x) kids (x + 1) (omega (arith, at.long, l)) (swept_next g.nodes (with_state s before x) x s swept at (branch_done (length before) kids))
-
-swept_by_settling : (g : Grown) (x cutoff : ℕ) (finding : Finding) → IsSwept g.nodes x → x < length g.nodes → IsSweptOrFull (taken_and g x (settling (grown g (Take 0 x)) 0 x cutoff finding)) (x + 1)
-swept_by_settling g x cutoff finding swept l = by_leaf (closing_leaf cutoff finding)
+settled_by : (g : Grown) (x cutoff key : ℕ) (o : Option Leaf) (r s : Queued) → IsQueueOf g.nodes r → state_at g.nodes x ≡ Some (Taken 0) → ((grown g (settling_by g 0 x cutoff o)).full ≡ true → ⊥) → IsMore key (length (grown g (settling_by g 0 x cutoff o)).nodes - length r.keys) r s → IsSettledBy g (grown g (settling_by g 0 x cutoff o)) r s
+settled_by g x cutoff key (Some leaf) r s h taken not_full more = settled_by_close g x cutoff key leaf r s h taken more
+settled_by g x cutoff key None r s h taken not_full more = by_test (nat_le (length g.nodes + length (children_at g x)) g.budget) not_full more
   where
-    by_test : (b : Bool) → IsSweptOrFull (taken_and g x (if b then Branch 0 x cutoff else Full 0 x cutoff)) (x + 1)
-    by_test true = inr (swept_by_branch g x cutoff swept l)
-    by_test false = inl refl
-
-    by_leaf : (o : Option Leaf) → IsSweptOrFull (taken_and g x (settling_by (grown g (Take 0 x)) 0 x cutoff o)) (x + 1)
-    by_leaf (Some leaf) = inr (swept_by_close g x leaf cutoff swept l)
-    by_leaf None = by_test (nat_le (length (grown g (Take 0 x)).nodes + length (children_at (grown g (Take 0 x)) x)) g.budget)
+    by_test : (b : Bool) → ((grown g (if b then Branch 0 x cutoff else Full 0 x cutoff)).full ≡ true → ⊥) → IsMore key (length (grown g (if b then Branch 0 x cutoff else Full 0 x cutoff)).nodes - length r.keys) r s → IsSettledBy g (grown g (if b then Branch 0 x cutoff else Full 0 x cutoff)) r s
+    by_test true not_full more = settled_by_branch g x cutoff key r s h taken more
+    by_test false not_full more = absurd (not_full refl)
 
 -- no entry changes the market or the budget
 record IsSameMarket (g h : Grown) : Type 0 where
@@ -150,52 +109,65 @@ same_by_entry g (GiveBack k x) = record { market = refl; budget = refl }
 abbrev visited_with : Machine → ℕ → Finding → Option Attained → Machine
 visited_with s x finding o = after (after_offer (after s (TakeEvent 0 x)) o) (Settle 0 x finding)
 
-visit_by_offer : (s : Machine) (x : ℕ) (finding : Finding) (o : Option Attained) → IsSwept s.tree.nodes x → x < length s.tree.nodes → IsSweptOrFull (visited_with s x finding o).tree (x + 1) × IsSameMarket s.tree (visited_with s x finding o).tree
-visit_by_offer s x finding None swept l =
-    let t = after s (TakeEvent 0 x) in
-    let cutoff = seen_by (slice_get t.actors 0) in
-    let same = same_by_entry (grown s.tree (Take 0 x)) (settling (grown s.tree (Take 0 x)) 0 x cutoff finding) in
-    (swept_by_settling s.tree x cutoff finding swept l, record { market = same.market; budget = same.budget })
-visit_by_offer s x finding (Some best) swept l =
-    let t = after_offer (after s (TakeEvent 0 x)) (Some best) in
-    let cutoff = seen_by (slice_get t.actors 0) in
-    let same = same_by_entry (grown s.tree (Take 0 x)) (settling (grown s.tree (Take 0 x)) 0 x cutoff finding) in
-    (swept_by_settling s.tree x cutoff finding swept l, record { market = same.market; budget = same.budget })
+-- the tree after a visit: the node is taken, and settled
+record IsVisitedTree (old new : Grown) (x : ℕ) : Type 0 where
+  cutoff : ℕ
+  leaf : Option Leaf
+  is : new ≡ taken_and old x cutoff leaf
 
--- after a visit the search is under way at the next node, unless the mark is on
+tree_by_offer : (s : Machine) (x : ℕ) (finding : Finding) (o : Option Attained) → IsVisitedTree s.tree (visited_with s x finding o).tree x
+tree_by_offer s x finding None = let cutoff = seen_by (slice_get (after s (TakeEvent 0 x)).actors 0) in record { cutoff = cutoff; leaf = closing_leaf cutoff finding; is = refl }
+tree_by_offer s x finding (Some best) = let cutoff = seen_by (slice_get (after_offer (after s (TakeEvent 0 x)) (Some best)).actors 0) in record { cutoff = cutoff; leaf = closing_leaf cutoff finding; is = refl }
+
+visited_tree : (m : Market) (old new : Machine) (x : ℕ) (word : List Bool) (key : ℕ) → IsVisited m old new x word key → IsVisitedTree old.tree new.tree x
+visited_tree m old new x word key v = subst (λ (s : Machine). IsVisitedTree old.tree s.tree x) (sym v.change) (tree_by_offer old x v.finding (best_in v.finding))
+
 -- a visit keeps the first activation
-first_stays : (s : Machine) (x : ℕ) (finding : Finding) (o : Option Attained) → (after (after_offer (after s (TakeEvent 0 x)) o) (Settle 0 x finding)).first ≡ s.first
+first_stays : (s : Machine) (x : ℕ) (finding : Finding) (o : Option Attained) → (visited_with s x finding o).first ≡ s.first
 first_stays s x finding None = refl
 first_stays s x finding (Some best) = refl
 
-pub visit_keeps : (m : Market) (old new : Machine) (x : ℕ) (word : List Bool) → IsUnderWay m old x → x < length old.tree.nodes → IsVisited m old new x word → KeepsFacts new → (new.tree.full ≡ true → ⊥) → IsUnderWay m new (x + 1)
-visit_keeps m old new x word u l v facts not_full =
-    let h = visit_by_offer old x v.finding (best_in v.finding) u.swept l in
-    let tree : new.tree ≡ (visited old x v.finding).tree = ap (λ (s : Machine). s.tree) v.change in
-    record {
-      market = ap (λ (g : Grown). g.market) tree ∙ h.1.market ∙ u.market;
-      facts = facts;
-      swept = by_mark h.0 tree;
-      from_closed = ap (λ (s : Machine). gate_word_of m s.first.activation) v.change ∙ ap (λ (a : Attained). gate_word_of m a.activation) (first_stays old x v.finding (best_in v.finding)) ∙ u.from_closed;
-    }
-  where
-    by_mark : IsSweptOrFull (visited old x v.finding).tree (x + 1) → new.tree ≡ (visited old x v.finding).tree → IsSwept new.tree.nodes (x + 1)
-    by_mark (inl full) tree = absurd (not_full (ap (λ (g : Grown). g.full) tree ∙ full))
-    by_mark (inr swept) tree = subst (λ (g : Grown). IsSwept g.nodes (x + 1)) (sym tree) swept
+visit_same : (m : Market) (old new : Machine) (x : ℕ) (word : List Bool) (key : ℕ) → IsVisited m old new x word key → (new.tree.market ≡ old.tree.market) × (new.tree.budget ≡ old.tree.budget)
+visit_same m old new x word key v =
+    let t = visited_tree m old new x word key v in
+    let same = same_by_entry (grown old.tree (Take 0 x)) (settling_by (grown old.tree (Take 0 x)) 0 x t.cutoff t.leaf) in
+    (ap (λ (g : Grown). g.market) t.is ∙ same.market, ap (λ (g : Grown). g.budget) t.is ∙ same.budget)
 
-pub visit_same : (m : Market) (old new : Machine) (x : ℕ) (word : List Bool) → IsUnderWay m old x → x < length old.tree.nodes → IsVisited m old new x word → (new.tree.market ≡ old.tree.market) × (new.tree.budget ≡ old.tree.budget)
-visit_same m old new x word u l v =
-    let h = visit_by_offer old x v.finding (best_in v.finding) u.swept l in
-    let tree : new.tree ≡ (visited old x v.finding).tree = ap (λ (s : Machine). s.tree) v.change in
-    (ap (λ (g : Grown). g.market) tree ∙ h.1.market, ap (λ (g : Grown). g.budget) tree ∙ h.1.budget)
+-- what a visit makes of the queue, once the nodes that were made wait
+visit_settles : (m : Market) (old new : Machine) (x : ℕ) (word : List Bool) (key : ℕ) (q r s : Queued) → IsUnderWay m old q → IsFirst q r x → IsVisited m old new x word key → (new.tree.full ≡ true → ⊥) → IsMore key (length new.tree.nodes - length r.keys) r s → IsSettledBy (grown old.tree (Take 0 x)) new.tree r s
+visit_settles m old new x word key q r s u f v not_full more =
+    let t = visited_tree m old new x word key v in
+    let waits : state_at old.tree.nodes x ≡ Some Untaken = first_waits old.tree.nodes q r x u.queue f in
+    subst (λ (g : Grown). IsSettledBy (grown old.tree (Take 0 x)) g r s) (sym t.is)
+    (settled_by (grown old.tree (Take 0 x)) x t.cutoff key t.leaf r s (queue_taken old.tree.nodes q r x 0 u.queue f) (state_same_as (Taken 0) Untaken old.tree.nodes x waits)
+    (λ full. not_full (ap (λ (g : Grown). g.full) t.is ∙ full)) (subst (λ (g : Grown). IsMore key (length g.nodes - length r.keys) r s) t.is more))
+
+-- after a visit the search is under way again, unless the mark is on
+visit_keeps : (m : Market) (old new : Machine) (x : ℕ) (word : List Bool) (key : ℕ) (q r s : Queued) → IsUnderWay m old q → IsFirst q r x → IsVisited m old new x word key → KeepsFacts new → (new.tree.full ≡ true → ⊥) → IsMore key (length new.tree.nodes - length r.keys) r s → IsUnderWay m new s
+visit_keeps m old new x word key q r s u f v facts not_full more =
+    let settled = visit_settles m old new x word key q r s u f v not_full more in
+    let same = visit_same m old new x word key v in
+    let waits : state_at old.tree.nodes x ≡ Some Untaken = first_waits old.tree.nodes q r x u.queue f in
+    record {
+      market = same.0 ∙ u.market;
+      facts = facts;
+      queue = settled.queue;
+      room = more.room ∙ f.room ∙ u.room ∙ sym same.1;
+      none_taken = omega (arith, settled.taken, taken_state (Taken 0) Untaken old.tree.nodes x waits, u.none_taken);
+      from_closed = ap (λ (k : Machine). gate_word_of m k.first.activation) v.change ∙ ap (λ (a : Attained). gate_word_of m a.activation) (first_stays old x v.finding (best_in v.finding)) ∙ u.from_closed;
+    }
+
+-- the node that comes first waits in the search
+pub at_node : (m : Market) (s : Machine) (q r : Queued) (x : ℕ) → IsUnderWay m s q → IsFirst q r x → IsAtNode m s x
+at_node m s q r x u f = record { market = u.market; facts = u.facts; waits = first_waits s.tree.nodes q r x u.queue f }
 
 -- ---- what each step asks for
 
 by_actor_none : (actors : List Actor) (refused : Option StepFault) → 1 ≤ length actors → refused ≡ None → by_actor (slice_get actors 0) refused ≡ None
 by_actor_none actors refused l e = by_actor_there actors 0 refused l ∙ e
 
-pub take_accepted : (m : Market) (s : Machine) (x : ℕ) → IsUnderWay m s x → x < length s.tree.nodes → refusal s (TakeEvent 0 x) ≡ None
-take_accepted m s x u l = by_actor_none s.actors (take_refused (state_at s.tree.nodes x)) u.facts.some_actor (ap take_refused (u.swept.waits x (omega arith) l))
+pub take_accepted : (m : Market) (s : Machine) (x : ℕ) → IsAtNode m s x → refusal s (TakeEvent 0 x) ≡ None
+take_accepted m s x u = by_actor_none s.actors (take_refused (state_at s.tree.nodes x)) u.facts.some_actor (ap take_refused u.waits)
 
 -- what is offered is a copy of the finding's best
 pub offered_as : {X : Type 0} (s new : Machine) (copy best : Attained) (o : Option Attained) (r : Result (Unit {0}) X) → copy ≡ best → Some best ≡ o → OnOk r (new ≡ after s (Offer 0 copy)) → OnOk r (new ≡ after_offer s o)
@@ -237,6 +209,11 @@ reached_by m word r cutoff f seen full none = by_best r.best refl (f.at_the_end 
     by_best None e h = absurd (subst (λ (c : Option ConflictRecord). IsSomeAnd c (IsConflict m word)) none h.conflict)
     by_best (Some best) e h = omega (arith, settled_bound m word r best f h, seen best e)
 
+-- where a gate is left to decide, nothing has to be reached
+pub open_reached : (m : Market) (word : List Bool) (cutoff : ℕ) (finding : Finding) → length word < length m.gates → IsReached m word cutoff finding
+open_reached m word cutoff (Empty cut) l = tt
+open_reached m word cutoff (Relaxed r) l = λ full none. absurd (omega (arith, l, full))
+
 -- what was offered of a finding is reached
 reached : (m : Market) (s : Machine) (word : List Bool) (finding : Finding) → 1 ≤ length s.actors → IsFinding m word finding → IsReached m word (seen_by (slice_get (after_offer s (best_in finding)).actors 0)) finding
 reached m s word (Empty cut) l f = tt
@@ -263,10 +240,7 @@ node_of_word nodes x word e = by_node (slice_get nodes x) refl (sym (slice_get-m
     by_node None same h = absurd (cc)
     by_node (Some n) same h = (n, same, cc)
 
-pub node_within : (nodes : List TreeNode) (x : ℕ) (word : List Bool) → slice_get (words_of nodes) x ≡ Some word → x < length nodes
-node_within nodes x word e = let n = node_of_word nodes x word e in slice_get_within nodes x n.0 n.1
-
-settle_by_offer : (m : Market) (s : Machine) (x : ℕ) (word : List Bool) (finding : Finding) (o : Option Attained) → IsUnderWay m s x → slice_get (words_of s.tree.nodes) x ≡ Some word → IsFinding m word finding → IsReached m word (seen_by (slice_get (after_offer (after s (TakeEvent 0 x)) o).actors 0)) finding → 1 ≤ length (after_offer (after s (TakeEvent 0 x)) o).actors → MayVisit (after_offer (after s (TakeEvent 0 x)) o) x finding
+settle_by_offer : (m : Market) (s : Machine) (x : ℕ) (word : List Bool) (finding : Finding) (o : Option Attained) → IsAtNode m s x → slice_get (words_of s.tree.nodes) x ≡ Some word → IsFinding m word finding → IsReached m word (seen_by (slice_get (after_offer (after s (TakeEvent 0 x)) o).actors 0)) finding → 1 ≤ length (after_offer (after s (TakeEvent 0 x)) o).actors → MayVisit (after_offer (after s (TakeEvent 0 x)) o) x finding
 settle_by_offer m s x word finding o u e f within some =
     let t = after_offer (after s (TakeEvent 0 x)) o in
     let n = node_of_word s.tree.nodes x word e in
@@ -289,7 +263,7 @@ settle_by_offer m s x word finding o u e f within some =
           (ap (λ (g : Grown). return_refused 0 (state_at g.nodes x)) tree ∙ ap (return_refused 0) (state_same (Taken 0) s.tree.nodes x n.0 n.1));
     }
 
-pub settle_allowed : (m : Market) (old t : Machine) (x : ℕ) (word : List Bool) (finding : Finding) → IsUnderWay m old x → slice_get (words_of old.tree.nodes) x ≡ Some word → IsFinding m word finding → t ≡ after_offer (after old (TakeEvent 0 x)) (best_in finding) → KeepsFacts t → MayVisit t x finding
+pub settle_allowed : (m : Market) (old t : Machine) (x : ℕ) (word : List Bool) (finding : Finding) → IsAtNode m old x → slice_get (words_of old.tree.nodes) x ≡ Some word → IsFinding m word finding → t ≡ after_offer (after old (TakeEvent 0 x)) (best_in finding) → KeepsFacts t → MayVisit t x finding
 settle_allowed m old t x word finding u e f is facts =
     subst (λ (s : Machine). MayVisit s x finding) (sym is)
     (settle_by_offer m old x word finding (best_in finding) u e f (reached m (after old (TakeEvent 0 x)) word finding u.facts.some_actor f)
@@ -297,64 +271,89 @@ settle_allowed m old t x word finding u e f is facts =
 
 -- ---- the end
 
--- where every node is done, there is no first leaf that isn't closed
-pub none_open : (nodes : List TreeNode) (n x : ℕ) → IsSwept nodes n → length nodes ≤ n → IsFirstOpen nodes x → ⊥
-none_open nodes n x swept l h =
-    let within : x < length nodes = number_within nodes h.before h.rest x h.preorder in
-    let done : is_done (state_at nodes x) ≡ true = swept.done x (omega arith) in
-    let open_still : is_done (state_at nodes x) ≡ false = h.waits in
-    absurd (cc)
+-- where the queue is empty, there is no first leaf that isn't closed
+pub none_open : (m : Market) (s : Machine) (q r : Queued) (x : ℕ) → IsUnderWay m s q → IsIdleQueue q r → IsFirstOpen s.tree.nodes x → ⊥
+none_open m s q r x u idle h = all_done s.tree.nodes x h (none_waits s.tree.nodes q u.queue idle.0) u.none_taken
 
--- where there is no node of a number, the nodes are at most so many
-pub none_left : (nodes : List TreeNode) (n : ℕ) → slice_get (words_of nodes) n ≡ None → length nodes ≤ n
-none_left nodes n e = elim (cases_lt n (length nodes)) [
-  | inl l ↦
-      let there : slice_get (words_of nodes) n ≡ Some (get_or nodes n (new_node [])).word =
-      slice_get-map (λ (k : TreeNode). k.word) nodes n ∙ ap (option_map (λ (k : TreeNode). k.word)) (slice_get-get_or nodes n (new_node []) l) in
-      absurd (cc)
-  | inr l ↦ l
-]
+-- the node that comes first has a word
+pub has_word : (m : Market) (s : Machine) (q r : Queued) (x : ℕ) → IsUnderWay m s q → IsFirst q r x → slice_get (words_of s.tree.nodes) x ≡ None → ⊥
+has_word m s q r x u f e =
+    let at : IsAt s.tree.nodes x Untaken = node_at s.tree.nodes x Untaken (first_waits s.tree.nodes q r x u.queue f) in
+    let there : slice_get (words_of s.tree.nodes) x ≡ Some at.node.word = slice_get-map (λ (n : TreeNode). n.word) s.tree.nodes x ∙ ap (option_map (λ (n : TreeNode). n.word)) at.there in
+    absurd (cc)
 
 -- ---- the walk through all nodes
 
--- the search is under way at a node, with the budget that it had
-pub record IsStill (m : Market) (budget : ℕ) (s : Machine) (n : ℕ) : Type 0 where
-  pub under_way : IsUnderWay m s n
+-- the search is under way, with the budget that it had
+pub record IsStill (m : Market) (budget : ℕ) (s : Machine) (q : Queued) : Type 0 where
+  pub under_way : IsUnderWay m s q
   pub budget_is : s.tree.budget ≡ budget
 
-pub still_next : (m : Market) (budget : ℕ) (old new : Machine) (x : ℕ) (word : List Bool) → IsStill m budget old x → slice_get (words_of old.tree.nodes) x ≡ Some word → IsVisited m old new x word → KeepsFacts new → (new.tree.full ≡ true → ⊥) → IsStill m budget new (x + 1)
-still_next m budget old new x word h e v facts not_full =
-    let within = node_within old.tree.nodes x word e in
+pub still_next : (m : Market) (budget : ℕ) (old new : Machine) (x : ℕ) (word : List Bool) (key : ℕ) (q r s : Queued) → IsStill m budget old q → IsFirst q r x → IsVisited m old new x word key → KeepsFacts new → (new.tree.full ≡ true → ⊥) → IsMore key (length new.tree.nodes - length r.keys) r s → IsStill m budget new s
+still_next m budget old new x word key q r s h f v facts not_full more = record {
+  under_way = visit_keeps m old new x word key q r s h.under_way f v facts not_full more;
+  budget_is = (visit_same m old new x word key v).1 ∙ h.budget_is;
+}
+
+-- how far the search may still go
+abbrev pub still_left : ℕ → Machine → Queued → ℕ
+still_left budget s q = 2 * (budget - length s.tree.nodes) + length q.waiting
+
+pub fewer_left : (m : Market) (budget : ℕ) (old new : Machine) (x : ℕ) (word : List Bool) (key : ℕ) (q r s : Queued) → IsStill m budget old q → IsFirst q r x → IsVisited m old new x word key → KeepsFacts new → (new.tree.full ≡ true → ⊥) → IsMore key (length new.tree.nodes - length r.keys) r s → still_left budget new s < still_left budget old q
+fewer_left m budget old new x word key q r s h f v facts not_full more =
+    let settled = visit_settles m old new x word key q r s h.under_way f v not_full more in
+    let same = visit_same m old new x word key v in
+    omega (arith, settled.longer, length-with_state (Taken 0) old.tree.nodes x, facts.tree.within_budget, same.1, h.budget_is, h.under_way.queue.keys, ap length f.keys, length_permutation q.waiting (x ∷ r.waiting) f.leaves, length_waiting key (length new.tree.nodes - length r.keys) r s more)
+
+-- what there is to admit after a visit
+pub record MayAdmit (s : Machine) (r : Queued) : Type 0 where
+  pub room : r.room ≡ s.tree.budget
+  pub made : length r.keys ≤ length s.tree.nodes
+  pub waiting : length r.waiting ≤ length r.keys
+
+pub may_admit : (m : Market) (old new : Machine) (x : ℕ) (word : List Bool) (key : ℕ) (q r : Queued) → IsUnderWay m old q → IsFirst q r x → IsVisited m old new x word key → MayAdmit new r
+may_admit m old new x word key q r u f v =
+    let t = visited_tree m old new x word key v in
+    let longer = grown_longer (grown old.tree (Take 0 x)) (settling_by (grown old.tree (Take 0 x)) 0 x t.cutoff t.leaf) in
     record {
-      under_way = visit_keeps m old new x word h.under_way within v facts not_full;
-      budget_is = (visit_same m old new x word h.under_way within v).1 ∙ h.budget_is;
+      room = f.room ∙ u.room ∙ sym (visit_same m old new x word key v).1;
+      made = omega (arith, ap length f.keys, u.queue.keys, ap (λ (g : Grown). length g.nodes) t.is, longer, length-with_state (Taken 0) old.tree.nodes x);
+      waiting = omega (arith, ap length f.keys, u.queue.keys, u.queue.many, untaken_few old.tree.nodes, length_permutation q.waiting (x ∷ r.waiting) f.leaves);
     }
 
--- the number of a node is below the budget
-pub below_budget : (m : Market) (budget : ℕ) (s : Machine) (x : ℕ) (word : List Bool) → IsStill m budget s x → slice_get (words_of s.tree.nodes) x ≡ Some word → x < budget
-below_budget m budget s x word h e = omega (arith, node_within s.tree.nodes x word e, h.under_way.facts.tree.within_budget, h.budget_is)
+-- there is a node of this number exactly where it has a prefix
+pub node_there : (nodes : List TreeNode) (n : ℕ) (o : Option Prefix) → option_map (λ (p : Prefix). word_of p) o ≡ slice_get (words_of nodes) n → is_some o ≡ true → n < length nodes
+node_there nodes n None e some = absurd (true≢false (sym some))
+node_there nodes n (Some p) e some = omega (arith, slice_get_within (words_of nodes) n (word_of p) (sym e), length-map nodes (λ (k : TreeNode). k.word))
+
+pub node_past : (nodes : List TreeNode) (n : ℕ) (o : Option Prefix) → option_map (λ (p : Prefix). word_of p) o ≡ slice_get (words_of nodes) n → is_some o ≡ false → length nodes ≤ n
+node_past nodes n (Some p) e none = absurd (true≢false none)
+node_past nodes n None e none = elim (cases_lt n (length nodes)) [
+  | inl l ↦ let there : slice_get (words_of nodes) n ≡ Some (get_or (words_of nodes) n []) = slice_get-get_or (words_of nodes) n [] (omega (arith, l, length-map nodes (λ (k : TreeNode). k.word))) in absurd (cc)
+  | inr l ↦ l
+]
 
 -- a part of the search tree that the budget can't extend, told of the market and the budget
-pub spent_of : (m : Market) (budget : ℕ) (old new : Machine) (x : ℕ) (word : List Bool) (items told : List PartItem) → IsStill m budget old x → slice_get (words_of old.tree.nodes) x ≡ Some word → IsVisited m old new x word → IsSpent new.tree.market new.tree.budget (record { items = items }) → told ≡ items → IsSpent m budget (record { items = told })
-spent_of m budget old new x word items told h e v spent is =
-    let same = visit_same m old new x word h.under_way (node_within old.tree.nodes x word e) v in
+pub spent_of : (m : Market) (budget : ℕ) (old new : Machine) (x : ℕ) (word : List Bool) (key : ℕ) (q : Queued) (items told : List PartItem) → IsStill m budget old q → IsVisited m old new x word key → IsSpent new.tree.market new.tree.budget (record { items = items }) → told ≡ items → IsSpent m budget (record { items = told })
+spent_of m budget old new x word key q items told h v spent is =
+    let same = visit_same m old new x word key v in
     subst (λ (ts : List PartItem). IsSpent m budget (record { items = ts })) (sym is)
     (subst (λ (b : ℕ). IsSpent m b (record { items = items })) (same.1 ∙ h.budget_is)
     (subst (λ (k : Market). IsSpent k new.tree.budget (record { items = items })) (same.0 ∙ h.under_way.market) spent))
 
 -- ---- the start
 
-pub start_swept : (m : Market) (s : Machine) (budget : ℕ) → s.tree ≡ seed m budget → KeepsFacts s → gate_word_of m s.first.activation ≡ all_closed m → IsUnderWay m s 0
-start_swept m s budget e facts closed = record {
-  market = ap (λ (g : Grown). g.market) e;
-  facts = facts;
-  swept = subst (λ (g : Grown). IsSwept g.nodes 0) (sym e) (record { done = λ x l. absurd (omega arith); waits = waits });
-  from_closed = closed;
-}
-  where
-    waits : (x : ℕ) → 0 ≤ x → x < length (seed m budget).nodes → state_at (seed m budget).nodes x ≡ Some Untaken
-    waits zero l h = refl
-    waits (suc x) l h = absurd (omega arith)
+pub start_under_way : (m : Market) (s : Machine) (q : Queued) (budget : ℕ) → s.tree ≡ seed m budget → KeepsFacts s → gate_word_of m s.first.activation ≡ all_closed m → IsMore first_key 1 (no_nodes budget) q → IsUnderWay m s q
+start_under_way m s q budget e facts closed more =
+    let start = queue_start q budget more in
+    record {
+      market = ap (λ (g : Grown). g.market) e;
+      facts = facts;
+      queue = subst (λ (g : Grown). IsQueueOf g.nodes q) (sym e) start.0;
+      room = start.2 ∙ sym (ap (λ (g : Grown). g.budget) e);
+      none_taken = ap (λ (g : Grown). taken_among g.nodes) e;
+      from_closed = closed;
+    }
 
 -- ---- the end of a search
 
@@ -363,8 +362,8 @@ above_first w [] = omega arith
 above_first w (a ∷ others) = omega (arith, above_first w others)
 
 -- what a search comes to may be refined
-pub may_refine : (m : Market) (budget : ℕ) (s : Machine) (n : ℕ) (c : Clearing) → IsStill m budget s n → IsOptimalClearing s.tree.market s.tree.budget c → c.welfare ≡ s.word → (s.word ≡ s.first.welfare → c.activation ≡ s.first.activation) → ArePartsOfSearch s.tree.market ([] ∷ []) (map shape_of c.tree) → MayRefine m budget c
-may_refine m budget s n c h clearing w first parts = record {
+pub may_refine : (m : Market) (budget : ℕ) (s : Machine) (q : Queued) (c : Clearing) → IsStill m budget s q → IsOptimalClearing s.tree.market s.tree.budget c → c.welfare ≡ s.word → (s.word ≡ s.first.welfare → c.activation ≡ s.first.activation) → ArePartsOfSearch s.tree.market ([] ∷ []) (map shape_of c.tree) → MayRefine m budget c
+may_refine m budget s q c h clearing w first parts = record {
   clearing = subst (λ (b : ℕ). IsOptimalClearing m b c) h.budget_is (subst (λ (k : Market). IsOptimalClearing k s.tree.budget c) h.under_way.market clearing);
   nodes = subst (λ (k : Market). ArePartsOfSearch k ([] ∷ []) (map shape_of c.tree)) h.under_way.market parts;
   closed = s.first.welfare;

@@ -1,5 +1,5 @@
--- A search of one actor that visits nodes in the order in which they are made.
-use Rattle.std.specs.Prelude.{◌≡◌, ℕ, ◌<◌, ◌≤◌, Bool, true, List, length, Option, Some, None}
+-- A search of one actor that takes nodes by their keys.
+use Rattle.std.specs.Prelude.{◌≡◌, ℕ, Bool, List, Option, Some, None}
 use Rattle.mari_market.specs.declared.market.Market.{Market}
 use Rattle.mari_market.specs.declared.finding.Attained.{Attained}
 use Rattle.mari_market.specs.declared.finding.Finding.{Finding}
@@ -10,20 +10,25 @@ use Rattle.mari_market.specs.Relaxation.{all_closed}
 use Rattle.mari_core.specs.declared.event.Event.TheVariants.{Offer, Take, Settle}
 use Rattle.mari_core.specs.declared.node.NodeState.TheVariants.{Untaken}
 use Rattle.mari_core.specs.Machine.{Machine, after, KeepsFacts}
-use Rattle.mari_core.specs.Nodes.{TreeNode, state_at}
-use Rattle.mari_core.specs.Preorder.{is_done}
+use Rattle.mari_core.specs.Nodes.{state_at}
+use Rattle.mari_pool.specs.Pooled.{taken_among}
+use Rattle.mari_pool.specs.Queued.{Queued, child_key, IsQueueOf}
 
--- the nodes below this number are branched or closed, and those from it on wait
-pub record IsSwept (nodes : List TreeNode) (n : ℕ) : Type 0 where
-  pub done : (x : ℕ) → x < n → is_done (state_at nodes x) ≡ true
-  pub waits : (x : ℕ) → n ≤ x → x < length nodes → state_at nodes x ≡ Some Untaken
-
--- a search of the market that has visited the nodes below this number, and began with an activation that opens no gate
-pub record IsUnderWay (m : Market) (s : Machine) (n : ℕ) : Type 0 where
+-- a search of the market between two visits, with the queue of its nodes, none of which is taken; it began with an activation
+-- that opens no gate
+pub record IsUnderWay (m : Market) (s : Machine) (q : Queued) : Type 0 where
   pub market : s.tree.market ≡ m
   pub facts : KeepsFacts s
-  pub swept : IsSwept s.tree.nodes n
+  pub queue : IsQueueOf s.tree.nodes q
+  pub room : q.room ≡ s.tree.budget
+  pub none_taken : taken_among s.tree.nodes ≡ 0
   pub from_closed : gate_word_of m s.first.activation ≡ all_closed m
+
+-- a search of the market in which this node waits
+pub record IsAtNode (m : Market) (s : Machine) (x : ℕ) : Type 0 where
+  pub market : s.tree.market ≡ m
+  pub facts : KeepsFacts s
+  pub waits : state_at s.tree.nodes x ≡ Some Untaken
 
 -- the activation that a finding has, if it has one
 abbrev pub best_in : Finding → Option Attained
@@ -39,8 +44,9 @@ after_offer s (Some best) = after s (Offer 0 best)
 abbrev pub visited : Machine → ℕ → Finding → Machine
 visited s x finding = after (after_offer (after s (Take 0 x)) (best_in finding)) (Settle 0 x finding)
 
--- the search has visited the node of this number and word, with what may be found there
-pub record IsVisited (m : Market) (old new : Machine) (x : ℕ) (word : List Bool) : Type 0 where
+-- the search has visited the node of this number and word, with what may be found there, and this is the key of its children
+pub record IsVisited (m : Market) (old new : Machine) (x : ℕ) (word : List Bool) (key : ℕ) : Type 0 where
   pub finding : Finding
   pub is_finding : IsFinding m word finding
   pub change : new ≡ visited old x finding
+  pub key_is : key ≡ child_key finding

@@ -1,5 +1,5 @@
 -- What a worker has when it ends.
-use Rattle.std.specs.Prelude.{◌≡◌, ◌≤◌, ℕ, Option, IfSome}
+use Rattle.std.specs.Prelude.{◌≡◌, ◌≤◌, ℕ, IfSome}
 use Rattle.mari_market.specs.declared.market.Market.{Market}
 use Rattle.mari_market.specs.declared.finding.Finding.{Finding}
 use Rattle.mari_core.specs.Machine.{IsBest}

@@ -1,6 +1,6 @@
 //! The search of one actor.
 
-ghost use Rattle.std.specs.Prelude.{◌≡◌, ◌≤◌, None, Some, slice_get, IfOk, IfSome, OnOk};
+ghost use Rattle.std.specs.Prelude.{◌≡◌, ◌-◌, ◌≤◌, None, Some, length, slice_get, IfOk, IfSome, OnOk};
 ghost use Rattle.std.specs.Option.{option_copied};
 ghost use Rattle.mari_core.specs.Machine.{after, refusal, IsProper, KeepsFacts};
 ghost use Rattle.mari_core.specs.Nodes.{words_of};
@@ -8,7 +8,8 @@ ghost use Rattle.mari_market.specs.Clearing.{Clears};
 ghost use Rattle.mari_market.specs.Finding.{IsAttained};
 ghost use Rattle.mari_market.specs.Market.{IsValid};
 ghost use Rattle.mari_market.specs.Prefix.{word_of, IsFeasiblePrefix};
-ghost use Rattle.mari_workers.specs.Alone.{best_in, after_offer, IsUnderWay, IsVisited};
+ghost use Rattle.mari_pool.specs.Queued.{IsMore};
+ghost use Rattle.mari_workers.specs.Alone.{best_in, after_offer, IsAtNode, IsUnderWay, IsVisited};
 ghost use Rattle.mari_workers.specs.Refine.{IsSearched};
 
 use crate::first::first_of;
@@ -16,6 +17,7 @@ use crate::refining::refine;
 use mari_core::{Event, FinishFault, Search};
 use mari_market::{Activation, Attained, Cleared, Clearer, Finding, Market, Prefix, Spent};
 use mari_node::examine_from;
+use mari_pool::{Queue, child_key};
 use mari_units::{Items, Memory};
 use std::alloc::{AllocError, Global};
 
@@ -74,7 +76,7 @@ fn offer_best(search: &mut Search<'_>, finding: &Finding) -> Result<(), Memory>
     }
 }
 
-/// Takes a node, and settles it with what is found there.
+/// Takes a node, and settles it with what is found there. The answer is the key of its children.
 ///
 /// What is found is offered first, so the node is settled at the greatest welfare that is known by then.
 fn visit(
@@ -84,16 +86,17 @@ fn visit(
     node: u32,
     prefix: &Prefix,
     start: &mut Option<Activation>,
-) -> Result<(), Memory>
-    requires under_way { IsUnderWay market.now search.old node }
+) -> Result<u64, Memory>
+    requires waits { IsAtNode market.now search.old node }
     requires word { slice_get (words_of search.old.tree.nodes) node ≡ Some (word_of prefix.now) }
     requires feasible { IsFeasiblePrefix market.now prefix.now }
-    ensures visited { OnOk result (IsVisited market.now search.old search.new node (word_of prefix.now)) }
+    ensures visited { IfOk result (λ key. IsVisited market.now search.old search.new node (word_of prefix.now) key) }
     ensures facts { KeepsFacts search.new }
 {
     step(search, Event::Take { actor: ACTOR, node })?;
     let finding = examine_from(alloc, market, prefix, start)?;
     offer_best(search, &finding)?;
+    let key = child_key(&finding);
     step(
         search,
         Event::Settle {
@@ -101,29 +104,48 @@ fn visit(
             node,
             finding,
         },
-    )
+    )?;
+    Ok(key)
 }
 
-/// Visits the nodes of a search in the order in which they are made, until none waits or one can't branch within the budget.
+/// Lets the nodes that were made wait, with this key.
+fn admit(search: &Search<'_>, queue: &mut Queue, key: u64)
+    requires facts { KeepsFacts search.now }
+    requires room { queue.old.room ≡ search.now.tree.budget }
+    requires made { length queue.old.keys ≤ length search.now.tree.nodes }
+    requires waiting { length queue.old.waiting ≤ length queue.old.keys }
+    ensures { IsMore key (length search.now.tree.nodes - length queue.old.keys) queue.old queue.new }
+{
+    while search.prefix_of(queue.len()).is_some() {
+        queue.add(key);
+    }
+}
+
+/// Visits the nodes of a search, always the one whose parent has the greatest bound, until none waits or one can't branch within
+/// the budget.
 ///
-/// Where none waits any more there is an optimal clearing, which may be refined.
+/// Of equal bounds the node that was made first is the next. Where none waits any more there is an optimal clearing, which may
+/// be refined.
 fn visit_all(
     alloc: Global,
     market: &Market,
     mut search: Search<'_>,
+    mut queue: Queue,
     mut start: Option<Activation>,
 ) -> Result<Cleared, Memory>
-    requires { IsUnderWay market.now search 0 }
+    requires { IsUnderWay market.now search queue }
     ensures { IfOk result (IsSearched market.now search.entry.tree.budget) }
 {
-    let mut node = 0;
-    while let Some(prefix) = search.prefix_of(node) {
-        visit(alloc, market, &mut search, node, &prefix, &mut start)?;
+    while let Some(node) = queue.take_first() {
+        let Some(prefix) = search.prefix_of(node) else {
+            unreachable!()
+        };
+        let key = visit(alloc, market, &mut search, node, &prefix, &mut start)?;
         if search.is_full() {
             let items = Items::of(search.part(alloc)?);
             return Ok(Cleared::Spent(Spent { items }));
         }
-        node += 1;
+        admit(&search, &mut queue, key);
     }
     match search.finish(alloc) {
         Ok(clearing) => Ok(Cleared::Published(clearing)),
@@ -141,7 +163,8 @@ fn cleared(alloc: Global, market: &Market, budget: u32) -> Result<Cleared, Memor
     let first = first_of(alloc, market)?;
     let start = Some(first.activation.clone()?);
     let search = Search::start(alloc, market, ACTOR + 1, first, budget)?;
-    match visit_all(alloc, market, search, start)? {
+    let queue = Queue::start(alloc, budget)?;
+    match visit_all(alloc, market, search, queue, start)? {
         Cleared::Published(found) => Ok(refine(alloc, market, found, budget)),
         spent => Ok(spent),
     }

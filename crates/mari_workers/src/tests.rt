@@ -1,6 +1,7 @@
 //! Small markets of one zone, with values computed by hand or by trying every gate word.
 
 mod crews;
+mod order;
 mod random;
 mod tickets;
 

@@ -1,4 +1,4 @@
-use Rattle.std.proofs.Common.{◌≡◌, ℕ, ◌+◌, ◌-◌, ◌<◌, ◌≤◌, vec_len}
+use Rattle.std.proofs.Common.{◌≡◌, ℕ, ◌-◌, ◌<◌, vec_len}
 use Rattle.std.specs.Prelude.{slice_index_or}
 use Rattle.mari_incumbent.specs.Word.{standing}
 use Rattle.mari_workers.specs.Together.{IsJob}

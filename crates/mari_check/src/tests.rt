@@ -1,7 +1,7 @@
 //! A printed block of two zones with a border that is full, as it was printed and with one line altered, whole and in pieces; and a
 //! block whose price is free.
 
-ghost use Rattle.std.specs.Prelude.{◌≤◌, IfOk};
+ghost use Rattle.std.specs.Prelude.{◌≤◌, IfOk, length};
 ghost use Rattle.mari_io.specs.declared.shelf.TheConstants.{MOST_PIECE};
 ghost use Rattle.mari_remain.specs.Accepted.{IsAccepted};
 
@@ -15,6 +15,7 @@ use mari_remain::{Books, Remaining};
 use mari_units::{Items, read_name};
 use mari_zones::{BorderBook, ZoneBook};
 use std::alloc::Global;
+use std::process::Abort;
 use std::test::Fail;
 
 /// The lines of the day.
@@ -72,6 +73,16 @@ struct Pages {
     demands: &'static [u8],
 }
 
+/// A page of a test, which is short.
+fn short(page: &'static [u8]) -> Result<&'static [u8], Fail>
+    ensures { IfOk result (λ bytes. length bytes.now ≤ 1000) }
+{
+    if page.len() > 1000 {
+        return Err(Fail::from("a page of a test is short"));
+    }
+    Ok(page)
+}
+
 /// The books of these pages.
 fn books_of(alloc: Global, pages: &Pages) -> Result<Books, Fail>
     ensures { IfOk result IsAccepted }
@@ -79,13 +90,13 @@ fn books_of(alloc: Global, pages: &Pages) -> Result<Books, Fail>
     let Ok(date) = read_name(alloc, b"2025-03-12") else {
         return Err(Fail::from("a book of the day is refused"));
     };
-    let Ok(zones) = ZoneBook::read(alloc, pages.zones) else {
+    let Ok(zones) = ZoneBook::read(alloc, short(pages.zones)?) else {
         return Err(Fail::from("a book of the day is refused"));
     };
-    let Ok(borders) = BorderBook::read(alloc, pages.borders, &zones) else {
+    let Ok(borders) = BorderBook::read(alloc, short(pages.borders)?, &zones) else {
         return Err(Fail::from("a book of the day is refused"));
     };
-    let Ok(bids) = BidBook::read(alloc, pages.bids, &zones, 96) else {
+    let Ok(bids) = BidBook::read(alloc, short(pages.bids)?, &zones, 96) else {
         return Err(Fail::from("a book of the day is refused"));
     };
     let Ok(links) = LinkBook::read(alloc, b"kind,first,second\n", &bids) else {
@@ -98,7 +109,7 @@ fn books_of(alloc: Global, pages: &Pages) -> Result<Books, Fail>
     ) else {
         return Err(Fail::from("a book of the day is refused"));
     };
-    let Ok(demands) = DemandBook::read(alloc, pages.demands, &runs, &zones) else {
+    let Ok(demands) = DemandBook::read(alloc, short(pages.demands)?, &runs, &zones) else {
         return Err(Fail::from("a book of the day is refused"));
     };
     Ok(Books {
@@ -298,30 +309,49 @@ fn a_text_in_pieces_of_one_byte_has_the_verdict_of_the_whole(rt: HostRuntime) ->
     Ok(())
 }
 
+/// The day with a line of 40,000 digits for its last one, which is ended or not.
+fn long_text(alloc: Global, is_ended: bool) -> Result<Vec<u8>, Fail> {
+    let mut text = Vec::new(alloc);
+    for line in &DAY[..20] {
+        text.extend_from_slice(line.as_bytes())?;
+        text.push(b'\n')?;
+    }
+    for _ in 0..40_000 {
+        text.push(b'7')?;
+    }
+    if is_ended {
+        text.push(b'\n')?;
+    }
+    Ok(text)
+}
+
+/// Compares what is told of that day in pieces of so many bytes.
+fn compare_long_lines(rt: &impl Abort, alloc: Global, books: &Books, piece: u32) -> Result<(), Fail>
+    requires accepted { IsAccepted books.now }
+    requires some { 1 ≤ piece }
+    requires few { piece ≤ MOST_PIECE }
+{
+    let bad = Err(StreamFault::Text(TextFault::BadLine(21)));
+    assert_eq!(rt;
+        streamed(alloc, books, long_text(alloc, true)?, piece)?,
+        bad
+    );
+    let cut_off = Err(StreamFault::Text(TextFault::Truncated(21)));
+    assert_eq!(rt;
+        streamed(alloc, books, long_text(alloc, false)?, piece)?,
+        cut_off
+    );
+    Ok(())
+}
+
 #[test]
 fn a_line_of_40_000_digits_is_bad_and_without_its_end_truncated(
     rt: HostRuntime,
 ) -> Result<(), Fail> {
     let alloc = rt.alloc();
     let books = books(alloc)?;
-    for piece in [1, 65_536] {
-        let mut text = Vec::new(alloc);
-        for line in DAY[..20].iter() {
-            text.extend_from_slice(line.as_bytes())?;
-            text.push(b'\n')?;
-        }
-        for _ in 0..40_000 {
-            text.push(b'7')?;
-        }
-        let mut ended = Vec::new(alloc);
-        ended.extend_from_slice(&text)?;
-        ended.push(b'\n')?;
-        let bad = Err(StreamFault::Text(TextFault::BadLine(21)));
-        assert_eq!(rt; streamed(alloc, &books, ended, piece)?, bad);
-        let cut_off = Err(StreamFault::Text(TextFault::Truncated(21)));
-        assert_eq!(rt; streamed(alloc, &books, text, piece)?, cut_off);
-    }
-    Ok(())
+    compare_long_lines(&rt, alloc, &books, 1)?;
+    compare_long_lines(&rt, alloc, &books, 65_536)
 }
 
 #[test]

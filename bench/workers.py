@@ -19,7 +19,7 @@ import time
 
 TOP = pathlib.Path(__file__).resolve().parent.parent
 ZONES = 8
-GATES = 12
+GATES = 96
 PLAIN = 500
 NODES = 50_000
 

@@ -2,3 +2,4 @@ pub mod Rungs
 pub mod Sorted
 pub mod Filling
 pub mod Clears
+mod MeritOrder

@@ -1,1 +1,2 @@
 pub mod Merit
+pub mod Ladder

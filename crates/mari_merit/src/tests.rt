@@ -1,9 +1,11 @@
-//! Markets of one zone, with values computed by hand.
+//! Markets of one zone and ladders, with values computed by hand.
 
-ghost use Rattle.std.specs.Prelude.{◌≡◌, ◌↔◌, [], IsTrue};
+ghost use Rattle.std.specs.Prelude.{◌≡◌, ◌≤◌, ◌↔◌, [], IsTrue, length};
+ghost use Rattle.std.specs.List.{AllZip};
+ghost use Rattle.mari_merit.specs.Ladder.{AreBounds};
 
-use crate::clear_plain;
-use mari_market::{Market, Order, Side};
+use crate::{Step, clear_plain, ladder_of};
+use mari_market::{Bounds, Market, Order, Side};
 use mari_units::{Cents, Items};
 use std::alloc::Global;
 use std::process::Abort;
@@ -86,4 +88,75 @@ fn downward_bid(rt: HostRuntime) -> Result<(), Fail> {
         order(Side::Inject, -9_999_900, 30),
     ];
     compare(&rt, rt.alloc(), &orders, &[30, 30], 300_027_000)
+}
+
+fn are_in_order(least: &[u32], greatest: &[u32]) -> bool
+    requires { length greatest.now ≡ length least.now }
+    ensures { IsTrue result → AllZip (λ lo hi. lo ≤ hi) least.now greatest.now }
+{
+    for (i, lo) in least.iter().enumerate() {
+        if *lo > greatest[i] {
+            return false;
+        }
+    }
+    true
+}
+
+/// Whether there are bounds for each order, the least at most the greatest.
+fn are_bounds(market: &Market, bounds: &Bounds) -> bool
+    ensures { IsTrue result → AreBounds market.now bounds.now }
+{
+    let (least, greatest) = (bounds.least.as_slice(), bounds.greatest.as_slice());
+    least.len() == market.orders.as_slice().len()
+        && greatest.len() == least.len()
+        && are_in_order(least, greatest)
+}
+
+/// Makes a ladder of zone 0 within these bounds, and compares the order, price and room of each step.
+fn compare_ladder(
+    rt: &impl Abort,
+    alloc: Global,
+    orders: &[Order],
+    least: &[u32],
+    side: Side,
+    steps: &[(u32, i64, u32)],
+) -> Result<(), Fail> {
+    let market = market(alloc, orders)?;
+    let greatest = |order: &Order| order.greatest;
+    let bounds = Bounds {
+        least: Items::of(least.to_vec(alloc)?),
+        greatest: Items::of(orders.iter().map(greatest).collect(alloc)?),
+    };
+    assert!(rt; market.valid());
+    assert!(rt; are_bounds(&market, &bounds));
+    assert!(rt; market.zones > 0);
+    let ladder = ladder_of(alloc, &market, &bounds, 0, side)?;
+    let step = |step: &Step| (step.order, step.price.0, step.room);
+    let found: Vec<(u32, i64, u32)> = ladder.steps.as_slice().iter().map(step).collect(alloc)?;
+    assert_eq!(rt; found.as_slice(), steps);
+    Ok(())
+}
+
+#[test]
+fn a_ladder_has_one_side_in_merit_order(rt: HostRuntime) -> Result<(), Fail> {
+    let orders = [
+        order(Side::Inject, 6000, 30),
+        order(Side::Withdraw, 2500, 40),
+        order(Side::Inject, 2000, 100),
+        order(Side::Inject, 6000, 10),
+        order(Side::Withdraw, 9_999_900, 80),
+        order(Side::Inject, -500, 20),
+    ];
+    let least = [0, 15, 0, 10, 0, 5];
+    let injections = [(5, -500, 15), (2, 2000, 100), (0, 6000, 30)];
+    compare_ladder(&rt, rt.alloc(), &orders, &least, Side::Inject, &injections)?;
+    let withdrawals = [(4, 9_999_900, 80), (1, 2500, 25)];
+    compare_ladder(
+        &rt,
+        rt.alloc(),
+        &orders,
+        &least,
+        Side::Withdraw,
+        &withdrawals,
+    )
 }

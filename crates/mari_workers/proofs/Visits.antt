@@ -305,6 +305,23 @@ fewer_left m budget old new x word key q r s h f v facts not_full more =
     let same = visit_same m old new x word key v in
     omega (arith, settled.longer, length-with_state (Taken 0) old.tree.nodes x, facts.tree.within_budget, same.1, h.budget_is, h.under_way.queue.keys, ap length f.keys, length_permutation q.waiting (x ∷ r.waiting) f.leaves, length_waiting key (length new.tree.nodes - length r.keys) r s more)
 
+-- an offer changes neither the tree nor the activation that the search began with
+pub still_after : (m : Market) (budget : ℕ) (s new : Machine) (q : Queued) → IsStill m budget s q → new.tree ≡ s.tree → new.first ≡ s.first → KeepsFacts new → IsStill m budget new q
+still_after m budget s new q h tree first facts = record {
+  under_way = record {
+    market = ap (λ (g : Grown). g.market) tree ∙ h.under_way.market;
+    facts = facts;
+    queue = subst (λ (g : Grown). IsQueueOf g.nodes q) (sym tree) h.under_way.queue;
+    room = h.under_way.room ∙ sym (ap (λ (g : Grown). g.budget) tree);
+    none_taken = ap (λ (g : Grown). taken_among g.nodes) tree ∙ h.under_way.none_taken;
+    from_closed = ap (λ (a : Attained). gate_word_of m a.activation) first ∙ h.under_way.from_closed;
+  };
+  budget_is = ap (λ (g : Grown). g.budget) tree ∙ h.budget_is;
+}
+
+pub as_far : (budget : ℕ) (s new : Machine) (q : Queued) → new.tree ≡ s.tree → still_left budget new q ≡ still_left budget s q
+as_far budget s new q tree = ap (λ (g : Grown). 2 * (budget - length g.nodes) + length q.waiting) tree
+
 -- what there is to admit after a visit
 pub record MayAdmit (s : Machine) (r : Queued) : Type 0 where
   pub room : r.room ≡ s.tree.budget

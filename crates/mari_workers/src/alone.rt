@@ -14,6 +14,7 @@ ghost use Rattle.mari_workers.specs.Refine.{IsSearched};
 
 use crate::first::first_of;
 use crate::refining::refine;
+use crate::rounding::best_rounded;
 use mari_core::{Event, FinishFault, Search};
 use mari_market::{Activation, Attained, Cleared, Clearer, Finding, Market, Prefix, Spent};
 use mari_node::examine_from;
@@ -23,6 +24,9 @@ use std::alloc::{AllocError, Global};
 
 /// The number of the one actor.
 const ACTOR: u32 = 0;
+
+/// The number of the node that decides no gate.
+const ROOT: u32 = 0;
 
 /// Takes a step that nothing but want of memory can refuse.
 fn step(search: &mut Search<'_>, event: Event) -> Result<(), Memory>
@@ -76,6 +80,32 @@ fn offer_best(search: &mut Search<'_>, finding: &Finding) -> Result<(), Memory>
     }
 }
 
+/// Offers what the root's optimum comes to by rounding, if that is anything.
+#[tactic(auto, using(crate::proofs::Visits::offer_accepted))]
+fn offer_rounded(
+    alloc: Global,
+    market: &Market,
+    search: &mut Search<'_>,
+    start: &mut Option<Activation>,
+) -> Result<(), Memory>
+    requires market { search.old.tree.market ≡ market.now }
+    requires facts { KeepsFacts search.old }
+    ensures tree { OnOk result (search.new.tree ≡ search.old.tree) }
+    ensures first { OnOk result (search.new.first ≡ search.old.first) }
+    ensures facts { KeepsFacts search.new }
+{
+    match best_rounded(alloc, market, start)? {
+        Some(attained) => step(
+            search,
+            Event::Offer {
+                actor: ACTOR,
+                attained,
+            },
+        ),
+        None => Ok(()),
+    }
+}
+
 /// Takes a node, and settles it with what is found there. The answer is the key of its children.
 ///
 /// What is found is offered first, so the node is settled at the greatest welfare that is known by then.
@@ -124,7 +154,7 @@ fn admit(search: &Search<'_>, queue: &mut Queue, key: u64)
 /// Visits the nodes of a search, always the one whose parent has the greatest bound, until none waits or one can't branch within
 /// the budget.
 ///
-/// Of equal bounds the node that was made first is the next. Where none waits any more there is an optimal clearing, which may
+/// Of equal bounds the node that was made first is the next. Where the root branches, its optimum is rounded. Where none waits any more there is an optimal clearing, which may
 /// be refined.
 fn visit_all(
     alloc: Global,
@@ -146,6 +176,9 @@ fn visit_all(
             return Ok(Cleared::Spent(Spent { items }));
         }
         admit(&search, &mut queue, key);
+        if node == ROOT && queue.len() > 1 {
+            offer_rounded(alloc, market, &mut search, &mut start)?;
+        }
     }
     match search.finish(alloc) {
         Ok(clearing) => Ok(Cleared::Published(clearing)),

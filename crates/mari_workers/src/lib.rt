@@ -8,6 +8,7 @@ mod alone;
 mod crew;
 mod first;
 mod refining;
+mod rounding;
 #[cfg(test)]
 mod tests;
 #[cfg(test)]

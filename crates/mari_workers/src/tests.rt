@@ -3,6 +3,7 @@
 mod crews;
 mod order;
 mod random;
+mod rounding;
 mod tickets;
 
 use crate::{Alone, search_alone};

@@ -10,6 +10,7 @@ ghost use Rattle.mari_workers.specs.Alone.{best_in};
 ghost use Rattle.mari_workers.specs.Worked.{Holds, IsFresh, IsSeen};
 
 use crate::alone::{best_of, copy_of};
+use crate::rounding::best_rounded;
 use crate::turnstile::Turnstile;
 use mari_incumbent::{Incumbent, Seat};
 use mari_market::{Activation, Attained, Finding, Market, Prefix};
@@ -66,6 +67,25 @@ fn offer_found(
     }
 }
 
+/// Offers what the root's optimum comes to by rounding, if that is anything.
+fn offer_rounded(
+    alloc: Global,
+    market: &Market,
+    incumbent: &Incumbent,
+    worked: &mut Worked,
+    start: &mut Option<Activation>,
+) -> Result<(), Memory>
+    requires market { IsValid market.now }
+    requires holds { Holds market.now incumbent.now worked.old }
+    ensures holds { Holds market.now incumbent.now worked.new }
+    ensures parts { worked.new.seat.parts ≡ worked.old.seat.parts }
+{
+    match best_rounded(alloc, market, start)? {
+        Some(best) => offer(market, incumbent, worked, &best),
+        None => Ok(()),
+    }
+}
+
 /// Finds out about a node, and offers what was found. The node may be settled with that then, at what the seat saw.
 pub(crate) fn visit<G: Turnstile>(
     alloc: Global,
@@ -93,7 +113,8 @@ pub(crate) fn visit<G: Turnstile>(
 /// the budget. Where memory is wanting it gives its node back and ends.
 ///
 /// Pool, seat and incumbent are of one search of this market. The lock is held for one take, one settle or one give-back. The bell
-/// rings where somebody who waits may get on: after a branch, and when a worker ends. The start is the worker's own.
+/// rings where somebody who waits may get on: after a branch, and when a worker ends. The start is the worker's own. Who branches the
+/// root rounds its optimum, while others go on.
 pub fn work<'m, N: SearchName, G: Turnstile, R: Wait>(
     rt: &R,
     alloc: Global,
@@ -118,6 +139,7 @@ pub fn work<'m, N: SearchName, G: Turnstile, R: Wait>(
         let Took::Took(ticket) = next(rt, worker, pool, bell) else {
             break;
         };
+        let is_root = ticket.prefix.length == 0;
         let found = visit(
             alloc,
             market,
@@ -137,6 +159,11 @@ pub fn work<'m, N: SearchName, G: Turnstile, R: Wait>(
             .settle(incumbent, ticket, finding, &mut worked.seat);
         if settled == Settled::Branched {
             bell.notify_all();
+            if is_root
+                && offer_rounded(alloc, market, incumbent, &mut worked, &mut start).is_err()
+            {
+                break;
+            }
         }
     }
     bell.notify_all();

@@ -1,15 +1,1 @@
-pub mod Chains
-pub mod Fits
-pub mod Levels
-pub mod Lists
-pub mod Marginal
-pub mod Marks
-pub mod Outcomes
-pub mod Readings
-pub mod Settles
-pub mod Shortfalls
-pub mod Spread
 pub mod Starts
-pub mod Transfers
-pub mod Worths
-pub mod Zones

@@ -1,27 +1,22 @@
--- The first amounts: each slot at its least, and what stands in for it.
-use Rattle.std.proofs.Common.{◌≡◌, ◌==◌, if◌then◌else◌, Bool, true, false, ℕ, suc, ℤ, pos, ◌+ℤ◌, neg_ℤ, ◌≤ℤ◌, ◌<ℤ◌, List, [], ◌∷◌, ◌++◌, length, arith, refl, sym, ap, map, inl, inr, get_or}
+-- The plain start: each slot at its least, and what stands in for it.
+use Rattle.std.proofs.Common.{◌≡◌, ◌==◌, if◌then◌else◌, Bool, true, false, ℕ, suc, ℤ, pos, ◌+ℤ◌, neg_ℤ, ◌≤ℤ◌, ◌<ℤ◌, ◌<◌, List, [], ◌∷◌, ◌++◌, length, arith, refl, sym, ap, subst, inl, inr, get_or}
 use Rattle.std.proofs.lemmas.Int.{ints}
 use Rattle.std.specs.List.{All, AllZip}
-use Rattle.std.proofs.lemmas.List.Elements.{All-head, All-tail}
+use Rattle.std.proofs.lemmas.List.{length-map}
+use Rattle.std.proofs.lemmas.List.Elements.{All-head, All-tail, All-append}
 use lib.Signed.{lt_z}
 use Rattle.mari_market.specs.declared.market.Border.{Border}
-use Rattle.mari_market.specs.declared.market.Order.{Order}
-use Rattle.mari_market.specs.declared.market.Market.{Market}
-use Rattle.mari_market.specs.declared.certificate.CutSide.TheVariants.{Out, In}
-use Rattle.mari_market.specs.Cut.{is_in, CannotBalance}
-use Rattle.mari_market.specs.Sums.{int_sum, sum_along}
-use Rattle.mari_market.specs.Activation.{carried_out, IsWithinLimits}
-use Rattle.mari_market.specs.Bounds.{Span}
-use Rattle.mari_flow.specs.declared.slots.Slot.{Slot}
-use Rattle.mari_flow.specs.Slots.{beyond, slot_into, IsWithinSlot, IsRunning}
-use Rattle.mari_flow.specs.Orders.{extra_if, extra_of, lows, offsets, extras, slot_of, slots_of}
-use Rattle.mari_flow.proofs.Chains.{if_neg}
-use Rattle.mari_flow.proofs.Lists.{zip_append, zip_long}
-use Rattle.mari_flow.proofs.Shortfalls.{IsExtra, sum_along-append, out_of, into_of, least_in, most_in_slot}
-
-pub if_none : (b : Bool) (f : ℤ) → f ≡ pos 0 → (if b then f else pos 0) ≡ pos 0
-if_none true f e = e
-if_none false f e = refl
+use Rattle.mari_market.specs.Sums.{sum_along}
+use Rattle.mari_market.specs.Activation.{carried_out}
+use Rattle.mari_network.specs.declared.slots.Slot.{Slot}
+use Rattle.mari_network.specs.Slots.{beyond, no_slot, slot_at, slot_into, IsWithinSlot, IsRunning}
+use Rattle.mari_network.specs.Orders.{IsExtra, IsOrderSlot}
+use Rattle.mari_network.specs.Fits.{IsNetworkSlot}
+use Rattle.mari_flow.specs.Starts.{extra_if, extra_of, lows, offsets, extras}
+use Rattle.mari_network.proofs.Chains.{if_neg, if_none}
+use Rattle.mari_network.proofs.Fits.{network_slots, flows_fit}
+use Rattle.mari_network.proofs.Lists.{map_at, zip_append, zip_long}
+use Rattle.mari_network.proofs.Shortfalls.{sum_along-append}
 
 none_out : (z : ℕ) (b : Border) (f : ℤ) → f ≡ pos 0 → carried_out z b f ≡ pos 0
 none_out z b f e = omega (arith, ints, if_none (b.from == z) f e, if_none (b.to == z) f e)
@@ -62,12 +57,6 @@ flows_none z [] fs n = refl
 flows_none z (b ∷ bs) [] n = refl
 flows_none z (b ∷ bs) (f ∷ fs) n = omega (arith, ints, none_out z b f (n 0), flows_none z bs fs (λ k. n (suc k)))
 
-flows_fit : (bs : List Border) (fs : List ℤ) → length bs ≡ length fs → ((k : ℕ) → get_or fs k (pos 0) ≡ pos 0) → AllZip IsWithinLimits bs fs
-flows_fit [] [] e n = tt
-flows_fit (b ∷ bs) (f ∷ fs) e n = (record { back = omega (arith, ints, n 0); limit = omega (arith, ints, n 0) }, flows_fit bs fs (omega arith) (λ k. n (suc k)))
-flows_fit [] (f ∷ fs) e n = absurd (omega arith)
-flows_fit (b ∷ bs) [] e n = absurd (omega arith)
-
 -- the first amounts are within their bounds, and in balance
 pub starts_running : (n : ℕ) (slots : List Slot) (bs : List Border) (fs : List ℤ) → All (λ (s : Slot). s.low ≤ℤ s.high) slots → length bs ≡ length fs → ((k : ℕ) → get_or fs k (pos 0) ≡ pos 0) → IsRunning n (slots ++ extras slots) bs (lows slots ++ offsets slots) fs
 starts_running n slots bs fs a e none =
@@ -80,13 +69,21 @@ starts_running n slots bs fs a e none =
       balance = λ z l. omega (arith, ints, sum_along-append (slot_into z) slots (extras slots) (lows slots) (offsets slots) (lows_long slots), starts_balance z slots, flows_none z bs fs none);
     }
 
-int_sum_map : {X Y : Type 0} (f : Y → ℤ) (g : X → Y) (xs : List X) → int_sum f (map g xs) ≡ int_sum (λ x. f (g x)) xs
-int_sum_map f g [] = refl
-int_sum_map f g (x ∷ xs) = ap (λ (v : ℤ). f (g x) +ℤ v) (int_sum_map f g xs)
+-- what stands in is among what may
+pub extras_extra : (slots : List Slot) → All (IsExtra beyond) (extras slots)
+extras_extra slots = λ k d l.
+    let there : k < length slots = omega (arith, length-map slots extra_of, l) in
+    subst (λ (s : Slot). IsExtra beyond s) (sym (map_at extra_of slots k no_slot d there)) (extra_fits (slot_at slots k)).kind
 
--- a shortfall of the orders' slots is a cut
-pub shortfall_is_cut_out : (bounds : Order → Span) (m : Market) (zones : List ℕ) → int_sum (out_of (is_in zones)) m.borders <ℤ int_sum (least_in (is_in zones)) (slots_of bounds m.orders) → CannotBalance bounds m Out zones
-shortfall_is_cut_out bounds m zones h = omega (arith, ints, h, int_sum_map (least_in (is_in zones)) (λ o. slot_of (bounds o) o) m.orders)
+extra_network : (b : Bool) (n : ℕ) (s : Slot) → (b ≡ true → s.low <ℤ pos 0) → (b ≡ false → pos 0 ≤ℤ s.low) → IsOrderSlot n s → IsNetworkSlot n (extra_if b s)
+extra_network true n s l h f = record { zone = f.zone; small = record { low = omega (arith, ints); high = omega (arith, ints, f.low); cheap = omega (arith, ints); dear = omega (arith, ints) } }
+extra_network false n s l h f = record { zone = f.zone; small = record { low = omega (arith, ints, f.in_order, f.high); high = omega (arith, ints); cheap = omega (arith, ints); dear = omega (arith, ints) } }
 
-pub shortfall_is_cut_in : (bounds : Order → Span) (m : Market) (zones : List ℕ) → int_sum (most_in_slot (is_in zones)) (slots_of bounds m.orders) <ℤ neg_ℤ (int_sum (into_of (is_in zones)) m.borders) → CannotBalance bounds m In zones
-shortfall_is_cut_in bounds m zones h = omega (arith, ints, h, int_sum_map (most_in_slot (is_in zones)) (λ o. slot_of (bounds o) o) m.orders)
+extra_fine : (n : ℕ) (s : Slot) → IsOrderSlot n s → IsNetworkSlot n (extra_of s)
+extra_fine n s f = extra_network (lt_z s.low (pos 0)) n s (λ e. grind (arith, ints)) (λ e. grind (arith, ints)) f
+
+-- the orders' slots and what stands in for their least make a network
+pub all_slots : (n : ℕ) (slots : List Slot) → All (IsOrderSlot n) slots → All (IsNetworkSlot n) (slots ++ extras slots)
+all_slots n slots a = All-append (IsNetworkSlot n) slots (extras slots) (network_slots n slots a)
+    (λ k d l. let there : k < length slots = omega (arith, length-map slots extra_of, l) in
+    subst (λ (s : Slot). IsNetworkSlot n s) (sym (map_at extra_of slots k no_slot d there)) (extra_fine n (get_or slots k no_slot) (a k no_slot there)))

@@ -1,9 +1,1 @@
-pub mod Slots
-pub mod Network
-pub mod Chain
-pub mod Spread
-pub mod Margins
-pub mod Levels
-pub mod Orders
-pub mod Searching
-pub mod Solving
+pub mod Starts

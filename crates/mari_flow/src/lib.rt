@@ -1,19 +1,16 @@
 //! The relaxed optimum of a prefix, by cancelling improving cycles.
 //!
-//! It stands on the market's definitions and on the bounds that a prefix leaves to orders. `solve` carries the promise:
-//! an activation whose welfare is both the relaxed value of the prefix and the dual value of its potentials, or a cut that
-//! no activation can balance. This is the plain solver; a faster one may stand beside it under the same contract.
+//! It stands on networks of slots and borders: it starts from each order's least, and moves energy along one improving
+//! chain after another, each searched for from the beginning. `solve` carries the promise: an activation whose welfare is
+//! both the relaxed value of the prefix and the dual value of its potentials, or a cut that no activation can balance. This
+//! is the plain solver, with which a faster one under the same contract is compared.
 #![tactic(auto)]
 
-mod chain;
-mod finish;
-mod margins;
-mod network;
 mod optimum;
 mod run;
-mod search;
-mod slots;
+mod start;
 #[cfg(test)]
 mod tests;
 
-pub use optimum::{SolveFault, Solved, solve};
+pub use mari_network::{SolveFault, Solved};
+pub use optimum::solve;

@@ -1,15 +1,13 @@
 //! Improving until no chain is left.
 
 ghost use Rattle.std.specs.Prelude.{IfOk};
-ghost use Rattle.mari_flow.specs.Network.{IsNetwork, Runs};
-ghost use Rattle.mari_flow.specs.Searching.{AreTightPrices};
+ghost use Rattle.mari_network.specs.Network.{IsNetwork, Runs};
+ghost use Rattle.mari_network.specs.Searching.{AreTightPrices};
 
-use crate::chain::improve;
-use crate::network::Network;
-use crate::search::{Found, find_chain};
+use mari_network::{Found, Network, find_chain, improve, margins_of};
 use std::alloc::{AllocError, Global};
 
-/// Improves until no chain is left, and gives the prices that show it.
+/// Improves until no chain is left, one chain after another, and gives the prices that show it.
 pub fn run(
     alloc: Global,
     network: &Network,
@@ -22,7 +20,8 @@ pub fn run(
     ensures tight { IfOk result (λ prices. AreTightPrices network.now amounts.new flows.new prices.items) }
 {
     loop {
-        match find_chain(alloc, network, amounts, flows)? {
+        let margins = margins_of(alloc, network, amounts)?;
+        match find_chain(alloc, network, amounts, flows, &margins)? {
             Found::Improving(chain) => improve(network, amounts, flows, &chain),
             Found::Tight(prices) => return Ok(prices),
         }

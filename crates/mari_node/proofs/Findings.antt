@@ -18,7 +18,7 @@ use Rattle.mari_market.specs.Prefix.{bit_of, bounds_of_word, word_of, IsFeasible
 use Rattle.mari_market.specs.Relaxation.{IsRelaxedWelfare}
 use Rattle.mari_market.proofs.Conflicts.{conflict_refutes, chain_refutes, price_in_cap}
 use Rattle.mari_market.proofs.Surplus.{welfare_at_least_0}
-use Rattle.mari_paths.specs.declared.optimum.Solved.{Solved}
+use Rattle.mari_network.specs.declared.optimum.Solved.{Solved}
 use Rattle.mari_node.specs.Nodes.{best_found, bound_found, conflict_found, IsContradictory, IsRelaxedOptimum, IsLastNode, IsInnerNode}
 use Rattle.mari_node.proofs.Decided.{has_word, decided_feasible, decided_tight}
 

@@ -14,8 +14,8 @@ use Rattle.mari_market.specs.Price.{ArePrices}
 use Rattle.mari_market.specs.Relaxation.{IsWithinBounds, IsRelaxedWelfare}
 use Rattle.mari_market.specs.declared.finding.Finding.{Finding}
 use Rattle.mari_market.specs.declared.finding.Finding.TheVariants.{Empty, Relaxed as RelaxedFinding}
-use Rattle.mari_paths.specs.declared.optimum.Solved.{Solved}
-use Rattle.mari_paths.specs.Solving.{NoneWithin}
+use Rattle.mari_network.specs.declared.optimum.Solved.{Solved}
+use Rattle.mari_network.specs.Solving.{NoneWithin}
 
 -- the solved optimum as the best activation of its node
 abbrev pub best_found : Solved → Relaxed

@@ -1,15 +1,13 @@
 -- The hops of a chain, and the ends that margins give.
-use Rattle.std.proofs.Common.{◌≡◌, Bool, true, false, ℕ, zero, suc, ◌<◌, List, length, arith, sym, ap, ◌∙◌, subst, get_or, Some}
+use Rattle.std.proofs.Common.{Bool, true, false, ℕ, zero, suc, ◌<◌, List, length, arith, sym, subst}
 use Rattle.std.specs.List.{All}
 use Rattle.mari_market.specs.declared.market.Border.{Border}
-use Rattle.mari_paths.specs.declared.chain.Hop.{Hop}
-use Rattle.mari_paths.specs.declared.chain.Chain.{Chain as ChainRecord}
-use Rattle.mari_paths.specs.declared.margins.Margin.{Margin}
-use Rattle.mari_paths.specs.declared.drains.Ends.{Ends}
-use Rattle.mari_paths.specs.declared.network.Network.{Network as NetworkRecord}
-use Rattle.mari_paths.specs.Slots.{no_slot}
-use Rattle.mari_paths.specs.Network.{no_border, border_at, IsBetween, IsNetwork}
-use Rattle.mari_paths.specs.Chain.{hop_at, tail_of, IsTrace, IsImproving}
+use Rattle.mari_network.specs.declared.chain.Hop.{Hop}
+use Rattle.mari_network.specs.declared.chain.Chain.{Chain as ChainRecord}
+use Rattle.mari_network.specs.declared.network.Network.{Network as NetworkRecord}
+use Rattle.mari_network.specs.Slots.{no_slot}
+use Rattle.mari_network.specs.Network.{no_border, border_at, IsBetween, IsNetwork}
+use Rattle.mari_network.specs.Chain.{hop_at, tail_of, IsTrace, IsImproving}
 use Rattle.mari_paths.specs.Drains.{AreHops}
 
 tail_within : (forth : Bool) (n : ℕ) (b : Border) → IsBetween n b → tail_of forth b < n
@@ -23,11 +21,11 @@ hop_within n bs hops (suc k) a t first l =
     subst (λ (z : ℕ). z < n) (sym h.tail) (tail_within (hop_at hops (suc k)).forth n (border_at bs (hop_at hops (suc k)).border) (a (hop_at hops (suc k)).border no_border h.there))
 
 -- the hops of an improving chain
-pub hops_of : (n : NetworkRecord) (xs fs : List _) (c : ChainRecord) → IsNetwork n → IsImproving n xs fs c → AreHops (length n.meeting.now) n.borders.now c.hops.items
+pub hops_of : (n : NetworkRecord) (xs fs : List _) (c : ChainRecord) → IsNetwork n → IsImproving n xs fs c → AreHops (length n.meeting.items) n.borders.now c.hops.items
 hops_of n xs fs c network i =
-    let first = subst (λ (z : ℕ). z < length n.meeting.now) i.to (network.zones c.sink no_slot i.less.0) in
+    let first = subst (λ (z : ℕ). z < length n.meeting.items) i.to (network.zones c.sink no_slot i.less.0) in
     record {
       trace = i.trace;
       some = omega (arith, i.there);
-      within = λ k l. hop_within (length n.meeting.now) n.borders.now c.hops.items k network.ends i.trace first l;
+      within = λ k l. hop_within (length n.meeting.items) n.borders.now c.hops.items k network.ends i.trace first l;
     }

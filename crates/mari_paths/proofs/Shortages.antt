@@ -1,5 +1,5 @@
 -- What each zone is short of, kept as slots and borders are gone over.
-use Rattle.std.proofs.Common.{◌≡◌, ◌==◌, if◌then◌else◌, Bool, true, false, ℕ, ◌+◌, ◌*◌, ◌<◌, ◌≤◌, ℤ, pos, ◌+ℤ◌, ◌-ℤ◌, neg_ℤ, ◌≤ℤ◌, List, length, set, get_or, arith, refl, sym, ap, ◌∙◌, subst, inl, inr, get_or-set_other}
+use Rattle.std.proofs.Common.{◌≡◌, ◌==◌, if◌then◌else◌, Bool, true, false, ℕ, ◌+◌, ◌<◌, ◌≤◌, ℤ, pos, ◌+ℤ◌, ◌-ℤ◌, List, length, set, arith, refl, sym, ap, ◌∙◌, inl, inr, get_or-set_other}
 use Rattle.std.proofs.lemmas.Int.{ints}
 use Rattle.std.proofs.lemmas.Bool.{cases_eq}
 use Rattle.std.proofs.lemmas.List.{get_or-set_same}
@@ -7,10 +7,10 @@ use Rattle.std.specs.List.{All, AllZip}
 use Rattle.mari_market.specs.declared.market.Border.{Border}
 use Rattle.mari_market.specs.Activation.{IsWithinLimits, carried_out}
 use Rattle.mari_market.proofs.Sums.{AllZip-at}
-use Rattle.mari_paths.specs.declared.slots.Slot.{Slot}
-use Rattle.mari_paths.specs.Slots.{no_slot, slot_at, amount_at, at_zone, IsWithinSlot}
-use Rattle.mari_paths.specs.Orders.{IsOrderSlot}
-use Rattle.mari_paths.specs.Network.{no_border, border_at}
+use Rattle.mari_network.specs.declared.slots.Slot.{Slot}
+use Rattle.mari_network.specs.Slots.{no_slot, amount_at, at_zone, IsWithinSlot}
+use Rattle.mari_network.specs.Orders.{IsOrderSlot}
+use Rattle.mari_network.specs.Network.{no_border}
 use Rattle.mari_paths.specs.Starts.{IsNear, AreSmallLimits}
 
 yes_zone : (k z : ℕ) (a b : ℤ) → z ≡ k → (if k == z then a else b) ≡ a

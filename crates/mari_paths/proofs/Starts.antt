@@ -1,28 +1,19 @@
 -- What a start leaves out of balance, and what stands in for it.
-use Rattle.std.proofs.Common.{◌≡◌, ◌==◌, if◌then◌else◌, Bool, true, false, ℕ, zero, suc, ◌+◌, ◌<◌, ◌≤◌, ℤ, pos, ◌+ℤ◌, neg_ℤ, ◌≤ℤ◌, ◌<ℤ◌, List, [], ◌∷◌, ◌++◌, length, arith, refl, sym, ap, ◌∙◌, subst, map, inl, inr, get_or}
+use Rattle.std.proofs.Common.{◌≡◌, ◌==◌, if◌then◌else◌, Bool, true, false, ℕ, zero, suc, ◌+◌, ◌<◌, ◌≤◌, ℤ, pos, ◌≤ℤ◌, ◌<ℤ◌, List, [], ◌∷◌, ◌++◌, length, arith, refl, sym, ap, ◌∙◌, inl, inr, get_or}
 use Rattle.std.proofs.lemmas.Int.{ints}
 use Rattle.std.specs.List.{All, AllZip}
 use Rattle.std.proofs.lemmas.List.Elements.{All-head, All-tail, All-cons}
 use lib.Signed.{lt_z}
 use Rattle.mari_market.specs.declared.market.Border.{Border}
-use Rattle.mari_market.specs.declared.market.Order.{Order}
-use Rattle.mari_market.specs.declared.market.Market.{Market}
-use Rattle.mari_market.specs.declared.certificate.CutSide.TheVariants.{Out, In}
-use Rattle.mari_market.specs.Cut.{is_in, CannotBalance}
-use Rattle.mari_market.specs.Sums.{int_sum, sum_along}
+use Rattle.mari_market.specs.Sums.{sum_along}
 use Rattle.mari_market.specs.Activation.{IsWithinLimits}
-use Rattle.mari_market.specs.Bounds.{Span}
-use Rattle.mari_paths.specs.declared.slots.Slot.{Slot}
-use Rattle.mari_paths.specs.Slots.{beyond, at_zone, slot_into, IsWithinSlot, IsRunning}
-use Rattle.mari_paths.specs.Orders.{slot_of, slots_of}
-use Rattle.mari_paths.specs.Starts.{stand_in_if, stand_in_of, stand_ins, IsExtra, IsNear, AreShort}
-use Rattle.mari_paths.specs.Fits.{IsNetworkSlot}
-use Rattle.mari_paths.proofs.Lists.{zip_append, zip_long}
-use Rattle.mari_paths.proofs.Shortfalls.{sum_along-append, out_of, into_of, least_in, most_in_slot}
-
-pub if_none : (b : Bool) (f : ℤ) → f ≡ pos 0 → (if b then f else pos 0) ≡ pos 0
-if_none true f e = e
-if_none false f e = refl
+use Rattle.mari_network.specs.declared.slots.Slot.{Slot}
+use Rattle.mari_network.specs.Slots.{beyond, slot_into, IsWithinSlot, IsRunning}
+use Rattle.mari_network.specs.Orders.{IsExtra}
+use Rattle.mari_paths.specs.Starts.{stand_in_if, stand_in_of, stand_ins, IsNear, AreShort}
+use Rattle.mari_network.specs.Fits.{IsNetworkSlot}
+use Rattle.mari_network.proofs.Lists.{zip_append, zip_long}
+use Rattle.mari_network.proofs.Shortfalls.{sum_along-append}
 
 -- what is known of what stands in for a shortage of a zone
 pub record StandsIn (z : ℕ) (d : ℤ) (s : Slot) : Type 0 where
@@ -87,13 +78,6 @@ stand_ins_push z (x ∷ xs) d =
     let e : z + 1 + length xs ≡ z + length (x ∷ xs) = omega arith in
     ap (λ (ss : List Slot). stand_in_of z x ∷ ss) (stand_ins_push (z + 1) xs d ∙ ap (λ (k : ℕ). stand_ins (z + 1) xs ++ stand_in_of k d ∷ []) e)
 
--- flows of none
-pub flows_fit : (bs : List Border) (fs : List ℤ) → length bs ≡ length fs → ((k : ℕ) → get_or fs k (pos 0) ≡ pos 0) → AllZip IsWithinLimits bs fs
-flows_fit [] [] e n = tt
-flows_fit (b ∷ bs) (f ∷ fs) e n = (record { back = omega (arith, ints, n 0); limit = omega (arith, ints, n 0) }, flows_fit bs fs (omega arith) (λ k. n (suc k)))
-flows_fit [] (f ∷ fs) e n = absurd (omega arith)
-flows_fit (b ∷ bs) [] e n = absurd (omega arith)
-
 -- with what stands in, all is in balance
 pub starts_running : (n : ℕ) (slots : List Slot) (bs : List Border) (xs fs short : List ℤ) → AllZip IsWithinSlot slots xs → AllZip IsWithinLimits bs fs → AreShort n slots bs xs fs short → IsRunning n (slots ++ stand_ins 0 short) bs (xs ++ short) fs
 starts_running n slots bs xs fs short a b s =
@@ -105,14 +89,3 @@ starts_running n slots bs xs fs short a b s =
       flows = b;
       balance = λ z l. omega (arith, ints, sum_along-append (slot_into z) slots (stand_ins 0 short) xs short (zip_long IsWithinSlot slots xs a), into_at z 0 z short (omega arith) (omega (arith, s.long)), s.each z l);
     }
-
-int_sum_map : {X Y : Type 0} (f : Y → ℤ) (g : X → Y) (xs : List X) → int_sum f (map g xs) ≡ int_sum (λ x. f (g x)) xs
-int_sum_map f g [] = refl
-int_sum_map f g (x ∷ xs) = ap (λ (v : ℤ). f (g x) +ℤ v) (int_sum_map f g xs)
-
--- a shortfall of the orders' slots is a cut
-pub shortfall_is_cut_out : (bounds : Order → Span) (m : Market) (zones : List ℕ) → int_sum (out_of (is_in zones)) m.borders <ℤ int_sum (least_in (is_in zones)) (slots_of bounds m.orders) → CannotBalance bounds m Out zones
-shortfall_is_cut_out bounds m zones h = omega (arith, ints, h, int_sum_map (least_in (is_in zones)) (λ o. slot_of (bounds o) o) m.orders)
-
-pub shortfall_is_cut_in : (bounds : Order → Span) (m : Market) (zones : List ℕ) → int_sum (most_in_slot (is_in zones)) (slots_of bounds m.orders) <ℤ neg_ℤ (int_sum (into_of (is_in zones)) m.borders) → CannotBalance bounds m In zones
-shortfall_is_cut_in bounds m zones h = omega (arith, ints, h, int_sum_map (most_in_slot (is_in zones)) (λ o. slot_of (bounds o) o) m.orders)

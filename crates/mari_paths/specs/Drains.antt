@@ -1,13 +1,13 @@
 -- Hops along which one chain after another may improve.
-use Rattle.std.specs.Prelude.{◌≡◌, ℕ, ◌<◌, ℤ, pos, ◌<ℤ◌, List, length, Some}
+use Rattle.std.specs.Prelude.{◌≡◌, ℕ, ◌<◌, ◌<ℤ◌, List, length, Some}
 use Rattle.mari_market.specs.declared.market.Border.{Border}
-use Rattle.mari_paths.specs.declared.chain.Hop.{Hop}
-use Rattle.mari_paths.specs.declared.margins.Margin.{Margin}
+use Rattle.mari_network.specs.declared.chain.Hop.{Hop}
+use Rattle.mari_network.specs.declared.margins.Margin.{Margin}
 use Rattle.mari_paths.specs.declared.drains.Ends.{Ends}
-use Rattle.mari_paths.specs.declared.slots.Slot.{Slot}
-use Rattle.mari_paths.specs.Slots.{price_of}
-use Rattle.mari_paths.specs.Margins.{dearest_at, cheapest_at}
-use Rattle.mari_paths.specs.Chain.{hop_at, IsTrace, HasRoom}
+use Rattle.mari_network.specs.declared.slots.Slot.{Slot}
+use Rattle.mari_network.specs.Slots.{price_of}
+use Rattle.mari_network.specs.Margins.{cheapest_at}
+use Rattle.mari_network.specs.Chain.{hop_at, IsTrace}
 
 -- hops between so many zones
 pub record AreHops (zones : ℕ) (bs : List Border) (hops : List Hop) : Type 0 where

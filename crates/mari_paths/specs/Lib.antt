@@ -1,12 +1,2 @@
-pub mod Slots
-pub mod Network
-pub mod Chain
-pub mod Spread
-pub mod Margins
-pub mod Levels
-pub mod Orders
-pub mod Searching
 pub mod Starts
-pub mod Fits
 pub mod Drains
-pub mod Solving

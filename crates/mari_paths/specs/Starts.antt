@@ -1,11 +1,11 @@
 -- What stands in for what a start leaves out of balance.
-use Rattle.std.specs.Prelude.{◌≡◌, ◌⊎◌, Bool, true, false, ℕ, ◌+◌, ◌<◌, ◌≤◌, ℤ, pos, ◌-ℤ◌, neg_ℤ, ◌≤ℤ◌, List, [], ◌∷◌, length}
+use Rattle.std.specs.Prelude.{◌≡◌, Bool, true, false, ℕ, ◌+◌, ◌<◌, ◌≤◌, ℤ, pos, ◌-ℤ◌, neg_ℤ, ◌≤ℤ◌, List, [], ◌∷◌, length}
 use lib.Signed.{lt_z}
 use Rattle.mari_market.specs.declared.market.Border.{Border}
 use Rattle.mari_market.specs.Sums.{sum_along}
 use Rattle.mari_market.specs.Activation.{carried_out}
-use Rattle.mari_paths.specs.declared.slots.Slot.{Slot}
-use Rattle.mari_paths.specs.Slots.{beyond, amount_at, slot_into}
+use Rattle.mari_network.specs.declared.slots.Slot.{Slot}
+use Rattle.mari_network.specs.Slots.{beyond, amount_at, slot_into}
 
 -- the least of a slot is at most its greatest
 abbrev pub IsOrdered : Slot → Type 0
@@ -32,10 +32,6 @@ stand_in_of z d = stand_in_if (lt_z d (pos 0)) z d
 abbrev pub stand_ins : ℕ → List ℤ → List Slot
 stand_ins z [] = []
 stand_ins z (d ∷ ds) = stand_in_of z d ∷ stand_ins (z + 1) ds
-
--- a slot of the least price that only takes energy, or one of the greatest that only gives it
-abbrev pub IsExtra : ℤ → Slot → Type 0
-IsExtra m s = ((s.price ≡ neg_ℤ m) × (s.high ≡ pos 0)) ⊎ ((s.price ≡ m) × (s.low ≡ pos 0))
 
 -- what each zone is short of: what borders carry out less what slots put in
 pub record AreShort (zones : ℕ) (slots : List Slot) (bs : List Border) (xs fs short : List ℤ) : Type 0 where

@@ -4,16 +4,13 @@ ghost use Rattle.std.specs.Prelude.{◌≡◌, ◌<◌, ◌<ℤ◌, true, ℕ, p
 ghost use Rattle.std.specs.List.{AllZip};
 ghost use Rattle.mari_market.specs.Sums.{sum_along};
 ghost use Rattle.mari_market.specs.Activation.{IsWithinLimits};
-ghost use Rattle.mari_paths.specs.Chain.{hop_at, HasRoom, IsImproving};
+ghost use Rattle.mari_network.specs.Chain.{hop_at, HasRoom, IsImproving};
 ghost use Rattle.mari_paths.specs.Drains.{AreHops, AreEnds};
-ghost use Rattle.mari_paths.specs.Margins.{dearest_at, cheapest_at, AreMargins};
-ghost use Rattle.mari_paths.specs.Network.{IsNetwork, Runs};
-ghost use Rattle.mari_paths.specs.Slots.{price_of, worth};
+ghost use Rattle.mari_network.specs.Margins.{dearest_at, cheapest_at, AreMargins};
+ghost use Rattle.mari_network.specs.Network.{IsNetwork, Runs};
+ghost use Rattle.mari_network.specs.Slots.{price_of, worth};
 
-use crate::chain::{Chain, Hop, has_room, improve};
-use crate::margins::{Margin, refresh};
-use crate::network::Network;
-use crate::slots::Slot;
+use mari_network::{Chain, Hop, Margin, Network, Slot, has_room, improve, refresh};
 
 /// Where a chain ends and starts, and the place of its start's hop.
 #[derive(Clone, Copy, Drop)]
@@ -84,8 +81,8 @@ fn go_on(
 ) -> bool
     requires network { IsNetwork network.now }
     requires runs { Runs network.now amounts.now flows.now }
-    requires margins { AreMargins network.now.slots.now amounts.now (length network.now.meeting.now) (length network.now.slots.now) margins.now }
-    requires hops { AreHops (length network.now.meeting.now) network.now.borders.now chain.old.hops.items }
+    requires margins { AreMargins network.now.slots.now amounts.now (length network.now.meeting.items) (length network.now.slots.now) margins.now }
+    requires hops { AreHops (length network.now.meeting.items) network.now.borders.now chain.old.hops.items }
     ensures hops { chain.new.hops ≡ chain.old.hops }
     ensures improving { result ≡ true → IsImproving network.now amounts.now flows.now chain.new }
 {
@@ -112,10 +109,10 @@ fn push_along(
 )
     requires network { IsNetwork network.now }
     requires runs { Runs network.now amounts.old flows.old }
-    requires margins { AreMargins network.now.slots.now amounts.old (length network.now.meeting.now) (length network.now.slots.now) margins.old }
+    requires margins { AreMargins network.now.slots.now amounts.old (length network.now.meeting.items) (length network.now.slots.now) margins.old }
     requires chain { IsImproving network.now amounts.old flows.old chain.now }
     ensures runs { Runs network.now amounts.new flows.new }
-    ensures margins { AreMargins network.now.slots.now amounts.new (length network.now.meeting.now) (length network.now.slots.now) margins.new }
+    ensures margins { AreMargins network.now.slots.now amounts.new (length network.now.meeting.items) (length network.now.slots.now) margins.new }
     ensures rises { sum_along worth network.now.slots.now amounts.old <ℤ sum_along worth network.now.slots.now amounts.new }
 {
     improve(network, amounts, flows, chain);
@@ -143,10 +140,10 @@ pub fn drain(
 )
     requires network { IsNetwork network.now }
     requires runs { Runs network.now amounts.old flows.old }
-    requires margins { AreMargins network.now.slots.now amounts.old (length network.now.meeting.now) (length network.now.slots.now) margins.old }
+    requires margins { AreMargins network.now.slots.now amounts.old (length network.now.meeting.items) (length network.now.slots.now) margins.old }
     requires chain { IsImproving network.now amounts.old flows.old chain.old }
     ensures runs { Runs network.now amounts.new flows.new }
-    ensures margins { AreMargins network.now.slots.now amounts.new (length network.now.meeting.now) (length network.now.slots.now) margins.new }
+    ensures margins { AreMargins network.now.slots.now amounts.new (length network.now.meeting.items) (length network.now.slots.now) margins.new }
     ensures rises { sum_along worth network.now.slots.now amounts.old <ℤ sum_along worth network.now.slots.now amounts.new }
 {
     let price = network.slots[chain.sink].price;

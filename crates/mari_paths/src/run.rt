@@ -1,14 +1,12 @@
 //! Improving until no chain is left.
 
 ghost use Rattle.std.specs.Prelude.{length, IfOk};
-ghost use Rattle.mari_paths.specs.Margins.{AreMargins};
-ghost use Rattle.mari_paths.specs.Network.{IsNetwork, Runs};
-ghost use Rattle.mari_paths.specs.Searching.{AreTightPrices};
+ghost use Rattle.mari_network.specs.Margins.{AreMargins};
+ghost use Rattle.mari_network.specs.Network.{IsNetwork, Runs};
+ghost use Rattle.mari_network.specs.Searching.{AreTightPrices};
 
 use crate::drains::drain;
-use crate::margins::Margin;
-use crate::network::Network;
-use crate::search::{Found, find_chain};
+use mari_network::{Found, Margin, Network, find_chain};
 use std::alloc::{AllocError, Global};
 
 /// Improves until no chain is left, and gives the prices that show it.
@@ -21,7 +19,7 @@ pub fn run(
 ) -> Result<Vec<i64>, AllocError>
     requires network { IsNetwork network.now }
     requires runs { Runs network.now amounts.old flows.old }
-    requires margins { AreMargins network.now.slots.now amounts.old (length network.now.meeting.now) (length network.now.slots.now) margins.old }
+    requires margins { AreMargins network.now.slots.now amounts.old (length network.now.meeting.items) (length network.now.slots.now) margins.old }
     ensures runs { Runs network.now amounts.new flows.new }
     ensures tight { IfOk result (λ prices. AreTightPrices network.now amounts.new flows.new prices.items) }
 {

@@ -1,6 +1,6 @@
-use Rattle.std.proofs.Common.{◌≡◌, ◌<◌, ℕ, ◌≤ℤ◌, ◌<ℤ◌, Some}
+use Rattle.std.proofs.Common.{◌≤ℤ◌}
 use Rattle.std.specs.Prelude.{IfSome}
-use Rattle.mari_paths.specs.Slots.{price_of}
+use Rattle.mari_network.specs.Slots.{price_of}
 use Rattle.mari_paths.specs.Drains.{AreEnds}
 use Rattle.mari_paths.proofs.drains.cheapest_end.Given as goal
 

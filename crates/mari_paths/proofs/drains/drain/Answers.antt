@@ -1,4 +1,4 @@
-use Rattle.mari_paths.proofs.Worths.{room_falls}
+use Rattle.mari_network.proofs.Worths.{room_falls}
 use Rattle.mari_paths.proofs.drains.drain.Goals as goal
 
 pub loop-amounts-smaller : goal.loop-amounts-smaller

@@ -1,17 +1,17 @@
 use Rattle.std.proofs.Common.{length, ◌<ℤ◌}
 use Rattle.mari_market.specs.Sums.{sum_along}
-use Rattle.mari_paths.specs.Slots.{worth}
-use Rattle.mari_paths.specs.Margins.{AreMargins}
-use Rattle.mari_paths.specs.Network.{Runs}
+use Rattle.mari_network.specs.Slots.{worth}
+use Rattle.mari_network.specs.Margins.{AreMargins}
+use Rattle.mari_network.specs.Network.{Runs}
 use Rattle.mari_paths.specs.Drains.{AreHops}
-use Rattle.mari_paths.proofs.Worths.{room_left}
+use Rattle.mari_network.proofs.Worths.{room_left}
 use Rattle.mari_paths.proofs.drains.drain.Given as goal
 
 abbrev pub invariant-loop-amounts : goal.invariant-loop-amounts
 invariant-loop-amounts l = record {
   runs : Runs l.network l.amounts l.flows;
-  margins : AreMargins l.network.slots.now l.amounts (length l.network.meeting.now) (length l.network.slots.now) l.margins;
-  hops : AreHops (length l.network.meeting.now) l.network.borders.now l.chain.hops.items;
+  margins : AreMargins l.network.slots.now l.amounts (length l.network.meeting.items) (length l.network.slots.now) l.margins;
+  hops : AreHops (length l.network.meeting.items) l.network.borders.now l.chain.hops.items;
   rises : sum_along worth l.network.slots.now l.fn.amounts <ℤ sum_along worth l.network.slots.now l.amounts;
 }
 

@@ -1,7 +1,6 @@
-use Rattle.std.proofs.Common.{◌≡◌, ◌<◌, ℕ, List, length, sym, arith, subst, pos}
-use Rattle.mari_paths.specs.declared.chain.Hop.{Hop}
-use Rattle.mari_paths.specs.Chain.{hop_at, HasRoom}
-use Rattle.mari_paths.specs.Margins.{IsDearestIn, IsCheapestIn, dearest_at, cheapest_at}
+use Rattle.std.proofs.Common.{◌≡◌, List, arith, subst, pos}
+use Rattle.mari_network.specs.declared.chain.Hop.{Hop}
+use Rattle.mari_network.specs.Chain.{hop_at, HasRoom}
 use Rattle.mari_paths.specs.Drains.{AreEnds}
 use Rattle.mari_paths.proofs.drains.go_on.Goals as goal
 

@@ -1,26 +1,15 @@
-use Rattle.std.proofs.Common.{◌≡◌, List, refl, sym, subst, length}
 use Rattle.mari_market.specs.declared.certificate.Cut.{Cut as CutRecord}
 use Rattle.mari_market.specs.Prefix.{bounds_at}
 use Rattle.mari_market.proofs.Cuts.{cut_is_empty}
-use Rattle.mari_paths.specs.declared.slots.Slot.{Slot}
-use Rattle.mari_paths.specs.Orders.{AreOrderSlots}
-use Rattle.mari_paths.specs.Solving.{IsAnswer}
-use Rattle.mari_gates.proofs.GateTable.{bounds_in_order}
-use Rattle.mari_paths.proofs.Fits.{fine_spans, order_slots_fine}
-use Rattle.mari_paths.proofs.Readings.{solution_says, cut_says}
+use Rattle.mari_network.specs.Solving.{IsAnswer}
+use Rattle.mari_network.proofs.Readings.{solution_says, cut_says}
 use Rattle.mari_paths.proofs.optimum.solve_from.Goals as goal
-
-pub solve_reals-requires-clause-reals : goal.solve_reals-requires-clause-reals
-solve_reals-requires-clause-reals c =
-    let lists = bounds_in_order c.args.market.now c.args.prefix.now _ _ c.requires.market refl refl in
-    subst (λ (slots : List Slot). AreOrderSlots c.args.market.now.zones c.args.market.now.orders slots) (sym c.in_ok-reals.ensures)
-    (order_slots_fine (bounds_at c.args.market.now c.args.prefix.now) c.args.market.now.zones (length c.args.market.now.gates) c.args.market.now.orders c.requires.market.orders (fine_spans (bounds_at c.args.market.now c.args.prefix.now) c.args.market.now.orders lists))
 
 pub returns : goal.returns
 returns c =
     let m = c.args.market.now in
     let spans = bounds_at c.args.market.now c.args.prefix.now in
-    let answer : IsAnswer (bounds_at c.args.market.now c.args.prefix.now) c.args.market.now c.solve_reals.result = c.solve_reals.ensures (bounds_at c.args.market.now c.args.prefix.now) c.in_ok-reals.ensures in
+    let answer : IsAnswer (bounds_at c.args.market.now c.args.prefix.now) c.args.market.now c.solve_reals.result = c.solve_reals.ensures (bounds_at c.args.market.now c.args.prefix.now) c.in_ok-reals.ensures.slots in
     record {
       within = solution_says spans m _ (λ s a. a.within) c.solve_reals.result answer;
       relaxed = solution_says spans m _ (λ s a. record { reached = a.relaxed.reached; greatest = a.relaxed.greatest }) c.solve_reals.result answer;

@@ -1,14 +1,12 @@
-use Rattle.std.proofs.Common.{◌≡◌, ◌<◌, ◌≤◌, ◌+◌, ◌++◌, ℕ, ℤ, pos, List, length, sym, ap, ◌∙◌, subst, arith, get_or, length-append}
+use Rattle.std.proofs.Common.{◌≡◌, ◌++◌, ℤ, pos, List, length, sym, ap, ◌∙◌, subst, arith, length-append}
 use Rattle.std.specs.List.{All, AllZip}
 use Rattle.std.proofs.lemmas.List.Elements.{All-append}
-use Rattle.mari_market.specs.declared.market.Border.{Border}
-use Rattle.mari_market.specs.Activation.{IsWithinLimits}
-use Rattle.mari_paths.specs.declared.slots.Slot.{Slot}
-use Rattle.mari_paths.specs.Slots.{amount_at, IsWithinSlot, IsRunning}
+use Rattle.mari_network.specs.declared.slots.Slot.{Slot}
+use Rattle.mari_network.specs.Slots.{amount_at, IsWithinSlot, IsRunning}
 use Rattle.mari_paths.specs.Starts.{stand_ins, IsNear, AreShort}
-use Rattle.mari_paths.specs.Fits.{IsNetworkSlot}
-use Rattle.mari_paths.proofs.Lists.{same_default, zip_long}
-use Rattle.mari_paths.proofs.Fits.{network_slots}
+use Rattle.mari_network.specs.Fits.{IsNetworkSlot}
+use Rattle.mari_network.proofs.Lists.{same_default, zip_long}
+use Rattle.mari_network.proofs.Fits.{network_slots}
 use Rattle.mari_paths.proofs.Starts.{stand_ins_network, stand_ins_extra, starts_running}
 use Rattle.mari_paths.proofs.optimum.solve_reals.Goals as goal
 

@@ -1,4 +1,4 @@
-use Rattle.mari_paths.proofs.Worths.{room_falls}
+use Rattle.mari_network.proofs.Worths.{room_falls}
 use Rattle.mari_paths.proofs.run.run.Goals as goal
 
 pub loop-chain-smaller : goal.loop-chain-smaller

@@ -1,13 +1,13 @@
-use Rattle.std.proofs.Common.{◌≡◌, ◌<◌, ◌*◌, ◌+◌, ℕ, ℤ, pos, List, ◌+ℤ◌, ap, ◌∙◌, sym, arith, subst, take, length, get_or, to_z-of_z, FitsSigned, w64, rules}
+use Rattle.std.proofs.Common.{◌≡◌, ◌<◌, ◌*◌, ◌+◌, ℕ, ℤ, pos, List, ◌+ℤ◌, ap, ◌∙◌, arith, take, length, to_z-of_z, FitsSigned, w64, rules}
 use Rattle.std.proofs.lemmas.Int.{ints}
 use Rattle.std.proofs.lemmas.List.{take_all}
 use Rattle.mari_market.specs.declared.market.Border.{Border}
 use Rattle.mari_market.specs.Sums.{sum_along}
 use Rattle.mari_market.specs.Activation.{IsWithinLimits, carried_out}
 use Rattle.mari_market.proofs.Sums.{sum_along_more}
-use Rattle.mari_paths.specs.Slots.{amount_at}
-use Rattle.mari_paths.specs.Network.{no_border, border_at}
-use Rattle.mari_paths.proofs.Lists.{zip_long}
+use Rattle.mari_network.specs.Slots.{amount_at}
+use Rattle.mari_network.specs.Network.{no_border, border_at}
+use Rattle.mari_network.proofs.Lists.{zip_long}
 use Rattle.mari_paths.proofs.Shortages.{near_more, carried_near, small_flow}
 use Rattle.mari_paths.proofs.start.add_flows.Goals as goal
 

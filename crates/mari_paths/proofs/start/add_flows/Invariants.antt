@@ -1,7 +1,7 @@
-use Rattle.std.proofs.Common.{◌≡◌, ◌<◌, ◌*◌, ◌+◌, ℕ, ◌+ℤ◌, length, take}
+use Rattle.std.proofs.Common.{◌≡◌, ◌*◌, ◌+◌, ℕ, ◌+ℤ◌, length, take}
 use Rattle.mari_market.specs.Sums.{sum_along}
 use Rattle.mari_market.specs.Activation.{carried_out}
-use Rattle.mari_paths.specs.Slots.{amount_at}
+use Rattle.mari_network.specs.Slots.{amount_at}
 use Rattle.mari_paths.specs.Starts.{IsNear}
 use Rattle.mari_paths.proofs.start.add_flows.Given as goal
 

@@ -1,8 +1,7 @@
-use Rattle.std.proofs.Common.{◌≡◌, ◌<◌, ◌+◌, ◌++◌, ◌∷◌, [], ℕ, ℤ, pos, List, ap, ◌∙◌, sym, arith, take, length, get_or, append_assoc, to_z-of_z, FitsSigned, w64, rules}
-use Rattle.std.proofs.lemmas.Int.{ints}
+use Rattle.std.proofs.Common.{◌≡◌, ◌+◌, ◌++◌, ◌∷◌, [], ℕ, ℤ, pos, List, ap, ◌∙◌, sym, arith, take, length, append_assoc, to_z-of_z, FitsSigned, w64, rules}
 use Rattle.std.proofs.lemmas.List.{take_more, length-take-le}
-use Rattle.mari_paths.specs.declared.slots.Slot.{Slot}
-use Rattle.mari_paths.specs.Slots.{amount_at}
+use Rattle.mari_network.specs.declared.slots.Slot.{Slot}
+use Rattle.mari_network.specs.Slots.{amount_at}
 use Rattle.mari_paths.specs.Starts.{stand_in_of, stand_ins}
 use Rattle.mari_paths.proofs.Starts.{stand_ins_push}
 use Rattle.mari_paths.proofs.start.add_stand_ins.Goals as goal

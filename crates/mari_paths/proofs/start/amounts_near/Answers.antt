@@ -1,6 +1,6 @@
 use Rattle.std.proofs.Common.{to_z-of_z, FitsSigned, w64, rules}
-use Rattle.mari_paths.specs.Slots.{no_slot, IsWithinSlot}
-use Rattle.mari_paths.proofs.Lists.{zip_step}
+use Rattle.mari_network.specs.Slots.{no_slot, IsWithinSlot}
+use Rattle.mari_network.proofs.Lists.{zip_step}
 use Rattle.mari_paths.proofs.start.amounts_near.Goals as goal
 
 pub loop-i-preserved : goal.loop-i-preserved

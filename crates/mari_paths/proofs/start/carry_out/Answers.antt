@@ -1,6 +1,6 @@
-use Rattle.std.proofs.Common.{◌≡◌, ℕ, ℤ, List, ◌+ℤ◌, ◌-ℤ◌, set, ap, ◌∙◌, arith, to_z-of_z, FitsSigned, w64, rules}
+use Rattle.std.proofs.Common.{ℤ, List, ap, ◌∙◌, arith, to_z-of_z, FitsSigned, w64, rules}
 use Rattle.std.proofs.lemmas.Int.{ints}
-use Rattle.mari_paths.specs.Slots.{amount_at, at_zone}
+use Rattle.mari_network.specs.Slots.{amount_at, at_zone}
 use Rattle.mari_paths.proofs.Shortages.{less_at, more_at, near_more, near_zone}
 use Rattle.mari_paths.proofs.start.carry_out.Goals as goal
 

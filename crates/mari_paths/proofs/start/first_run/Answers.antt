@@ -3,8 +3,7 @@ use lib.ListN.{replicate}
 use Rattle.std.specs.List.{AllZip}
 use Rattle.mari_market.specs.declared.market.Border.{Border}
 use Rattle.mari_market.specs.Activation.{IsWithinLimits}
-use Rattle.mari_paths.proofs.Fits.{zeros_at, zeros_long}
-use Rattle.mari_paths.proofs.Starts.{flows_fit}
+use Rattle.mari_network.proofs.Fits.{flows_fit, zeros_at, zeros_long}
 use Rattle.mari_paths.proofs.start.first_run.Goals as goal
 
 pub returns-in_ok-flows-in_default-clause-flows : goal.returns-in_ok-flows-in_default-clause-flows

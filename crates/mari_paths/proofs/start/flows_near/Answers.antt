@@ -1,7 +1,7 @@
 use Rattle.std.proofs.Common.{to_z-of_z, FitsSigned, w64, rules}
 use Rattle.mari_market.specs.Activation.{IsWithinLimits}
-use Rattle.mari_paths.specs.Network.{no_border}
-use Rattle.mari_paths.proofs.Lists.{zip_step}
+use Rattle.mari_network.specs.Network.{no_border}
+use Rattle.mari_network.proofs.Lists.{zip_step}
 use Rattle.mari_paths.proofs.start.flows_near.Goals as goal
 
 pub loop-i-preserved : goal.loop-i-preserved

@@ -1,7 +1,7 @@
-use Rattle.std.proofs.Common.{arith, get_or}
+use Rattle.std.proofs.Common.{arith}
 use Rattle.std.proofs.lemmas.Int.{ints}
-use Rattle.mari_paths.specs.Slots.{no_slot, slot_at, IsWithinSlot}
-use Rattle.mari_paths.proofs.Lists.{zip_step}
+use Rattle.mari_network.specs.Slots.{no_slot, IsWithinSlot}
+use Rattle.mari_network.proofs.Lists.{zip_step}
 use Rattle.mari_paths.proofs.start.least_amounts.Goals as goal
 
 pub loop-slot-preserved : goal.loop-slot-preserved

@@ -1,11 +1,11 @@
-use Rattle.std.proofs.Common.{◌≡◌, ◌<◌, ◌*◌, ◌+◌, ℕ, ℤ, pos, List, ◌-ℤ◌, neg_ℤ, ap, ◌∙◌, sym, arith, subst, take, length, get_or, to_z-of_z, FitsSigned, w64, rules}
+use Rattle.std.proofs.Common.{◌≡◌, ◌<◌, ◌*◌, ◌+◌, ℕ, ℤ, pos, List, ◌-ℤ◌, neg_ℤ, ap, ◌∙◌, arith, take, length, to_z-of_z, FitsSigned, w64, rules}
 use Rattle.std.proofs.lemmas.Int.{ints}
 use Rattle.std.proofs.lemmas.List.{take_all}
 use Rattle.mari_market.specs.Sums.{sum_along}
 use Rattle.mari_market.proofs.Sums.{sum_along_more}
-use Rattle.mari_paths.specs.declared.slots.Slot.{Slot}
-use Rattle.mari_paths.specs.Slots.{no_slot, slot_at, zone_of, amount_at, at_zone, slot_into, IsWithinSlot}
-use Rattle.mari_paths.proofs.Lists.{zip_long}
+use Rattle.mari_network.specs.declared.slots.Slot.{Slot}
+use Rattle.mari_network.specs.Slots.{no_slot, zone_of, amount_at, at_zone, slot_into, IsWithinSlot}
+use Rattle.mari_network.proofs.Lists.{zip_long}
 use Rattle.mari_paths.proofs.Shortages.{less_at, near_less, near_zone, near_wider, small_amount}
 use Rattle.mari_paths.proofs.start.take_amounts.Goals as goal
 

@@ -1,6 +1,6 @@
-use Rattle.std.proofs.Common.{◌≡◌, ◌<◌, ◌*◌, ℕ, neg_ℤ, length, take}
+use Rattle.std.proofs.Common.{◌≡◌, ◌*◌, ℕ, neg_ℤ, length, take}
 use Rattle.mari_market.specs.Sums.{sum_along}
-use Rattle.mari_paths.specs.Slots.{amount_at, slot_into}
+use Rattle.mari_network.specs.Slots.{amount_at, slot_into}
 use Rattle.mari_paths.specs.Starts.{IsNear}
 use Rattle.mari_paths.proofs.start.take_amounts.Given as goal
 

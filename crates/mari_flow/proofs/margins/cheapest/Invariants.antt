@@ -1,5 +1,0 @@
-use Rattle.mari_flow.specs.Margins.{IsCheapestOf}
-use Rattle.mari_flow.proofs.margins.cheapest.Given as goal
-
-abbrev pub invariant-loop-zone : goal.invariant-loop-zone
-invariant-loop-zone l = IsCheapestOf l.slots l.margins l.marked l.zone l.best

@@ -1,0 +1,15 @@
+pub mod Chains
+pub mod Fits
+pub mod Levels
+pub mod Lists
+pub mod Marginal
+pub mod Marks
+pub mod Meetings
+pub mod Outcomes
+pub mod Readings
+pub mod Settles
+pub mod Shortfalls
+pub mod Spread
+pub mod Transfers
+pub mod Worths
+pub mod Zones

@@ -1,0 +1,46 @@
+-- Marks, and one more of them.
+use Rattle.std.proofs.Common.{◌≡◌, ◌⊎◌, Bool, true, false, not, ℕ, zero, suc, ◌+◌, ◌<◌, List, [], ◌∷◌, length, set, arith, refl, ap, inl, inr, cond, sym, subst}
+use Rattle.std.specs.Prelude.{count_by}
+use Rattle.std.proofs.lemmas.List.Sums.{sum_by-set}
+use Rattle.mari_network.specs.Spread.{is_marked}
+
+pub marked_set : (marked : List Bool) (i z : ℕ) → is_marked (set marked i true) z ≡ true → (z ≡ i) ⊎ (is_marked marked z ≡ true)
+marked_set [] i z e = inr e
+marked_set (b ∷ bs) zero zero e = inl refl
+marked_set (b ∷ bs) zero (suc z) e = inr e
+marked_set (b ∷ bs) (suc i) zero e = inr e
+marked_set (b ∷ bs) (suc i) (suc z) e = elim (marked_set bs i z e) [ inl h ↦ inl (ap suc h) | inr h ↦ inr h ]
+
+pub keep_mark : (marked : List Bool) (i z : ℕ) → is_marked marked z ≡ true → is_marked (set marked i true) z ≡ true
+keep_mark [] i z e = e
+keep_mark (b ∷ bs) zero zero e = refl
+keep_mark (b ∷ bs) zero (suc z) e = e
+keep_mark (b ∷ bs) (suc i) zero e = e
+keep_mark (b ∷ bs) (suc i) (suc z) e = keep_mark bs i z e
+
+pub set_mark : (marked : List Bool) (i : ℕ) → i < length marked → is_marked (set marked i true) i ≡ true
+set_mark [] i h = absurd (omega arith)
+set_mark (b ∷ bs) zero h = refl
+set_mark (b ∷ bs) (suc i) h = set_mark bs i (omega arith)
+
+pub count_mark : (marked : List Bool) (i : ℕ) → i < length marked → is_marked marked i ≡ false → count_by not (set marked i true) + 1 ≡ count_by not marked
+count_mark marked i h e =
+    let one : ◌≡◌ {A = ℕ} (cond (not (is_marked marked i)) 1 0) 1 = subst (λ (b : Bool). ◌≡◌ {A = ℕ} (cond (not b) 1 0) 1) (sym e) refl in
+    omega (arith, sum_by-set (λ (x : Bool). cond (not x) 1 0) marked i true false h, one)
+
+pub not_both : (b : Bool) → b ≡ true → b ≡ false → ⊥
+not_both true e f = absurd (cc)
+not_both false e f = absurd (cc)
+
+pub is_false : (a b : Bool) → (a ≡ true → b ≡ true) → b ≡ false → a ≡ false
+is_false true b h e = absurd (not_both b (h refl) e)
+is_false false b h e = refl
+
+pub marked_or : (b : Bool) → (b ≡ true) ⊎ (b ≡ false)
+marked_or true = inl refl
+marked_or false = inr refl
+
+pub marked_below : (marked : List Bool) (z : ℕ) → is_marked marked z ≡ true → z < length marked
+marked_below [] z e = absurd (cc)
+marked_below (b ∷ bs) zero e = omega arith
+marked_below (b ∷ bs) (suc z) e = omega (arith, marked_below bs z e)

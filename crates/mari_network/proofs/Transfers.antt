@@ -1,0 +1,119 @@
+-- What is tight for the slots is tight for the orders.
+use Rattle.std.proofs.Common.{◌≡◌, ◌==◌, if◌then◌else◌, ℕ, ◌<◌, ℤ, pos, neg_ℤ, ◌≤ℤ◌, ◌<ℤ◌, List, [], ◌∷◌, length, arith, refl, sym, ap, ◌∙◌, subst, take, get_or, ◌++◌, ◌+◌, zero, suc, map}
+use Rattle.std.proofs.lemmas.Int.{ints, clamps}
+use Rattle.std.specs.List.{All, AllZip}
+use Rattle.std.proofs.lemmas.List.Elements.{All-head, All-tail}
+use Rattle.mari_units.specs.declared.Cents.{Cents}
+use Rattle.mari_market.specs.declared.market.Side.{Side}
+use Rattle.mari_market.specs.declared.market.Side.TheVariants.{Inject, Withdraw}
+use Rattle.mari_market.specs.declared.market.Order.{Order}
+use Rattle.mari_market.specs.declared.market.Border.{Border}
+use Rattle.mari_market.specs.declared.market.Market.{Market}
+use Rattle.mari_market.specs.declared.activation.Activation.{Activation}
+use Rattle.mari_market.specs.Sums.{sum_along}
+use Rattle.mari_market.specs.Activation.{put_in, put_into, carried_out, IsWithinLimits, welfare_of}
+use Rattle.mari_market.specs.Bounds.{Span, IsWithin}
+use Rattle.mari_market.specs.Consistent.{IsConsistentBorder}
+use Rattle.mari_market.specs.Dual.{dual_value_of, IsTightTrade, IsTightOrder, IsTight}
+use Rattle.mari_market.specs.Market.{IsValid, IsValidOrder, IsValidBorder}
+use Rattle.mari_market.specs.Price.{price_at, IsPrice}
+use Rattle.mari_market.specs.Relaxation.{IsWithinBounds}
+use Rattle.mari_market.specs.Cut.{least_put, most_put}
+use Rattle.std.proofs.lemmas.List.{length-map}
+use Rattle.mari_network.proofs.Lists.{map_at}
+use Rattle.mari_market.proofs.Duality.{weak_duality}
+use Rattle.mari_market.proofs.Tight.{tight_is_equal}
+use Rattle.mari_network.specs.Slots.{slot_into, IsWithinSlot, IsTightSlot}
+use Rattle.mari_network.specs.Levels.{IsTightFlow}
+use Rattle.mari_network.specs.Solving.{IsRelaxed}
+use Rattle.mari_network.specs.Orders.{slots_of, ArePuts, capped, capped_cents}
+
+trade_within : (side : Side) (s : Span) (q : ℕ) → least_put side s ≤ℤ put_in side q → put_in side q ≤ℤ most_put side s → IsWithin s q
+trade_within Inject s q l h = record { least = omega (arith, ints, l, h); most = omega (arith, ints, l, h) }
+trade_within Withdraw s q l h = record { least = omega (arith, ints, l, h); most = omega (arith, ints, l, h) }
+
+trade_tight : (side : Side) (c p : ℤ) (s : Span) (q : ℕ) → IsPrice c → (least_put side s <ℤ put_in side q → c ≤ℤ p) → (put_in side q <ℤ most_put side s → p ≤ℤ c) → IsTightTrade side c (capped p) s q
+trade_tight Inject c p s q i l h = (λ r. omega (arith, ints, clamps, i.low, i.high, l (omega (arith, ints, r))), λ r. omega (arith, ints, clamps, i.low, i.high, h (omega (arith, ints, r))))
+trade_tight Withdraw c p s q i l h = (λ r. omega (arith, ints, clamps, i.low, i.high, h (omega (arith, ints, r))), λ r. omega (arith, ints, clamps, i.low, i.high, l (omega (arith, ints, r))))
+
+pub orders_within : (bounds : Order → Span) (os : List Order) (xs : List ℤ) (qs : List ℕ) → ArePuts os xs qs → AllZip IsWithinSlot (slots_of bounds os) xs → AllZip (λ o q. IsWithin (bounds o) q) os qs
+orders_within bounds [] [] [] r w = tt
+orders_within bounds (o ∷ os) (x ∷ xs) (q ∷ qs) r w = (trade_within o.side (bounds o) q (subst (λ (v : ℤ). least_put o.side (bounds o) ≤ℤ v) r.0 w.0.least) (subst (λ (v : ℤ). v ≤ℤ most_put o.side (bounds o)) r.0 w.0.most), orders_within bounds os xs qs r.1 w.1)
+orders_within bounds [] [] (q ∷ qs) r w = absurd r
+orders_within bounds [] (x ∷ xs) qs r w = absurd r
+orders_within bounds (o ∷ os) [] qs r w = absurd r
+orders_within bounds (o ∷ os) (x ∷ xs) [] r w = absurd r
+
+pub orders_tight : (bounds : Order → Span) (n gates : ℕ) (p : ℕ → ℤ) (ps : List Cents) (os : List Order) (xs : List ℤ) (qs : List ℕ) → ((z : ℕ) → z < n → price_at ps z ≡ capped (p z)) → All (IsValidOrder n gates) os → ArePuts os xs qs → AllZip (IsTightSlot p) (slots_of bounds os) xs → AllZip (IsTightOrder bounds ps) os qs
+orders_tight bounds n gates p ps [] [] [] e v r t = tt
+orders_tight bounds n gates p ps (o ∷ os) (x ∷ xs) (q ∷ qs) e v r t =
+    let o_valid = All-head (IsValidOrder n gates) o os v in (
+      subst (λ (c : ℤ). IsTightTrade o.side o.price.0 c (bounds o) q) (sym (e o.zone o_valid.zone))
+          (trade_tight o.side o.price.0 (p o.zone) (bounds o) q o_valid.price (subst (λ (v : ℤ). least_put o.side (bounds o) <ℤ v → o.price.0 ≤ℤ p o.zone) r.0 t.0.less) (subst (λ (v : ℤ). v <ℤ most_put o.side (bounds o) → p o.zone ≤ℤ o.price.0) r.0 t.0.more)),
+      orders_tight bounds n gates p ps os xs qs e (All-tail (IsValidOrder n gates) o os v) r.1 t.1,
+    )
+orders_tight bounds n gates p ps [] [] (q ∷ qs) e v r t = absurd r
+orders_tight bounds n gates p ps [] (x ∷ xs) qs e v r t = absurd r
+orders_tight bounds n gates p ps (o ∷ os) [] qs e v r t = absurd r
+orders_tight bounds n gates p ps (o ∷ os) (x ∷ xs) [] e v r t = absurd r
+
+pub orders_into : (z : ℕ) (bounds : Order → Span) (os : List Order) (xs : List ℤ) (qs : List ℕ) → ArePuts os xs qs → sum_along (put_into z) os qs ≡ sum_along (slot_into z) (slots_of bounds os) xs
+orders_into z bounds [] [] [] r = refl
+orders_into z bounds (o ∷ os) (x ∷ xs) (q ∷ qs) r = omega (arith, ints, orders_into z bounds os xs qs r.1, ap (λ (v : ℤ). if o.zone == z then v else pos 0) r.0)
+orders_into z bounds [] [] (q ∷ qs) r = absurd r
+orders_into z bounds [] (x ∷ xs) qs r = absurd r
+orders_into z bounds (o ∷ os) [] qs r = absurd r
+orders_into z bounds (o ∷ os) (x ∷ xs) [] r = absurd r
+
+flow_tight : (pa pb ca cb f : ℤ) (limit back : ℕ) → ca ≡ capped pa → cb ≡ capped pb → (f <ℤ pos limit → pb ≤ℤ pa) → (neg_ℤ (pos back) <ℤ f → pa ≤ℤ pb) → (f <ℤ pos limit → cb ≤ℤ ca) × (neg_ℤ (pos back) <ℤ f → ca ≤ℤ cb)
+flow_tight pa pb ca cb f limit back a b more less = (λ r. omega (arith, ints, clamps, a, b, more r), λ r. omega (arith, ints, clamps, a, b, less r))
+
+pub flows_tight : (n : ℕ) (p : ℕ → ℤ) (ps : List Cents) (bs : List Border) (fs : List ℤ) → ((z : ℕ) → z < n → price_at ps z ≡ capped (p z)) → All (IsValidBorder n) bs → AllZip (IsTightFlow p) bs fs → AllZip (IsConsistentBorder ps) bs fs
+flows_tight n p ps [] [] e v t = tt
+flows_tight n p ps (b ∷ bs) (f ∷ fs) e v t =
+    let b_valid = All-head (IsValidBorder n) b bs v in
+    let both = flow_tight (p b.from) (p b.to) (price_at ps b.from) (price_at ps b.to) f b.limit b.back (e b.from b_valid.from) (e b.to b_valid.to) t.0.more t.0.less in
+    (record { more = both.0; less = both.1 }, flows_tight n p ps bs fs e (All-tail (IsValidBorder n) b bs v) t.1)
+flows_tight n p ps [] (f ∷ fs) e v t = absurd t
+flows_tight n p ps (b ∷ bs) [] e v t = absurd t
+
+-- an activation that is the relaxed optimum, with potentials that are tight for it
+pub record IsOptimum (bounds : Order → Span) (m : Market) (a : Activation) (ps : List Cents) : Type 0 where
+  pub within : IsWithinBounds bounds m a
+  pub relaxed : IsRelaxed bounds m (welfare_of m a)
+  pub dual : dual_value_of bounds m ps ≡ welfare_of m a
+  pub tight : IsTight bounds m a ps
+
+-- the orders' part of slots in balance
+pub optimum_from : (bounds : Order → Span) (m : Market) (a : Activation) (ps : List Cents) (p : ℕ → ℤ) (xs : List ℤ) → IsValid m
+    → ArePuts m.orders xs a.mw → ((z : ℕ) → z < m.zones → price_at ps z ≡ capped (p z))
+    → AllZip IsWithinSlot (slots_of bounds m.orders) xs → AllZip IsWithinLimits m.borders a.flow
+    → ((z : ℕ) → z < m.zones → sum_along (slot_into z) (slots_of bounds m.orders) xs ≡ sum_along (carried_out z) m.borders a.flow)
+    → AllZip (IsTightSlot p) (slots_of bounds m.orders) xs → AllZip (IsTightFlow p) m.borders a.flow
+    → IsOptimum bounds m a ps
+optimum_from bounds m a ps p xs v puts prices within limits balance slots flows =
+    let in_bounds : IsWithinBounds bounds m a = record { orders = orders_within bounds m.orders xs a.mw puts within; borders = limits; balance = λ z l. orders_into z bounds m.orders xs a.mw puts ∙ balance z l } in
+    let all_tight : IsTight bounds m a ps = record { orders = orders_tight bounds m.zones (length m.gates) p ps m.orders xs a.mw prices v.orders puts slots; borders = flows_tight m.zones p ps m.borders a.flow prices v.borders flows } in
+    let equal = tight_is_equal bounds m a ps v in_bounds all_tight in
+    record {
+      within = in_bounds;
+      relaxed = record { reached = (a, in_bounds, refl); greatest = λ b w. subst (λ (x : ℤ). welfare_of m b ≤ℤ x) (sym equal) (weak_duality bounds m b ps v w) };
+      dual = sym equal;
+      tight = all_tight;
+    }
+
+pub puts_more : (os : List Order) (xs : List ℤ) (qs : List ℕ) (i : ℕ) (d : Order) (q : ℕ) → i < length os → i < length xs → ArePuts (take i os) (take i xs) qs → get_or xs i (pos 0) ≡ put_in (get_or os i d).side q → ArePuts (take (i + 1) os) (take (i + 1) xs) (qs ++ q ∷ [])
+puts_more [] xs qs i d q h l a e = absurd (omega arith)
+puts_more (o ∷ os) [] qs i d q h l a e = absurd (omega arith)
+puts_more (o ∷ os) (x ∷ xs) [] zero d q h l a e = (e, tt)
+puts_more (o ∷ os) (x ∷ xs) (p ∷ qs) zero d q h l a e = absurd a
+puts_more (o ∷ os) (x ∷ xs) [] (suc i) d q h l a e = absurd a
+puts_more (o ∷ os) (x ∷ xs) (p ∷ qs) (suc i) d q h l a e =
+    let k : suc (i + 1) ≡ suc i + 1 = omega arith in
+    subst (λ (n : ℕ). ArePuts (take n (o ∷ os)) (take n (x ∷ xs)) (p ∷ (qs ++ q ∷ []))) k (a.0, puts_more os xs qs i d q (omega arith) (omega arith) a.1 e)
+
+-- prices within the cap
+pub capped_prices : (prices : List ℤ) → All (λ (c : Cents). IsPrice c.0) (map capped_cents prices)
+capped_prices prices = λ k d l.
+    let there : k < length prices = omega (arith, length-map prices capped_cents, l) in
+    subst (λ (c : Cents). IsPrice c.0) (sym (map_at capped_cents prices k (pos 0) d there)) (record { low = omega (arith, ints, clamps); high = omega (arith, ints, clamps) })

@@ -1,0 +1,85 @@
+-- Marginal slots: in each zone the dearest that may put in less, and the cheapest that may put in more.
+use Rattle.std.specs.Prelude.{◌≡◌, Bool, true, false, ℕ, ◌<◌, ℤ, ◌≤ℤ◌, ◌<ℤ◌, List, length, slice_index_or, Option, Some, None, MatchOption}
+use Rattle.mari_network.specs.declared.slots.Slot.{Slot}
+use Rattle.mari_network.specs.declared.margins.Margin.{Margin}
+use Rattle.mari_network.specs.Slots.{zone_of, price_of, CanLess, CanMore}
+use Rattle.mari_network.specs.Network.{place_at}
+use Rattle.mari_network.specs.Spread.{is_marked}
+
+abbrev pub no_margin : Margin
+no_margin = record { dearest = None; cheapest = None }
+
+abbrev pub dearest_at : List Margin → ℕ → Option ℕ
+dearest_at margins z = (slice_index_or margins z no_margin).dearest
+
+abbrev pub cheapest_at : List Margin → ℕ → Option ℕ
+cheapest_at margins z = (slice_index_or margins z no_margin).cheapest
+
+-- there is a slot, and its price is at least this
+abbrev pub IsAbove : List Slot → ℤ → Option ℕ → Type 0
+IsAbove slots v best = MatchOption best ⊥ (λ i. v ≤ℤ price_of slots i)
+
+-- there is a slot, and its price is at most this
+abbrev pub IsBelow : List Slot → ℤ → Option ℕ → Type 0
+IsBelow slots v best = MatchOption best ⊥ (λ i. price_of slots i ≤ℤ v)
+
+-- the dearest of the first n slots that are of zone z and may put in less, if there is one
+pub record IsDearestIn (slots : List Slot) (xs : List ℤ) (z n : ℕ) (best : Option ℕ) : Type 0 where
+  pub one : (i : ℕ) → best ≡ Some i → CanLess slots xs i × (zone_of slots i ≡ z)
+  pub all : (k : ℕ) → k < n → CanLess slots xs k → zone_of slots k ≡ z → IsAbove slots (price_of slots k) best
+
+-- the cheapest of the first n slots that are of zone z and may put in more, if there is one
+pub record IsCheapestIn (slots : List Slot) (xs : List ℤ) (z n : ℕ) (best : Option ℕ) : Type 0 where
+  pub one : (i : ℕ) → best ≡ Some i → CanMore slots xs i × (zone_of slots i ≡ z)
+  pub all : (k : ℕ) → k < n → CanMore slots xs k → zone_of slots k ≡ z → IsBelow slots (price_of slots k) best
+
+-- the marginal slots of each zone among the first n slots
+pub record AreMargins (slots : List Slot) (xs : List ℤ) (zones n : ℕ) (margins : List Margin) : Type 0 where
+  pub long : length margins ≡ zones
+  pub dearest : (z : ℕ) → z < zones → IsDearestIn slots xs z n (dearest_at margins z)
+  pub cheapest : (z : ℕ) → z < zones → IsCheapestIn slots xs z n (cheapest_at margins z)
+
+-- the slot is one of a zone that is not marked, and no dearer one is
+pub record IsDearest (slots : List Slot) (xs : List ℤ) (marked : List Bool) (i : ℕ) : Type 0 where
+  pub less : CanLess slots xs i
+  pub unmarked : is_marked marked (zone_of slots i) ≡ false
+  pub top : (k : ℕ) → CanLess slots xs k → is_marked marked (zone_of slots k) ≡ false → price_of slots k ≤ℤ price_of slots i
+
+-- no slot of a zone that is not marked may put in less
+abbrev pub NoneLess : List Slot → List ℤ → List Bool → Type 0
+NoneLess slots xs marked = (k : ℕ) → CanLess slots xs k → is_marked marked (zone_of slots k) ≡ false → ⊥
+
+-- a slot of a marked zone may put in more, and is cheaper than this
+pub record IsCheaper (slots : List Slot) (xs : List ℤ) (marked : List Bool) (limit : ℤ) (i : ℕ) : Type 0 where
+  pub more : CanMore slots xs i
+  pub reached : is_marked marked (zone_of slots i) ≡ true
+  pub below : price_of slots i <ℤ limit
+
+-- no slot of a marked zone that may put in more is cheaper than this
+abbrev pub NoneCheaper : List Slot → List ℤ → List Bool → ℤ → Type 0
+NoneCheaper slots xs marked limit = (k : ℕ) → CanMore slots xs k → is_marked marked (zone_of slots k) ≡ true → limit ≤ℤ price_of slots k
+
+-- the dearest of the first n zones' dearest slots, of those not marked
+pub record IsDearestOf (slots : List Slot) (margins : List Margin) (marked : List Bool) (n : ℕ) (best : Option ℕ) : Type 0 where
+  pub one : (i : ℕ) → best ≡ Some i → (z : ℕ) × (z < n) × (is_marked marked z ≡ false) × (dearest_at margins z ≡ Some i)
+  pub all : (z i : ℕ) → z < n → is_marked marked z ≡ false → dearest_at margins z ≡ Some i → IsAbove slots (price_of slots i) best
+
+-- the cheapest of the first n zones' cheapest slots, of those marked
+pub record IsCheapestOf (slots : List Slot) (margins : List Margin) (marked : List Bool) (n : ℕ) (best : Option ℕ) : Type 0 where
+  pub one : (i : ℕ) → best ≡ Some i → (z : ℕ) × (z < n) × (is_marked marked z ≡ true) × (cheapest_at margins z ≡ Some i)
+  pub all : (z i : ℕ) → z < n → is_marked marked z ≡ true → cheapest_at margins z ≡ Some i → IsBelow slots (price_of slots i) best
+
+-- the dearest of the slots at the first n places that may put in less, if there is one
+pub record IsDearestAmong (slots : List Slot) (xs : List ℤ) (places : List ℕ) (n : ℕ) (best : Option ℕ) : Type 0 where
+  pub one : (i : ℕ) → best ≡ Some i → CanLess slots xs i × (j : ℕ) × (j < n) × (place_at places j ≡ i)
+  pub all : (j : ℕ) → j < n → CanLess slots xs (place_at places j) → IsAbove slots (price_of slots (place_at places j)) best
+
+-- the cheapest of the slots at the first n places that may put in more, if there is one
+pub record IsCheapestAmong (slots : List Slot) (xs : List ℤ) (places : List ℕ) (n : ℕ) (best : Option ℕ) : Type 0 where
+  pub one : (i : ℕ) → best ≡ Some i → CanMore slots xs i × (j : ℕ) × (j < n) × (place_at places j ≡ i)
+  pub all : (j : ℕ) → j < n → CanMore slots xs (place_at places j) → IsBelow slots (price_of slots (place_at places j)) best
+
+-- the zone's marginal slots
+pub record IsMarginOf (slots : List Slot) (xs : List ℤ) (z : ℕ) (m : Margin) : Type 0 where
+  pub dearest : IsDearestIn slots xs z (length slots) m.dearest
+  pub cheapest : IsCheapestIn slots xs z (length slots) m.cheapest

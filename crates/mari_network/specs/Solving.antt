@@ -1,0 +1,60 @@
+-- What the solver answers: the relaxed optimum with tight potentials, or a cut.
+use Rattle.std.specs.Prelude.{◌≡◌, ℤ, pos, ◌≤ℤ◌, ◌++◌, List, length, take, Result, Ok, Err}
+use Rattle.std.specs.Int.{int_max}
+use Rattle.std.specs.List.{All, AllZip}
+use Rattle.mari_market.specs.declared.market.Order.{Order}
+use Rattle.mari_market.specs.declared.market.Market.{Market}
+use Rattle.mari_market.specs.declared.activation.Activation.{Activation}
+use Rattle.mari_market.specs.declared.certificate.Cut.{Cut as CutRecord}
+use Rattle.mari_market.specs.Activation.{welfare_of}
+use Rattle.mari_market.specs.Bounds.{Span}
+use Rattle.mari_market.specs.Cut.{IsCut}
+use Rattle.mari_market.specs.Dual.{IsTight, dual_value_of}
+use Rattle.mari_market.specs.Price.{ArePrices}
+use Rattle.mari_market.specs.Relaxation.{IsWithinBounds}
+use Rattle.mari_network.specs.declared.network.Network.{Network as NetworkRecord}
+use Rattle.mari_network.specs.declared.optimum.Solved.{Solved}
+use Rattle.mari_network.specs.declared.optimum.SolveFault.{SolveFault}
+use Rattle.mari_network.specs.declared.optimum.SolveFault.TheVariants.{Cut, Memory}
+use Rattle.mari_network.specs.declared.slots.Slot.{Slot}
+use Rattle.mari_network.specs.Orders.{slots_of, IsExtra, CanPut}
+use Rattle.mari_network.specs.Slots.{beyond}
+
+-- no activation lies within the spans
+abbrev pub NoneWithin : (Order → Span) → Market → Type 0
+NoneWithin spans m = (a : Activation) → ¬ IsWithinBounds spans m a
+
+-- P holds of the cut, where the fault is one
+abbrev pub OfCut : SolveFault → (CutRecord → Type 0) → Type 0
+OfCut (Cut cut) P = P cut
+OfCut Memory P = Unit {0}
+
+-- the greatest welfare of an activation within the spans
+pub record IsRelaxed (spans : Order → Span) (m : Market) (w : ℤ) : Type 0 where
+  pub reached : (a : Activation) × IsWithinBounds spans m a × (welfare_of m a ≡ w)
+  pub greatest : (a : Activation) → IsWithinBounds spans m a → welfare_of m a ≤ℤ w
+
+-- an activation within the spans that is the relaxed optimum, and the dual value of its potentials
+pub record IsSolution (spans : Order → Span) (m : Market) (s : Solved) : Type 0 where
+  pub within : IsWithinBounds spans m s.activation
+  pub relaxed : IsRelaxed spans m (welfare_of m s.activation)
+  pub dual : dual_value_of spans m s.potentials.cents ≡ welfare_of m s.activation
+  pub tight : IsTight spans m s.activation s.potentials.cents
+  pub capped : ArePrices m s.potentials.cents
+  pub stated : pos s.welfare ≡ int_max (pos 0) (welfare_of m s.activation)
+
+-- the solution within the spans, or a cut that holds there
+abbrev pub IsAnswer : (Order → Span) → Market → Result Solved SolveFault → Type 0
+IsAnswer spans m (Ok s) = IsSolution spans m s
+IsAnswer spans m (Err fault) = OfCut fault (IsCut spans m)
+
+-- the network has the market's zones and borders, and slots of its orders before others
+pub record IsNetworkOf (m : Market) (n : NetworkRecord) : Type 0 where
+  pub zones : length n.meeting.items ≡ m.zones
+  pub borders : n.borders.now ≡ m.borders
+  pub orders : AllZip (λ (o : Order) (s : Slot). CanPut o.side s.low × CanPut o.side s.high) m.orders (take (length m.orders) n.slots.now)
+
+-- the slots are the orders' within the spans, and others that stand in
+pub record AreSlotsOf (spans : Order → Span) (m : Market) (more slots : List Slot) : Type 0 where
+  pub made : slots ≡ slots_of spans m.orders ++ more
+  pub others : All (IsExtra beyond) more

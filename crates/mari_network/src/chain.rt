@@ -1,0 +1,178 @@
+//! Moving energy along chains of borders.
+
+ghost use Rattle.std.specs.Prelude.{◌≡◌, ◌≢◌, true, ℕ, ℤ, pos, ◌+ℤ◌, ◌-ℤ◌, ◌≤ℤ◌, ◌<ℤ◌, ◌<◌, length, slice_set, slice_index_or};
+ghost use Rattle.std.specs.List.{AllZip};
+ghost use Rattle.mari_market.specs.Sums.{sum_along};
+ghost use Rattle.mari_market.specs.Activation.{IsWithinLimits, carried_out};
+ghost use Rattle.mari_network.specs.Slots.{slot_at, amount_at, at_zone, worth};
+ghost use Rattle.mari_network.specs.Network.{border_at, IsNetwork, Runs};
+ghost use Rattle.mari_network.specs.Chain.{hop_at, hop_room, room_of, head_of, tail_of, more_flow, HasRoom, IsTrace, IsImproving};
+
+use crate::network::Network;
+use crate::slots::{move_amount, room_above, room_below};
+use mari_market::Border;
+
+/// A border over which energy can move from a zone to that of an earlier hop.
+#[derive(Clone, Copy, Drop)]
+pub struct Hop {
+    pub zone: u32,
+    pub border: usize,
+    pub forth: bool,
+    pub before: usize,
+}
+
+/// A flow after so much more goes that way.
+fn flow_after(border: &Border, now: i64, more: i64, forth: bool) -> i64
+    requires within { IsWithinLimits border.now now }
+    requires more { pos 0 ≤ℤ more }
+    requires room { more ≤ℤ room_of forth border.now now }
+    ensures { result ≡ now +ℤ more_flow forth more }
+{
+    // Both limits are read, since it is they that bound the flow.
+    let (_limit, _back) = (border.limit, border.back);
+    if forth { now + more } else { now - more }
+}
+
+/// A chain of hops from the zone of a slot that may put in more, its source, to that of a dearer one that may put in
+/// less, its sink: the hops lead from place `at` back to the first, which is the sink's zone.
+#[derive(Drop)]
+pub struct Chain {
+    pub sink: usize,
+    pub source: usize,
+    pub at: usize,
+    pub hops: Vec<Hop>,
+}
+
+/// Lets so much more flow over the border of a hop.
+fn push_hop(borders: &[Border], flows: &mut [i64], hop: Hop, more: i64)
+    requires lengths { length flows.old ≡ length borders.now }
+    requires there { hop.border < length borders.now }
+    requires more { pos 0 ≤ℤ more }
+    requires room { more ≤ℤ hop_room borders.now flows.old hop }
+    requires within { AllZip IsWithinLimits borders.now flows.old }
+    ensures flows { flows.new ≡ slice_set flows.old hop.border (slice_index_or flows.old hop.border (pos 0) +ℤ more_flow hop.forth more) }
+    ensures within { AllZip IsWithinLimits borders.now flows.new }
+    ensures carried { (z : ℕ) → sum_along (carried_out z) borders.now flows.new ≡ (sum_along (carried_out z) borders.now flows.old +ℤ at_zone z (tail_of hop.forth (border_at borders.now hop.border)) more) -ℤ at_zone z (head_of hop.forth (border_at borders.now hop.border)) more }
+{
+    let now = flows[hop.border];
+    flows[hop.border] = flow_after(&borders[hop.border], now, more, hop.forth);
+}
+
+/// How much more the border can carry that way.
+pub fn room_over(border: &Border, now: i64, forth: bool) -> i64
+    requires { IsWithinLimits border.now now }
+    ensures value { result ≡ room_of forth border.now now }
+    ensures low { pos 0 ≤ℤ result }
+{
+    if forth {
+        i64::from(border.limit) - now
+    } else {
+        now + i64::from(border.back)
+    }
+}
+
+/// How much more the border of a hop can carry.
+fn room_at(borders: &[Border], flows: &[i64], hop: Hop) -> i64
+    requires lengths { length flows.now ≡ length borders.now }
+    requires there { hop.border < length borders.now }
+    requires within { AllZip IsWithinLimits borders.now flows.now }
+    ensures { result ≡ hop_room borders.now flows.now hop }
+{
+    room_over(&borders[hop.border], flows[hop.border], hop.forth)
+}
+
+/// Whether anything can be moved along hops back to the first zone.
+pub fn has_room(borders: &[Border], flows: &[i64], hops: &[Hop], at: usize) -> bool
+    requires lengths { length flows.now ≡ length borders.now }
+    requires at { at < length hops.now }
+    requires trace { IsTrace borders.now hops.now }
+    requires within { AllZip IsWithinLimits borders.now flows.now }
+    ensures { result ≡ true → HasRoom borders.now flows.now hops.now (pos 1) at }
+{
+    let mut place = at;
+    while place > 0 {
+        let hop = hops[place];
+        if room_at(borders, flows, hop) < 1 {
+            return false;
+        }
+        place = hop.before;
+    }
+    true
+}
+
+/// How much can be moved along a chain back to its first zone, and no more than asked for.
+fn room(borders: &[Border], flows: &[i64], hops: &[Hop], at: usize, most: i64) -> i64
+    requires lengths { length flows.now ≡ length borders.now }
+    requires at { at < length hops.now }
+    requires most { pos 1 ≤ℤ most }
+    requires trace { IsTrace borders.now hops.now }
+    requires within { AllZip IsWithinLimits borders.now flows.now }
+    requires some { HasRoom borders.now flows.now hops.now (pos 1) at }
+    ensures some { pos 1 ≤ℤ result }
+    ensures most { result ≤ℤ most }
+    ensures room { HasRoom borders.now flows.now hops.now result at }
+{
+    let mut least = most;
+    let mut place = at;
+    while place > 0 {
+        let hop = hops[place];
+        least = least.min(room_at(borders, flows, hop));
+        place = hop.before;
+    }
+    least
+}
+
+/// Moves energy along a chain back to its first zone.
+fn carry(borders: &[Border], flows: &mut [i64], hops: &[Hop], at: usize, most: i64)
+    requires lengths { length flows.old ≡ length borders.now }
+    requires at { at < length hops.now }
+    requires most { pos 0 ≤ℤ most }
+    requires trace { IsTrace borders.now hops.now }
+    requires within { AllZip IsWithinLimits borders.now flows.old }
+    requires room { HasRoom borders.now flows.old hops.now most at }
+    ensures within { AllZip IsWithinLimits borders.now flows.new }
+    ensures carried { (z : ℕ) → (sum_along (carried_out z) borders.now flows.new +ℤ at_zone z (hop_at hops.now 0).zone most) ≡ sum_along (carried_out z) borders.now flows.old +ℤ at_zone z (hop_at hops.now at).zone most }
+{
+    let mut place = at;
+    while place > 0 {
+        let hop = hops[place];
+        push_hop(borders, flows, hop, most);
+        place = hop.before;
+    }
+}
+
+/// How much can be moved from a chain's source to its sink.
+fn most_along(network: &Network, amounts: &[i64], flows: &[i64], chain: &Chain) -> i64
+    requires network { IsNetwork network.now }
+    requires runs { Runs network.now amounts.now flows.now }
+    requires chain { IsImproving network.now amounts.now flows.now chain.now }
+    ensures some { pos 1 ≤ℤ result }
+    ensures sink { result ≤ℤ (amount_at amounts.now chain.now.sink -ℤ (slot_at network.now.slots.now chain.now.sink).low) }
+    ensures source { result ≤ℤ ((slot_at network.now.slots.now chain.now.source).high -ℤ amount_at amounts.now chain.now.source) }
+    ensures room { HasRoom network.now.borders.now flows.now chain.now.hops.items result chain.now.at }
+{
+    let below = room_below(network.slots[chain.sink], amounts[chain.sink]);
+    let above = room_above(network.slots[chain.source], amounts[chain.source]);
+    room(
+        network.borders,
+        flows,
+        &chain.hops,
+        chain.at,
+        below.min(above),
+    )
+}
+
+/// Moves as much as can be from a chain's source to its sink.
+pub fn improve(network: &Network, amounts: &mut [i64], flows: &mut [i64], chain: &Chain)
+    requires network { IsNetwork network.now }
+    requires runs { Runs network.now amounts.old flows.old }
+    requires chain { IsImproving network.now amounts.old flows.old chain.now }
+    ensures runs { Runs network.now amounts.new flows.new }
+    ensures others { (k : ℕ) → k ≢ chain.now.sink → k ≢ chain.now.source → amount_at amounts.new k ≡ amount_at amounts.old k }
+    ensures rises { sum_along worth network.now.slots.now amounts.old <ℤ sum_along worth network.now.slots.now amounts.new }
+{
+    let more = most_along(network, amounts, flows, chain);
+    carry(network.borders, flows, &chain.hops, chain.at, more);
+    move_amount(network.slots, amounts, chain.sink, -more);
+    move_amount(network.slots, amounts, chain.source, more);
+}

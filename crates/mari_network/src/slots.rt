@@ -1,0 +1,97 @@
+//! Orders as amounts of energy put in.
+
+ghost use Rattle.std.specs.Prelude.{◌≡◌, ℕ, ℤ, pos, ◌+ℤ◌, ◌-ℤ◌, ◌*ℤ◌, ◌≤ℤ◌, ◌<◌, length, slice_set, neg_ℤ, IfOk, ◌++◌};
+ghost use Rattle.std.specs.List.{AllZip};
+ghost use Rattle.mari_market.specs.Sums.{sum_along};
+ghost use Rattle.mari_network.specs.Slots.{slot_at, amount_at, at_zone, slot_into, worth, IsWithinSlot, IsSmallSlot};
+ghost use Rattle.mari_network.specs.Orders.{slot_of, slots_of, AreOrderSlots};
+ghost use Rattle.mari_market.specs.Bounds.{Span};
+ghost use Rattle.mari_market.specs.Market.{IsValid};
+ghost use Rattle.mari_market.specs.Prefix.{bounds_at, IsFeasiblePrefix};
+ghost use Rattle.mari_market.specs.declared.market.Order.{Order};
+
+use mari_gates::states_at;
+use mari_market::{Market, Order, Prefix, Side};
+use std::alloc::{AllocError, Global};
+
+/// A price above that of every order.
+pub const BEYOND: i64 = 20_000_000;
+
+/// What may put energy into a zone at a price, or take it out where the amount is negative.
+#[derive(Clone, Copy, Drop)]
+pub struct Slot {
+    pub zone: u32,
+    pub price: i64,
+    pub low: i64,
+    pub high: i64,
+}
+
+/// Lets a slot put in more, or less where that is negative.
+pub fn move_amount(slots: &[Slot], amounts: &mut [i64], at: usize, more: i64)
+    requires at { at < length slots.now }
+    requires lengths { length amounts.old ≡ length slots.now }
+    requires small { IsSmallSlot (slot_at slots.now at) }
+    requires moved { IsWithinSlot (slot_at slots.now at) (amount_at amounts.old at +ℤ more) }
+    ensures moved { amounts.new ≡ slice_set amounts.old at (amount_at amounts.old at +ℤ more) }
+    ensures within { AllZip IsWithinSlot slots.now amounts.old → AllZip IsWithinSlot slots.now amounts.new }
+    ensures into { (z : ℕ) → sum_along (slot_into z) slots.now amounts.new ≡ sum_along (slot_into z) slots.now amounts.old +ℤ at_zone z (slot_at slots.now at).zone more }
+    ensures worth { sum_along worth slots.now amounts.new ≡ sum_along worth slots.now amounts.old -ℤ ((slot_at slots.now at).price *ℤ more) }
+{
+    let now = amounts[at];
+    amounts[at] = now + more;
+}
+
+/// How much less a slot may put in.
+pub fn room_below(slot: Slot, amount: i64) -> i64
+    requires within { IsWithinSlot slot amount }
+    requires small { IsSmallSlot slot }
+    ensures { result ≡ amount -ℤ slot.low }
+{
+    amount - slot.low
+}
+
+/// How much more a slot may put in.
+pub fn room_above(slot: Slot, amount: i64) -> i64
+    requires within { IsWithinSlot slot amount }
+    requires small { IsSmallSlot slot }
+    ensures { result ≡ slot.high -ℤ amount }
+{
+    slot.high - amount
+}
+
+/// What an order may put into its zone within bounds.
+fn slot_from(order: &Order, least: u32, greatest: u32) -> Slot
+    ensures { (s : Span) → s.lo ≡ least → s.hi ≡ greatest → result ≡ slot_of s order.now }
+{
+    match order.side {
+        Side::Inject => Slot {
+            zone: order.zone,
+            price: order.price.0,
+            low: i64::from(least),
+            high: i64::from(greatest),
+        },
+        Side::Withdraw => Slot {
+            zone: order.zone,
+            price: order.price.0,
+            low: -i64::from(greatest),
+            high: -i64::from(least),
+        },
+    }
+}
+
+/// The slots of orders within the bounds of a prefix, with room for one more for each zone.
+pub fn order_slots(alloc: Global, market: &Market, prefix: &Prefix) -> Result<Vec<Slot>, AllocError>
+    requires market { IsValid market.now }
+    requires prefix { IsFeasiblePrefix market.now prefix.now }
+    ensures slots { IfOk result (λ v. v.items ≡ slots_of (bounds_at market.now prefix.now) market.now.orders) }
+    ensures fine { IfOk result (λ v. AreOrderSlots market.now.zones market.now.orders v.items) }
+{
+    let states = states_at(market, prefix);
+    let orders = market.orders.as_slice();
+    let mut slots = Vec::with_capacity(alloc, orders.len() + 64)?;
+    for order in orders {
+        let (least, greatest) = states.span(order);
+        slots.push(slot_from(order, least, greatest))?;
+    }
+    Ok(slots)
+}

@@ -1,7 +1,0 @@
-use Rattle.std.proofs.Common.{◌≡◌, take}
-use Rattle.mari_market.specs.Prefix.{bounds_at}
-use Rattle.mari_paths.specs.Orders.{slots_of}
-use Rattle.mari_paths.proofs.slots.order_slots.Given as goal
-
-abbrev pub invariant-loop-order : goal.invariant-loop-order
-invariant-loop-order l = l.slots.items ≡ slots_of (bounds_at l.market l.prefix) (take l.order-index l.orders)

@@ -1,8 +1,11 @@
-//! Findings at the nodes of small markets of one zone and one gate, with values computed by hand.
+//! Findings at the nodes of small markets of one zone and one gate, and both solvers at one of two zones, with values
+//! computed by hand.
 
 use crate::{examine, examine_from};
+use mari_flow::solve;
 use mari_gates::prefix_feasible;
-use mari_market::{Activation, CutSide, Finding, GateInfo, Market, Order, Prefix, Side};
+use mari_market::{Activation, Border, CutSide, Finding, GateInfo, Market, Order, Prefix, Side};
+use mari_paths::solve_from;
 use mari_units::{Cents, Items};
 use std::alloc::Global;
 use std::test::Fail;
@@ -176,6 +179,61 @@ fn every_start_leads_to_the_same_optimum(rt: HostRuntime) -> Result<(), Fail> {
         let (cut, left) = found_from(rt.alloc(), &orders, 1, 1, start)?;
         assert_eq!(rt; cut, None);
         assert_eq!(rt; left.as_slice(), start);
+    }
+    Ok(())
+}
+
+/// Cheap energy in the first of two zones, and more demand in the second than the border carries.
+fn two_zones(alloc: Global) -> Result<Market, Fail> {
+    let border = Border {
+        from: 0,
+        to: 1,
+        limit: 50,
+        back: 50,
+    };
+    let dear = Order {
+        zone: 1,
+        ..bid(6000, 100)
+    };
+    let needed = Order {
+        zone: 1,
+        ..demand(80)
+    };
+    Ok(Market {
+        zones: 2,
+        borders: Items::of(vec![in alloc; border]?),
+        orders: Items::of(vec![in alloc; bid(2000, 100), dear, needed]?),
+        gates: Items::of(Vec::new(alloc)),
+        reference: Cents(4000),
+    })
+}
+
+#[test]
+fn plain_and_fast_solver_agree_from_any_start(rt: HostRuntime) -> Result<(), Fail> {
+    let alloc = rt.alloc();
+    let market = two_zones(alloc)?;
+    let root = Prefix {
+        length: 0,
+        bits: [0; 8],
+    };
+    if !(market.valid() && prefix_feasible(&market, &root)) {
+        return Err("the market is valid, and so is its first prefix".into());
+    }
+    let plain = solve(alloc, &market, &root).ok().ok_or("an optimum")?;
+    assert_eq!(rt; plain.welfare, 799_712_000);
+    let starts: [(&[u32], &[i64]); 4] = [
+        (&[], &[]),
+        (&[50, 30, 80], &[50]),
+        (&[99_999, 0, 99_999], &[-70]),
+        (&[1, 2, 3, 4], &[5, 6]),
+    ];
+    for (mw, flow) in starts {
+        let start = Activation {
+            mw: Items::of(mw.to_vec(alloc)?),
+            flow: Items::of(flow.to_vec(alloc)?),
+        };
+        let fast = solve_from(alloc, &market, &root, Some(&start));
+        assert_eq!(rt; fast.ok().map(|solved| solved.welfare), Some(plain.welfare));
     }
     Ok(())
 }

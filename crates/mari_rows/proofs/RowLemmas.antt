@@ -1,11 +1,12 @@
 -- Rows, their fields and the first fault among them.
-use Rattle.std.proofs.Common.{◌≡◌, ◌≤◌, ◌+◌, ◌==◌, ℕ, suc, zero, Bool, true, false, List, [], ◌∷◌, ◌++◌, Option, Some, None, Result, Ok, Err, take, length, refl, sym, arith, IsUtf8, All, if◌then◌else◌}
+use Rattle.std.proofs.Common.{◌≡◌, ◌≤◌, ◌+◌, ◌==◌, ℕ, suc, zero, ◌&&◌, Bool, true, false, List, [], ◌∷◌, ◌++◌, Option, Some, None, Result, Ok, Err, take, length, refl, sym, arith, IsUtf8, All, if◌then◌else◌}
 use Rattle.std.specs.Prelude.{MatchResult, is_ok}
 use Rattle.std.specs.List.{list_all}
 use Rattle.std.specs.Option.{option_or}
-use Rattle.std.specs.Str.{is_utf8}
+use Rattle.std.specs.Str.{bytes_eq, is_utf8}
 use Rattle.std.proofs.lemmas.Bool.{eqb-true}
 use Rattle.std.proofs.lemmas.List.Elements.{All-cons, All-nil}
+use Rattle.std.proofs.lemmas.List.Folds.{list_all-append}
 use Rattle.std.proofs.lemmas.Str.{IsUtf8-from_is_utf8, is_utf8-from_IsUtf8}
 use Rattle.csv.specs.Records.{field_at}
 use Rattle.mari_rows.specs.First.{first_fault_behind}
@@ -36,6 +37,32 @@ take-field (f ∷ fs) zero x at = rw (some-same at) refl
     some-same : {a b : List ℕ} → Some a ≡ Some b → a ≡ b
     some-same e = cc e
 take-field (f ∷ fs) (suc i) x at = grind (arith, take-field fs i x at)
+
+-- one field more that is text, and one that isn't
+pub text_more : (fields : List (List ℕ)) (i : ℕ) (x : List ℕ) → field_at fields i ≡ Some x → list_all is_utf8 (take i fields) ≡ true → is_utf8 x ≡ true
+    → list_all is_utf8 (take (i + 1) fields) ≡ true
+text_more fields i x at so_far text = rw (take-field fields i x at, list_all-append is_utf8 (take i fields) (x ∷ []), so_far, text) refl
+
+pub not_text : (fields : List (List ℕ)) (i : ℕ) (x : List ℕ) → field_at fields i ≡ Some x → is_utf8 x ≡ false → false ≡ list_all is_utf8 fields
+unfolding field_at
+not_text [] i x at bad = cc at
+not_text (f ∷ fs) zero x at bad = let same : f ≡ x = cc at in rw (same, bad) refl
+not_text (f ∷ fs) (suc i) x at bad = behind (is_utf8 f) (not_text fs i x (grind (arith, at)) bad)
+  where
+    behind : (b : Bool) → false ≡ list_all is_utf8 fs → false ≡ (b && list_all is_utf8 fs)
+    behind true h = h
+    behind false h = refl
+
+-- where the lengths differ it is no header
+pub no_header : (columns fields : List (List ℕ)) → (length fields ≡ length columns → ⊥) → false ≡ is_header columns fields
+no_header [] [] differ = absurd (differ refl)
+no_header [] (f ∷ fs) differ = refl
+no_header (c ∷ cs) [] differ = refl
+no_header (c ∷ cs) (f ∷ fs) differ = behind (bytes_eq f c) (no_header cs fs (λ e. differ (omega (arith, e))))
+  where
+    behind : (b : Bool) → false ≡ is_header cs fs → false ≡ (b && is_header cs fs)
+    behind true h = h
+    behind false h = refl
 
 -- a fault of the header is one of the rows
 pub fault-checked : (width : ℕ) (read : Result (List Row) RowFault) (fault : RowFault) → IsFaultOf read fault → IsFaultOf (rows_checked width read) fault

@@ -1,13 +1,17 @@
 //! The records of a page, one after the other.
-ghost use Rattle.std.specs.Prelude.{◌≡◌, ◌∷◌, [], IfOk, OnErr, MatchOption};
+ghost use Rattle.std.specs.Prelude.{◌≡◌, ◌∷◌, [], length, map, IfOk, OnErr, MatchOption};
+ghost use Rattle.std.specs.List.{list_all};
+ghost use Rattle.std.specs.Str.{is_utf8 as is_utf8_of};
 ghost use Rattle.csv.specs.Reading.{error_kind, NotLengths};
 ghost use Rattle.csv.specs.Records.{fields_of};
 ghost use Rattle.mari_rows.specs.Records.{records_in, IsBetweenRecords, ReadsRecord};
+ghost use Rattle.mari_rows.specs.Rows.{fault_of_row, is_header as is_header_of, TellsHeader, TellsNext, TellsRecord};
 
+use crate::faults::RowFault;
 use crate::field::Field;
 use csv::{ByteRecord, Error, ErrorKind, Reader, ReaderBuilder};
 use mari_units::Memory;
-use std::alloc::Global;
+use std::alloc::{AllocError, Global};
 use std::marker::Model;
 
 /// The records of a page that are still to be read, which contracts see as the list of them.
@@ -38,6 +42,48 @@ impl Drop for Records<'_> {
     }
 }
 
+/// What the test of the next record tells: there is none, or nothing is wrong with it by itself, or this is.
+#[derive(Clone, Copy, Debug, PartialEq, Eq)]
+pub(crate) enum Tested {
+    End,
+    Fine,
+    Faulty(RowFault),
+}
+
+fn is_text(bytes: &[u8]) -> bool
+    ensures { result ≡ is_utf8_of bytes.now }
+{
+    std::str::from_utf8(bytes).is_ok()
+}
+
+// Whether each field of a record is text.
+#[tactic(auto, using(crate::proofs::RowLemmas::text_more, crate::proofs::RowLemmas::not_text))]
+fn all_text(row: &ByteRecord) -> bool
+    ensures { result ≡ list_all is_utf8_of (fields_of row.now) }
+{
+    for i in 0..row.len() {
+        if let Some(field) = row.get(i) {
+            if !is_text(field) {
+                return false;
+            }
+        }
+    }
+    true
+}
+
+// What is wrong with a record of this line by itself, where so many fields are wanted. No field is copied.
+fn test(row: &ByteRecord, line: u32, width: usize) -> Tested
+    ensures { TellsRecord width line (fields_of row.now) result }
+{
+    if row.len() != width {
+        Tested::Faulty(RowFault::BadRow(line))
+    } else if !all_text(row) {
+        Tested::Faulty(RowFault::NotUtf8(line))
+    } else {
+        Tested::Fine
+    }
+}
+
 // The fields of a record, copied.
 fn fields_from(alloc: Global, row: &ByteRecord) -> Result<Vec<Field>, Memory>
     ensures { IfOk result (λ v. v.items ≡ fields_of row.now) }
@@ -49,6 +95,32 @@ fn fields_from(alloc: Global, row: &ByteRecord) -> Result<Vec<Field>, Memory>
         }
     }
     Ok(fields)
+}
+
+fn texts_of(alloc: Global, fields: &[Field]) -> Result<Vec<&[u8]>, AllocError>
+    ensures { IfOk result (λ v. map (λ x. x.now) v.items ≡ fields.now) }
+{
+    fields.iter().map(|field| field.as_slice()).collect(alloc)
+}
+
+// Whether the fields are the column names.
+fn is_header(alloc: Global, fields: &[Field], columns: &[&[u8]]) -> Result<bool, Memory>
+    ensures { IfOk result (λ r. r ≡ is_header_of (map (λ c. c.now) columns.now) fields.now) }
+{
+    let texts = texts_of(alloc, fields)?;
+    Ok(texts.as_slice() == columns)
+}
+
+// Whether a record is the column names. One of another number of fields isn't copied.
+#[tactic(auto, using(crate::proofs::RowLemmas::no_header))]
+fn is_header_record(alloc: Global, row: &ByteRecord, columns: &[&[u8]]) -> Result<bool, Memory>
+    ensures { IfOk result (λ r. r ≡ is_header_of (map (λ c. c.now) columns.now) (fields_of row.now)) }
+{
+    if row.len() != columns.len() {
+        return Ok(false);
+    }
+    let fields = fields_from(alloc, row)?;
+    is_header(alloc, fields.as_slice(), columns)
 }
 
 // What stops a reader that takes records of any number of fields is want of memory.
@@ -102,5 +174,42 @@ impl<'a> Records<'a> {
         let fields = fields_from(alloc, &self.row)?;
         self.has_ended = false;
         Ok(Some(fields))
+    }
+
+    /// Whether the next record is these columns, if there is one. Once memory was wanted there are no more.
+    pub(crate) fn next_is(
+        &mut self,
+        alloc: Global,
+        columns: &[&[u8]],
+    ) -> Result<Option<bool>, Memory>
+        ensures next { IfOk result (TellsHeader (map (λ c. c.now) columns.now) self.old self.new) }
+        ensures err { OnErr result (self.new ≡ []) }
+    {
+        if self.has_ended {
+            return Ok(None);
+        }
+        self.has_ended = true;
+        if !read_record(&mut self.reader, &mut self.row)? {
+            return Ok(None);
+        }
+        let is_header = is_header_record(alloc, &self.row, columns)?;
+        self.has_ended = false;
+        Ok(Some(is_header))
+    }
+
+    /// Tests the next record, of this line, where so many fields are wanted. Once memory was wanted there are no more.
+    pub(crate) fn test_next(&mut self, line: u32, width: usize) -> Result<Tested, Memory>
+        ensures tested { IfOk result (TellsNext width line self.old self.new) }
+        ensures err { OnErr result (self.new ≡ []) }
+    {
+        if self.has_ended {
+            return Ok(Tested::End);
+        }
+        self.has_ended = true;
+        if !read_record(&mut self.reader, &mut self.row)? {
+            return Ok(Tested::End);
+        }
+        self.has_ended = false;
+        Ok(test(&self.row, line, width))
     }
 }

@@ -1,14 +1,12 @@
 //! The rows of a page: its records below the header, each with its line.
 ghost use Rattle.std.specs.Prelude.{◌≡◌, ◌≤◌, ◌<◌, ◌∷◌, [], ◌^◌, All, length, map, IfOk, IfErr, OnErr, MatchOption};
-ghost use Rattle.std.specs.List.{list_all};
-ghost use Rattle.std.specs.Str.{is_utf8 as is_utf8_of};
 ghost use Rattle.mari_rows.specs.Headers.{has_header as has_header_in};
 ghost use Rattle.mari_rows.specs.Records.{records_in};
-ghost use Rattle.mari_rows.specs.Rows.{columns_of as columns_in, fault_of_row, field_of, first_row_fault, is_header as is_header_of, rows_behind_header as rows_behind_header_in, rows_in, IsFaultOf};
+ghost use Rattle.mari_rows.specs.Rows.{columns_of as columns_in, field_of, first_row_fault, rows_behind_header as rows_behind_header_in, rows_in, IsFaultOf, TellsRow};
 
 use crate::faults::RowFault;
 use crate::field::Field;
-use crate::records::Records;
+use crate::records::{Records, Tested};
 use mari_units::{Items, Memory};
 use std::alloc::{AllocError, Global};
 use std::marker::Model;
@@ -57,19 +55,6 @@ impl Row {
             None => &[],
         }
     }
-
-    // What is wrong with it by itself, where so many fields are wanted.
-    fn fault(&self, width: usize) -> Option<RowFault>
-        ensures { result ≡ fault_of_row width self.now }
-    {
-        if self.fields.as_slice().len() != width {
-            Some(RowFault::BadRow(self.line))
-        } else if !all_text(self.fields.as_slice()) {
-            Some(RowFault::NotUtf8(self.line))
-        } else {
-            None
-        }
-    }
 }
 
 impl<'a> RowReader<'a> {
@@ -90,18 +75,18 @@ impl<'a> RowReader<'a> {
             }
         }
     }
-}
 
-fn is_text(bytes: &[u8]) -> bool
-    ensures { result ≡ is_utf8_of bytes.now }
-{
-    std::str::from_utf8(bytes).is_ok()
-}
-
-fn all_text(fields: &[Field]) -> bool
-    ensures { result ≡ list_all is_utf8_of fields.now }
-{
-    fields.iter().all(|field| is_text(field.as_slice()))
+    // Tests the next row, where so many fields are wanted.
+    fn test_next(&mut self, width: usize) -> Result<Tested, Memory>
+        ensures tested { IfOk result (TellsRow width self.old self.new) }
+        ensures err { OnErr result (self.new ≡ []) }
+    {
+        let tested = self.records.test_next(self.line, width)?;
+        if tested != Tested::End {
+            self.line += 1;
+        }
+        Ok(tested)
+    }
 }
 
 // The texts between the commas.
@@ -114,30 +99,14 @@ fn columns_of(alloc: Global, columns: &str) -> Result<Vec<&[u8]>, AllocError>
         .collect(alloc)
 }
 
-fn texts_of(alloc: Global, fields: &[Field]) -> Result<Vec<&[u8]>, AllocError>
-    ensures { IfOk result (λ v. map (λ x. x.now) v.items ≡ fields.now) }
-{
-    fields.iter().map(|field| field.as_slice()).collect(alloc)
-}
-
-// Whether the fields are the column names.
-fn is_header(alloc: Global, fields: &[Field], columns: &[&[u8]]) -> Result<bool, Memory>
-    ensures { IfOk result (λ r. r ≡ is_header_of (map (λ c. c.now) columns.now) fields.now) }
-{
-    let texts = texts_of(alloc, fields)?;
-    Ok(texts.as_slice() == columns)
-}
-
 /// Whether the first record of a page is these columns, whose names stand between the commas.
 pub fn has_header(alloc: Global, page: &[u8], columns: &str) -> Result<bool, Memory>
     ensures { IfOk result (λ has. has ≡ has_header_in columns.now page.now) }
 {
     let columns = columns_of(alloc, columns)?;
     let mut records = Records::of(alloc, page);
-    match records.next(alloc)? {
-        Some(header) => is_header(alloc, header.as_slice(), columns.as_slice()),
-        None => Ok(false),
-    }
+    let is_header = records.next_is(alloc, columns.as_slice())?;
+    Ok(is_header.unwrap_or(false))
 }
 
 // The rows of a page whose header is these columns.
@@ -151,29 +120,23 @@ fn rows_behind_header<'a>(
     ensures fault { IfErr result (IsFaultOf (rows_behind_header_in (map (λ c. c.now) columns.now) (records_in page.now))) }
 {
     let mut records = Records::of(alloc, page);
-    let Some(header) = records.next(alloc)? else {
-        return Err(RowFault::BadHeader);
-    };
-    if !is_header(alloc, header.as_slice(), columns)? {
-        return Err(RowFault::BadHeader);
+    match records.next_is(alloc, columns)? {
+        Some(true) => Ok(RowReader { records, line: 2 }),
+        Some(false) | None => Err(RowFault::BadHeader),
     }
-    Ok(RowReader { records, line: 2 })
 }
 
-// The first row with a fault by itself.
-fn first_fault_of(
-    alloc: Global,
-    rows: &mut RowReader<'_>,
-    width: usize,
-) -> Result<Option<RowFault>, Memory>
+// The first row with a fault by itself. No row is copied.
+fn first_fault_of(rows: &mut RowReader<'_>, width: usize) -> Result<Option<RowFault>, Memory>
     ensures { IfOk result (λ fault. fault ≡ first_row_fault width rows.old) }
 {
-    'rows: while let Some(row) = rows.next(alloc)? {
-        if let Some(fault) = row.fault(width) {
-            return Ok(Some(fault));
+    'rows: loop {
+        match rows.test_next(width)? {
+            Tested::Fine => {}
+            Tested::Faulty(fault) => return Ok(Some(fault)),
+            Tested::End => return Ok(None),
         }
     }
-    Ok(None)
 }
 
 /// Reads the rows of a page with these columns, whose names stand between the commas.
@@ -190,7 +153,7 @@ pub fn read_rows<'a>(
 {
     let columns = columns_of(alloc, columns)?;
     let mut rows = rows_behind_header(alloc, page, columns.as_slice())?;
-    match first_fault_of(alloc, &mut rows, columns.len())? {
+    match first_fault_of(&mut rows, columns.len())? {
         Some(fault) => Err(fault),
         None => rows_behind_header(alloc, page, columns.as_slice()),
     }

@@ -122,6 +122,20 @@ fn reads(alloc: Global, parts: &[&str]) -> Result<bool, Fail> {
     }
 }
 
+/// The same with each of two fields in turn between these texts.
+fn reads_each(
+    alloc: Global,
+    before: &str,
+    fields: [&str; 2],
+    after: &str,
+) -> Result<[bool; 2], Fail> {
+    let [first, second] = fields;
+    Ok([
+        reads(alloc, &[before, first, after])?,
+        reads(alloc, &[before, second, after])?,
+    ])
+}
+
 /// Appends a line.
 fn put_line(alloc: Global, out: &mut Vec<u8>, line: &Line) -> Result<(), Fail>
     requires { InRange line.now }
@@ -209,20 +223,10 @@ fn a_number_is_read_at_both_ends_of_its_range_and_not_past_them(
         ("done ", RUNS, " 1"),
         ("done 1 ", RUNS, ""),
     ] {
-        for field in range.ends {
-            assert_eq!(rt;
-                reads(alloc, &[before, field, after])?,
-                true,
-                "{before}{field}"
-            );
-        }
-        for field in range.outside {
-            assert_eq!(rt;
-                reads(alloc, &[before, field, after])?,
-                false,
-                "{before}{field}"
-            );
-        }
+        let ends = reads_each(alloc, before, range.ends, after)?;
+        assert_eq!(rt; ends, [true, true], "{before}");
+        let outside = reads_each(alloc, before, range.outside, after)?;
+        assert_eq!(rt; outside, [false, false], "{before}");
     }
     Ok(())
 }

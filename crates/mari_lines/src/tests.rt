@@ -3,7 +3,7 @@
 ghost use Rattle.mari_lines.specs.Ranges.{InRange};
 
 use crate::{
-    Line, Unread, put_at, put_bid, put_border, put_bound, put_branch, put_chain, put_cut,
+    Line, Unread, put_at, put_bid, put_border, put_bound, put_branch, put_conflict, put_cut,
     put_demand, put_done, put_end, put_flow_line, put_head, put_mw_line, put_operator,
     put_provider, put_run, put_total_operator, put_total_provider, put_tree, put_unpublished,
     put_welfare, put_zone, read_line,
@@ -153,7 +153,7 @@ fn put_line(alloc: Global, out: &mut Vec<u8>, line: &Line) -> Result<(), Fail>
         Line::Branch => put_branch(out)?,
         Line::Bound(prices) => put_bound(alloc, out, prices.as_slice())?,
         Line::Cut(cut) => put_cut(alloc, out, cut)?,
-        Line::Conflict(zones) => put_chain(alloc, out, zones.as_slice())?,
+        Line::Conflict(zones) => put_conflict(alloc, out, zones.as_slice())?,
         Line::At(prices) => put_at(alloc, out, prices.as_slice())?,
         Line::Flows(flows) => put_flow_line(alloc, out, flows.as_slice())?,
         Line::Mws(mws) => put_mw_line(alloc, out, mws.as_slice())?,

@@ -13,7 +13,7 @@ use crate::line::{AmountLine, BidLine, BorderLine, Heading, MoneyLine, ZoneLine}
 use mari_units::{Memory, Name};
 use pieces::{put, put_field, put_flow, put_money, put_number, put_price};
 use std::alloc::Global;
-pub use tree::{put_at, put_bound, put_branch, put_chain, put_cut, put_flow_line, put_mw_line};
+pub use tree::{put_at, put_bound, put_branch, put_conflict, put_cut, put_flow_line, put_mw_line};
 
 /// Appends the first line.
 pub fn put_head(

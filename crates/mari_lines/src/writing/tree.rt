@@ -47,6 +47,7 @@ fn put_zones(alloc: Global, out: &mut Vec<u8>, zones: &[u32]) -> Result<(), Memo
     Ok(())
 }
 
+/// Appends the line of a bound's prices.
 pub fn put_bound(alloc: Global, out: &mut Vec<u8>, prices: &[Cents]) -> Result<(), Memory>
     ensures { OnOk result (out.new.items ≡ out.old.items ++ line_text (line.Bound prices.now)) }
 {
@@ -64,6 +65,7 @@ fn put_side(out: &mut Vec<u8>, side: CutSide) -> Result<(), Memory>
     }
 }
 
+/// Appends a cut's line.
 pub fn put_cut(alloc: Global, out: &mut Vec<u8>, cut: &Cut) -> Result<(), Memory>
     ensures { OnOk result (out.new.items ≡ out.old.items ++ line_text (line.Cut cut.now)) }
 {
@@ -73,7 +75,8 @@ pub fn put_cut(alloc: Global, out: &mut Vec<u8>, cut: &Cut) -> Result<(), Memory
     put(out, b"\n")
 }
 
-pub fn put_chain(alloc: Global, out: &mut Vec<u8>, zones: &[u32]) -> Result<(), Memory>
+/// Appends the first of a conflict's lines: its zones.
+pub fn put_conflict(alloc: Global, out: &mut Vec<u8>, zones: &[u32]) -> Result<(), Memory>
     ensures { OnOk result (out.new.items ≡ out.old.items ++ line_text (line.Conflict zones.now)) }
 {
     put(out, b"conflict")?;
@@ -81,6 +84,7 @@ pub fn put_chain(alloc: Global, out: &mut Vec<u8>, zones: &[u32]) -> Result<(), 
     put(out, b"\n")
 }
 
+/// Appends the second: its prices.
 pub fn put_at(alloc: Global, out: &mut Vec<u8>, prices: &[Cents]) -> Result<(), Memory>
     ensures { OnOk result (out.new.items ≡ out.old.items ++ line_text (line.At prices.now)) }
 {
@@ -89,6 +93,7 @@ pub fn put_at(alloc: Global, out: &mut Vec<u8>, prices: &[Cents]) -> Result<(), 
     put(out, b"\n")
 }
 
+/// Appends the third: its flows.
 pub fn put_flow_line(alloc: Global, out: &mut Vec<u8>, flows: &[i64]) -> Result<(), Memory>
     ensures { OnOk result (out.new.items ≡ out.old.items ++ line_text (line.Flows flows.now)) }
 {
@@ -97,6 +102,7 @@ pub fn put_flow_line(alloc: Global, out: &mut Vec<u8>, flows: &[i64]) -> Result<
     put(out, b"\n")
 }
 
+/// Appends the last: its quantities.
 pub fn put_mw_line(alloc: Global, out: &mut Vec<u8>, mws: &[u32]) -> Result<(), Memory>
     ensures { OnOk result (out.new.items ≡ out.old.items ++ line_text (line.Mws mws.now)) }
 {
@@ -105,6 +111,7 @@ pub fn put_mw_line(alloc: Global, out: &mut Vec<u8>, mws: &[u32]) -> Result<(), 
     put(out, b"\n")
 }
 
+/// Appends the line of a branch.
 pub fn put_branch(out: &mut Vec<u8>) -> Result<(), Memory>
     ensures { OnOk result (out.new.items ≡ out.old.items ++ line_text line.Branch) }
 {

@@ -6,7 +6,7 @@ use lib.Chars.{codes}
 use Rattle.mari_units.specs.declared.faults.Refusal.{Refusal}
 use Rattle.mari_io.specs.declared.shelf.Fetch.TheVariants as fetch
 use Rattle.mari_io.specs.Outside.{Pages, page_of}
-use Rattle.mari_publish.specs.Spelling.{text_of}
+use Rattle.mari_publish.specs.Texts.{text_of}
 use Rattle.mari_remain.specs.declared.books.Books.{Books}
 use Rattle.mari_day.specs.Day.{EndsDay, WroteDay}
 use Rattle.mari_day.specs.declared.day.DayEnd.{DayEnd}

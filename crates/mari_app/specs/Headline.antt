@@ -7,7 +7,7 @@ use Rattle.mari_publish.specs.declared.publication.Block.{Block}
 use Rattle.mari_publish.specs.declared.publication.Publication.{Publication}
 use Rattle.mari_publish.specs.Lines.{unpublished_in}
 use Rattle.mari_publish.specs.Ranges.{HasText}
-use Rattle.mari_publish.specs.Spelling.{text_of}
+use Rattle.mari_publish.specs.Texts.{text_of}
 use Rattle.mari_check.specs.Day.{IsValidPublication}
 use Rattle.mari_day.specs.Day.{HasEnough, IsDay}
 use Rattle.mari_day.specs.Keeps.{BlockSumsToZero, KeepsOffers, net_sum}

@@ -12,7 +12,7 @@ use Rattle.mari_market.specs.Interval.{ArePublishedPrices, IsGreatestPrice, IsLe
 use Rattle.mari_market.specs.Price.{price_at}
 use Rattle.mari_market.proofs.Published.{nearest_rises}
 use Rattle.mari_publish.specs.declared.publication.FullBlock.{FullBlock}
-use Rattle.mari_publish.specs.declared.publication.ZoneLine.{ZoneLine}
+use Rattle.mari_lines.specs.declared.line.ZoneLine.{ZoneLine}
 use Rattle.mari_check.specs.declared.ends.End.{End}
 use Rattle.mari_check.specs.declared.ends.End.TheVariants.{Greatest, Least}
 use Rattle.mari_check.specs.Ends.{AreEndPrices}

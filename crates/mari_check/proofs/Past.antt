@@ -8,11 +8,11 @@ use Rattle.std.proofs.lemmas.List.Sums.{position_or_len_is}
 use Rattle.std.proofs.lemmas.Slice.Eq.{bytes_eq-Decides}
 use Rattle.mari_rows.specs.Names.{place_in}
 use Rattle.mari_rows.proofs.NameLemmas.{bytes_eq-same}
-use Rattle.mari_publish.specs.declared.publication.BidLine.{BidLine}
+use Rattle.mari_lines.specs.declared.line.BidLine.{BidLine}
 use Rattle.mari_publish.specs.declared.publication.Block.{Block}
 use Rattle.mari_publish.specs.declared.publication.Block.TheVariants as block
 use Rattle.mari_publish.specs.declared.publication.FullBlock.{FullBlock}
-use Rattle.mari_publish.specs.declared.publication.Heading.{Heading}
+use Rattle.mari_lines.specs.declared.line.Heading.{Heading}
 use Rattle.mari_remain.specs.declared.books.Books.{Books}
 use Rattle.mari_remain.specs.Accepted.{IsAccepted}
 use Rattle.mari_remain.specs.Blocks.{PastBlock, PastRun}

@@ -10,7 +10,8 @@ use Rattle.mari_io.specs.declared.shelf.Fetch.TheVariants as fetch
 use Rattle.mari_io.specs.declared.shelf.TheConstants.{MOST_GIVEN}
 use Rattle.mari_publish.specs.Faults.{IsOutcome, IsText, BadLineAt, BadOrderAt}
 use Rattle.mari_publish.specs.Pieces.{ComeState, HasPart, IsEnd, IsNext, NoFault, StandsFor, found_none, with_part}
-use Rattle.mari_publish.specs.Spelling.{line_text, spelling, text_of_lines}
+use Rattle.mari_lines.specs.Spelling.{line_text, spelling}
+use Rattle.mari_publish.specs.Texts.{text_of_lines}
 use Rattle.mari_publish.specs.declared.fault.TextFault.{TextFault}
 use Rattle.mari_publish.specs.declared.fault.TextFault.TheVariants as fault
 use Rattle.mari_publish.specs.declared.publication.Part.{Part}

@@ -7,7 +7,7 @@ use Rattle.mari_units.specs.declared.numbers.Cents.{Cents}
 use Rattle.mari_units.specs.declared.numbers.Quarters.{Quarters}
 use Rattle.mari_bids.specs.declared.bids.Bid.{Bid}
 use Rattle.mari_market.specs.declared.activation.Activation.{Activation}
-use Rattle.mari_publish.specs.declared.publication.BorderLine.{BorderLine}
+use Rattle.mari_lines.specs.declared.line.BorderLine.{BorderLine}
 use Rattle.mari_publish.specs.declared.publication.FullBlock.{FullBlock}
 use Rattle.mari_remain.specs.Lists.{bid_at}
 use Rattle.mari_remain.specs.declared.books.Books.{Books}

@@ -9,7 +9,7 @@ use Rattle.mari_units.specs.declared.numbers.Cents.{Cents}
 use Rattle.mari_publish.specs.declared.publication.Block.{Block}
 use Rattle.mari_publish.specs.declared.publication.Block.TheVariants as block
 use Rattle.mari_publish.specs.declared.publication.FullBlock.{FullBlock}
-use Rattle.mari_publish.specs.declared.publication.Heading.{Heading}
+use Rattle.mari_lines.specs.declared.line.Heading.{Heading}
 use Rattle.mari_remain.specs.declared.books.Books.{Books}
 use Rattle.mari_remain.specs.Accepted.{IsAccepted}
 use Rattle.mari_remain.specs.Lists.{run_at}

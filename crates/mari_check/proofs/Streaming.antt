@@ -6,16 +6,16 @@ use Rattle.std.proofs.lemmas.List.{append-nil, length-map, map_push}
 use Rattle.mari_publish.specs.declared.held.Held.{Held}
 use Rattle.mari_publish.specs.declared.held.Held.TheVariants as held
 use Rattle.mari_publish.specs.declared.held.Kept.{Kept}
-use Rattle.mari_publish.specs.declared.publication.AmountLine.{AmountLine}
+use Rattle.mari_lines.specs.declared.line.AmountLine.{AmountLine}
 use Rattle.mari_publish.specs.declared.publication.Block.{Block}
-use Rattle.mari_publish.specs.declared.publication.MoneyLine.{MoneyLine}
+use Rattle.mari_lines.specs.declared.line.MoneyLine.{MoneyLine}
 use Rattle.mari_publish.specs.declared.publication.Part.{Part}
 use Rattle.mari_publish.specs.declared.publication.Part.TheVariants as part
 use Rattle.mari_publish.specs.declared.publication.Publication.{Publication}
 use Rattle.mari_publish.specs.Pieces.{ComeState, Gives, HasPart, IsCome, StandsFor, front_parts, parts_of, parts_so_far}
 use Rattle.mari_publish.proofs.Counts.{counted}
 use Rattle.mari_publish.proofs.Pieces.{counts_of}
-use Rattle.mari_publish.specs.declared.line.Line.{Line}
+use Rattle.mari_lines.specs.declared.line.Line.{Line}
 use Rattle.mari_remain.specs.declared.books.Books.{Books}
 use Rattle.mari_check.specs.declared.day.DayCheck.{DayCheck}
 use Rattle.mari_check.specs.declared.verdict.Verdict.{Verdict}
@@ -73,7 +73,7 @@ count_in held.Done n = n + 2
 count_in _ n = n + 1
 
 abbrev pub count_of : Kept → ℕ
-count_of k = count_in k.held (k.published + k.unpublished)
+count_of k = count_in k.held (k.counts.published + k.counts.unpublished)
 
 front-count : (p : Publication) → length (front_parts p) ≡ length p.blocks + 1
 front-count p = let n = length-map p.blocks part.Block in omega (arith, n)
@@ -96,7 +96,7 @@ at-most _ n l = omega (arith, l)
 
 counts : (lines : List Line) (parts : List Part) (k : Kept) → Gives lines parts k → length parts ≡ count_of k
 counts lines parts k g =
-    let both : length g.so_far.blocks ≡ k.published + k.unpublished = omega (arith, counted g.so_far.blocks, g.published, g.unpublished) in
+    let both : length g.so_far.blocks ≡ k.counts.published + k.counts.unpublished = omega (arith, counted g.so_far.blocks, g.published, g.unpublished) in
     ap length g.given ∙ so-many g.so_far k.held ∙ ap (count_in k.held) both
 
 -- each part leaves room for one less
@@ -105,7 +105,7 @@ fewer-left old new text parts x s t =
     let before = counts s.lines parts old.kept s.gives in
     let after = counts t.lines (parts ++ x ∷ []) new.kept t.gives in
     let one = length-append parts (x ∷ []) in
-    let few = at-most new.kept.held (new.kept.published + new.kept.unpublished) (counts_of new (text, parts ++ x ∷ [], t)) in
+    let few = at-most new.kept.held (new.kept.counts.published + new.kept.counts.unpublished) (counts_of new (text, parts ++ x ∷ [], t)) in
     omega (arith, before, after, one, few)
 
 -- ---- what is settled stays so

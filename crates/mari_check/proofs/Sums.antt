@@ -11,7 +11,7 @@ use Rattle.mari_units.specs.declared.numbers.Quarters.{Quarters}
 use Rattle.mari_publish.specs.declared.publication.Block.{Block}
 use Rattle.mari_publish.specs.declared.publication.Block.TheVariants as block
 use Rattle.mari_publish.specs.declared.publication.FullBlock.{FullBlock}
-use Rattle.mari_publish.specs.declared.publication.Heading.{Heading}
+use Rattle.mari_lines.specs.declared.line.Heading.{Heading}
 use Rattle.mari_remain.specs.declared.books.Books.{Books}
 use Rattle.mari_settle.specs.Conditions.{IsWithin, LedgerIsWithin, LedgersAddUp, LineIsWithin}
 use Rattle.mari_settle.specs.Ledger.{net_of}

@@ -7,7 +7,7 @@ use Rattle.mari_market.specs.Price.{IsCapped}
 use Rattle.mari_publish.specs.declared.publication.Block.{Block}
 use Rattle.mari_publish.specs.declared.publication.Block.TheVariants as block
 use Rattle.mari_publish.specs.declared.publication.FullBlock.{FullBlock}
-use Rattle.mari_publish.specs.declared.publication.Heading.{Heading}
+use Rattle.mari_lines.specs.declared.line.Heading.{Heading}
 use Rattle.mari_publish.specs.Lines.{published_in, unpublished_in}
 use Rattle.mari_remain.specs.FirstBlocks.{StandsFor}
 use Rattle.mari_remain.specs.Lists.{run_at}

@@ -3,7 +3,7 @@ use Rattle.std.specs.Prelude.{◌≡◌, ◌⊎◌, ◌+◌, ◌<◌, ◌≤◌,
 use Rattle.mari_publish.specs.declared.publication.Block.{Block}
 use Rattle.mari_publish.specs.declared.publication.Block.TheVariants as block
 use Rattle.mari_publish.specs.declared.publication.FullBlock.{FullBlock}
-use Rattle.mari_publish.specs.declared.publication.Heading.{Heading}
+use Rattle.mari_lines.specs.declared.line.Heading.{Heading}
 use Rattle.mari_publish.specs.declared.publication.Publication.{Publication}
 use Rattle.mari_remain.specs.declared.books.Books.{Books}
 use Rattle.mari_check.specs.declared.fault.Fault.{Fault}

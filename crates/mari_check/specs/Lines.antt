@@ -4,11 +4,11 @@ use Rattle.mari_units.specs.declared.numbers.Cents.{Cents}
 use Rattle.mari_units.specs.declared.numbers.Quarters.{Quarters}
 use Rattle.mari_zones.specs.declared.borders.BorderEnds.{BorderEnds}
 use Rattle.mari_market.specs.Interval.{IsNearest}
-use Rattle.mari_publish.specs.declared.publication.AmountLine.{AmountLine}
-use Rattle.mari_publish.specs.declared.publication.BidLine.{BidLine}
-use Rattle.mari_publish.specs.declared.publication.BorderLine.{BorderLine}
-use Rattle.mari_publish.specs.declared.publication.MoneyLine.{MoneyLine}
-use Rattle.mari_publish.specs.declared.publication.ZoneLine.{ZoneLine}
+use Rattle.mari_lines.specs.declared.line.AmountLine.{AmountLine}
+use Rattle.mari_lines.specs.declared.line.BidLine.{BidLine}
+use Rattle.mari_lines.specs.declared.line.BorderLine.{BorderLine}
+use Rattle.mari_lines.specs.declared.line.MoneyLine.{MoneyLine}
+use Rattle.mari_lines.specs.declared.line.ZoneLine.{ZoneLine}
 use Rattle.mari_check.specs.Told.{name_at}
 
 -- the line of a zone has the name

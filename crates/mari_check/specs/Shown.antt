@@ -9,7 +9,7 @@ use Rattle.mari_market.specs.First.{IsFirst}
 use Rattle.mari_market.specs.Interval.{AreGreatestPrices, AreLeastPrices, ArePublishedPrices}
 use Rattle.mari_market.specs.Sums.{int_sum}
 use Rattle.mari_publish.specs.declared.publication.FullBlock.{FullBlock}
-use Rattle.mari_publish.specs.declared.publication.MoneyLine.{MoneyLine}
+use Rattle.mari_lines.specs.declared.line.MoneyLine.{MoneyLine}
 use Rattle.mari_remain.specs.declared.books.Books.{Books}
 use Rattle.mari_remain.specs.declared.market.RunMarket.{RunMarket}
 use Rattle.mari_check.specs.Money.{HasLedger}

@@ -12,8 +12,8 @@ ghost use Rattle.mari_check.specs.Lines.{TellsRent};
 ghost use Rattle.mari_check.specs.Markets.{IsMarketOf};
 ghost use Rattle.mari_check.specs.Money.{HasLedger, TellsLedger, amount_line, money_line, money_lines_of, providers_among, with_number};
 ghost use Rattle.mari_check.specs.Told.{activation_of as activation_told, name_at, prices_of as prices_told};
-ghost use Rattle.mari_publish.specs.declared.publication.AmountLine.{AmountLine as TheAmountLine};
-ghost use Rattle.mari_publish.specs.declared.publication.MoneyLine.{MoneyLine as TheMoneyLine};
+ghost use Rattle.mari_lines.specs.declared.line.AmountLine.{AmountLine as TheAmountLine};
+ghost use Rattle.mari_lines.specs.declared.line.MoneyLine.{MoneyLine as TheMoneyLine};
 
 use crate::names::is_named;
 use mari_bids::Bid;

@@ -1,9 +1,9 @@
 //! What a block tells of its run.
 
 ghost use Rattle.std.specs.Prelude.{◌≡◌, ◌≤◌, IfOk, map};
-ghost use Rattle.mari_publish.specs.declared.publication.BidLine.{BidLine as TheBidLine};
-ghost use Rattle.mari_publish.specs.declared.publication.BorderLine.{BorderLine as TheBorderLine};
-ghost use Rattle.mari_publish.specs.declared.publication.ZoneLine.{ZoneLine as TheZoneLine};
+ghost use Rattle.mari_lines.specs.declared.line.BidLine.{BidLine as TheBidLine};
+ghost use Rattle.mari_lines.specs.declared.line.BorderLine.{BorderLine as TheBorderLine};
+ghost use Rattle.mari_lines.specs.declared.line.ZoneLine.{ZoneLine as TheZoneLine};
 ghost use Rattle.mari_check.specs.Told.{activation_of as activation_told, areas_of as areas_told, greatest_of as greatest_told, heading_of, least_of as least_told, prices_of as prices_told};
 
 use mari_market::{Activation, Prices};

@@ -9,7 +9,7 @@ use Rattle.mari_market.specs.declared.market.Market.{Market}
 use Rattle.mari_market.specs.Area.{AreAreas, area_at}
 use Rattle.mari_market.specs.Interval.{AreLeastPrices, AreGreatestPrices}
 use Rattle.mari_market.specs.Price.{IsPrice, ArePrices, price_at}
-use Rattle.mari_publish.specs.Ranges.{Between, IsPriceLine}
+use Rattle.mari_lines.specs.Ranges.{Between, IsPriceLine}
 
 module _ (m : Market) (a : Activation) where
   -- a zone whose area isn't the first stands behind one of the area before

@@ -13,12 +13,13 @@ use Rattle.mari_market.specs.Clearing.{IsClearing}
 use Rattle.mari_market.proofs.Ties.{tree_holds_plain}
 use Rattle.mari_market.specs.Optimal.{IsFeasible}
 use Rattle.mari_market.specs.declared.clearing.Clearing.{Clearing}
-use Rattle.mari_publish.specs.Ranges.{Between, FullFits, InRange, IsAmountLine, IsMoney, IsMoneyLine, IsName, IsPriceLine, Listed, Within}
-use Rattle.mari_publish.specs.declared.line.Line.TheVariants as line
-use Rattle.mari_publish.specs.declared.publication.BidLine.{BidLine}
-use Rattle.mari_publish.specs.declared.publication.BorderLine.{BorderLine}
+use Rattle.mari_lines.specs.Ranges.{Between, InRange, IsAmountLine, IsMoney, IsMoneyLine, IsName, IsPriceLine, Listed, Within}
+use Rattle.mari_publish.specs.Ranges.{FullFits}
+use Rattle.mari_lines.specs.declared.line.Line.TheVariants as line
+use Rattle.mari_lines.specs.declared.line.BidLine.{BidLine}
+use Rattle.mari_lines.specs.declared.line.BorderLine.{BorderLine}
 use Rattle.mari_publish.specs.declared.publication.FullBlock.{FullBlock}
-use Rattle.mari_publish.specs.declared.publication.ZoneLine.{ZoneLine}
+use Rattle.mari_lines.specs.declared.line.ZoneLine.{ZoneLine}
 use Rattle.mari_remain.specs.Accepted.{IsAccepted}
 use Rattle.mari_remain.specs.declared.market.RunMarket.{RunMarket}
 use Rattle.mari_remain.specs.declared.books.Books.{Books}

@@ -14,8 +14,8 @@ use Rattle.mari_market.specs.Clearing.{ArePartsOfSearch, IsSpent}
 use Rattle.mari_market.specs.declared.clearing.PartItem.{PartItem}
 use Rattle.mari_market.specs.declared.clearing.Spent.{Spent}
 use Rattle.mari_market.specs.declared.market.Market.{Market}
-use Rattle.mari_publish.specs.declared.publication.AmountLine.{AmountLine}
-use Rattle.mari_publish.specs.Ranges.{Between, IsAmountLine, IsHeading, IsMoneyLine, Listed}
+use Rattle.mari_lines.specs.declared.line.AmountLine.{AmountLine}
+use Rattle.mari_lines.specs.Ranges.{Between, IsAmountLine, IsHeading, IsMoneyLine, Listed}
 use Rattle.mari_publish.specs.declared.publication.Block.{Block}
 use Rattle.mari_publish.specs.declared.publication.Publication.{Publication}
 use Rattle.mari_remain.specs.Accepted.{IsAccepted}

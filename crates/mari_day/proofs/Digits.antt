@@ -9,7 +9,7 @@ use Rattle.mari_calendar.specs.Dates.{day_by, day_in, number_at, two_digits}
 use Rattle.mari_calendar.specs.Midnights.{◌>>>◌, or_fault, quarters_at}
 use Rattle.mari_calendar.specs.declared.quarters.CalendarFault.{CalendarFault}
 use Rattle.mari_calendar.specs.declared.quarters.CalendarFault.TheVariants.{BadDate}
-use Rattle.mari_publish.specs.Ranges.{IsDate}
+use Rattle.mari_lines.specs.Ranges.{IsDate}
 
 -- a pair of digits that writes a number
 abbrev AreDigits : (a b : ℕ) → Type 0

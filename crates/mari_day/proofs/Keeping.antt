@@ -12,9 +12,9 @@ use Rattle.mari_units.specs.declared.numbers.Quarters.{Quarters}
 use Rattle.mari_market.specs.Sums.{int_sum}
 use Rattle.mari_publish.specs.declared.publication.Block.{Block}
 use Rattle.mari_publish.specs.declared.publication.Block.TheVariants as block
-use Rattle.mari_publish.specs.declared.publication.BorderLine.{BorderLine}
+use Rattle.mari_lines.specs.declared.line.BorderLine.{BorderLine}
 use Rattle.mari_publish.specs.declared.publication.FullBlock.{FullBlock}
-use Rattle.mari_publish.specs.declared.publication.MoneyLine.{MoneyLine}
+use Rattle.mari_lines.specs.declared.line.MoneyLine.{MoneyLine}
 use Rattle.mari_remain.specs.declared.books.Books.{Books}
 use Rattle.mari_remain.specs.Accepted.{IsAccepted}
 use Rattle.mari_remain.specs.FirstBlocks.{AreFirstBlocks}

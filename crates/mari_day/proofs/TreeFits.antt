@@ -26,8 +26,9 @@ use Rattle.mari_market.specs.Prefix.{bounds_of_word, children}
 use Rattle.mari_market.specs.Price.{ArePrices}
 use Rattle.mari_market.specs.Sums.{int_sum}
 use Rattle.mari_market.specs.Tree.{AreParts, LeafHolds, TreeHolds}
-use Rattle.mari_publish.specs.Ranges.{InRange, IsPriceLine, IsZone, ItemFits, Listed, Within}
-use Rattle.mari_publish.specs.declared.line.Line.TheVariants as line
+use Rattle.mari_lines.specs.Ranges.{InRange, IsPriceLine, IsZone, Listed, Within}
+use Rattle.mari_publish.specs.Ranges.{ItemFits}
+use Rattle.mari_lines.specs.declared.line.Line.TheVariants as line
 
 -- side by side, and each of the first list has a property too
 beside : {X Y : Type 0} (P : X → Type 0) (R : X → Y → Type 0) (Q : Y → Type 0) → ((x : X) (y : Y) → P x → R x y → Q y)

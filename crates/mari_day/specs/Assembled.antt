@@ -4,10 +4,10 @@ use Rattle.std.specs.List.{All}
 use Rattle.mari_units.specs.declared.numbers.Cents.{Cents}
 use Rattle.mari_zones.specs.declared.borders.BorderEnds.{BorderEnds}
 use Rattle.mari_market.specs.declared.clearing.Clearing.{Clearing}
-use Rattle.mari_publish.specs.declared.publication.BidLine.{BidLine}
-use Rattle.mari_publish.specs.declared.publication.BorderLine.{BorderLine}
+use Rattle.mari_lines.specs.declared.line.BidLine.{BidLine}
+use Rattle.mari_lines.specs.declared.line.BorderLine.{BorderLine}
 use Rattle.mari_publish.specs.declared.publication.FullBlock.{FullBlock}
-use Rattle.mari_publish.specs.declared.publication.ZoneLine.{ZoneLine}
+use Rattle.mari_lines.specs.declared.line.ZoneLine.{ZoneLine}
 use Rattle.mari_remain.specs.declared.books.Books.{Books}
 use Rattle.mari_remain.specs.declared.market.RunMarket.{RunMarket}
 use Rattle.mari_market.specs.Area.{AreAreas}

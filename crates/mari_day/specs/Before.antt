@@ -2,7 +2,7 @@
 use Rattle.std.specs.Prelude.{ℕ, ◌+◌, ◌==◌, ◌&&◌, not, List, Option, Some, None, fold, if◌then◌else◌, length, map}
 use Rattle.mari_units.specs.declared.numbers.Cents.{Cents}
 use Rattle.mari_rows.specs.Names.{place_in}
-use Rattle.mari_publish.specs.declared.publication.BidLine.{BidLine}
+use Rattle.mari_lines.specs.declared.line.BidLine.{BidLine}
 use Rattle.mari_publish.specs.declared.publication.Block.{Block}
 use Rattle.mari_publish.specs.declared.publication.Block.TheVariants as block
 use Rattle.mari_remain.specs.declared.books.Books.{Books}

@@ -11,7 +11,7 @@ use Rattle.mari_rows.specs.declared.rows.Row.{Row}
 use Rattle.mari_calendar.specs.Midnights.{quarters_at}
 use Rattle.mari_calendar.specs.declared.quarters.CalendarFault.{CalendarFault}
 use Rattle.mari_calendar.specs.declared.quarters.CalendarFault.TheVariants as calendar
-use Rattle.mari_publish.specs.Ranges.{Between, IsDate}
+use Rattle.mari_lines.specs.Ranges.{Between, IsDate}
 use Rattle.mari_day.specs.DateChecks.{date_check_number}
 use Rattle.mari_day.specs.declared.calendar_page.CalendarDay.{CalendarDay}
 use Rattle.mari_day.specs.declared.calendar_page.DateCheck.{DateCheck}

@@ -1,5 +1,5 @@
 -- Books of a date that a text may state.
-use Rattle.mari_publish.specs.Ranges.{Between, IsDate}
+use Rattle.mari_lines.specs.Ranges.{Between, IsDate}
 use Rattle.mari_remain.specs.declared.books.Books.{Books}
 
 -- a date in digits, and 1 to 400 quarter hours

@@ -6,7 +6,7 @@ use Rattle.mari_publish.specs.declared.publication.Block.{Block}
 use Rattle.mari_publish.specs.declared.publication.Publication.{Publication}
 use Rattle.mari_publish.specs.Lines.{published_in, unpublished_in}
 use Rattle.mari_publish.specs.Ranges.{HasText}
-use Rattle.mari_publish.specs.Spelling.{block_text_of, head_text_of, text_of}
+use Rattle.mari_publish.specs.Texts.{block_text_of, head_text_of, text_of}
 use Rattle.mari_remain.specs.declared.books.Books.{Books}
 use Rattle.mari_market.specs.SearchTree.{HasSize}
 use Rattle.mari_day.specs.Before.{market_behind}

@@ -3,8 +3,8 @@ use Rattle.std.specs.Prelude.{ℕ, ◌==◌, List, [], ◌∷◌, ◌++◌, fold
 use Rattle.std.specs.List.{list_any}
 use Rattle.mari_units.specs.declared.numbers.Quarters.{Quarters}
 use Rattle.mari_bids.specs.declared.bids.Bid.{Bid}
-use Rattle.mari_publish.specs.declared.publication.AmountLine.{AmountLine}
-use Rattle.mari_publish.specs.declared.publication.MoneyLine.{MoneyLine}
+use Rattle.mari_lines.specs.declared.line.AmountLine.{AmountLine}
+use Rattle.mari_lines.specs.declared.line.MoneyLine.{MoneyLine}
 use Rattle.mari_remain.specs.Lists.{bid_at}
 use Rattle.mari_settle.specs.declared.ledger.OperatorLine.{OperatorLine}
 use Rattle.mari_settle.specs.Ledger.{net_of}

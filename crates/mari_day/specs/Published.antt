@@ -6,9 +6,9 @@ use Rattle.mari_market.specs.declared.clearing.Spent.{Spent}
 use Rattle.mari_market.specs.Clearing.{IsClearing, IsSpent}
 use Rattle.mari_publish.specs.declared.publication.Block.{Block}
 use Rattle.mari_publish.specs.declared.publication.Block.TheVariants as block
-use Rattle.mari_publish.specs.declared.publication.BorderLine.{BorderLine}
+use Rattle.mari_lines.specs.declared.line.BorderLine.{BorderLine}
 use Rattle.mari_publish.specs.declared.publication.FullBlock.{FullBlock}
-use Rattle.mari_publish.specs.declared.publication.Heading.{Heading}
+use Rattle.mari_lines.specs.declared.line.Heading.{Heading}
 use Rattle.mari_remain.specs.declared.books.Books.{Books}
 use Rattle.mari_remain.specs.declared.market.RunMarket.{RunMarket}
 use Rattle.mari_settle.specs.Ledger.{operator_lines, provider_amounts, rents_of, scheduled_or}

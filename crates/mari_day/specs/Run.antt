@@ -8,11 +8,11 @@ use Rattle.mari_market.specs.declared.clearing.Clearing.{Clearing}
 use Rattle.mari_market.specs.Area.{AreAreas}
 use Rattle.mari_market.specs.Interval.{AreLeastPrices, AreGreatestPrices, ArePublishedPrices}
 use Rattle.mari_market.specs.Optimal.{IsConsistent}
-use Rattle.mari_publish.specs.declared.publication.BidLine.{BidLine}
-use Rattle.mari_publish.specs.declared.publication.BorderLine.{BorderLine}
+use Rattle.mari_lines.specs.declared.line.BidLine.{BidLine}
+use Rattle.mari_lines.specs.declared.line.BorderLine.{BorderLine}
 use Rattle.mari_publish.specs.declared.publication.FullBlock.{FullBlock}
-use Rattle.mari_publish.specs.declared.publication.Heading.{Heading}
-use Rattle.mari_publish.specs.declared.publication.ZoneLine.{ZoneLine}
+use Rattle.mari_lines.specs.declared.line.Heading.{Heading}
+use Rattle.mari_lines.specs.declared.line.ZoneLine.{ZoneLine}
 use Rattle.mari_remain.specs.declared.books.Books.{Books}
 use Rattle.mari_remain.specs.Lists.{run_at}
 use Rattle.mari_remain.specs.declared.market.RunMarket.{RunMarket}

@@ -3,7 +3,7 @@
 ghost use Rattle.std.specs.Prelude.{◌≡◌, ◌≤◌, IfErr, IfOk, length};
 ghost use Rattle.mari_rows.specs.Books.{GivesBook};
 ghost use Rattle.mari_rows.specs.declared.faults.BookFault.{BookFault as Fault};
-ghost use Rattle.mari_publish.specs.Ranges.{IsDate};
+ghost use Rattle.mari_lines.specs.Ranges.{IsDate};
 ghost use Rattle.mari_day.specs.CalendarPage.{IsCalendarDay, calendar_day_in, check_of as check_by, day_columns, day_of_row, not_one as not_one_at};
 ghost use Rattle.mari_day.specs.DateChecks.{date_check_name, date_check_number};
 

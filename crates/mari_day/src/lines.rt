@@ -4,9 +4,9 @@ ghost use Rattle.std.specs.Prelude.{◌≡◌, ◌≤◌, ◌<◌, ◌==◌, ◌
 ghost use Rattle.std.specs.List.{All};
 ghost use Rattle.mari_units.specs.Names.{is_name};
 ghost use Rattle.mari_zones.specs.declared.borders.BorderEnds.{BorderEnds as Ends};
-ghost use Rattle.mari_publish.specs.declared.publication.BidLine.{BidLine as BidLineOf};
-ghost use Rattle.mari_publish.specs.declared.publication.BorderLine.{BorderLine as BorderLineOf};
-ghost use Rattle.mari_publish.specs.declared.publication.ZoneLine.{ZoneLine as ZoneLineOf};
+ghost use Rattle.mari_lines.specs.declared.line.BidLine.{BidLine as BidLineOf};
+ghost use Rattle.mari_lines.specs.declared.line.BorderLine.{BorderLine as BorderLineOf};
+ghost use Rattle.mari_lines.specs.declared.line.ZoneLine.{ZoneLine as ZoneLineOf};
 ghost use Rattle.mari_settle.specs.Conditions.{LineIsWithin};
 ghost use Rattle.mari_day.specs.Run.{name_at};
 ghost use Rattle.mari_day.specs.Money.{amount_line, money_lines_of};

@@ -8,12 +8,12 @@ use Rattle.mari_units.specs.declared.numbers.Cents.{Cents}
 use Rattle.mari_market.specs.Price.{IsPrice}
 use Rattle.mari_market.specs.declared.certificate.TreeItem.TheVariants as items
 use Rattle.mari_publish.specs.declared.publication.Publication.{Publication}
-use Rattle.mari_publish.specs.declared.publication.Heading.{Heading}
-use Rattle.mari_publish.specs.declared.publication.ZoneLine.{ZoneLine}
-use Rattle.mari_publish.specs.declared.publication.MoneyLine.{MoneyLine}
-use Rattle.mari_publish.specs.declared.publication.AmountLine.{AmountLine}
-use Rattle.mari_publish.specs.declared.line.Line.{Line}
-use Rattle.mari_publish.specs.declared.line.Line.TheVariants as line
+use Rattle.mari_lines.specs.declared.line.Heading.{Heading}
+use Rattle.mari_lines.specs.declared.line.ZoneLine.{ZoneLine}
+use Rattle.mari_lines.specs.declared.line.MoneyLine.{MoneyLine}
+use Rattle.mari_lines.specs.declared.line.AmountLine.{AmountLine}
+use Rattle.mari_lines.specs.declared.line.Line.{Line}
+use Rattle.mari_lines.specs.declared.line.Line.TheVariants as line
 use Rattle.mari_publish.specs.declared.held.Pending.{Pending}
 use Rattle.mari_publish.specs.declared.held.Pending.TheVariants.{Nothing, Zones, At, Flows}
 use Rattle.mari_publish.specs.declared.held.Listing.{Listing}
@@ -25,10 +25,11 @@ use Rattle.mari_publish.specs.declared.publication.Part.{Part}
 use Rattle.mari_publish.specs.declared.publication.Part.TheVariants as part
 use Rattle.mari_publish.specs.declared.held.Kept.{Kept}
 use Rattle.mari_publish.specs.Faults.{Begins}
-use Rattle.mari_publish.specs.Ranges.{InRange, HasText, IsPriceLine, IsMoneyLine, Listed}
-use Rattle.mari_publish.specs.Order.{kept_with, with_item, conflict_item, after_listing, after_growing, full_block, after, grown, front_lines}
+use Rattle.mari_lines.specs.Ranges.{InRange, IsPriceLine, IsMoneyLine, Listed}
+use Rattle.mari_publish.specs.Ranges.{HasText}
+use Rattle.mari_publish.specs.Order.{kept_with, one_published, with_item, conflict_item, after_listing, after_growing, full_block, after, grown, front_lines}
 use Rattle.mari_publish.proofs.Counts.{counted}
-use Rattle.mari_publish.proofs.Gathered.{cons_all}
+use Rattle.mari_lines.proofs.Gathered.{cons_all}
 use Rattle.mari_publish.proofs.Fits.{Fit, has_text}
 use Rattle.mari_publish.proofs.Follows.{if_true, and_true, kept_some, same}
 use Rattle.mari_publish.proofs.Whole.{all_back, all_push, Stands, next}
@@ -55,10 +56,10 @@ from_totals : (ls : List Line) (p : Publication) (k : Kept) (os : List MoneyLine
 from_totals ls p k os ps s fit =
     let new : Kept = kept_with k held.Done in
     let c = counted p.blocks in
-    let range : InRange (line.Done k.published k.unpublished) = (omega (arith, c, s.published, s.runs), omega (arith, c, s.unpublished, s.runs)) in
-    then_line ls p k (held.Totals os ps) (line.Done k.published k.unpublished) (new, Some (part.Totals os ps)) s fit range
-    (if_true _ (new, Some (part.Totals os ps)) (and_true _ _ (same k.published) (same k.unpublished)))
-    (from_done (ls ++ line.Done k.published k.unpublished ∷ []) (grown p (Some (part.Totals os ps))) new)
+    let range : InRange (line.Done k.counts.published k.counts.unpublished) = (omega (arith, c, s.published, s.runs), omega (arith, c, s.unpublished, s.runs)) in
+    then_line ls p k (held.Totals os ps) (line.Done k.counts.published k.counts.unpublished) (new, Some (part.Totals os ps)) s fit range
+    (if_true _ (new, Some (part.Totals os ps)) (and_true _ _ (same k.counts.published) (same k.counts.unpublished)))
+    (from_done (ls ++ line.Done k.counts.published k.counts.unpublished ∷ []) (grown p (Some (part.Totals os ps))) new)
 
 free : Cents
 free = record { 0 = pos 0 }
@@ -88,7 +89,7 @@ run_in_range ls F more h e fit = (all_back InRange F (line.Run h ∷ more) (subs
 
 from_ending : (ls : List Line) (p : Publication) (k : Kept) (e : Ending) → Stands ls p k (held.Ending e) → Fit ls → Begins ls
 from_ending ls p k e s fit =
-    let new : Kept = record { held = held.Between; published = k.published + 1; unpublished = k.unpublished } in
+    let new : Kept = record { held = held.Between; counts = one_published k.counts } in
     let run = e.listing.heading.run in
     then_line ls p k (held.Ending e) (line.End run) (new, Some (part.Block (full_block e))) s fit
     (run_in_range ls (front_lines p) _ e.listing.heading s.lines fit)

@@ -9,12 +9,13 @@ use Rattle.mari_publish.specs.declared.publication.FullBlock.{FullBlock}
 use Rattle.mari_publish.specs.declared.publication.Block.{Block}
 use Rattle.mari_publish.specs.declared.publication.Block.TheVariants as block
 use Rattle.mari_publish.specs.declared.publication.Publication.{Publication}
-use Rattle.mari_publish.specs.declared.line.Line.{Line}
-use Rattle.mari_publish.specs.declared.line.Line.TheVariants as line
+use Rattle.mari_lines.specs.declared.line.Line.{Line}
+use Rattle.mari_lines.specs.declared.line.Line.TheVariants as line
 use Rattle.mari_publish.specs.Lines.{item_lines, demand_lines, market_lines, tree_lines, ending_lines, full_lines, block_lines, closing_lines, published_in, unpublished_in, lines_of}
-use Rattle.mari_publish.specs.Ranges.{Between, InRange, ItemFits, FullFits, BlockFits, HasText}
+use Rattle.mari_lines.specs.Ranges.{Between, InRange}
+use Rattle.mari_publish.specs.Ranges.{ItemFits, FullFits, BlockFits, HasText}
 use Rattle.mari_publish.proofs.Counts.{counted}
-use Rattle.mari_publish.proofs.Gathered.{head_of, tail_of, cons_all}
+use Rattle.mari_lines.proofs.Gathered.{head_of, tail_of, cons_all}
 use Rattle.mari_publish.proofs.Whole.{all_front, all_back, IsWithinLimits}
 
 abbrev pub Fit : List Line → Type 0

@@ -10,14 +10,14 @@ use Rattle.mari_publish.specs.declared.publication.Block.{Block}
 use Rattle.mari_publish.specs.declared.publication.Block.TheVariants as block
 use Rattle.mari_publish.specs.declared.publication.FullBlock.{FullBlock}
 use Rattle.mari_publish.specs.declared.publication.Publication.{Publication}
-use Rattle.mari_publish.specs.declared.publication.Heading.{Heading}
-use Rattle.mari_publish.specs.declared.publication.ZoneLine.{ZoneLine}
-use Rattle.mari_publish.specs.declared.publication.BorderLine.{BorderLine}
-use Rattle.mari_publish.specs.declared.publication.BidLine.{BidLine}
-use Rattle.mari_publish.specs.declared.publication.MoneyLine.{MoneyLine}
-use Rattle.mari_publish.specs.declared.publication.AmountLine.{AmountLine}
-use Rattle.mari_publish.specs.declared.line.Line.{Line}
-use Rattle.mari_publish.specs.declared.line.Line.TheVariants as line
+use Rattle.mari_lines.specs.declared.line.Heading.{Heading}
+use Rattle.mari_lines.specs.declared.line.ZoneLine.{ZoneLine}
+use Rattle.mari_lines.specs.declared.line.BorderLine.{BorderLine}
+use Rattle.mari_lines.specs.declared.line.BidLine.{BidLine}
+use Rattle.mari_lines.specs.declared.line.MoneyLine.{MoneyLine}
+use Rattle.mari_lines.specs.declared.line.AmountLine.{AmountLine}
+use Rattle.mari_lines.specs.declared.line.Line.{Line}
+use Rattle.mari_lines.specs.declared.line.Line.TheVariants as line
 use Rattle.mari_publish.specs.declared.held.Pending.TheVariants.{Nothing}
 use Rattle.mari_publish.specs.declared.held.Listing.{Listing}
 use Rattle.mari_publish.specs.declared.held.Growing.{Growing}
@@ -28,7 +28,8 @@ use Rattle.mari_publish.specs.declared.publication.Part.{Part}
 use Rattle.mari_publish.specs.declared.publication.Part.TheVariants as part
 use Rattle.mari_publish.specs.declared.held.Kept.{Kept}
 use Rattle.mari_publish.specs.Lines.{item_lines, demand_lines, market_lines, tree_lines, ending_lines, block_lines, closing_lines, published_in, unpublished_in, lines_of}
-use Rattle.mari_publish.specs.Ranges.{Between, HasText}
+use Rattle.mari_lines.specs.Ranges.{Between}
+use Rattle.mari_publish.specs.Ranges.{HasText}
 use Rattle.mari_publish.specs.Faults.{Begins}
 use Rattle.mari_publish.specs.Order.{kept_with, after_listing, after_ending, after_totals, keeps, after, grown, nothing_read, nothing_kept, and_then, after_all}
 use Rattle.mari_publish.proofs.Fits.{blocks_within}
@@ -39,7 +40,7 @@ abbrev So : Type 0
 So = Option (Publication × Kept)
 
 abbrev pub at : ℕ → ℕ → Held → Kept
-at m n h = record { held = h; published = m; unpublished = n }
+at m n h = record { held = h; counts = record { published = m; unpublished = n } }
 
 step : (p : Publication) (k : Kept) (l : Line) (ls : List Line) (x : Kept × Option Part) → after k k.held l ≡ Some x
     → after_all p k (l ∷ ls) ≡ after_all (grown p x.1) x.0 ls

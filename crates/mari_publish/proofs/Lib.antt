@@ -1,14 +1,5 @@
 pub mod Counts
 pub mod Parts
-pub mod Printed
-pub mod Numbers
-pub mod Unread
-pub mod Splits
-pub mod Gathered
-pub mod Graphic
-pub mod FirstWords
-pub mod LineWords
-pub mod SameLine
 pub mod Steps
 pub mod Whole
 pub mod Fits
@@ -16,7 +7,7 @@ pub mod Follows
 pub mod Begun
 pub mod Progress
 pub mod Outcomes
-pub mod Lengths
 pub mod PartsGiven
 pub mod Pieces
 pub mod MoreText
+pub mod Refusals

@@ -11,12 +11,13 @@ use Rattle.mari_publish.specs.declared.fault.TextFault.{TextFault}
 use Rattle.mari_publish.specs.declared.fault.TextFault.TheVariants as fault
 use Rattle.mari_publish.specs.declared.coming.Ahead.{Ahead}
 use Rattle.mari_publish.specs.declared.coming.Ahead.TheVariants as mark
-use Rattle.mari_publish.specs.Reading.{Lacks}
-use Rattle.mari_publish.specs.Spelling.{line_text, text_of_lines}
+use Rattle.mari_lines.specs.Reading.{Lacks}
+use Rattle.mari_lines.specs.Spelling.{line_text}
+use Rattle.mari_publish.specs.Texts.{text_of_lines}
 use Rattle.mari_publish.specs.Order.{nothing_kept}
 use Rattle.mari_publish.specs.Faults.{IsText, BadLineAt, BadOrderAt, TruncatedAt}
-use Rattle.mari_publish.specs.Pieces.{parts_so_far, ComeState, IsAhead, StandsFor, NoLineIn, HasNoLine, IsWhole, HasPart, IsEnd}
-use Rattle.mari_publish.proofs.Printed.{and_parts}
+use Rattle.mari_publish.specs.Pieces.{Gives, parts_so_far, ComeState, IsAhead, StandsFor, NoLineIn, HasNoLine, IsWhole, HasPart, IsEnd}
+use Rattle.mari_lines.proofs.Printed.{and_parts}
 use Rattle.mari_publish.proofs.Follows.{and_true}
 use Rattle.mari_publish.proofs.Progress.{whole_text, truncated}
 use Rattle.mari_publish.proofs.Outcomes.{text_truncated, truncated_number}
@@ -24,8 +25,8 @@ use Rattle.mari_publish.proofs.PartsGiven.{gives_nothing}
 use Rattle.mari_publish.proofs.Pieces.{progress, lacks_line}
 
 -- a reader of which nothing has come
-pub stands_for_nothing : (bytes : List ℕ) → bytes ≡ [] → StandsFor (record { kept = nothing_kept; lines = 0; ahead = mark.Kept; unread = bytes }) [] []
-stands_for_nothing bytes e = record { lines = []; rest = []; is = refl; in_range = tt; gives = gives_nothing; number = refl; ahead = sym e }
+pub stands_for_nothing : (kept : Kept) (bytes : List ℕ) → kept ≡ nothing_kept → bytes ≡ [] → StandsFor (record { kept = kept; lines = 0; ahead = mark.Kept; unread = bytes }) [] []
+stands_for_nothing kept bytes k e = record { lines = []; rest = []; is = refl; in_range = tt; gives = subst (λ k. Gives [] [] k) (sym k) gives_nothing; number = refl; ahead = sym e }
 
 -- a reader with other bytes ahead
 pub ahead_more : (kept : Kept) (lines : ℕ) (a b : Ahead) (u v : List ℕ) (piece : List ℕ) → ((rest : List ℕ) → IsAhead a u rest → IsAhead b v (rest ++ piece)) → (text : List ℕ) (parts : List Part)

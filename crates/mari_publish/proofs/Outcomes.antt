@@ -4,17 +4,18 @@ use Rattle.std.specs.List.{list_all}
 use Rattle.std.proofs.lemmas.Bool.{eq-eqb}
 use Rattle.std.proofs.lemmas.List.{append-nil}
 use Rattle.mari_publish.specs.declared.publication.Publication.{Publication}
-use Rattle.mari_publish.specs.declared.line.Line.{Line}
+use Rattle.mari_lines.specs.declared.line.Line.{Line}
 use Rattle.mari_publish.specs.declared.fault.TextFault.{TextFault}
 use Rattle.mari_publish.specs.declared.fault.TextFault.TheVariants as fault
 use Rattle.mari_publish.specs.Lines.{lines_of}
-use Rattle.mari_publish.specs.Ranges.{InRange}
-use Rattle.mari_publish.specs.Reading.{Lacks}
-use Rattle.mari_publish.specs.Spelling.{spelling, line_text, text_of_lines}
+use Rattle.mari_lines.specs.Ranges.{InRange}
+use Rattle.mari_lines.specs.Reading.{Lacks}
+use Rattle.mari_lines.specs.Spelling.{spelling, line_text}
+use Rattle.mari_publish.specs.Texts.{text_of_lines}
 use Rattle.mari_publish.specs.Faults.{Begins, IsText, BadLineAt, BadOrderAt, TruncatedAt, IsOutcome, Answers}
-use Rattle.mari_publish.proofs.Printed.{and_parts}
-use Rattle.mari_publish.proofs.LineWords.{no_feed}
-use Rattle.mari_publish.proofs.SameLine.{same_line}
+use Rattle.mari_lines.proofs.Printed.{and_parts}
+use Rattle.mari_lines.proofs.LineWords.{no_feed}
+use Rattle.mari_lines.proofs.SameLine.{same_line}
 use Rattle.mari_publish.proofs.Whole.{all_front, all_back}
 use Rattle.mari_publish.proofs.Fits.{Fit, lines_in_range}
 use Rattle.mari_publish.proofs.Follows.{one_publication}

@@ -6,20 +6,16 @@ use Rattle.std.specs.List.{flat_map}
 use Rattle.std.proofs.lemmas.Grind.{flat_map-append}
 use Rattle.mari_publish.specs.declared.publication.Block.{Block}
 use Rattle.mari_publish.specs.declared.publication.Publication.{Publication}
-use Rattle.mari_publish.specs.declared.line.Line.{Line}
-use Rattle.mari_publish.specs.declared.line.Line.TheVariants as line
+use Rattle.mari_lines.specs.declared.line.Line.{Line}
+use Rattle.mari_lines.specs.declared.line.Line.TheVariants as line
 use Rattle.mari_publish.specs.Lines.{block_lines}
-use Rattle.mari_publish.specs.Spelling.{line_text, text_of_lines, head_text_of, block_text_of, total_text_of}
+use Rattle.mari_lines.specs.Spelling.{line_text}
+use Rattle.mari_publish.specs.Texts.{text_of_lines, head_text_of, block_text_of, total_text_of}
 
 -- the text of the blocks' lines is the blocks' texts
 pub text_of_blocks : (bs : List Block) → text_of_lines (flat_map block_lines bs) ≡ flat_map block_text_of bs
 text_of_blocks [] = refl
 text_of_blocks (b ∷ bs) = flat_map-append line_text (block_lines b) (flat_map block_lines bs) ∙ ap (λ (t : List ℕ). block_text_of b ++ t) (text_of_blocks bs)
-
--- after three pieces
-pub after_three : {R E : Type 0} (r : Result R E) (x y z w a b c : List ℕ) → y ≡ x ++ a → z ≡ y ++ b → OnOk r (w ≡ z ++ c) → OnOk r (w ≡ x ++ ((a ++ b) ++ c))
-after_three (Ok v) x y z w a b c ea eb ec = ec ∙ ap (λ (t : List ℕ). t ++ c) (eb ∙ ap (λ (t : List ℕ). t ++ b) ea) ∙ ap (λ (t : List ℕ). t ++ c) (append_assoc x a b) ∙ append_assoc x (a ++ b) c
-after_three (Err e) x y z w a b c ea eb ec = tt
 
 -- after the texts of four lists of lines
 pub after_four : {R E : Type 0} (r : Result R E) (x y z v w : List ℕ) (a b c d : List Line) → y ≡ x ++ text_of_lines a → z ≡ y ++ text_of_lines b → v ≡ z ++ text_of_lines c

@@ -2,18 +2,19 @@
 use Rattle.std.proofs.Common.{◌≡◌, ◌≤◌, ◌<◌, ℕ, ◌+◌, ◌^◌, List, [], ◌∷◌, ◌++◌, length, Option, Some, None, Result, Ok, Err, inl, inr, refl, sym, ap, subst, ◌∙◌, length-append, arith}
 use Rattle.std.proofs.lemmas.List.{append-nil}
 use Rattle.mari_publish.specs.declared.publication.Part.{Part}
-use Rattle.mari_publish.specs.declared.line.Line.{Line}
+use Rattle.mari_lines.specs.declared.line.Line.{Line}
 use Rattle.mari_publish.specs.declared.held.Kept.{Kept}
 use Rattle.mari_publish.specs.declared.fault.TextFault.{TextFault}
 use Rattle.mari_publish.specs.declared.fault.TextFault.TheVariants as fault
-use Rattle.mari_publish.specs.declared.coming.TheConstants.{MOST_LINE}
+use Rattle.mari_lines.specs.declared.line.TheConstants.{MOST_LINE}
 use Rattle.mari_publish.specs.declared.coming.Ahead.{Ahead}
 use Rattle.mari_publish.specs.declared.coming.Ahead.TheVariants as mark
 use Rattle.mari_publish.specs.declared.coming.Step.{Step}
 use Rattle.mari_publish.specs.declared.coming.Step.TheVariants as step
-use Rattle.mari_publish.specs.Ranges.{InRange}
-use Rattle.mari_publish.specs.Reading.{Lacks}
-use Rattle.mari_publish.specs.Spelling.{spelling, line_text, text_of_lines}
+use Rattle.mari_lines.specs.Ranges.{InRange}
+use Rattle.mari_lines.specs.Reading.{Lacks}
+use Rattle.mari_lines.specs.Spelling.{spelling, line_text}
+use Rattle.mari_publish.specs.Texts.{text_of_lines}
 use Rattle.mari_publish.specs.Order.{HasRoom}
 use Rattle.mari_publish.specs.Faults.{Begins, BadLineAt, BadOrderAt}
 use Rattle.mari_publish.specs.Pieces.{Gives, ComeState, IsAhead, StandsFor, IsCome, NoLineIn, HasNoLine, HasPart, NoPart, NoFault, IsNext, with_part, SameAnswer}
@@ -24,7 +25,7 @@ use Rattle.mari_publish.proofs.Fits.{Fit}
 use Rattle.mari_publish.proofs.Follows.{not_begun}
 use Rattle.mari_publish.proofs.Progress.{Progress, more_text, number_fits, counts_fit, has_room}
 use Rattle.mari_publish.proofs.Outcomes.{Stop, compare, no_cut, first_text, order_text, one_stop, line_stop, order_stop, line_order, line_number, order_number}
-use Rattle.mari_publish.proofs.Lengths.{line_short}
+use Rattle.mari_lines.proofs.Lengths.{line_short}
 use Rattle.mari_publish.proofs.PartsGiven.{stands_of, next_gives, longer_parts, not_longer, same_last}
 
 -- what a reader stands for is progress in the text
@@ -39,10 +40,10 @@ progress r text parts s = record {
 }
 
 -- what it keeps is small
-pub counts_of : (r : ComeState) → IsCome r → r.kept.published + r.kept.unpublished ≤ 1000
+pub counts_of : (r : ComeState) → IsCome r → r.kept.counts.published + r.kept.counts.unpublished ≤ 1000
 counts_of r h = counts_fit h.0 h.2.rest (r.lines + 1) h.2.gives.so_far r.kept (progress r h.0 h.1 h.2)
 
-pub room_of : (r : ComeState) → IsCome r → HasRoom r.kept.held r.kept.published r.kept.unpublished
+pub room_of : (r : ComeState) → IsCome r → HasRoom r.kept.held r.kept.counts
 room_of r h = has_room h.0 h.2.rest (r.lines + 1) h.2.gives.so_far r.kept (progress r h.0 h.1 h.2)
 
 pub lines_of_few : (r : ComeState) → IsCome r → r.lines < 2 ^ 31

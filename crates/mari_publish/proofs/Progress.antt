@@ -7,9 +7,10 @@ use Rattle.std.proofs.lemmas.Grind.{flat_map-append}
 use Rattle.mari_units.specs.Names.{is_name}
 use Rattle.mari_publish.specs.declared.publication.Part.{Part}
 use Rattle.mari_publish.specs.declared.publication.Publication.{Publication}
-use Rattle.mari_publish.specs.declared.line.Line.{Line}
+use Rattle.mari_lines.specs.declared.line.Line.{Line}
 use Rattle.mari_publish.specs.declared.held.Held.{Held}
 use Rattle.mari_publish.specs.declared.held.Held.TheVariants as held
+use Rattle.mari_publish.specs.declared.held.Counts.{Counts}
 use Rattle.mari_publish.specs.declared.held.Kept.{Kept}
 use Rattle.mari_publish.specs.declared.fault.TextFault.{TextFault}
 use Rattle.mari_publish.specs.declared.fault.TextFault.TheVariants as fault
@@ -18,10 +19,11 @@ use Rattle.mari_publish.specs.declared.taking.LineFault.{LineFault}
 use Rattle.mari_publish.specs.declared.taking.LineFault.TheVariants as line_fault
 use Rattle.mari_publish.specs.Gathering.{seen, Took, Finishes}
 use Rattle.mari_publish.specs.Lines.{lines_of}
-use Rattle.mari_publish.specs.Ranges.{InRange}
-use Rattle.mari_publish.specs.Reading.{Lacks}
+use Rattle.mari_lines.specs.Ranges.{InRange}
+use Rattle.mari_lines.specs.Reading.{Lacks}
 use Rattle.mari_publish.specs.Order.{after, grown, HasRoom, nothing_read, nothing_kept}
-use Rattle.mari_publish.specs.Spelling.{spelling, line_text, text_of_lines}
+use Rattle.mari_lines.specs.Spelling.{spelling, line_text}
+use Rattle.mari_publish.specs.Texts.{text_of_lines}
 use Rattle.mari_publish.specs.Faults.{IsText, BadLineAt, BadOrderAt, TruncatedAt, IsOutcome}
 use Rattle.mari_publish.proofs.Counts.{counted}
 use Rattle.mari_publish.proofs.Fits.{lines_few}
@@ -41,8 +43,8 @@ pub record Progress (bytes rest : List ℕ) (number : ℕ) (p : Publication) (k 
 first_progress : (bytes : List ℕ) → Progress bytes bytes 1 nothing_read nothing_kept
 first_progress bytes = record { before = []; parts = refl; number_is = refl; fit = tt; came = refl; stands = stands_first }
 
-pub progress_of_nothing : (bytes : List ℕ) (p : Publication) → p ≡ nothing_read → Progress bytes bytes 1 p nothing_kept
-progress_of_nothing bytes p e = subst (λ q. Progress bytes bytes 1 q nothing_kept) (sym e) (first_progress bytes)
+pub progress_of_nothing : (bytes : List ℕ) (p : Publication) (k : Kept) → p ≡ nothing_read → k ≡ nothing_kept → Progress bytes bytes 1 p k
+progress_of_nothing bytes p k e f = subst (λ q. Progress bytes bytes 1 q k) (sym e) (subst (λ k. Progress bytes bytes 1 nothing_read k) (sym f) (first_progress bytes))
 
 -- a line's number is small
 pub number_fits : (bytes rest : List ℕ) (n : ℕ) (p : Publication) (k : Kept) → Progress bytes rest n p k → n < 2 ^ 31 + 1
@@ -53,21 +55,21 @@ number_fits bytes rest n p k a =
     let is = a.number_is in
     omega (arith, few, len, is)
 
-pub counts_fit : (bytes rest : List ℕ) (n : ℕ) (p : Publication) (k : Kept) → Progress bytes rest n p k → k.published + k.unpublished ≤ 1000
+pub counts_fit : (bytes rest : List ℕ) (n : ℕ) (p : Publication) (k : Kept) → Progress bytes rest n p k → k.counts.published + k.counts.unpublished ≤ 1000
 counts_fit bytes rest n p k a = let c = counted p.blocks in let s = a.stands in omega (arith, c, s.published, s.unpublished, s.runs)
 
-room_in : (h : Held) (p : Publication) (m n : ℕ) → m + n ≡ length p.blocks → HeldFits p h → HasRoom h m n
-room_in held.Start p m n e f = tt
-room_in held.Between p m n e f = tt
-room_in (held.Run h) p m n e f = omega (arith, e, f)
-room_in (held.Listing b) p m n e f = let g = f.0 in omega (arith, e, g)
-room_in (held.Growing b) p m n e f = let g = f.0 in omega (arith, e, g)
-room_in (held.Ending b) p m n e f = let g = f.0 in omega (arith, e, g)
-room_in (held.Totals os ps) p m n e f = tt
-room_in held.Done p m n e f = tt
+room_in : (h : Held) (p : Publication) (c : Counts) → c.published + c.unpublished ≡ length p.blocks → HeldFits p h → HasRoom h c
+room_in held.Start p c e f = tt
+room_in held.Between p c e f = tt
+room_in (held.Run h) p c e f = omega (arith, e, f)
+room_in (held.Listing b) p c e f = let g = f.0 in omega (arith, e, g)
+room_in (held.Growing b) p c e f = let g = f.0 in omega (arith, e, g)
+room_in (held.Ending b) p c e f = let g = f.0 in omega (arith, e, g)
+room_in (held.Totals os ps) p c e f = tt
+room_in held.Done p c e f = tt
 
-pub has_room : (bytes rest : List ℕ) (n : ℕ) (p : Publication) (k : Kept) → Progress bytes rest n p k → HasRoom k.held k.published k.unpublished
-has_room bytes rest n p k a = let c = counted p.blocks in let s = a.stands in room_in k.held p k.published k.unpublished (omega (arith, c, s.published, s.unpublished)) s.fits
+pub has_room : (bytes rest : List ℕ) (n : ℕ) (p : Publication) (k : Kept) → Progress bytes rest n p k → HasRoom k.held k.counts
+has_room bytes rest n p k a = let c = counted p.blocks in let s = a.stands in room_in k.held p k.counts (omega (arith, c, s.published, s.unpublished)) s.fits
 
 -- one line more
 pub more_text : (before : List Line) (l : Line) (here after : List ℕ) → spelling l ≡ here → text_of_lines before ++ (here ++ 10 ∷ after) ≡ text_of_lines (before ++ l ∷ []) ++ after

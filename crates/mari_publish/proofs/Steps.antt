@@ -7,15 +7,15 @@ use Rattle.std.proofs.lemmas.Grind.{flat_map-append}
 use Rattle.mari_market.specs.declared.certificate.Leaf.TheVariants as leaves
 use Rattle.mari_market.specs.declared.certificate.TreeItem.{TreeItem}
 use Rattle.mari_market.specs.declared.certificate.TreeItem.TheVariants as items
-use Rattle.mari_publish.specs.declared.publication.Heading.{Heading}
-use Rattle.mari_publish.specs.declared.publication.ZoneLine.{ZoneLine}
-use Rattle.mari_publish.specs.declared.publication.BorderLine.{BorderLine}
-use Rattle.mari_publish.specs.declared.publication.BidLine.{BidLine}
-use Rattle.mari_publish.specs.declared.publication.MoneyLine.{MoneyLine}
-use Rattle.mari_publish.specs.declared.publication.AmountLine.{AmountLine}
+use Rattle.mari_lines.specs.declared.line.Heading.{Heading}
+use Rattle.mari_lines.specs.declared.line.ZoneLine.{ZoneLine}
+use Rattle.mari_lines.specs.declared.line.BorderLine.{BorderLine}
+use Rattle.mari_lines.specs.declared.line.BidLine.{BidLine}
+use Rattle.mari_lines.specs.declared.line.MoneyLine.{MoneyLine}
+use Rattle.mari_lines.specs.declared.line.AmountLine.{AmountLine}
 use Rattle.mari_publish.specs.declared.publication.Publication.{Publication}
-use Rattle.mari_publish.specs.declared.line.Line.{Line}
-use Rattle.mari_publish.specs.declared.line.Line.TheVariants as line
+use Rattle.mari_lines.specs.declared.line.Line.{Line}
+use Rattle.mari_lines.specs.declared.line.Line.TheVariants as line
 use Rattle.mari_publish.specs.declared.held.Pending.{Pending}
 use Rattle.mari_publish.specs.declared.held.Pending.TheVariants.{Nothing, Zones, At, Flows}
 use Rattle.mari_publish.specs.declared.held.Listing.{Listing}
@@ -24,7 +24,7 @@ use Rattle.mari_publish.specs.declared.held.Ending.{Ending}
 use Rattle.mari_publish.specs.declared.held.Held.{Held}
 use Rattle.mari_publish.specs.declared.held.Held.TheVariants as held
 use Rattle.mari_publish.specs.Lines.{item_lines, demand_lines}
-use Rattle.mari_publish.specs.Ranges.{Between}
+use Rattle.mari_lines.specs.Ranges.{Between}
 use Rattle.mari_publish.specs.Order.{pending_lines, listing_lines, growing_lines, ending_part, held_lines, is_nothing, empty, with_item, with_pending, conflict_item, after_listing, after_growing, after_ending, after_totals, front_lines, lines_so_far}
 
 pub some_if : {A : Type 0} (b : Bool) (x y : A) → cond b (Some x) None ≡ Some y → (b ≡ true) × (x ≡ y)

@@ -7,8 +7,8 @@ use Rattle.std.proofs.lemmas.Grind.{flat_map-append}
 use Rattle.mari_publish.specs.declared.publication.Block.{Block}
 use Rattle.mari_publish.specs.declared.publication.Block.TheVariants as block
 use Rattle.mari_publish.specs.declared.publication.Publication.{Publication}
-use Rattle.mari_publish.specs.declared.line.Line.{Line}
-use Rattle.mari_publish.specs.declared.line.Line.TheVariants as line
+use Rattle.mari_lines.specs.declared.line.Line.{Line}
+use Rattle.mari_lines.specs.declared.line.Line.TheVariants as line
 use Rattle.mari_publish.specs.declared.held.Ending.{Ending}
 use Rattle.mari_publish.specs.declared.held.Held.{Held}
 use Rattle.mari_publish.specs.declared.held.Held.TheVariants as held
@@ -16,8 +16,8 @@ use Rattle.mari_publish.specs.declared.publication.Part.{Part}
 use Rattle.mari_publish.specs.declared.publication.Part.TheVariants as part
 use Rattle.mari_publish.specs.declared.held.Kept.{Kept}
 use Rattle.mari_publish.specs.Lines.{item_lines, demand_lines, block_lines, published_in, unpublished_in}
-use Rattle.mari_publish.specs.Ranges.{Between}
-use Rattle.mari_publish.specs.Order.{ending_part, after_listing, after_growing, after_ending, after_totals, full_block, keeps, kept_with, starts_block, after, grown, front_lines, lines_so_far}
+use Rattle.mari_lines.specs.Ranges.{Between}
+use Rattle.mari_publish.specs.Order.{ending_part, after_listing, after_growing, after_ending, after_totals, full_block, keeps, kept_with, one_published, one_unpublished, starts_block, after, grown, front_lines, lines_so_far}
 use Rattle.mari_publish.proofs.Counts.{counted}
 use Rattle.mari_publish.proofs.Steps.{some_if, some_is, both, ListingFits, HeldFits, Moves, listing_step, growing_step, ending_step, totals_step}
 
@@ -65,8 +65,8 @@ IsWithinLimits (block.Published b) = Between 1 64 (length b.zones) × (length b.
 pub record Stands (ls : List Line) (p : Publication) (k : Kept) (h : Held) : Type 0 where
   pub lines : ls ≡ lines_so_far p h
   pub fits : HeldFits p h
-  pub published : k.published ≡ published_in p.blocks
-  pub unpublished : k.unpublished ≡ unpublished_in p.blocks
+  pub published : k.counts.published ≡ published_in p.blocks
+  pub unpublished : k.counts.unpublished ≡ unpublished_in p.blocks
   pub blocks : AllByRecursion IsWithinLimits p.blocks
   pub runs : length p.blocks ≤ 1000
 
@@ -101,7 +101,7 @@ first F l = ap (λ (xs : List Line). xs ++ l ∷ []) (sym (append-nil F))
 
 block_next : (ls : List Line) (p : Publication) (k new : Kept) (h : Held) (l : Line) (b : Block) → Stands ls p k h → IsWithinLimits b → length p.blocks < 1000
     → lines_so_far p h ++ l ∷ [] ≡ front_lines p ++ block_lines b
-    → new.published ≡ k.published + ones b → new.unpublished ≡ k.unpublished + others b
+    → new.counts.published ≡ k.counts.published + ones b → new.counts.unpublished ≡ k.counts.unpublished + others b
     → Stands (ls ++ l ∷ []) (grown p (Some (part.Block b))) new held.Between
 block_next ls p k new h l b s within room e ep eu = record {
   lines = ap (λ (xs : List Line). xs ++ l ∷ []) s.lines ∙ e ∙ sym (block_push p b);
@@ -112,16 +112,16 @@ block_next ls p k new h l b s within room e ep eu = record {
   runs = let len : length (p.blocks ++ b ∷ []) ≡ length p.blocks + 1 = simp (length-append) in omega (arith, len, room);
 }
 
-room_of : (ls : List Line) (p : Publication) (k : Kept) (h : Held) → Stands ls p k h → ltb (k.published + k.unpublished) 1000 ≡ true → length p.blocks < 1000
-room_of ls p k h s e = let c = counted p.blocks in let lt = ltb-true (k.published + k.unpublished) 1000 e in omega (arith, c, lt, s.published, s.unpublished)
+room_of : (ls : List Line) (p : Publication) (k : Kept) (h : Held) → Stands ls p k h → ltb (k.counts.published + k.counts.unpublished) 1000 ≡ true → length p.blocks < 1000
+room_of ls p k h s e = let c = counted p.blocks in let lt = ltb-true (k.counts.published + k.counts.unpublished) 1000 e in omega (arith, c, lt, s.published, s.unpublished)
 
 between_step : (ls : List Line) (p : Publication) (k : Kept) (l : Line) (x : Kept × Option Part) → Stands ls p k held.Between → starts_block k l ≡ Some x → Next ls p l x
 between_step ls p k (line.Run h) x s e =
-    let t = some_if (ltb (k.published + k.unpublished) 1000) (kept_with k (held.Run h), None) x e in
+    let t = some_if (ltb (k.counts.published + k.counts.unpublished) 1000) (kept_with k (held.Run h), None) x e in
     subst (λ y. Next ls p (line.Run h) y) t.1 (moved ls p k held.Between (held.Run h) (line.Run h) s (first (front_lines p) (line.Run h), room_of ls p k held.Between s t.0))
 between_step ls p k (line.Unpublished h count) x s e =
-    let new : Kept = record { held = held.Between; published = k.published; unpublished = k.unpublished + 1 } in
-    let t = some_if (ltb (k.published + k.unpublished) 1000) (new, Some (part.Block (block.Unpublished h count))) x e in
+    let new : Kept = record { held = held.Between; counts = one_unpublished k.counts } in
+    let t = some_if (ltb (k.counts.published + k.counts.unpublished) 1000) (new, Some (part.Block (block.Unpublished h count))) x e in
     subst (λ y. Next ls p (line.Unpublished h count) y) t.1
     (block_next ls p k new held.Between (line.Unpublished h count) (block.Unpublished h count) s tt (room_of ls p k held.Between s t.0) (sym (first (front_lines p) (line.Unpublished h count))) (omega arith) refl)
 between_step ls p k (line.TotalOperator t) x s e =
@@ -131,7 +131,7 @@ between_step ls p k _ x s e = absurd cc
 
 end_step : (ls : List Line) (p : Publication) (k : Kept) (g : Ending) (run : ℕ) (x : Kept × Option Part) → Stands ls p k (held.Ending g) → after k (held.Ending g) (line.End run) ≡ Some x → Next ls p (line.End run) x
 end_step ls p k g run x s e =
-    let new : Kept = record { held = held.Between; published = k.published + 1; unpublished = k.unpublished } in
+    let new : Kept = record { held = held.Between; counts = one_published k.counts } in
     let t = some_if (eqb run g.listing.heading.run) (new, Some (part.Block (full_block g))) x e in
     let same_run : run ≡ g.listing.heading.run = eqb-true _ _ t.0 in
     let b = g.listing in
@@ -172,8 +172,8 @@ next ls p k (held.Ending g) (line.End run) x s e = end_step ls p k g run x s e
 next ls p k (held.Ending g) l x s e = kept_step ls p k (held.Ending g) l (after_ending g l) x s (λ new o. ending_step p g l new s.fits o) e
 next ls p k (held.Totals os ps) (line.Done m n) x s e =
     let new : Kept = kept_with k held.Done in
-    let c = some_if (eqb m k.published && eqb n k.unpublished) (new, Some (part.Totals os ps)) x e in
-    let bs = both (eqb m k.published) (eqb n k.unpublished) c.0 in
+    let c = some_if (eqb m k.counts.published && eqb n k.counts.unpublished) (new, Some (part.Totals os ps)) x e in
+    let bs = both (eqb m k.counts.published) (eqb n k.counts.unpublished) c.0 in
     let em : m ≡ published_in p.blocks = eqb-true _ _ bs.0 ∙ s.published in
     let en : n ≡ unpublished_in p.blocks = eqb-true _ _ bs.1 ∙ s.unpublished in
     let last : line.Done m n ≡ line.Done (published_in p.blocks) (unpublished_in p.blocks) = ap (λ a. line.Done a n) em ∙ ap (λ b. line.Done (published_in p.blocks) b) en in

@@ -1,13 +1,15 @@
 -- What a text is: that of a publication, or one with a first fault.
 use Rattle.std.specs.Prelude.{◌≡◌, ℕ, ◌+◌, List, [], ◌∷◌, ◌++◌, length, ◌⊎◌, Result, Ok, Err, ⊤}
 use Rattle.mari_publish.specs.declared.publication.Publication.{Publication}
-use Rattle.mari_publish.specs.declared.line.Line.{Line}
+use Rattle.mari_lines.specs.declared.line.Line.{Line}
 use Rattle.mari_publish.specs.declared.fault.TextFault.{TextFault}
 use Rattle.mari_publish.specs.declared.fault.TextFault.TheVariants as fault
 use Rattle.mari_publish.specs.Lines.{lines_of}
-use Rattle.mari_publish.specs.Ranges.{InRange, HasText}
-use Rattle.mari_publish.specs.Reading.{Lacks}
-use Rattle.mari_publish.specs.Spelling.{spelling, line_text, text_of_lines, text_of}
+use Rattle.mari_lines.specs.Ranges.{InRange}
+use Rattle.mari_publish.specs.Ranges.{HasText}
+use Rattle.mari_lines.specs.Reading.{Lacks}
+use Rattle.mari_lines.specs.Spelling.{spelling, line_text}
+use Rattle.mari_publish.specs.Texts.{text_of_lines, text_of}
 
 -- these lines stand at the front of some publication's
 abbrev pub Begins : List Line → Type 0

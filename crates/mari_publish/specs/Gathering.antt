@@ -1,7 +1,7 @@
 -- The publication of the parts that have been gathered.
 use Rattle.std.specs.Prelude.{◌≡◌, ℕ, List, [], unwrap_or, Option, Some, None, Result, Ok, Err}
 use Rattle.mari_publish.specs.declared.publication.Publication.{Publication}
-use Rattle.mari_publish.specs.declared.line.Line.{Line}
+use Rattle.mari_lines.specs.declared.line.Line.{Line}
 use Rattle.mari_publish.specs.declared.held.Held.{Held}
 use Rattle.mari_publish.specs.declared.held.Held.TheVariants as held
 use Rattle.mari_publish.specs.declared.held.Kept.{Kept}
@@ -12,8 +12,8 @@ use Rattle.mari_publish.specs.declared.reading.Gathered.{Gathered}
 use Rattle.mari_publish.specs.declared.taking.LineFault.{LineFault}
 use Rattle.mari_publish.specs.declared.taking.LineFault.TheVariants as line_fault
 use Rattle.mari_publish.specs.Order.{after}
-use Rattle.mari_publish.specs.Ranges.{InRange}
-use Rattle.mari_publish.specs.Spelling.{spelling}
+use Rattle.mari_lines.specs.Ranges.{InRange}
+use Rattle.mari_lines.specs.Spelling.{spelling}
 
 abbrev pub seen : Gathered → Publication
 seen g = record { date = unwrap_or g.date []; quarters = g.quarters; budget = g.budget; blocks = g.blocks.items; operators = g.operators; providers = g.providers }

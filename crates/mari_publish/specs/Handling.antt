@@ -1,15 +1,15 @@
 -- What handling the first line behind the handled ones comes to.
 use Rattle.std.specs.Prelude.{◌≡◌, ℕ, ◌+◌, List, ◌∷◌, ◌++◌, Option, Some, None, Result, Ok, Err, ◌⊎◌}
 use Rattle.mari_publish.specs.declared.publication.Part.{Part}
-use Rattle.mari_publish.specs.declared.line.Line.{Line}
+use Rattle.mari_lines.specs.declared.line.Line.{Line}
 use Rattle.mari_publish.specs.declared.fault.TextFault.{TextFault}
 use Rattle.mari_publish.specs.declared.fault.TextFault.TheVariants as fault
 use Rattle.mari_publish.specs.declared.coming.Ahead.TheVariants as mark
 use Rattle.mari_publish.specs.declared.coming.Step.{Step}
 use Rattle.mari_publish.specs.declared.coming.Step.TheVariants as step
-use Rattle.mari_publish.specs.Ranges.{InRange}
-use Rattle.mari_publish.specs.Reading.{Lacks}
-use Rattle.mari_publish.specs.Spelling.{spelling}
+use Rattle.mari_lines.specs.Ranges.{InRange}
+use Rattle.mari_lines.specs.Reading.{Lacks}
+use Rattle.mari_lines.specs.Spelling.{spelling}
 use Rattle.mari_publish.specs.Order.{after}
 use Rattle.mari_publish.specs.Pieces.{ComeState, HasNoLine}
 

@@ -1,7 +1,6 @@
 pub mod Lines
-pub mod Reading
 pub mod Ranges
-pub mod Spelling
+pub mod Texts
 pub mod Order
 pub mod Faults
 pub mod Gathering

@@ -8,8 +8,8 @@ use Rattle.mari_publish.specs.declared.publication.FullBlock.{FullBlock}
 use Rattle.mari_publish.specs.declared.publication.Block.{Block}
 use Rattle.mari_publish.specs.declared.publication.Block.TheVariants as block
 use Rattle.mari_publish.specs.declared.publication.Publication.{Publication}
-use Rattle.mari_publish.specs.declared.line.Line.{Line}
-use Rattle.mari_publish.specs.declared.line.Line.TheVariants as line
+use Rattle.mari_lines.specs.declared.line.Line.{Line}
+use Rattle.mari_lines.specs.declared.line.Line.TheVariants as line
 
 -- an item of a certificate tree has one line, or the four of a conflict
 abbrev pub item_lines : TreeItem → List Line

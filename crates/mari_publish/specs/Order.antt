@@ -5,13 +5,13 @@ use Rattle.mari_units.specs.declared.numbers.Cents.{Cents}
 use Rattle.mari_market.specs.declared.certificate.Leaf.TheVariants as leaves
 use Rattle.mari_market.specs.declared.certificate.TreeItem.{TreeItem}
 use Rattle.mari_market.specs.declared.certificate.TreeItem.TheVariants as items
-use Rattle.mari_publish.specs.declared.publication.AmountLine.{AmountLine}
-use Rattle.mari_publish.specs.declared.publication.MoneyLine.{MoneyLine}
+use Rattle.mari_lines.specs.declared.line.AmountLine.{AmountLine}
+use Rattle.mari_lines.specs.declared.line.MoneyLine.{MoneyLine}
 use Rattle.mari_publish.specs.declared.publication.Publication.{Publication}
 use Rattle.mari_publish.specs.declared.publication.Block.{Block}
 use Rattle.mari_publish.specs.declared.publication.Block.TheVariants as block
-use Rattle.mari_publish.specs.declared.line.Line.{Line}
-use Rattle.mari_publish.specs.declared.line.Line.TheVariants as line
+use Rattle.mari_lines.specs.declared.line.Line.{Line}
+use Rattle.mari_lines.specs.declared.line.Line.TheVariants as line
 use Rattle.mari_publish.specs.declared.held.Pending.{Pending}
 use Rattle.mari_publish.specs.declared.held.Pending.TheVariants.{Nothing, Zones, At, Flows}
 use Rattle.mari_publish.specs.declared.held.Listing.{Listing}
@@ -21,9 +21,10 @@ use Rattle.mari_publish.specs.declared.held.Held.{Held}
 use Rattle.mari_publish.specs.declared.held.Held.TheVariants as held
 use Rattle.mari_publish.specs.declared.publication.Part.{Part}
 use Rattle.mari_publish.specs.declared.publication.Part.TheVariants as part
+use Rattle.mari_publish.specs.declared.held.Counts.{Counts}
 use Rattle.mari_publish.specs.declared.held.Kept.{Kept}
-use Rattle.mari_publish.specs.declared.follow.Refused.{Refused}
-use Rattle.mari_publish.specs.declared.follow.Refused.TheVariants as refused
+use Rattle.mari_publish.specs.declared.follow.step.Refused.{Refused}
+use Rattle.mari_publish.specs.declared.follow.step.Refused.TheVariants as refused
 use Rattle.mari_publish.specs.Lines.{item_lines, demand_lines, block_lines, lines_of}
 
 -- the lines that have come of a conflict
@@ -124,16 +125,23 @@ after_ending e (line.Provider p) = if nat_lt (length e.providers) 4096
     then Some (held.Ending (record { listing = e.listing; tree = e.tree; operators = e.operators; providers = e.providers ++ p ∷ [] })) else None
 after_ending e _ = None
 
+-- one block more
+abbrev pub one_published : Counts → Counts
+one_published c = record { published = c.published + 1; unpublished = c.unpublished }
+
+abbrev pub one_unpublished : Counts → Counts
+one_unpublished c = record { published = c.published; unpublished = c.unpublished + 1 }
+
 abbrev pub keeps : Kept → Option Held → Option (Kept × Option Part)
 keeps k None = None
-keeps k (Some h) = Some (record { held = h; published = k.published; unpublished = k.unpublished }, None)
+keeps k (Some h) = Some (record { held = h; counts = k.counts }, None)
 
 -- behind the head or a block
 abbrev pub starts_block : Kept → Line → Option (Kept × Option Part)
-starts_block k (line.Run h) = if nat_lt (k.published + k.unpublished) 1000
-    then Some (record { held = held.Run h; published = k.published; unpublished = k.unpublished }, None) else None
-starts_block k (line.Unpublished h count) = if nat_lt (k.published + k.unpublished) 1000
-    then Some (record { held = held.Between; published = k.published; unpublished = k.unpublished + 1 }, Some (part.Block (block.Unpublished h count))) else None
+starts_block k (line.Run h) = if nat_lt (k.counts.published + k.counts.unpublished) 1000
+    then Some (record { held = held.Run h; counts = k.counts }, None) else None
+starts_block k (line.Unpublished h count) = if nat_lt (k.counts.published + k.counts.unpublished) 1000
+    then Some (record { held = held.Between; counts = one_unpublished k.counts }, Some (part.Block (block.Unpublished h count))) else None
 starts_block k (line.TotalOperator o) = keeps k (Some (held.Totals (o ∷ []) []))
 starts_block k _ = None
 
@@ -145,16 +153,16 @@ after_totals os ps _ = None
 
 -- what is kept after a line, and the part that is whole with it
 abbrev pub after : Kept → Held → Line → Option (Kept × Option Part)
-after k held.Start (line.Head date quarters budget) = Some (record { held = held.Between; published = k.published; unpublished = k.unpublished }, Some (part.Head date quarters budget))
+after k held.Start (line.Head date quarters budget) = Some (record { held = held.Between; counts = k.counts }, Some (part.Head date quarters budget))
 after k held.Between l = starts_block k l
 after k (held.Run h) (line.Welfare n) = keeps k (Some (held.Listing (record { heading = h; welfare = n; zones = []; borders = []; bids = []; demands = [] })))
 after k (held.Listing b) l = keeps k (after_listing b l)
 after k (held.Growing g) l = keeps k (after_growing g g.pending l)
 after k (held.Ending e) (line.End run) = if run == e.listing.heading.run
-    then Some (record { held = held.Between; published = k.published + 1; unpublished = k.unpublished }, Some (part.Block (full_block e))) else None
+    then Some (record { held = held.Between; counts = one_published k.counts }, Some (part.Block (full_block e))) else None
 after k (held.Ending e) l = keeps k (after_ending e l)
-after k (held.Totals os ps) (line.Done published unpublished) = if published == k.published && unpublished == k.unpublished
-    then Some (record { held = held.Done; published = k.published; unpublished = k.unpublished }, Some (part.Totals os ps)) else None
+after k (held.Totals os ps) (line.Done published unpublished) = if published == k.counts.published && unpublished == k.counts.unpublished
+    then Some (record { held = held.Done; counts = k.counts }, Some (part.Totals os ps)) else None
 after k (held.Totals os ps) l = keeps k (after_totals os ps l)
 after k _ _ = None
 
@@ -180,7 +188,7 @@ abbrev pub nothing_read : Publication
 nothing_read = record { date = []; quarters = 0; budget = 0; blocks = []; operators = []; providers = [] }
 
 abbrev pub nothing_kept : Kept
-nothing_kept = record { held = held.Start; published = 0; unpublished = 0 }
+nothing_kept = record { held = held.Start; counts = record { published = 0; unpublished = 0 } }
 
 abbrev pub and_then : {A B : Type 0} → Option A → (A → Option B) → Option B
 and_then None f = None
@@ -193,7 +201,7 @@ after_all p k (l ∷ ls) = and_then (after k k.held l) (λ x. after_all (grown p
 
 -- what is kept, with this in place of what is held
 abbrev pub kept_with : Kept → Held → Kept
-kept_with k h = record { held = h; published = k.published; unpublished = k.unpublished }
+kept_with k h = record { held = h; counts = k.counts }
 
 -- what is held becomes what it should, or stays as it is: the line may not follow, or memory ran out
 abbrev pub Steps : {T : Type 0} → Option Held → Held → Held → Result T Refused → Type 0
@@ -208,9 +216,9 @@ Follows expected old new (Err refused.Order) = (expected ≡ None) × (new ≡ o
 Follows expected old new (Err refused.Memory) = new ≡ old
 
 -- in a block there is room for it among the runs
-abbrev pub HasRoom : Held → ℕ → ℕ → Type 0
-HasRoom (held.Run h) m n = m + n < 1000
-HasRoom (held.Listing b) m n = m + n < 1000
-HasRoom (held.Growing g) m n = m + n < 1000
-HasRoom (held.Ending e) m n = m + n < 1000
-HasRoom _ m n = ⊤
+abbrev pub HasRoom : Held → Counts → Type 0
+HasRoom (held.Run h) c = c.published + c.unpublished < 1000
+HasRoom (held.Listing b) c = c.published + c.unpublished < 1000
+HasRoom (held.Growing g) c = c.published + c.unpublished < 1000
+HasRoom (held.Ending e) c = c.published + c.unpublished < 1000
+HasRoom _ c = ⊤

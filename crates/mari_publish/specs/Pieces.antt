@@ -4,20 +4,20 @@ use Rattle.std.specs.List.{AllByRecursion}
 use Rattle.mari_publish.specs.declared.publication.Part.{Part}
 use Rattle.mari_publish.specs.declared.publication.Part.TheVariants as part
 use Rattle.mari_publish.specs.declared.publication.Publication.{Publication}
-use Rattle.mari_publish.specs.declared.line.Line.{Line}
+use Rattle.mari_lines.specs.declared.line.Line.{Line}
 use Rattle.mari_publish.specs.declared.held.Held.{Held}
 use Rattle.mari_publish.specs.declared.held.Held.TheVariants as held
 use Rattle.mari_publish.specs.declared.held.Kept.{Kept}
 use Rattle.mari_publish.specs.declared.fault.TextFault.{TextFault}
 use Rattle.mari_publish.specs.declared.fault.TextFault.TheVariants as fault
-use Rattle.mari_publish.specs.declared.coming.TheConstants.{MOST_LINE}
+use Rattle.mari_lines.specs.declared.line.TheConstants.{MOST_LINE}
 use Rattle.mari_publish.specs.declared.coming.Ahead.{Ahead}
 use Rattle.mari_publish.specs.declared.coming.Ahead.TheVariants as mark
 use Rattle.mari_publish.specs.declared.coming.Coming.{Coming}
 use Rattle.mari_publish.specs.Lines.{published_in, unpublished_in}
-use Rattle.mari_publish.specs.Ranges.{InRange}
-use Rattle.mari_publish.specs.Reading.{Lacks}
-use Rattle.mari_publish.specs.Spelling.{text_of_lines}
+use Rattle.mari_lines.specs.Ranges.{InRange}
+use Rattle.mari_lines.specs.Reading.{Lacks}
+use Rattle.mari_publish.specs.Texts.{text_of_lines}
 use Rattle.mari_publish.specs.Order.{lines_so_far, nothing_read, nothing_kept, after_all}
 use Rattle.mari_publish.specs.Faults.{IsText, BadLineAt, BadOrderAt, TruncatedAt}
 
@@ -42,8 +42,8 @@ pub record Gives (lines : List Line) (parts : List Part) (k : Kept) : Type 0 whe
   pub follow : after_all nothing_read nothing_kept lines ≡ Some (so_far, k)
   pub are : lines ≡ lines_so_far so_far k.held
   pub given : parts ≡ parts_so_far so_far k.held
-  pub published : k.published ≡ published_in so_far.blocks
-  pub unpublished : k.unpublished ≡ unpublished_in so_far.blocks
+  pub published : k.counts.published ≡ published_in so_far.blocks
+  pub unpublished : k.counts.unpublished ≡ unpublished_in so_far.blocks
 
 -- a text as far as it has come: what is kept of the handled lines and how many they are, and the bytes behind them
 pub record ComeState : Type 0 where

@@ -1,95 +1,14 @@
--- The ranges of the numbers in a line, and how many lines there may be: which publications have a text.
-use Rattle.std.specs.Prelude.{◌≡◌, ◌≤◌, ◌<◌, ℕ, ◌^◌, ℤ, Bool, true, ◌&&◌, ◌==◌, List, length, take, drop, slice_index, ⊤}
-use Rattle.std.specs.Char.{is_ascii_digit}
-use Rattle.std.specs.Int.RustNames.{unsigned_abs}
-use Rattle.std.specs.List.{All, AllByRecursion, list_all}
-use Rattle.mari_units.specs.Names.{is_name}
-use Rattle.mari_units.specs.declared.numbers.Cents.{Cents}
-use Rattle.mari_units.specs.declared.numbers.Quarters.{Quarters}
-use Rattle.mari_market.specs.Cut.{IsRising}
-use Rattle.mari_market.specs.Price.{IsPrice}
+-- How many lines there may be, and that they are in range: which publications have a text.
+use Rattle.std.specs.Prelude.{◌≤◌, ◌<◌, ◌^◌, length}
+use Rattle.std.specs.List.{All, AllByRecursion}
 use Rattle.mari_market.specs.declared.certificate.TreeItem.{TreeItem}
-use Rattle.mari_publish.specs.declared.publication.Heading.{Heading}
-use Rattle.mari_publish.specs.declared.publication.MoneyLine.{MoneyLine}
-use Rattle.mari_publish.specs.declared.publication.AmountLine.{AmountLine}
+use Rattle.mari_lines.specs.declared.line.Line.TheVariants as line
+use Rattle.mari_lines.specs.Ranges.{Between, InRange, IsAmountLine, IsHeading, IsMoneyLine, Listed}
 use Rattle.mari_publish.specs.declared.publication.FullBlock.{FullBlock}
 use Rattle.mari_publish.specs.declared.publication.Block.{Block}
 use Rattle.mari_publish.specs.declared.publication.Block.TheVariants as block
 use Rattle.mari_publish.specs.declared.publication.Publication.{Publication}
-use Rattle.mari_publish.specs.declared.line.Line.{Line}
-use Rattle.mari_publish.specs.declared.line.Line.TheVariants as line
 use Rattle.mari_publish.specs.Lines.{item_lines}
-
--- a number from the first to the second
-abbrev pub Between : ℕ → ℕ → ℕ → Type 0
-Between least greatest n = (least ≤ n) × (n ≤ greatest)
-
--- a whole number at most so far from zero
-abbrev pub Within : ℕ → ℤ → Type 0
-Within greatest z = unsigned_abs z ≤ greatest
-
-abbrev pub IsName : List ℕ → Type 0
-IsName text = is_name text ≡ true
-
--- a date: four digits, a hyphen, two digits, a hyphen, and two digits, whether or not there is such a day
-abbrev pub is_date : List ℕ → Bool
-is_date text = length text == 10 && list_all is_ascii_digit (take 4 text) && slice_index text 4 == 45 && list_all is_ascii_digit (take 2 (drop 5 text)) && slice_index text 7 == 45 && list_all is_ascii_digit (drop 8 text)
-
-abbrev pub IsDate : List ℕ → Type 0
-IsDate text = IsName text × (is_date text ≡ true)
-
--- the greatest amount of money, in quarter-cents
-abbrev pub most_money : ℕ
-most_money = 4000000000000000000
-
-abbrev pub IsMoney : Quarters → Type 0
-IsMoney q = Within most_money q.0
-
-abbrev pub IsPriceLine : Cents → Type 0
-IsPriceLine c = IsPrice c.0
-
--- a zone's number from 0
-abbrev pub IsZone : ℕ → Type 0
-IsZone zone = zone < 64
-
--- a run's number, and its quarter
-abbrev pub IsHeading : Heading → Type 0
-IsHeading h = Between 1 1000 h.run × Between 1 400 h.quarter
-
-abbrev pub IsMoneyLine : MoneyLine → Type 0
-IsMoneyLine m = IsName m.name × IsMoney m.payment × IsMoney m.rent × IsMoney m.net
-
-abbrev pub IsAmountLine : AmountLine → Type 0
-IsAmountLine a = IsName a.name × IsMoney a.amount
-
--- from so many to so many items, and P holds of each
-abbrev pub Listed : {X : Type 0} → ℕ → ℕ → (X → Type 0) → List X → Type 0
-Listed least greatest P xs = Between least greatest (length xs) × All P xs
-
--- the ranges of the numbers in a line, and how many it may have
-abbrev pub InRange : Line → Type 0
-InRange (line.Head date quarters budget) = IsDate date × Between 1 400 quarters × Between 1 50000 budget
-InRange (line.Run heading) = IsHeading heading
-InRange (line.Unpublished heading count) = IsHeading heading × Between 1 50000 count
-InRange (line.Welfare welfare) = welfare < 2 ^ 63
-InRange (line.Zone z) = IsName z.name × IsPrice z.price.0 × IsPrice z.least.0 × IsPrice z.greatest.0 × Between 1 64 z.area
-InRange (line.Border b) = IsName b.from × IsName b.to × Within 199998 b.flow × IsMoney b.rent
-InRange (line.Bid b) = IsName b.id × (b.mw ≤ 99999)
-InRange (line.Demand place mw) = Between 1 512 place × (mw ≤ 99999)
-InRange (line.Tree count) = Between 1 50000 count
-InRange line.Branch = ⊤
-InRange (line.Bound prices) = Listed 1 64 IsPriceLine prices
-InRange (line.Cut cut) = Between 1 64 (length cut.zones) × IsRising 0 64 cut.zones
-InRange (line.Conflict zones) = Listed 1 64 IsZone zones
-InRange (line.At prices) = Listed 1 64 IsPriceLine prices
-InRange (line.Flows flows) = Listed 0 256 (λ flow. Within 199998 flow) flows
-InRange (line.Mws mws) = Listed 0 4608 (λ mw. mw ≤ 99999) mws
-InRange (line.Operator operator) = IsMoneyLine operator
-InRange (line.Provider provider) = IsAmountLine provider
-InRange (line.End run) = Between 1 1000 run
-InRange (line.TotalOperator operator) = IsMoneyLine operator
-InRange (line.TotalProvider provider) = IsAmountLine provider
-InRange (line.Done published unpublished) = (published ≤ 1000) × (unpublished ≤ 1000)
 
 -- the lines of an item are in range
 abbrev pub ItemFits : TreeItem → Type 0

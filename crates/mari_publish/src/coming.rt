@@ -6,16 +6,13 @@ ghost use Rattle.mari_publish.specs.Order.{HasRoom};
 ghost use Rattle.mari_publish.specs.Pieces.{StandsFor, IsCome, IsNext, HasNoLine, IsWhole, with_answer, come_of};
 ghost use Rattle.mari_publish.specs.Handling.{Handles};
 
-use crate::cut::cut;
 use crate::fault::TextFault;
 use crate::held::{Held, Kept};
 use crate::publication::Part;
 use crate::taking::{LineFault, take_line};
+use mari_lines::{MOST_LINE, split_once};
 use mari_units::Memory;
 use std::alloc::Global;
-
-/// The most bytes of a line: no line of a text has more.
-pub const MOST_LINE: usize = 32_768;
 
 /// What is there of the bytes behind the handled lines: all of them, or of a line that is too long a mark, and whether it has
 /// ended.
@@ -47,8 +44,8 @@ pub enum Step {
 /// Handles the first line behind the handled ones, if it is whole.
 fn handle_line(alloc: Global, coming: &mut Coming) -> Result<Step, TextFault>
     requires handled { coming.old.handled ≤ vec_len coming.old.bytes }
-    requires counts { coming.old.kept.published + coming.old.kept.unpublished ≤ 1000 }
-    requires room { HasRoom coming.old.kept.held coming.old.kept.published coming.old.kept.unpublished }
+    requires counts { coming.old.kept.counts.published + coming.old.kept.counts.unpublished ≤ 1000 }
+    requires room { HasRoom coming.old.kept.held coming.old.kept.counts }
     requires lines { coming.old.lines < 2 ^ 31 }
     ensures handles { Handles (come_of coming.old) (come_of coming.new) result }
     ensures handled { coming.new.handled ≤ vec_len coming.new.bytes }
@@ -58,7 +55,7 @@ fn handle_line(alloc: Global, coming: &mut Coming) -> Result<Step, TextFault>
         Ahead::TooLong => return Ok(Step::Nothing),
         Ahead::Ended => return Err(TextFault::BadLine(coming.lines + 1)),
     }
-    let Some((here, _after)) = cut(b'\n', &coming.bytes[coming.handled..]) else {
+    let Some((here, _after)) = split_once(b'\n', &coming.bytes[coming.handled..]) else {
         return Ok(Step::Nothing);
     };
     if here.len() > MOST_LINE {
@@ -124,7 +121,7 @@ pub fn append(coming: &mut Coming, piece: &[u8]) -> Result<(), Memory>
     match coming.ahead {
         Ahead::Kept => coming.bytes.extend_from_slice(piece)?,
         Ahead::TooLong => {
-            if cut(b'\n', piece).is_some() {
+            if split_once(b'\n', piece).is_some() {
                 coming.ahead = Ahead::Ended;
             }
         }

@@ -1,6 +1,9 @@
 //! A part of a text as far as it has come.
 
-use crate::publication::{AmountLine, BidLine, BorderLine, Heading, MoneyLine, ZoneLine};
+ghost use Rattle.std.specs.Prelude.{◌≡◌};
+ghost use Rattle.mari_publish.specs.Order.{nothing_kept};
+
+use mari_lines::{AmountLine, BidLine, BorderLine, Heading, MoneyLine, ZoneLine};
 use mari_market::TreeItem;
 use mari_units::{Cents, Items};
 
@@ -55,10 +58,31 @@ pub enum Held {
     Done,
 }
 
+/// How many blocks so far are published, and how many are not.
+#[derive(Clone, Copy, Debug, PartialEq, Eq)]
+pub struct Counts {
+    pub published: u32,
+    pub unpublished: u32,
+}
+
 /// What a reader keeps between two lines.
 #[derive(Drop)]
 pub struct Kept {
     pub held: Held,
-    pub published: u32,
-    pub unpublished: u32,
+    pub counts: Counts,
+}
+
+impl Kept {
+    /// What a reader keeps before the first line.
+    pub fn start() -> Kept
+        ensures { result ≡ nothing_kept }
+    {
+        Kept {
+            held: Held::Start,
+            counts: Counts {
+                published: 0,
+                unpublished: 0,
+            },
+        }
+    }
 }

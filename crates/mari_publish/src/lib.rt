@@ -6,32 +6,20 @@
 #![tactic(auto)]
 
 mod coming;
-mod cut;
 mod fault;
 mod follow;
 mod held;
-mod keyword;
-mod line;
-mod line_reading;
-mod lists;
-mod number;
 mod publication;
 mod reader;
 mod reading;
-mod spelling;
 mod taking;
 #[cfg(test)]
 mod tests;
-mod text;
-mod tree;
-mod words;
 mod write;
 
 pub use fault::TextFault;
-pub use publication::{
-    AmountLine, BidLine, Block, BorderLine, FullBlock, Heading, MoneyLine, Part, Publication,
-    ZoneLine,
-};
+pub use mari_lines::{AmountLine, BidLine, BorderLine, Heading, MoneyLine, ZoneLine};
+pub use publication::{Block, FullBlock, Part, Publication};
 pub use reader::TextReader;
 pub use reading::read_text;
 pub use write::{block_text, closing_text, head_text, total_text, write_text};

@@ -1,57 +1,8 @@
 //! What a day's text says.
 
+use mari_lines::{AmountLine, BidLine, BorderLine, Heading, MoneyLine, ZoneLine};
 use mari_market::TreeItem;
-use mari_units::{Cents, Items, Name, Quarters};
-
-/// A zone, its price, the least and the greatest consistent price, and the number of its area from 1.
-#[derive(Drop)]
-pub struct ZoneLine {
-    pub name: Name,
-    pub price: Cents,
-    pub least: Cents,
-    pub greatest: Cents,
-    pub area: u32,
-}
-
-/// A border, its flow in MW from its first zone to its second, and its congestion rent.
-#[derive(Drop)]
-pub struct BorderLine {
-    pub from: Name,
-    pub to: Name,
-    pub flow: i64,
-    pub rent: Quarters,
-}
-
-/// A bid and how many MW it runs.
-#[derive(Drop)]
-pub struct BidLine {
-    pub id: Name,
-    pub mw: u32,
-}
-
-/// What an operator pays for energy, its part of the rents, and the rest of the two.
-#[derive(Drop)]
-pub struct MoneyLine {
-    pub name: Name,
-    pub payment: Quarters,
-    pub rent: Quarters,
-    pub net: Quarters,
-}
-
-/// A provider and what it is paid.
-#[derive(Drop)]
-pub struct AmountLine {
-    pub name: Name,
-    pub amount: Quarters,
-}
-
-/// A run's number from 1, its quarter from 1, and whether it is a direct run.
-#[derive(Clone, Copy, Debug, PartialEq, Eq)]
-pub struct Heading {
-    pub run: u32,
-    pub quarter: u32,
-    pub direct: bool,
-}
+use mari_units::{Items, Name};
 
 /// What is published of a run: its welfare in quarter-cents, a line for each zone, border and bid, how many MW each demand
 /// runs, the certificate tree in preorder, and what each operator and provider gets.

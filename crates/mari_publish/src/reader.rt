@@ -13,7 +13,7 @@ mod tests;
 
 use crate::coming::{Ahead, Coming, append, forget, is_whole, next_part};
 use crate::fault::TextFault;
-use crate::held::{Held, Kept};
+use crate::held::Kept;
 use crate::publication::Part;
 use mari_units::Memory;
 use std::alloc::Global;
@@ -47,11 +47,7 @@ impl TextReader {
     {
         TextReader {
             coming: Coming {
-                kept: Kept {
-                    held: Held::Start,
-                    published: 0,
-                    unpublished: 0,
-                },
+                kept: Kept::start(),
                 lines: 0,
                 ahead: Ahead::Kept,
                 bytes: Vec::new(alloc),

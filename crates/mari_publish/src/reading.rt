@@ -6,11 +6,11 @@ ghost use Rattle.mari_publish.specs.Faults.{IsText, BadLineAt, BadOrderAt, Trunc
 ghost use Rattle.mari_publish.specs.Gathering.{seen, Finishes};
 ghost use Rattle.mari_publish.specs.declared.publication.Publication.{Publication as PublicationValue};
 
-use crate::cut::cut;
 use crate::fault::TextFault;
 use crate::held::{Held, Kept};
-use crate::publication::{AmountLine, Block, MoneyLine, Part, Publication};
+use crate::publication::{Block, Part, Publication};
 use crate::taking::{LineFault, take_line};
+use mari_lines::{AmountLine, MoneyLine, split_once};
 use mari_units::{Items, Memory, Name};
 use std::alloc::Global;
 
@@ -115,15 +115,11 @@ fn finish(
 fn read_lines(alloc: Global, bytes: &[u8]) -> Result<Publication, TextFault>
     ensures { IsOutcome bytes.now result }
 {
-    let mut kept = Kept {
-        held: Held::Start,
-        published: 0,
-        unpublished: 0,
-    };
+    let mut kept = Kept::start();
     let mut gathered = nothing(alloc);
     let mut rest = bytes;
     let mut number = 1u32;
-    while let Some((here, after)) = cut(b'\n', rest) {
+    while let Some((here, after)) = split_once(b'\n', rest) {
         let part = match take_line(alloc, &mut kept, here) {
             Ok(part) => part,
             Err(LineFault::Form) => return Err(TextFault::BadLine(number)),

@@ -4,11 +4,10 @@ ghost use Rattle.std.specs.Prelude.{◌+◌, ◌≤◌};
 ghost use Rattle.mari_publish.specs.Order.{HasRoom};
 ghost use Rattle.mari_publish.specs.Gathering.{Took};
 
-use crate::fault::Unread;
 use crate::follow::{Refused, follow};
 use crate::held::Kept;
-use crate::line_reading::read_line;
 use crate::publication::Part;
+use mari_lines::{Unread, read_line};
 use std::alloc::Global;
 
 /// Why a line is no next line.
@@ -21,8 +20,8 @@ pub enum LineFault {
 
 /// Takes the line that is spelled so, and gives the part that is whole with it. After a fault what is kept is as it was.
 pub fn take_line(alloc: Global, kept: &mut Kept, here: &[u8]) -> Result<Option<Part>, LineFault>
-    requires counts { kept.old.published + kept.old.unpublished ≤ 1000 }
-    requires room { HasRoom kept.old.held kept.old.published kept.old.unpublished }
+    requires counts { kept.old.counts.published + kept.old.counts.unpublished ≤ 1000 }
+    requires room { HasRoom kept.old.held kept.old.counts }
     ensures { Took kept.old here.now kept.new result }
 {
     let line = match read_line(alloc, here) {

@@ -4,20 +4,22 @@ ghost use Rattle.std.specs.Prelude.{◌≡◌, ◌++◌, ◌+◌, ◌≤◌, ◌
 ghost use Rattle.std.specs.List.{All, flat_map};
 ghost use Rattle.mari_publish.specs.Closing.{closing_lines_by};
 ghost use Rattle.mari_publish.specs.Lines.{demand_lines, opening_lines, market_lines, ending_lines, full_lines, block_lines, closing_lines, published_in as published_of, unpublished_in as unpublished_of};
-ghost use Rattle.mari_publish.specs.Ranges.{InRange, IsMoney, IsMoneyLine, IsAmountLine, FullFits, BlockFits, TotalsFit, HasText};
-ghost use Rattle.mari_publish.specs.Spelling.{text_of_lines, head_text_of, block_text_of, total_text_of, text_of};
-ghost use Rattle.mari_publish.specs.declared.line.Line.TheVariants as line;
+ghost use Rattle.mari_lines.specs.Ranges.{InRange, IsMoney, IsMoneyLine, IsAmountLine};
+ghost use Rattle.mari_publish.specs.Ranges.{FullFits, BlockFits, TotalsFit, HasText};
+ghost use Rattle.mari_publish.specs.Texts.{text_of_lines, head_text_of, block_text_of, total_text_of, text_of};
+ghost use Rattle.mari_lines.specs.declared.line.Line.TheVariants as line;
 
-use crate::publication::{
-    AmountLine, BidLine, Block, BorderLine, FullBlock, MoneyLine, Publication, ZoneLine,
+mod tree;
+
+use crate::publication::{Block, FullBlock, Publication};
+use mari_lines::{
+    AmountLine, BidLine, BorderLine, MoneyLine, ZoneLine, put_bid, put_border, put_demand,
+    put_done, put_end, put_head, put_operator, put_provider, put_run, put_total_operator,
+    put_total_provider, put_unpublished, put_welfare, put_zone,
 };
-use crate::spelling::{
-    put_bid, put_border, put_demand, put_done, put_end, put_head, put_operator, put_provider,
-    put_run, put_total_operator, put_total_provider, put_unpublished, put_welfare, put_zone,
-};
-use crate::tree::put_tree_lines;
 use mari_units::{Memory, Name};
 use std::alloc::Global;
+use tree::put_tree_lines;
 
 fn put_zones(alloc: Global, out: &mut Vec<u8>, zones: &[ZoneLine]) -> Result<(), Memory>
     ensures { OnOk result (out.new.items ≡ out.old.items ++ text_of_lines (map line.Zone zones.now)) }

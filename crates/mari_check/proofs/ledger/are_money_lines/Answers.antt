@@ -1,7 +1,7 @@
 use Rattle.std.proofs.Common.{◌<◌, [], arith, length}
 use Rattle.mari_welfare.proofs.Lists.{passes_all}
 use Rattle.mari_settle.specs.Lines.{no_line}
-use Rattle.mari_publish.specs.declared.publication.MoneyLine.{MoneyLine}
+use Rattle.mari_lines.specs.declared.line.MoneyLine.{MoneyLine}
 use Rattle.mari_check.specs.Lines.{IsMoneyLine}
 use Rattle.mari_check.specs.Money.{money_line, money_lines_of}
 use Rattle.mari_check.proofs.Zips.{along-at, along-long, pass, same-by, uneven}

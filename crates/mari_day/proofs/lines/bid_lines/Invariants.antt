@@ -1,5 +1,5 @@
 use Rattle.std.proofs.Common.{◌≡◌, map, take}
-use Rattle.mari_publish.specs.declared.publication.BidLine.{BidLine}
+use Rattle.mari_lines.specs.declared.line.BidLine.{BidLine}
 use Rattle.mari_day.specs.Run.{name_at}
 use Rattle.mari_day.proofs.lines.bid_lines.Given as goal
 

@@ -1,6 +1,6 @@
 use Rattle.std.proofs.Common.{◌≡◌, map, take}
 use Rattle.mari_zones.specs.declared.borders.BorderEnds.{BorderEnds}
-use Rattle.mari_publish.specs.declared.publication.BorderLine.{BorderLine}
+use Rattle.mari_lines.specs.declared.line.BorderLine.{BorderLine}
 use Rattle.mari_day.specs.Run.{name_at}
 use Rattle.mari_day.proofs.lines.border_lines.Given as goal
 

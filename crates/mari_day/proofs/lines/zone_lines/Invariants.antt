@@ -1,5 +1,5 @@
 use Rattle.std.proofs.Common.{◌≡◌, map, take}
-use Rattle.mari_publish.specs.declared.publication.ZoneLine.{ZoneLine}
+use Rattle.mari_lines.specs.declared.line.ZoneLine.{ZoneLine}
 use Rattle.mari_day.proofs.lines.zone_lines.Given as goal
 
 -- the lines of the zones before this one

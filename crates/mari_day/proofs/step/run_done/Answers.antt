@@ -6,9 +6,9 @@ use Rattle.mari_units.specs.declared.numbers.Cents.{Cents}
 use Rattle.mari_market.specs.declared.market.Market.{Market}
 use Rattle.mari_market.specs.Clearing.{IsSpent}
 use Rattle.mari_market.specs.Price.{ArePrices, IsCapped}
-use Rattle.mari_publish.specs.Ranges.{IsHeading}
+use Rattle.mari_lines.specs.Ranges.{IsHeading}
 use Rattle.mari_publish.specs.declared.publication.Block.{Block}
-use Rattle.mari_publish.specs.declared.publication.Heading.{Heading}
+use Rattle.mari_lines.specs.declared.line.Heading.{Heading}
 use Rattle.mari_remain.specs.Accepted.{IsAccepted}
 use Rattle.mari_remain.specs.declared.books.Books.{Books}
 use Rattle.mari_remain.specs.declared.market.RunMarket.{RunMarket}

@@ -8,7 +8,7 @@ use Rattle.mari_publish.proofs.coming.append.Goals as goal
 pub returns-then-is_some-clause-appended : goal.returns-then-is_some-clause-appended
 returns-then-is_some-clause-appended c =
     let coming = c.args.coming.now in
-    let x = there _ _ c.cut.result (sym c.is_some.ensures ∙ c.if-is_some.true) c.cut.ensures in
+    let x = there _ _ c.split_once.result (sym c.is_some.ensures ∙ c.if-is_some.true) c.split_once.ensures in
     let unread = drop coming.handled coming.bytes.items in
     ahead_more coming.kept coming.lines coming.ahead mark.Ended unread unread c.args.piece.now
     (λ rest h. long_ends unread unread c.args.piece.now x.0.0.now x.0.1.now rest x.1.0 x.1.1 (subst (λ (a : Ahead). IsAhead a unread rest) c.in-TooLong.is h))

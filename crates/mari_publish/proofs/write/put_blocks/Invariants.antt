@@ -1,7 +1,7 @@
 use Rattle.std.proofs.Common.{◌≡◌, ◌++◌, drop}
 use Rattle.std.specs.List.{flat_map}
 use Rattle.mari_publish.specs.Lines.{block_lines}
-use Rattle.mari_publish.specs.Spelling.{text_of_lines}
+use Rattle.mari_publish.specs.Texts.{text_of_lines}
 use Rattle.mari_publish.proofs.write.put_blocks.Given as goal
 
 -- with the texts of those still to come it is the whole

@@ -1,6 +1,6 @@
 use Rattle.std.proofs.Common.{◌≡◌, ◌++◌, ◌+◌, drop}
 use Rattle.mari_publish.specs.Lines.{demand_lines}
-use Rattle.mari_publish.specs.Spelling.{text_of_lines}
+use Rattle.mari_publish.specs.Texts.{text_of_lines}
 use Rattle.mari_publish.proofs.write.put_demands.Given as goal
 
 -- with the texts of those still to come it is the whole

@@ -1,7 +1,7 @@
 use Rattle.std.proofs.Common.{List, ◌++◌, ap, ◌∙◌}
 use Rattle.mari_market.specs.declared.certificate.TreeItem.{TreeItem}
 use Rattle.mari_publish.specs.Lines.{opening_lines, market_lines, tree_lines, ending_lines}
-use Rattle.mari_publish.specs.Spelling.{text_of_lines}
+use Rattle.mari_publish.specs.Texts.{text_of_lines}
 use Rattle.mari_publish.proofs.Parts.{after_four}
 use Rattle.mari_publish.proofs.write.put_full.Goals as goal
 

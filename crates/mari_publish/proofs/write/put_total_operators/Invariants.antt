@@ -1,6 +1,6 @@
 use Rattle.std.proofs.Common.{◌≡◌, ◌++◌, drop, map}
-use Rattle.mari_publish.specs.Spelling.{text_of_lines}
-use Rattle.mari_publish.specs.declared.line.Line.TheVariants as line
+use Rattle.mari_publish.specs.Texts.{text_of_lines}
+use Rattle.mari_lines.specs.declared.line.Line.TheVariants as line
 use Rattle.mari_publish.proofs.write.put_total_operators.Given as goal
 
 -- with the texts of those still to come it is the whole

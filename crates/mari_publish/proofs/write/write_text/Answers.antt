@@ -1,9 +1,10 @@
 use Rattle.std.proofs.Common.{List, ◌++◌, ℕ, ap, ◌∙◌}
 use Rattle.std.specs.List.{flat_map}
 use Rattle.mari_publish.specs.declared.publication.Block.{Block}
-use Rattle.mari_publish.specs.declared.line.Line.TheVariants as line
+use Rattle.mari_lines.specs.declared.line.Line.TheVariants as line
 use Rattle.mari_publish.specs.Lines.{block_lines}
-use Rattle.mari_publish.specs.Spelling.{line_text, text_of_lines}
+use Rattle.mari_lines.specs.Spelling.{line_text}
+use Rattle.mari_publish.specs.Texts.{text_of_lines}
 use Rattle.mari_publish.proofs.Parts.{three_texts}
 use Rattle.mari_publish.proofs.write.write_text.Goals as goal
 

@@ -1,0 +1,11 @@
+pub mod Appended
+pub mod Printed
+pub mod Numbers
+pub mod NotRead
+pub mod Splits
+pub mod Gathered
+pub mod Graphic
+pub mod FirstWords
+pub mod LineWords
+pub mod SameLine
+pub mod Lengths

@@ -1,0 +1,12 @@
+use Rattle.std.proofs.Common.{length}
+use Rattle.std.proofs.Common.{◌≤◌}
+use Rattle.std.specs.Fmt.{decimal}
+use Rattle.mari_lines.proofs.Gathered.{Begun}
+use Rattle.mari_lines.proofs.reading.lists.read_mws.Given as goal
+
+-- those so far were gathered from the words so far
+abbrev pub invariant-loop-word : goal.invariant-loop-word
+invariant-loop-word l = Begun (λ mw. mw ≤ 99999) decimal 4608 l.mws.items l.words l.fn.words
+
+abbrev pub decreases-loop-word : goal.decreases-loop-word
+decreases-loop-word l = length l.words

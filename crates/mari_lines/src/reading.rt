@@ -1,0 +1,259 @@
+//! Reading a line.
+
+ghost use Rattle.std.specs.Prelude.{◌≡◌, ◌↔◌, ◌∷◌, [], IsTrue};
+ghost use Rattle.mari_market.specs.Cut.{IsRising};
+ghost use Rattle.mari_lines.specs.Ranges.{InRange, IsMoneyLine, IsAmountLine};
+ghost use Rattle.mari_lines.specs.Spelling.{fields, money_fields, amount_fields, spelling, keyword_of as keyword_of_line};
+ghost use Rattle.mari_lines.specs.Reading.{Reads};
+ghost use Rattle.mari_lines.specs.declared.line.Line.TheVariants as line;
+
+mod keyword;
+mod lists;
+mod number;
+mod separator;
+mod words;
+
+use crate::fault::Unread;
+use crate::line::{AmountLine, BidLine, BorderLine, Heading, Keyword, Line, MoneyLine, ZoneLine};
+use keyword::keyword_of;
+use lists::{read_flows, read_mws, read_prices, read_zones};
+use mari_market::Cut;
+use mari_units::Name;
+pub use separator::split_once;
+use std::alloc::Global;
+use words::Words;
+
+/// A zone's fields.
+fn read_zone(alloc: Global, words: &mut Words<'_>) -> Result<ZoneLine, Unread>
+    ensures { Reads (λ z. InRange (line.Zone z)) (λ z. fields (line.Zone z)) words.old result }
+{
+    let name = words.name(alloc)?;
+    let price = words.price(alloc)?;
+    let least = words.price(alloc)?;
+    let greatest = words.price(alloc)?;
+    let area = words.number(alloc, 1, 64)?;
+    words.end()?;
+    Ok(ZoneLine {
+        name,
+        price,
+        least,
+        greatest,
+        area,
+    })
+}
+
+/// The date, the number of quarters and the budget of the first line.
+fn read_head(alloc: Global, words: &mut Words<'_>) -> Result<(Name, u32, u32), Unread>
+    ensures { Reads (λ x. InRange (line.Head x.0 x.1 x.2)) (λ x. fields (line.Head x.0 x.1 x.2)) words.old result }
+{
+    words.version()?;
+    let date = words.date(alloc)?;
+    let quarters = words.number(alloc, 1, 400)?;
+    let budget = words.number(alloc, 1, 50_000)?;
+    words.end()?;
+    Ok((date, quarters, budget))
+}
+
+/// A run's welfare.
+fn read_welfare(alloc: Global, words: &mut Words<'_>) -> Result<u64, Unread>
+    ensures { Reads (λ x. InRange (line.Welfare x)) (λ x. fields (line.Welfare x)) words.old result }
+{
+    let welfare = words.welfare(alloc)?;
+    words.end()?;
+    Ok(welfare)
+}
+
+/// A border's fields.
+fn read_border(alloc: Global, words: &mut Words<'_>) -> Result<BorderLine, Unread>
+    ensures { Reads (λ x. InRange (line.Border x)) (λ x. fields (line.Border x)) words.old result }
+{
+    let from = words.name(alloc)?;
+    let to = words.name(alloc)?;
+    let flow = words.flow(alloc)?;
+    let rent = words.money(alloc)?;
+    words.end()?;
+    Ok(BorderLine {
+        from,
+        to,
+        flow,
+        rent,
+    })
+}
+
+/// A bid's fields.
+fn read_bid(alloc: Global, words: &mut Words<'_>) -> Result<BidLine, Unread>
+    ensures { Reads (λ x. InRange (line.Bid x)) (λ x. fields (line.Bid x)) words.old result }
+{
+    let id = words.name(alloc)?;
+    let mw = words.number(alloc, 0, 99_999)?;
+    words.end()?;
+    Ok(BidLine { id, mw })
+}
+
+/// A demand's place and quantity.
+fn read_demand(alloc: Global, words: &mut Words<'_>) -> Result<(u32, u32), Unread>
+    ensures { Reads (λ x. InRange (line.Demand x.0 x.1)) (λ x. fields (line.Demand x.0 x.1)) words.old result }
+{
+    let place = words.number(alloc, 1, 512)?;
+    let mw = words.number(alloc, 0, 99_999)?;
+    words.end()?;
+    Ok((place, mw))
+}
+
+/// How many items a tree has.
+fn read_tree(alloc: Global, words: &mut Words<'_>) -> Result<u32, Unread>
+    ensures { Reads (λ x. InRange (line.Tree x)) (λ x. fields (line.Tree x)) words.old result }
+{
+    let count = words.number(alloc, 1, 50_000)?;
+    words.end()?;
+    Ok(count)
+}
+
+/// The number of the run that ends.
+fn read_end(alloc: Global, words: &mut Words<'_>) -> Result<u32, Unread>
+    ensures { Reads (λ x. InRange (line.End x)) (λ x. fields (line.End x)) words.old result }
+{
+    let run = words.number(alloc, 1, 1000)?;
+    words.end()?;
+    Ok(run)
+}
+
+/// How many runs were published, and how many not.
+fn read_done(alloc: Global, words: &mut Words<'_>) -> Result<(u32, u32), Unread>
+    ensures { Reads (λ x. InRange (line.Done x.0 x.1)) (λ x. fields (line.Done x.0 x.1)) words.old result }
+{
+    let published = words.number(alloc, 0, 1000)?;
+    let unpublished = words.number(alloc, 0, 1000)?;
+    words.end()?;
+    Ok((published, unpublished))
+}
+
+/// An operator's fields.
+fn read_operator(alloc: Global, words: &mut Words<'_>) -> Result<MoneyLine, Unread>
+    ensures { Reads IsMoneyLine money_fields words.old result }
+{
+    let name = words.name(alloc)?;
+    let payment = words.money(alloc)?;
+    let rent = words.money(alloc)?;
+    let net = words.money(alloc)?;
+    words.end()?;
+    Ok(MoneyLine {
+        name,
+        payment,
+        rent,
+        net,
+    })
+}
+
+/// A provider's fields.
+fn read_provider(alloc: Global, words: &mut Words<'_>) -> Result<AmountLine, Unread>
+    ensures { Reads IsAmountLine amount_fields words.old result }
+{
+    let name = words.name(alloc)?;
+    let amount = words.money(alloc)?;
+    words.end()?;
+    Ok(AmountLine { name, amount })
+}
+
+/// Whether zone numbers are below 64 and rise strictly.
+fn are_rising(zones: &[u32]) -> bool
+    ensures { IsTrue result ↔ IsRising 0 64 zones.now }
+{
+    let mut least = 0;
+    for zone in zones {
+        if *zone < least || *zone >= 64 {
+            return false;
+        }
+        least = *zone + 1;
+    }
+    true
+}
+
+/// A cut's side and its zones.
+fn read_cut(alloc: Global, words: &mut Words<'_>) -> Result<Cut, Unread>
+    ensures { Reads (λ x. InRange (line.Cut x)) (λ x. fields (line.Cut x)) words.old result }
+{
+    let side = words.side()?;
+    let zones = read_zones(alloc, words)?;
+    if !are_rising(zones.as_slice()) {
+        return Err(Unread::Formless);
+    }
+    Ok(Cut { side, zones })
+}
+
+/// What stands behind `run`.
+fn read_run(alloc: Global, words: &mut Words<'_>) -> Result<Line, Unread>
+    ensures { Reads (λ l. InRange l × (keyword_of_line l ≡ Keyword.Run)) fields words.old result }
+{
+    let run = words.number(alloc, 1, 1_000)?;
+    let quarter = words.number(alloc, 1, 400)?;
+    let direct = words.direct()?;
+    let published = words.published()?;
+    let heading = Heading {
+        run,
+        quarter,
+        direct,
+    };
+    if published {
+        words.end()?;
+        return Ok(Line::Run(heading));
+    }
+    let count = words.number(alloc, 1, 50_000)?;
+    words.end()?;
+    Ok(Line::Unpublished(heading, count))
+}
+
+/// What stands behind a line's first word.
+fn read_fields(alloc: Global, keyword: Keyword, words: &mut Words<'_>) -> Result<Line, Unread>
+    ensures { Reads (λ l. InRange l × (keyword_of_line l ≡ keyword)) fields words.old result }
+{
+    match keyword {
+        Keyword::Mari => {
+            let (date, quarters, budget) = read_head(alloc, words)?;
+            Ok(Line::Head(date, quarters, budget))
+        }
+        Keyword::Run => read_run(alloc, words),
+        Keyword::Welfare => Ok(Line::Welfare(read_welfare(alloc, words)?)),
+        Keyword::Zone => Ok(Line::Zone(read_zone(alloc, words)?)),
+        Keyword::Border => Ok(Line::Border(read_border(alloc, words)?)),
+        Keyword::Bid => Ok(Line::Bid(read_bid(alloc, words)?)),
+        Keyword::Demand => {
+            let (place, mw) = read_demand(alloc, words)?;
+            Ok(Line::Demand(place, mw))
+        }
+        Keyword::Tree => Ok(Line::Tree(read_tree(alloc, words)?)),
+        Keyword::Branch => {
+            words.end()?;
+            Ok(Line::Branch)
+        }
+        Keyword::Bound => Ok(Line::Bound(read_prices(alloc, words)?)),
+        Keyword::Cut => Ok(Line::Cut(read_cut(alloc, words)?)),
+        Keyword::Conflict => Ok(Line::Conflict(read_zones(alloc, words)?)),
+        Keyword::At => Ok(Line::At(read_prices(alloc, words)?)),
+        Keyword::Flows => Ok(Line::Flows(read_flows(alloc, words)?)),
+        Keyword::Mws => Ok(Line::Mws(read_mws(alloc, words)?)),
+        Keyword::Operator => Ok(Line::Operator(read_operator(alloc, words)?)),
+        Keyword::Provider => Ok(Line::Provider(read_provider(alloc, words)?)),
+        Keyword::End => Ok(Line::End(read_end(alloc, words)?)),
+        Keyword::TotalOperator => Ok(Line::TotalOperator(read_operator(alloc, words)?)),
+        Keyword::TotalProvider => Ok(Line::TotalProvider(read_provider(alloc, words)?)),
+        Keyword::Done => {
+            let (published, unpublished) = read_done(alloc, words)?;
+            Ok(Line::Done(published, unpublished))
+        }
+    }
+}
+
+/// The line that is spelled so.
+pub fn read_line(alloc: Global, text: &[u8]) -> Result<Line, Unread>
+    ensures { Reads InRange spelling text.now result }
+{
+    let mut words = Words::of(text);
+    let Some(first) = words.next_word() else {
+        return Err(Unread::Formless);
+    };
+    let Some(keyword) = keyword_of(first) else {
+        return Err(Unread::Formless);
+    };
+    read_fields(alloc, keyword, &mut words)
+}

@@ -1,0 +1,178 @@
+//! Names, numbers, prices and money as they are printed.
+
+ghost use Rattle.std.specs.Prelude.{◌≡◌, ◌≤◌, ◌<◌, ◌^◌, ◌≤ℤ◌, ◌↔◌, IsTrue, min, ◌-◌, pos, neg_ℤ};
+ghost use Rattle.std.specs.Char.{is_ascii_digit};
+ghost use Rattle.std.specs.List.{list_all};
+ghost use Rattle.std.specs.Fmt.{decimal, signed_decimal};
+ghost use Rattle.mari_lines.specs.Ranges.{Between, Within, IsName, IsDate, IsPriceLine, IsMoney, IsZone, is_date as is_date_text};
+ghost use Rattle.mari_lines.specs.Spelling.{price_text, money_text, zone_text};
+ghost use Rattle.mari_lines.specs.Reading.{Reads, digits_in as digits_of, value_in};
+
+use crate::fault::Unread;
+use mari_units::{
+    CAP, Cents, Name, NameFault, Quarters, cents_text, euros_text, read_name, whole_text,
+};
+use std::alloc::Global;
+
+/// The number that the digits of a text write, or the greatest of 128 bits where it is greater.
+fn digits_in(text: &[u8]) -> u128
+    ensures { result ≡ min (digits_of text.now) (2 ^ 128 - 1) }
+{
+    let mut value = 0u128;
+    for byte in text {
+        if byte.is_ascii_digit() {
+            value = value
+                .saturating_mul(10)
+                .saturating_add(u128::from(*byte - b'0'));
+        }
+    }
+    value
+}
+
+/// The number that the digits of a text write, in units, behind the sign that stands first.
+fn value_of(text: &[u8], unit: u128) -> i128
+    requires { 0 < unit }
+    ensures { result ≡ value_in unit text.now }
+{
+    let size = (digits_in(text) / unit).min(i128::MAX as u128) as i128;
+    match text {
+        [b'-', ..] => -size,
+        _ => size,
+    }
+}
+
+/// Whether both are the same bytes.
+pub fn is_same(text: &[u8], other: &[u8]) -> bool
+    ensures { IsTrue result ↔ (text.now ≡ other.now) }
+{
+    text == other
+}
+
+/// The whole number from `least` to `greatest` that is printed so.
+fn read_whole(alloc: Global, text: &[u8], least: i128, greatest: i128) -> Result<i128, Unread>
+    requires { (neg_ℤ (pos (2 ^ 63)) ≤ℤ least) × (greatest ≤ℤ pos (2 ^ 63)) }
+    ensures { Reads (λ z. (least ≤ℤ z) × (z ≤ℤ greatest)) signed_decimal text.now result }
+{
+    let value = value_of(text, 1);
+    if value < least {
+        return Err(Unread::Formless);
+    }
+    if value > greatest {
+        return Err(Unread::Formless);
+    }
+    if !is_same(&whole_text(alloc, value)?, text) {
+        return Err(Unread::Formless);
+    }
+    Ok(value)
+}
+
+/// The number from `least` to `greatest` that is printed so.
+pub fn read_number(alloc: Global, text: &[u8], least: u32, greatest: u32) -> Result<u32, Unread>
+    ensures { Reads (Between least greatest) decimal text.now result }
+{
+    let value = read_whole(alloc, text, i128::from(least), i128::from(greatest))?;
+    Ok(value as u32)
+}
+
+/// The welfare that is printed so.
+pub fn read_welfare(alloc: Global, text: &[u8]) -> Result<u64, Unread>
+    ensures { Reads (λ n. n < 2 ^ 63) decimal text.now result }
+{
+    let value = read_whole(alloc, text, 0, i128::from(i64::MAX))?;
+    Ok(value as u64)
+}
+
+/// The flow that is printed so.
+pub fn read_flow(alloc: Global, text: &[u8]) -> Result<i64, Unread>
+    ensures { Reads (λ z. Within 199998 z) signed_decimal text.now result }
+{
+    let value = read_whole(alloc, text, -199_998, 199_998)?;
+    Ok(value as i64)
+}
+
+/// The price from -CAP to CAP that is printed so.
+pub fn read_price(alloc: Global, text: &[u8]) -> Result<Cents, Unread>
+    ensures { Reads IsPriceLine price_text text.now result }
+{
+    let value = value_of(text, 1);
+    if value < -i128::from(CAP) {
+        return Err(Unread::Formless);
+    }
+    if value > i128::from(CAP) {
+        return Err(Unread::Formless);
+    }
+    let price = Cents(value as i64);
+    if !is_same(&cents_text(alloc, price)?, text) {
+        return Err(Unread::Formless);
+    }
+    Ok(price)
+}
+
+/// The greatest amount of money, in quarter-cents.
+const MOST_MONEY: i128 = 4_000_000_000_000_000_000;
+
+/// The money that is printed so.
+pub fn read_money(alloc: Global, text: &[u8]) -> Result<Quarters, Unread>
+    ensures { Reads IsMoney money_text text.now result }
+{
+    let value = value_of(text, 25);
+    if value < -MOST_MONEY {
+        return Err(Unread::Formless);
+    }
+    if value > MOST_MONEY {
+        return Err(Unread::Formless);
+    }
+    let money = Quarters(value);
+    if !is_same(&euros_text(alloc, money)?, text) {
+        return Err(Unread::Formless);
+    }
+    Ok(money)
+}
+
+/// The name that is written so.
+pub fn read_name_text(alloc: Global, text: &[u8]) -> Result<Name, Unread>
+    ensures { Reads IsName (λ name. name) text.now result }
+{
+    match read_name(alloc, text) {
+        Ok(name) => Ok(name),
+        Err(NameFault::NotAName) => Err(Unread::Formless),
+        Err(NameFault::Memory) => Err(Unread::Memory),
+    }
+}
+
+fn all_digits(text: &[u8]) -> bool
+    ensures { result ≡ list_all is_ascii_digit text.now }
+{
+    text.iter().all(|byte| byte.is_ascii_digit())
+}
+
+/// Whether a text has the form of a date.
+fn is_date(text: &[u8]) -> bool
+    ensures { result ≡ is_date_text text.now }
+{
+    text.len() == 10
+        && all_digits(&text[..4])
+        && text[4] == b'-'
+        && all_digits(&text[5..7])
+        && text[7] == b'-'
+        && all_digits(&text[8..])
+}
+
+/// The date that is written so.
+pub fn read_date(alloc: Global, text: &[u8]) -> Result<Name, Unread>
+    ensures { Reads IsDate (λ date. date) text.now result }
+{
+    if is_date(text) {
+        read_name_text(alloc, text)
+    } else {
+        Err(Unread::Formless)
+    }
+}
+
+/// The zone that is written so: its number from 0.
+pub fn read_zone_number(alloc: Global, text: &[u8]) -> Result<u32, Unread>
+    ensures { Reads IsZone zone_text text.now result }
+{
+    let zone = read_number(alloc, text, 1, 64)?;
+    Ok(zone - 1)
+}

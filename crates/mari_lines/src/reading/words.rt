@@ -1,0 +1,190 @@
+//! The words of a line, read one after the other.
+
+ghost use Rattle.std.specs.Prelude.{◌≡◌, ◌≢◌, ◌==◌, ◌∷◌, [], ◌<◌, ◌^◌, MatchOption, MatchResult, codes, ⊤};
+ghost use Rattle.std.specs.List.{slice_split};
+ghost use Rattle.std.specs.Fmt.{decimal, signed_decimal};
+ghost use Rattle.mari_lines.specs.Ranges.{Between, Within, IsName, IsDate, IsPriceLine, IsMoney};
+ghost use Rattle.mari_lines.specs.Spelling.{price_text, money_text, kind_text, published_text, side_text};
+ghost use Rattle.mari_lines.specs.Reading.{ReadsFirst};
+ghost use Rattle.mari_lines.specs.declared.fault.Unread.TheVariants as unread;
+
+use super::number::{
+    is_same, read_date, read_flow, read_money, read_name_text, read_number, read_price,
+    read_welfare,
+};
+use super::separator::split_once;
+use crate::fault::Unread;
+use mari_market::CutSide;
+use mari_units::{Cents, Name, Quarters};
+use std::alloc::Global;
+use std::marker::Model;
+
+/// The words that are left of a line, which contracts see as the list of them.
+#[derive(Drop)]
+pub struct Words<'a> {
+    rest: Option<&'a [u8]>,
+}
+
+impl<'a> Model for Words<'a> {
+    ghost use Rattle.std.specs.Prelude.{List, ℕ};
+    ghost use Rattle.mari_lines.specs.Reading.{words_in};
+
+    ghost Value = { List (List ℕ) };
+
+    ghost view = { λ w. words_in w.rest };
+}
+
+impl<'a> Words<'a> {
+    /// The words of a text, with a space between two.
+    pub fn of(text: &'a [u8]) -> Words<'a>
+        ensures { result ≡ slice_split (λ b. b == 32) text.now }
+    {
+        Words { rest: Some(text) }
+    }
+
+    /// Takes the next word.
+    pub fn next_word(&mut self) -> Option<&'a [u8]>
+        ensures { MatchOption result ((self.old ≡ []) × (self.new ≡ [])) (λ word. self.old ≡ word.now ∷ self.new) }
+    {
+        let text = self.rest?;
+        match split_once(b' ', text) {
+            Some((word, after)) => {
+                self.rest = Some(after);
+                Some(word)
+            }
+            None => {
+                self.rest = None;
+                Some(text)
+            }
+        }
+    }
+
+    /// Asks for the end of the line.
+    pub fn end(&self) -> Result<(), Unread>
+        ensures { MatchResult result (λ _. self.now ≡ []) (λ fault. (fault ≡ unread.Formless) × (self.now ≢ [])) }
+    {
+        match self.rest {
+            None => Ok(()),
+            Some(_) => Err(Unread::Formless),
+        }
+    }
+
+    /// Takes a word that must be there.
+    fn word(&mut self) -> Result<&'a [u8], Unread>
+        ensures { MatchResult result (λ word. self.old ≡ word.now ∷ self.new) (λ fault. (fault ≡ unread.Formless) × (self.old ≡ [])) }
+    {
+        match self.next_word() {
+            Some(word) => Ok(word),
+            None => Err(Unread::Formless),
+        }
+    }
+
+    /// Takes a name.
+    pub fn name(&mut self, alloc: Global) -> Result<Name, Unread>
+        ensures { ReadsFirst IsName (λ name. name) self.old self.new result }
+    {
+        let word = self.word()?;
+        read_name_text(alloc, word)
+    }
+
+    /// Takes a number from `least` to `greatest`.
+    pub fn number(&mut self, alloc: Global, least: u32, greatest: u32) -> Result<u32, Unread>
+        ensures { ReadsFirst (Between least greatest) decimal self.old self.new result }
+    {
+        let word = self.word()?;
+        read_number(alloc, word, least, greatest)
+    }
+
+    /// Takes a welfare.
+    pub fn welfare(&mut self, alloc: Global) -> Result<u64, Unread>
+        ensures { ReadsFirst (λ n. n < 2 ^ 63) decimal self.old self.new result }
+    {
+        let word = self.word()?;
+        read_welfare(alloc, word)
+    }
+
+    /// Takes a flow.
+    pub fn flow(&mut self, alloc: Global) -> Result<i64, Unread>
+        ensures { ReadsFirst (λ z. Within 199998 z) signed_decimal self.old self.new result }
+    {
+        let word = self.word()?;
+        read_flow(alloc, word)
+    }
+
+    /// Takes a price.
+    pub fn price(&mut self, alloc: Global) -> Result<Cents, Unread>
+        ensures { ReadsFirst IsPriceLine price_text self.old self.new result }
+    {
+        let word = self.word()?;
+        read_price(alloc, word)
+    }
+
+    /// Takes an amount of money.
+    pub fn money(&mut self, alloc: Global) -> Result<Quarters, Unread>
+        ensures { ReadsFirst IsMoney money_text self.old self.new result }
+    {
+        let word = self.word()?;
+        read_money(alloc, word)
+    }
+
+    /// Takes a date.
+    pub fn date(&mut self, alloc: Global) -> Result<Name, Unread>
+        ensures { ReadsFirst IsDate (λ date. date) self.old self.new result }
+    {
+        let word = self.word()?;
+        read_date(alloc, word)
+    }
+
+    /// Takes the number of the format, which is 1.
+    pub fn version(&mut self) -> Result<(), Unread>
+        ensures { ReadsFirst (λ _. ⊤) (λ _. codes "1") self.old self.new result }
+    {
+        let word = self.word()?;
+        if is_same(word, b"1") {
+            return Ok(());
+        }
+        Err(Unread::Formless)
+    }
+
+    /// Takes a run's kind: whether it is a direct run.
+    pub fn direct(&mut self) -> Result<bool, Unread>
+        ensures { ReadsFirst (λ _. ⊤) kind_text self.old self.new result }
+    {
+        let word = self.word()?;
+        if is_same(word, b"direct") {
+            return Ok(true);
+        }
+        if is_same(word, b"scheduled") {
+            return Ok(false);
+        }
+        Err(Unread::Formless)
+    }
+
+    /// Takes the word that says whether a run is published.
+    pub fn published(&mut self) -> Result<bool, Unread>
+        ensures { ReadsFirst (λ _. ⊤) published_text self.old self.new result }
+    {
+        let word = self.word()?;
+        if is_same(word, b"published") {
+            return Ok(true);
+        }
+        if is_same(word, b"unpublished") {
+            return Ok(false);
+        }
+        Err(Unread::Formless)
+    }
+
+    /// Takes the side of a cut.
+    pub fn side(&mut self) -> Result<CutSide, Unread>
+        ensures { ReadsFirst (λ _. ⊤) side_text self.old self.new result }
+    {
+        let word = self.word()?;
+        if is_same(word, b"out") {
+            return Ok(CutSide::Out);
+        }
+        if is_same(word, b"in") {
+            return Ok(CutSide::In);
+        }
+        Err(Unread::Formless)
+    }
+}

@@ -1,0 +1,53 @@
+//! The pieces of a line.
+
+ghost use Rattle.std.specs.Prelude.{◌≡◌, ◌++◌, ◌∷◌, ◌≤◌, ◌^◌, OnOk};
+ghost use Rattle.std.specs.Int.RustNames.{unsigned_abs};
+ghost use Rattle.std.specs.Fmt.{decimal, signed_decimal};
+ghost use Rattle.mari_lines.specs.Spelling.{price_text, money_text};
+
+use mari_units::{Cents, Memory, Quarters, cents_text, euros_text, whole_text};
+use std::alloc::Global;
+
+/// Appends a piece.
+pub fn put(out: &mut Vec<u8>, piece: &[u8]) -> Result<(), Memory>
+    ensures { OnOk result (out.new.items ≡ out.old.items ++ piece.now) }
+{
+    Ok(out.extend_from_slice(piece)?)
+}
+
+/// Appends a space and a piece.
+pub fn put_field(out: &mut Vec<u8>, piece: &[u8]) -> Result<(), Memory>
+    ensures { OnOk result (out.new.items ≡ out.old.items ++ 32 ∷ piece.now) }
+{
+    put(out, b" ")?;
+    put(out, piece)
+}
+
+/// Appends a space and a number.
+pub fn put_number(alloc: Global, out: &mut Vec<u8>, n: u64) -> Result<(), Memory>
+    ensures { OnOk result (out.new.items ≡ out.old.items ++ 32 ∷ decimal n) }
+{
+    put_field(out, n.to_string(alloc)?.as_bytes())
+}
+
+/// Appends a space and a price.
+pub fn put_price(alloc: Global, out: &mut Vec<u8>, price: Cents) -> Result<(), Memory>
+    ensures { OnOk result (out.new.items ≡ out.old.items ++ 32 ∷ price_text price) }
+{
+    put_field(out, &cents_text(alloc, price)?)
+}
+
+/// Appends a space and a flow.
+pub fn put_flow(alloc: Global, out: &mut Vec<u8>, flow: i64) -> Result<(), Memory>
+    ensures { OnOk result (out.new.items ≡ out.old.items ++ 32 ∷ signed_decimal flow) }
+{
+    put_field(out, &whole_text(alloc, i128::from(flow))?)
+}
+
+/// Appends a space and an amount of money.
+pub fn put_money(alloc: Global, out: &mut Vec<u8>, money: Quarters) -> Result<(), Memory>
+    requires { unsigned_abs money.0 ≤ 10 ^ 30 }
+    ensures { OnOk result (out.new.items ≡ out.old.items ++ 32 ∷ money_text money) }
+{
+    put_field(out, &euros_text(alloc, money)?)
+}

@@ -1,7 +1,0 @@
-use Rattle.std.proofs.Common.{◌≡◌, ◌++◌, drop, map}
-use Rattle.mari_publish.specs.Spelling.{spaced, price_text}
-use Rattle.mari_publish.proofs.tree.put_prices.Given as goal
-
--- with the texts of those still to come it is the whole
-abbrev pub invariant-loop-price : goal.invariant-loop-price
-invariant-loop-price l = l.out.items ++ spaced (map price_text (drop l.price-index l.prices)) ≡ l.fn.out.items ++ spaced (map price_text l.prices)

@@ -1,0 +1,100 @@
+//! A block is open behind its tree.
+
+ghost use Rattle.std.specs.Prelude.{◌≡◌, ◌<◌};
+ghost use Rattle.mari_publish.specs.Order.{after, after_ending, full_block as full_block_of, kept_with, Steps, Follows};
+ghost use Rattle.mari_publish.specs.declared.held.Held.TheVariants as held_as;
+
+use super::step::{Refused, keep, push};
+use crate::held::{Ending, Held, Kept, Listing};
+use crate::publication::{Block, FullBlock, Part};
+use mari_lines::Line;
+use std::alloc::Global;
+
+/// A line behind a tree.
+fn list_party(alloc: Global, ending: &mut Ending, line: Line) -> Result<(), Refused>
+    ensures { Steps (after_ending ending.old line) (held_as.Ending ending.old) (held_as.Ending ending.new) result }
+{
+    match line {
+        Line::Operator(operator) => {
+            if !ending.providers.as_slice().is_empty() {
+                return Err(Refused::Order);
+            }
+            if ending.operators.as_slice().len() >= 64 {
+                return Err(Refused::Order);
+            }
+            Ok(push(alloc, &mut ending.operators, operator)?)
+        }
+        Line::Provider(provider) => {
+            if ending.providers.as_slice().len() >= 4096 {
+                return Err(Refused::Order);
+            }
+            Ok(push(alloc, &mut ending.providers, provider)?)
+        }
+        _ => Err(Refused::Order),
+    }
+}
+
+/// The block that ends.
+fn full_block(ending: Ending) -> FullBlock
+    ensures { Block.Published result ≡ full_block_of ending }
+{
+    let Ending {
+        listing,
+        tree,
+        operators,
+        providers,
+    } = ending;
+    let Listing {
+        heading,
+        welfare,
+        zones,
+        borders,
+        bids,
+        demands,
+    } = listing;
+    FullBlock {
+        heading,
+        welfare,
+        zones,
+        borders,
+        bids,
+        demands,
+        tree,
+        operators,
+        providers,
+    }
+}
+
+/// The block that ends with this run's number.
+fn close_block(kept: &mut Kept, ending: Ending, run: u32) -> Result<Option<Part>, Refused>
+    requires { kept.old.counts.published < 1000 }
+    ensures { Follows (after kept.old (held_as.Ending ending) (Line.End run)) (kept_with kept.old (held_as.Ending ending)) kept.new result }
+{
+    if run != ending.listing.heading.run {
+        kept.held = Held::Ending(ending);
+        return Err(Refused::Order);
+    }
+    kept.held = Held::Between;
+    kept.counts.published += 1;
+    Ok(Some(Part::Block(Block::Published(full_block(ending)))))
+}
+
+/// A line behind a block's tree.
+pub fn behind_tree(
+    alloc: Global,
+    kept: &mut Kept,
+    ending: Ending,
+    line: Line,
+) -> Result<Option<Part>, Refused>
+    requires { kept.old.counts.published < 1000 }
+    ensures { Follows (after kept.old (held_as.Ending ending) line) (kept_with kept.old (held_as.Ending ending)) kept.new result }
+{
+    match line {
+        Line::End(run) => close_block(kept, ending, run),
+        line => {
+            let mut ending = ending;
+            let step = list_party(alloc, &mut ending, line);
+            keep(kept, Held::Ending(ending), step)
+        }
+    }
+}

@@ -1,0 +1,133 @@
+//! The lists of a block are open, before its tree.
+
+ghost use Rattle.mari_publish.specs.Order.{after, after_listing, kept_with, Steps, Follows};
+ghost use Rattle.mari_publish.specs.declared.held.Held.TheVariants as held_as;
+
+use super::step::{Refused, empty, keep, push};
+use crate::held::{Growing, Held, Kept, Listing, Pending};
+use crate::publication::Part;
+use mari_lines::{BidLine, BorderLine, Line, ZoneLine};
+use std::alloc::Global;
+
+/// A zone's line in a block before its tree.
+fn list_zone(alloc: Global, block: &mut Listing, zone: ZoneLine) -> Result<(), Refused>
+    ensures { Steps (after_listing block.old (Line.Zone zone)) (held_as.Listing block.old) (held_as.Listing block.new) result }
+{
+    if !block.borders.as_slice().is_empty() {
+        return Err(Refused::Order);
+    }
+    if !block.bids.as_slice().is_empty() {
+        return Err(Refused::Order);
+    }
+    if !block.demands.as_slice().is_empty() {
+        return Err(Refused::Order);
+    }
+    if block.zones.as_slice().len() >= 64 {
+        return Err(Refused::Order);
+    }
+    Ok(push(alloc, &mut block.zones, zone)?)
+}
+
+/// A border's line in a block before its tree.
+fn list_border(alloc: Global, block: &mut Listing, border: BorderLine) -> Result<(), Refused>
+    ensures { Steps (after_listing block.old (Line.Border border)) (held_as.Listing block.old) (held_as.Listing block.new) result }
+{
+    if block.zones.as_slice().is_empty() {
+        return Err(Refused::Order);
+    }
+    if !block.bids.as_slice().is_empty() {
+        return Err(Refused::Order);
+    }
+    if !block.demands.as_slice().is_empty() {
+        return Err(Refused::Order);
+    }
+    if block.borders.as_slice().len() >= 256 {
+        return Err(Refused::Order);
+    }
+    Ok(push(alloc, &mut block.borders, border)?)
+}
+
+/// A bid's line in a block before its tree.
+fn list_bid(alloc: Global, block: &mut Listing, bid: BidLine) -> Result<(), Refused>
+    ensures { Steps (after_listing block.old (Line.Bid bid)) (held_as.Listing block.old) (held_as.Listing block.new) result }
+{
+    if block.zones.as_slice().is_empty() {
+        return Err(Refused::Order);
+    }
+    if !block.demands.as_slice().is_empty() {
+        return Err(Refused::Order);
+    }
+    if block.bids.as_slice().len() >= 4096 {
+        return Err(Refused::Order);
+    }
+    Ok(push(alloc, &mut block.bids, bid)?)
+}
+
+/// A demand's line in a block before its tree.
+fn list_demand(alloc: Global, block: &mut Listing, place: u32, mw: u32) -> Result<(), Refused>
+    ensures { Steps (after_listing block.old (Line.Demand place mw)) (held_as.Listing block.old) (held_as.Listing block.new) result }
+{
+    if block.zones.as_slice().is_empty() {
+        return Err(Refused::Order);
+    }
+    if u64::from(place) != block.demands.as_slice().len() as u64 + 1 {
+        return Err(Refused::Order);
+    }
+    Ok(push(alloc, &mut block.demands, mw)?)
+}
+
+/// The first line of a block's tree.
+fn open_tree(alloc: Global, block: Listing, count: u32) -> (Held, Result<(), Refused>)
+    ensures { Steps (after_listing block (Line.Tree count)) (held_as.Listing block) result.0 result.1 }
+{
+    if block.zones.as_slice().is_empty() {
+        return (Held::Listing(block), Err(Refused::Order));
+    }
+    let growing = Growing {
+        listing: block,
+        count,
+        tree: empty(alloc),
+        pending: Pending::Nothing,
+    };
+    (Held::Growing(growing), Ok(()))
+}
+
+/// A line of a block before its tree.
+fn after_listed(alloc: Global, block: Listing, line: Line) -> (Held, Result<(), Refused>)
+    ensures { Steps (after_listing block line) (held_as.Listing block) result.0 result.1 }
+{
+    let mut block = block;
+    match line {
+        Line::Zone(zone) => {
+            let step = list_zone(alloc, &mut block, zone);
+            (Held::Listing(block), step)
+        }
+        Line::Border(border) => {
+            let step = list_border(alloc, &mut block, border);
+            (Held::Listing(block), step)
+        }
+        Line::Bid(bid) => {
+            let step = list_bid(alloc, &mut block, bid);
+            (Held::Listing(block), step)
+        }
+        Line::Demand(place, mw) => {
+            let step = list_demand(alloc, &mut block, place, mw);
+            (Held::Listing(block), step)
+        }
+        Line::Tree(count) => open_tree(alloc, block, count),
+        _ => (Held::Listing(block), Err(Refused::Order)),
+    }
+}
+
+/// A line before a block's tree.
+pub fn in_listing(
+    alloc: Global,
+    kept: &mut Kept,
+    block: Listing,
+    line: Line,
+) -> Result<Option<Part>, Refused>
+    ensures { Follows (after kept.old (held_as.Listing block) line) (kept_with kept.old (held_as.Listing block)) kept.new result }
+{
+    let (held, step) = after_listed(alloc, block, line);
+    keep(kept, held, step)
+}

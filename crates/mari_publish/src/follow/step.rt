@@ -1,0 +1,92 @@
+//! What a line comes to: it is refused, or what is held goes on.
+
+ghost use Rattle.std.specs.Prelude.{◌≡◌, ◌∷◌, ◌++◌, [], Option, OnOk, OnErr, IsOk, Ok, Err, MatchResult};
+ghost use Rattle.mari_publish.specs.Order.{keeps, kept_with, Steps, Follows};
+ghost use Rattle.mari_publish.specs.declared.held.Held.{Held as HeldValue};
+
+use crate::held::{Held, Kept};
+use crate::publication::Part;
+use mari_lines::Line;
+use mari_units::{Items, Memory};
+use std::alloc::Global;
+use std::mem;
+
+/// Why a line does not go on.
+#[derive(Clone, Copy, Debug, PartialEq, Eq)]
+pub enum Refused {
+    Order,
+    Memory,
+}
+
+impl From<Memory> for Refused {
+    ghost use Rattle.std.specs.Prelude.{◌≡◌};
+    ghost use Rattle.mari_publish.specs.declared.follow.step.Refused.TheVariants.{Memory as NoMemory};
+
+    ghost from_gives = { λ _ e. e ≡ NoMemory };
+
+    fn from(_: Memory) -> Self {
+        Refused::Memory
+    }
+}
+
+/// Appends an item. Without memory for it the list stays as it is.
+pub fn push<T: Drop>(alloc: Global, items: &mut Items<T>, item: T) -> Result<(), Memory>
+    ensures pushed { OnOk result (items.new ≡ items.old ++ item ∷ []) }
+    ensures same { OnErr result (items.new ≡ items.old) }
+{
+    let mut list = mem::replace(items, empty(alloc)).into_vec();
+    let pushed = list.push(item).is_ok();
+    *items = Items::of(list);
+    if pushed { Ok(()) } else { Err(Memory) }
+}
+
+/// Whether there was memory for an item, as a step's answer.
+pub fn more(pushed: Result<(), Memory>) -> Result<(), Refused>
+    ensures { MatchResult pushed (λ _. IsOk result) (λ _. result ≡ Err Refused.Memory) }
+{
+    Ok(pushed?)
+}
+
+pub fn empty<T>(alloc: Global) -> Items<T>
+    ensures { result ≡ [] }
+{
+    Items::of(Vec::new(alloc))
+}
+
+/// What is held now, with the same counts.
+pub fn keep(kept: &mut Kept, held: Held, step: Result<(), Refused>) -> Result<Option<Part>, Refused>
+    ensures { (expected : Option HeldValue) (old : HeldValue) → Steps expected old held step → Follows (keeps kept.old expected) (kept_with kept.old old) kept.new result }
+{
+    kept.held = held;
+    match step {
+        Ok(()) => Ok(None),
+        Err(refused) => Err(refused),
+    }
+}
+
+/// A line that may not follow: what was held is held again.
+pub fn refuse(kept: &mut Kept, held: Held) -> Result<Option<Part>, Refused>
+    ensures kept { kept.new ≡ kept_with kept.old held }
+    ensures refused { result ≡ Err Refused.Order }
+{
+    kept.held = held;
+    Err(Refused::Order)
+}
+
+/// The same, with the line.
+pub fn refuse_line(kept: &mut Kept, held: Held, line: Line) -> Result<Option<Part>, Refused>
+    ensures kept { kept.new ≡ kept_with kept.old held }
+    ensures refused { result ≡ Err Refused.Order }
+{
+    drop(line);
+    refuse(kept, held)
+}
+
+/// A line that may, and the part that is whole with it.
+pub fn go_on(kept: &mut Kept, held: Held, part: Option<Part>) -> Result<Option<Part>, Refused>
+    ensures kept { kept.new ≡ kept_with kept.old held }
+    ensures part { result ≡ Ok part }
+{
+    kept.held = held;
+    Ok(part)
+}

@@ -1,6 +1,6 @@
 -- What the words and the pages decide is what the outcome is, unless a fetch failed or there was no memory.
 use Rattle.std.proofs.Common.{◌≡◌, ◌∙◌, ◌⊎◌, inl, inr, ℕ, List, Option, Some, None, ap, arith, refl, subst, sym}
-use Rattle.std.specs.Prelude.{◌==◌, ◌≢◌, ◌≤◌, length, Bool, true, false, if◌then◌else◌, Result, Err, ⊤}
+use Rattle.std.specs.Prelude.{◌==◌, ◌≢◌, ◌≤◌, length, take, Bool, true, false, if◌then◌else◌, Result, Err, ⊤}
 use lib.Chars.{codes}
 use Rattle.mari_units.specs.declared.faults.Refusal.{Refusal}
 use Rattle.mari_io.specs.declared.shelf.Fetch.TheVariants as fetch
@@ -19,7 +19,9 @@ use Rattle.mari_day.specs.Files.{Gap}
 use Rattle.mari_day.specs.Files.Gap.{NotHeld, OverLimit}
 use Rattle.mari_day.specs.Reading.{HasBooks, HasGap, HasRefusal}
 use Rattle.mari_day.proofs.Enough.{all-published}
-use Rattle.mari_check.specs.Streams.{IsTextFault}
+use Rattle.mari_check.specs.Streams.{IsTextFault, IsToldFault, IsTooLong}
+use Rattle.mari_check.specs.Streams.IsToldFault.{OfPage as of-page, OfGiven as of-given}
+use Rattle.mari_check.proofs.Piecewise.{no-line-fault, told-first}
 use Rattle.mari_words.specs.Asked.{Asked}
 use Rattle.mari_words.specs.Asked.Asked.{Clear, Check, Migrate}
 use Rattle.mari_words.specs.declared.command.FilePart.{FilePart}
@@ -28,15 +30,15 @@ use Rattle.mari_app.specs.declared.outcome.Outcome.{Outcome}
 use Rattle.mari_app.specs.declared.outcome.Outcome.TheVariants.{NoCommand, Day, Text, Invalid, NoPage, Refused, NoMemory}
 use Rattle.mari_app.specs.declared.status.Status.{Status}
 use Rattle.mari_app.specs.declared.status.Status.TheVariants as status
-use Rattle.mari_app.specs.Commands.{IsAccepted, IsMigratable, IsReadable, LacksFile, ReadsFolder, RefusesFiles, RefusesText, already_two, publication_path, text_refusal}
-use Rattle.mari_app.specs.Commands.LacksFile.{OfBooks as lacks-book, NoPublication as lacks-publication}
+use Rattle.mari_app.specs.Commands.{IsClearable, IsMigratable, IsReadable, LacksPage, ReadsFolder, RefusesFiles, RefusesText, already_two, publication_path, text_refusal}
+use Rattle.mari_app.specs.Commands.LacksPage.{OfBooks as lacks-book, NoPublication as lacks-publication, LongPublication as lacks-long}
 use Rattle.mari_app.specs.Commands.RefusesFiles.{OfBooks as refuses-books, OfVersion as refuses-version}
 use Rattle.mari_app.specs.Headline.{HasBudget}
 use Rattle.mari_app.specs.Outcome.{AsksForText, CheckTells, IsMigrated, IsOfWords, IsSummarised, Reported, Reports, Says, day_status, fetch_of}
 use Rattle.mari_app.specs.Outcome.Reports.{Printed, CutOff, Starved}
 use Rattle.mari_app.specs.Outcome.Says.{OfUsage, OfRefusal, OfGap, OfClear, OfCheck, OfMigrate, OfGenerate, Fails, Starves}
 use Rattle.mari_app.specs.Printing.{file_line, invalid_line, refused_line}
-use Rattle.mari_app.specs.Program.{Is, IsDayStatus, IsVerdictStatus, Or, gap_status}
+use Rattle.mari_app.specs.Program.{IsDayStatus, IsStatus, IsVerdictStatus, OrFault, gap_status}
 use Rattle.mari_app.proofs.Folder.{Gives, Refuses, Lacks, one, reads, reads_no_folder, reads_none}
 
 -- a fetch failed, or there was no memory
@@ -102,6 +104,11 @@ one-fault page f (text_fault.BadOrder n) bad other = same-error page f _ bad (or
 one-fault page f (text_fault.Truncated n) bad other = same-error page f _ bad (truncated_answer page (Err f) (outcome-of page f bad) n other)
 one-fault page f text_fault.Memory bad other = absurd other
 
+-- of a page that is too long no fault is told
+long-none : (page : List ℕ) (f : TextFault) → IsTooLong page → IsToldFault page f → ⊥
+long-none page f long (of-page short bad) = omega (arith, long.longer, short)
+long-none page f long (of-given more bad) = no-line-fault (take MOST_GIVEN page) f long.no_fault bad
+
 module _ (asked : Option Asked) (pages : Pages) where
   -- words that ask to check or to migrate ask for that alone
   asks-one : (x y : Asked) → asked ≡ Some x → asked ≡ Some y → x ≡ y
@@ -164,22 +171,22 @@ module _ (asked : Option Asked) (pages : Pages) where
   checked-comes o folder books (Fails x n y e) c h = inr (subst IsExcused (sym e) tt)
   checked-comes o folder books (Starves e) c h = inr (subst IsExcused (sym e) tt)
 
-  -- the first fault of its text, which isn't longer than may be given
-  text-refused : (o : Outcome) (books : Books) (page : List ℕ) (f : TextFault) → CheckTells books (Some page) o → IsTextFault page f → length page ≤ MOST_GIVEN → Comes (IsRefusal (text_refusal f)) o
-  text-refused NoCommand books page f tells bad short = absurd tells
-  text-refused (Day job) books page f tells bad short = absurd tells
-  text-refused (Text t) books page f (p, read, valid, spelled) bad short = absurd (no-fault page p f read bad)
-  text-refused (Invalid run n) books page f (p, read, more) bad short = absurd (no-fault page p f read bad)
-  text-refused (NoPage n fetch.Failed) books page f tells bad short = inr tt
-  text-refused (NoPage n fetch.Missing) books page f (none, number) bad short = absurd (cc)
-  text-refused (NoPage n fetch.TooLong) books page f (long, number) bad short = absurd (omega (arith, long.longer, short))
-  text-refused (NoPage n fetch.Memory) books page f tells bad short = inr tt
-  text-refused (Refused refusal) books page f (g, other, is) bad short = inl (ap (λ x. Refused x) (is ∙ ap text_refusal (one-fault page g f other bad)))
-  text-refused NoMemory books page f tells bad short = inr tt
+  -- the fault that is told of its text
+  text-refused : (o : Outcome) (books : Books) (page : List ℕ) (f : TextFault) → CheckTells books (Some page) o → IsToldFault page f → Comes (IsRefusal (text_refusal f)) o
+  text-refused NoCommand books page f tells bad = absurd tells
+  text-refused (Day job) books page f tells bad = absurd tells
+  text-refused (Text t) books page f (short, (p, read, valid, spelled)) bad = absurd (no-fault page p f read (told-first page f bad))
+  text-refused (Invalid run n) books page f (short, (p, read, more)) bad = absurd (no-fault page p f read (told-first page f bad))
+  text-refused (NoPage n fetch.Failed) books page f tells bad = inr tt
+  text-refused (NoPage n fetch.Missing) books page f (none, number) bad = absurd (cc)
+  text-refused (NoPage n fetch.TooLong) books page f (long, number) bad = absurd (long-none page f long bad)
+  text-refused (NoPage n fetch.Memory) books page f tells bad = inr tt
+  text-refused (Refused refusal) books page f (g, other, is) bad = inl (ap (λ x. Refused x) (is ∙ ap text_refusal (one-fault page g f (told-first page g other) (told-first page f bad))))
+  text-refused NoMemory books page f tells bad = inr tt
 
-  text-comes : (o : Outcome) (page : List ℕ) (f : TextFault) → Says asked pages o → RefusesText asked pages page f → length page ≤ MOST_GIVEN → Comes (IsRefusal (text_refusal f)) o
-  text-comes o page f s r short = elim (checked-comes o r.checked.folder r.books s r.checked.check r.checked.gives)
-      [ inl tells ↦ (let P : Option (List ℕ) → Type 0 = λ x. CheckTells r.books x o in text-refused o r.books page f (subst P r.checked.held tells) r.first short) | inr e ↦ inr e ]
+  text-comes : (o : Outcome) (page : List ℕ) (f : TextFault) → Says asked pages o → RefusesText asked pages page f → Comes (IsRefusal (text_refusal f)) o
+  text-comes o page f s r = elim (checked-comes o r.checked.folder r.books s r.checked.check r.checked.gives)
+      [ inl tells ↦ (let P : Option (List ℕ) → Type 0 = λ x. CheckTells r.books x o in text-refused o r.books page f (subst P r.checked.held tells) r.told) | inr e ↦ inr e ]
 
   gap-of-books : (o : Outcome) (folder : List ℕ) (number : ℕ) (gap : Gap) → Says asked pages o → ReadsFolder asked folder → HasGap pages folder number gap → Comes (IsGapOf gap) o
   gap-of-books o folder number gap (OfUsage e f) r h = absurd (reads_none asked folder e r)
@@ -204,10 +211,24 @@ module _ (asked : Option Asked) (pages : Pages) where
   not-held (Refused refusal) books tells = absurd tells
   not-held NoMemory books tells = inr tt
 
-  gap-comes : (o : Outcome) (number : ℕ) (gap : Gap) → Says asked pages o → LacksFile asked pages number gap → Comes (IsGapOf gap) o
+  too-long : (o : Outcome) (books : Books) (page : List ℕ) → CheckTells books (Some page) o → IsTooLong page → Comes (IsGapOf OverLimit) o
+  too-long NoCommand books page tells long = absurd tells
+  too-long (Day job) books page tells long = absurd tells
+  too-long (Text t) books page (short, (p, read, valid, spelled)) long = absurd (omega (arith, long.longer, short))
+  too-long (Invalid run n) books page (short, (p, read, more)) long = absurd (omega (arith, long.longer, short))
+  too-long (NoPage n fetch.Failed) books page tells long = inr tt
+  too-long (NoPage n fetch.Missing) books page (none, number) long = absurd (cc)
+  too-long (NoPage n fetch.TooLong) books page tells long = inl (n, refl)
+  too-long (NoPage n fetch.Memory) books page tells long = inr tt
+  too-long (Refused refusal) books page (f, bad, is) long = absurd (long-none page f long bad)
+  too-long NoMemory books page tells long = inr tt
+
+  gap-comes : (o : Outcome) (number : ℕ) (gap : Gap) → Says asked pages o → LacksPage asked pages number gap → Comes (IsGapOf gap) o
   gap-comes o number gap s (lacks-book folder r h) = gap-of-books o folder number gap s r h
   gap-comes o number gap s (lacks-publication folder books c h none n is) = elim (checked-comes o folder books s c h)
       [ inl tells ↦ (let P : Option (List ℕ) → Type 0 = λ x. CheckTells books x o in let Q : Gap → Type 0 = λ x. Comes (IsGapOf x) o in subst Q (sym is) (not-held o books (subst P none tells))) | inr e ↦ inr e ]
+  gap-comes o number gap s (lacks-long books page has long n is) = elim (checked-comes o has.folder books s has.check has.gives)
+      [ inl tells ↦ (let P : Option (List ℕ) → Type 0 = λ x. CheckTells books x o in let Q : Gap → Type 0 = λ x. Comes (IsGapOf x) o in subst Q (sym is) (too-long o books page (subst P has.held tells) long)) | inr e ↦ inr e ]
 
   -- a publication that is read
   verdict-of : (o : Outcome) (books : Books) (page : List ℕ) (p : Publication) → CheckTells books (Some page) o → IsText page p → length page ≤ MOST_GIVEN → Comes IsAVerdict o
@@ -219,7 +240,7 @@ module _ (asked : Option Asked) (pages : Pages) where
   verdict-of (NoPage n fetch.Missing) books page p (none, number) is short = absurd (cc)
   verdict-of (NoPage n fetch.TooLong) books page p (long, number) is short = absurd (omega (arith, long.longer, short))
   verdict-of (NoPage n fetch.Memory) books page p tells is short = inr tt
-  verdict-of (Refused refusal) books page p (f, bad, same) is short = absurd (no-fault page p f is bad)
+  verdict-of (Refused refusal) books page p (f, bad, same) is short = absurd (no-fault page p f is (told-first page f bad))
   verdict-of NoMemory books page p tells is short = inr tt
 
   verdict-comes : (o : Outcome) → Says asked pages o → IsReadable asked pages → Comes IsAVerdict o
@@ -267,12 +288,12 @@ module _ (asked : Option Asked) (pages : Pages) where
 -- ---- and so is the answer
 
 module _ (before after : Option (List ℕ)) (result : Status) where
-  of-line : (Q : Status → Type 0) (text : List ℕ) (wanted : Status) → Reports text wanted before after result → Or Q wanted → Or Q result
-  of-line Q text wanted (Printed e p) h = let P : Status → Type 0 = λ x. Or Q x in subst P (sym e) h
+  of-line : (Q : Status → Type 0) (text : List ℕ) (wanted : Status) → Reports text wanted before after result → OrFault Q wanted → OrFault Q result
+  of-line Q text wanted (Printed e p) h = let P : Status → Type 0 = λ x. OrFault Q x in subst P (sym e) h
   of-line Q text wanted (CutOff e n p) h = inr (inr (inl e))
   of-line Q text wanted (Starved e p) h = inr (inr (inr e))
 
-  excused : (Q : Status → Type 0) (o : Outcome) → IsExcused o → Reported o before after result → Or Q result
+  excused : (Q : Status → Type 0) (o : Outcome) → IsExcused o → Reported o before after result → OrFault Q result
   excused Q NoCommand x r = absurd x
   excused Q (Day job) x r = absurd x
   excused Q (Text t) x r = absurd x
@@ -287,32 +308,32 @@ module _ (before after : Option (List ℕ)) (result : Status) where
   same-report : (o p : Outcome) → o ≡ p → Reported o before after result → Reported p before after result
   same-report o p e r = let P : Outcome → Type 0 = λ x. Reported x before after result in subst P e r
 
-  refused-answer : (o : Outcome) (refusal : Refusal) → Comes (IsRefusal refusal) o → Reported o before after result → Or (Is (status.Refused refusal)) result
-  refused-answer o refusal (inl e) r = of-line (Is (status.Refused refusal)) (refused_line refusal) (status.Refused refusal) (same-report o (Refused refusal) e r) (inl refl)
-  refused-answer o refusal (inr x) r = excused (Is (status.Refused refusal)) o x r
+  refused-answer : (o : Outcome) (refusal : Refusal) → Comes (IsRefusal refusal) o → Reported o before after result → OrFault (IsStatus (status.Refused refusal)) result
+  refused-answer o refusal (inl e) r = of-line (IsStatus (status.Refused refusal)) (refused_line refusal) (status.Refused refusal) (same-report o (Refused refusal) e r) (inl refl)
+  refused-answer o refusal (inr x) r = excused (IsStatus (status.Refused refusal)) o x r
 
-  gap-report : (k : ℕ) (gap : Gap) → Reported (NoPage k (fetch_of gap)) before after result → Or (Is (gap_status gap)) result
-  gap-report k NotHeld r = of-line (Is status.Missing) (file_line (codes "missing") k) status.Missing r (inl refl)
-  gap-report k OverLimit r = of-line (Is status.TooLong) (file_line (codes "toolong") k) status.TooLong r (inl refl)
+  gap-report : (k : ℕ) (gap : Gap) → Reported (NoPage k (fetch_of gap)) before after result → OrFault (IsStatus (gap_status gap)) result
+  gap-report k NotHeld r = of-line (IsStatus status.Missing) (file_line (codes "missing") k) status.Missing r (inl refl)
+  gap-report k OverLimit r = of-line (IsStatus status.TooLong) (file_line (codes "toolong") k) status.TooLong r (inl refl)
 
-  gap-of-answer : (o : Outcome) (gap : Gap) → Comes (IsGapOf gap) o → Reported o before after result → Or (Is (gap_status gap)) result
+  gap-of-answer : (o : Outcome) (gap : Gap) → Comes (IsGapOf gap) o → Reported o before after result → OrFault (IsStatus (gap_status gap)) result
   gap-of-answer o gap (inl (k, e)) r = gap-report k gap (same-report o (NoPage k (fetch_of gap)) e r)
-  gap-of-answer o gap (inr x) r = excused (Is (gap_status gap)) o x r
+  gap-of-answer o gap (inr x) r = excused (IsStatus (gap_status gap)) o x r
 
-  text-report : (o : Outcome) → IsAText o → Reported o before after result → Or (Is status.Done) result
+  text-report : (o : Outcome) → IsAText o → Reported o before after result → OrFault (IsStatus status.Done) result
   text-report NoCommand x r = absurd x
   text-report (Day job) x r = absurd x
-  text-report (Text t) x r = of-line (Is status.Done) t.items status.Done r (inl refl)
+  text-report (Text t) x r = of-line (IsStatus status.Done) t.items status.Done r (inl refl)
   text-report (Invalid run n) x r = absurd x
   text-report (NoPage k why) x r = absurd x
   text-report (Refused refusal) x r = absurd x
   text-report NoMemory x r = absurd x
 
-  text-of-answer : (o : Outcome) → Comes IsAText o → Reported o before after result → Or (Is status.Done) result
+  text-of-answer : (o : Outcome) → Comes IsAText o → Reported o before after result → OrFault (IsStatus status.Done) result
   text-of-answer o (inl x) r = text-report o x r
-  text-of-answer o (inr x) r = excused (Is status.Done) o x r
+  text-of-answer o (inr x) r = excused (IsStatus status.Done) o x r
 
-  verdict-report : (o : Outcome) → IsAVerdict o → Reported o before after result → Or IsVerdictStatus result
+  verdict-report : (o : Outcome) → IsAVerdict o → Reported o before after result → OrFault IsVerdictStatus result
   verdict-report NoCommand x r = absurd x
   verdict-report (Day job) x r = absurd x
   verdict-report (Text t) x r = of-line IsVerdictStatus t.items status.Done r (inl (inl refl))
@@ -321,25 +342,25 @@ module _ (before after : Option (List ℕ)) (result : Status) where
   verdict-report (Refused refusal) x r = absurd x
   verdict-report NoMemory x r = absurd x
 
-  verdict-of-answer : (o : Outcome) → Comes IsAVerdict o → Reported o before after result → Or IsVerdictStatus result
+  verdict-of-answer : (o : Outcome) → Comes IsAVerdict o → Reported o before after result → OrFault IsVerdictStatus result
   verdict-of-answer o (inl x) r = verdict-report o x r
   verdict-of-answer o (inr x) r = excused IsVerdictStatus o x r
 
-  day-end : (unpublished : Bool) → Or IsDayStatus (if unpublished then status.Done else status.Unpublished)
+  day-end : (unpublished : Bool) → OrFault IsDayStatus (if unpublished then status.Done else status.Unpublished)
   day-end true = inl (inl refl)
   day-end false = inl (inr refl)
 
-  ended : (e : DayEnd) → Or IsDayStatus (day_status e)
+  ended : (e : DayEnd) → OrFault IsDayStatus (day_status e)
   ended (end.Done published unpublished) = day-end (unpublished == 0)
   ended end.WriteFault = inr (inr (inl refl))
   ended end.Memory = inr (inr (inr refl))
 
-  day-of-answer : (o : Outcome) (books : Books) (nodes : ℕ) → Comes (IsDayOf books nodes) o → Reported o before after result → Or IsDayStatus result
-  day-of-answer o books nodes (inl (job, e, b, n)) r = let d = same-report o (Day job) e r in let P : Status → Type 0 = λ x. Or IsDayStatus x in subst P (sym d.status) (ended d.ended)
+  day-of-answer : (o : Outcome) (books : Books) (nodes : ℕ) → Comes (IsDayOf books nodes) o → Reported o before after result → OrFault IsDayStatus result
+  day-of-answer o books nodes (inl (job, e, b, n)) r = let d = same-report o (Day job) e r in let P : Status → Type 0 = λ x. OrFault IsDayStatus x in subst P (sym d.status) (ended d.ended)
   day-of-answer o books nodes (inr x) r = excused IsDayStatus o x r
 
   -- within a budget that holds each run's search tree every run is published
-  whole-end : (e : DayEnd) (books : Books) (nodes : ℕ) → EndsDay books nodes before after e → HasEnough books nodes → Or (Is status.Done) (day_status e)
+  whole-end : (e : DayEnd) (books : Books) (nodes : ℕ) → EndsDay books nodes before after e → HasEnough books nodes → OrFault (IsStatus status.Done) (day_status e)
   whole-end (end.Done published unpublished) books nodes w enough =
       let all = all-published books nodes w.publication w.day enough in
       let none : unpublished ≡ 0 = w.others ∙ all in
@@ -347,35 +368,35 @@ module _ (before after : Option (List ℕ)) (result : Status) where
   whole-end end.WriteFault books nodes w enough = inr (inr (inl refl))
   whole-end end.Memory books nodes w enough = inr (inr (inr refl))
 
-  whole-answer : (o : Outcome) (books : Books) (nodes : ℕ) → HasEnough books nodes → Comes (IsDayOf books nodes) o → Reported o before after result → Or (Is status.Done) result
+  whole-answer : (o : Outcome) (books : Books) (nodes : ℕ) → HasEnough books nodes → Comes (IsDayOf books nodes) o → Reported o before after result → OrFault (IsStatus status.Done) result
   whole-answer o books nodes enough (inl (job, e, b, n)) r =
       let d = same-report o (Day job) e r in
       let B : Books → Type 0 = λ x. HasEnough x job.nodes in
       let N : ℕ → Type 0 = λ x. HasEnough books x in
-      let P : Status → Type 0 = λ x. Or (Is status.Done) x in
+      let P : Status → Type 0 = λ x. OrFault (IsStatus status.Done) x in
       subst P (sym d.status) (whole-end d.ended job.books job.nodes d.ends (subst B (sym b) (subst N (sym n) enough)))
-  whole-answer o books nodes enough (inr x) r = excused (Is status.Done) o x r
+  whole-answer o books nodes enough (inr x) r = excused (IsStatus status.Done) o x r
 
   module _ (asked : Option Asked) (pages : Pages) (o : Outcome) (words : IsOfWords asked o) (says : Says asked pages o) (reported : Reported o before after result) where
-    pub refuses-answer : (refusal : Refusal) → RefusesFiles asked pages refusal → Or (Is (status.Refused refusal)) result
+    pub refuses-answer : (refusal : Refusal) → RefusesFiles asked pages refusal → OrFault (IsStatus (status.Refused refusal)) result
     refuses-answer refusal h = refused-answer o refusal (refusal-comes asked pages o refusal words says h) reported
 
-    pub refuses-text-answer : (page : List ℕ) (f : TextFault) → RefusesText asked pages page f → length page ≤ MOST_GIVEN → Or (Is (status.Refused (text_refusal f))) result
-    refuses-text-answer page f h short = refused-answer o (text_refusal f) (text-comes asked pages o page f says h short) reported
+    pub refuses-text-answer : (page : List ℕ) (f : TextFault) → RefusesText asked pages page f → OrFault (IsStatus (status.Refused (text_refusal f))) result
+    refuses-text-answer page f h = refused-answer o (text_refusal f) (text-comes asked pages o page f says h) reported
 
-    pub gap-answer : (number : ℕ) (gap : Gap) → LacksFile asked pages number gap → Or (Is (gap_status gap)) result
+    pub gap-answer : (number : ℕ) (gap : Gap) → LacksPage asked pages number gap → OrFault (IsStatus (gap_status gap)) result
     gap-answer number gap h = gap-of-answer o gap (gap-comes asked pages o number gap says h) reported
 
-    pub cleared-answer : IsAccepted asked pages → Or IsDayStatus result
+    pub cleared-answer : IsClearable asked pages → OrFault IsDayStatus result
     cleared-answer h = day-of-answer o h.books h.nodes (day-comes asked pages o h.folder h.nodes h.workers h.books says h.clear h.gives) reported
 
-    pub complete-answer : HasBudget asked pages → Or (Is status.Done) result
+    pub complete-answer : HasBudget asked pages → OrFault (IsStatus status.Done) result
     complete-answer h = whole-answer o h.books h.nodes h.enough (day-comes asked pages o h.folder h.nodes h.workers h.books says h.clear h.gives) reported
 
-    pub checked-answer : IsReadable asked pages → Or IsVerdictStatus result
+    pub checked-answer : IsReadable asked pages → OrFault IsVerdictStatus result
     checked-answer h = verdict-of-answer o (verdict-comes asked pages o says h) reported
 
-    pub migrated-answer : IsMigratable asked pages → Or (Is status.Done) result
+    pub migrated-answer : IsMigratable asked pages → OrFault (IsStatus status.Done) result
     migrated-answer h = text-of-answer o (migrated-comes asked pages o says h) reported
 
   -- words that are no command

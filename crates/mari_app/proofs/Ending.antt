@@ -1,11 +1,14 @@
 -- What each answer says, by the outcome that is reported.
 use Rattle.std.proofs.Common.{◌≡◌, ◌∙◌, inl, inr, ℕ, List, Option, Some, None, ap, refl, subst, sym}
 use Rattle.std.specs.Global.{Vec}
-use Rattle.std.specs.Prelude.{◌==◌, Bool, true, false, if◌then◌else◌}
+use Rattle.std.specs.Prelude.{◌==◌, ◌≤◌, Bool, true, false, if◌then◌else◌, length}
 use lib.Chars.{codes}
 use Rattle.mari_units.specs.declared.faults.Refusal.{Refusal}
 use Rattle.mari_io.specs.declared.shelf.Fetch.TheVariants as fetch
+use Rattle.mari_io.specs.declared.shelf.TheConstants.{MOST_GIVEN}
 use Rattle.mari_io.specs.Outside.{Pages, page_of}
+use Rattle.mari_publish.specs.declared.publication.Publication.{Publication}
+use Rattle.mari_publish.specs.Faults.{IsText}
 use Rattle.mari_publish.specs.Texts.{text_of}
 use Rattle.mari_remain.specs.declared.books.Books.{Books}
 use Rattle.mari_day.specs.Day.{EndsDay, WroteDay}
@@ -23,11 +26,10 @@ use Rattle.mari_app.specs.declared.outcome.Outcome.{Outcome}
 use Rattle.mari_app.specs.declared.outcome.Outcome.TheVariants.{NoCommand, Day, Text, Invalid, NoPage, Refused, NoMemory}
 use Rattle.mari_app.specs.declared.status.Status.{Status}
 use Rattle.mari_app.specs.declared.status.Status.TheVariants as status
-use Rattle.mari_app.specs.Commands.{HasPublication, IsInvalid, IsRefused, LacksPage, Prints, ReadsFolder, publication_path}
+use Rattle.mari_app.specs.Commands.{HasPublication, IsInvalid, IsReadable, IsRefused, LacksPage, Prints, ReadsFolder, publication_path}
 use Rattle.mari_app.specs.Commands.IsRefused.{OfFiles as refused-files, OfText as refused-text}
 use Rattle.mari_app.specs.Commands.RefusesFiles.{OfBooks as refuses-books, OfVersion as refuses-version}
-use Rattle.mari_app.specs.Commands.LacksFile.{OfBooks as lacks-book, NoPublication as lacks-publication}
-use Rattle.mari_app.specs.Commands.LacksPage.{OfFile as lacks-file, LongPublication as lacks-long}
+use Rattle.mari_app.specs.Commands.LacksPage.{OfBooks as lacks-book, NoPublication as lacks-publication, LongPublication as lacks-long}
 use Rattle.mari_app.specs.Commands.Prints.{Valid as prints-valid, Migrated as prints-migrated, Generated as prints-generated}
 use Rattle.mari_app.specs.Headline.{WroteDay as WroteDayOf}
 use Rattle.mari_app.specs.Outcome.{AsksForText, CheckTells, IsNoPage, IsOfWords, IsReady, IsReportable, Reported, Reports, ReportsDay, Says, day_status, fetch_of}
@@ -47,11 +49,15 @@ module _ (asked : Option Asked) where
   publication : (pages : Pages) (folder : List ℕ) (books : Books) (page : List ℕ) → asked ≡ Some (Check folder) → HasBooks pages folder books → page_of pages (publication_path folder) ≡ Some page → HasPublication asked pages books page
   publication pages folder books page c g h = record { folder = folder; check = c; gives = g; held = h }
 
+  abbrev readable : (pages : Pages) (folder : List ℕ) (books : Books) (page : List ℕ) (p : Publication) → asked ≡ Some (Check folder) → HasBooks pages folder books → page_of pages (publication_path folder) ≡ Some page → length page ≤ MOST_GIVEN → IsText page p
+      → IsReadable asked pages
+  readable pages folder books page p c g h short read = record { books = books; page = page; publication = p; checked = publication pages folder books page c g h; short = short; read = read }
+
   -- a text that is printed where all is well
   checked-text : (pages : Pages) (folder : List ℕ) (books : Books) (t : Vec ℕ) (page : Option (List ℕ)) → asked ≡ Some (Check folder) → HasBooks pages folder books → page_of pages (publication_path folder) ≡ page
       → CheckTells books page (Text t) → Prints asked pages t.items
   checked-text pages folder books t None c g h tells = absurd tells
-  checked-text pages folder books t (Some page) c g h (p, read, valid, spelled) = prints-valid books page p (publication pages folder books page c g h) read valid spelled
+  checked-text pages folder books t (Some page) c g h (short, (p, read, valid, spelled)) = prints-valid (readable pages folder books page p c g h short read) valid spelled
 
   text-prints : (pages : Pages) (t : Vec ℕ) → Says asked pages (Text t) → Prints asked pages t.items
   text-prints pages t (OfUsage e f) = absurd (cc)
@@ -68,7 +74,7 @@ module _ (asked : Option Asked) where
   checked-invalid : (pages : Pages) (folder : List ℕ) (books : Books) (run number : ℕ) (page : Option (List ℕ)) → asked ≡ Some (Check folder) → HasBooks pages folder books → page_of pages (publication_path folder) ≡ page
       → CheckTells books page (Invalid run number) → IsInvalid asked pages run number
   checked-invalid pages folder books run number None c g h tells = absurd tells
-  checked-invalid pages folder books run number (Some page) c g h (p, read, first) = record { books = books; page = page; publication = p; checked = publication pages folder books page c g h; read = read; first = first }
+  checked-invalid pages folder books run number (Some page) c g h (short, (p, read, first)) = record { is_read = readable pages folder books page p c g h short read; first = first }
 
   invalid-is : (pages : Pages) (run number : ℕ) → Says asked pages (Invalid run number) → IsInvalid asked pages run number
   invalid-is pages run number (OfUsage e f) = absurd (cc)
@@ -85,7 +91,7 @@ module _ (asked : Option Asked) where
   checked-refused : (pages : Pages) (folder : List ℕ) (books : Books) (refusal : Refusal) (page : Option (List ℕ)) → asked ≡ Some (Check folder) → HasBooks pages folder books → page_of pages (publication_path folder) ≡ page
       → CheckTells books page (Refused refusal) → IsRefused asked pages refusal
   checked-refused pages folder books refusal None c g h tells = absurd tells
-  checked-refused pages folder books refusal (Some page) c g h (f, first, is) = refused-text page f (record { books = books; checked = publication pages folder books page c g h; first = first }) is
+  checked-refused pages folder books refusal (Some page) c g h (f, told, is) = refused-text page f (record { books = books; checked = publication pages folder books page c g h; told = told }) is
 
   refused-is : (pages : Pages) (refusal : Refusal) → Says asked pages (Refused refusal) → IsRefused asked pages refusal
   refused-is pages refusal (OfUsage e f) = absurd (cc)
@@ -106,11 +112,11 @@ module _ (asked : Option Asked) where
   gap-is pages folder n k NotHeld NotHeld r has same f =
       let number : n ≡ k = cc in
       let P : ℕ → Type 0 = λ x. LacksPage asked pages x NotHeld in
-      subst P number (lacks-file (lacks-book folder r has))
+      subst P number (lacks-book folder r has)
   gap-is pages folder n k OverLimit OverLimit r has same f =
       let number : n ≡ k = cc in
       let P : ℕ → Type 0 = λ x. LacksPage asked pages x OverLimit in
-      subst P number (lacks-file (lacks-book folder r has))
+      subst P number (lacks-book folder r has)
   gap-is pages folder n k NotHeld OverLimit r has same f = absurd (cc)
   gap-is pages folder n k OverLimit NotHeld r has same f = absurd (cc)
 
@@ -124,7 +130,7 @@ module _ (asked : Option Asked) where
   missing-is pages k (OfRefusal folder r reads h f) = absurd (cc)
   missing-is pages k (OfGap folder n g r h f) = gap-is pages folder n k g NotHeld r h f (cc)
   missing-is pages k (OfClear folder job e h f) = absurd (cc)
-  missing-is pages k (OfCheck folder books e h (none, number)) = lacks-file (lacks-publication folder books e h none number refl)
+  missing-is pages k (OfCheck folder books e h (none, number)) = lacks-publication folder books e h none number refl
   missing-is pages k (OfMigrate folder part books e h bad) = absurd bad
   missing-is pages k (OfGenerate n e bad) = absurd bad
   missing-is pages k (Fails x n y f) = absurd (cc)

@@ -14,6 +14,7 @@ use Rattle.mari_check.specs.Streams.{StreamTells}
 use Rattle.mari_check.specs.declared.stream.StreamFault.TheVariants as stream
 use Rattle.mari_check.specs.declared.verdict.Verdict.{Verdict}
 use Rattle.mari_check.specs.declared.verdict.Verdict.TheVariants as verdict
+use Rattle.mari_check.proofs.Piecewise.{told-first}
 use Rattle.mari_words.specs.Asked.{Asked}
 use Rattle.mari_words.specs.Asked.Asked.{Check, Generate, Migrate}
 use Rattle.mari_words.specs.declared.command.FilePart.{FilePart}
@@ -36,7 +37,7 @@ pub checked-verdict : (books : Books) (page : Option (List ℕ)) (v : Verdict) (
 checked-verdict books None v o tells is = absurd tells
 checked-verdict books (Some page) (verdict.Valid p u) NoCommand tells is = absurd is
 checked-verdict books (Some page) (verdict.Valid p u) (Day job) tells is = absurd is
-checked-verdict books (Some page) (verdict.Valid p u) (Text t) (q, read, (valid, published, unpublished)) is = (q, read, valid, rw (is, published, unpublished) refl)
+checked-verdict books (Some page) (verdict.Valid p u) (Text t) (short, (q, read, (valid, published, unpublished))) is = (short, (q, read, valid, rw (is, published, unpublished) refl))
 checked-verdict books (Some page) (verdict.Valid p u) (Invalid run n) tells is = absurd is
 checked-verdict books (Some page) (verdict.Valid p u) (NoPage n w) tells is = absurd is
 checked-verdict books (Some page) (verdict.Valid p u) (Refused r) tells is = absurd is
@@ -44,7 +45,7 @@ checked-verdict books (Some page) (verdict.Valid p u) NoMemory tells is = tt
 checked-verdict books (Some page) (verdict.Invalid run f) NoCommand tells is = absurd is
 checked-verdict books (Some page) (verdict.Invalid run f) (Day job) tells is = absurd is
 checked-verdict books (Some page) (verdict.Invalid run f) (Text t) tells is = absurd is
-checked-verdict books (Some page) (verdict.Invalid run f) (Invalid r n) (q, read, first) (run-is, fault-is) = (q, read, rw (run-is, fault-is) first)
+checked-verdict books (Some page) (verdict.Invalid run f) (Invalid r n) (short, (q, read, first)) (run-is, fault-is) = (short, (q, read, rw (run-is, fault-is) first))
 checked-verdict books (Some page) (verdict.Invalid run f) (NoPage n w) tells is = absurd is
 checked-verdict books (Some page) (verdict.Invalid run f) (Refused r) tells is = absurd is
 checked-verdict books (Some page) (verdict.Invalid run f) NoMemory tells is = absurd is
@@ -55,7 +56,7 @@ checked-text books None f tells = absurd tells
 checked-text books (Some page) (text_fault.BadLine n) tells = (text_fault.BadLine n, tells, refl)
 checked-text books (Some page) (text_fault.BadOrder n) tells = (text_fault.BadOrder n, tells, refl)
 checked-text books (Some page) (text_fault.Truncated n) tells = (text_fault.Truncated n, tells, refl)
-checked-text books (Some page) text_fault.Memory tells = absurd tells
+checked-text books (Some page) text_fault.Memory tells = absurd (told-first page text_fault.Memory tells)
 
 -- what the words ask for, by the outcome
 pub words-of-fault : (asked : Option Asked) (folder : List ℕ) (fault : BooksFault) → ReadsFolder asked folder → IsOfWords asked (no_books fault)

@@ -15,7 +15,7 @@ use Rattle.mari_day.specs.Files.{Gap}
 use Rattle.mari_day.specs.Files.Gap.{NotHeld, OverLimit}
 use Rattle.mari_day.specs.Reading.{HasBooks, HasGap, HasRefusal}
 use Rattle.mari_check.specs.Day.{IsFirstFault, IsValidPublication}
-use Rattle.mari_check.specs.Streams.{IsTextFault, IsTooLong}
+use Rattle.mari_check.specs.Streams.{IsToldFault, IsTooLong}
 use Rattle.mari_words.specs.Asked.{Asked}
 use Rattle.mari_words.specs.Asked.Asked.{Clear, Check, Generate, Migrate}
 use Rattle.mari_words.specs.declared.command.FilePart.{FilePart}
@@ -49,6 +49,15 @@ pub record HasPublication (asked : Option Asked) (pages : Pages) (books : Books)
   pub gives : HasBooks pages folder books
   pub held : page_of pages (publication_path folder) ≡ Some page
 
+-- the publication that is checked is read: its page may be given whole, and is the text of this one
+pub record IsReadable (asked : Option Asked) (pages : Pages) : Type 0 where
+  pub books : Books
+  pub page : List ℕ
+  pub publication : Publication
+  pub checked : HasPublication asked pages books page
+  pub short : length page ≤ MOST_GIVEN
+  pub read : IsText page publication
+
 -- the publication is refused at a line, by the number of a check
 abbrev pub text_refusal_at : (line number : ℕ) → Refusal
 text_refusal_at line number = record { file = publication_number; line = line; number = number }
@@ -70,11 +79,11 @@ pub data RefusesFiles (asked : Option Asked) (pages : Pages) (refusal : Refusal)
   OfVersion : (folder : List ℕ) (part : FilePart) (books : Books) → asked ≡ Some (Migrate folder part) → HasBooks pages folder books
       → books.limits ≢ None → refusal ≡ already_two → RefusesFiles asked pages refusal
 
--- the text of the publication that is checked has a first fault
+-- the text of the publication that is checked has a fault, which is told
 pub record RefusesText (asked : Option Asked) (pages : Pages) (page : List ℕ) (fault : TextFault) : Type 0 where
   pub books : Books
   pub checked : HasPublication asked pages books page
-  pub first : IsTextFault page fault
+  pub told : IsToldFault page fault
 
 -- what is refused: the market files, or the text of the publication
 pub data IsRefused (asked : Option Asked) (pages : Pages) (refusal : Refusal) : Type 0 where
@@ -82,15 +91,11 @@ pub data IsRefused (asked : Option Asked) (pages : Pages) (refusal : Refusal) : 
   OfText : (page : List ℕ) (fault : TextFault) → RefusesText asked pages page fault → refusal ≡ text_refusal fault → IsRefused asked pages refusal
 
 -- the first file whose page can't be had, by its number, and why: a market file of the folder; or the publication that is checked, which
--- isn't held
-pub data LacksFile (asked : Option Asked) (pages : Pages) (file : ℕ) (gap : Gap) : Type 0 where
-  OfBooks : (folder : List ℕ) → ReadsFolder asked folder → HasGap pages folder file gap → LacksFile asked pages file gap
-  NoPublication : (folder : List ℕ) (books : Books) → asked ≡ Some (Check folder) → HasBooks pages folder books → page_of pages (publication_path folder) ≡ None
-      → file ≡ publication_number → gap ≡ NotHeld → LacksFile asked pages file gap
-
--- a page that can't be had; of the publication that is checked also one that is longer than may be given in pieces
+-- isn't held, or is longer than may be given in pieces
 pub data LacksPage (asked : Option Asked) (pages : Pages) (file : ℕ) (gap : Gap) : Type 0 where
-  OfFile : LacksFile asked pages file gap → LacksPage asked pages file gap
+  OfBooks : (folder : List ℕ) → ReadsFolder asked folder → HasGap pages folder file gap → LacksPage asked pages file gap
+  NoPublication : (folder : List ℕ) (books : Books) → asked ≡ Some (Check folder) → HasBooks pages folder books → page_of pages (publication_path folder) ≡ None
+      → file ≡ publication_number → gap ≡ NotHeld → LacksPage asked pages file gap
   LongPublication : (books : Books) (page : List ℕ) → HasPublication asked pages books page → IsTooLong page → file ≡ publication_number → gap ≡ OverLimit → LacksPage asked pages file gap
 
 -- the new form of a file
@@ -101,38 +106,25 @@ page_of_part Limits books = limits_page books
 -- a text that is printed whole, where all is well: that the publication that is checked is valid, with the numbers of its published and
 -- of its other blocks; the new form of a file of a folder whose borders state their limits; or the summary of a generated day
 pub data Prints (asked : Option Asked) (pages : Pages) (text : List ℕ) : Type 0 where
-  Valid : (books : Books) (page : List ℕ) (p : Publication) → HasPublication asked pages books page → IsText page p → IsValidPublication books p
-      → text ≡ valid_line (published_in p.blocks) (unpublished_in p.blocks) → Prints asked pages text
+  Valid : (is : IsReadable asked pages) → IsValidPublication is.books is.publication
+      → text ≡ valid_line (published_in is.publication.blocks) (unpublished_in is.publication.blocks) → Prints asked pages text
   Migrated : (folder : List ℕ) (part : FilePart) (books : Books) → asked ≡ Some (Migrate folder part) → HasBooks pages folder books → books.limits ≡ None
       → text ≡ page_of_part part books → Prints asked pages text
   Generated : (number : ℕ) → asked ≡ Some (Generate number) → IsGenerated number text → Prints asked pages text
 
 -- the publication that is checked has a fault: the first run that has one, and its least
 pub record IsInvalid (asked : Option Asked) (pages : Pages) (run fault : ℕ) : Type 0 where
-  pub books : Books
-  pub page : List ℕ
-  pub publication : Publication
-  pub checked : HasPublication asked pages books page
-  pub read : IsText page publication
-  pub first : IsFirstFault books publication run fault
+  pub is_read : IsReadable asked pages
+  pub first : IsFirstFault is_read.books is_read.publication run fault
 
 -- the folder's pages give books that may be cleared within this budget of nodes
-pub record IsAccepted (asked : Option Asked) (pages : Pages) : Type 0 where
+pub record IsClearable (asked : Option Asked) (pages : Pages) : Type 0 where
   pub folder : List ℕ
   pub nodes : ℕ
   pub workers : ℕ
   pub clear : asked ≡ Some (Clear folder nodes workers)
   pub books : Books
   pub gives : HasBooks pages folder books
-
--- the publication that is checked is read
-pub record IsReadable (asked : Option Asked) (pages : Pages) : Type 0 where
-  pub books : Books
-  pub page : List ℕ
-  pub publication : Publication
-  pub checked : HasPublication asked pages books page
-  pub short : length page ≤ MOST_GIVEN
-  pub read : IsText page publication
 
 -- the folder that is migrated has borders that state their limits
 pub record IsMigratable (asked : Option Asked) (pages : Pages) : Type 0 where

@@ -1,14 +1,15 @@
 -- What the words and the pages come to, and how it is reported.
-use Rattle.std.specs.Prelude.{ℕ, ◌≡◌, ◌≢◌, ◌≤◌, ◌==◌, if◌then◌else◌, List, Option, Some, None, Result, Ok, Err, take, ⊤}
+use Rattle.std.specs.Prelude.{ℕ, ◌≡◌, ◌≢◌, ◌≤◌, ◌==◌, if◌then◌else◌, List, length, Option, Some, None, Result, Ok, Err, take, ⊤}
 use lib.Chars.{codes}
 use Rattle.mari_io.specs.declared.shelf.Fetch.{Fetch}
 use Rattle.mari_io.specs.declared.shelf.Fetch.TheVariants as fetch
+use Rattle.mari_io.specs.declared.shelf.TheConstants.{MOST_GIVEN}
 use Rattle.mari_io.specs.Outside.{Pages, page_of}
 use Rattle.mari_units.specs.declared.faults.Refusal.{Refusal}
 use Rattle.mari_publish.specs.declared.fault.TextFault.{TextFault}
 use Rattle.mari_publish.specs.declared.fault.TextFault.TheVariants as text_fault
 use Rattle.mari_remain.specs.declared.books.Books.{Books}
-use Rattle.mari_remain.specs.Accepted.{IsAccepted as AreAccepted}
+use Rattle.mari_remain.specs.Accepted.{IsAccepted}
 use Rattle.mari_day.specs.Dated.{IsDated}
 use Rattle.mari_day.specs.Day.{EndsDay}
 use Rattle.mari_day.specs.declared.day.DayEnd.{DayEnd}
@@ -24,7 +25,7 @@ use Rattle.mari_publish.specs.Lines.{published_in, unpublished_in}
 use Rattle.mari_check.specs.declared.verdict.Verdict.{Verdict}
 use Rattle.mari_check.specs.declared.verdict.Verdict.TheVariants as verdict
 use Rattle.mari_check.specs.Day.{IsFirstFault, IsValidPublication}
-use Rattle.mari_check.specs.Streams.{IsTextFault, IsTooLong}
+use Rattle.mari_check.specs.Streams.{IsToldFault, IsTooLong}
 use Rattle.mari_words.specs.Asked.{Asked}
 use Rattle.mari_words.specs.Asked.Asked.{Clear, Check, Generate, Migrate}
 use Rattle.mari_words.specs.declared.command.TheConstants.{MOST_NODES, MOST_WORKERS}
@@ -67,7 +68,7 @@ IsNamed file = (1 ≤ file) × (file ≤ 9)
 
 -- a job that can be done: its books are a folder's, and its numbers are within their limits
 pub record IsReady (job : Job) : Type 0 where
-  pub accepted : AreAccepted job.books
+  pub accepted : IsAccepted job.books
   pub dated : IsDated job.books
   pub nodes : (1 ≤ job.nodes) × (job.nodes ≤ MOST_NODES)
   pub workers : (1 ≤ job.workers) × (job.workers ≤ MOST_WORKERS)
@@ -166,12 +167,13 @@ abbrev pub CheckTells : Books → Option (List ℕ) → Outcome → Type 0
 CheckTells books page NoCommand = ⊥
 CheckTells books page (Day job) = ⊥
 CheckTells books None (Text text) = ⊥
-CheckTells books (Some page) (Text text) = (p : Publication) × IsText page p × IsValidPublication books p × (text.items ≡ valid_line (published_in p.blocks) (unpublished_in p.blocks))
+CheckTells books (Some page) (Text text) =
+    (length page ≤ MOST_GIVEN) × ((p : Publication) × IsText page p × IsValidPublication books p × (text.items ≡ valid_line (published_in p.blocks) (unpublished_in p.blocks)))
 CheckTells books None (Invalid run number) = ⊥
-CheckTells books (Some page) (Invalid run number) = (p : Publication) × IsText page p × IsFirstFault books p run number
+CheckTells books (Some page) (Invalid run number) = (length page ≤ MOST_GIVEN) × ((p : Publication) × IsText page p × IsFirstFault books p run number)
 CheckTells books page (NoPage file why) = PageTells page file why
 CheckTells books None (Refused refusal) = ⊥
-CheckTells books (Some page) (Refused refusal) = (f : TextFault) × IsTextFault page f × (refusal ≡ text_refusal f)
+CheckTells books (Some page) (Refused refusal) = (f : TextFault) × IsToldFault page f × (refusal ≡ text_refusal f)
 CheckTells books page NoMemory = ⊤
 
 -- the answer of a fetch of a page that can't be had

@@ -95,12 +95,12 @@ gap_status NotHeld = Missing
 gap_status OverLimit = TooLong
 
 -- this answer, or that of a failed fetch, of a failed write, or of no memory
-abbrev pub Or : (Status → Type 0) → Status → Type 0
-Or IsWanted result = IsWanted result ⊎ ((result ≡ ReadFault) ⊎ ((result ≡ WriteFault) ⊎ (result ≡ Memory)))
+abbrev pub OrFault : (Status → Type 0) → Status → Type 0
+OrFault IsWanted result = IsWanted result ⊎ ((result ≡ ReadFault) ⊎ ((result ≡ WriteFault) ⊎ (result ≡ Memory)))
 
--- this answer alone
-abbrev pub Is : Status → Status → Type 0
-Is wanted result = result ≡ wanted
+-- this status alone
+abbrev pub IsStatus : Status → Status → Type 0
+IsStatus wanted result = result ≡ wanted
 
 -- a day was written
 abbrev pub IsDayStatus : Status → Type 0

@@ -1,18 +1,17 @@
 //! The top call.
 
-ghost use Rattle.std.specs.Prelude.{◌≡◌, ℕ, List, None, Some, length, map, string_bytes, ◌⊎◌, ◌≤◌};
+ghost use Rattle.std.specs.Prelude.{◌≡◌, ℕ, List, None, Some, map, string_bytes, ◌⊎◌};
 ghost use Rattle.mari_units.specs.declared.faults.Refusal.{Refusal};
 ghost use Rattle.mari_io.specs.Outside.{Counts, Pages, Rose};
 ghost use Rattle.mari_io.specs.declared.shelf.Fetch.TheVariants as fetch;
-ghost use Rattle.mari_io.specs.declared.shelf.TheConstants.{MOST_GIVEN};
 ghost use Rattle.mari_publish.specs.declared.fault.TextFault.{TextFault};
 ghost use Rattle.mari_day.specs.Files.{Gap};
 ghost use Rattle.mari_words.specs.Asked.Asked.{Generate};
 ghost use Rattle.mari_words.specs.Words.{command_at};
-ghost use Rattle.mari_app.specs.Commands.{IsAccepted, IsMigratable, IsReadable, LacksFile, RefusesFiles, RefusesText, text_refusal};
+ghost use Rattle.mari_app.specs.Commands.{IsClearable, IsMigratable, IsReadable, LacksPage, RefusesFiles, RefusesText, text_refusal};
 ghost use Rattle.mari_app.specs.Headline.{HasBudget};
 ghost use Rattle.mari_app.specs.Outcome.{IsNoPage, IsOfWords, IsReportable, IsSummarised, Reported, Says};
-ghost use Rattle.mari_app.specs.Program.{Answers, Is, IsDayStatus, IsVerdictStatus, Or, gap_status};
+ghost use Rattle.mari_app.specs.Program.{Answers, IsDayStatus, IsStatus, IsVerdictStatus, OrFault, gap_status};
 
 use crate::checking::checked;
 use crate::clearing::{clear_together, to_clear};
@@ -108,22 +107,22 @@ pub fn run_program<S: Shelf, K: Sink, G: Turnstile, R: Threads + Wait + Sync>(
     ensures too_long { Counts (result ≡ Status.TooLong) (S.overs shelf.old) (S.overs shelf.new) }
     ensures write_fault { Counts (result ≡ Status.WriteFault) (K.faults sink.old) (K.faults sink.new) }
 
-    // Words that are no command are answered so, the first refusal of the files or of the publication's text, and the first page that isn't
-    // held or is too long.
+    // Words that are no command are answered so, the first refusal of the market files, the fault that is told of the publication's text,
+    // and the first page that isn't held or is too long.
     ensures no_command { command_at (map string_bytes words.now) ≡ None → (result ≡ Status.Usage) ⊎ ((result ≡ Status.WriteFault) ⊎ (result ≡ Status.Memory)) }
     ensures refuses { (told : Pages) (refusal : Refusal) → S.pages shelf.old ≡ Some told → RefusesFiles (command_at (map string_bytes words.now)) told refusal
-        → Or (Is (Status.Refused refusal)) result }
-    ensures refuses_text { (told : Pages) (page : List ℕ) (fault : TextFault) → S.pages shelf.old ≡ Some told → RefusesText (command_at (map string_bytes words.now)) told page fault → length page ≤ MOST_GIVEN
-        → Or (Is (Status.Refused (text_refusal fault))) result }
-    ensures gaps { (told : Pages) (file : ℕ) (gap : Gap) → S.pages shelf.old ≡ Some told → LacksFile (command_at (map string_bytes words.now)) told file gap
-        → Or (Is (gap_status gap)) result }
+        → OrFault (IsStatus (Status.Refused refusal)) result }
+    ensures refuses_text { (told : Pages) (page : List ℕ) (fault : TextFault) → S.pages shelf.old ≡ Some told → RefusesText (command_at (map string_bytes words.now)) told page fault
+        → OrFault (IsStatus (Status.Refused (text_refusal fault))) result }
+    ensures gaps { (told : Pages) (file : ℕ) (gap : Gap) → S.pages shelf.old ≡ Some told → LacksPage (command_at (map string_bytes words.now)) told file gap
+        → OrFault (IsStatus (gap_status gap)) result }
 
     // Folders whose pages are accepted are cleared, and wholly where the budget holds each run's search tree; a publication that is read
     // is checked; files that state their limits for the day are migrated; and days are generated.
-    ensures cleared { (told : Pages) → S.pages shelf.old ≡ Some told → IsAccepted (command_at (map string_bytes words.now)) told → Or IsDayStatus result }
-    ensures complete { (told : Pages) → S.pages shelf.old ≡ Some told → HasBudget (command_at (map string_bytes words.now)) told → Or (Is Status.Done) result }
-    ensures checked { (told : Pages) → S.pages shelf.old ≡ Some told → IsReadable (command_at (map string_bytes words.now)) told → Or IsVerdictStatus result }
-    ensures migrated { (told : Pages) → S.pages shelf.old ≡ Some told → IsMigratable (command_at (map string_bytes words.now)) told → Or (Is Status.Done) result }
+    ensures cleared { (told : Pages) → S.pages shelf.old ≡ Some told → IsClearable (command_at (map string_bytes words.now)) told → OrFault IsDayStatus result }
+    ensures complete { (told : Pages) → S.pages shelf.old ≡ Some told → HasBudget (command_at (map string_bytes words.now)) told → OrFault (IsStatus Status.Done) result }
+    ensures checked { (told : Pages) → S.pages shelf.old ≡ Some told → IsReadable (command_at (map string_bytes words.now)) told → OrFault IsVerdictStatus result }
+    ensures migrated { (told : Pages) → S.pages shelf.old ≡ Some told → IsMigratable (command_at (map string_bytes words.now)) told → OrFault (IsStatus Status.Done) result }
     ensures generated { (number : ℕ) → command_at (map string_bytes words.now) ≡ Some (Generate number) → (result ≡ Status.Done) ⊎ ((result ≡ Status.WriteFault) ⊎ (result ≡ Status.Memory)) }
 {
     let outcome = outcome_of(rt, alloc, words, shelf, turnstile);

@@ -1,27 +1,39 @@
--- A valid publication keeps the offers, and each of its published blocks shows its run.
-use Rattle.std.proofs.Common.{◌≡◌, ◌∙◌, ℕ, zero, suc, ◌<◌, ◌≤◌, List, [], ◌∷◌, length, take, get_or, Some, false, refl, sym, ap, subst, arith}
-use Rattle.std.specs.Prelude.{slice_get}
+-- A valid publication keeps the offers, each of its published blocks shows its run, and the nets of its totals sum to 0.
+use Rattle.std.proofs.Common.{◌≡◌, ◌∙◌, ℕ, zero, suc, ◌<◌, ◌≤◌, pos, ◌+ℤ◌, List, [], ◌∷◌, length, take, get_or, fold, Some, false, refl, sym, ap, subst, arith}
+use Rattle.std.specs.Prelude.{replicate, slice_get, ⊤}
+use Rattle.std.specs.List.{All}
 use Rattle.std.proofs.Math.Seq.{take-length, take-suc}
-use Rattle.std.proofs.lemmas.List.{length-take-le, map-append}
+use Rattle.std.proofs.lemmas.Int.{ints}
+use Rattle.std.proofs.lemmas.List.{length-replicate, length-take-le, map-append}
+use Rattle.std.proofs.lemmas.List.Elements.{All-head, All-tail}
+use Rattle.std.proofs.lemmas.List.FromFn.{length-map-range_with_len}
 use Rattle.std.proofs.lemmas.Option.{slice_get_within, slice_get-get_or}
+use Rattle.mari_market.specs.Sums.{int_sum}
 use Rattle.mari_publish.specs.declared.publication.Block.{Block}
 use Rattle.mari_publish.specs.declared.publication.Block.TheVariants as block
 use Rattle.mari_publish.specs.declared.publication.FullBlock.{FullBlock}
+use Rattle.mari_lines.specs.declared.line.MoneyLine.{MoneyLine}
 use Rattle.mari_publish.specs.declared.publication.Publication.{Publication}
 use Rattle.mari_remain.specs.declared.books.Books.{Books}
 use Rattle.mari_remain.specs.Accepted.{IsAccepted}
 use Rattle.mari_remain.specs.FirstBlocks.{AreFirstBlocks}
 use Rattle.mari_remain.proofs.After.{first-more}
 use Rattle.mari_remain.proofs.Offers.{offers, once}
+use Rattle.mari_settle.specs.Ledger.{net_of, operator_lines}
+use Rattle.mari_settle.specs.Lines.{map_along, no_line}
 use Rattle.mari_check.specs.declared.fault.Fault.{Fault}
 use Rattle.mari_check.specs.declared.fault.Fault.TheVariants as fault
 use Rattle.mari_check.specs.Behind.{also_behind, before_of, market_behind, past_of, run_behind}
 use Rattle.mari_check.specs.Checked.{IsSoundBlock}
 use Rattle.mari_check.specs.Day.{AreFree, IsFreeIn, IsValidPublication}
 use Rattle.mari_check.specs.Keeps.{KeepsOffers}
-use Rattle.mari_check.specs.Shown.{ShowsRun}
+use Rattle.mari_check.specs.Money.{money_line, money_lines_of}
+use Rattle.mari_check.specs.Shown.{ShowsRun, net_sum}
+use Rattle.mari_check.specs.Told.{activation_of, prices_of}
+use Rattle.mari_check.specs.Totals.{money_together, with_operators}
 use Rattle.mari_check.proofs.Past.{next-block}
-use Rattle.mari_check.proofs.Showing.{shows-run}
+use Rattle.mari_check.proofs.Showing.{net-lines, shows-run}
+use Rattle.mari_check.proofs.Zips.{along-long}
 
 -- a block, where there is none
 abbrev no_block : Block
@@ -73,3 +85,52 @@ module _ (books : Books) (ok : IsAccepted books) (p : Publication) (valid : IsVa
       shows-run books ok (run_behind before) (market_behind books before) (also_behind books before) (Some p.budget) b
       (record { blocks = before_of books before; first = up k (omega (arith, l)); from_one = omega arith; there = behind k l; made_of = refl })
       (λ any. (valid.blocks k (block.Published b) e any).1)
+
+  -- ---- the nets of the totals
+
+  -- a block has a line for each operator, and its nets sum to 0; an unpublished one has none
+  record Sums (b : FullBlock) : Type 0 where
+    pub one_each : length b.operators ≡ length books.zones.operators
+    pub nets : net_sum b.operators ≡ pos 0
+
+  abbrev SumsIn : Block → Type 0
+  SumsIn (block.Published b) = Sums b
+  SumsIn (block.Unpublished heading count) = ⊤
+
+  sums-in : (k : ℕ) (b : Block) → slice_get p.blocks k ≡ Some b → SumsIn b
+  sums-in k (block.Published b) e =
+      let own = shows k b e in
+      let market = (market_behind books (take k p.blocks)).market in
+      let names = books.zones.operators in
+      record {
+        one_each = ap length own.ledger.operators ∙ along-long money_line names (operator_lines books.zones market (activation_of b) (prices_of b)) (length-map-range_with_len _ 0 (length names));
+        nets = own.nets;
+      }
+  sums-in k (block.Unpublished heading count) e = tt
+
+  along : (xs ys : List MoneyLine) → length xs ≡ length ys → net_sum (map_along money_together xs ys) ≡ net_sum xs +ℤ net_sum ys
+  along [] [] e = refl
+  along [] (y ∷ ys) e = absurd (omega (arith, e))
+  along (x ∷ xs) [] e = absurd (omega (arith, e))
+  along (x ∷ xs) (y ∷ ys) e = let more = along xs ys (omega (arith, e)) in omega (arith, ints, more)
+
+  over : (lines : List MoneyLine) (bs : List Block) → length lines ≡ length books.zones.operators → net_sum lines ≡ pos 0 → All SumsIn bs → net_sum (fold with_operators lines bs) ≡ pos 0
+  over lines [] many none all = none
+  over lines (block.Published b ∷ bs) many none all =
+      let own : Sums b = All-head SumsIn (block.Published b) bs all in
+      let long = along-long money_together lines b.operators (own.one_each ∙ sym many) in
+      let both = along lines b.operators (many ∙ sym own.one_each) in
+      over (map_along money_together lines b.operators) bs (long ∙ many) (omega (arith, ints, both, none, own.nets)) (All-tail SumsIn (block.Published b) bs all)
+  over lines (block.Unpublished heading count ∷ bs) many none all = over lines bs many none (All-tail SumsIn (block.Unpublished heading count) bs all)
+
+  no-nets : (n : ℕ) → int_sum net_of (replicate n no_line) ≡ pos 0
+  no-nets zero = refl
+  no-nets (suc n) = let more = no-nets n in omega (arith, ints, more)
+
+  pub totals-balance : net_sum p.operators ≡ pos 0
+  totals-balance =
+      let names = books.zones.operators in
+      let lines = replicate (length names) no_line in
+      let none = length-replicate (length names) no_line in
+      let all : All SumsIn p.blocks = λ k d l. sums-in k (get_or p.blocks k d) (slice_get-get_or p.blocks k d l) in
+      ap net_sum valid.totals.operators ∙ over (money_lines_of names lines) p.blocks (along-long money_line names lines none) (net-lines names lines none ∙ no-nets (length names)) all

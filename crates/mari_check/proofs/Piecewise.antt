@@ -1,13 +1,14 @@
 -- A page that is read piece by piece.
-use Rattle.std.proofs.Common.{◌≡◌, ◌≢◌, ◌∙◌, ◌+◌, ◌<◌, ◌≤◌, ℕ, true, List, [], ◌∷◌, ◌++◌, length, take, drop, Option, Some, None, Result, Ok, Err, ◌⊎◌, inl, inr, refl, sym, ap, subst, arith, append_assoc, length-append}
-use Rattle.std.specs.Prelude.{IsErrOf, is_some}
+use Rattle.std.proofs.Common.{◌≡◌, ◌≢◌, ◌∙◌, ◌+◌, ◌-◌, ◌<◌, ◌≤◌, ℕ, true, List, [], ◌∷◌, ◌++◌, length, take, drop, Option, Some, None, Result, Ok, Err, ◌⊎◌, inl, inr, refl, sym, ap, subst, arith, append_assoc, length-append}
+use Rattle.std.specs.Prelude.{IfErr, IsErrOf, is_some}
 use Rattle.std.specs.Option.{option_map}
-use Rattle.std.proofs.Math.Seq.{take-append_seam}
+use Rattle.std.proofs.Math.Seq.{take-append-add, take-append_seam}
+use Rattle.std.proofs.lemmas.Bool.{cases_lt}
 use Rattle.std.proofs.lemmas.List.{append-nil, take-append-drop}
 use Rattle.mari_io.specs.Outside.{AppendsExactly, Counts, IsOverlong, IsPiece, OpenTells, counted}
 use Rattle.mari_io.specs.declared.shelf.Fetch.{Fetch}
 use Rattle.mari_io.specs.declared.shelf.Fetch.TheVariants as fetch
-use Rattle.mari_io.specs.declared.shelf.TheConstants.{MOST_GIVEN}
+use Rattle.mari_io.specs.declared.shelf.TheConstants.{MOST_GIVEN, MOST_PIECE}
 use Rattle.mari_publish.specs.Faults.{IsOutcome, IsText, BadLineAt, BadOrderAt}
 use Rattle.mari_publish.specs.Pieces.{ComeState, HasPart, IsEnd, IsNext, NoFault, StandsFor, found_none, with_part}
 use Rattle.mari_lines.specs.Spelling.{line_text, spelling}
@@ -24,7 +25,8 @@ use Rattle.mari_check.specs.declared.stream.Stream.{Stream}
 use Rattle.mari_check.specs.declared.stream.StreamFault.{StreamFault}
 use Rattle.mari_check.specs.declared.stream.StreamFault.TheVariants.{Fetch as OfFetch, Text as OfText, Memory as NoMemory}
 use Rattle.mari_check.specs.declared.verdict.Verdict.{Verdict}
-use Rattle.mari_check.specs.Streams.{EndTells, FaultTells, IsAllRead, IsFound, IsLineFault, IsRead, IsStreamFetch, IsTextFault, IsTooLong, IsWrappedMemory, LineTells, SameAsRead, StreamTells, fault_of_fetch, fault_of_text}
+use Rattle.mari_check.specs.Streams.{EndTells, FaultStops, FaultTells, IsAllRead, IsFound, IsLineFault, IsRead, IsStreamFetch, IsTextFault, IsToldFault, IsTooLong, IsWrappedMemory, LineTells, SameAsRead, StopsAtFault, StreamTells, fault_of_fetch, fault_of_text}
+use Rattle.mari_check.specs.Streams.IsToldFault.{OfPage as of-page, OfGiven as of-given}
 use Rattle.mari_check.specs.Verdicts.{IsVerdict}
 
 -- ---- faults
@@ -43,12 +45,43 @@ nothing-faulty n = (
   λ b. none-so (text_of_lines b.before) (spelling b.here) b.after (b.parts ∙ ap (λ (xs : List ℕ). text_of_lines b.before ++ xs) (order_text b.here b.after)),
 )
 
--- the fault of a line stays, whatever comes behind it
-pub fault-stays : (text more : List ℕ) (f : TextFault) → IsLineFault text f → IsTextFault (text ++ more) f
+-- the fault of a line stays, whatever comes behind it, and is the first of its text
+fault-stays : (text more : List ℕ) (f : TextFault) → IsLineFault text f → IsLineFault (text ++ more) f
 fault-stays text more (fault.BadLine n) h = line_stays text more n h
 fault-stays text more (fault.BadOrder n) h = order_stays text more n h
-fault-stays text more (fault.Truncated n) h = absurd h
-fault-stays text more fault.Memory h = absurd h
+fault-stays text more (fault.Truncated n) h = h
+fault-stays text more fault.Memory h = h
+
+fault-first : (text : List ℕ) (f : TextFault) → IsLineFault text f → IsTextFault text f
+fault-first text (fault.BadLine n) h = h
+fault-first text (fault.BadOrder n) h = h
+fault-first text (fault.Truncated n) h = absurd h
+fault-first text fault.Memory h = h
+
+pub no-line-fault : (text : List ℕ) (f : TextFault) → NoFault text → IsLineFault text f → ⊥
+no-line-fault text (fault.BadLine n) none h = (none n).0 h
+no-line-fault text (fault.BadOrder n) none h = (none n).1 h
+no-line-fault text (fault.Truncated n) none h = h
+no-line-fault text fault.Memory none h = h
+
+-- so what is told of a page is the first fault of its text, also where it isn't given whole
+pub told-first : (page : List ℕ) (f : TextFault) → IsToldFault page f → IsTextFault page f
+told-first page f (of-page short h) = h
+told-first page f (of-given long h) =
+    let P : List ℕ → Type 0 = λ xs. IsTextFault xs f in
+    subst P (take-append-drop MOST_GIVEN page) (fault-first (take MOST_GIVEN page ++ drop MOST_GIVEN page) f (fault-stays (take MOST_GIVEN page) (drop MOST_GIVEN page) f h))
+
+-- the fault of a line is told once the line is given
+fault-told : (text more : List ℕ) (f : TextFault) → length text ≤ MOST_GIVEN → IsLineFault text f → IsToldFault (text ++ more) f
+fault-told text more f few h = elim (cases_lt MOST_GIVEN (length (text ++ more))) [
+  | inl long ↦
+      let room : ℕ = MOST_GIVEN - length text in
+      let all : length text + room ≡ MOST_GIVEN = omega (arith, few) in
+      let front : take MOST_GIVEN (text ++ more) ≡ text ++ take room more = ap (λ (n : ℕ). take n (text ++ more)) (sym all) ∙ take-append-add text more room in
+      let P : List ℕ → Type 0 = λ xs. IsLineFault xs f in
+      of-given long (subst P (sym front) (fault-stays text (take room more) f h))
+  | inr short ↦ of-page (omega (arith, short)) (fault-first (text ++ more) f (fault-stays text more f h))
+]
 
 -- a fault that the reader tells
 pub next-fault : (text : List ℕ) (parts : List Part) (f : TextFault) → IsNext text parts (Err f) → LineTells text (fault_of_text f)
@@ -80,8 +113,8 @@ line-no-fetch T text NoMemory g h w = w
 pub end-never : (books : Books) (text : List ℕ) (result : Result Verdict StreamFault) → EndTells books text result → IsWrappedMemory result → ⊥
 end-never books text (Ok v) h w = w
 end-never books text (Err (OfText fault.Memory)) h w = h
-end-never books text (Err (OfText (fault.BadLine n))) h w = absurd cc
-end-never books text (Err (OfText (fault.BadOrder n))) h w = absurd cc
+end-never books text (Err (OfText (fault.BadLine n))) h w = h
+end-never books text (Err (OfText (fault.BadOrder n))) h w = h
 end-never books text (Err (OfText (fault.Truncated n))) h w = absurd cc
 end-never books text (Err (OfFetch f)) h w = h
 end-never books text (Err NoMemory) h w = w
@@ -172,11 +205,12 @@ pub record Under (books : Books) (page rest : Option (List ℕ)) (given : ℕ) (
   pub parts : List Part
   pub read : IsRead books text parts stream
   pub given_is : given ≡ length text
+  pub few : given ≤ MOST_GIVEN
   pub no_fault : NoFault text
   pub told : (whole : List ℕ) → page ≡ Some whole → (left : List ℕ) × (rest ≡ Some left) × (text ++ left ≡ whole)
 
 pub nothing-yet : (books : Books) (page : Option (List ℕ)) (given : ℕ) (stream : Stream) → given ≡ 0 → IsRead books [] [] stream → Under books page page given stream
-nothing-yet books page given stream e read = record { text = []; parts = []; read = read; given_is = e; no_fault = nothing-faulty; told = λ whole is. (whole, is, refl) }
+nothing-yet books page given stream e read = record { text = []; parts = []; read = read; given_is = e; few = omega (arith, e); no_fault = nothing-faulty; told = λ whole is. (whole, is, refl) }
 
 dropped : (rest now : Option (List ℕ)) (left : List ℕ) (n : ℕ) → rest ≡ Some left → now ≡ option_map (λ l. drop n l) rest → now ≡ Some (drop n left)
 dropped rest now left n e f = f ∙ ap (option_map (λ l. drop n l)) e
@@ -200,19 +234,55 @@ module _ (books : Books) (page rest : Option (List ℕ)) (given : ℕ) (old : St
       not-empty [] h = absurd (h refl)
       not-empty (x ∷ xs) h = omega arith
 
-  module _ (piece : List ℕ) (n : ℕ) (many : length piece ≡ n) (is_piece : (left : List ℕ) → rest ≡ Some left → IsPiece left [] piece n) where
-    -- a line of what has come has a fault
-    pub line-fault : (f : TextFault) → IsLineFault (u.text ++ piece) f → (whole : List ℕ) → page ≡ Some whole → IsTextFault whole f
-    line-fault f h whole is =
-        let t = u.told whole is in
-        let own : piece ≡ take n t.0 = (is_piece t.0 t.1).bytes in
-        let all : (u.text ++ piece) ++ drop n t.0 ≡ whole = append_assoc u.text piece (drop n t.0) ∙ ap (λ (xs : List ℕ). u.text ++ (xs ++ drop n t.0)) own ∙ ap (λ (xs : List ℕ). u.text ++ xs) (take-append-drop n t.0) ∙ t.2 in
-        subst (λ (xs : List ℕ). IsTextFault xs f) all (fault-stays (u.text ++ piece) (drop n t.0) f h)
+  module _ (piece : List ℕ) (n : ℕ) (many : length piece ≡ n) (within : given + n ≤ MOST_GIVEN) (is_piece : (left : List ℕ) → rest ≡ Some left → IsPiece left [] piece n) where
+    -- the text with the piece is as long as what is given then
+    with-piece : length (u.text ++ piece) ≤ MOST_GIVEN
+    with-piece = let longer = length-append u.text piece in omega (arith, longer, many, within, u.given_is)
 
-    pub push-fault : (f : StreamFault) → LineTells (u.text ++ piece) f → (whole : List ℕ) → page ≡ Some whole → FaultTells (Some whole) f
-    push-fault (OfText f) h whole is = line-fault f h whole is
-    push-fault (OfFetch f) h whole is = absurd h
-    push-fault NoMemory h whole is = tt
+    module _ (whole : List ℕ) (is : page ≡ Some whole) where
+      -- what is left of the page begins with the piece
+      left-of : (left : List ℕ) × (rest ≡ Some left) × (u.text ++ left ≡ whole)
+      left-of = u.told whole is
+
+      and-rest : piece ++ drop n left-of.0 ≡ left-of.0
+      and-rest = ap (λ (xs : List ℕ). xs ++ drop n left-of.0) (is_piece left-of.0 left-of.1).bytes ∙ take-append-drop n left-of.0
+
+      all-of-it : (u.text ++ piece) ++ drop n left-of.0 ≡ whole
+      all-of-it = append_assoc u.text piece (drop n left-of.0) ∙ ap (λ (xs : List ℕ). u.text ++ xs) and-rest ∙ left-of.2
+
+      -- a line of what has come has a fault
+      line-fault : (f : TextFault) → IsLineFault (u.text ++ piece) f → IsToldFault whole f
+      line-fault f h = let P : List ℕ → Type 0 = λ xs. IsToldFault xs f in subst P all-of-it (fault-told (u.text ++ piece) (drop n left-of.0) f with-piece h)
+
+      pub push-fault : (f : StreamFault) → LineTells (u.text ++ piece) f → FaultTells (Some whole) f
+      push-fault (OfText f) h = line-fault f h
+      push-fault (OfFetch f) h = absurd h
+      push-fault NoMemory h = tt
+
+      -- and nothing more was read
+      module _ {S : Type 0} (rest_of : S → Option (List ℕ)) (calls : S → ℕ) (before after : S) (begun : rest_of before ≡ rest) (left_is : rest_of after ≡ option_map (λ l. drop n l) rest) (call : calls after ≡ counted (calls before)) (few : n ≤ MOST_PIECE) where
+        line-stops : (f : TextFault) → IsLineFault (u.text ++ piece) f → StopsAtFault rest_of calls whole f after
+        line-stops f h = record {
+          read = u.text;
+          piece = piece;
+          left = drop n left-of.0;
+          page_is = sym (ap (λ (xs : List ℕ). u.text ++ xs) and-rest ∙ left-of.2);
+          no_fault = u.no_fault;
+          here = h;
+          few = omega (arith, many, few);
+          before = before;
+          all_left = begun ∙ left-of.1 ∙ ap (λ (xs : List ℕ). Some xs) (sym and-rest);
+          last_call = call;
+          left_is = dropped rest (rest_of after) left-of.0 n left-of.1 left_is;
+        }
+
+        pub push-stops : (f : StreamFault) → LineTells (u.text ++ piece) f → FaultStops rest_of calls whole after f
+        push-stops (OfText (fault.BadLine n)) h = line-stops (fault.BadLine n) h
+        push-stops (OfText (fault.BadOrder n)) h = line-stops (fault.BadOrder n) h
+        push-stops (OfText (fault.Truncated n)) h = tt
+        push-stops (OfText fault.Memory) h = tt
+        push-stops (OfFetch f) h = tt
+        push-stops NoMemory h = tt
 
     module _ (new : Stream) (read : IsAllRead books (u.text ++ piece) new) where
       -- there is more of it
@@ -224,25 +294,23 @@ module _ (books : Books) (page rest : Option (List ℕ)) (given : ℕ) (old : St
             parts = read.parts;
             read = read.read;
             given_is = omega (arith, longer, many, given_is, u.given_is);
+            few = omega (arith, within, given_is);
             no_fault = read.no_fault;
-            told = λ whole is.
-                let t = u.told whole is in
-                let own : piece ≡ take n t.0 = (is_piece t.0 t.1).bytes in (
-                  drop n t.0,
-                  dropped rest now t.0 n t.1 left_is,
-                  append_assoc u.text piece (drop n t.0) ∙ ap (λ (xs : List ℕ). u.text ++ (xs ++ drop n t.0)) own ∙ ap (λ (xs : List ℕ). u.text ++ xs) (take-append-drop n t.0) ∙ t.2,
-                );
+            told = λ whole is. (drop n (left-of whole is).0, dropped rest now (left-of whole is).0 n (left-of whole is).1 left_is, all-of-it whole is);
           }
 
       -- that was its end
-      pub last-piece : n ≡ 0 → (whole : List ℕ) → page ≡ Some whole → IsAllRead books whole new
+      pub last-piece : n ≡ 0 → (whole : List ℕ) → page ≡ Some whole → (length whole ≤ MOST_GIVEN) × IsAllRead books whole new
       last-piece none whole is =
-          let t = u.told whole is in
-          let q = is_piece t.0 t.1 in
-          let empty : t.0 ≡ [] = q.at_end.0 none in
+          let t = left-of whole is in
+          let empty : t.0 ≡ [] = (is_piece t.0 t.1).at_end.0 none in
           let own : piece ≡ [] = nothing piece (many ∙ none) in
           let all : u.text ++ piece ≡ whole = ap (λ (xs : List ℕ). u.text ++ xs) (own ∙ sym empty) ∙ t.2 in
-          subst (λ (xs : List ℕ). IsAllRead books xs new) all read
+          let long = ap length all in
+          let short = with-piece in (
+            omega (arith, long, short),
+            subst (λ (xs : List ℕ). IsAllRead books xs new) all read,
+          )
         where
           nothing : (xs : List ℕ) → length xs ≡ 0 → xs ≡ []
           nothing [] e = refl
@@ -271,14 +339,34 @@ pub opened-page : {T : Type 0} (done : T) (page rest : Option (List ℕ)) → Op
 opened-page done None rest h = let e = h.0 in absurd cc
 opened-page done (Some bytes) rest h = (bytes, refl, h.1)
 
-pub end-tells : (books : Books) (page : Option (List ℕ)) (bytes : List ℕ) (result : Result Verdict StreamFault) → page ≡ Some bytes → EndTells books bytes result → StreamTells books page result
-end-tells books page bytes result e h = subst (λ p. StreamTells books p result) (sym e) (own result h)
+pub end-tells : (books : Books) (page : Option (List ℕ)) (bytes : List ℕ) (result : Result Verdict StreamFault) → page ≡ Some bytes → length bytes ≤ MOST_GIVEN → EndTells books bytes result → StreamTells books page result
+end-tells books page bytes result e short h = subst (λ p. StreamTells books p result) (sym e) (own result h)
   where
     own : (r : Result Verdict StreamFault) → EndTells books bytes r → StreamTells books (Some bytes) r
-    own (Ok v) h = h
-    own (Err (OfText f)) h = h
+    own (Ok v) h = (short, h)
+    own (Err (OfText (fault.BadLine n))) h = absurd h
+    own (Err (OfText (fault.BadOrder n))) h = absurd h
+    own (Err (OfText (fault.Truncated n))) h = of-page short h
+    own (Err (OfText fault.Memory)) h = absurd h
     own (Err (OfFetch f)) h = absurd h
     own (Err NoMemory) h = absurd h
+
+-- no fault of the shelf is one of a line, nor is one at the end of the text
+module _ {S : Type 0} (rest_of : S → Option (List ℕ)) (calls : S → ℕ) (page : List ℕ) (shelf : S) where
+  pub fetch-stops : (f : Fetch) → FaultStops rest_of calls page shelf (fault_of_fetch f)
+  fetch-stops fetch.Failed = tt
+  fetch-stops fetch.Missing = tt
+  fetch-stops fetch.TooLong = tt
+  fetch-stops fetch.Memory = tt
+
+  pub end-stops : (books : Books) (text : List ℕ) (result : Result Verdict StreamFault) → EndTells books text result → IfErr result (FaultStops rest_of calls page shelf)
+  end-stops books text (Ok v) h = tt
+  end-stops books text (Err (OfText (fault.BadLine n))) h = absurd h
+  end-stops books text (Err (OfText (fault.BadOrder n))) h = absurd h
+  end-stops books text (Err (OfText (fault.Truncated n))) h = tt
+  end-stops books text (Err (OfText fault.Memory)) h = tt
+  end-stops books text (Err (OfFetch f)) h = tt
+  end-stops books text (Err NoMemory) h = tt
 
 -- ---- the same as reading the page whole
 
@@ -301,8 +389,8 @@ verdict-same books (Err g) p v h (inl e) = absurd cc
 verdict-same books (Err g) p v h (inr e) = cc
 
 pub same-as-read : (books : Books) (page : List ℕ) (answer : Result Publication TextFault) (result : Result Verdict StreamFault) → IsOutcome page answer → StreamTells books (Some page) result → SameAsRead books answer result
-same-as-read books page answer (Ok v) o h = verdict-same books answer h.0 v h.2 (text_answer page answer o h.0 h.1)
-same-as-read books page answer (Err (OfText f)) o h = fault-same books answer f (same-fault page answer f o h)
+same-as-read books page answer (Ok v) o (short, (p, read, is)) = verdict-same books answer p v is (text_answer page answer o p read)
+same-as-read books page answer (Err (OfText f)) o h = fault-same books answer f (same-fault page answer f o (told-first page f h))
 same-as-read books page answer (Err (OfFetch f)) o h = nothing-said answer f
   where
     nothing-said : (a : Result Publication TextFault) (f : Fetch) → SameAsRead books a (Err (OfFetch f))

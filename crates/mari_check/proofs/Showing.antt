@@ -23,7 +23,7 @@ use Rattle.mari_check.specs.Shown.{ShowsRun, net_sum}
 use Rattle.mari_check.specs.Told.{activation_of, prices_of}
 use Rattle.mari_check.proofs.Made.{made-is}
 
-net-lines : (names : List (List ℕ)) (ls : List OperatorLine) → length ls ≡ length names → net_sum (money_lines_of names ls) ≡ int_sum net_of ls
+pub net-lines : (names : List (List ℕ)) (ls : List OperatorLine) → length ls ≡ length names → net_sum (money_lines_of names ls) ≡ int_sum net_of ls
 net-lines [] [] e = refl
 net-lines [] (l ∷ ls) e = absurd (omega (arith, e))
 net-lines (name ∷ names) [] e = absurd (omega (arith, e))

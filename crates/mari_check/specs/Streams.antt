@@ -1,8 +1,9 @@
 -- A publication that is read in pieces: what has come of it, and what is answered.
-use Rattle.std.specs.Prelude.{◌≡◌, ◌<◌, ◌⊎◌, ℕ, true, List, [], ◌∷◌, ◌++◌, length, map, take, Option, Some, None, Result, Ok, Err, ⊤}
+use Rattle.std.specs.Prelude.{◌≡◌, ◌<◌, ◌≤◌, ◌⊎◌, ℕ, true, List, [], ◌∷◌, ◌++◌, length, map, take, Option, Some, None, Result, Ok, Err, ⊤}
 use Rattle.mari_io.specs.declared.shelf.Fetch.{Fetch}
 use Rattle.mari_io.specs.declared.shelf.Fetch.TheVariants as fetch
-use Rattle.mari_io.specs.declared.shelf.TheConstants.{MOST_GIVEN}
+use Rattle.mari_io.specs.declared.shelf.TheConstants.{MOST_GIVEN, MOST_PIECE}
+use Rattle.mari_io.specs.Outside.{counted}
 use Rattle.mari_publish.specs.Faults.{IsText, BadLineAt, BadOrderAt, TruncatedAt}
 use Rattle.mari_publish.specs.Pieces.{NoFault, StandsFor, parts_of}
 use Rattle.mari_publish.specs.declared.fault.TextFault.{TextFault}
@@ -29,6 +30,19 @@ IsTextFault text (fault.BadOrder n) = BadOrderAt text n
 IsTextFault text (fault.Truncated n) = TruncatedAt text n
 IsTextFault text fault.Memory = ⊥
 
+-- a fault of a whole line
+abbrev pub IsLineFault : List ℕ → TextFault → Type 0
+IsLineFault text (fault.BadLine n) = BadLineAt text n
+IsLineFault text (fault.BadOrder n) = BadOrderAt text n
+IsLineFault text (fault.Truncated n) = ⊥
+IsLineFault text fault.Memory = ⊥
+
+-- the fault that is told of a page: the first of its text, where the page may be given whole; of a longer page that of a whole line of the
+-- bytes that are given, and never that the text is cut off
+pub data IsToldFault (page : List ℕ) (fault : TextFault) : Type 0 where
+  OfPage : length page ≤ MOST_GIVEN → IsTextFault page fault → IsToldFault page fault
+  OfGiven : MOST_GIVEN < length page → IsLineFault (take MOST_GIVEN page) fault → IsToldFault page fault
+
 -- a page has more bytes than are given in pieces, and as far as they are given no whole line has a fault
 pub record IsTooLong (page : List ℕ) : Type 0 where
   pub longer : MOST_GIVEN < length page
@@ -46,13 +60,13 @@ FaultTells (Some page) (OfFetch fetch.Failed) = ⊤
 FaultTells (Some page) (OfFetch fetch.Missing) = ⊥
 FaultTells (Some page) (OfFetch fetch.TooLong) = IsTooLong page
 FaultTells (Some page) (OfFetch fetch.Memory) = ⊥
-FaultTells (Some page) (OfText f) = IsTextFault page f
+FaultTells (Some page) (OfText f) = IsToldFault page f
 FaultTells (Some page) NoMemory = ⊤
 
--- the verdict on the publication whose text the page is
+-- the verdict on the publication whose text the page is, which may be given whole
 abbrev pub VerdictTells : Books → Option (List ℕ) → Verdict → Type 0
 VerdictTells books None verdict = ⊥
-VerdictTells books (Some page) verdict = (p : Publication) × IsText page p × IsVerdict books p verdict
+VerdictTells books (Some page) verdict = (length page ≤ MOST_GIVEN) × ((p : Publication) × IsText page p × IsVerdict books p verdict)
 
 -- what the check says of the page of a name, where pages are told
 abbrev pub StreamTells : Books → Option (List ℕ) → Result Verdict StreamFault → Type 0
@@ -67,6 +81,31 @@ SameAsRead books (Err e) (Ok verdict) = e ≡ fault.Memory
 SameAsRead books (Err e) (Err (OfText f)) = (e ≡ f) ⊎ (e ≡ fault.Memory)
 SameAsRead books answer (Err (OfFetch f)) = ⊤
 SameAsRead books answer (Err NoMemory) = ⊤
+
+-- a fault of a line was answered as soon as it had come: one call on the shelf, the last, gave the piece that brought it. No whole line of
+-- what was read before has a fault, the fault is that of what was read and the piece, and all that stands behind these on the page is left.
+-- What is left and how many calls were made, the shelf tells
+pub record StopsAtFault {S : Type 0} (rest : S → Option (List ℕ)) (calls : S → ℕ) (page : List ℕ) (fault : TextFault) (shelf : S) : Type 0 where
+  pub read : List ℕ
+  pub piece : List ℕ
+  pub left : List ℕ
+  pub page_is : page ≡ read ++ (piece ++ left)
+  pub no_fault : NoFault read
+  pub here : IsLineFault (read ++ piece) fault
+  pub few : length piece ≤ MOST_PIECE
+  pub before : S
+  pub all_left : rest before ≡ Some (piece ++ left)
+  pub last_call : calls shelf ≡ counted (calls before)
+  pub left_is : rest shelf ≡ Some left
+
+-- nothing is read behind a fault of a line; the end of the text is no fault of a line
+abbrev pub FaultStops : {S : Type 0} → (rest : S → Option (List ℕ)) → (calls : S → ℕ) → (page : List ℕ) → S → StreamFault → Type 0
+FaultStops rest calls page shelf (OfText (fault.BadLine n)) = StopsAtFault rest calls page (fault.BadLine n) shelf
+FaultStops rest calls page shelf (OfText (fault.BadOrder n)) = StopsAtFault rest calls page (fault.BadOrder n) shelf
+FaultStops rest calls page shelf (OfText (fault.Truncated n)) = ⊤
+FaultStops rest calls page shelf (OfText fault.Memory) = ⊤
+FaultStops rest calls page shelf (OfFetch f) = ⊤
+FaultStops rest calls page shelf NoMemory = ⊤
 
 -- a call of the shelf gave this fault
 abbrev pub IsStreamFetch : {T : Type 0} → Fetch → Result T StreamFault → Type 0
@@ -139,13 +178,6 @@ pub record IsAllRead (books : Books) (text : List ℕ) (stream : Stream) : Type 
   pub waits : stream.reader.waits ≡ true
   pub no_fault : NoFault text
 
--- a fault of a whole line
-abbrev pub IsLineFault : List ℕ → TextFault → Type 0
-IsLineFault text (fault.BadLine n) = BadLineAt text n
-IsLineFault text (fault.BadOrder n) = BadOrderAt text n
-IsLineFault text (fault.Truncated n) = ⊥
-IsLineFault text fault.Memory = ⊥
-
 abbrev pub LineTells : List ℕ → StreamFault → Type 0
 LineTells text (OfText f) = IsLineFault text f
 LineTells text (OfFetch f) = ⊥
@@ -158,12 +190,15 @@ PushTells books text stream (Err why) = LineTells text why
 
 -- what is told when the page was read to its end, or as far as could be
 abbrev pub PiecesTell : {T : Type 0} → Books → List ℕ → Stream → Result T StreamFault → Type 0
-PiecesTell books page stream (Ok done) = IsAllRead books page stream
+PiecesTell books page stream (Ok done) = (length page ≤ MOST_GIVEN) × IsAllRead books page stream
 PiecesTell books page stream (Err why) = FaultTells (Some page) why
 
 -- what is told at the end of a text
 abbrev pub EndTells : Books → List ℕ → Result Verdict StreamFault → Type 0
 EndTells books text (Ok verdict) = (p : Publication) × IsText text p × IsVerdict books p verdict
-EndTells books text (Err (OfText f)) = IsTextFault text f
+EndTells books text (Err (OfText (fault.BadLine n))) = ⊥
+EndTells books text (Err (OfText (fault.BadOrder n))) = ⊥
+EndTells books text (Err (OfText (fault.Truncated n))) = TruncatedAt text n
+EndTells books text (Err (OfText fault.Memory)) = ⊥
 EndTells books text (Err (OfFetch f)) = ⊥
 EndTells books text (Err NoMemory) = ⊥

@@ -1,6 +1,6 @@
 //! What a block shows that has none of the faults, and what a valid publication keeps, whoever printed them.
 
-ghost use Rattle.std.specs.Prelude.{◌≡◌, ℕ, List, Option, Some, slice_get, take};
+ghost use Rattle.std.specs.Prelude.{◌≡◌, ℕ, List, Option, Some, pos, slice_get, take};
 ghost use Rattle.mari_units.specs.declared.numbers.Cents.{Cents as TheCents};
 ghost use Rattle.mari_publish.specs.declared.publication.Block.TheVariants as printed;
 ghost use Rattle.mari_publish.specs.declared.publication.FullBlock.{FullBlock as TheFullBlock};
@@ -12,7 +12,7 @@ ghost use Rattle.mari_check.specs.Day.{IsValidPublication};
 ghost use Rattle.mari_check.specs.Faults.{IsFreeOf};
 ghost use Rattle.mari_check.specs.Keeps.{KeepsOffers};
 ghost use Rattle.mari_check.specs.Markets.{IsMadeFor};
-ghost use Rattle.mari_check.specs.Shown.{ShowsRun};
+ghost use Rattle.mari_check.specs.Shown.{ShowsRun, net_sum};
 ghost use Rattle.mari_check.specs.declared.fault.Fault.{Fault as TheFault};
 
 use mari_remain::Books;
@@ -30,7 +30,7 @@ pub fn free_blocks_show(books: &Books)
 }
 
 /// Over the blocks of a valid publication no bid runs above its offer, and a gated one in at most one block; and each published block
-/// shows its run, behind the blocks before it: so its operators' nets sum to 0, and no rent is negative.
+/// shows its run, behind the blocks before it: so its operators' nets sum to 0, and no rent is negative. The nets of the totals sum to 0 too.
 ///
 /// The call does nothing: its contract is the law.
 pub fn valid_days_keep(books: &Books)
@@ -38,6 +38,7 @@ pub fn valid_days_keep(books: &Books)
     ensures offers { (p : ThePublication) → IsValidPublication books.now p → KeepsOffers books.now p.blocks }
     ensures blocks { (p : ThePublication) → IsValidPublication books.now p → (k : ℕ) (b : TheFullBlock) → slice_get p.blocks k ≡ Some (printed.Published b)
         → ShowsRun books.now (market_behind books.now (take k p.blocks)) (also_behind books.now (take k p.blocks)) b }
+    ensures totals { (p : ThePublication) → IsValidPublication books.now p → net_sum p.operators ≡ pos 0 }
 {
     let _books = books;
 }

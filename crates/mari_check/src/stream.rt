@@ -1,6 +1,6 @@
 //! The check of a publication that is read in pieces.
 
-ghost use Rattle.std.specs.Prelude.{◌≡◌, ◌++◌, ◌∷◌, [], ℕ, List, Result as Res, Some, true, IfOk, OnOk};
+ghost use Rattle.std.specs.Prelude.{◌≡◌, ◌++◌, ◌∷◌, [], ℕ, List, Result as Res, Some, true, IfErr, IfOk, OnOk};
 ghost use Rattle.mari_io.specs.Outside.{Counts, Pages, page_of};
 ghost use Rattle.mari_io.specs.declared.shelf.Fetch.TheVariants as fetch;
 ghost use Rattle.mari_publish.specs.Faults.{IsOutcome};
@@ -9,7 +9,7 @@ ghost use Rattle.mari_publish.specs.declared.publication.Part.{Part as ThePart};
 ghost use Rattle.mari_publish.specs.declared.publication.Publication.{Publication as ThePublication};
 ghost use Rattle.mari_remain.specs.Accepted.{IsAccepted};
 ghost use Rattle.mari_remain.specs.declared.books.Books.{Books as TheBooks};
-ghost use Rattle.mari_check.specs.Streams.{Comes, EndTells, IsAllRead, IsFound, IsOpen, IsRead, IsStreamFetch, IsWrappedMemory, PiecesTell, PushTells, SameAsRead, StreamTells, fault_of_fetch, fault_of_text};
+ghost use Rattle.mari_check.specs.Streams.{Comes, EndTells, FaultStops, IsAllRead, IsFound, IsOpen, IsRead, IsStreamFetch, IsWrappedMemory, PiecesTell, PushTells, SameAsRead, StreamTells, fault_of_fetch, fault_of_text};
 
 use crate::day::DayCheck;
 use crate::verdict::Verdict;
@@ -173,6 +173,7 @@ fn read_pieces<S: Shelf>(
     ensures same { S.pages shelf.new ≡ S.pages shelf.old }
     ensures read { OnOk result ((text : List ℕ) × IsAllRead books.now text stream.new) }
     ensures told { (page : List ℕ) → S.rest shelf.old ≡ Some page → PiecesTell books.now page stream.new result }
+    ensures stops { (page : List ℕ) → S.rest shelf.old ≡ Some page → IfErr result (FaultStops S.rest S.fetches page shelf.new) }
     ensures memory { IsWrappedMemory result → ⊥ }
     ensures failed { Counts (IsStreamFetch fetch.Failed result) (S.faults shelf.old) (S.faults shelf.new) }
     ensures missing { Counts (IsStreamFetch fetch.Missing result) (S.misses shelf.old) (S.misses shelf.new) }
@@ -209,6 +210,9 @@ pub fn check_stream<S: Shelf>(
     // What it says of the page, where pages are told; and that nothing else is said of that page, whole.
     ensures told { (told : Pages) → S.pages shelf.old ≡ Some told → StreamTells books.now (page_of told name.now) result }
     ensures whole { (told : Pages) (page : List ℕ) (answer : Res ThePublication TheTextFault) → S.pages shelf.old ≡ Some told → page_of told name.now ≡ Some page → IsOutcome page answer → SameAsRead books.now answer result }
+
+    // Behind a fault of a line nothing more is read.
+    ensures stops { (told : Pages) (page : List ℕ) → S.pages shelf.old ≡ Some told → page_of told name.now ≡ Some page → IfErr result (FaultStops S.rest S.fetches page shelf.new) }
 
     // Why there is no verdict. Want of memory is told as such.
     ensures memory { IsWrappedMemory result → ⊥ }

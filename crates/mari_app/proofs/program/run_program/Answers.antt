@@ -11,8 +11,8 @@ returns-clause-refuses g c = λ told refusal t h.
     refuses-answer _ _ _ _ told c.outcome_of-outcome.result c.outcome_of-outcome.ensures.words (c.outcome_of-outcome.ensures.told told t) c.finish.ensures.reported refusal h
 
 pub returns-clause-refuses_text : goal.returns-clause-refuses_text
-returns-clause-refuses_text g c = λ told page f t h short.
-    refuses-text-answer _ _ _ _ told c.outcome_of-outcome.result c.outcome_of-outcome.ensures.words (c.outcome_of-outcome.ensures.told told t) c.finish.ensures.reported page f h short
+returns-clause-refuses_text g c = λ told page f t h.
+    refuses-text-answer _ _ _ _ told c.outcome_of-outcome.result c.outcome_of-outcome.ensures.words (c.outcome_of-outcome.ensures.told told t) c.finish.ensures.reported page f h
 
 pub returns-clause-gaps : goal.returns-clause-gaps
 returns-clause-gaps g c = λ told number gap t h.

@@ -1,9 +1,9 @@
-use Rattle.std.proofs.Common.{arith, subst, sym}
+use Rattle.std.proofs.Common.{◌∙◌, arith, subst, sym}
 use Rattle.mari_io.specs.Outside.{page_of}
 use Rattle.mari_io.specs.declared.shelf.Fetch.TheVariants as fetch
 use Rattle.mari_check.specs.Streams.{FaultTells}
 use Rattle.mari_check.specs.declared.verdict.Verdict.{Verdict}
-use Rattle.mari_check.proofs.Piecewise.{counts-none, counts-on, end-never, end-no-fetch, end-tells, never-wrapped, open-fault, opened-page, tells-same, tells-whole}
+use Rattle.mari_check.proofs.Piecewise.{counts-none, counts-on, end-never, end-no-fetch, end-stops, end-tells, fetch-stops, never-wrapped, open-fault, opened-page, tells-same, tells-whole}
 use Rattle.mari_check.proofs.stream.check_stream.Goals as goal
 
 pub returns-in-Err-open_page-clause-told : goal.returns-in-Err-open_page-clause-told
@@ -29,7 +29,26 @@ pub returns-in-Ok-read_pieces-clause-whole : goal.returns-in-Ok-read_pieces-clau
 returns-in-Ok-read_pieces-clause-whole g c = λ told page answer e is o.
     let open_is = opened-page (tt {0}) (page_of told c.args.name.now) _ (c.in-Ok-open_page.ensures.told told e) in
     tells-whole c.args.books.now (page_of told c.args.name.now) page answer c.end.result
-    (end-tells c.args.books.now (page_of told c.args.name.now) open_is.0 c.end.result open_is.1 (c.end.ensures c.args.books.now open_is.0 (c.in-Ok-read_pieces.ensures.told open_is.0 open_is.2))) is o
+    (end-tells c.args.books.now (page_of told c.args.name.now) open_is.0 c.end.result open_is.1 (c.in-Ok-read_pieces.ensures.told open_is.0 open_is.2).0 (c.end.ensures c.args.books.now open_is.0 (c.in-Ok-read_pieces.ensures.told open_is.0 open_is.2).1)) is o
+
+pub returns-in-Ok-read_pieces-clause-told : goal.returns-in-Ok-read_pieces-clause-told
+returns-in-Ok-read_pieces-clause-told g c = λ told e.
+    let open_is = opened-page (tt {0}) (page_of told c.args.name.now) _ (c.in-Ok-open_page.ensures.told told e) in
+    let read = c.in-Ok-read_pieces.ensures.told open_is.0 open_is.2 in
+    end-tells c.args.books.now (page_of told c.args.name.now) open_is.0 c.end.result open_is.1 read.0 (c.end.ensures c.args.books.now open_is.0 read.1)
+
+pub returns-in-Ok-read_pieces-clause-stops : goal.returns-in-Ok-read_pieces-clause-stops
+returns-in-Ok-read_pieces-clause-stops g c = λ told page e is.
+    let r = c.in-Ok-read_pieces.ensures.read in
+    end-stops g.S.Shelf.rest g.S.Shelf.fetches page c.read_pieces.new.shelf c.args.books.now r.0 c.end.result (c.end.ensures c.args.books.now r.0 r.1)
+
+pub returns-in-Err-open_page-clause-stops : goal.returns-in-Err-open_page-clause-stops
+returns-in-Err-open_page-clause-stops g c = λ told page e is. rw c.fault_of_shelf.ensures (fetch-stops g.S.Shelf.rest g.S.Shelf.fetches page c.open_page.new.self c.in-Err-open_page.fault)
+
+pub returns-in-Err-read_pieces-clause-stops : goal.returns-in-Err-read_pieces-clause-stops
+returns-in-Err-read_pieces-clause-stops g c = λ told page e is.
+    let open_is = opened-page (tt {0}) (page_of told c.args.name.now) _ (c.in-Ok-open_page.ensures.told told e) in
+    c.in-Err-read_pieces.ensures.stops page (open_is.2 ∙ sym open_is.1 ∙ is)
 
 pub returns-in-Ok-read_pieces-clause-memory : goal.returns-in-Ok-read_pieces-clause-memory
 returns-in-Ok-read_pieces-clause-memory g c = let r = c.in-Ok-read_pieces.ensures.read in end-never c.args.books.now r.0 c.end.result (c.end.ensures c.args.books.now r.0 r.1)

@@ -1,10 +1,11 @@
 """Times of a command, and the line that tells of the machine."""
 
 import dataclasses
+import json
 import os
 import pathlib
-import platform
 import subprocess
+import sys
 import time
 
 
@@ -19,7 +20,16 @@ class Spent:
 
 
 def run_once(words, output=os.devnull):
-    """Runs a command whose standard output goes to a file."""
+    """Runs a command whose standard output goes to a file.
+
+    It is started by a process of this file, since a process counts the memory of the one that starts it as its own.
+    """
+    told = subprocess.run([sys.executable, "-SE", __file__, output, *words], stdout=subprocess.PIPE, check=True).stdout
+    return Spent(**json.loads(told))
+
+
+def start(output, words):
+    """Runs a command, and tells what it took."""
     with open(output, "wb") as out:
         began = time.perf_counter()
         child = subprocess.Popen(words, stdout=out, stdin=subprocess.DEVNULL)
@@ -43,6 +53,10 @@ def least_of(repeats, words, output=os.devnull, statuses=(0,)):
 
 def machine():
     """The processors, the load and the date, as a line."""
-    names = [line.split(":")[1].strip() for line in pathlib.Path("/proc/cpuinfo").read_text().splitlines() if line.startswith("model name")]
-    name = names[0] if names else platform.processor()
+    lines = pathlib.Path("/proc/cpuinfo").read_text().splitlines()
+    name = next((line.split(":")[1].strip() for line in lines if line.startswith("model name")), "unknown")
     return f"{os.cpu_count()} processors ({name}), load {os.getloadavg()[0]:.1f}, {time.strftime('%d %B %Y %H:%M')}"
+
+
+if __name__ == "__main__":
+    print(json.dumps(dataclasses.asdict(start(sys.argv[1], sys.argv[2:]))))

@@ -4,10 +4,10 @@
 usage: python3 bench/field.py [PROGRAM] [--repeats N] [--seconds N] [--without-solvers]
 
 PROGRAM is the built program, by default crates/mari_app/out/mari_app. On Debian the others come by
-    apt-get update; apt-get install -y liblemon-dev g++ coinor-cbc glpk-utils lp-solve python3-scipy
-bench/lemon.cpp is built first, and what isn't installed is left out. Every command runs on one processor, one after the other, and the
-least processor time of the repeats is told. A solver has the seconds for each run, 20 without the option; a dash says that it didn't end.
-It is no test: nothing fails where a machine is slow or busy, but an answer that differs stops it.
+    apt-get update; apt-get install -y liblemon-dev g++ coinor-cbc glpk-utils lp-solve python3-scipy valgrind
+bench/lemon.cpp is built first, and a solver that isn't installed is left out; without valgrind so are the counts of instructions. The commands
+run one after the other, one thread each, and the least processor time of the repeats is told. A solver has the seconds for each run, 20
+without the option; a dash says that it didn't end. It is no test: nothing fails where a machine is slow, but an answer that differs stops it.
 """
 
 import argparse
@@ -67,7 +67,8 @@ class Bench:
         self.scratch, self.mari, self.repeats, self.seconds = scratch, words.program, words.repeats, words.seconds
         self.text = os.path.join(scratch, "text")
         self.lemon = os.path.join(scratch, "lemon")
-        subprocess.run(["g++", "-std=c++20", "-O2", "-march=native", "-o", self.lemon, HERE / "lemon.cpp"], check=True)
+        for suffix, machine in [("", "native"), (".counted", "x86-64-v3")]:  # valgrind doesn't know every machine
+            subprocess.run(["g++", "-std=c++20", "-O2", f"-march={machine}", "-o", self.lemon + suffix, HERE / "lemon.cpp"], check=True)
         self.solvers = [] if words.without_solvers else [name for name, command in SOLVERS.items() if has(command)]
 
     def folder(self, pages):
@@ -97,6 +98,14 @@ class Bench:
         spent, welfare = self.ran([self.lemon, *mode, folder], r" welfare (\d+)")
         told = dict(re.findall(r"(nodes|seconds|least|first) ([\d.e+-]+)", pathlib.Path(self.text).read_text().replace("run ", "\n")))
         return spent, float(told["seconds"]), welfare, told
+
+    def instructions(self, words, function=None):
+        """How many instructions a command takes, or a function of it with all that it calls."""
+        counts = os.path.join(self.scratch, "counts")
+        subprocess.run(["valgrind", "--tool=callgrind", f"--callgrind-out-file={counts}", *words], stdout=subprocess.DEVNULL, stderr=subprocess.DEVNULL, check=True)
+        told = subprocess.run(["callgrind_annotate", "--inclusive=yes", counts], stdout=subprocess.PIPE, text=True, check=True).stdout
+        found = re.search(rf"^ *([\d,]+) .*{function or 'PROGRAM TOTALS'}", told, re.M)
+        return int(found.group(1).replace(",", ""))
 
     def solver(self, name, folder):
         """What a solver alone takes, in seconds, or none where it didn't end; and the welfare that it finds."""
@@ -140,18 +149,19 @@ def gated(bench):
 
 
 def gateless(bench):
-    """The markets without gates: whole processes, and LEMON's solve beside what one more such run takes of ours."""
-    print(header("market", "mari, s", "one run of it, ms", "LEMON, s", "its solve, ms", "ratio of run to solve"))
+    """The markets without gates: whole processes, and the instructions of the solve: of ours with its price test, of LEMON's with its network."""
+    print(header("market", "mari, s", "LEMON, s", "solve, instructions", "LEMON's", "ratio"))
     for name, shape in GATELESS.items():
-        pages = folders.market(**shape)
-        folder, without = bench.folder(pages), bench.folder(pages | {"runs.csv": [], "demands.csv": []})
+        folder = bench.folder(folders.market(**shape))
         spent, welfare = bench.clear(folder)
-        base, _ = bench.clear(without)
-        theirs, seconds, found, _ = bench.yardstick(folder, "--relaxed")
+        theirs, _, found, _ = bench.yardstick(folder, "--relaxed")
         agree(name, found, welfare)
-        run = spent.processor - base.processor
-        print(row(name, f"{spent.processor:.4f}", f"{run * 1e3:.2f}", f"{theirs.processor:.4f}", f"{seconds * 1e3:.2f}",
-                  f"{run / seconds:.1f}"), flush=True)
+        cells = ["-"] * 3
+        if has("valgrind"):
+            ours = bench.instructions([bench.mari, "clear", folder, "--workers", "1"], "mari_node::node::examine_from")
+            lemons, read = (bench.instructions([bench.lemon + ".counted", mode, folder]) for mode in ("--relaxed", "--read"))
+            cells = [f"{ours:,}", f"{lemons - read:,}", f"{ours / (lemons - read):.2f}"]
+        print(row(name, f"{spent.processor:.4f}", f"{theirs.processor:.4f}", *cells), flush=True)
 
 
 def whole_day(bench):

@@ -102,7 +102,8 @@ class Bench:
     def instructions(self, words, function=None):
         """How many instructions a command takes, or a function of it with all that it calls."""
         counts = os.path.join(self.scratch, "counts")
-        subprocess.run(["valgrind", "--tool=callgrind", f"--callgrind-out-file={counts}", *words], stdout=subprocess.DEVNULL, stderr=subprocess.DEVNULL, check=True)
+        counted = ["valgrind", "--tool=callgrind", f"--callgrind-out-file={counts}", *words]
+        subprocess.run(counted, stdout=subprocess.DEVNULL, stderr=subprocess.DEVNULL, check=True)
         told = subprocess.run(["callgrind_annotate", "--inclusive=yes", counts], stdout=subprocess.PIPE, text=True, check=True).stdout
         found = re.search(rf"^ *([\d,]+) .*{function or 'PROGRAM TOTALS'}", told, re.M)
         return int(found.group(1).replace(",", ""))
@@ -178,8 +179,10 @@ def reading(bench):
     """The ratio of the times of reading a day of 409,600 bids."""
     pages = folders.empty_pages() | {"zones.csv": [(f"Z{zone}", f"T{zone % 4}") for zone in range(8)]}
     pages["day.csv"] = [("2025-10-26", '"CET-1CEST,M3.5.0,M10.5.0/3"')]
-    pages["bids.csv"] = [(f"q{quarter}b{place}", f"P{place % 10}", f"Z{place % 8}", quarter, "up", f"{30 + place % 90}.{place % 100:02}", 0, 5 + place % 46, "both")
-                         for quarter in range(1, 101) for place in range(4096)]
+    for quarter in range(1, 101):
+        for place in range(4096):
+            name, provider, zone, price = f"q{quarter}b{place}", f"P{place % 10}", f"Z{place % 8}", folders.euro(3000 + place % 9000)
+            pages["bids.csv"].append((name, provider, zone, quarter, "up", price, 0, 5 + place % 46, "both"))
     folder = bench.folder(pages)
     spent, _ = bench.clear(folder)
     theirs, _, _, _ = bench.yardstick(folder, "--read")
@@ -203,7 +206,8 @@ def largest(bench):
     """The peak memory of a market at its limits with a full budget."""
     folder = bench.folder(folders.market(zones=64, borders=256, bids=4096, gates=512, demands=512, size=5, load=40, seed=3))
     spent = clock.run_once([bench.mari, "clear", folder, "--workers", "1", "--nodes", "50000"])
-    print(f"\n64 zones, 256 borders, 4,096 bids, 512 gates, 512 demands, 50,000 nodes: {spent.processor:.1f} s, {spent.memory:.0f} MB, status {spent.status}.")
+    print(f"\n64 zones, 256 borders, 4,096 bids, 512 gates, 512 demands, 50,000 nodes: "
+          f"{spent.processor:.1f} s, {spent.memory:.0f} MB, status {spent.status}.")
 
 
 def main():
@@ -223,7 +227,8 @@ def main():
         reading(bench)
         checking(bench)
         largest(bench)
-        print("\n" + header("market", "a node, of LEMON's", "nodes, of the least tree", "of that of the first word", "process, of the fastest solver's"))
+        names = ["market", "a node, of LEMON's", "nodes, of the least tree", "of that of the first word", "process, of the fastest solver's"]
+        print("\n" + header(*names))
         for name, cells in ratios.items():
             print(row(name, *("-" if cell is None else f"{cell:.2f}" for cell in cells)))
 

@@ -140,7 +140,8 @@ def main():
     parser = argparse.ArgumentParser(description=__doc__, formatter_class=argparse.RawDescriptionHelpFormatter)
     parser.add_argument("folder")
     parser.add_argument("--day", type=int)
-    for name, default in [("zones", 8), ("borders", 10), ("bids", 100), ("gates", 0), ("size", 1), ("load", 0), ("demands", 0), ("runs", 1), ("seed", 1)]:
+    defaults = {"zones": 8, "borders": 10, "bids": 100, "gates": 0, "size": 1, "load": 0, "demands": 0, "runs": 1, "seed": 1}
+    for name, default in defaults.items():
         parser.add_argument(f"--{name}", type=int, default=default)
     words = vars(parser.parse_args())
     folder, day = words.pop("folder"), words.pop("day")

@@ -10,10 +10,11 @@ cleared by one worker, three times, and the least time is told. It is no test: n
 import os
 import pathlib
 import random
-import subprocess
 import sys
 import tempfile
-import time
+
+import clock
+import folders
 
 TOP = pathlib.Path(__file__).resolve().parent.parent
 ZONES = 8
@@ -27,64 +28,40 @@ DAYS = [
 
 
 def pages(quarters, bids, runs):
-    """The seven pages of such a folder; the first run of a quarter is scheduled, each other one direct."""
+    """The pages of such a folder; the first run of a quarter is scheduled, each other one direct."""
     dice = random.Random(7)
+    made = folders.empty_pages()
+    made["zones.csv"] = [(f"Z{zone}", f"T{zone % 4}") for zone in range(ZONES)]
     borders = [(zone, (zone + 1) % ZONES) for zone in range(ZONES)] + [(0, 4), (2, 6)]
-    bid_lines = ["id,provider,zone,quarter,direction,price,least,greatest,kind"]
     for quarter in range(1, quarters + 1):
         for place in range(bids):
             is_up = dice.random() < 0.75
             cents = dice.randint(3000, 12000) if is_up else dice.randint(-1000, 5000)
             direction = "up" if is_up else "down"
             zone = dice.randrange(ZONES)
-            bid_lines.append(f"q{quarter}b{place},P{place % 10},Z{zone},{quarter},{direction},{cents / 100:.2f},0,{dice.randint(5, 50)},both")
-    run_lines, demand_lines = ["run,quarter,kind,reference"], ["run,zone,mw,price"]
+            bid = (f"q{quarter}b{place}", f"P{place % 10}", f"Z{zone}", quarter, direction, folders.euro(cents), 0, dice.randint(5, 50), "both")
+            made["bids.csv"].append(bid)
     for number in range(quarters * runs):
         kind = "direct" if number % runs else "scheduled"
-        run_lines.append(f"{number + 1},{number // runs + 1},{kind},{dice.randint(4000, 8000) / 100:.2f}")
-        demand_lines += [f"{number + 1},Z{zone},{dice.randint(-20, 60)}," for zone in range(ZONES)]
-    limits = [f"Z{a},Z{b},{dice.randint(20, 99)},{dice.randint(20, 99)}" for a, b in borders]
-    return {
-        "day.csv": ["date,rule", "2025-03-12,UTC0"],
-        "zones.csv": ["zone,operator"] + [f"Z{zone},T{zone % 4}" for zone in range(ZONES)],
-        "borders.csv": ["from,to,limit,back"] + limits,
-        "bids.csv": bid_lines,
-        "links.csv": ["kind,first,second"],
-        "runs.csv": run_lines,
-        "demands.csv": demand_lines,
-    }
-
-
-def timed(words, output):
-    """The processor and wall seconds of the best of three runs, and its peak memory in MB."""
-    best = None
-    for _ in range(3):
-        with open(output, "wb") as out:
-            began = time.perf_counter()
-            child = subprocess.Popen(words, stdout=out)
-            _, status, used = os.wait4(child.pid, 0)
-            took = time.perf_counter() - began
-        assert status == 0, words
-        found = (used.ru_utime + used.ru_stime, took, used.ru_maxrss / 1000)
-        best = min(best or found, found)
-    return best
+        made["runs.csv"].append((number + 1, number // runs + 1, kind, folders.euro(dice.randint(4000, 8000))))
+        made["demands.csv"] += [(number + 1, f"Z{zone}", dice.randint(-20, 60), "") for zone in range(ZONES)]
+    made["borders.csv"] = [(f"Z{a}", f"Z{b}", dice.randint(20, 99), dice.randint(20, 99)) for a, b in borders]
+    return made
 
 
 def main():
     program = sys.argv[1] if len(sys.argv) > 1 else str(TOP / "crates/mari_app/out/mari_app")
-    print(f"{os.cpu_count()} processors, load {os.getloadavg()[0]:.1f}")
+    print(clock.machine(), "\n")
     print("| day | text, MB | clear, processor s | wall s | MB | check, processor s | wall s | MB |")
     print("|---|---|---|---|---|---|---|---|")
     for name, quarters, bids, runs in DAYS:
         with tempfile.TemporaryDirectory() as folder:
-            for page, lines in pages(quarters, bids, runs).items():
-                pathlib.Path(folder, page).write_text("\n".join(lines) + "\n")
+            folders.write(folder, pages(quarters, bids, runs))
             text = os.path.join(folder, "publication.txt")
-            cleared = timed([program, "clear", folder, "--workers", "1"], text)
-            checked = timed([program, "check", folder], os.devnull)
-            size = os.path.getsize(text) / 1e6
-            cells = [f"{x:.2f}" for x in (*cleared[:2],)] + [f"{cleared[2]:.0f}"] + [f"{x:.2f}" for x in (*checked[:2],)] + [f"{checked[2]:.0f}"]
-            print(f"| {name} | {size:.1f} | " + " | ".join(cells) + " |")
+            cleared = clock.least_of(3, [program, "clear", folder, "--workers", "1"], text)
+            checked = clock.least_of(3, [program, "check", folder])
+            cells = [f"{spent.processor:.2f} | {spent.wall:.2f} | {spent.memory:.0f}" for spent in (cleared, checked)]
+            print(f"| {name} | {os.path.getsize(text) / 1e6:.1f} | " + " | ".join(cells) + " |", flush=True)
 
 
 if __name__ == "__main__":

@@ -17,6 +17,9 @@ import sys
 import tempfile
 import time
 
+import clock
+import folders
+
 TOP = pathlib.Path(__file__).resolve().parent.parent
 ZONES = 8
 GATES = 96
@@ -24,35 +27,24 @@ PLAIN = 500
 NODES = 50_000
 
 
-def rows(header, records):
-    return "\n".join([header] + [",".join(map(str, record)) for record in records]) + "\n"
-
-
 def pages(seed):
-    """The seven pages of a folder: zones in a ring, plain bids in each, and gated bids whose prices are close to the margin."""
+    """The pages of a folder: zones in a ring, plain bids in each, and gated bids whose prices are close to the margin."""
     dice = random.Random(seed)
     zones = [f"Z{zone}" for zone in range(1, ZONES + 1)]
-    borders = [(a, b, 40, 40) for a, b in zip(zones, zones[1:] + zones[:1])]
-    bids = []
+    made = folders.empty_pages()
+    made["zones.csv"] = [(zone, f"T{zone}") for zone in zones]
+    made["borders.csv"] = [(a, b, 40, 40) for a, b in zip(zones, zones[1:] + zones[:1])]
     for zone in zones:
         for number in range(PLAIN):
             price = f"{30 + dice.randrange(60)}.{dice.randrange(100):02}"
-            bids.append((f"{zone}p{number}", "P", zone, 1, "up", price, 0, 1 + dice.randrange(4), "both"))
+            made["bids.csv"].append((f"{zone}p{number}", "P", zone, 1, "up", price, 0, 1 + dice.randrange(4), "both"))
     for gate in range(GATES):
-        zone = zones[gate % ZONES]
         price = f"{40 + dice.randrange(6)}.{dice.randrange(100):02}"
         quantity = 37 + dice.randrange(40)
-        bids.append((f"g{gate}", "Q", zone, 1, "up", price, quantity, quantity, "both"))
-    demands = [(1, zone, 250 + dice.randrange(100), "") for zone in zones]
-    return {
-        "day.csv": 'date,rule\n2025-03-12,"CET-1CEST,M3.5.0,M10.5.0/3"\n',
-        "zones.csv": rows("zone,operator", [(zone, f"T{zone}") for zone in zones]),
-        "borders.csv": rows("from,to,limit,back", borders),
-        "bids.csv": rows("id,provider,zone,quarter,direction,price,least,greatest,kind", bids),
-        "links.csv": "kind,first,second\n",
-        "runs.csv": "run,quarter,kind,reference\n1,1,scheduled,40.00\n",
-        "demands.csv": rows("run,zone,mw,price", demands),
-    }
+        made["bids.csv"].append((f"g{gate}", "Q", zones[gate % ZONES], 1, "up", price, quantity, quantity, "both"))
+    made["runs.csv"] = [(1, 1, "scheduled", "40.00")]
+    made["demands.csv"] = [(1, zone, 250 + dice.randrange(100), "") for zone in zones]
+    return made
 
 
 def clear(program, folder, workers):
@@ -71,10 +63,8 @@ def main():
     repeats = int(sys.argv[2]) if len(sys.argv) > 2 else 7
     with tempfile.TemporaryDirectory() as scratch:
         folder = os.path.join(scratch, "F")
-        os.mkdir(folder)
-        for name, text in pages(1).items():
-            pathlib.Path(folder, name).write_text(text)
-        print(f"{os.cpu_count()} processors, load {os.getloadavg()[0]:.1f}, {repeats} repeats")
+        folders.write(folder, pages(1))
+        print(f"{clock.machine()}, {repeats} repeats\n")
         print("| workers | best, s | median, s | of one worker | printed |")
         print("|---|---|---|---|---|")
         alone = None

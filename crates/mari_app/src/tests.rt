@@ -6,6 +6,7 @@ mod checks;
 mod days;
 mod gated_bids;
 mod generates;
+mod largest;
 mod limits;
 mod migrates;
 mod one_run;
@@ -256,7 +257,7 @@ fn prints(
     lines: &str,
 ) -> Result<(), Fail> {
     let mut shelf = shelf(alloc, folder, &[])?;
-    let mut sink = MemorySink::new(alloc, 100, 10_000, plan(alloc, &[])?)?;
+    let mut sink = MemorySink::new(alloc, 1_000, 1_000_000, plan(alloc, &[])?)?;
     let words = words(alloc, &["clear", "F"])?;
     let status = run_program(rt, alloc, &words, &mut shelf, &mut sink, &FreeTurnstile);
     assert_eq!(rt; status.code(), 0);

@@ -151,16 +151,19 @@ fn each_call_on_the_shelf_that_fails(rt: HostRuntime) -> Result<(), Fail> {
 }
 
 #[test]
-fn a_text_cut_off_is_refused_at_the_line_that_is_missing(rt: HostRuntime) -> Result<(), Fail> {
+fn a_text_cut_off_at_any_byte_is_refused_at_the_line_that_is_missing(
+    rt: HostRuntime,
+) -> Result<(), Fail> {
     let alloc = rt.alloc();
-    let [head, block, _] = TWO_ZONES_PARTS;
-    let none = b"".as_slice();
-    let first = "refused publication.txt 1 13 Truncated\n";
-    checks(&rt, alloc, TWO_ZONES, none, 3, first)?;
-    checks(&rt, alloc, TWO_ZONES, b"mari 1".as_slice(), 3, first)?;
-    let second = "refused publication.txt 2 13 Truncated\n";
-    checks(&rt, alloc, TWO_ZONES, head.as_bytes(), 3, second)?;
-    let text = format!(in alloc; "{head}{block}")?;
-    let total = "refused publication.txt 17 13 Truncated\n";
-    checks(&rt, alloc, TWO_ZONES, text.as_bytes(), 3, total)
+    let day = two_zones_day(alloc)?;
+    let text = day.as_bytes();
+    let mut line = 1u32;
+    for (count, byte) in text.iter().enumerate() {
+        let printed = format!(in alloc; "refused publication.txt {line} 13 Truncated\n")?;
+        checks(&rt, alloc, TWO_ZONES, &text[..count], 3, &printed)?;
+        if *byte == b'\n' {
+            line = line.saturating_add(1);
+        }
+    }
+    Ok(())
 }

@@ -64,7 +64,7 @@ passes None fault e = absurd (cc)
 passes (Some a) fault e = record { actor = a; there = refl; none = e }
 
 -- an event that is an entry of the tree
-entry_event : (s : Machine) (e : Entry) → KeepsFacts s → IsAllowed s.tree e → IsEntryCutAt s.word e → KeepsFacts (record s { tree = grown s.tree e })
+entry_event : (s : Machine) (e : Entry) → KeepsFacts s → IsAllowed s.tree e → IsEntryCutAt s.incumbent e → KeepsFacts (record s { tree = grown s.tree e })
 entry_event s e h allowed cut = entry_step_kept {X = Unit {0}} s e (grown s.tree e) (Ok tt) h (entry_kept s.tree e h.tree allowed) cut refl tt
 
 settle_event : (s : Machine) (k x : ℕ) (finding : Finding) → KeepsFacts s → IsProper s (Settle k x finding) → Passes (slice_get s.actors k) (return_refused k (state_at s.tree.nodes x)) → KeepsFacts (after s (Settle k x finding))
@@ -72,17 +72,17 @@ settle_event s k x finding h proper p =
     let seen : seen_by (slice_get s.actors k) ≡ p.actor.seen = ap seen_by p.there in
     let above : IsCutoff s.tree.market (seen_by (slice_get s.actors k)) = subst (IsCutoff s.tree.market) (sym seen) (seen_is_cutoff s k p.actor h p.there) in
     let may : IfSome (slice_get s.tree.nodes x) (MaySettle s.tree.market (seen_by (slice_get s.actors k)) finding) = subst (λ (w : ℕ). IfSome (slice_get s.tree.nodes x) (MaySettle s.tree.market w finding)) (sym seen) (may_settle_by s k x p.actor finding p.there proper) in
-    let below : seen_by (slice_get s.actors k) ≤ s.word = subst (λ (w : ℕ). w ≤ s.word) (sym seen) (actor_at s k p.actor h p.there).below in
+    let below : seen_by (slice_get s.actors k) ≤ s.incumbent = subst (λ (w : ℕ). w ≤ s.incumbent) (sym seen) (actor_at s k p.actor h p.there).below in
     entry_event s (settling s.tree k x (seen_by (slice_get s.actors k)) finding) h
     (settle_allowed s.tree k x (seen_by (slice_get s.actors k)) finding h.tree above may (return_passes k (state_at s.tree.nodes x) p.none))
-    (settling_cut s.tree k x (seen_by (slice_get s.actors k)) s.word finding below)
+    (settling_cut s.tree k x (seen_by (slice_get s.actors k)) s.incumbent finding below)
 
 -- each event that is proper and isn't refused keeps all
 pub event_kept : (s : Machine) (e : Event) → KeepsFacts s → IsProper s e → refusal s e ≡ None → KeepsFacts (after s e)
-event_kept s (Look k) h proper r = look_kept s k (changed (seeing s.word) s.actors k) h refl
+event_kept s (Look k) h proper r = look_kept s k (changed (seeing s.incumbent) s.actors k) h refl
 event_kept s (Offer k attained) h proper r =
     let p = passes (slice_get s.actors k) None r in
-    offer_kept s k (max s.word attained.welfare) attained (changed (offering (max s.word attained.welfare) attained) s.actors k) h proper (slice_get_within s.actors k p.actor p.there) refl refl
+    offer_kept s k (max s.incumbent attained.welfare) attained (changed (offering (max s.incumbent attained.welfare) attained) s.actors k) h proper (slice_get_within s.actors k p.actor p.there) refl refl
 event_kept s (Take k x) h proper r =
     let p = passes (slice_get s.actors k) (take_refused (state_at s.tree.nodes x)) r in
     entry_event s (TakeEntry k x) h (take_passes (state_at s.tree.nodes x) p.none) tt

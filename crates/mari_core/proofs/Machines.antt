@@ -50,30 +50,30 @@ greatest_above w [] = omega arith
 greatest_above w (a ∷ others) = omega (arith, greatest_above w others)
 
 abbrev chosen : Bool → ℕ → Attained → Actor → Actor
-chosen b word attained a = if b then record { seen = word; offered = attained.welfare; best = Some attained } else record { seen = word; offered = a.offered; best = a.best }
+chosen b incumbent attained a = if b then record { seen = incumbent; offered = attained.welfare; best = Some attained } else record { seen = incumbent; offered = a.offered; best = a.best }
 
-offered_is : (word : ℕ) (attained : Attained) (a : Actor) → (offering word attained a).offered ≡ max a.offered attained.welfare
-offered_is word attained a = by_test (nat_lt a.offered attained.welfare) refl
+offered_is : (incumbent : ℕ) (attained : Attained) (a : Actor) → (offering incumbent attained a).offered ≡ max a.offered attained.welfare
+offered_is incumbent attained a = by_test (nat_lt a.offered attained.welfare) refl
   where
-    by_test : (b : Bool) → nat_lt a.offered attained.welfare ≡ b → (chosen b word attained a).offered ≡ max a.offered attained.welfare
+    by_test : (b : Bool) → nat_lt a.offered attained.welfare ≡ b → (chosen b incumbent attained a).offered ≡ max a.offered attained.welfare
     by_test true e = grind (arith, nat_tests)
     by_test false e = grind (arith, nat_tests)
 
-greatest_offered : (word : ℕ) (attained : Attained) (w : ℕ) (actors : List Actor) (k : ℕ) → k < length actors → greatest w (changed (offering word attained) actors k) ≡ max (greatest w actors) attained.welfare
-greatest_offered word attained w [] k l = absurd (omega arith)
-greatest_offered word attained w (a ∷ others) zero l = omega (arith, offered_is word attained a)
-greatest_offered word attained w (a ∷ others) (suc k) l = omega (arith, greatest_offered word attained w others k (omega arith))
+greatest_offered : (incumbent : ℕ) (attained : Attained) (w : ℕ) (actors : List Actor) (k : ℕ) → k < length actors → greatest w (changed (offering incumbent attained) actors k) ≡ max (greatest w actors) attained.welfare
+greatest_offered incumbent attained w [] k l = absurd (omega arith)
+greatest_offered incumbent attained w (a ∷ others) zero l = omega (arith, offered_is incumbent attained a)
+greatest_offered incumbent attained w (a ∷ others) (suc k) l = omega (arith, greatest_offered incumbent attained w others k (omega arith))
 
 -- an actor looks
-pub look_kept : (s : Machine) (k : ℕ) (actors : List Actor) → KeepsFacts s → actors ≡ changed (seeing s.word) s.actors k → KeepsFacts (record s { actors = actors })
+pub look_kept : (s : Machine) (k : ℕ) (actors : List Actor) → KeepsFacts s → actors ≡ changed (seeing s.incumbent) s.actors k → KeepsFacts (record s { actors = actors })
 look_kept s k actors h e = subst (λ (others : List Actor). KeepsFacts (record s { actors = others })) (sym e) (record {
   tree = h.tree;
   cutoffs = h.cutoffs;
   attained = h.attained;
   closed = h.closed;
-  word_is = h.word_is ∙ sym (greatest_same (seeing s.word) (λ a. refl) s.first.welfare s.actors k);
-  some_actor = omega (arith, length-changed (seeing s.word) s.actors k, h.some_actor);
-  actors_are = all_changed (IsActor s.tree.market s.first.welfare s.word) (IsActor s.tree.market s.first.welfare s.word) (seeing s.word) s.actors k h.actors_are
+  incumbent_is = h.incumbent_is ∙ sym (greatest_same (seeing s.incumbent) (λ a. refl) s.first.welfare s.actors k);
+  some_actor = omega (arith, length-changed (seeing s.incumbent) s.actors k, h.some_actor);
+  actors_are = all_changed (IsActor s.tree.market s.first.welfare s.incumbent) (IsActor s.tree.market s.first.welfare s.incumbent) (seeing s.incumbent) s.actors k h.actors_are
       (λ j a n there i. i)
       (λ a there i. record { above = omega (arith, i.above, i.below); below = omega arith; best = i.best });
 })
@@ -93,10 +93,10 @@ best_above m w offered None h = omega (arith, h)
 best_above m w offered (Some b) h = omega (arith, h.2)
 
 -- what an actor has after an offer
-offered_actor : (m : Market) (w word word' : ℕ) (attained : Attained) (a : Actor) → w ≤ word' → IsAttained m attained → IsActor m w word a → IsActor m w word' (offering word' attained a)
-offered_actor m w word word' attained a l at i = by_test (nat_lt a.offered attained.welfare) refl
+offered_actor : (m : Market) (w incumbent incumbent' : ℕ) (attained : Attained) (a : Actor) → w ≤ incumbent' → IsAttained m attained → IsActor m w incumbent a → IsActor m w incumbent' (offering incumbent' attained a)
+offered_actor m w incumbent incumbent' attained a l at i = by_test (nat_lt a.offered attained.welfare) refl
   where
-    by_test : (b : Bool) → nat_lt a.offered attained.welfare ≡ b → IsActor m w word' (chosen b word' attained a)
+    by_test : (b : Bool) → nat_lt a.offered attained.welfare ≡ b → IsActor m w incumbent' (chosen b incumbent' attained a)
     by_test true e = record { above = l; below = omega arith; best = (at, refl, more) }
       where
         more : w < attained.welfare
@@ -104,17 +104,17 @@ offered_actor m w word word' attained a l at i = by_test (nat_lt a.offered attai
     by_test false e = record { above = l; below = omega arith; best = i.best }
 
 -- an actor offers
-pub offer_kept : (s : Machine) (k word : ℕ) (attained : Attained) (actors : List Actor) → KeepsFacts s → IsAttained s.tree.market attained → k < length s.actors → word ≡ max s.word attained.welfare → actors ≡ changed (offering word attained) s.actors k → KeepsFacts (record s { word = word; actors = actors })
-offer_kept s k word attained actors h at l w e = subst (λ (others : List Actor). KeepsFacts (record s { word = word; actors = others })) (sym e) (record {
+pub offer_kept : (s : Machine) (k incumbent : ℕ) (attained : Attained) (actors : List Actor) → KeepsFacts s → IsAttained s.tree.market attained → k < length s.actors → incumbent ≡ max s.incumbent attained.welfare → actors ≡ changed (offering incumbent attained) s.actors k → KeepsFacts (record s { incumbent = incumbent; actors = actors })
+offer_kept s k incumbent attained actors h at l w e = subst (λ (others : List Actor). KeepsFacts (record s { incumbent = incumbent; actors = others })) (sym e) (record {
   tree = h.tree;
-  cutoffs = cuts_rise s.word word (omega (arith, w)) s.tree.nodes h.cutoffs;
+  cutoffs = cuts_rise s.incumbent incumbent (omega (arith, w)) s.tree.nodes h.cutoffs;
   attained = h.attained;
   closed = h.closed;
-  word_is = omega (arith, w, h.word_is, greatest_offered word attained s.first.welfare s.actors k l);
-  some_actor = omega (arith, length-changed (offering word attained) s.actors k, h.some_actor);
-  actors_are = all_changed (IsActor s.tree.market s.first.welfare s.word) (IsActor s.tree.market s.first.welfare word) (offering word attained) s.actors k h.actors_are
+  incumbent_is = omega (arith, w, h.incumbent_is, greatest_offered incumbent attained s.first.welfare s.actors k l);
+  some_actor = omega (arith, length-changed (offering incumbent attained) s.actors k, h.some_actor);
+  actors_are = all_changed (IsActor s.tree.market s.first.welfare s.incumbent) (IsActor s.tree.market s.first.welfare incumbent) (offering incumbent attained) s.actors k h.actors_are
       (λ j a n there i. record { above = i.above; below = omega (arith, i.below, w); best = i.best })
-      (λ a there i. offered_actor s.tree.market s.first.welfare s.word word attained a (omega (arith, w, h.word_is, greatest_above s.first.welfare s.actors)) at i);
+      (λ a there i. offered_actor s.tree.market s.first.welfare s.incumbent incumbent attained a (omega (arith, w, h.incumbent_is, greatest_above s.first.welfare s.actors)) at i);
 })
 
 -- ---- the tree
@@ -158,24 +158,24 @@ settling_cut g k x cutoff w finding l = by_leaf (closing_leaf cutoff finding)
     by_leaf (Some leaf) = l
     by_leaf None = by_test (nat_le (length g.nodes + length (children_at g x)) g.budget)
 
-tree_kept : (s : Machine) (tree : Grown) → KeepsFacts s → IsGrowth tree → tree.market ≡ s.tree.market → AreCutAt s.word tree.nodes → KeepsFacts (record s { tree = tree })
+tree_kept : (s : Machine) (tree : Grown) → KeepsFacts s → IsGrowth tree → tree.market ≡ s.tree.market → AreCutAt s.incumbent tree.nodes → KeepsFacts (record s { tree = tree })
 tree_kept s tree h grows m cut = record {
   tree = grows;
   cutoffs = cut;
   attained = subst (λ (n : Market). IsAttained n s.first) (sym m) h.attained;
   closed = subst (λ (n : Market). IsClosedWelfare n (pos s.first.welfare)) (sym m) h.closed;
-  word_is = h.word_is;
+  incumbent_is = h.incumbent_is;
   some_actor = h.some_actor;
-  actors_are = subst (λ (n : Market). All (IsActor n s.first.welfare s.word) s.actors) (sym m) h.actors_are;
+  actors_are = subst (λ (n : Market). All (IsActor n s.first.welfare s.incumbent) s.actors) (sym m) h.actors_are;
 }
 
 -- an entry of the tree, or none
-pub entry_step_kept : {X : Type 0} (s : Machine) (e : Entry) (tree : Grown) (r : Result X StepFault) → KeepsFacts s → IsGrowth tree → IsEntryCutAt s.word e → IfOk r (λ _. tree ≡ grown s.tree e) → IfErr r (λ _. tree ≡ s.tree) → KeepsFacts (record s { tree = tree })
+pub entry_step_kept : {X : Type 0} (s : Machine) (e : Entry) (tree : Grown) (r : Result X StepFault) → KeepsFacts s → IsGrowth tree → IsEntryCutAt s.incumbent e → IfOk r (λ _. tree ≡ grown s.tree e) → IfErr r (λ _. tree ≡ s.tree) → KeepsFacts (record s { tree = tree })
 entry_step_kept s e tree (Ok u) h grows c change same =
     tree_kept s tree h grows (ap (λ (g : Grown). g.market) change ∙ grown_market s.tree e)
-    (subst (λ (g : Grown). AreCutAt s.word g.nodes) (sym change) (entry_cut s.tree e s.word c h.cutoffs))
+    (subst (λ (g : Grown). AreCutAt s.incumbent g.nodes) (sym change) (entry_cut s.tree e s.incumbent c h.cutoffs))
 entry_step_kept s e tree (Err f) h grows c change same =
-    tree_kept s tree h grows (ap (λ (g : Grown). g.market) same) (subst (λ (g : Grown). AreCutAt s.word g.nodes) (sym same) h.cutoffs)
+    tree_kept s tree h grows (ap (λ (g : Grown). g.market) same) (subst (λ (g : Grown). AreCutAt s.incumbent g.nodes) (sym same) h.cutoffs)
 
 -- ---- answers
 
@@ -209,7 +209,7 @@ start_keeps m n budget first v l a c b = record {
   cutoffs = All-cons (λ (x : TreeNode). IsCutAt first.welfare x.state) (new_node []) [] tt (All-nil (λ (x : TreeNode). IsCutAt first.welfare x.state));
   attained = a;
   closed = c;
-  word_is = greatest_new first.welfare n;
+  incumbent_is = greatest_new first.welfare n;
   some_actor = omega (arith, l, length_replicated n (new_actor first.welfare));
   actors_are = replicated m first.welfare n;
 }
@@ -224,8 +224,8 @@ pub answer_there : {X : Type 0} (actors : List Actor) (k : ℕ) (refused : Optio
 answer_there actors k refused r l h = subst (λ (o : Option StepFault). IsAnswer o r) (sym (by_actor_there actors k refused l)) h
 
 -- what an actor that is there saw
-pub actor_at : (s : Machine) (k : ℕ) (a : Actor) → KeepsFacts s → slice_get s.actors k ≡ Some a → IsActor s.tree.market s.first.welfare s.word a
-actor_at s k a h e = all_get (IsActor s.tree.market s.first.welfare s.word) s.actors k a h.actors_are e
+pub actor_at : (s : Machine) (k : ℕ) (a : Actor) → KeepsFacts s → slice_get s.actors k ≡ Some a → IsActor s.tree.market s.first.welfare s.incumbent a
+actor_at s k a h e = all_get (IsActor s.tree.market s.first.welfare s.incumbent) s.actors k a h.actors_are e
 
 -- it is a cutoff
 pub seen_is_cutoff : (s : Machine) (k : ℕ) (a : Actor) → KeepsFacts s → slice_get s.actors k ≡ Some a → IsCutoff s.tree.market a.seen
@@ -244,14 +244,14 @@ actor_there_by actors k a l e = slice_get_read actors (length actors) k a refl l
 
 -- ---- the end
 
--- an admissible activation with the word as its welfare
-pub record IsBestOf (m : Market) (word : ℕ) (a : Attained) : Type 0 where
+-- an admissible activation with the incumbent as its welfare
+pub record IsBestOf (m : Market) (incumbent : ℕ) (a : Attained) : Type 0 where
   pub attained : IsAttained m a
-  pub welfare_is : a.welfare ≡ word
+  pub welfare_is : a.welfare ≡ incumbent
 
-best_of_actor : (m : Market) (word : ℕ) (first : Attained) (offered : ℕ) (best : Option Attained) → IsBestOf m first.welfare first → offered ≡ word → IsBest m first.welfare offered best → IsBestOf m word (best_or first best)
-best_of_actor m word first offered None f e h = record { attained = f.attained; welfare_is = omega (arith, e, h) }
-best_of_actor m word first offered (Some b) f e h = record { attained = h.0; welfare_is = h.1 ∙ e }
+best_of_actor : (m : Market) (incumbent : ℕ) (first : Attained) (offered : ℕ) (best : Option Attained) → IsBestOf m first.welfare first → offered ≡ incumbent → IsBest m first.welfare offered best → IsBestOf m incumbent (best_or first best)
+best_of_actor m incumbent first offered None f e h = record { attained = f.attained; welfare_is = omega (arith, e, h) }
+best_of_actor m incumbent first offered (Some b) f e h = record { attained = h.0; welfare_is = h.1 ∙ e }
 
 same_by_test : (a b : ℕ) → (a == b) ≡ true → a ≡ b
 same_by_test a b e = grind (arith, nat_tests)
@@ -259,40 +259,40 @@ same_by_test a b e = grind (arith, nat_tests)
 other_by_test : (a b : ℕ) → (a == b) ≡ false → a ≡ b → ⊥
 other_by_test a b e h = grind (arith, nat_tests)
 
-rest_is_greatest : (word offered g : ℕ) → word ≡ max offered g → (offered ≡ word → ⊥) → word ≡ g
-rest_is_greatest word offered g e n = omega (arith, e, n)
+rest_is_greatest : (incumbent offered g : ℕ) → incumbent ≡ max offered g → (offered ≡ incumbent → ⊥) → incumbent ≡ g
+rest_is_greatest incumbent offered g e n = omega (arith, e, n)
 
-best_among : (m : Market) (word seen : ℕ) (first : Attained) (actors : List Actor) → IsBestOf m first.welfare first → All (IsActor m first.welfare seen) actors → word ≡ greatest first.welfare actors → IsBestOf m word (best_of word first actors)
-best_among m word seen first [] f h e = record { attained = f.attained; welfare_is = sym e }
-best_among m word seen first (a ∷ others) f h e = by_test (a.offered == word) refl (best_among m word seen first others f (All-tail (IsActor m first.welfare seen) a others h))
+best_among : (m : Market) (incumbent seen : ℕ) (first : Attained) (actors : List Actor) → IsBestOf m first.welfare first → All (IsActor m first.welfare seen) actors → incumbent ≡ greatest first.welfare actors → IsBestOf m incumbent (best_of incumbent first actors)
+best_among m incumbent seen first [] f h e = record { attained = f.attained; welfare_is = sym e }
+best_among m incumbent seen first (a ∷ others) f h e = by_test (a.offered == incumbent) refl (best_among m incumbent seen first others f (All-tail (IsActor m first.welfare seen) a others h))
   where
-    by_test : (b : Bool) → (a.offered == word) ≡ b → (word ≡ greatest first.welfare others → IsBestOf m word (best_of word first others)) → IsBestOf m word (if b then best_or first a.best else best_of word first others)
-    by_test true is rest = best_of_actor m word first a.offered a.best f (same_by_test a.offered word is) (All-head (IsActor m first.welfare seen) a others h).best
-    by_test false is rest = rest (rest_is_greatest word a.offered (greatest first.welfare others) e (other_by_test a.offered word is))
+    by_test : (b : Bool) → (a.offered == incumbent) ≡ b → (incumbent ≡ greatest first.welfare others → IsBestOf m incumbent (best_of incumbent first others)) → IsBestOf m incumbent (if b then best_or first a.best else best_of incumbent first others)
+    by_test true is rest = best_of_actor m incumbent first a.offered a.best f (same_by_test a.offered incumbent is) (All-head (IsActor m first.welfare seen) a others h).best
+    by_test false is rest = rest (rest_is_greatest incumbent a.offered (greatest first.welfare others) e (other_by_test a.offered incumbent is))
 
-pub best_is : (s : Machine) → KeepsFacts s → IsBestOf s.tree.market s.word (best_of s.word s.first s.actors)
-best_is s h = best_among s.tree.market s.word s.word s.first s.actors (record { attained = h.attained; welfare_is = refl }) h.actors_are h.word_is
+pub best_is : (s : Machine) → KeepsFacts s → IsBestOf s.tree.market s.incumbent (best_of s.incumbent s.first s.actors)
+best_is s h = best_among s.tree.market s.incumbent s.incumbent s.first s.actors (record { attained = h.attained; welfare_is = refl }) h.actors_are h.incumbent_is
 
-first_of_actor : (m : Market) (word : ℕ) (first : Attained) (offered : ℕ) (best : Option Attained) → word ≡ first.welfare → offered ≡ word → IsBest m first.welfare offered best → best_or first best ≡ first
-first_of_actor m word first offered None e o h = refl
-first_of_actor m word first offered (Some b) e o h = absurd (omega (arith, e, o, h.2))
+first_of_actor : (m : Market) (incumbent : ℕ) (first : Attained) (offered : ℕ) (best : Option Attained) → incumbent ≡ first.welfare → offered ≡ incumbent → IsBest m first.welfare offered best → best_or first best ≡ first
+first_of_actor m incumbent first offered None e o h = refl
+first_of_actor m incumbent first offered (Some b) e o h = absurd (omega (arith, e, o, h.2))
 
-first_among : (m : Market) (word seen : ℕ) (first : Attained) (actors : List Actor) → word ≡ first.welfare → All (IsActor m first.welfare seen) actors → best_of word first actors ≡ first
-first_among m word seen first [] e h = refl
-first_among m word seen first (a ∷ others) e h = by_test (a.offered == word) refl (first_among m word seen first others e (All-tail (IsActor m first.welfare seen) a others h))
+first_among : (m : Market) (incumbent seen : ℕ) (first : Attained) (actors : List Actor) → incumbent ≡ first.welfare → All (IsActor m first.welfare seen) actors → best_of incumbent first actors ≡ first
+first_among m incumbent seen first [] e h = refl
+first_among m incumbent seen first (a ∷ others) e h = by_test (a.offered == incumbent) refl (first_among m incumbent seen first others e (All-tail (IsActor m first.welfare seen) a others h))
   where
-    by_test : (b : Bool) → (a.offered == word) ≡ b → best_of word first others ≡ first → (if b then best_or first a.best else best_of word first others) ≡ first
-    by_test true is rest = first_of_actor m word first a.offered a.best e (same_by_test a.offered word is) (All-head (IsActor m first.welfare seen) a others h).best
+    by_test : (b : Bool) → (a.offered == incumbent) ≡ b → best_of incumbent first others ≡ first → (if b then best_or first a.best else best_of incumbent first others) ≡ first
+    by_test true is rest = first_of_actor m incumbent first a.offered a.best e (same_by_test a.offered incumbent is) (All-head (IsActor m first.welfare seen) a others h).best
     by_test false is rest = rest
 
 -- where nothing better than the first was offered, it is the best
-pub first_is_best : (s : Machine) → KeepsFacts s → s.word ≡ s.first.welfare → best_of s.word s.first s.actors ≡ s.first
-first_is_best s h e = first_among s.tree.market s.word s.word s.first s.actors e h.actors_are
+pub first_is_best : (s : Machine) → KeepsFacts s → s.incumbent ≡ s.first.welfare → best_of s.incumbent s.first s.actors ≡ s.first
+first_is_best s h e = first_among s.tree.market s.incumbent s.incumbent s.first s.actors e h.actors_are
 
--- with a tree that holds at the word, the best is optimal
-pub clearing_by : (s : Machine) (c : Clearing) → KeepsFacts s → c.activation ≡ (best_of s.word s.first s.actors).activation → c.welfare ≡ s.word → TreeHolds s.tree.market (pos s.word) c.tree → length c.tree ≤ s.tree.budget → IsOptimalClearing s.tree.market s.tree.budget c
+-- with a tree that holds at the incumbent, the best is optimal
+pub clearing_by : (s : Machine) (c : Clearing) → KeepsFacts s → c.activation ≡ (best_of s.incumbent s.first s.actors).activation → c.welfare ≡ s.incumbent → TreeHolds s.tree.market (pos s.incumbent) c.tree → length c.tree ≤ s.tree.budget → IsOptimalClearing s.tree.market s.tree.budget c
 clearing_by s c h a w t l =
-    let best : IsBestOf s.tree.market s.word (best_of s.word s.first s.actors) = best_is s h in
+    let best : IsBestOf s.tree.market s.incumbent (best_of s.incumbent s.first s.actors) = best_is s h in
     let welfare : welfare_of s.tree.market c.activation ≡ pos c.welfare = ap (welfare_of s.tree.market) a ∙ best.attained.welfare ∙ ap pos best.welfare_is ∙ ap pos (sym w) in
     let holds : TreeHolds s.tree.market (pos c.welfare) c.tree = subst (λ (v : ℕ). TreeHolds s.tree.market (pos v) c.tree) (sym w) t in
     record {

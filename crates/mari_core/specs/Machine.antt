@@ -16,11 +16,11 @@ use Rattle.mari_core.specs.Nodes.{changed, state_at}
 use Rattle.mari_core.specs.Growth.{Grown, seed, grown, settling, MaySettle, take_refused, return_refused, IsGrowth, AreCutAt}
 use Rattle.mari_core.specs.Growth.Entry.{Take as TakeEntry, GiveBack as GiveBackEntry}
 
--- a search: its tree; the word, which is the greatest welfare that is known; what each actor saw, offered and has as its best;
--- and the first activation, the best of those with all gates closed
+-- a search: its tree; the incumbent, which is the greatest welfare that is known; what each actor saw, offered and has as its
+-- best; and the first activation, the best of those with all gates closed
 pub record Machine : Type 0 where
   pub tree : Grown
-  pub word : ℕ
+  pub incumbent : ℕ
   pub actors : List Actor
   pub first : Attained
 
@@ -30,31 +30,31 @@ new_actor welfare = record { seen = welfare; offered = welfare; best = None }
 
 -- a search at its start
 abbrev pub started : Market → ℕ → Attained → ℕ → Machine
-started m actors first budget = record { tree = seed m budget; word = first.welfare; actors = replicate actors (new_actor first.welfare); first = first }
+started m actors first budget = record { tree = seed m budget; incumbent = first.welfare; actors = replicate actors (new_actor first.welfare); first = first }
 
 -- ---- what an event changes
 
--- the actor sees this word
+-- the actor sees this incumbent
 abbrev pub seeing : ℕ → Actor → Actor
-seeing word a = record { seen = word; offered = a.offered; best = a.best }
+seeing incumbent a = record { seen = incumbent; offered = a.offered; best = a.best }
 
--- the actor keeps what it offers where that is more than it offered before, and sees this word
+-- the actor keeps what it offers where that is more than it offered before, and sees this incumbent
 abbrev pub offering : ℕ → Attained → Actor → Actor
-offering word attained a = if nat_lt a.offered attained.welfare then record { seen = word; offered = attained.welfare; best = Some attained } else record { seen = word; offered = a.offered; best = a.best }
+offering incumbent attained a = if nat_lt a.offered attained.welfare then record { seen = incumbent; offered = attained.welfare; best = Some attained } else record { seen = incumbent; offered = a.offered; best = a.best }
 
 -- what an actor saw, if there is one
 abbrev pub seen_by : Option Actor → ℕ
 seen_by None = 0
 seen_by (Some a) = a.seen
 
--- what an actor offers: the word rises to it, and the actor sees the word
+-- what an actor offers: the incumbent rises to it, and the actor sees the incumbent
 abbrev pub offered_to : Machine → ℕ → Attained → ℕ → Machine
-offered_to s k attained word = record s { word = word; actors = changed (offering word attained) s.actors k }
+offered_to s k attained incumbent = record s { incumbent = incumbent; actors = changed (offering incumbent attained) s.actors k }
 
 -- what an event changes; all else stays
 abbrev pub after : Machine → Event → Machine
-after s (Look k) = record s { actors = changed (seeing s.word) s.actors k }
-after s (Offer k attained) = offered_to s k attained (max s.word attained.welfare)
+after s (Look k) = record s { actors = changed (seeing s.incumbent) s.actors k }
+after s (Offer k attained) = offered_to s k attained (max s.incumbent attained.welfare)
 after s (Take k x) = record s { tree = grown s.tree (TakeEntry k x) }
 after s (Settle k x finding) = record s { tree = grown s.tree (settling s.tree k x (seen_by (slice_get s.actors k)) finding) }
 after s (GiveBack k x) = record s { tree = grown s.tree (GiveBackEntry k x) }
@@ -96,23 +96,23 @@ abbrev pub IsBest : Market → ℕ → ℕ → Option Attained → Type 0
 IsBest m welfare offered None = offered ≡ welfare
 IsBest m welfare offered (Some best) = IsAttained m best × (best.welfare ≡ offered) × (welfare < offered)
 
--- what an actor saw lies between the first welfare and the word, and it has its best
-pub record IsActor (m : Market) (welfare word : ℕ) (a : Actor) : Type 0 where
+-- what an actor saw lies between the first welfare and the incumbent, and it has its best
+pub record IsActor (m : Market) (welfare incumbent : ℕ) (a : Actor) : Type 0 where
   pub above : welfare ≤ a.seen
-  pub below : a.seen ≤ word
+  pub below : a.seen ≤ incumbent
   pub best : IsBest m welfare a.offered a.best
 
--- what every event keeps: the word is at least what every actor saw, which is at least the closed welfare; it is the greatest
--- of the closed welfare and all that was offered; each actor has its best; the tree is a growth, closed at cutoffs of at most
--- the word
+-- what every event keeps: the incumbent is at least what every actor saw, which is at least the closed welfare; it is the
+-- greatest of the closed welfare and all that was offered; each actor has its best; the tree is a growth, closed at cutoffs of
+-- at most the incumbent
 pub record KeepsFacts (s : Machine) : Type 0 where
   pub tree : IsGrowth s.tree
-  pub cutoffs : AreCutAt s.word s.tree.nodes
+  pub cutoffs : AreCutAt s.incumbent s.tree.nodes
   pub attained : IsAttained s.tree.market s.first
   pub closed : IsClosedWelfare s.tree.market (pos s.first.welfare)
-  pub word_is : s.word ≡ greatest s.first.welfare s.actors
+  pub incumbent_is : s.incumbent ≡ greatest s.first.welfare s.actors
   pub some_actor : 1 ≤ length s.actors
-  pub actors_are : All (IsActor s.tree.market s.first.welfare s.word) s.actors
+  pub actors_are : All (IsActor s.tree.market s.first.welfare s.incumbent) s.actors
 
 -- ---- what is published in the end
 
@@ -121,7 +121,7 @@ abbrev pub best_or : Attained → Option Attained → Attained
 best_or first None = first
 best_or first (Some best) = best
 
--- the best of the first actor that offered the word, and the first activation where none did
+-- the best of the first actor that offered the incumbent, and the first activation where none did
 abbrev pub best_of : ℕ → Attained → List Actor → Attained
-best_of word first [] = first
-best_of word first (a ∷ others) = if a.offered == word then best_or first a.best else best_of word first others
+best_of incumbent first [] = first
+best_of incumbent first (a ∷ others) = if a.offered == incumbent then best_or first a.best else best_of incumbent first others

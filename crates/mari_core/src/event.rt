@@ -11,7 +11,7 @@ use std::alloc::{AllocError, AllocFailed};
 /// One step of a search. Actors and nodes count from 0.
 #[derive(Drop)]
 pub enum Event {
-    /// The actor looks at the word.
+    /// The actor looks at the incumbent.
     Look {
         actor: u32,
     },

@@ -30,13 +30,13 @@ pub struct Actor {
     pub best: Option<Attained>,
 }
 
-/// A search by branch and bound: actors look at the word, offer activations, and take and settle the nodes of a tree.
+/// A search by branch and bound: actors look at the incumbent, offer activations, and take and settle the nodes of a tree.
 ///
-/// The word is the greatest welfare that is known, in quarter-cents. Actors and nodes count from 0.
+/// The incumbent is the greatest welfare that is known, in quarter-cents. Actors and nodes count from 0.
 #[derive(Drop)]
 pub struct Search<'m> {
     tree: Growth<'m>,
-    word: u64,
+    incumbent: u64,
     actors: Vec<Actor>,
     first: Attained,
 }
@@ -46,9 +46,9 @@ impl<'m> Model for Search<'m> {
 
     ghost Value = { Machine };
 
-    ghost view = { λ s. record { tree = s.tree; word = s.word; actors = s.actors.items; first = s.first } };
+    ghost view = { λ s. record { tree = s.tree; incumbent = s.incumbent; actors = s.actors.items; first = s.first } };
 
-    ghost invariant = { λ s. KeepsFacts (record { tree = s.tree; word = s.word; actors = s.actors.items; first = s.first }) };
+    ghost invariant = { λ s. KeepsFacts (record { tree = s.tree; incumbent = s.incumbent; actors = s.actors.items; first = s.first }) };
 }
 
 /// Actors that saw and offered nothing above this welfare.
@@ -66,12 +66,12 @@ fn new_actors(alloc: Global, count: u32, welfare: u64) -> Result<Vec<Actor>, Mem
     Ok(actors)
 }
 
-/// The best of the first actor that offered the word, or the first activation where none did.
-fn best_of(word: u64, first: Attained, actors: Vec<Actor>) -> Attained
-    ensures { result ≡ best_of word first actors.items }
+/// The best of the first actor that offered the incumbent, or the first activation where none did.
+fn best_of(incumbent: u64, first: Attained, actors: Vec<Actor>) -> Attained
+    ensures { result ≡ best_of incumbent first actors.items }
 {
     for actor in actors {
-        if actor.offered == word {
+        if actor.offered == incumbent {
             return actor.best.unwrap_or(first);
         }
     }
@@ -79,18 +79,18 @@ fn best_of(word: u64, first: Attained, actors: Vec<Actor>) -> Attained
 }
 
 impl Actor {
-    /// It looks at the word.
-    fn look(&mut self, word: u64)
-        ensures { self.new ≡ seeing word self.old }
+    /// It looks at the incumbent.
+    fn look(&mut self, incumbent: u64)
+        ensures { self.new ≡ seeing incumbent self.old }
     {
-        self.seen = word;
+        self.seen = incumbent;
     }
 
-    /// It offers an activation, by which the word rises to this one.
-    fn offer(&mut self, word: u64, attained: Attained)
-        ensures { self.new ≡ offering word attained self.old }
+    /// It offers an activation, by which the incumbent rises to this one.
+    fn offer(&mut self, incumbent: u64, attained: Attained)
+        ensures { self.new ≡ offering incumbent attained self.old }
     {
-        self.seen = word;
+        self.seen = incumbent;
         if self.offered < attained.welfare {
             self.offered = attained.welfare;
             self.best = Some(attained);
@@ -115,12 +115,12 @@ impl<'m> Search<'m> {
         ensures started { IfOk result (λ s. s ≡ started market.now actors first budget) }
         ensures facts { IfOk result KeepsFacts }
     {
-        let word = first.welfare;
+        let incumbent = first.welfare;
         let tree = Growth::start(alloc, market, budget)?;
-        let actors = new_actors(alloc, actors, word)?;
+        let actors = new_actors(alloc, actors, incumbent)?;
         Ok(Search {
             tree,
-            word,
+            incumbent,
             actors,
             first,
         })
@@ -152,7 +152,7 @@ impl<'m> Search<'m> {
         }
     }
 
-    /// An actor looks at the word.
+    /// An actor looks at the incumbent.
     fn look(&mut self, actor: u32) -> Result<(), StepFault>
         ensures change { IfOk result (λ _. self.new ≡ after self.old (Look actor)) }
         ensures same { IfErr result (λ _. self.new ≡ self.old) }
@@ -164,7 +164,7 @@ impl<'m> Search<'m> {
             return Err(StepFault::NoActor);
         }
         let by = &mut self.actors[actor as usize];
-        by.look(self.word);
+        by.look(self.incumbent);
         Ok(())
     }
 
@@ -180,9 +180,9 @@ impl<'m> Search<'m> {
         if actor as usize >= self.actors.len() {
             return Err(StepFault::NoActor);
         }
-        self.word = self.word.max(attained.welfare);
+        self.incumbent = self.incumbent.max(attained.welfare);
         let by = &mut self.actors[actor as usize];
-        by.offer(self.word, attained);
+        by.offer(self.incumbent, attained);
         Ok(())
     }
 
@@ -200,7 +200,7 @@ impl<'m> Search<'m> {
         self.tree.take(actor, node)
     }
 
-    /// An actor settles a node that it has taken, at what it saw of the word.
+    /// An actor settles a node that it has taken, at what it saw of the incumbent.
     fn settle(&mut self, actor: u32, node: u32, finding: Finding) -> Result<(), StepFault>
         requires { IsProper self.old (Settle actor node finding) }
         ensures change { IfOk result (λ _. self.new ≡ after self.old (Settle actor node finding)) }
@@ -246,7 +246,7 @@ impl<'m> Search<'m> {
         self.tree.prefix_of(node)
     }
 
-    /// What an actor saw of the word, in quarter-cents, if there is one of that number.
+    /// What an actor saw of the incumbent, in quarter-cents, if there is one of that number.
     pub fn seen(&self, actor: u32) -> Option<u64>
         ensures { result ≡ option_map (λ a. a.seen) (slice_get self.now.actors actor) }
     {
@@ -279,24 +279,24 @@ impl<'m> Search<'m> {
     /// An optimal activation and the tree that shows it, where each node is branched or closed. The search is gone then.
     pub fn finish(self, alloc: Global) -> Result<Clearing, FinishFault>
         ensures clearing { IfOk result (λ c. IsOptimalClearing self.entry.tree.market self.entry.tree.budget c) }
-        ensures welfare { IfOk result (λ c. c.welfare ≡ self.entry.word) }
-        ensures activation { IfOk result (λ c. c.activation ≡ (best_of self.entry.word self.entry.first self.entry.actors).activation) }
-        ensures first { self.entry.word ≡ self.entry.first.welfare → IfOk result (λ c. c.activation ≡ self.entry.first.activation) }
+        ensures welfare { IfOk result (λ c. c.welfare ≡ self.entry.incumbent) }
+        ensures activation { IfOk result (λ c. c.activation ≡ (best_of self.entry.incumbent self.entry.first self.entry.actors).activation) }
+        ensures first { self.entry.incumbent ≡ self.entry.first.welfare → IfOk result (λ c. c.activation ≡ self.entry.first.activation) }
         ensures tree { IfOk result (λ c. IsTree self.entry.tree.nodes c.tree) }
         ensures search { IfOk result (λ c. ArePartsOfSearch self.entry.tree.market ([] ∷ []) (map shape_of c.tree)) }
         ensures not_closed { IfErr result (IsOpenFault self.entry.tree.nodes) }
     {
         let Search {
             tree,
-            word,
+            incumbent,
             actors,
             first,
         } = self;
         let tree = tree.finish(alloc)?;
-        let best = best_of(word, first, actors);
+        let best = best_of(incumbent, first, actors);
         Ok(Clearing {
             activation: best.activation,
-            welfare: word,
+            welfare: incumbent,
             tree: Items::of(tree),
         })
     }

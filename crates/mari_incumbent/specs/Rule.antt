@@ -1,11 +1,11 @@
--- The rule of the word, over the views of all seats.
+-- The rule of the incumbent, over the views of all seats.
 use Rattle.std.specs.Prelude.{◌≡◌, ℕ, ◌+◌, ◌-◌, ◌<◌, ◌≤◌, List, [], ◌∷◌, max}
 use mathlib.Core.Option.{some}
 use lib.ListN.{get_elem?}
 use Rattle.atomic_table.specs.Table.{State, Step, Me}
 use Rattle.mari_incumbent.specs.declared.rule.View.{View}
 
--- what a seat knows: the word's first number, the parts of all seats, what it saw and offered, and its parts
+-- what a seat knows: the incumbent's first number, the parts of all seats, what it saw and offered, and its parts
 abbrev pub view_of : ℕ → ℕ → ℕ → ℕ → ℕ → View
 view_of first all seen offered parts = record { first = first; all = all; seen = seen; offered = offered; parts = parts }
 
@@ -20,18 +20,18 @@ total [] = 0
 total (v ∷ vs) = v.parts + total vs
 
 -- what the rule says of one view
-pub record Fits (first all word : ℕ) (v : View) : Type 0 where
-  pub below : v.seen ≤ word
+pub record Fits (first all incumbent : ℕ) (v : View) : Type 0 where
+  pub below : v.seen ≤ incumbent
   pub with_parts : 0 < v.parts → (v.first ≡ first) × (v.all ≡ all) × (first ≤ v.offered) × (v.offered ≤ v.seen)
   pub without_parts : v.parts ≡ 0 → v.offered ≤ first
 
--- the rule over one word and all views: the word is at least what each saw; it is the greatest of the first number and all that
--- was offered; the parts sum to those of the start; and a view fits with its parts or without
+-- the rule over one incumbent and all views: the incumbent is at least what each saw; it is the greatest of the first number and
+-- all that was offered; the parts sum to those of the start; and a view fits with its parts or without
 pub record Kept (first all : ℕ) (words : List ℕ) (views : List View) : Type 0 where
-  pub word : ℕ
-  pub words_are : words ≡ word ∷ []
-  pub each : (id : ℕ) (v : View) → get_elem? views id ≡ some v → Fits first all word v
-  pub is_greatest : word ≡ greatest first views
+  pub incumbent : ℕ
+  pub words_are : words ≡ incumbent ∷ []
+  pub each : (id : ℕ) (v : View) → get_elem? views id ≡ some v → Fits first all incumbent v
+  pub is_greatest : incumbent ≡ greatest first views
   pub is_whole : total views ≡ all
 
 -- the rule as a fact about the table

@@ -1,4 +1,4 @@
-//! The law that each kind of step keeps the rule of the word.
+//! The law that each kind of step keeps the rule of the incumbent.
 
 ghost use Rattle.std.specs.Prelude.{ℕ, ◌<◌, max, []};
 ghost use mathlib.Core.Option.{none};

@@ -1,4 +1,4 @@
-//! The rule of the word, and the kinds of step on it.
+//! The rule of the incumbent, and the kinds of step on it.
 
 use atomic_table::{Join, Play, Split, TableRule};
 

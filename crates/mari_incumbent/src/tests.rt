@@ -1,4 +1,4 @@
-//! One word under one thread and under two.
+//! One incumbent under one thread and under two.
 
 ghost use Rattle.std.specs.Prelude.{◌≡◌, ◌<◌};
 
@@ -7,7 +7,7 @@ use std::test::Fail;
 use std::thread::join;
 
 #[test]
-fn two_seats_of_one_word(rt: HostRuntime) -> Result<(), Fail> {
+fn two_seats_of_one_incumbent(rt: HostRuntime) -> Result<(), Fail> {
     let (incumbent, mut first) = Incumbent::start(rt.alloc(), 5, 2)?;
     let mut second = incumbent.split(&mut first);
     assert_eq!(rt; incumbent.offer(&mut second, 9), 9);
@@ -23,9 +23,9 @@ fn two_seats_of_one_word(rt: HostRuntime) -> Result<(), Fail> {
 
 /// Offers 1,000 numbers, from this one on.
 fn offer_from(incumbent: &Incumbent, mut seat: Seat, from: u64) -> Seat
-    requires word { seat.word ≡ incumbent.now }
+    requires incumbent { seat.incumbent ≡ incumbent.now }
     requires small { from < 1000 }
-    ensures word { result.word ≡ seat.word }
+    ensures incumbent { result.incumbent ≡ seat.incumbent }
     ensures parts { result.parts ≡ seat.parts }
 {
     for k in 0..1000 {
@@ -42,12 +42,12 @@ fn two_threads_offer_and_the_greatest_is_kept(rt: HostRuntime) -> Result<(), Fai
     let (mut one, other) = join(
         &rt,
         move || -> Seat
-            requires { first.word ≡ shared.now }
-            ensures { (result.word ≡ first.word) × (result.parts ≡ first.parts) }
+            requires { first.incumbent ≡ shared.now }
+            ensures { (result.incumbent ≡ first.incumbent) × (result.parts ≡ first.parts) }
         { offer_from(shared, first, 1) },
         move || -> Seat
-            requires { second.word ≡ shared.now }
-            ensures { (result.word ≡ second.word) × (result.parts ≡ second.parts) }
+            requires { second.incumbent ≡ shared.now }
+            ensures { (result.incumbent ≡ second.incumbent) × (result.parts ≡ second.parts) }
         { offer_from(shared, second, 501) },
     );
     incumbent.join(&mut one, other);

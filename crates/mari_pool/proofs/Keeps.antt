@@ -21,30 +21,30 @@ use Rattle.mari_core.proofs.Journals.{grown_budget, leads_on, leads_above, leads
 use Rattle.mari_core.proofs.Seeds.{seed_by}
 use Rattle.mari_market.specs.Market.{IsValid}
 use Rattle.mari_market.specs.Relaxation.{IsClosedWelfare}
-use Rattle.mari_incumbent.specs.Word.{WordId, Standing, standing}
+use Rattle.mari_incumbent.specs.Incumbent.{IncumbentId, Standing, standing}
 use Rattle.mari_pool.specs.Pooled.{Pooled, IsPool, unreturned, owed, entered, keys_after, meeting, settled_with, answer_of}
 use Rattle.mari_pool.specs.Queued.{first_key, child_key}
 use Rattle.mari_pool.proofs.Queues.{made}
 use Rattle.mari_pool.proofs.Rooms.{IsPaid, entry_paid, settling_paid, unreturned_all, owed_more}
 
 -- the journal has room for an entry that is paid
-pub has_room : (m : Market) (budget workers : ℕ) (word : WordId) (p : Pooled) (e : Entry) (after : ℕ) → IsPool m budget workers word p → IsAllowed p.tree e → IsPaid p.tree e (unreturned p.returned) after → length p.journal < p.room
-has_room m budget workers word p e after h may paid = omega (arith, entry_paid p.tree e (unreturned p.returned) after h.grows.within_budget may paid, h.room_is)
+pub has_room : (m : Market) (budget workers : ℕ) (incumbent : IncumbentId) (p : Pooled) (e : Entry) (after : ℕ) → IsPool m budget workers incumbent p → IsAllowed p.tree e → IsPaid p.tree e (unreturned p.returned) after → length p.journal < p.room
+has_room m budget workers incumbent p e after h may paid = omega (arith, entry_paid p.tree e (unreturned p.returned) after h.grows.within_budget may paid, h.room_is)
 
 -- a pool of these parts
 abbrev pub pool_of : Grown → List ℕ → List JournalEntry → ℕ → List ℕ → List Bool → Standing → Pooled
 pool_of tree keys journal room turns returned seat = record { tree = tree; keys = keys; journal = journal; room = room; turns = turns; returned = returned; seat = seat }
 
 -- an entry for which there is room keeps what holds
-pub entry_keeps_by : (m : Market) (budget workers : ℕ) (word : WordId) (p : Pooled) (e : Entry) (keys turns : List ℕ) (returned : List Bool) → IsPool m budget workers word p → IsAllowed p.tree e → length p.journal + 1 + owed (grown p.tree e) returned ≤ p.room → IsEntryCutAt p.seat.seen e → length keys ≡ length (grown p.tree e).nodes → length turns ≡ length p.turns → length returned ≡ length p.returned → IsPool m budget workers word (pool_of (grown p.tree e) keys (p.journal ++ in_journal e ∷ []) p.room turns returned p.seat)
-entry_keeps_by m budget workers word p e keys turns returned h may room cut ks t r = record {
+pub entry_keeps_by : (m : Market) (budget workers : ℕ) (incumbent : IncumbentId) (p : Pooled) (e : Entry) (keys turns : List ℕ) (returned : List Bool) → IsPool m budget workers incumbent p → IsAllowed p.tree e → length p.journal + 1 + owed (grown p.tree e) returned ≤ p.room → IsEntryCutAt p.seat.seen e → length keys ≡ length (grown p.tree e).nodes → length turns ≡ length p.turns → length returned ≡ length p.returned → IsPool m budget workers incumbent (pool_of (grown p.tree e) keys (p.journal ++ in_journal e ∷ []) p.room turns returned p.seat)
+entry_keeps_by m budget workers incumbent p e keys turns returned h may room cut ks t r = record {
   market_is = grown_market p.tree e ∙ h.market_is;
   budget_is = grown_budget p.tree e ∙ h.budget_is;
   grows = entry_kept p.tree e h.grows may;
   leads = leads_on p.journal p.seat.seen p.tree e h.leads may cut;
   keys_are = ks;
   closed = h.closed;
-  seat_word = h.seat_word;
+  seat_incumbent = h.seat_incumbent;
   seat_parts = h.seat_parts;
   seat_offered = h.seat_offered;
   room_is = omega (arith, room, length-append p.journal (in_journal e ∷ []));
@@ -53,24 +53,24 @@ entry_keeps_by m budget workers word p e keys turns returned h may room cut ks t
 }
 
 -- a paid entry keeps what holds
-pub entry_keeps : (m : Market) (budget workers : ℕ) (word : WordId) (p : Pooled) (e : Entry) (keys turns : List ℕ) (returned : List Bool) → IsPool m budget workers word p → IsAllowed p.tree e → IsPaid p.tree e (unreturned p.returned) (unreturned returned) → IsEntryCutAt p.seat.seen e → length keys ≡ length (grown p.tree e).nodes → length turns ≡ length p.turns → length returned ≡ length p.returned → IsPool m budget workers word (pool_of (grown p.tree e) keys (p.journal ++ in_journal e ∷ []) p.room turns returned p.seat)
-entry_keeps m budget workers word p e keys turns returned h may paid cut ks t r =
-    entry_keeps_by m budget workers word p e keys turns returned h may (omega (arith, entry_paid p.tree e (unreturned p.returned) (unreturned returned) h.grows.within_budget may paid, h.room_is)) cut ks t r
+pub entry_keeps : (m : Market) (budget workers : ℕ) (incumbent : IncumbentId) (p : Pooled) (e : Entry) (keys turns : List ℕ) (returned : List Bool) → IsPool m budget workers incumbent p → IsAllowed p.tree e → IsPaid p.tree e (unreturned p.returned) (unreturned returned) → IsEntryCutAt p.seat.seen e → length keys ≡ length (grown p.tree e).nodes → length turns ≡ length p.turns → length returned ≡ length p.returned → IsPool m budget workers incumbent (pool_of (grown p.tree e) keys (p.journal ++ in_journal e ∷ []) p.room turns returned p.seat)
+entry_keeps m budget workers incumbent p e keys turns returned h may paid cut ks t r =
+    entry_keeps_by m budget workers incumbent p e keys turns returned h may (omega (arith, entry_paid p.tree e (unreturned p.returned) (unreturned returned) h.grows.within_budget may paid, h.room_is)) cut ks t r
 
 -- how much is owed once a taken node is put back
 pub back_owed : (g : Grown) (k x : ℕ) (returned : List Bool) → IsGrowth g → state_at g.nodes x ≡ Some (Taken k) → owed (grown g (GiveBack k x)) returned ≤ owed g returned + 1
 back_owed g k x returned grows taken = omega (arith, entry_paid g (GiveBack k x) (unreturned returned + 1) (unreturned returned) grows.within_budget taken refl, owed_more g (unreturned returned))
 
 -- where the pool's seat sees more
-pub meeting_keeps : (m : Market) (budget workers : ℕ) (word : WordId) (p : Pooled) (seen : ℕ) → IsPool m budget workers word p → IsPool m budget workers word (meeting p seen)
-meeting_keeps m budget workers word p seen h = record {
+pub meeting_keeps : (m : Market) (budget workers : ℕ) (incumbent : IncumbentId) (p : Pooled) (seen : ℕ) → IsPool m budget workers incumbent p → IsPool m budget workers incumbent (meeting p seen)
+meeting_keeps m budget workers incumbent p seen h = record {
   market_is = h.market_is;
   budget_is = h.budget_is;
   grows = h.grows;
   leads = leads_above p.journal p.seat.seen (max p.seat.seen seen) p.tree (omega arith) h.leads;
   keys_are = h.keys_are;
   closed = h.closed;
-  seat_word = h.seat_word;
+  seat_incumbent = h.seat_incumbent;
   seat_parts = h.seat_parts;
   seat_offered = h.seat_offered;
   room_is = h.room_is;
@@ -85,19 +85,19 @@ may_settle_node m seen f word (n ∷ ns) zero e may =
     subst (λ w. MaySettle m seen f n) same (subst (λ w. MaySettle m seen f (record { word = w; state = n.state })) (sym same) record { finding_is = may.finding_is; reached = may.reached })
 may_settle_node m seen f word (n ∷ ns) (suc x) e may = may_settle_node m seen f word ns x e may
 
--- a seat of the word has seen a cutoff
-pub seat_cutoff : (m : Market) (budget workers : ℕ) (word : WordId) (p : Pooled) (seen : ℕ) → IsPool m budget workers word p → word.first ≤ seen → IsCutoff p.tree.market seen
-seat_cutoff m budget workers word p seen h l = subst (λ (n : Market). IsCutoff n seen) (sym h.market_is) record { closed = pos word.first; is_closed = h.closed; above = omega (arith, ints, l) }
+-- a seat of the incumbent has seen a cutoff
+pub seat_cutoff : (m : Market) (budget workers : ℕ) (incumbent : IncumbentId) (p : Pooled) (seen : ℕ) → IsPool m budget workers incumbent p → incumbent.first ≤ seen → IsCutoff p.tree.market seen
+seat_cutoff m budget workers incumbent p seen h l = subst (λ (n : Market). IsCutoff n seen) (sym h.market_is) record { closed = pos incumbent.first; is_closed = h.closed; above = omega (arith, ints, l) }
 
 -- to settle a taken node is allowed
-pub may_settle : (m : Market) (budget workers : ℕ) (word : WordId) (p : Pooled) (k x seen : ℕ) (f : Finding) (gates : List Bool) → IsPool m budget workers word p → word.first ≤ seen → state_at p.tree.nodes x ≡ Some (Taken k) → slice_get (words_of p.tree.nodes) x ≡ Some gates → MaySettle m seen f (new_node gates) → IsAllowed p.tree (settling p.tree k x seen f)
-may_settle m budget workers word p k x seen f gates h l taken at may =
-    settle_allowed p.tree k x seen f h.grows (seat_cutoff m budget workers word p seen h l)
+pub may_settle : (m : Market) (budget workers : ℕ) (incumbent : IncumbentId) (p : Pooled) (k x seen : ℕ) (f : Finding) (gates : List Bool) → IsPool m budget workers incumbent p → incumbent.first ≤ seen → state_at p.tree.nodes x ≡ Some (Taken k) → slice_get (words_of p.tree.nodes) x ≡ Some gates → MaySettle m seen f (new_node gates) → IsAllowed p.tree (settling p.tree k x seen f)
+may_settle m budget workers incumbent p k x seen f gates h l taken at may =
+    settle_allowed p.tree k x seen f h.grows (seat_cutoff m budget workers incumbent p seen h l)
     (may_settle_node p.tree.market seen f gates p.tree.nodes x at (subst (λ (n : Market). MaySettle n seen f (new_node gates)) (sym h.market_is) may)) taken
 
 -- a pool of the same parts
-pub pool_same : (m : Market) (budget workers : ℕ) (word : WordId) (t t' : Grown) (ks ks' : List ℕ) (j j' : List JournalEntry) (r r' : ℕ) (turns : List ℕ) (returned : List Bool) (s s' : Standing) → t' ≡ t → ks' ≡ ks → j' ≡ j → r' ≡ r → s' ≡ s → IsPool m budget workers word (pool_of t ks j r turns returned s) → IsPool m budget workers word (pool_of t' ks' j' r' turns returned s')
-pool_same m budget workers word t t' ks ks' j j' r r' turns returned s s' et ek ej er es h = rw (et, ek, ej, er, es) h
+pub pool_same : (m : Market) (budget workers : ℕ) (incumbent : IncumbentId) (t t' : Grown) (ks ks' : List ℕ) (j j' : List JournalEntry) (r r' : ℕ) (turns : List ℕ) (returned : List Bool) (s s' : Standing) → t' ≡ t → ks' ≡ ks → j' ≡ j → r' ≡ r → s' ≡ s → IsPool m budget workers incumbent (pool_of t ks j r turns returned s) → IsPool m budget workers incumbent (pool_of t' ks' j' r' turns returned s')
+pool_same m budget workers incumbent t t' ks ks' j j' r r' turns returned s s' et ek ej er es h = rw (et, ek, ej, er, es) h
 
 pub pool_parts : (t t' : Grown) (ks ks' : List ℕ) (j j' : List JournalEntry) (r r' : ℕ) (turns : List ℕ) (returned : List Bool) (s s' : Standing) → t' ≡ t → ks' ≡ ks → j' ≡ j → r' ≡ r → s' ≡ s → pool_of t' ks' j' r' turns returned s' ≡ pool_of t ks j r turns returned s
 pool_parts t t' ks ks' j j' r r' turns returned s s' et ek ej er es = rw (et, ek, ej, er, es) refl
@@ -117,10 +117,10 @@ keys_enough g e keys key h =
     omega (arith, length-append keys (replicate more key), length-replicate more key, grown_longer g e, h)
 
 -- the seats meet, and a taken node is settled
-pub settle_keeps : (m : Market) (budget workers : ℕ) (word : WordId) (p : Pooled) (k x seen : ℕ) (f : Finding) → IsPool m budget workers word p → IsAllowed p.tree (settling p.tree k x seen f) → IsPool m budget workers word (settled_with p k x seen f)
-settle_keeps m budget workers word p k x seen f h may =
+pub settle_keeps : (m : Market) (budget workers : ℕ) (incumbent : IncumbentId) (p : Pooled) (k x seen : ℕ) (f : Finding) → IsPool m budget workers incumbent p → IsAllowed p.tree (settling p.tree k x seen f) → IsPool m budget workers incumbent (settled_with p k x seen f)
+settle_keeps m budget workers incumbent p k x seen f h may =
     let e = settling p.tree k x seen f in
-    entry_keeps m budget workers word (meeting p seen) e (keys_after p.tree e p.keys (child_key f)) p.turns p.returned (meeting_keeps m budget workers word p seen h) may (settling_paid p.tree k x seen (unreturned p.returned) (closing_leaf seen f)) (settling_cut p.tree k x seen (max p.seat.seen seen) f (omega arith)) (keys_enough p.tree e p.keys (child_key f) h.keys_are) refl refl
+    entry_keeps m budget workers incumbent (meeting p seen) e (keys_after p.tree e p.keys (child_key f)) p.turns p.returned (meeting_keeps m budget workers incumbent p seen h) may (settling_paid p.tree k x seen (unreturned p.returned) (closing_leaf seen f)) (settling_cut p.tree k x seen (max p.seat.seen seen) f (omega arith)) (keys_enough p.tree e p.keys (child_key f) h.keys_are) refl refl
 
 -- ---- what became of a node
 
@@ -147,16 +147,16 @@ answer_full g (GiveBack k x) a b c e = absurd (cc)
 
 -- ---- the start
 
-pub start_keeps : (m n : Market) (b budget w workers : ℕ) (word : WordId) (t : Grown) (ks : List ℕ) (j : List JournalEntry) (room : ℕ) (turns : List ℕ) (returned : List Bool) (seat : Standing) → m ≡ n → b ≡ budget → w ≡ workers → IsValid m → (1 ≤ b) × (b ≤ 50000) → seat.word ≡ word → seat.parts ≡ 1 → seat.offered ≡ word.first → IsClosedWelfare m (pos word.first) → t ≡ seed m b → ks ≡ first_key ∷ [] → j ≡ [] → 2 * b + 2 * w + 2 ≤ room → turns ≡ replicate b 0 → returned ≡ replicate (w + 1) false → IsPool n budget workers word (pool_of t ks j room turns returned seat)
-start_keeps m n b budget w workers word t ks j room turns returned seat em eb ew valid few sw sp so closed et ek ej er eturns ereturned =
-    subst (λ (k : Market). IsPool k budget workers word (pool_of t ks j room turns returned seat)) em (rw (et, ek, ej, eturns, ereturned) (record {
+pub start_keeps : (m n : Market) (b budget w workers : ℕ) (incumbent : IncumbentId) (t : Grown) (ks : List ℕ) (j : List JournalEntry) (room : ℕ) (turns : List ℕ) (returned : List Bool) (seat : Standing) → m ≡ n → b ≡ budget → w ≡ workers → IsValid m → (1 ≤ b) × (b ≤ 50000) → seat.incumbent ≡ incumbent → seat.parts ≡ 1 → seat.offered ≡ incumbent.first → IsClosedWelfare m (pos incumbent.first) → t ≡ seed m b → ks ≡ first_key ∷ [] → j ≡ [] → 2 * b + 2 * w + 2 ≤ room → turns ≡ replicate b 0 → returned ≡ replicate (w + 1) false → IsPool n budget workers incumbent (pool_of t ks j room turns returned seat)
+start_keeps m n b budget w workers incumbent t ks j room turns returned seat em eb ew valid few sw sp so closed et ek ej er eturns ereturned =
+    subst (λ (k : Market). IsPool k budget workers incumbent (pool_of t ks j room turns returned seat)) em (rw (et, ek, ej, eturns, ereturned) (record {
       market_is = refl;
       budget_is = eb;
       grows = (seed_by m b [] refl valid few).0;
       leads = leads_nowhere seat.seen m b;
       keys_are = refl;
       closed = closed;
-      seat_word = sw;
+      seat_incumbent = sw;
       seat_parts = sp;
       seat_offered = so;
       room_is = omega (arith, unreturned_all (w + 1), er, few.0);

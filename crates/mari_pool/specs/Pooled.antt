@@ -10,7 +10,7 @@ use Rattle.mari_core.specs.declared.journal.JournalEntry.{JournalEntry}
 use Rattle.mari_core.specs.Nodes.{TreeNode, words_of, state_at}
 use Rattle.mari_core.specs.Growth.{Grown, Entry, seed, grown, grown_by, settling, in_journal, IsGrowth, LeadsTo}
 use Rattle.mari_core.specs.Growth.Entry.{Take, Close, Branch, Full, GiveBack}
-use Rattle.mari_incumbent.specs.Word.{WordId, Standing, standing}
+use Rattle.mari_incumbent.specs.Incumbent.{IncumbentId, Standing, standing}
 use Rattle.mari_pool.specs.Queued.{first_key, child_key}
 use Rattle.mari_pool.specs.declared.ticket.Settled.{Settled}
 use Rattle.mari_pool.specs.declared.ticket.Settled.TheVariants as settled
@@ -70,18 +70,19 @@ taken_among [] = 0
 taken_among (n ∷ ns) = taken_in n.state + taken_among ns
 
 -- what holds of a pool whenever its lock is free: its tree is a growth of the search's market within its budget, to which the
--- journal leads at cutoffs that the pool's seat has seen; each node has a key; that seat is of the search's word, which starts at
--- the closed welfare, and has one part, by which nothing was offered; and the journal has room for all that may still come
-pub record IsPool (m : Market) (budget workers : ℕ) (word : WordId) (p : Pooled) : Type 0 where
+-- journal leads at cutoffs that the pool's seat has seen; each node has a key; that seat is of the search's incumbent, which
+-- starts at the closed welfare, and has one part, by which nothing was offered; and the journal has room for all that may still
+-- come
+pub record IsPool (m : Market) (budget workers : ℕ) (incumbent : IncumbentId) (p : Pooled) : Type 0 where
   pub market_is : p.tree.market ≡ m
   pub budget_is : p.tree.budget ≡ budget
   pub grows : IsGrowth p.tree
   pub leads : LeadsTo p.journal p.seat.seen p.tree
   pub keys_are : length p.keys ≡ length p.tree.nodes
-  pub closed : IsClosedWelfare m (pos word.first)
-  pub seat_word : p.seat.word ≡ word
+  pub closed : IsClosedWelfare m (pos incumbent.first)
+  pub seat_incumbent : p.seat.incumbent ≡ incumbent
   pub seat_parts : p.seat.parts ≡ 1
-  pub seat_offered : p.seat.offered ≡ word.first
+  pub seat_offered : p.seat.offered ≡ incumbent.first
   pub room_is : length p.journal + owed p.tree p.returned ≤ p.room
   pub turns_are : length p.turns ≡ budget
   pub returned_are : length p.returned ≡ workers + 1
@@ -106,7 +107,7 @@ taking p worker node = record (entered p (Take worker node)) { turns = slice_set
 
 -- the pool's seat has seen what another saw
 abbrev pub meeting : Pooled → ℕ → Pooled
-meeting p seen = record p { seat = standing p.seat.word (max p.seat.seen seen) p.seat.offered p.seat.parts }
+meeting p seen = record p { seat = standing p.seat.incumbent (max p.seat.seen seen) p.seat.offered p.seat.parts }
 
 -- the keys after an entry: each node that it makes has this one
 abbrev pub keys_after : Grown → Entry → List ℕ → ℕ → List ℕ

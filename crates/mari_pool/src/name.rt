@@ -2,15 +2,16 @@
 
 use std::marker::Brand;
 
-/// One search: its word, its market, its budget of nodes, and the numbers of its workers, which are those up to `workers`.
+/// One search: its incumbent, its market, its budget of nodes, and the numbers of its workers, which are those up to
+/// `workers`.
 ///
 /// Each search picks its own. The pool and its tickets carry it, so that what is done under the lock speaks of one search.
 pub trait SearchName {
     ghost use Rattle.std.specs.Prelude.{ℕ};
     ghost use Rattle.mari_market.specs.declared.market.Market.{Market};
-    ghost use Rattle.mari_incumbent.specs.Word.{WordId};
+    ghost use Rattle.mari_incumbent.specs.Incumbent.{IncumbentId};
 
-    ghost word: { WordId };
+    ghost incumbent: { IncumbentId };
 
     ghost market: { Market };
 
@@ -20,9 +21,9 @@ pub trait SearchName {
 }
 
 impl SearchName for Brand {
-    ghost use Rattle.mari_pool.specs.Name.{no_word, no_market};
+    ghost use Rattle.mari_pool.specs.Name.{no_incumbent, no_market};
 
-    ghost word = { no_word };
+    ghost incumbent = { no_incumbent };
 
     ghost market = { no_market };
 

@@ -50,7 +50,7 @@ impl<'m, N: SearchName> Model for Pool<'m, N> {
 
     ghost view = { λ p. record { tree = p.tree; keys = p.queue.keys; journal = p.journal.items; room = vec_capacity p.journal; turns = p.turns.items; returned = p.returned.items; seat = p.seat } };
 
-    ghost invariant = { λ p. IsPool N.market N.budget N.workers N.word (record { tree = p.tree; keys = p.queue.keys; journal = p.journal.items; room = vec_capacity p.journal; turns = p.turns.items; returned = p.returned.items; seat = p.seat }) × (taken_among p.tree.nodes ≡ p.taken) × IsQueueOf p.tree.nodes p.queue × (p.queue.room ≡ p.tree.budget) };
+    ghost invariant = { λ p. IsPool N.market N.budget N.workers N.incumbent (record { tree = p.tree; keys = p.queue.keys; journal = p.journal.items; room = vec_capacity p.journal; turns = p.turns.items; returned = p.returned.items; seat = p.seat }) × (taken_among p.tree.nodes ≡ p.taken) × IsQueueOf p.tree.nodes p.queue × (p.queue.room ≡ p.tree.budget) };
 }
 
 /// Why a pool has no tree yet.
@@ -65,7 +65,7 @@ pub enum PoolFault {
 impl<'m, N: SearchName> Pool<'m, N> {
     /// A pool whose one node, the prefix that decides no gate, waits.
     ///
-    /// The seat is of a word that was started at the closed welfare.
+    /// The seat is of an incumbent that was started at the closed welfare.
     pub fn start(
         alloc: Global,
         market: &'m Market,
@@ -77,8 +77,8 @@ impl<'m, N: SearchName> Pool<'m, N> {
         requires market { IsValid market.now }
         requires budget { (1 ≤ budget) × (budget ≤ 50000) }
         requires workers { (1 ≤ workers) × (workers ≤ 16) }
-        requires seat { (seat.word ≡ N.word) × (seat.parts ≡ 1) × (seat.offered ≡ N.word.first) }
-        requires closed { IsClosedWelfare market.now (pos N.word.first) }
+        requires seat { (seat.incumbent ≡ N.incumbent) × (seat.parts ≡ 1) × (seat.offered ≡ N.incumbent.first) }
+        requires closed { IsClosedWelfare market.now (pos N.incumbent.first) }
         ensures pool { IfOk result (λ p. p ≡ started market.now budget workers p.room seat) }
         ensures room { IfOk result (λ p. 2 * budget + 2 * workers + 2 ≤ p.room) }
     {
@@ -157,7 +157,7 @@ impl<'m, N: SearchName> Pool<'m, N> {
         finding: Finding,
         seat: &mut Seat,
     ) -> Settled
-        requires word { (incumbent.now ≡ N.word) × (seat.old.word ≡ N.word) }
+        requires incumbent { (incumbent.now ≡ N.incumbent) × (seat.old.incumbent ≡ N.incumbent) }
         requires finding { MaySettle N.market seat.old.seen finding (new_node (word_of ticket.prefix)) }
         ensures stale { (IsTakenAt self.old ticket.node ticket.turn ticket.worker (word_of ticket.prefix) → ⊥) → (result ≡ Stale) × (self.new ≡ self.old) }
         ensures settled { IsTakenAt self.old ticket.node ticket.turn ticket.worker (word_of ticket.prefix) → self.new ≡ settled_with self.old ticket.worker ticket.node seat.old.seen finding }
@@ -319,7 +319,7 @@ impl<'m, N: SearchName> Pool<'m, N> {
 
     /// What always holds of a pool. The call does nothing: its contract is the law.
     pub fn facts_are_kept(&self)
-        ensures { IsPool N.market N.budget N.workers N.word self.now }
+        ensures { IsPool N.market N.budget N.workers N.incumbent self.now }
     {
         let _taken = self.taken;
     }
@@ -327,7 +327,7 @@ impl<'m, N: SearchName> Pool<'m, N> {
     /// The pool's own seat.
     pub fn into_seat(self) -> Seat
         ensures seat { result ≡ self.entry.seat }
-        ensures fresh { (result.word ≡ N.word) × (result.parts ≡ 1) × (result.offered ≡ N.word.first) }
+        ensures fresh { (result.incumbent ≡ N.incumbent) × (result.parts ≡ 1) × (result.offered ≡ N.incumbent.first) }
     {
         let Pool { seat, .. } = self;
         seat

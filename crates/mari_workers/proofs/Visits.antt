@@ -184,19 +184,19 @@ offer_accepted s best facts = by_actor_none s.actors None facts.some_actor refl
 abbrev seen_either : Bool → Actor → Actor → ℕ
 seen_either b one other = (if◌then◌else◌ {A = Actor} b one other).seen
 
-seen_of_offer : (word : ℕ) (best : Attained) (a : Actor) → (offering word best a).seen ≡ word
-seen_of_offer word best a = by_test (nat_lt a.offered best.welfare)
+seen_of_offer : (incumbent : ℕ) (best : Attained) (a : Actor) → (offering incumbent best a).seen ≡ incumbent
+seen_of_offer incumbent best a = by_test (nat_lt a.offered best.welfare)
   where
-    by_test : (b : Bool) → seen_either b (record { seen = word; offered = best.welfare; best = Some best }) (record { seen = word; offered = a.offered; best = a.best }) ≡ word
+    by_test : (b : Bool) → seen_either b (record { seen = incumbent; offered = best.welfare; best = Some best }) (record { seen = incumbent; offered = a.offered; best = a.best }) ≡ incumbent
     by_test true = refl
     by_test false = refl
 
 offer_seen : (s : Machine) (best : Attained) → 1 ≤ length s.actors → best.welfare ≤ seen_by (slice_get (after_offer s (Some best)).actors 0)
 offer_seen s best l =
     let first = actor_there s.actors 0 l in
-    let word = max s.word best.welfare in
-    let same : slice_get (after_offer s (Some best)).actors 0 ≡ Some (offering word best first.actor) = changed_same (offering word best) s.actors 0 first.actor first.there in
-    let seen : seen_by (slice_get (after_offer s (Some best)).actors 0) ≡ max s.word best.welfare = ap seen_by same ∙ seen_of_offer word best first.actor in
+    let incumbent = max s.incumbent best.welfare in
+    let same : slice_get (after_offer s (Some best)).actors 0 ≡ Some (offering incumbent best first.actor) = changed_same (offering incumbent best) s.actors 0 first.actor first.there in
+    let seen : seen_by (slice_get (after_offer s (Some best)).actors 0) ≡ max s.incumbent best.welfare = ap seen_by same ∙ seen_of_offer incumbent best first.actor in
     omega (arith, seen)
 
 settled_bound : (m : Market) (word : List Bool) (r : RelaxedRecord) (best : Attained) → IsRelaxedFinding m word r → IsSettled m word r best → r.bound ≡ best.welfare
@@ -379,14 +379,14 @@ above_first w [] = omega arith
 above_first w (a ∷ others) = omega (arith, above_first w others)
 
 -- what a search comes to may be refined
-pub may_refine : (m : Market) (budget : ℕ) (s : Machine) (q : Queued) (c : Clearing) → IsStill m budget s q → IsOptimalClearing s.tree.market s.tree.budget c → c.welfare ≡ s.word → (s.word ≡ s.first.welfare → c.activation ≡ s.first.activation) → ArePartsOfSearch s.tree.market ([] ∷ []) (map shape_of c.tree) → MayRefine m budget c
+pub may_refine : (m : Market) (budget : ℕ) (s : Machine) (q : Queued) (c : Clearing) → IsStill m budget s q → IsOptimalClearing s.tree.market s.tree.budget c → c.welfare ≡ s.incumbent → (s.incumbent ≡ s.first.welfare → c.activation ≡ s.first.activation) → ArePartsOfSearch s.tree.market ([] ∷ []) (map shape_of c.tree) → MayRefine m budget c
 may_refine m budget s q c h clearing w first parts = record {
   clearing = subst (λ (b : ℕ). IsOptimalClearing m b c) h.budget_is (subst (λ (k : Market). IsOptimalClearing k s.tree.budget c) h.under_way.market clearing);
   nodes = subst (λ (k : Market). ArePartsOfSearch k ([] ∷ []) (map shape_of c.tree)) h.under_way.market parts;
   closed = s.first.welfare;
   is_closed = subst (λ (k : Market). IsClosedWelfare k (pos s.first.welfare)) h.under_way.market h.under_way.facts.closed;
-  above = elim (cases_eq s.word s.first.welfare) [
+  above = elim (cases_eq s.incumbent s.first.welfare) [
     | inl e ↦ inl (ap (gate_word_of m) (first e) ∙ h.under_way.from_closed)
-    | inr other ↦ inr (omega (arith, other, w, h.under_way.facts.word_is, above_first s.first.welfare s.actors))
+    | inr other ↦ inr (omega (arith, other, w, h.under_way.facts.incumbent_is, above_first s.first.welfare s.actors))
   ];
 }

@@ -2,7 +2,7 @@
 
 ghost use Rattle.std.specs.Prelude.{◌≡◌, ℕ, ◌+◌, ◌-◌, ◌<◌, ◌≤◌, pos, true, false, IfOk, slice_index_or, vec_len};
 ghost use Rattle.mari_core.specs.Machine.{IsBest};
-ghost use Rattle.mari_incumbent.specs.Word.{standing};
+ghost use Rattle.mari_incumbent.specs.Incumbent.{standing};
 ghost use Rattle.mari_market.specs.Activation.{gate_word_of};
 ghost use Rattle.mari_market.specs.Clearing.{Clears};
 ghost use Rattle.mari_market.specs.Finding.{IsAttained};
@@ -42,7 +42,7 @@ fn jobs_of(
     mine: &mut Seat,
     workers: u32,
 ) -> Result<Vec<Job>, AllocError>
-    requires { (mine.old.word ≡ incumbent.now) × (workers < mine.old.parts) }
+    requires { (mine.old.incumbent ≡ incumbent.now) × (workers < mine.old.parts) }
     ensures len { IfOk result (λ v. vec_len v ≡ workers) }
     ensures jobs { IfOk result (λ v. (i : ℕ) (d : _) → i < workers → IsJob incumbent.now workers (slice_index_or v.items i d)) }
     ensures mine { IfOk result (λ _. mine.new ≡ standing incumbent.now mine.old.seen mine.old.offered (mine.old.parts - workers)) }
@@ -67,14 +67,14 @@ fn run_all<'m, N: SearchName + Send + Sync, G: Turnstile, R: Threads + Wait + Sy
     turnstile: &G,
 ) -> Result<Vec<Worked>, AllocError>
     requires market { (market.now ≡ N.market) × IsValid market.now }
-    requires word { incumbent.now ≡ N.word }
-    requires jobs { (i : ℕ) (d : _) → i < vec_len jobs → IsJob N.word N.workers (slice_index_or jobs.items i d) }
+    requires incumbent { incumbent.now ≡ N.incumbent }
+    requires jobs { (i : ℕ) (d : _) → i < vec_len jobs → IsJob N.incumbent N.workers (slice_index_or jobs.items i d) }
     ensures len { IfOk result (λ v. vec_len v ≡ vec_len jobs) }
-    ensures each { IfOk result (λ v. (i : ℕ) (d : _) → i < vec_len v → IsWorked N.market N.word (slice_index_or v.items i d)) }
+    ensures each { IfOk result (λ v. (i : ℕ) (d : _) → i < vec_len v → IsWorked N.market N.incumbent (slice_index_or v.items i d)) }
 {
     let each = |job: Job| -> Worked
-        requires { (market.now ≡ N.market) × IsValid market.now × (incumbent.now ≡ N.word) × IsJob N.word N.workers job }
-        ensures { IsWorked N.market N.word result }
+        requires { (market.now ≡ N.market) × IsValid market.now × (incumbent.now ≡ N.incumbent) × IsJob N.incumbent N.workers job }
+        ensures { IsWorked N.market N.incumbent result }
     {
         let Job { worker, seat } = job;
         work(
@@ -122,9 +122,9 @@ fn settle_rest<'m, N: SearchName, R: Wait>(
 ) -> Result<bool, Memory>
     requires market { (market.now ≡ N.market) × IsValid market.now }
     requires worker { worker ≤ N.workers }
-    requires word { incumbent.now ≡ N.word }
-    requires mine { Holds N.market N.word mine.old }
-    ensures mine { Holds N.market N.word mine.new }
+    requires incumbent { incumbent.now ≡ N.incumbent }
+    requires mine { Holds N.market N.incumbent mine.old }
+    ensures mine { Holds N.market N.incumbent mine.new }
     ensures parts { mine.new.seat.parts ≡ mine.old.seat.parts }
     ensures closed { IfOk result (λ closed. closed ≡ true → IsIdle pool.new pool.new 0) }
     ensures spent { IfOk result (λ closed. closed ≡ false → pool.new.tree.full ≡ true) }
@@ -153,7 +153,7 @@ fn settle_rest<'m, N: SearchName, R: Wait>(
     unreachable!()
 }
 
-/// The optimal clearing of a tree without open leaves: the word closes at the best that was offered.
+/// The optimal clearing of a tree without open leaves: the incumbent closes at the best that was offered.
 fn published<'m, N: SearchName>(
     alloc: Global,
     pool: Pool<'m, N>,
@@ -162,11 +162,11 @@ fn published<'m, N: SearchName>(
     first: Attained,
 ) -> Result<Clearing, Memory>
     requires market { IsValid N.market }
-    requires word { incumbent ≡ N.word }
-    requires mine { Holds N.market N.word mine }
-    requires parts { mine.seat.parts + 1 ≡ N.word.all }
-    requires first { IsAttained N.market first × (first.welfare ≡ N.word.first) }
-    requires closed { IsClosedWelfare N.market (pos N.word.first) }
+    requires incumbent { incumbent ≡ N.incumbent }
+    requires mine { Holds N.market N.incumbent mine }
+    requires parts { mine.seat.parts + 1 ≡ N.incumbent.all }
+    requires first { IsAttained N.market first × (first.welfare ≡ N.incumbent.first) }
+    requires closed { IsClosedWelfare N.market (pos N.incumbent.first) }
     requires gates { gate_word_of N.market first.activation ≡ all_closed N.market }
     requires idle { IsIdle pool pool 0 }
     ensures { IfOk result (MayRefine N.market N.budget) }
@@ -189,7 +189,7 @@ fn published<'m, N: SearchName>(
 
 /// Clears a market from the best activation with every gate closed, by a search of this name, and refines what is found.
 ///
-/// While the workers run the incumbent lies on a cache line of its own, since each of them steps on its word.
+/// While the workers run the incumbent lies on a cache line of its own, since each of them steps on it.
 fn searched<N: SearchName + Send + Sync, G: Turnstile, R: Threads + Wait + Sync>(
     rt: &R,
     alloc: Global,
@@ -205,9 +205,9 @@ fn searched<N: SearchName + Send + Sync, G: Turnstile, R: Threads + Wait + Sync>
     requires numbers { (workers ≡ N.workers) × (budget ≡ N.budget) }
     requires workers { (1 ≤ workers) × (workers ≤ 16) }
     requires budget { (1 ≤ budget) × (budget ≤ 50000) }
-    requires word { (incumbent ≡ N.word) × (N.word.all ≡ workers + 2) }
-    requires seat { seat ≡ standing N.word N.word.first N.word.first (workers + 2) }
-    requires first { IsAttained market.now first × (first.welfare ≡ N.word.first) }
+    requires incumbent { (incumbent ≡ N.incumbent) × (N.incumbent.all ≡ workers + 2) }
+    requires seat { seat ≡ standing N.incumbent N.incumbent.first N.incumbent.first (workers + 2) }
+    requires first { IsAttained market.now first × (first.welfare ≡ N.incumbent.first) }
     requires closed { IsClosedWelfare market.now (pos first.welfare) }
     requires gates { gate_word_of market.now first.activation ≡ all_closed market.now }
     ensures { IfOk result (Clears market.now budget) }
@@ -230,7 +230,7 @@ fn searched<N: SearchName + Send + Sync, G: Turnstile, R: Threads + Wait + Sync>
     Ok(Cleared::Spent(Spent { items }))
 }
 
-/// Names the search, and starts its word at the closed welfare, with a part for each worker, the pool and this thread.
+/// Names the search, and starts its incumbent at the closed welfare, with a part for each worker, the pool and this thread.
 fn named<G: Turnstile, R: Threads + Wait + Sync>(
     rt: &R,
     alloc: Global,

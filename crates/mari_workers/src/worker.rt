@@ -19,7 +19,8 @@ use mari_units::Memory;
 use std::alloc::Global;
 use std::sync::{Condvar, Mutex, Wait};
 
-/// What a worker hands back: its seat, and the best activation that it offered, if it offered any above the word's first value.
+/// What a worker hands back: its seat, and the best activation that it offered, if it offered any above the incumbent's first
+/// value.
 #[derive(Drop)]
 pub struct Worked {
     pub seat: Seat,
@@ -128,9 +129,9 @@ pub fn work<'m, N: SearchName, G: Turnstile, R: Wait>(
 ) -> Worked
     requires market { (market.now ≡ N.market) × IsValid market.now }
     requires worker { worker < N.workers }
-    requires word { incumbent.now ≡ N.word }
-    requires seat { IsFresh N.word seat }
-    ensures holds { Holds N.market N.word result }
+    requires incumbent { incumbent.now ≡ N.incumbent }
+    requires seat { IsFresh N.incumbent seat }
+    ensures holds { Holds N.market N.incumbent result }
     ensures parts { result.seat.parts ≡ 1 }
 {
     let mut worked = Worked { seat, best: None };

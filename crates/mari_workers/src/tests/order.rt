@@ -24,8 +24,8 @@ fn settled<'m, N: SearchName>(
     seat: &mut Seat,
 ) -> Result<(u32, u64, Settled), Fail>
     requires market { (market.now ≡ N.market) × IsValid market.now }
-    requires word { (incumbent.now ≡ N.word) × (seat.old.word ≡ N.word) }
-    ensures seat { seat.new.word ≡ seat.old.word }
+    requires incumbent { (incumbent.now ≡ N.incumbent) × (seat.old.incumbent ≡ N.incumbent) }
+    ensures seat { seat.new.incumbent ≡ seat.old.incumbent }
 {
     let Took::Took(ticket) = pool.take(0) else {
         return Err("a node waits".into());
@@ -48,11 +48,11 @@ fn best_first<'m, N: SearchName>(
     seat: Seat,
     mut mine: Seat,
 ) -> Result<(), Fail>
-    requires name { (market.now ≡ N.market) × (N.budget ≡ 7) × (N.workers ≡ 1) × (incumbent.now ≡ N.word) }
+    requires name { (market.now ≡ N.market) × (N.budget ≡ 7) × (N.workers ≡ 1) × (incumbent.now ≡ N.incumbent) }
     requires market { IsValid market.now }
-    requires closed { IsClosedWelfare market.now (pos N.word.first) }
-    requires seat { IsFresh N.word seat }
-    requires mine { mine.word ≡ N.word }
+    requires closed { IsClosedWelfare market.now (pos N.incumbent.first) }
+    requires seat { IsFresh N.incumbent seat }
+    requires mine { mine.incumbent ≡ N.incumbent }
 {
     let mut pool = Pool::<N>::start(alloc, market, 7, 1, seat)?;
     let root = settled(alloc, market, &mut pool, incumbent, &mut mine)?;

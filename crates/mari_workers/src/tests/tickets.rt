@@ -25,11 +25,11 @@ fn reclaimed<'m, N: SearchName>(
     mine: Seat,
     settles: bool,
 ) -> Result<(), Fail>
-    requires name { (market.now ≡ N.market) × (N.budget ≡ 3) × (N.workers ≡ 2) × (incumbent.now ≡ N.word) }
+    requires name { (market.now ≡ N.market) × (N.budget ≡ 3) × (N.workers ≡ 2) × (incumbent.now ≡ N.incumbent) }
     requires market { IsValid market.now }
-    requires closed { IsClosedWelfare market.now (pos N.word.first) }
-    requires seat { IsFresh N.word seat }
-    requires mine { IsFresh N.word mine }
+    requires closed { IsClosedWelfare market.now (pos N.incumbent.first) }
+    requires seat { IsFresh N.incumbent seat }
+    requires mine { IsFresh N.incumbent mine }
 {
     let mut pool = Pool::<N>::start(alloc, market, 3, 2, seat)?;
     let Took::Took(ticket) = pool.take(0) else {
@@ -84,8 +84,8 @@ fn a_reclaimed_ticket_is_stale(rt: HostRuntime) -> Result<(), Fail> {
 fn given_back<'m, N: SearchName>(alloc: Global, market: &'m Market, seat: Seat) -> Result<(), Fail>
     requires name { (market.now ≡ N.market) × (N.budget ≡ 3) × (N.workers ≡ 2) }
     requires market { IsValid market.now }
-    requires closed { IsClosedWelfare market.now (pos N.word.first) }
-    requires seat { IsFresh N.word seat }
+    requires closed { IsClosedWelfare market.now (pos N.incumbent.first) }
+    requires seat { IsFresh N.incumbent seat }
 {
     let mut pool = Pool::<N>::start(alloc, market, 3, 2, seat)?;
     for given in [true, false] {

@@ -1,6 +1,6 @@
 use Rattle.std.proofs.Common.{◌≡◌, ℕ, ◌-◌, ◌<◌, vec_len}
 use Rattle.std.specs.Prelude.{slice_index_or}
-use Rattle.mari_incumbent.specs.Word.{standing}
+use Rattle.mari_incumbent.specs.Incumbent.{standing}
 use Rattle.mari_workers.specs.Together.{IsJob}
 use Rattle.mari_workers.specs.declared.together.Job.{Job}
 use Rattle.mari_workers.proofs.together.jobs_of.Given as goal

@@ -6,6 +6,6 @@ abbrev pub invariant-loop : goal.invariant-loop
 invariant-loop g l = record {
   can_next : (goal.iterator-loop g).can_next l.iterator';
   is_finite : (goal.iterator-loop g).is_finite l.iterator';
-  mine : Holds g.N.SearchName.market g.N.SearchName.word l.mine;
+  mine : Holds g.N.SearchName.market g.N.SearchName.incumbent l.mine;
   parts : l.mine.seat.parts ≡ l.initial.mine.seat.parts;
 }

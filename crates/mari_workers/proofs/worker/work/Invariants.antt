@@ -6,6 +6,6 @@ abbrev pub invariant-loop : goal.invariant-loop
 invariant-loop g l = record {
   can_next : (goal.iterator-loop g).can_next l.iterator';
   is_finite : (goal.iterator-loop g).is_finite l.iterator';
-  holds : Holds g.N.SearchName.market g.N.SearchName.word l.worked;
+  holds : Holds g.N.SearchName.market g.N.SearchName.incumbent l.worked;
   parts : l.worked.seat.parts ≡ 1;
 }

@@ -7,11 +7,11 @@ use Rattle.mari_core.proofs.Machines.{look_kept, by_actor_there}
 use Rattle.mari_core.proofs.search.Search.look.Goals as goal
 
 -- the actors, as they are written
-looked : (c : goal.After-self-1) → set c.self.inside.actors.items c.args.actor c.look.new.self ≡ changed (seeing c.self.inside.word) c.self.inside.actors.items c.args.actor
+looked : (c : goal.After-self-1) → set c.self.inside.actors.items c.args.actor c.look.new.self ≡ changed (seeing c.self.inside.incumbent) c.self.inside.actors.items c.args.actor
 looked c =
     let l : c.args.actor < length c.self.inside.actors.items = omega (arith, c.if-actor-len.false, c.len.ensures, c.self.inside.actors.ok.0) in
-    ap (λ (a : Actor). set c.self.inside.actors.items c.args.actor a) (c.look.ensures ∙ ap (seeing c.self.inside.word) c.index_mut-by.ensures.value)
-    ∙ set_is_changed (seeing c.self.inside.word) c.self.inside.actors.items c.args.actor c.index_mut-by.result.now l
+    ap (λ (a : Actor). set c.self.inside.actors.items c.args.actor a) (c.look.ensures ∙ ap (seeing c.self.inside.incumbent) c.index_mut-by.ensures.value)
+    ∙ set_is_changed (seeing c.self.inside.incumbent) c.self.inside.actors.items c.args.actor c.index_mut-by.result.now l
 
 pub invariant_of-self : goal.invariant_of-self
 invariant_of-self c = look_kept _ c.args.actor _ c.self.invariant (looked c)
@@ -21,8 +21,8 @@ returns-clause-facts c = look_kept _ c.args.actor _ c.self.invariant (looked c)
 
 pub returns-clause-change : goal.returns-clause-change
 returns-clause-change c =
-    ap (λ (others : List Actor). record { tree = c.self.inside.tree; word = c.self.inside.word; actors = others; first = c.self.inside.first }) (looked c)
-    ∙ ap (λ (s : Machine). record s { actors = changed (seeing s.word) s.actors c.args.actor }) c.self.view_is
+    ap (λ (others : List Actor). record { tree = c.self.inside.tree; incumbent = c.self.inside.incumbent; actors = others; first = c.self.inside.first }) (looked c)
+    ∙ ap (λ (s : Machine). record s { actors = changed (seeing s.incumbent) s.actors c.args.actor }) c.self.view_is
 
 pub returns-clause-answer : goal.returns-clause-answer
 returns-clause-answer c =

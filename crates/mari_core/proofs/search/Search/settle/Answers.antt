@@ -14,21 +14,21 @@ settle-requires-clause-cutoff c =
 pub settle-requires-clause-finding : goal.settle-requires-clause-finding
 settle-requires-clause-finding c =
     let there : slice_get c.self.inside.actors.items c.args.actor ≡ Some c.index.result.now = actor_there_by c.self.inside.actors.items c.args.actor c.index.result.now (omega (arith, c.if-actor-len.false, c.len.ensures, c.self.inside.actors.ok.0)) c.index.ensures in
-    may_settle_by (record { tree = c.self.inside.tree; word = c.self.inside.word; actors = c.self.inside.actors.items; first = c.self.inside.first }) c.args.actor c.args.node c.index.result.now c.args.finding there (subst (λ (s : Machine). IsProper s (Settle c.args.actor c.args.node c.args.finding)) (sym c.self.view_is) c.requires)
+    may_settle_by (record { tree = c.self.inside.tree; incumbent = c.self.inside.incumbent; actors = c.self.inside.actors.items; first = c.self.inside.first }) c.args.actor c.args.node c.index.result.now c.args.finding there (subst (λ (s : Machine). IsProper s (Settle c.args.actor c.args.node c.args.finding)) (sym c.self.view_is) c.requires)
 
 pub invariant_of-self-2 : goal.invariant_of-self-2
 invariant_of-self-2 c =
     let there : slice_get c.self.inside.actors.items c.args.actor ≡ Some c.index.result.now = actor_there_by c.self.inside.actors.items c.args.actor c.index.result.now (omega (arith, c.if-actor-len.false, c.len.ensures, c.self.inside.actors.ok.0)) c.index.ensures in
     let below = (actor_at _ c.args.actor c.index.result.now c.self.invariant there).below in
     entry_step_kept _ (settling c.self.inside.tree c.args.actor c.args.node c.index.result.now.seen c.args.finding) c.settle.new.self c.settle.result c.self.invariant c.settle.ensures.facts
-    (settling_cut c.self.inside.tree c.args.actor c.args.node c.index.result.now.seen c.self.inside.word c.args.finding below) c.settle.ensures.change c.settle.ensures.same
+    (settling_cut c.self.inside.tree c.args.actor c.args.node c.index.result.now.seen c.self.inside.incumbent c.args.finding below) c.settle.ensures.change c.settle.ensures.same
 
 pub returns-clause-facts : goal.returns-clause-facts
 returns-clause-facts c =
     let there : slice_get c.self.inside.actors.items c.args.actor ≡ Some c.index.result.now = actor_there_by c.self.inside.actors.items c.args.actor c.index.result.now (omega (arith, c.if-actor-len.false, c.len.ensures, c.self.inside.actors.ok.0)) c.index.ensures in
     let below = (actor_at _ c.args.actor c.index.result.now c.self.invariant there).below in
     entry_step_kept _ (settling c.self.inside.tree c.args.actor c.args.node c.index.result.now.seen c.args.finding) c.settle.new.self c.settle.result c.self.invariant c.settle.ensures.facts
-    (settling_cut c.self.inside.tree c.args.actor c.args.node c.index.result.now.seen c.self.inside.word c.args.finding below) c.settle.ensures.change c.settle.ensures.same
+    (settling_cut c.self.inside.tree c.args.actor c.args.node c.index.result.now.seen c.self.inside.incumbent c.args.finding below) c.settle.ensures.change c.settle.ensures.same
 
 pub returns-clause-change : goal.returns-clause-change
 returns-clause-change c =

@@ -23,7 +23,7 @@ push_reserved-requires g c =
     let may : IsAllowed c.self.inside.tree e = fresh.taken in
     let first : slice_get c.self.inside.returned.items c.args.ticket.worker ≡ Some false = not_returned c.self.inside.returned.items c.args.ticket.worker c.index.result.now (omega (arith, c.args.ticket.numbered, c.self.invariant.0.returned_are)) c.index.ensures c.if-index.false in
     let paid = unreturned_set c.self.inside.returned.items c.args.ticket.worker first in
-    let room = has_room g.N.SearchName.market g.N.SearchName.budget g.N.SearchName.workers g.N.SearchName.word p e (unreturned (set c.self.inside.returned.items c.args.ticket.worker true)) c.self.invariant.0 may paid in
+    let room = has_room g.N.SearchName.market g.N.SearchName.budget g.N.SearchName.workers g.N.SearchName.incumbent p e (unreturned (set c.self.inside.returned.items c.args.ticket.worker true)) c.self.invariant.0 may paid in
     omega (arith, room, c.self.inside.journal.ok.0)
 
 pub put_back-requires : goal.put_back-requires
@@ -51,9 +51,9 @@ invariant_of-self g c =
     let first : slice_get c.self.inside.returned.items c.args.ticket.worker ≡ Some false = not_returned c.self.inside.returned.items c.args.ticket.worker c.index.result.now (omega (arith, c.args.ticket.numbered, c.self.invariant.0.returned_are)) c.index.ensures c.if-index.false in
     let paid = unreturned_set c.self.inside.returned.items c.args.ticket.worker first in
     let change : c.give_back.new.self ≡ grown c.self.inside.tree e = c.in-Ok.ensures.change in (
-      pool_same g.N.SearchName.market g.N.SearchName.budget g.N.SearchName.workers g.N.SearchName.word (grown c.self.inside.tree e) c.give_back.new.self c.self.inside.queue.keys c.put_back.new.self.keys (c.self.inside.journal.items ++ in_journal e ∷ []) c.push_reserved.new.self.items (vec_capacity c.self.inside.journal) (vec_capacity c.push_reserved.new.self) c.self.inside.turns.items (set c.self.inside.returned.items c.args.ticket.worker true) c.self.inside.seat c.self.inside.seat
+      pool_same g.N.SearchName.market g.N.SearchName.budget g.N.SearchName.workers g.N.SearchName.incumbent (grown c.self.inside.tree e) c.give_back.new.self c.self.inside.queue.keys c.put_back.new.self.keys (c.self.inside.journal.items ++ in_journal e ∷ []) c.push_reserved.new.self.items (vec_capacity c.self.inside.journal) (vec_capacity c.push_reserved.new.self) c.self.inside.turns.items (set c.self.inside.returned.items c.args.ticket.worker true) c.self.inside.seat c.self.inside.seat
           change c.put_back.ensures.keys c.push_reserved.ensures.items c.push_reserved.ensures.capacity refl
-          (entry_keeps g.N.SearchName.market g.N.SearchName.budget g.N.SearchName.workers g.N.SearchName.word p e c.self.inside.queue.keys c.self.inside.turns.items (set c.self.inside.returned.items c.args.ticket.worker true) c.self.invariant.0 may paid tt (c.self.invariant.0.keys_are ∙ sym (length-with_state Untaken c.self.inside.tree.nodes c.args.ticket.node)) refl (length-set c.self.inside.returned.items c.args.ticket.worker true)),
+          (entry_keeps g.N.SearchName.market g.N.SearchName.budget g.N.SearchName.workers g.N.SearchName.incumbent p e c.self.inside.queue.keys c.self.inside.turns.items (set c.self.inside.returned.items c.args.ticket.worker true) c.self.invariant.0 may paid tt (c.self.invariant.0.keys_are ∙ sym (length-with_state Untaken c.self.inside.tree.nodes c.args.ticket.node)) refl (length-set c.self.inside.returned.items c.args.ticket.worker true)),
       omega (arith, ap (λ (t : Grown). taken_among t.nodes) change, taken_after c.self.inside.tree e may, c.self.invariant.1),
       subst (λ (t : Grown). IsQueueOf t.nodes c.put_back.new.self) (sym change) (queue_back c.self.inside.tree.nodes c.self.inside.queue c.put_back.new.self c.args.ticket.node c.args.ticket.worker c.self.invariant.2 c.put_back.ensures fresh.taken),
       c.put_back.ensures.room ∙ c.self.invariant.3 ∙ sym (ap (λ (t : Grown). t.budget) change),

@@ -3,7 +3,7 @@ use Rattle.std.specs.Prelude.{vec_capacity}
 use Rattle.mari_market.specs.Prefix.{word_of}
 use Rattle.mari_core.specs.declared.journal.JournalEntry.{JournalEntry}
 use Rattle.mari_core.specs.Growth.{Grown, Entry, settling, closing_leaf, grown, in_journal, IsAllowed}
-use Rattle.mari_incumbent.specs.Word.{WordId, Standing, standing}
+use Rattle.mari_incumbent.specs.Incumbent.{IncumbentId, Standing, standing}
 use Rattle.mari_pool.specs.declared.ticket.Settled.{Settled}
 use Rattle.mari_pool.specs.declared.ticket.Settled.TheVariants as settled
 use Rattle.mari_core.proofs.Journals.{grown_budget}
@@ -21,8 +21,8 @@ follow-requires g c =
     let seen = c.args.seat.now.seen in
     let e = settling c.self.inside.tree c.args.ticket.worker c.args.ticket.node seen c.args.finding in
     let fresh = subst (λ (q : Pooled). IsTakenAt q c.args.ticket.node c.args.ticket.turn c.args.ticket.worker (word_of c.args.ticket.prefix)) (sym c.self.view_is) (c.is_fresh.ensures.0 c.if-not-is_fresh.false) in
-    let above : g.N.SearchName.word.first ≤ seen = omega (arith, ap (λ (w : WordId). w.first) c.requires.word.1, c.offered-offered.ensures.at_least_first, c.offered-offered.ensures.at_most_seen) in
-    let may : IsAllowed c.self.inside.tree e = may_settle g.N.SearchName.market g.N.SearchName.budget g.N.SearchName.workers g.N.SearchName.word p c.args.ticket.worker c.args.ticket.node seen c.args.finding (word_of c.args.ticket.prefix) c.self.invariant.0 above fresh.taken fresh.word_is c.requires.finding in
+    let above : g.N.SearchName.incumbent.first ≤ seen = omega (arith, ap (λ (w : IncumbentId). w.first) c.requires.incumbent.1, c.offered-offered.ensures.at_least_first, c.offered-offered.ensures.at_most_seen) in
+    let may : IsAllowed c.self.inside.tree e = may_settle g.N.SearchName.market g.N.SearchName.budget g.N.SearchName.workers g.N.SearchName.incumbent p c.args.ticket.worker c.args.ticket.node seen c.args.finding (word_of c.args.ticket.prefix) c.self.invariant.0 above fresh.taken fresh.word_is c.requires.finding in
     let change : c.settle.new.self ≡ grown c.self.inside.tree e = c.in-Ok.ensures.change ∙ ap (λ (n : ℕ). grown c.self.inside.tree (settling c.self.inside.tree c.args.ticket.worker c.args.ticket.node n c.args.finding)) c.seen-cutoff.ensures.seen in
     let entry : c.in-Ok.entry ≡ in_journal e = c.in-Ok.ensures.entry ∙ ap (λ (n : ℕ). in_journal (settling c.self.inside.tree c.args.ticket.worker c.args.ticket.node n c.args.finding)) c.seen-cutoff.ensures.seen in
     let count : c.len-nodes.result ≡ length (grown c.self.inside.tree e).nodes = c.len-nodes.ensures.len ∙ ap (λ (t : Grown). length t.nodes) change in
@@ -35,9 +35,9 @@ push_reserved-requires g c =
     let seen = c.args.seat.now.seen in
     let e = settling c.self.inside.tree c.args.ticket.worker c.args.ticket.node seen c.args.finding in
     let fresh = subst (λ (q : Pooled). IsTakenAt q c.args.ticket.node c.args.ticket.turn c.args.ticket.worker (word_of c.args.ticket.prefix)) (sym c.self.view_is) (c.is_fresh.ensures.0 c.if-not-is_fresh.false) in
-    let above : g.N.SearchName.word.first ≤ seen = omega (arith, ap (λ (w : WordId). w.first) c.requires.word.1, c.offered-offered.ensures.at_least_first, c.offered-offered.ensures.at_most_seen) in
-    let may : IsAllowed c.self.inside.tree e = may_settle g.N.SearchName.market g.N.SearchName.budget g.N.SearchName.workers g.N.SearchName.word p c.args.ticket.worker c.args.ticket.node seen c.args.finding (word_of c.args.ticket.prefix) c.self.invariant.0 above fresh.taken fresh.word_is c.requires.finding in
-    let room = has_room g.N.SearchName.market g.N.SearchName.budget g.N.SearchName.workers g.N.SearchName.word p e (unreturned c.self.inside.returned.items) c.self.invariant.0 may (settling_paid c.self.inside.tree c.args.ticket.worker c.args.ticket.node seen (unreturned c.self.inside.returned.items) (closing_leaf seen c.args.finding)) in
+    let above : g.N.SearchName.incumbent.first ≤ seen = omega (arith, ap (λ (w : IncumbentId). w.first) c.requires.incumbent.1, c.offered-offered.ensures.at_least_first, c.offered-offered.ensures.at_most_seen) in
+    let may : IsAllowed c.self.inside.tree e = may_settle g.N.SearchName.market g.N.SearchName.budget g.N.SearchName.workers g.N.SearchName.incumbent p c.args.ticket.worker c.args.ticket.node seen c.args.finding (word_of c.args.ticket.prefix) c.self.invariant.0 above fresh.taken fresh.word_is c.requires.finding in
+    let room = has_room g.N.SearchName.market g.N.SearchName.budget g.N.SearchName.workers g.N.SearchName.incumbent p e (unreturned c.self.inside.returned.items) c.self.invariant.0 may (settling_paid c.self.inside.tree c.args.ticket.worker c.args.ticket.node seen (unreturned c.self.inside.returned.items) (closing_leaf seen c.args.finding)) in
     omega (arith, room, c.self.inside.journal.ok.0)
 
 pub overflow_sub-self : goal.overflow_sub-self
@@ -46,8 +46,8 @@ overflow_sub-self g c =
     let seen = c.args.seat.now.seen in
     let e = settling c.self.inside.tree c.args.ticket.worker c.args.ticket.node seen c.args.finding in
     let fresh = subst (λ (q : Pooled). IsTakenAt q c.args.ticket.node c.args.ticket.turn c.args.ticket.worker (word_of c.args.ticket.prefix)) (sym c.self.view_is) (c.is_fresh.ensures.0 c.if-not-is_fresh.false) in
-    let above : g.N.SearchName.word.first ≤ seen = omega (arith, ap (λ (w : WordId). w.first) c.requires.word.1, c.offered-offered.ensures.at_least_first, c.offered-offered.ensures.at_most_seen) in
-    let may : IsAllowed c.self.inside.tree e = may_settle g.N.SearchName.market g.N.SearchName.budget g.N.SearchName.workers g.N.SearchName.word p c.args.ticket.worker c.args.ticket.node seen c.args.finding (word_of c.args.ticket.prefix) c.self.invariant.0 above fresh.taken fresh.word_is c.requires.finding in
+    let above : g.N.SearchName.incumbent.first ≤ seen = omega (arith, ap (λ (w : IncumbentId). w.first) c.requires.incumbent.1, c.offered-offered.ensures.at_least_first, c.offered-offered.ensures.at_most_seen) in
+    let may : IsAllowed c.self.inside.tree e = may_settle g.N.SearchName.market g.N.SearchName.budget g.N.SearchName.workers g.N.SearchName.incumbent p c.args.ticket.worker c.args.ticket.node seen c.args.finding (word_of c.args.ticket.prefix) c.self.invariant.0 above fresh.taken fresh.word_is c.requires.finding in
     omega (arith, taken_after c.self.inside.tree e may, settling_comes c.self.inside.tree c.args.ticket.worker c.args.ticket.node seen (closing_leaf seen c.args.finding), c.self.invariant.1)
 
 pub invariant_of-self : goal.invariant_of-self
@@ -56,8 +56,8 @@ invariant_of-self g c =
     let seen = c.args.seat.now.seen in
     let e = settling c.self.inside.tree c.args.ticket.worker c.args.ticket.node seen c.args.finding in
     let fresh = subst (λ (q : Pooled). IsTakenAt q c.args.ticket.node c.args.ticket.turn c.args.ticket.worker (word_of c.args.ticket.prefix)) (sym c.self.view_is) (c.is_fresh.ensures.0 c.if-not-is_fresh.false) in
-    let above : g.N.SearchName.word.first ≤ seen = omega (arith, ap (λ (w : WordId). w.first) c.requires.word.1, c.offered-offered.ensures.at_least_first, c.offered-offered.ensures.at_most_seen) in
-    let may : IsAllowed c.self.inside.tree e = may_settle g.N.SearchName.market g.N.SearchName.budget g.N.SearchName.workers g.N.SearchName.word p c.args.ticket.worker c.args.ticket.node seen c.args.finding (word_of c.args.ticket.prefix) c.self.invariant.0 above fresh.taken fresh.word_is c.requires.finding in
+    let above : g.N.SearchName.incumbent.first ≤ seen = omega (arith, ap (λ (w : IncumbentId). w.first) c.requires.incumbent.1, c.offered-offered.ensures.at_least_first, c.offered-offered.ensures.at_most_seen) in
+    let may : IsAllowed c.self.inside.tree e = may_settle g.N.SearchName.market g.N.SearchName.budget g.N.SearchName.workers g.N.SearchName.incumbent p c.args.ticket.worker c.args.ticket.node seen c.args.finding (word_of c.args.ticket.prefix) c.self.invariant.0 above fresh.taken fresh.word_is c.requires.finding in
     let change : c.settle.new.self ≡ grown c.self.inside.tree e = c.in-Ok.ensures.change ∙ ap (λ (n : ℕ). grown c.self.inside.tree (settling c.self.inside.tree c.args.ticket.worker c.args.ticket.node n c.args.finding)) c.seen-cutoff.ensures.seen in
     let entry : c.in-Ok.entry ≡ in_journal e = c.in-Ok.ensures.entry ∙ ap (λ (n : ℕ). in_journal (settling c.self.inside.tree c.args.ticket.worker c.args.ticket.node n c.args.finding)) c.seen-cutoff.ensures.seen in
     let count : c.len-nodes.result ≡ length (grown c.self.inside.tree e).nodes = c.len-nodes.ensures.len ∙ ap (λ (t : Grown). length t.nodes) change in
@@ -68,12 +68,12 @@ invariant_of-self g c =
     (subst (λ (n : ℕ). Follows (child_key c.args.finding) n q r c.in-Ok.entry) count
     (subst (λ (k : ℕ). Follows k c.len-nodes.result q r c.in-Ok.entry) c.child_key-key.ensures c.follow.ensures)) in
     let followed : IsFollowed c.self.inside.tree e (child_key c.args.finding) q r = follows_kept c.self.inside.tree e (child_key c.args.finding) q r (settling_comes c.self.inside.tree c.args.ticket.worker c.args.ticket.node seen (closing_leaf seen c.args.finding)) c.self.invariant.2 may follows in
-    let seat : c.meet.new.into ≡ standing c.self.inside.seat.word (max c.self.inside.seat.seen seen) c.self.inside.seat.offered c.self.inside.seat.parts =
+    let seat : c.meet.new.into ≡ standing c.self.inside.seat.incumbent (max c.self.inside.seat.seen seen) c.self.inside.seat.offered c.self.inside.seat.parts =
     c.meet.ensures.into ∙ ap (λ (n : ℕ). standing c.args.incumbent.now n c.self.inside.seat.offered c.self.inside.seat.parts) c.meet.ensures.greater
-    ∙ ap (λ (w : WordId). standing w (max c.self.inside.seat.seen seen) c.self.inside.seat.offered c.self.inside.seat.parts) (c.requires.word.0 ∙ sym c.self.invariant.0.seat_word) in (
-      pool_same g.N.SearchName.market g.N.SearchName.budget g.N.SearchName.workers g.N.SearchName.word (grown c.self.inside.tree e) c.settle.new.self (keys_after c.self.inside.tree e q.keys (child_key c.args.finding)) r.keys (c.self.inside.journal.items ++ in_journal e ∷ []) c.push_reserved.new.self.items (vec_capacity c.self.inside.journal) (vec_capacity c.push_reserved.new.self) c.self.inside.turns.items c.self.inside.returned.items _ c.meet.new.into
+    ∙ ap (λ (w : IncumbentId). standing w (max c.self.inside.seat.seen seen) c.self.inside.seat.offered c.self.inside.seat.parts) (c.requires.incumbent.0 ∙ sym c.self.invariant.0.seat_incumbent) in (
+      pool_same g.N.SearchName.market g.N.SearchName.budget g.N.SearchName.workers g.N.SearchName.incumbent (grown c.self.inside.tree e) c.settle.new.self (keys_after c.self.inside.tree e q.keys (child_key c.args.finding)) r.keys (c.self.inside.journal.items ++ in_journal e ∷ []) c.push_reserved.new.self.items (vec_capacity c.self.inside.journal) (vec_capacity c.push_reserved.new.self) c.self.inside.turns.items c.self.inside.returned.items _ c.meet.new.into
           change followed.keys (c.push_reserved.ensures.items ∙ ap (λ (j : JournalEntry). c.self.inside.journal.items ++ j ∷ []) entry) c.push_reserved.ensures.capacity seat
-          (settle_keeps g.N.SearchName.market g.N.SearchName.budget g.N.SearchName.workers g.N.SearchName.word p c.args.ticket.worker c.args.ticket.node seen c.args.finding c.self.invariant.0 may),
+          (settle_keeps g.N.SearchName.market g.N.SearchName.budget g.N.SearchName.workers g.N.SearchName.incumbent p c.args.ticket.worker c.args.ticket.node seen c.args.finding c.self.invariant.0 may),
       omega (arith, ap (λ (t : Grown). taken_among t.nodes) change, taken_after c.self.inside.tree e may, settling_comes c.self.inside.tree c.args.ticket.worker c.args.ticket.node seen (closing_leaf seen c.args.finding), c.self.invariant.1),
       subst (λ (t : Grown). IsQueueOf t.nodes r) (sym change) followed.queue,
       followed.room ∙ c.self.invariant.3 ∙ sym (ap (λ (t : Grown). t.budget) change ∙ grown_budget c.self.inside.tree e),
@@ -85,8 +85,8 @@ returns-clause-settled g c = λ _.
     let seen = c.args.seat.now.seen in
     let e = settling c.self.inside.tree c.args.ticket.worker c.args.ticket.node seen c.args.finding in
     let fresh = subst (λ (q : Pooled). IsTakenAt q c.args.ticket.node c.args.ticket.turn c.args.ticket.worker (word_of c.args.ticket.prefix)) (sym c.self.view_is) (c.is_fresh.ensures.0 c.if-not-is_fresh.false) in
-    let above : g.N.SearchName.word.first ≤ seen = omega (arith, ap (λ (w : WordId). w.first) c.requires.word.1, c.offered-offered.ensures.at_least_first, c.offered-offered.ensures.at_most_seen) in
-    let may : IsAllowed c.self.inside.tree e = may_settle g.N.SearchName.market g.N.SearchName.budget g.N.SearchName.workers g.N.SearchName.word p c.args.ticket.worker c.args.ticket.node seen c.args.finding (word_of c.args.ticket.prefix) c.self.invariant.0 above fresh.taken fresh.word_is c.requires.finding in
+    let above : g.N.SearchName.incumbent.first ≤ seen = omega (arith, ap (λ (w : IncumbentId). w.first) c.requires.incumbent.1, c.offered-offered.ensures.at_least_first, c.offered-offered.ensures.at_most_seen) in
+    let may : IsAllowed c.self.inside.tree e = may_settle g.N.SearchName.market g.N.SearchName.budget g.N.SearchName.workers g.N.SearchName.incumbent p c.args.ticket.worker c.args.ticket.node seen c.args.finding (word_of c.args.ticket.prefix) c.self.invariant.0 above fresh.taken fresh.word_is c.requires.finding in
     let change : c.settle.new.self ≡ grown c.self.inside.tree e = c.in-Ok.ensures.change ∙ ap (λ (n : ℕ). grown c.self.inside.tree (settling c.self.inside.tree c.args.ticket.worker c.args.ticket.node n c.args.finding)) c.seen-cutoff.ensures.seen in
     let entry : c.in-Ok.entry ≡ in_journal e = c.in-Ok.ensures.entry ∙ ap (λ (n : ℕ). in_journal (settling c.self.inside.tree c.args.ticket.worker c.args.ticket.node n c.args.finding)) c.seen-cutoff.ensures.seen in
     let count : c.len-nodes.result ≡ length (grown c.self.inside.tree e).nodes = c.len-nodes.ensures.len ∙ ap (λ (t : Grown). length t.nodes) change in
@@ -97,9 +97,9 @@ returns-clause-settled g c = λ _.
     (subst (λ (n : ℕ). Follows (child_key c.args.finding) n q r c.in-Ok.entry) count
     (subst (λ (k : ℕ). Follows k c.len-nodes.result q r c.in-Ok.entry) c.child_key-key.ensures c.follow.ensures)) in
     let followed : IsFollowed c.self.inside.tree e (child_key c.args.finding) q r = follows_kept c.self.inside.tree e (child_key c.args.finding) q r (settling_comes c.self.inside.tree c.args.ticket.worker c.args.ticket.node seen (closing_leaf seen c.args.finding)) c.self.invariant.2 may follows in
-    let seat : c.meet.new.into ≡ standing c.self.inside.seat.word (max c.self.inside.seat.seen seen) c.self.inside.seat.offered c.self.inside.seat.parts =
+    let seat : c.meet.new.into ≡ standing c.self.inside.seat.incumbent (max c.self.inside.seat.seen seen) c.self.inside.seat.offered c.self.inside.seat.parts =
     c.meet.ensures.into ∙ ap (λ (n : ℕ). standing c.args.incumbent.now n c.self.inside.seat.offered c.self.inside.seat.parts) c.meet.ensures.greater
-    ∙ ap (λ (w : WordId). standing w (max c.self.inside.seat.seen seen) c.self.inside.seat.offered c.self.inside.seat.parts) (c.requires.word.0 ∙ sym c.self.invariant.0.seat_word) in
+    ∙ ap (λ (w : IncumbentId). standing w (max c.self.inside.seat.seen seen) c.self.inside.seat.offered c.self.inside.seat.parts) (c.requires.incumbent.0 ∙ sym c.self.invariant.0.seat_incumbent) in
     pool_parts (grown c.self.inside.tree e) c.settle.new.self (keys_after c.self.inside.tree e q.keys (child_key c.args.finding)) r.keys (c.self.inside.journal.items ++ in_journal e ∷ []) c.push_reserved.new.self.items (vec_capacity c.self.inside.journal) (vec_capacity c.push_reserved.new.self) c.self.inside.turns.items c.self.inside.returned.items _ c.meet.new.into
     change followed.keys (c.push_reserved.ensures.items ∙ ap (λ (j : JournalEntry). c.self.inside.journal.items ++ j ∷ []) entry) c.push_reserved.ensures.capacity seat
     ∙ ap (λ (k : Pooled). settled_with k c.args.ticket.worker c.args.ticket.node seen c.args.finding) c.self.view_is

@@ -1,14 +1,14 @@
 use Rattle.std.proofs.Common.{rules, ◌≡◌, ℕ, ap, sym, ◌∙◌, arith}
-use Rattle.mari_incumbent.specs.Word.{WordId, Standing}
+use Rattle.mari_incumbent.specs.Incumbent.{IncumbentId, Standing}
 use Rattle.mari_incumbent.proofs.Keeps.{closes}
-use Rattle.mari_incumbent.proofs.word.Incumbent.close.Goals as goal
+use Rattle.mari_incumbent.proofs.incumbent.Incumbent.close.Goals as goal
 
 pub returns : goal.returns
 returns c =
     let last = c.close_with-closed.ensures.values.2 in
     let seat = c.seat.view_is in
-    let whole = ap (λ (s : Standing). s.parts) seat ∙ c.requires.parts ∙ sym (ap (λ (w : WordId). w.all) c.self.view_is) in
-    let end = closes _ _ _ _ _ c.word-word.result last.0 last.1.0 last.1.1 last.2 c.word-word.ensures whole c.seat.invariant.1 in
+    let whole = ap (λ (s : Standing). s.parts) seat ∙ c.requires.parts ∙ sym (ap (λ (w : IncumbentId). w.all) c.self.view_is) in
+    let end = closes _ _ _ _ _ c.word-incumbent.result last.0 last.1.0 last.1.1 last.2 c.word-incumbent.ensures whole c.seat.invariant.1 in
     let known = ap (λ m. m.0) c.seat.invariant.0 in
     let is_offered = ap (λ (s : Standing). s.offered) seat in
     let is_seen = ap (λ (s : Standing). s.seen) seat in

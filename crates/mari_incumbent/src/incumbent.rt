@@ -1,7 +1,7 @@
-//! The shared word and its seats.
+//! The shared incumbent and its seats.
 
 ghost use Rattle.std.specs.Prelude.{◌≡◌, ◌+◌, ◌-◌, ◌<◌, ◌≤◌, max, IfOk};
-ghost use Rattle.mari_incumbent.specs.Word.{standing};
+ghost use Rattle.mari_incumbent.specs.Incumbent.{standing};
 
 use crate::rule::{Both, Law, Look, Note, Offer, Part, View};
 use atomic_table::{Seat as Place, Table};
@@ -9,8 +9,8 @@ use mari_units::Memory;
 use std::alloc::Global;
 use std::marker::Model;
 
-/// The shared word: a welfare in quarter-cents. Contracts see which word it is, its first value, and the parts of all its
-/// seats.
+/// The shared incumbent: a welfare in quarter-cents. Contracts see which incumbent it is, its first value, and the parts of
+/// all its seats.
 #[derive(Drop)]
 pub struct Incumbent {
     table: Table<(), View, (u64, u64), Law, Global>,
@@ -19,16 +19,17 @@ pub struct Incumbent {
 
 impl Model for Incumbent {
     ghost use Rattle.std.specs.Prelude.{◌≡◌};
-    ghost use Rattle.mari_incumbent.specs.Word.{WordId};
+    ghost use Rattle.mari_incumbent.specs.Incumbent.{IncumbentId};
 
-    ghost Value = { WordId };
+    ghost Value = { IncumbentId };
 
     ghost view = { λ i. record { table = i.table.shared.table_id; first = i.table.shared.key.0; all = i.table.shared.key.1 } };
 
     ghost invariant = { λ i. (i.table.shared.table_id.words ≡ 1) × (i.table.shared.table_id.slots ≡ 0) × (i.first ≡ i.table.shared.key.0) };
 }
 
-/// A seat of a word. Contracts see its word, the greatest number that it saw, the greatest that it offered, and its parts.
+/// A seat of an incumbent. Contracts see its incumbent, the greatest number that it saw, the greatest that it offered, and
+/// its parts.
 #[derive(Drop)]
 pub struct Seat {
     place: Place<(), View>,
@@ -38,12 +39,12 @@ pub struct Seat {
 
 impl Model for Seat {
     ghost use Rattle.std.specs.Prelude.{◌≡◌, ◌<◌, ◌≤◌, []};
-    ghost use Rattle.mari_incumbent.specs.Word.{Standing};
+    ghost use Rattle.mari_incumbent.specs.Incumbent.{Standing};
     ghost use Rattle.mari_incumbent.specs.Rule.{view_of};
 
     ghost Value = { Standing };
 
-    ghost view = { λ s. record { word = record { table = s.place.table_id; first = s.place.me.0.first; all = s.place.me.0.all }; seen = s.seen; offered = s.offered; parts = s.place.me.0.parts } };
+    ghost view = { λ s. record { incumbent = record { table = s.place.table_id; first = s.place.me.0.first; all = s.place.me.0.all }; seen = s.seen; offered = s.offered; parts = s.place.me.0.parts } };
 
     ghost invariant = { λ s. (s.place.me ≡ (view_of s.place.me.0.first s.place.me.0.all s.seen s.offered s.place.me.0.parts, [])) × (0 < s.place.me.0.parts) × (s.place.me.0.first ≤ s.offered) × (s.offered ≤ s.seen) };
 }
@@ -58,10 +59,10 @@ impl Seat {
         self.seen
     }
 
-    /// The greatest number that it offered, or the word's first value where it offered none above that.
+    /// The greatest number that it offered, or the incumbent's first value where it offered none above that.
     pub fn offered(&self) -> u64
         ensures offered { result ≡ self.now.offered }
-        ensures at_least_first { self.now.word.first ≤ result }
+        ensures at_least_first { self.now.incumbent.first ≤ result }
         ensures at_most_seen { result ≤ self.now.seen }
     {
         self.offered
@@ -69,7 +70,7 @@ impl Seat {
 }
 
 impl Incumbent {
-    /// A word that starts at `first`, and its first seat, which has all parts.
+    /// An incumbent that starts at `first`, and its first seat, which has all parts.
     pub fn start(alloc: Global, first: u64, parts: u64) -> Result<(Incumbent, Seat), Memory>
         requires { 1 ≤ parts }
         ensures first { IfOk result (λ r. r.0.first ≡ first) }
@@ -86,9 +87,9 @@ impl Incumbent {
         Ok((incumbent, seat))
     }
 
-    /// Looks at the word, by one load: the answer is the seat's new `seen`.
+    /// Looks at the incumbent, by one load: the answer is the seat's new `seen`.
     pub fn look(&self, seat: &mut Seat) -> u64
-        requires { seat.old.word ≡ self.now }
+        requires { seat.old.incumbent ≡ self.now }
         ensures seat { seat.new ≡ standing self.now result seat.old.offered seat.old.parts }
         ensures rises { seat.old.seen ≤ result }
     {
@@ -99,7 +100,7 @@ impl Incumbent {
 
     /// Offers a welfare, by one `fetch_max`: the answer is the seat's new `seen`, and at least the welfare.
     pub fn offer(&self, seat: &mut Seat, welfare: u64) -> u64
-        requires { seat.old.word ≡ self.now }
+        requires { seat.old.incumbent ≡ self.now }
         ensures seat { seat.new ≡ standing self.now result (max seat.old.offered welfare) seat.old.parts }
         ensures rises { seat.old.seen ≤ result }
         ensures counted { welfare ≤ result }
@@ -115,7 +116,7 @@ impl Incumbent {
 
     /// Gives one part to a new seat, which has seen what this one saw and offered nothing.
     pub fn split(&self, seat: &mut Seat) -> Seat
-        requires word { seat.old.word ≡ self.now }
+        requires incumbent { seat.old.incumbent ≡ self.now }
         requires parts { 2 ≤ seat.old.parts }
         ensures left { seat.new ≡ standing self.now seat.old.seen seat.old.offered (seat.old.parts - 1) }
         ensures new { result ≡ standing self.now seat.old.seen self.now.first 1 }
@@ -130,8 +131,8 @@ impl Incumbent {
 
     /// Lets one seat see what another saw. All other numbers of both stay.
     pub fn meet(&self, into: &mut Seat, from: &mut Seat) -> u64
-        requires into { into.old.word ≡ self.now }
-        requires from { from.old.word ≡ self.now }
+        requires into { into.old.incumbent ≡ self.now }
+        requires from { from.old.incumbent ≡ self.now }
         ensures into { into.new ≡ standing self.now result into.old.offered into.old.parts }
         ensures from { from.new ≡ from.old }
         ensures greater { result ≡ max into.old.seen from.old.seen }
@@ -144,8 +145,8 @@ impl Incumbent {
 
     /// Takes a seat into another, with what it saw, what it offered, and its parts.
     pub fn join(&self, into: &mut Seat, from: Seat)
-        requires into { into.old.word ≡ self.now }
-        requires from { from.word ≡ self.now }
+        requires into { into.old.incumbent ≡ self.now }
+        requires from { from.incumbent ≡ self.now }
         ensures { into.new ≡ standing self.now (max into.old.seen from.seen) (max into.old.offered from.offered) (into.old.parts + from.parts) }
     {
         let Seat {
@@ -158,9 +159,9 @@ impl Incumbent {
         into.offered = into.offered.max(offered);
     }
 
-    /// Closes the word by a seat that has all parts. The answer is the word, which is the greatest number offered.
+    /// Closes the incumbent by a seat that has all parts. The answer is its number, which is the greatest offered.
     pub fn close(self, seat: Seat) -> u64
-        requires word { seat.word ≡ self }
+        requires incumbent { seat.incumbent ≡ self }
         requires parts { seat.parts ≡ self.all }
         ensures offered { result ≡ seat.offered }
         ensures seen { result ≡ seat.seen }
@@ -172,8 +173,8 @@ impl Incumbent {
             offered: _,
         } = seat;
         let closed = table.close_with(place);
-        let word = closed.word(0);
+        let incumbent = closed.word(0);
         closed.free();
-        word
+        incumbent
     }
 }

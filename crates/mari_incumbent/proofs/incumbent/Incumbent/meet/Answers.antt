@@ -1,6 +1,6 @@
 use Rattle.std.proofs.Common.{rules}
 use Rattle.mari_incumbent.proofs.Keeps.{notes, joins}
-use Rattle.mari_incumbent.proofs.word.Incumbent.meet.Goals as goal
+use Rattle.mari_incumbent.proofs.incumbent.Incumbent.meet.Goals as goal
 
 pub split_seat-note-requires : goal.split_seat-note-requires
 split_seat-note-requires c = (search rules, search rules, notes _ _ _ _)

@@ -17,8 +17,8 @@ fn behind_name(mut words: Vec<String>) -> Vec<String>
     words
 }
 
-/// The words behind the program's name. One that isn't text makes them no words at all, which are no command; want of memory has its own
-/// status.
+/// The words behind the program's name. One that isn't text makes them no words at all, which are no command; want of
+/// memory has its own status.
 pub fn words_of(rt: &(impl Env + AllocGlobal)) -> Result<Vec<String>, Status> {
     let mut words = Vec::new(rt.alloc());
     match env::args(rt) {

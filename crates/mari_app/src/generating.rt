@@ -69,8 +69,8 @@ fn usual_day<G: Turnstile, R: Threads + Wait + Sync>(
     day_of(alloc, books, USUAL_NODES, &mut crew)
 }
 
-/// The summary of a generated day. Each of its runs has at most eight gates, whose search tree has at most 511 nodes, so that
-/// every run is published.
+/// The summary of a generated day. Each of its runs has at most eight gates, whose search tree has at most 511 nodes,
+/// so that every run is published.
 fn summary<G: Turnstile, R: Threads + Wait + Sync>(
     rt: &R,
     alloc: Global,

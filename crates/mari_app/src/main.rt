@@ -1,8 +1,9 @@
-//! The program: `mari clear FOLDER [--nodes N] [--workers K]`, `mari check FOLDER`, `mari generate NUMBER`, `mari migrate FOLDER borders`
-//! and `mari migrate FOLDER limits`.
+//! The program: `mari clear FOLDER [--nodes N] [--workers K]`, `mari check FOLDER`, `mari generate NUMBER`,
+//! `mari migrate FOLDER borders` and `mari migrate FOLDER limits`.
 //!
-//! `run_program` is all of it over any shelf and sink: words, the books of a folder, the text of their day, its check, and bytes. Its
-//! contract carries the headline (`specs/Headline.antt`). `main` calls it over real files and standard output.
+//! `run_program` is all of it over any shelf and sink: words, the books of a folder, the text of their day, its check,
+//! and bytes. Its contract carries the headline (`specs/Headline.antt`). `main` calls it over real files and standard
+//! output.
 #![tactic(auto)]
 
 mod arguments;

@@ -1,4 +1,5 @@
-//! `migrate FOLDER borders` and `migrate FOLDER limits`: a folder's files in the form that states border limits for each run.
+//! `migrate FOLDER borders` and `migrate FOLDER limits`: a folder's files in the form that states border limits for
+//! each run.
 
 ghost use Rattle.std.specs.Prelude.{◌≡◌, Some, IfOk};
 ghost use Rattle.mari_io.specs.Outside.{Counts, Pages};

@@ -4,7 +4,8 @@ use mari_io::Fetch;
 use mari_remain::Books;
 use mari_units::Refusal;
 
-/// A day to clear: its books, how many nodes each run's search may make, 1 to 50,000, and how many workers search, 1 to 16.
+/// A day to clear: its books, how many nodes each run's search may make, 1 to 50,000, and how many workers search, 1
+/// to 16.
 #[derive(Drop)]
 pub struct Job {
     pub books: Books,
@@ -12,8 +13,9 @@ pub struct Job {
     pub workers: u32,
 }
 
-/// What the words and the pages come to: no command; a day to clear; a text to print; a publication that isn't valid, with the first
-/// run that has a fault and the fault's number; a file, by its number, whose page can't be had, and why; a refusal; or no memory.
+/// What the words and the pages come to: no command; a day to clear; a text to print; a publication that isn't valid,
+/// with the first run that has a fault and the fault's number; a file, by its number, whose page can't be had, and
+/// why; a refusal; or no memory.
 #[derive(Drop)]
 pub enum Outcome {
     NoCommand,

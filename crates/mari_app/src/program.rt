@@ -60,7 +60,8 @@ fn outcome_of<S: Shelf, G: Turnstile, R: Threads + Wait + Sync>(
     }
 }
 
-/// Writes what is printed of an outcome, and answers its status. It waits for workers only where a day is cleared by several.
+/// Writes what is printed of an outcome, and answers its status. It waits for workers only where a day is cleared by
+/// several.
 fn finish<K: Sink, G: Turnstile, R: Threads + Wait + Sync>(
     rt: &R,
     alloc: Global,
@@ -80,15 +81,17 @@ fn finish<K: Sink, G: Turnstile, R: Threads + Wait + Sync>(
 
 /// Does all that the program does, by the words behind its name:
 ///
-/// - `clear FOLDER [--nodes N] [--workers K]` clears the runs of the folder's day and prints the day as it is made. A run's search
-///   makes at most N nodes, 1 to 50,000, or 10,000 where the words don't say; K workers search, 1 to 16, or 2.
+/// - `clear FOLDER [--nodes N] [--workers K]` clears the runs of the folder's day and prints the day as it is made. A
+///   run's search makes at most N nodes, 1 to 50,000, or 10,000 where the words don't say; K workers search, 1 to 16,
+///   or 2.
 /// - `check FOLDER` checks the folder's publication.txt against its market files.
 /// - `generate NUMBER` clears a generated day and prints its summary.
-/// - `migrate FOLDER borders` and `migrate FOLDER limits` print these files in the form that states limits for each run.
+/// - `migrate FOLDER borders` and `migrate FOLDER limits` print these files in the form that states limits for each
+///   run.
 ///
-/// The market files of a folder are fetched in their order and then read in that order. Two or more workers take their findings from
-/// the turnstile, and the call may then wait for them. On `check`, on `migrate`, and on `clear` with one worker it uses only calls that
-/// return.
+/// The market files of a folder are fetched in their order and then read in that order. Two or more workers take their
+/// findings from the turnstile, and the call may then wait for them. On `check`, on `migrate`, and on `clear` with one
+/// worker it uses only calls that return.
 pub fn run_program<S: Shelf, K: Sink, G: Turnstile, R: Threads + Wait + Sync>(
     rt: &R,
     alloc: Global,
@@ -107,8 +110,8 @@ pub fn run_program<S: Shelf, K: Sink, G: Turnstile, R: Threads + Wait + Sync>(
     ensures too_long { Counts (result ≡ Status.TooLong) (S.overs shelf.old) (S.overs shelf.new) }
     ensures write_fault { Counts (result ≡ Status.WriteFault) (K.faults sink.old) (K.faults sink.new) }
 
-    // Words that are no command are answered so, the first refusal of the market files, the fault that is told of the publication's text,
-    // and the first page that isn't held or is too long.
+    // Words that are no command are answered so, the first refusal of the market files, the fault that is told of the
+    // publication's text, and the first page that isn't held or is too long.
     ensures no_command { command_at (map string_bytes words.now) ≡ None → (result ≡ Status.Usage) ⊎ ((result ≡ Status.WriteFault) ⊎ (result ≡ Status.Memory)) }
     ensures refuses { (told : Pages) (refusal : Refusal) → S.pages shelf.old ≡ Some told → RefusesFiles (command_at (map string_bytes words.now)) told refusal
         → OrFault (IsStatus (Status.Refused refusal)) result }
@@ -117,8 +120,9 @@ pub fn run_program<S: Shelf, K: Sink, G: Turnstile, R: Threads + Wait + Sync>(
     ensures gaps { (told : Pages) (file : ℕ) (gap : Gap) → S.pages shelf.old ≡ Some told → LacksPage (command_at (map string_bytes words.now)) told file gap
         → OrFault (IsStatus (gap_status gap)) result }
 
-    // Folders whose pages are accepted are cleared, and wholly where the budget holds each run's search tree; a publication that is read
-    // is checked; files that state their limits for the day are migrated; and days are generated.
+    // Folders whose pages are accepted are cleared, and wholly where the budget holds each run's search tree; a
+    // publication that is read is checked; files that state their limits for the day are migrated; and days are
+    // generated.
     ensures cleared { (told : Pages) → S.pages shelf.old ≡ Some told → IsClearable (command_at (map string_bytes words.now)) told → OrFault IsDayStatus result }
     ensures complete { (told : Pages) → S.pages shelf.old ≡ Some told → HasBudget (command_at (map string_bytes words.now)) told → OrFault (IsStatus Status.Done) result }
     ensures checked { (told : Pages) → S.pages shelf.old ≡ Some told → IsReadable (command_at (map string_bytes words.now)) told → OrFault IsVerdictStatus result }

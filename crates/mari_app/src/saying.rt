@@ -75,7 +75,8 @@ fn say_invalid<K: Sink>(alloc: Global, sink: &mut K, run: u32, fault: u8) -> Sta
     }
 }
 
-/// Writes what is printed of an outcome, and answers its status. A day is cleared by this thread, so that the call waits for nobody.
+/// Writes what is printed of an outcome, and answers its status. A day is cleared by this thread, so that the call
+/// waits for nobody.
 pub fn report<K: Sink>(alloc: Global, sink: &mut K, outcome: &Outcome) -> Status
     requires { IsReportable outcome.now }
     ensures reported { Reported outcome.now (K.taken sink.old) (K.taken sink.new) result }

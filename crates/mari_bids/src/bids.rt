@@ -52,8 +52,8 @@ impl FileCheck for BidCheck {
 
 /// A bid: at least and at most so many whole MW in one quarter hour, at a price in cents per MWh.
 ///
-/// Provider and zone are places, from 0; the quarter counts from 1. `least` is as the file states it. A bid that is not
-/// for `both` is for scheduled runs alone.
+/// Provider and zone are places, from 0; the quarter counts from 1. `least` is as the file states it. A bid that is
+/// not for `both` is for scheduled runs alone.
 #[derive(Clone, Copy, Debug, PartialEq, Eq)]
 pub struct Bid {
     pub provider: u32,

@@ -14,8 +14,8 @@ use mari_units::MOST_QUARTERS;
 /// The seconds of a quarter of an hour.
 const QUARTER: i64 = 900;
 
-/// Why there are no quarter hours: the text is no date; the rule is none; a date or a midnight isn't in the calendar's range;
-/// the day isn't of 1 to `MOST_QUARTERS` whole quarter hours; or no memory, which never comes.
+/// Why there are no quarter hours: the text is no date; the rule is none; a date or a midnight isn't in the calendar's
+/// range; the day isn't of 1 to `MOST_QUARTERS` whole quarter hours; or no memory, which never comes.
 #[derive(Clone, Copy, Debug, PartialEq, Eq)]
 pub enum CalendarFault {
     BadDate,
@@ -51,8 +51,9 @@ fn whole(seconds: i64) -> Result<u32, CalendarFault>
     Ok((seconds / QUARTER) as u32)
 }
 
-/// The quarter hours of a date, written `YYYY-MM-DD`, on a clock that keeps a POSIX rule: the seconds from its midnight to the
-/// next date's midnight, over 900. A midnight that the clock skips or shows twice is the one by the offset before the change.
+/// The quarter hours of a date, written `YYYY-MM-DD`, on a clock that keeps a POSIX rule: the seconds from its
+/// midnight to the next date's midnight, over 900. A midnight that the clock skips or shows twice is the one by the
+/// offset before the change.
 #[tactic(auto, unfolding(crate::specs::Midnights::quarters_at))]
 pub fn quarters_of(date: &[u8], rule: &[u8]) -> Result<u32, CalendarFault>
     ensures quarters { result ≡ quarters_at date.now rule.now }

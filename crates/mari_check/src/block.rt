@@ -188,11 +188,12 @@ pub(crate) fn fault_in(
     Ok(None)
 }
 
-/// The number of the least fault of a published block, or none exactly where it has none: of its heading, its lines, its activation,
-/// its welfare, its prices, intervals and areas, its tree and its ledger.
+/// The number of the least fault of a published block, or none exactly where it has none: of its heading, its lines,
+/// its activation, its welfare, its prices, intervals and areas, its tree and its ledger.
 ///
-/// The market is the one that is made of this run behind the blocks before. A direct run whose quarter has a published scheduled block is
-/// checked with the prices of that block; for any other run there are none. How many items the tree may have is no matter here.
+/// The market is the one that is made of this run behind the blocks before. A direct run whose quarter has a published
+/// scheduled block is checked with the prices of that block; for any other run there are none. How many items the tree
+/// may have is no matter here.
 pub fn check_run(
     alloc: Global,
     books: &Books,

@@ -54,8 +54,8 @@ pub enum Tested {
     Sound(Settled),
 }
 
-/// What the check of a day keeps between its blocks: the budget, what the blocks so far left, the sums of their ledgers, the prices of
-/// the last published scheduled one, and how many of them are published and how many aren't.
+/// What the check of a day keeps between its blocks: the budget, what the blocks so far left, the sums of their
+/// ledgers, the prices of the last published scheduled one, and how many of them are published and how many aren't.
 #[derive(Drop)]
 pub struct DayCheck {
     pub budget: u32,
@@ -66,7 +66,8 @@ pub struct DayCheck {
     pub unpublished: u32,
 }
 
-/// What a published block adds, which tells a feasible activation and consistent prices of its run's market, and its ledger.
+/// What a published block adds, which tells a feasible activation and consistent prices of its run's market, and its
+/// ledger.
 fn settled_of(
     alloc: Global,
     books: &Books,
@@ -111,8 +112,8 @@ impl DayCheck {
         })
     }
 
-    /// Takes the budget, and tells fault 1 exactly where the date or the quarters aren't those of the books. It is called once, before
-    /// any block.
+    /// Takes the budget, and tells fault 1 exactly where the date or the quarters aren't those of the books. It is
+    /// called once, before any block.
     pub fn head(&mut self, books: &Books, date: &Name, quarters: u32, budget: u32) -> Option<u8>
         requires { IsChecked books.now [] self.old }
         ensures finds { (p : ThePublication) → p.date ≡ date.now → p.quarters ≡ quarters → FindsHead (HasHead books.now p) result }
@@ -126,7 +127,8 @@ impl DayCheck {
         None
     }
 
-    /// The scheduled prices of a run: a direct run has those of the scheduled block of its quarter, if it is published.
+    /// The scheduled prices of a run: a direct run has those of the scheduled block of its quarter, if it is
+    /// published.
     fn also(&self, books: &Books, run: u32) -> Option<&Prices>
         requires { 1 ≤ run }
         ensures { option_map (λ scheduled. scheduled.now.cents) result
@@ -290,8 +292,8 @@ impl DayCheck {
         }
     }
 
-    /// The number of the least fault of the block behind those so far, or none exactly where it has none; the check then stands for one
-    /// block more. No fault was found before.
+    /// The number of the least fault of the block behind those so far, or none exactly where it has none; the check
+    /// then stands for one block more. No fault was found before.
     pub fn block(
         &mut self,
         alloc: Global,

@@ -25,8 +25,8 @@ fn own_standing(order: &Order, mw: u32) -> Standing
     }
 }
 
-/// An end of each zone's interval. Prices are counted by their height: how far they lie above the least price that there may be, or,
-/// at the greatest end, below the greatest. So upper bounds are handled as lower bounds are.
+/// An end of each zone's interval. Prices are counted by their height: how far they lie above the least price that
+/// there may be, or, at the greatest end, below the greatest. So upper bounds are handled as lower bounds are.
 #[derive(Clone, Copy, Debug, Drop, PartialEq, Eq)]
 pub(crate) enum End {
     Least,

@@ -3,7 +3,8 @@
 ghost use Rattle.std.specs.Prelude.{◌≡◌};
 ghost use Rattle.mari_check.specs.Faults.{number_of};
 
-/// What can be wrong with a printed block, or with the totals of a day. Of several faults the one with the least number is told.
+/// What can be wrong with a printed block, or with the totals of a day. Of several faults the one with the least
+/// number is told.
 #[derive(Clone, Copy, Debug, Drop, PartialEq, Eq)]
 pub enum Fault {
     /// The run, its quarter or its kind isn't that of the book of runs at this place.

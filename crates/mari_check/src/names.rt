@@ -75,7 +75,8 @@ fn bids_named(lines: &[BidLine], ids: &NameIndex, numbers: &[u32]) -> bool
     true
 }
 
-/// Whether the block's lines name the zones, the borders and the bids of its run's market, and there is a line for each demand.
+/// Whether the block's lines name the zones, the borders and the bids of its run's market, and there is a line for
+/// each demand.
 pub(crate) fn names_market(books: &Books, made: &RunMarket, block: &FullBlock) -> bool
     ensures { IsTrue result ↔ NamesMarket books.now made.now block.now }
 {

@@ -7,8 +7,8 @@ ghost use Rattle.mari_check.specs.Spread.{IsAmong, AreSmall, IsClosed, IsClosedO
 
 use mari_market::Border;
 
-/// Lower bounds of prices go where prices are at least as high, upper bounds where they are at least as low, and the labels of areas
-/// over uncongested borders.
+/// Lower bounds of prices go where prices are at least as high, upper bounds where they are at least as low, and the
+/// labels of areas over uncongested borders.
 #[derive(Clone, Copy, Debug, Drop, PartialEq, Eq)]
 pub(crate) enum Along {
     Rising,

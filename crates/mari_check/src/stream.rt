@@ -19,8 +19,8 @@ use mari_remain::Books;
 use mari_units::Memory;
 use std::alloc::Global;
 
-/// Why there is no verdict: the shelf gave no page or no further piece, the text is that of no publication, or there was no memory,
-/// which is never told as a fault of the shelf or of the text.
+/// Why there is no verdict: the shelf gave no page or no further piece, the text is that of no publication, or there
+/// was no memory, which is never told as a fault of the shelf or of the text.
 #[derive(Clone, Copy, Debug, PartialEq, Eq)]
 pub enum StreamFault {
     Fetch(Fetch),
@@ -80,7 +80,8 @@ impl DayCheck {
     }
 }
 
-/// A publication as far as it has come: the reader of its text, the check of its day, and the verdict once it is settled.
+/// A publication as far as it has come: the reader of its text, the check of its day, and the verdict once it is
+/// settled.
 #[derive(Drop)]
 pub struct Stream {
     pub reader: TextReader,
@@ -196,8 +197,8 @@ fn read_pieces<S: Shelf>(
     }
 }
 
-/// The verdict on the publication whose text is the page of that name, which is read in pieces; or the first fault of the text. A
-/// fault of the text is answered as soon as it has come, and before any fault that the check finds.
+/// The verdict on the publication whose text is the page of that name, which is read in pieces; or the first fault of
+/// the text. A fault of the text is answered as soon as it has come, and before any fault that the check finds.
 pub fn check_stream<S: Shelf>(
     alloc: Global,
     books: &Books,

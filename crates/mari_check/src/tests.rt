@@ -1,5 +1,5 @@
-//! A printed block of two zones with a border that is full, as it was printed and with one line altered, whole and in pieces; and a
-//! block whose price is free.
+//! A printed block of two zones with a border that is full, as it was printed and with one line altered, whole and in
+//! pieces; and a block whose price is free.
 
 ghost use Rattle.std.specs.Prelude.{◌≤◌, IfOk, length};
 ghost use Rattle.mari_io.specs.declared.shelf.TheConstants.{MOST_PIECE};

@@ -16,8 +16,9 @@ use mari_remain::Books;
 use mari_units::Memory;
 use std::alloc::Global;
 
-/// A publication is valid, with so many published runs and so many that aren't; or the first run that has a fault, and the number of its
-/// least one. Run 0 is told where the first line isn't that of the books, the last run where the totals are other sums.
+/// A publication is valid, with so many published runs and so many that aren't; or the first run that has a fault, and
+/// the number of its least one. Run 0 is told where the first line isn't that of the books, the last run where the
+/// totals are other sums.
 #[derive(Clone, Copy, Debug, Drop, PartialEq, Eq)]
 pub enum Verdict {
     Valid { published: u32, unpublished: u32 },
@@ -46,8 +47,8 @@ impl DayCheck {
         )
     }
 
-    /// The verdict on a publication whose first line and blocks have no fault and that ends with these totals: a block may be missing, or
-    /// the totals may be other sums. No fault was found before.
+    /// The verdict on a publication whose first line and blocks have no fault and that ends with these totals: a block
+    /// may be missing, or the totals may be other sums. No fault was found before.
     pub fn end(&self, books: &Books, operators: &[MoneyLine], providers: &[AmountLine]) -> Verdict
         requires accepted { IsAccepted books.now }
         requires stands { (blocks : List PrintedBlock) × IsChecked books.now blocks self.now }
@@ -97,8 +98,8 @@ impl DayCheck {
     }
 }
 
-/// The verdict on a publication against its books: valid exactly where it has no fault, and else the first run that has one, with the
-/// run's least fault.
+/// The verdict on a publication against its books: valid exactly where it has no fault, and else the first run that
+/// has one, with the run's least fault.
 pub fn check_day(alloc: Global, books: &Books, publication: &Publication) -> Result<Verdict, Memory>
     requires accepted { IsAccepted books.now }
     ensures { IfOk result (IsVerdict books.now publication.now) }

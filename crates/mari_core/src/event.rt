@@ -53,7 +53,8 @@ pub enum StepFault {
     Memory,
 }
 
-/// The first step of a list that was refused, counted from 1, and why. Want of memory comes only before the first step, and has place 0.
+/// The first step of a list that was refused, counted from 1, and why. Want of memory comes only before the first
+/// step, and has place 0.
 #[derive(Clone, Copy, Debug, Drop, PartialEq, Eq)]
 pub struct ReplayFault {
     pub place: usize,

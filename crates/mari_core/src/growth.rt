@@ -25,11 +25,13 @@ use mari_units::Memory;
 use std::alloc::Global;
 use std::marker::Model;
 
-/// A part of the search tree of a market: its nodes are numbered from 0 as they are made, a closed child before the open one.
+/// A part of the search tree of a market: its nodes are numbered from 0 as they are made, a closed child before the
+/// open one.
 ///
-/// Whoever works on it takes a node that waits, finds out about it, and settles it at a cutoff that it knows: the node closes,
-/// or its children are made. Nothing else is known of the cutoffs but that they are at least the closed welfare. The rows of the
-/// whole budget are reserved at the start, so that only to start, `part` and `finish` take memory.
+/// Whoever works on it takes a node that waits, finds out about it, and settles it at a cutoff that it knows: the node
+/// closes, or its children are made. Nothing else is known of the cutoffs but that they are at least the closed
+/// welfare. The rows of the whole budget are reserved at the start, so that only to start, `part` and `finish` take
+/// memory.
 #[derive(Drop)]
 pub struct Growth<'m> {
     market: &'m Market,
@@ -313,8 +315,8 @@ impl<'m> Growth<'m> {
         }
     }
 
-    /// An actor settles a node that it has taken by what it found of it, at a cutoff that it knows: the node closes, or it
-    /// branches, or it waits again, where its children would be more than the budget. The entry says which.
+    /// An actor settles a node that it has taken by what it found of it, at a cutoff that it knows: the node closes,
+    /// or it branches, or it waits again, where its children would be more than the budget. The entry says which.
     pub fn settle(
         &mut self,
         actor: u32,

@@ -12,8 +12,9 @@ ghost use Rattle.mari_core.specs.Replay.{after_all, first_refusal, AreProper};
 
 /// Each event that is proper and isn't refused keeps the facts of a search, and so does each list of them.
 ///
-/// Of its tree alone: each entry that is allowed, and each list of them, keeps the facts of a growth, to settle a taken node with
-/// a finding is such an entry, and where the mark is on, the search tree is larger than the budget. The call does nothing: its contract is the law.
+/// Of its tree alone: each entry that is allowed, and each list of them, keeps the facts of a growth, to settle a
+/// taken node with a finding is such an entry, and where the mark is on, the search tree is larger than the budget.
+/// The call does nothing: its contract is the law.
 pub fn facts_are_kept()
     ensures event { (s : Machine) (e : Event) → KeepsFacts s → IsProper s e → refusal s e ≡ None → KeepsFacts (after s e) }
     ensures events { (s : Machine) (events : List Event) → KeepsFacts s → AreProper s events → first_refusal 0 s events ≡ None → KeepsFacts (after_all s events) }

@@ -1,7 +1,8 @@
 //! The pure search machine of branch and bound: what actors do, in any order, to an incumbent and to a tree of nodes.
 //!
-//! It stands on markets and on prefixes of gates. `Search` carries the promise: whatever list of events leads to it, its facts
-//! hold; and where every node is branched or closed, `finish` gives an optimal activation with a tree that shows it.
+//! It stands on markets and on prefixes of gates. `Search` carries the promise: whatever list of events leads to it,
+//! its facts hold; and where every node is branched or closed, `finish` gives an optimal activation with a tree that
+//! shows it.
 #![tactic(auto)]
 
 mod event;

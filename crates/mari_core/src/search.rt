@@ -30,7 +30,8 @@ pub struct Actor {
     pub best: Option<Attained>,
 }
 
-/// A search by branch and bound: actors look at the incumbent, offer activations, and take and settle the nodes of a tree.
+/// A search by branch and bound: actors look at the incumbent, offer activations, and take and settle the nodes of a
+/// tree.
 ///
 /// The incumbent is the greatest welfare that is known, in quarter-cents. Actors and nodes count from 0.
 #[derive(Drop)]
@@ -99,7 +100,8 @@ impl Actor {
 }
 
 impl<'m> Search<'m> {
-    /// A search whose one node waits, by so many actors, that knows `first`, the best activation with all gates closed.
+    /// A search whose one node waits, by so many actors, that knows `first`, the best activation with all gates
+    /// closed.
     pub fn start(
         alloc: Global,
         market: &'m Market,
@@ -128,9 +130,9 @@ impl<'m> Search<'m> {
 
     /// One step of an actor. After a refusal the search is as before.
     ///
-    /// An offer is an admissible activation with its welfare. A finding is one that `mari_node::examine` gives for that node,
-    /// and where the node decides every gate and no conflict was found the actor has seen at least its bound, as after an
-    /// offer of what was found. No step takes memory.
+    /// An offer is an admissible activation with its welfare. A finding is one that `mari_node::examine` gives for
+    /// that node, and where the node decides every gate and no conflict was found the actor has seen at least its
+    /// bound, as after an offer of what was found. No step takes memory.
     pub fn step(&mut self, event: Event) -> Result<(), StepFault>
         requires { IsProper self.old event }
         ensures change { IfOk result (λ _. self.new ≡ after self.old event) }
@@ -265,8 +267,8 @@ impl<'m> Search<'m> {
         self.tree.is_full()
     }
 
-    /// The nodes in preorder: branched, closed, or neither. Where the search is full they are a part of the search tree that the
-    /// budget can't extend.
+    /// The nodes in preorder: branched, closed, or neither. Where the search is full they are a part of the search
+    /// tree that the budget can't extend.
     pub fn part(&self, alloc: Global) -> Result<Vec<PartItem>, Memory>
         ensures part { IfOk result (λ v. IsPart self.now.tree.nodes v.items) }
         ensures search { IfOk result (λ v. ArePartsOfSearch self.now.tree.market ([] ∷ []) v.items) }
@@ -276,7 +278,8 @@ impl<'m> Search<'m> {
         self.tree.part(alloc)
     }
 
-    /// An optimal activation and the tree that shows it, where each node is branched or closed. The search is gone then.
+    /// An optimal activation and the tree that shows it, where each node is branched or closed. The search is gone
+    /// then.
     pub fn finish(self, alloc: Global) -> Result<Clearing, FinishFault>
         ensures clearing { IfOk result (λ c. IsOptimalClearing self.entry.tree.market self.entry.tree.budget c) }
         ensures welfare { IfOk result (λ c. c.welfare ≡ self.entry.incumbent) }

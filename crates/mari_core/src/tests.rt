@@ -1,5 +1,5 @@
-//! The machine on an indivisible bid of 40 MW that is too large for a demand of 30 MW, beside a plain bid of 100 MW, with
-//! values computed by hand.
+//! The machine on an indivisible bid of 40 MW that is too large for a demand of 30 MW, beside a plain bid of 100 MW,
+//! with values computed by hand.
 
 ghost use Rattle.std.specs.Prelude.{◌≡◌, take, IfOk, [], ◌∷◌};
 ghost use Rattle.mari_core.specs.Example.{oversized, first, at_root, at_closed, at_open, all_events, taken_twice};

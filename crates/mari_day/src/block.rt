@@ -36,7 +36,8 @@ pub struct Priced {
     pub ledger: Ledger,
 }
 
-/// What a published block adds to its day: its run's market, the activation in it, the published prices, and the ledger.
+/// What a published block adds to its day: its run's market, the activation in it, the published prices, and the
+/// ledger.
 #[derive(Drop)]
 pub struct Settled {
     pub made: RunMarket,
@@ -170,8 +171,8 @@ fn provider_lines(
     amount_lines(alloc, &bids.providers, &places, amounts)
 }
 
-/// The ledger of a run's clearing at its published prices. A direct run's bids are paid with regard to the scheduled prices of
-/// its quarter, where there are any.
+/// The ledger of a run's clearing at its published prices. A direct run's bids are paid with regard to the scheduled
+/// prices of its quarter, where there are any.
 fn ledger_of(
     alloc: Global,
     books: &Books,

@@ -23,8 +23,8 @@ use mari_remain::Books;
 use mari_units::{Memory, Quarters};
 use std::alloc::Global;
 
-/// How a day ended: it was written whole, with so many published runs and so many that aren't; a write failed; or there was no
-/// memory.
+/// How a day ended: it was written whole, with so many published runs and so many that aren't; a write failed; or
+/// there was no memory.
 #[derive(Clone, Copy, Debug, PartialEq, Eq)]
 pub enum DayEnd {
     Done { published: u32, unpublished: u32 },
@@ -164,8 +164,9 @@ fn write_day<C: Clearer, K: Sink>(
 
 /// Clears the runs of these books in order, each within a budget of nodes, and writes their day.
 ///
-/// The head, each block and the totals are one text each, written as soon as it is made. After a write fault the sink has taken a
-/// first part of the text of a day part or of a day; after want of memory the head and whole blocks, or nothing.
+/// The head, each block and the totals are one text each, written as soon as it is made. After a write fault the sink
+/// has taken a first part of the text of a day part or of a day; after want of memory the head and whole blocks, or
+/// nothing.
 pub fn run_day<C: Clearer, K: Sink>(
     alloc: Global,
     books: &Books,

@@ -11,8 +11,9 @@ ghost use Rattle.mari_day.specs.Totals.{operator_totals};
 
 use mari_remain::Books;
 
-/// Over the blocks of a day no bid runs above its offer, and a gated one in at most one block; the operators' nets sum to 0 in each
-/// block and in the totals, and no rent is negative; and within a budget that holds each run's search tree every run is published.
+/// Over the blocks of a day no bid runs above its offer, and a gated one in at most one block; the operators' nets sum
+/// to 0 in each block and in the totals, and no rent is negative; and within a budget that holds each run's search
+/// tree every run is published.
 pub fn days_keep(books: &Books)
     requires { IsAccepted books.now }
     ensures offers { (budget : ℕ) (blocks : List PrintedBlock) → IsDayPart books.now budget blocks → KeepsOffers books.now blocks }

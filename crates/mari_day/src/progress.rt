@@ -25,8 +25,8 @@ pub struct Scheduled {
     pub prices: Prices,
 }
 
-/// What a day keeps between its runs: what the blocks so far left, the sums of their ledgers, the prices of the last published
-/// scheduled one, and how many of them are published.
+/// What a day keeps between its runs: what the blocks so far left, the sums of their ledgers, the prices of the last
+/// published scheduled one, and how many of them are published.
 #[derive(Drop)]
 pub struct Progress {
     pub remaining: Remaining,
@@ -51,7 +51,8 @@ impl Progress {
         })
     }
 
-    /// The scheduled prices of a run: a direct run has those of the scheduled block of its quarter, if it is published.
+    /// The scheduled prices of a run: a direct run has those of the scheduled block of its quarter, if it is
+    /// published.
     pub fn also(&self, books: &Books, run: u32) -> Option<&Prices>
         requires { 1 ≤ run }
         ensures { option_map (λ scheduled. scheduled.now.cents) result

@@ -31,7 +31,8 @@ use mari_units::Refusal;
 use mari_zones::{BorderBook, ZoneBook};
 use std::alloc::Global;
 
-/// Why there are no books: the fetch of the file of this number gave no page; the first refusal of a page; or no memory.
+/// Why there are no books: the fetch of the file of this number gave no page; the first refusal of a page; or no
+/// memory.
 #[derive(Clone, Copy, Debug, PartialEq, Eq)]
 pub enum BooksFault {
     Fetch(u8, Fetch),
@@ -207,8 +208,8 @@ fn books_of(alloc: Global, folder: &Folder) -> Result<Books, BooksFault>
 
 /// Fetches the pages of a folder in the order of its files, and then reads them in that order.
 ///
-/// The files are the seven that every folder has, and behind them limits.csv exactly where the borders are of version 2,
-/// which leave their limits to it.
+/// The files are the seven that every folder has, and behind them limits.csv exactly where the borders are of version
+/// 2, which leave their limits to it.
 pub fn read_books<S: Shelf>(alloc: Global, shelf: &mut S, folder: &str) -> Result<Books, BooksFault>
     ensures same { S.pages shelf.new ≡ S.pages shelf.old }
 

@@ -1,6 +1,7 @@
 //! The books of runs, of demands, and of the limits of borders in each run.
 //!
-//! They stand on the rows of a page and on the book of zones. A page gives exactly its book, or exactly its first refusal.
+//! They stand on the rows of a page and on the book of zones. A page gives exactly its book, or exactly its first
+//! refusal.
 #![tactic(auto)]
 
 mod demands;

@@ -34,8 +34,8 @@ fn solve_slots(alloc: Global, market: &Market, reals: &[Slot]) -> Result<Solved,
     answer(alloc, market, &network, &amounts, &flows, &prices)
 }
 
-/// The relaxed optimum of a prefix: an activation within its bounds, where orders of undecided gates may run anything up
-/// to their greatest, of the greatest welfare, with potentials of which it is the dual value; or a cut, where no
+/// The relaxed optimum of a prefix: an activation within its bounds, where orders of undecided gates may run anything
+/// up to their greatest, of the greatest welfare, with potentials of which it is the dual value; or a cut, where no
 /// activation lies within the bounds.
 ///
 /// It cancels improving cycles: every order starts at its least, what that leaves too much or too little in a zone is

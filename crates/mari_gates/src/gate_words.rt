@@ -42,7 +42,8 @@ pub fn gate_word(market: &Market, activation: &Activation) -> Prefix
     word
 }
 
-/// Whether a prefix, continued with closed gates, comes before a gate word: at the first gate that differs it is closed.
+/// Whether a prefix, continued with closed gates, comes before a gate word: at the first gate that differs it is
+/// closed.
 pub fn comes_before(prefix: &Prefix, word: &Prefix) -> bool
     requires prefix { IsCleared prefix.now }
     requires few { word.now.length ≤ 512 }

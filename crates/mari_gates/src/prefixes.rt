@@ -98,8 +98,8 @@ fn is_cleared(prefix: &Prefix) -> bool
     true
 }
 
-/// Whether the prefix is feasible: it decides gates that are there, each gate that it opens has an open parent or none, no
-/// two gates that it opens share a group, and its unused bits are 0.
+/// Whether the prefix is feasible: it decides gates that are there, each gate that it opens has an open parent or
+/// none, no two gates that it opens share a group, and its unused bits are 0.
 pub fn prefix_feasible(market: &Market, prefix: &Prefix) -> bool
     requires { IsValid market.now }
     ensures { IsTrue result ↔ IsFeasiblePrefix market.now prefix.now }

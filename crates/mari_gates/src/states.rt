@@ -49,8 +49,8 @@ fn state_below(states: &[GateState; 512], parent: Option<u32>) -> GateState
     }
 }
 
-/// The state of a gate that the prefix doesn't decide: closed where an open gate shares its group, and else what its parent
-/// leaves to it.
+/// The state of a gate that the prefix doesn't decide: closed where an open gate shares its group, and else what its
+/// parent leaves to it.
 fn implied_state(
     gates: &[GateInfo],
     prefix: &Prefix,

@@ -9,8 +9,8 @@ use mari_units::Memory;
 use std::alloc::Global;
 use std::marker::Model;
 
-/// The shared incumbent: a welfare in quarter-cents. Contracts see which incumbent it is, its first value, and the parts of
-/// all its seats.
+/// The shared incumbent: a welfare in quarter-cents. Contracts see which incumbent it is, its first value, and the
+/// parts of all its seats.
 #[derive(Drop)]
 pub struct Incumbent {
     table: Table<(), View, (u64, u64), Law, Global>,
@@ -28,8 +28,8 @@ impl Model for Incumbent {
     ghost invariant = { λ i. (i.table.shared.table_id.words ≡ 1) × (i.table.shared.table_id.slots ≡ 0) × (i.first ≡ i.table.shared.key.0) };
 }
 
-/// A seat of an incumbent. Contracts see its incumbent, the greatest number that it saw, the greatest that it offered, and
-/// its parts.
+/// A seat of an incumbent. Contracts see its incumbent, the greatest number that it saw, the greatest that it offered,
+/// and its parts.
 #[derive(Drop)]
 pub struct Seat {
     place: Place<(), View>,

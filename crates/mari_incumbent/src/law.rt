@@ -6,8 +6,8 @@ ghost use Rattle.atomic_table.specs.Table.{Allows, Splits, Joins, step};
 ghost use Rattle.mari_incumbent.specs.declared.rule.View.{View};
 ghost use Rattle.mari_incumbent.specs.Rule.{Holds, Looks, Offers, less_one, one_part, note_of, both_of, nothing};
 
-/// One load, one `fetch_max` of a seat with parts, making a seat (with one part, or a note without any), and joining a seat: each
-/// keeps the rule over the views of all seats.
+/// One load, one `fetch_max` of a seat with parts, making a seat (with one part, or a note without any), and joining a
+/// seat: each keeps the rule over the views of all seats.
 pub fn rule_is_kept()
     ensures look { (first all slots id : ℕ) (v : View) → Allows (Holds first all) slots id (v, []) 0 (λ n. n) (Looks (step slots 0 0 0 none) (v, [])) }
     ensures offer { (first all slots id : ℕ) (v : View) (x : ℕ) → 0 < v.parts → Allows (Holds first all) slots id (v, []) 0 (λ n. max n x) (Offers (step slots 0 x 0 none) (v, [])) }

@@ -140,7 +140,8 @@ fn reading_fault(error: &io::Error) -> Fetch
     }
 }
 
-/// Appends what is left of a file, if that is no more than a page may have. Of a longer file it reads no more than that.
+/// Appends what is left of a file, if that is no more than a page may have. Of a longer file it reads no more than
+/// that.
 fn read_page<F: Read>(file: &mut F, into: &mut Vec<u8>) -> Result<(), Fetch>
     ensures ok { OnOk result (AppendsAtMost MOST_PAGE into.old.items into.new.items) }
     ensures kept { take (length into.old.items) into.new.items ≡ into.old.items }
@@ -169,7 +170,8 @@ fn read_page<F: Read>(file: &mut F, into: &mut Vec<u8>) -> Result<(), Fetch>
     Err(Fetch::Failed)
 }
 
-/// Appends the next bytes of a file, at most so many. Room for them is made before they are read, so that none is lost.
+/// Appends the next bytes of a file, at most so many. Room for them is made before they are read, so that none is
+/// lost.
 fn read_piece<F: Read>(file: &mut F, into: &mut Vec<u8>, most: u64) -> Result<u32, Fetch>
     requires some { 1 ≤ most }
     ensures ok { IfOk result (λ n. AppendsExactly n into.old.items into.new.items) }

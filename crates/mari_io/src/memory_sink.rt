@@ -9,8 +9,8 @@ use mari_units::Memory;
 use std::alloc::Global;
 use std::marker::Model;
 
-/// A sink in memory, which tells what it took. It has room for so many bytes, takes so many at most in a call, and a write
-/// that the plan names fails.
+/// A sink in memory, which tells what it took. It has room for so many bytes, takes so many at most in a call, and a
+/// write that the plan names fails.
 #[derive(Debug, Drop)]
 pub struct MemorySink {
     bytes: Vec<u8>,

@@ -48,7 +48,8 @@ impl<R: Print + Drop> StdSink<R> {
     }
 }
 
-/// Writes and flushes, and tells how many bytes were taken. After an error the writer may have taken first bytes of the piece.
+/// Writes and flushes, and tells how many bytes were taken. After an error the writer may have taken first bytes of
+/// the piece.
 fn write_out<W: Write>(out: &mut W, piece: &[u8]) -> Result<usize, Failed>
     ensures bound { IfOk result (λ n. n ≤ length piece.now) }
     ensures bytes { IfOk result (λ n. Appends (W.contents out.old) (W.contents out.new) (take n piece.now)) }

@@ -9,8 +9,8 @@ pub struct Failed;
 
 /// Where bytes go.
 ///
-/// Its count goes up at each failed write, up to the last value of 64 bits, and never falls. A write that takes nothing of a
-/// piece that isn't empty counts as failed, too.
+/// Its count goes up at each failed write, up to the last value of 64 bits, and never falls. A write that takes
+/// nothing of a piece that isn't empty counts as failed, too.
 pub trait Sink {
     /// The bytes taken so far, where the sink tells them.
     ghost taken: { Self → Option (List ℕ) };

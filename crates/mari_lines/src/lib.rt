@@ -1,7 +1,8 @@
 //! One line of a day's text, both ways.
 //!
-//! The crate stands on the units and on the market's certificates. Its promise: a line whose numbers are in range is spelled in
-//! one way, which the calls that write it append, and no other line is spelled so; any other bytes are no line.
+//! The crate stands on the units and on the market's certificates. Its promise: a line whose numbers are in range is
+//! spelled in one way, which the calls that write it append, and no other line is spelled so; any other bytes are no
+//! line.
 #![tactic(auto)]
 
 mod fault;

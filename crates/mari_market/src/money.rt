@@ -17,7 +17,8 @@ pub fn worth(price: Cents, mw: i64) -> i128
 }
 
 impl Order {
-    /// What so many MW of the order add to the welfare, in quarter-cents: their worth, which an injection takes from it.
+    /// What so many MW of the order add to the welfare, in quarter-cents: their worth, which an injection takes from
+    /// it.
     pub fn gain(&self, mw: u32) -> i128
         ensures value { result ≡ order_gain self.now mw }
         ensures small { unsigned_abs result ≤ 2 ^ 63 * mw }

@@ -19,7 +19,8 @@ pub enum Standing {
 impl Order {
     /// Whether the order's price is a lower bound of its zone's price, where it runs so many MW.
     ///
-    /// An injection that runs doesn't lose, also an indivisible one, and a withdrawal that could run more would not gain.
+    /// An injection that runs doesn't lose, also an indivisible one, and a withdrawal that could run more would not
+    /// gain.
     pub fn sets_lower(&self, standing: Standing, mw: u32) -> bool
         ensures { IsTrue result ↔ SetsLower standing self.now.side self.now.greatest mw }
     {
@@ -33,7 +34,8 @@ impl Order {
 
     /// Whether the order's price is an upper bound of its zone's price, where it runs so many MW.
     ///
-    /// A withdrawal that runs doesn't lose, also an indivisible one, and an injection that could run more would not gain.
+    /// A withdrawal that runs doesn't lose, also an indivisible one, and an injection that could run more would not
+    /// gain.
     pub fn sets_upper(&self, standing: Standing, mw: u32) -> bool
         ensures { IsTrue result ↔ SetsUpper standing self.now.side self.now.greatest mw }
     {

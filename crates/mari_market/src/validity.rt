@@ -117,7 +117,8 @@ impl Market {
             && orders_fit(self.orders.as_slice(), self.zones, gates)
     }
 
-    /// Whether the market is valid: within the limits of zones, borders, orders and gates, and each part fits the others.
+    /// Whether the market is valid: within the limits of zones, borders, orders and gates, and each part fits the
+    /// others.
     ///
     /// It takes no memory, and time of gates times orders at most.
     pub fn valid(&self) -> bool

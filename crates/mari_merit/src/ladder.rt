@@ -86,8 +86,9 @@ fn sort_dearest_first(steps: &mut Vec<Step>) -> Result<(), Memory>
     Ok(steps.sort_by_key(|step| (Reverse(step.price.0), step.order))?)
 }
 
-/// The ladder of a zone's side within these bounds: its orders with room above their least, the cheapest injection or the dearest
-/// withdrawal first, and of one price the lower number. It takes time n log n and memory linear in the number n of orders.
+/// The ladder of a zone's side within these bounds: its orders with room above their least, the cheapest injection or
+/// the dearest withdrawal first, and of one price the lower number. It takes time n log n and memory linear in the
+/// number n of orders.
 pub fn ladder_of(
     alloc: Global,
     market: &Market,

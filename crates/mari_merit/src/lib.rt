@@ -1,6 +1,8 @@
-//! Merit orders: the ladder of a zone's side within bounds, and the plain clearing of one zone without borders and gates.
+//! Merit orders: the ladder of a zone's side within bounds, and the plain clearing of one zone without borders and
+//! gates.
 //!
-//! Each is sorted once by std's sort. The clearing walks it once; its answer is optimal, and its certificate is one bound.
+//! Each is sorted once by std's sort. The clearing walks it once; its answer is optimal, and its certificate is one
+//! bound.
 #![tactic(auto)]
 
 mod ladder;

@@ -88,7 +88,8 @@ fn marginal_rung(rungs: &[Rung], need: u64) -> Cents
     Cents(-mari_units::CAP)
 }
 
-/// The marginal price of a need: the orders that are cheaper meet no more of it, and with those at this price all of it.
+/// The marginal price of a need: the orders that are cheaper meet no more of it, and with those at this price all of
+/// it.
 pub fn marginal_price(alloc: Global, orders: &[Order], need: u64) -> Result<Cents, Memory>
     requires few { length orders.now ≤ 4608 }
     requires small { All (λ o. o.greatest ≤ 99999) orders.now }

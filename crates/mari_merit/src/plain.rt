@@ -54,8 +54,8 @@ fn welfare_at_least_0(market: &Market, activation: &Activation) -> u64
     welfare(market, activation).0 as u64
 }
 
-/// Clears a market of one zone without borders and gates, in the order of prices: the answer is optimal, so without gates it
-/// is a first activation, and its certificate is one bound, the marginal price.
+/// Clears a market of one zone without borders and gates, in the order of prices: the answer is optimal, so without
+/// gates it is a first activation, and its certificate is one bound, the marginal price.
 ///
 /// It takes time n log n and memory linear in the number n of orders. Welfare is in quarter-cents, quantities in MW.
 pub fn clear_plain(alloc: Global, market: &Market) -> Result<Clearing, Memory>

@@ -15,7 +15,8 @@ struct Marginal {
 }
 
 impl Marginal {
-    /// What an order meets of the need: all that it can below the marginal price, nothing above it, and at it what is left.
+    /// What an order meets of the need: all that it can below the marginal price, nothing above it, and at it what is
+    /// left.
     fn meet(&mut self, order: &Order) -> u32
         ensures met { result ≡ met_by self.old.price self.old.left order.now }
         ensures within { result ≤ order.now.greatest }

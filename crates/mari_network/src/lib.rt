@@ -1,9 +1,9 @@
 //! Networks of slots and borders, on which both solvers work.
 //!
 //! A slot is what an order, or what stands in for one, may put into a zone at a price. `find_chain` gives an improving
-//! chain, or prices that are tight; `improve` moves energy along a chain; and `answer` carries the promise: where prices
-//! are tight it reads the relaxed optimum, or a cut, however the solver came there. Where to start and what to push is
-//! left to the solvers.
+//! chain, or prices that are tight; `improve` moves energy along a chain; and `answer` carries the promise: where
+//! prices are tight it reads the relaxed optimum, or a cut, however the solver came there. Where to start and what to
+//! push is left to the solvers.
 #![tactic(auto)]
 
 mod chain;

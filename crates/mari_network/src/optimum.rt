@@ -24,8 +24,8 @@ use std::alloc::{AllocError, Global};
 
 /// An activation of the greatest welfare within the bounds of a prefix, and potentials that show it.
 ///
-/// The potentials are one for each zone, in cents per MWh. The welfare is in quarter-cents; it is stated as 0 where it is
-/// negative, as it may be where gates are open.
+/// The potentials are one for each zone, in cents per MWh. The welfare is in quarter-cents; it is stated as 0 where it
+/// is negative, as it may be where gates are open.
 #[derive(Clone, Drop)]
 pub struct Solved {
     pub activation: Activation,

@@ -54,7 +54,8 @@ fn is_new(border: &Border, flow: i64, marked: &[bool], zone: u32, forth: bool) -
     room_over(border, flow, forth) > 0
 }
 
-/// Marks the zone of a hop and adds the hop, where energy can come over its border from that zone and it is not marked.
+/// Marks the zone of a hop and adds the hop, where energy can come over its border from that zone and it is not
+/// marked.
 fn reach_over(
     borders: &[Border],
     flows: &[i64],
@@ -207,8 +208,8 @@ fn place_of(hops: &[Hop], zone: u32) -> usize
 /// An improving chain, or none, with prices that show it.
 ///
 /// The zones are marked in levels, the dearest slot that may put in less first: that slot's zone, and all zones from
-/// which energy can still be moved to it, have its price, and a cheaper slot of one of them that may put in more makes a
-/// chain. The zones that are left at the end have the least price of all.
+/// which energy can still be moved to it, have its price, and a cheaper slot of one of them that may put in more makes
+/// a chain. The zones that are left at the end have the least price of all.
 fn chain_by_levels(
     alloc: Global,
     network: &Network,

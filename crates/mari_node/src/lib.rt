@@ -1,7 +1,7 @@
 //! What is found of one node of the search: a cut, or its relaxed optimum with an admissible activation or a conflict.
 //!
-//! It stands on the relaxed optimum of a prefix and on the test of prices. `examine` carries the promise: each finding holds,
-//! and at a prefix that decides every gate it settles what that gate word has.
+//! It stands on the relaxed optimum of a prefix and on the test of prices. `examine` carries the promise: each finding
+//! holds, and at a prefix that decides every gate it settles what that gate word has.
 #![tactic(auto)]
 
 mod admissibility;

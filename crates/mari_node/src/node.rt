@@ -59,8 +59,8 @@ fn conflict_by(solved: Solved, chain: Items<u32>) -> Result<Relaxed, AllocError>
     })
 }
 
-/// What is found where every gate is decided, and the optimum: it runs exactly the open gates, and it is the best of its gate
-/// word or shows that the word has none.
+/// What is found where every gate is decided, and the optimum: it runs exactly the open gates, and it is the best of
+/// its gate word or shows that the word has none.
 fn last_node(
     alloc: Global,
     market: &Market,
@@ -78,8 +78,8 @@ fn last_node(
     }
 }
 
-/// What is found where a gate is undecided, and the optimum: it is the best where it is admissible, and else there is its bound
-/// alone.
+/// What is found where a gate is undecided, and the optimum: it is the best where it is admissible, and else there is
+/// its bound alone.
 fn inner_node(
     alloc: Global,
     market: &Market,
@@ -121,11 +121,11 @@ fn relaxed_node(
 
 /// Examines one node of the search, the prefix that stands there.
 ///
-/// Where no activation lies within the prefix's bounds the finding is a cut that shows it. Else it has potentials, one for
-/// each zone in cents per MWh, whose dual value is the relaxed welfare of the prefix; that value in quarter-cents, or 0
-/// where it is negative; and it may have an admissible activation. At a prefix that decides every gate the activation is the
-/// best of that gate word, or a conflict shows that the word has no admissible activation. At any other prefix there is no
-/// conflict, and no activation only where some optimum of that welfare isn't admissible.
+/// Where no activation lies within the prefix's bounds the finding is a cut that shows it. Else it has potentials, one
+/// for each zone in cents per MWh, whose dual value is the relaxed welfare of the prefix; that value in quarter-cents,
+/// or 0 where it is negative; and it may have an admissible activation. At a prefix that decides every gate the
+/// activation is the best of that gate word, or a conflict shows that the word has no admissible activation. At any
+/// other prefix there is no conflict, and no activation only where some optimum of that welfare isn't admissible.
 pub fn examine(alloc: Global, market: &Market, prefix: &Prefix) -> Result<Finding, Memory>
     requires valid { IsValid market.now }
     requires prefix { IsFeasiblePrefix market.now prefix.now }
@@ -136,11 +136,12 @@ pub fn examine(alloc: Global, market: &Market, prefix: &Prefix) -> Result<Findin
     examine_from(alloc, market, prefix, &mut start)
 }
 
-/// Examines one node of the search from an activation to start with, and leaves the relaxed optimum there for the next one.
+/// Examines one node of the search from an activation to start with, and leaves the relaxed optimum there for the next
+/// one.
 ///
-/// What is found is what `examine` may find, whatever the start is: of any lengths, within the prefix's bounds or not. At a prefix
-/// that leaves a gate to decide there is an activation wherever the optimum that is left is admissible. The start is as it was
-/// where nothing lies within the bounds, and after want of memory.
+/// What is found is what `examine` may find, whatever the start is: of any lengths, within the prefix's bounds or not.
+/// At a prefix that leaves a gate to decide there is an activation wherever the optimum that is left is admissible.
+/// The start is as it was where nothing lies within the bounds, and after want of memory.
 pub fn examine_from(
     alloc: Global,
     market: &Market,

@@ -67,8 +67,8 @@ fn found(alloc: Global, orders: &[Order], length: u32, bits: u64) -> Result<Find
     }
 }
 
-/// The bound, the welfare of the best activation, if there is one, and whether there is a conflict; nothing where nothing
-/// lies within the bounds.
+/// The bound, the welfare of the best activation, if there is one, and whether there is a conflict; nothing where
+/// nothing lies within the bounds.
 type Told = Option<(u64, Option<u64>, bool)>;
 
 fn told(finding: &Finding) -> Told {
@@ -136,8 +136,8 @@ fn admissible_optimum_is_told_before_its_gate_is_decided(rt: HostRuntime) -> Res
     Ok(())
 }
 
-/// What is found at the prefix of so many gates that has this word of bits, from a start that runs these quantities, and what
-/// the quantities of the start are then.
+/// What is found at the prefix of so many gates that has this word of bits, from a start that runs these quantities,
+/// and what the quantities of the start are then.
 fn found_from(
     alloc: Global,
     orders: &[Order],

@@ -24,8 +24,8 @@ use mari_market::{Activation, Market, Prefix};
 use mari_network::{Slot, SolveFault, Solved, answer, margins_of, network_of, order_slots};
 use std::alloc::Global;
 
-/// The relaxed optimum of a market whose orders may run within these slots, from amounts and flows that balance with what
-/// stands in; or a cut.
+/// The relaxed optimum of a market whose orders may run within these slots, from amounts and flows that balance with
+/// what stands in; or a cut.
 fn solve_slots(
     alloc: Global,
     market: &Market,
@@ -46,7 +46,8 @@ fn solve_slots(
     answer(alloc, market, &network, amounts, flows, &prices)
 }
 
-/// The relaxed optimum of a market whose orders may run within these slots, from an activation to start with; or a cut.
+/// The relaxed optimum of a market whose orders may run within these slots, from an activation to start with; or a
+/// cut.
 fn solve_reals(
     alloc: Global,
     market: &Market,
@@ -64,14 +65,15 @@ fn solve_reals(
     solve_slots(alloc, market, &slots, &mut amounts, &mut flows)
 }
 
-/// The relaxed optimum of a prefix, from an activation to start with: for every start, an activation within the prefix's
-/// bounds, where orders of undecided gates may run anything up to their greatest, of the greatest welfare, with potentials
-/// of which it is the dual value; or a cut, where no activation lies within the bounds.
+/// The relaxed optimum of a prefix, from an activation to start with: for every start, an activation within the
+/// prefix's bounds, where orders of undecided gates may run anything up to their greatest, of the greatest welfare,
+/// with potentials of which it is the dual value; or a cut, where no activation lies within the bounds.
 ///
-/// The start's quantities and flows are moved to the nearest within the bounds and limits; a start of other lengths, or
-/// none, is passed over. What that leaves too much or too little in a zone is taken away or given at a price that no order
-/// reaches, and energy is then moved from cheaper to dearer orders along borders with room until no zone's prices
-/// contradict each other. From a start near the optimum few moves are needed, and time is that of a few passes over the orders.
+/// The start's quantities and flows are moved to the nearest within the bounds and limits; a start of other lengths,
+/// or none, is passed over. What that leaves too much or too little in a zone is taken away or given at a price that
+/// no order reaches, and energy is then moved from cheaper to dearer orders along borders with room until no zone's
+/// prices contradict each other. From a start near the optimum few moves are needed, and time is that of a few passes
+/// over the orders.
 pub fn solve_from(
     alloc: Global,
     market: &Market,

@@ -1,5 +1,5 @@
-//! What a search starts from: the quantities and flows of an activation, set right, or each slot at its least; and what
-//! stands in for what they leave out of balance.
+//! What a search starts from: the quantities and flows of an activation, set right, or each slot at its least; and
+//! what stands in for what they leave out of balance.
 
 ghost use Rattle.std.specs.Prelude.{◌≡◌, ◌<◌, ◌≤◌, ℕ, pos, neg_ℤ, ◌+ℤ◌, ◌-ℤ◌, ◌++◌, true, length, slice_set, IfOk, OnOk};
 ghost use Rattle.std.specs.List.{All, AllZip};

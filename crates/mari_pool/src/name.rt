@@ -5,7 +5,8 @@ use std::marker::Brand;
 /// One search: its incumbent, its market, its budget of nodes, and the numbers of its workers, which are those up to
 /// `workers`.
 ///
-/// Each search picks its own. The pool and its tickets carry it, so that what is done under the lock speaks of one search.
+/// Each search picks its own. The pool and its tickets carry it, so that what is done under the lock speaks of one
+/// search.
 pub trait SearchName {
     ghost use Rattle.std.specs.Prelude.{ℕ};
     ghost use Rattle.mari_market.specs.declared.market.Market.{Market};

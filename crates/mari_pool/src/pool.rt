@@ -27,8 +27,8 @@ use std::marker::{Model, PhantomData};
 
 /// The tree of a search that workers share, its journal, and a seat of its own.
 ///
-/// Each node has a key: the bound that was found at its parent. Rows for the whole budget and the journal are reserved: only
-/// `start`, `reclaim`, `finish` and `part` take memory.
+/// Each node has a key: the bound that was found at its parent. Rows for the whole budget and the journal are
+/// reserved: only `start`, `reclaim`, `finish` and `part` take memory.
 #[derive(Drop)]
 pub struct Pool<'m, N: SearchName> {
     tree: Growth<'m>,
@@ -102,8 +102,8 @@ impl<'m, N: SearchName> Pool<'m, N> {
 
     /// A worker takes the waiting node of the greatest key, and of equal keys that of the lowest number.
     ///
-    /// Else the answer says why there is none: a node could not branch within the budget, or all that is left is taken, or
-    /// nothing is left.
+    /// Else the answer says why there is none: a node could not branch within the budget, or all that is left is
+    /// taken, or nothing is left.
     pub fn take(&mut self, worker: u32) -> Took<N>
         requires { worker ≤ N.workers }
         ensures { Takes worker self.old self.new result }
@@ -146,10 +146,11 @@ impl<'m, N: SearchName> Pool<'m, N> {
             && self.tree.decides(ticket.node, &ticket.prefix)
     }
 
-    /// Settles a ticket's node with what was found there, at what the worker's seat saw. The pool's seat first meets that one.
+    /// Settles a ticket's node with what was found there, at what the worker's seat saw. The pool's seat first meets
+    /// that one.
     ///
-    /// The certificate is moved out of the finding into the tree, and the finding's bound is the key of the children. A stale
-    /// ticket changes nothing.
+    /// The certificate is moved out of the finding into the tree, and the finding's bound is the key of the children.
+    /// A stale ticket changes nothing.
     pub fn settle(
         &mut self,
         incumbent: &Incumbent,
@@ -306,8 +307,8 @@ impl<'m, N: SearchName> Pool<'m, N> {
         }
     }
 
-    /// The nodes in preorder: branched, closed, or neither. Where a node could not branch within the budget they are a part of
-    /// the search tree that the budget can't extend.
+    /// The nodes in preorder: branched, closed, or neither. Where a node could not branch within the budget they are a
+    /// part of the search tree that the budget can't extend.
     pub fn part(&self, alloc: Global) -> Result<Vec<PartItem>, Memory>
         ensures part { IfOk result (λ v. IsPart self.now.tree.nodes v.items) }
         ensures search { IfOk result (λ v. ArePartsOfSearch N.market ([] ∷ []) v.items) }

@@ -16,8 +16,8 @@ const FIRST_KEY: u64 = u64::MAX;
 
 /// The nodes of a search that wait, and a key for each node that there is.
 ///
-/// Nodes are numbered from 0 as they are made. The one with the greatest key comes first, and of equal keys the one with the
-/// lowest number. Room for all nodes is reserved at the start, and no other call takes memory.
+/// Nodes are numbered from 0 as they are made. The one with the greatest key comes first, and of equal keys the one
+/// with the lowest number. Room for all nodes is reserved at the start, and no other call takes memory.
 #[derive(Drop)]
 pub struct Queue {
     keys: Vec<u64>,
@@ -114,8 +114,8 @@ impl Queue {
         }
     }
 
-    /// Follows an entry of the journal, after which there are so many nodes: those that it made wait with the key, or its node
-    /// waits again.
+    /// Follows an entry of the journal, after which there are so many nodes: those that it made wait with the key, or
+    /// its node waits again.
     pub(crate) fn follow(&mut self, entry: JournalEntry, count: u32, key: u64)
         requires { CanFollow self.old count entry }
         ensures { Follows key count self.old self.new entry }

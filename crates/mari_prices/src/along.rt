@@ -6,8 +6,8 @@ ghost use Rattle.mari_prices.specs.Along.{LeadsBack, LeadsOn};
 
 use mari_market::Border;
 
-/// Lower bounds spread to where prices are at least as high, upper bounds to where they are at least as low, and an area
-/// over its uncongested borders.
+/// Lower bounds spread to where prices are at least as high, upper bounds to where they are at least as low, and an
+/// area over its uncongested borders.
 #[derive(Clone, Copy, Debug, Drop, PartialEq, Eq)]
 pub(crate) enum Along {
     Rising,

@@ -22,7 +22,8 @@ pub struct Intervals {
     pub greatest: Prices,
 }
 
-/// Why there are no intervals: no prices are consistent, as a chain of zones shows, or memory was wanted and not there.
+/// Why there are no intervals: no prices are consistent, as a chain of zones shows, or memory was wanted and not
+/// there.
 #[derive(Debug, Drop)]
 pub enum PriceFault {
     Conflict(Items<u32>),
@@ -40,12 +41,12 @@ impl From<AllocError> for PriceFault {
     }
 }
 
-/// The intervals of the prices that are consistent with an activation, by the marginal pricing of Article 30 of Regulation
-/// (EU) 2017/2195 in whole MW and whole cents per MWh.
+/// The intervals of the prices that are consistent with an activation, by the marginal pricing of Article 30 of
+/// Regulation (EU) 2017/2195 in whole MW and whole cents per MWh.
 ///
-/// A conflict comes exactly where no prices are consistent. From each zone of its chain to the next, some border makes the
-/// next price at least the former, but the first zone has a lower bound above an upper bound of the last.
-/// Time is that of the orders, and of zones times borders.
+/// A conflict comes exactly where no prices are consistent. From each zone of its chain to the next, some border makes
+/// the next price at least the former, but the first zone has a lower bound above an upper bound of the last. Time is
+/// that of the orders, and of zones times borders.
 pub fn price_test(
     alloc: Global,
     market: &Market,

@@ -57,7 +57,8 @@ fn number(alloc: Global, settled: &[Option<Settled>]) -> Result<Vec<u32>, AllocE
 
 /// Each zone's price area: zones are in one area where uncongested borders join them, directly or through others.
 ///
-/// Areas are numbered from 1 by their first zone. There is one number for each zone. Time is that of zones times borders.
+/// Areas are numbered from 1 by their first zone. There is one number for each zone. Time is that of zones times
+/// borders.
 pub fn areas(alloc: Global, market: &Market, activation: &Activation) -> Result<Vec<u32>, Memory>
     requires valid { IsValid market.now }
     requires feasible { IsFeasible market.now activation.now }

@@ -64,8 +64,8 @@ fn nearest_prices(
     Ok(prices)
 }
 
-/// The prices of an admissible activation: for each zone the least and the greatest of its consistent prices, and the one
-/// from the least to the greatest that is nearest to the market's reference price, which is published.
+/// The prices of an admissible activation: for each zone the least and the greatest of its consistent prices, and the
+/// one from the least to the greatest that is nearest to the market's reference price, which is published.
 ///
 /// The published prices are together consistent. Time is that of the orders, and of zones times borders.
 pub fn published_prices(

@@ -35,8 +35,8 @@ pub fn one_first(market: &Market)
     ensures published { (a b : Activation) → IsFirst market.now a → IsFirst market.now b → (ps qs : List Cents) → ArePublishedPrices market.now a ps → ArePublishedPrices market.now b qs → (z : ℕ) → z < market.now.zones → price_at ps z ≡ price_at qs z }
 {}
 
-/// Where every gate closed has the optimal welfare, that gate word is the first: an optimal activation which opens no gate is
-/// a first one, and then no first activation opens a gate.
+/// Where every gate closed has the optimal welfare, that gate word is the first: an optimal activation which opens no
+/// gate is a first one, and then no first activation opens a gate.
 ///
 /// The call does nothing: its contract is the law.
 pub fn closed_first(market: &Market)

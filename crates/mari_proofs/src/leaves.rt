@@ -28,9 +28,9 @@ fn is_bound(market: &Market, prefix: &Prefix, potentials: &Prices, cutoff: Quart
 
 /// Whether a certificate holds at a prefix and a cutoff, in quarter-cents.
 ///
-/// The certificate may have any lengths and any numbers: where they don't fit the market, it doesn't hold. One that holds
-/// leaves no admissible activation below the prefix whose welfare is above the cutoff, and a conflict that holds leaves
-/// none of the prefix's gate word.
+/// The certificate may have any lengths and any numbers: where they don't fit the market, it doesn't hold. One that
+/// holds leaves no admissible activation below the prefix whose welfare is above the cutoff, and a conflict that holds
+/// leaves none of the prefix's gate word.
 pub fn check_leaf(market: &Market, prefix: &Prefix, leaf: &Leaf, cutoff: Quarters) -> bool
     requires market { IsValid market.now }
     requires prefix { IsFeasiblePrefix market.now prefix.now }
@@ -71,8 +71,8 @@ fn check_leaf_below(market: &Market, prefix: &Prefix, leaf: &Leaf, cutoff: Quart
     }
 }
 
-/// Whether a certificate holds at a prefix and a cutoff for a gate word: where the prefix is early for it, it is to hold
-/// even at the cutoff less 1.
+/// Whether a certificate holds at a prefix and a cutoff for a gate word: where the prefix is early for it, it is to
+/// hold even at the cutoff less 1.
 pub(crate) fn check_leaf_for(
     market: &Market,
     prefix: &Prefix,

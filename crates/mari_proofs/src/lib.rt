@@ -1,8 +1,9 @@
 //! Certificates: why no admissible activation below a node of the search is better, and the plain tests of them.
 //!
-//! A certificate is potentials whose dual value is low enough, a cut, or a conflict; a tree of certificates shows that an
-//! activation is optimal. The tests here are all that a reader of a certificate has to trust, and none of them takes
-//! memory. Their promise: they answer exactly whether the certificate holds, and what holds bounds every admissible welfare.
+//! A certificate is potentials whose dual value is low enough, a cut, or a conflict; a tree of certificates shows that
+//! an activation is optimal. The tests here are all that a reader of a certificate has to trust, and none of them
+//! takes memory. Their promise: they answer exactly whether the certificate holds, and what holds bounds every
+//! admissible welfare.
 #![tactic(auto)]
 
 mod conflicts;

@@ -98,7 +98,8 @@ fn holds(market: &Market, prefix: Prefix, leaf: &Leaf, cutoff: i128) -> Option<b
     }
 }
 
-/// The verdict on a tree for the gate word of this many gates with these bits, where the market and the word are valid.
+/// The verdict on a tree for the gate word of this many gates with these bits, where the market and the word are
+/// valid.
 fn verdict_for(
     market: &Market,
     tree: &[TreeItem],

@@ -16,10 +16,11 @@ use mari_gates::{child_of, empty_prefix, next_after};
 use mari_market::{Market, Prefix, TreeItem};
 use mari_units::Quarters;
 
-/// Whether a tree holds, or the first place at which it doesn't: its shape fails there, or the leaf there doesn't hold.
+/// Whether a tree holds, or the first place at which it doesn't: its shape fails there, or the leaf there doesn't
+/// hold.
 ///
-/// Places count from 0. The shape fails at an item that is left over, at a branch of a prefix that decides every gate, and,
-/// where the tree ends too early, at the place after its last item.
+/// Places count from 0. The shape fails at an item that is left over, at a branch of a prefix that decides every gate,
+/// and, where the tree ends too early, at the place after its last item.
 #[derive(Clone, Copy, Debug, Drop, PartialEq, Eq)]
 pub enum TreeVerdict {
     Holds,
@@ -81,12 +82,12 @@ fn walk(market: &Market, tree: &[TreeItem], cutoff: Quarters, word: &Prefix) -> 
     }
 }
 
-/// Whether a tree holds for the market at a cutoff, in quarter-cents, for a gate word; else the first place at which it
-/// doesn't.
+/// Whether a tree holds for the market at a cutoff, in quarter-cents, for a gate word; else the first place at which
+/// it doesn't.
 ///
-/// The gate word is a feasible prefix that decides every gate. The leaves that are early for it are to hold even at the
-/// cutoff less 1, so a tree that holds at the welfare of an admissible activation for its gate word shows that it is the
-/// first activation. The word that closes every gate has no early leaf.
+/// The gate word is a feasible prefix that decides every gate. The leaves that are early for it are to hold even at
+/// the cutoff less 1, so a tree that holds at the welfare of an admissible activation for its gate word shows that it
+/// is the first activation. The word that closes every gate has no early leaf.
 pub fn check_tree(
     market: &Market,
     tree: &[TreeItem],
@@ -103,7 +104,8 @@ pub fn check_tree(
     ensures bounds { result ≡ TreeVerdict.Holds → (a : Activation) → IsAdmissible market.now a → welfare_of market.now a ≤ℤ cutoff.0 }
     ensures optimal { result ≡ TreeVerdict.Holds → (a : Activation) → IsAdmissible market.now a → welfare_of market.now a ≡ cutoff.0 → IsOptimal market.now a }
 
-    // Gate words that come before the word have less welfare, so an activation of the word which reaches the cutoff is the first.
+    // Gate words that come before the word have less welfare, so an activation of the word which reaches the cutoff is
+    // the first.
     ensures earlier { result ≡ TreeVerdict.Holds → (a : Activation) → IsAdmissible market.now a → ComesBefore (gate_word_of market.now a) (word_of word.now) → welfare_of market.now a ≤ℤ (cutoff.0 -ℤ pos 1) }
     ensures first { result ≡ TreeVerdict.Holds → (a : Activation) → IsAdmissible market.now a → welfare_of market.now a ≡ cutoff.0 → gate_word_of market.now a ≡ word_of word.now → IsFirst market.now a }
 {

@@ -14,8 +14,8 @@ use mari_lines::{MOST_LINE, split_once};
 use mari_units::Memory;
 use std::alloc::Global;
 
-/// What is there of the bytes behind the handled lines: all of them, or of a line that is too long a mark, and whether it has
-/// ended.
+/// What is there of the bytes behind the handled lines: all of them, or of a line that is too long a mark, and whether
+/// it has ended.
 #[derive(Clone, Copy, Debug, PartialEq, Eq)]
 pub enum Ahead {
     Kept,
@@ -23,8 +23,8 @@ pub enum Ahead {
     Ended,
 }
 
-/// What has come of a text: what is kept of the handled lines and how many they are, and the bytes of which so many are
-/// handled.
+/// What has come of a text: what is kept of the handled lines and how many they are, and the bytes of which so many
+/// are handled.
 #[derive(Drop)]
 pub struct Coming {
     pub kept: Kept,
@@ -34,7 +34,8 @@ pub struct Coming {
     pub handled: usize,
 }
 
-/// What comes of the first line behind the handled ones: the part that is whole with it, if one is; or no line is whole.
+/// What comes of the first line behind the handled ones: the part that is whole with it, if one is; or no line is
+/// whole.
 #[derive(Drop)]
 pub enum Step {
     Line(Option<Part>),

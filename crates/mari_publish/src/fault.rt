@@ -2,8 +2,8 @@
 
 use std::alloc::AllocError;
 
-/// A line of no form, a line that does not stand where it may, or a text that ends too early, each with the number of the
-/// line from 1; or want of memory.
+/// A line of no form, a line that does not stand where it may, or a text that ends too early, each with the number of
+/// the line from 1; or want of memory.
 #[derive(Clone, Copy, Debug, PartialEq, Eq)]
 pub enum TextFault {
     BadLine(u32),

@@ -22,8 +22,8 @@ pub use step::Refused;
 use totals::in_totals;
 use tree::in_tree;
 
-/// Takes a line, and gives the part that is whole with it. What is kept stays as it is where the line may not follow, and
-/// where there is no memory for it.
+/// Takes a line, and gives the part that is whole with it. What is kept stays as it is where the line may not follow,
+/// and where there is no memory for it.
 pub fn follow(alloc: Global, kept: &mut Kept, line: Line) -> Result<Option<Part>, Refused>
     requires counts { kept.old.counts.published + kept.old.counts.unpublished ≤ 1000 }
     requires room { HasRoom kept.old.held kept.old.counts }

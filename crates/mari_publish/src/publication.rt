@@ -4,8 +4,8 @@ use mari_lines::{AmountLine, BidLine, BorderLine, Heading, MoneyLine, ZoneLine};
 use mari_market::TreeItem;
 use mari_units::{Items, Name};
 
-/// What is published of a run: its welfare in quarter-cents, a line for each zone, border and bid, how many MW each demand
-/// runs, the certificate tree in preorder, and what each operator and provider gets.
+/// What is published of a run: its welfare in quarter-cents, a line for each zone, border and bid, how many MW each
+/// demand runs, the certificate tree in preorder, and what each operator and provider gets.
 #[derive(Drop)]
 pub struct FullBlock {
     pub heading: Heading,
@@ -26,7 +26,8 @@ pub enum Block {
     Unpublished(Heading, u32),
 }
 
-/// A day: its date, the number of its quarters, the node budget, a block for each run, and the sums over the published ones.
+/// A day: its date, the number of its quarters, the node budget, a block for each run, and the sums over the published
+/// ones.
 #[derive(Drop)]
 pub struct Publication {
     pub date: Name,

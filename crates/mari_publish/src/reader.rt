@@ -19,9 +19,9 @@ use mari_units::Memory;
 use std::alloc::Global;
 use std::marker::Model;
 
-/// A text that comes in pieces. The reader keeps what has come of the part that is being read, and the bytes behind the lines
-/// that are handled: neither the text nor the parts that were given. Of a line of more than 32,768 bytes it keeps only that it
-/// is too long.
+/// A text that comes in pieces. The reader keeps what has come of the part that is being read, and the bytes behind
+/// the lines that are handled: neither the text nor the parts that were given. Of a line of more than 32,768 bytes it
+/// keeps only that it is too long.
 #[derive(Drop)]
 pub struct TextReader {
     coming: Coming,
@@ -75,8 +75,8 @@ impl TextReader {
         Ok(())
     }
 
-    /// The next part; none where no further one is whole. A fault of a line comes once all parts before it were given, and
-    /// comes again at each further call.
+    /// The next part; none where no further one is whole. A fault of a line comes once all parts before it were given,
+    /// and comes again at each further call.
     pub fn next(&mut self, alloc: Global) -> Result<Option<Part>, TextFault>
         // What it is, and what the reader stands for then: after an error, for what it stood for.
         ensures next { (text : List ℕ) (parts : List PartValue) → StandsFor self.old.come text parts → IsNext text parts result }

@@ -135,8 +135,8 @@ fn read_lines(alloc: Global, bytes: &[u8]) -> Result<Publication, TextFault>
     finish(gathered, kept.held, rest, number)
 }
 
-/// The one publication whose text this is, or the first fault: the number of its line from 1, the first line with a fault,
-/// and at one line `BadLine` before `BadOrder`.
+/// The one publication whose text this is, or the first fault: the number of its line from 1, the first line with a
+/// fault, and at one line `BadLine` before `BadOrder`.
 pub fn read_text(alloc: Global, bytes: &[u8]) -> Result<Publication, TextFault>
     ensures outcome { IsOutcome bytes.now result }
     ensures text { (p : PublicationValue) → IsText bytes.now p → Answers (Ok p) result }

@@ -18,7 +18,8 @@ pub enum LineFault {
     Memory,
 }
 
-/// Takes the line that is spelled so, and gives the part that is whole with it. After a fault what is kept is as it was.
+/// Takes the line that is spelled so, and gives the part that is whole with it. After a fault what is kept is as it
+/// was.
 pub fn take_line(alloc: Global, kept: &mut Kept, here: &[u8]) -> Result<Option<Part>, LineFault>
     requires counts { kept.old.counts.published + kept.old.counts.unpublished ≤ 1000 }
     requires room { HasRoom kept.old.held kept.old.counts }

@@ -24,8 +24,8 @@ pub fn offers_are_kept(books: &Books)
     let _books = books;
 }
 
-/// What a published block does to what is kept, and that an unpublished block changes nothing: what stands for the blocks so far
-/// then stands for one more.
+/// What a published block does to what is kept, and that an unpublished block changes nothing: what stands for the
+/// blocks so far then stands for one more.
 pub fn stands_after(books: &Books)
     requires { IsAccepted books.now }
     ensures published { (blocks : List PastBlock) (next : PastBlock) (kept after : Kept) → StandsFor books.now blocks kept → IsNextBlock books.now blocks next

@@ -1,7 +1,8 @@
 //! The market of a run: which orders, borders and gates it has.
 //!
-//! A run of any kind stands behind the blocks of all runs before it, of which only what they took is kept. The crate stands on the books of a folder and
-//! promises that the market is exactly the one that its definition names, and that it is valid.
+//! A run of any kind stands behind the blocks of all runs before it, of which only what they took is kept. The crate
+//! stands on the books of a folder and promises that the market is exactly the one that its definition names, and that
+//! it is valid.
 //!
 //! Limits of borders may be stated once for a day, or for each run. `borders_text` and `limits_text` write the pages
 //! that state them for each run, and `migration_keeps_markets` is the law that these are read and change no market.

@@ -75,8 +75,8 @@ fn place_of(numbers: &[u32], number: u32) -> Option<usize>
     numbers.iter().position(|other| *other == number)
 }
 
-/// The order of a bid of which so much was taken: upward it gives energy and downward it takes it. One with a gate runs at least
-/// 1 MW where it runs, and is offered whole.
+/// The order of a bid of which so much was taken: upward it gives energy and downward it takes it. One with a gate
+/// runs at least 1 MW where it runs, and is offered whole.
 fn bid_order(bid: Bid, gate: Option<u32>, taken: u32) -> Order
     ensures { result ≡ bid_order_of bid gate taken }
 {
@@ -354,8 +354,8 @@ fn made_of(
 }
 
 impl Remaining {
-    /// The market of a run, counted from 1, behind the blocks of all runs before it: its available bids in the order of their file,
-    /// then its demands, over the borders with what is left of their limits.
+    /// The market of a run, counted from 1, behind the blocks of all runs before it: its available bids in the order
+    /// of their file, then its demands, over the borders with what is left of their limits.
     pub fn market_of(&self, alloc: Global, books: &Books, run: u32) -> Result<RunMarket, Memory>
         requires accepted { IsAccepted books.now }
         requires last { run ≤ length books.now.runs.runs }
@@ -370,7 +370,8 @@ impl Remaining {
         Ok(made)
     }
 
-    /// Adds the published block of a run: the market that was made of it here, and an activation that is feasible in it.
+    /// Adds the published block of a run: the market that was made of it here, and an activation that is feasible in
+    /// it.
     pub fn after(&mut self, books: &Books, run: u32, made: &RunMarket, activation: &Activation)
         requires accepted { IsAccepted books.now }
         requires last { run ≤ length books.now.runs.runs }

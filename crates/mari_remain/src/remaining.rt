@@ -17,9 +17,9 @@ use mari_units::Memory;
 use std::alloc::Global;
 use std::marker::Model;
 
-/// What the blocks of a day's first runs took: the MW of each bid, which bids a direct run activated, the quarter of the last
-/// published block, and the sum of each border's flows in that quarter. It also holds the bids of each quarter and the demands of
-/// each run.
+/// What the blocks of a day's first runs took: the MW of each bid, which bids a direct run activated, the quarter of
+/// the last published block, and the sum of each border's flows in that quarter. It also holds the bids of each
+/// quarter and the demands of each run.
 #[derive(Debug, Drop)]
 pub struct Remaining {
     pub(crate) mw: Vec<u32>,

@@ -8,17 +8,19 @@ use mari_units::{Items, Memory, Quarters};
 use mari_zones::{BorderBook, ZoneBook};
 use std::alloc::Global;
 
-/// What an operator pays for the energy that its zones take in, and its part of the rents of its borders, in quarter-cents.
+/// What an operator pays for the energy that its zones take in, and its part of the rents of its borders, in
+/// quarter-cents.
 ///
-/// The payment is negative where the operator is paid, as for energy that its zones give out. Its net is the payment less the rent.
+/// The payment is negative where the operator is paid, as for energy that its zones give out. Its net is the payment
+/// less the rent.
 #[derive(Clone, Copy, Debug, PartialEq, Eq)]
 pub struct OperatorLine {
     pub payment: Quarters,
     pub rent: Quarters,
 }
 
-/// The ledger of a run, or of several: a line for each operator, an amount for each provider and a rent for each border, by
-/// their numbers, in quarter-cents.
+/// The ledger of a run, or of several: a line for each operator, an amount for each provider and a rent for each
+/// border, by their numbers, in quarter-cents.
 #[derive(Clone, Debug, Drop)]
 pub struct Ledger {
     pub operators: Items<OperatorLine>,

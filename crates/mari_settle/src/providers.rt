@@ -13,7 +13,8 @@ use mari_bids::{Bid, BidBook};
 use mari_market::{Activation, worth};
 use mari_units::{Cents, Quarters};
 
-// The price that a bid is paid at: an upward one at the greater of the run's and the scheduled one, a downward one at the lesser.
+// The price that a bid is paid at: an upward one at the greater of the run's and the scheduled one, a downward one at
+// the lesser.
 fn paid_price(bid: &Bid, prices: &[Cents], scheduled: &[Cents]) -> i64
     requires zone { bid.now.zone < length prices.now }
     requires lengths { length scheduled.now ≡ length prices.now }

@@ -1,5 +1,5 @@
-//! Whole MW, prices, money and names: how the market files write them and how the program prints them; and the list type that
-//! all public structs of the project use.
+//! Whole MW, prices, money and names: how the market files write them and how the program prints them; and the list
+//! type that all public structs of the project use.
 //!
 //! The crate stands on std alone. Its promise: a reader answers exactly the number or the name that a text writes, or
 //! exactly why it writes none, for texts of any length; a printer writes the one printed form.

@@ -90,8 +90,8 @@ fn is_consistent_border(border: &Border, flow: i64, prices: &[Cents]) -> bool
     keeps_more(border, flow, prices) && keeps_less(border, flow, prices)
 }
 
-/// Whether prices are consistent with what flows over each border: one that could carry more leads to no dearer zone, and
-/// one that could carry less to no cheaper one.
+/// Whether prices are consistent with what flows over each border: one that could carry more leads to no dearer zone,
+/// and one that could carry less to no cheaper one.
 ///
 /// There is one flow for each border, in MW.
 pub fn borders_agree(borders: &[Border], flow: &[i64], prices: &[Cents]) -> bool
@@ -119,11 +119,11 @@ fn orders_and_borders_agree(market: &Market, activation: &Activation, prices: &[
     orders_agree(&opened, orders, mw, prices) && borders_agree(borders, flow, prices)
 }
 
-/// Whether prices are consistent with an activation, by the marginal pricing of Article 30 of Regulation (EU) 2017/2195
-/// in whole MW and whole cents per MWh.
+/// Whether prices are consistent with an activation, by the marginal pricing of Article 30 of Regulation (EU)
+/// 2017/2195 in whole MW and whole cents per MWh.
 ///
-/// There are one price for each zone, one quantity for each order and one flow for each border; else the answer is false.
-/// The activation need not be feasible.
+/// There are one price for each zone, one quantity for each order and one flow for each border; else the answer is
+/// false. The activation need not be feasible.
 pub fn is_consistent(market: &Market, activation: &Activation, prices: &Prices) -> bool
     requires { IsValid market.now }
     ensures { IsTrue result ↔ IsConsistent market.now activation.now prices.now.cents }

@@ -177,9 +177,9 @@ fn borders_and_zones_fit(market: &Market, activation: &Activation) -> bool
 
 /// Whether an activation is feasible in the market.
 ///
-/// It has one quantity for each order and one flow for each border; else the answer is false. Then each order runs within
-/// its bounds, the open gates keep the rules of parents and groups, each flow is within its border's limits, and each zone
-/// is in balance.
+/// It has one quantity for each order and one flow for each border; else the answer is false. Then each order runs
+/// within its bounds, the open gates keep the rules of parents and groups, each flow is within its border's limits,
+/// and each zone is in balance.
 pub fn is_feasible(market: &Market, activation: &Activation) -> bool
     requires { IsValid market.now }
     ensures { IsTrue result ↔ IsFeasible market.now activation.now }

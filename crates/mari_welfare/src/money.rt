@@ -7,7 +7,8 @@ ghost use Rattle.mari_market.specs.Market.{IsValid};
 use mari_market::{Activation, Market, total_gain};
 use mari_units::Quarters;
 
-/// The welfare of an activation, in quarter-cents: price times quantity over withdrawals, less the same over injections.
+/// The welfare of an activation, in quarter-cents: price times quantity over withdrawals, less the same over
+/// injections.
 ///
 /// The activation has one quantity for each order. Its flows add nothing, so there may be any number of them.
 pub fn welfare(market: &Market, activation: &Activation) -> Quarters

@@ -151,11 +151,11 @@ fn admit(search: &Search<'_>, queue: &mut Queue, key: u64)
     }
 }
 
-/// Visits the nodes of a search, always the one whose parent has the greatest bound, until none waits or one can't branch within
-/// the budget.
+/// Visits the nodes of a search, always the one whose parent has the greatest bound, until none waits or one can't
+/// branch within the budget.
 ///
-/// Of equal bounds the node that was made first is the next. Where the root branches, its optimum is rounded. Where none waits any more there is an optimal clearing, which may
-/// be refined.
+/// Of equal bounds the node that was made first is the next. Where the root branches, its optimum is rounded. Where
+/// none waits any more there is an optimal clearing, which may be refined.
 fn visit_all(
     alloc: Global,
     market: &Market,
@@ -205,8 +205,8 @@ fn cleared(alloc: Global, market: &Market, budget: u32) -> Result<Cleared, Memor
 
 /// Clears a market by branch and bound on this thread, within a budget of 1 to 50,000 nodes.
 ///
-/// The first activation comes with its welfare in quarter-cents and a certificate tree of at most the budget's items. Spent
-/// comes only where the search tree is larger than the budget, with a part of it that the budget can't extend.
+/// The first activation comes with its welfare in quarter-cents and a certificate tree of at most the budget's items.
+/// Spent comes only where the search tree is larger than the budget, with a part of it that the budget can't extend.
 pub fn search_alone(alloc: Global, market: &Market, budget: u32) -> Cleared
     requires market { IsValid market.now }
     requires budget { (1 ≤ budget) × (budget ≤ 50000) }

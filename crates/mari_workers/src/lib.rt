@@ -1,7 +1,8 @@
 //! Clearing a market by branch and bound.
 //!
-//! It stands on the findings of `mari_node` and on the search machine of `mari_core`. `search_alone` carries the promise: the
-//! first activation with a certificate tree within the budget, or a part of the search tree that the budget can't extend.
+//! It stands on the findings of `mari_node` and on the search machine of `mari_core`. `search_alone` carries the
+//! promise: the first activation with a certificate tree within the budget, or a part of the search tree that the
+//! budget can't extend.
 #![tactic(auto)]
 
 mod alone;

@@ -43,8 +43,8 @@ enum Turn {
     Yield(Activation),
 }
 
-/// A walk through a tree that is made anew: the items that are done, those that are left, the next at the end, the next
-/// prefix, and what its next examination starts with.
+/// A walk through a tree that is made anew: the items that are done, those that are left, the next at the end, the
+/// next prefix, and what its next examination starts with.
 #[derive(Drop)]
 struct Walk {
     done: Vec<TreeItem>,
@@ -92,8 +92,8 @@ fn quarters_of(welfare: u64) -> Quarters
     Quarters(i128::from(welfare))
 }
 
-/// What becomes of a leaf that holds at the welfare. It stays where it isn't early, or holds at the welfare less 1; else its
-/// prefix is examined, from the relaxed optimum of the last that was.
+/// What becomes of a leaf that holds at the welfare. It stays where it isn't early, or holds at the welfare less 1;
+/// else its prefix is examined, from the relaxed optimum of the last that was.
 fn fate_of(
     alloc: Global,
     market: &Market,
@@ -328,9 +328,9 @@ fn refined(alloc: Global, market: &Market, found: Clearing, budget: u32) -> Resu
 
 /// The clearing of the first activation, from that of an optimal one whose tree has only nodes of the search tree.
 ///
-/// The leaves that are early for its gate word are to hold even at the welfare less 1. One that doesn't is examined: another
-/// certificate takes its place, or its prefix branches, or, where it decides every gate, it has an activation of that welfare,
-/// which is then the first. Where the new leaves don't fit the budget, the answer is `Spent`.
+/// The leaves that are early for its gate word are to hold even at the welfare less 1. One that doesn't is examined:
+/// another certificate takes its place, or its prefix branches, or, where it decides every gate, it has an activation
+/// of that welfare, which is then the first. Where the new leaves don't fit the budget, the answer is `Spent`.
 pub fn refine(alloc: Global, market: &Market, found: Clearing, budget: u32) -> Cleared
     requires market { IsValid market.now }
     requires budget { (1 ≤ budget) × (budget ≤ 50000) }

@@ -1,4 +1,5 @@
-//! The rounding of a relaxed optimum: the gates that run at least their least in it are opened, as far as parents and groups allow.
+//! The rounding of a relaxed optimum: the gates that run at least their least in it are opened, as far as parents and
+//! groups allow.
 
 ghost use Rattle.std.specs.Prelude.{◌≡◌, ◌<◌, ◌+◌, IfOk, IfSome, length};
 ghost use Rattle.mari_market.specs.Finding.{IsAttained};
@@ -44,7 +45,8 @@ fn decide(market: &Market, prefix: &Prefix, wanted: bool) -> Prefix
     child_of(prefix, open)
 }
 
-/// The prefix that decides every gate, and opens those that run at least their least, as far as parents and groups allow.
+/// The prefix that decides every gate, and opens those that run at least their least, as far as parents and groups
+/// allow.
 pub(crate) fn rounded(market: &Market, activation: &Activation) -> Prefix
     requires market { IsValid market.now }
     ensures feasible { IsFeasiblePrefix market.now result }
@@ -58,8 +60,8 @@ pub(crate) fn rounded(market: &Market, activation: &Activation) -> Prefix
     prefix
 }
 
-/// The best activation of the gates that the start, a relaxed optimum, comes to by rounding, if they have one. The start is left at
-/// their relaxed optimum.
+/// The best activation of the gates that the start, a relaxed optimum, comes to by rounding, if they have one. The
+/// start is left at their relaxed optimum.
 pub(crate) fn best_rounded(
     alloc: Global,
     market: &Market,

@@ -111,7 +111,8 @@ fn gate_bits(market: &Market, activation: &Activation) -> Option<u64> {
     }
 }
 
-/// The bits of the gate word at this place among those of so many gates, closed before open at the first gate that differs.
+/// The bits of the gate word at this place among those of so many gates, closed before open at the first gate that
+/// differs.
 fn word_at(place: u64, gates: u32) -> u64 {
     let mut bits = 0;
     for gate in 0..gates.min(8) {
@@ -162,7 +163,8 @@ fn first_by_listing(alloc: Global, market: &Market, gates: u32) -> Result<(u64, 
     Ok(first)
 }
 
-/// Whether the first gate word is published, with its welfare and a tree within the budget, where these bits are its gates.
+/// Whether the first gate word is published, with its welfare and a tree within the budget, where these bits are its
+/// gates.
 fn is_first(
     alloc: Global,
     orders: &[Order],

@@ -187,7 +187,8 @@ fn published<'m, N: SearchName>(
     })
 }
 
-/// Clears a market from the best activation with every gate closed, by a search of this name, and refines what is found.
+/// Clears a market from the best activation with every gate closed, by a search of this name, and refines what is
+/// found.
 ///
 /// While the workers run the incumbent lies on a cache line of its own, since each of them steps on it.
 fn searched<N: SearchName + Send + Sync, G: Turnstile, R: Threads + Wait + Sync>(
@@ -230,7 +231,8 @@ fn searched<N: SearchName + Send + Sync, G: Turnstile, R: Threads + Wait + Sync>
     Ok(Cleared::Spent(Spent { items }))
 }
 
-/// Names the search, and starts its incumbent at the closed welfare, with a part for each worker, the pool and this thread.
+/// Names the search, and starts its incumbent at the closed welfare, with a part for each worker, the pool and this
+/// thread.
 fn named<G: Turnstile, R: Threads + Wait + Sync>(
     rt: &R,
     alloc: Global,
@@ -253,8 +255,8 @@ fn named<G: Turnstile, R: Threads + Wait + Sync>(
 
 /// Clears a market by branch and bound in 1 to 16 threads, within a budget of 1 to 50,000 nodes.
 ///
-/// Workers take their findings from the turnstile, outside the lock. When all have ended this thread settles what is left by
-/// itself. The answer is as that of `search_alone`; it comes if every worker ends.
+/// Workers take their findings from the turnstile, outside the lock. When all have ended this thread settles what is
+/// left by itself. The answer is as that of `search_alone`; it comes if every worker ends.
 pub fn search<G: Turnstile, R: Threads + Wait + Sync>(
     rt: &R,
     alloc: Global,

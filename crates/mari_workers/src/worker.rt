@@ -19,8 +19,8 @@ use mari_units::Memory;
 use std::alloc::Global;
 use std::sync::{Condvar, Mutex, Wait};
 
-/// What a worker hands back: its seat, and the best activation that it offered, if it offered any above the incumbent's first
-/// value.
+/// What a worker hands back: its seat, and the best activation that it offered, if it offered any above the
+/// incumbent's first value.
 #[derive(Drop)]
 pub struct Worked {
     pub seat: Seat,
@@ -110,12 +110,12 @@ pub(crate) fn visit<G: Turnstile>(
     Ok(finding)
 }
 
-/// One worker's loop: it takes nodes, finds out about them and settles them, until none is left or one could not branch within
-/// the budget. Where memory is wanting it gives its node back and ends.
+/// One worker's loop: it takes nodes, finds out about them and settles them, until none is left or one could not
+/// branch within the budget. Where memory is wanting it gives its node back and ends.
 ///
-/// Pool, seat and incumbent are of one search of this market. The lock is held for one take, one settle or one give-back. The bell
-/// rings where somebody who waits may get on: after a branch, and when a worker ends. The start is the worker's own. Who branches the
-/// root rounds its optimum, while others go on.
+/// Pool, seat and incumbent are of one search of this market. The lock is held for one take, one settle or one
+/// give-back. The bell rings where somebody who waits may get on: after a branch, and when a worker ends. The start is
+/// the worker's own. Who branches the root rounds its optimum, while others go on.
 pub fn work<'m, N: SearchName, G: Turnstile, R: Wait>(
     rt: &R,
     alloc: Global,

@@ -123,8 +123,8 @@ fn a_publication_that_is_missing(rt: HostRuntime) -> Result<(), Fail> {
     compare(&rt, alloc, &["check", "F"], held, 8, printed)
 }
 
-/// The calls on the shelf, each with the line that it gives where it fails: the market files are fetched, and the publication is opened and
-/// read to its end.
+/// The calls on the shelf, each with the line that it gives where it fails: the market files are fetched, and the
+/// publication is opened and read to its end.
 const CALLS: [(u32, &str); 10] = [
     (1, "readfault day.csv\n"),
     (2, "readfault zones.csv\n"),

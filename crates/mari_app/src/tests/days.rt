@@ -125,7 +125,8 @@ fn direct_run_without_a_scheduled_price(rt: HostRuntime) -> Result<(), Fail> {
 
 #[test]
 fn direct_run_behind_an_unpublished_scheduled_run(rt: HostRuntime) -> Result<(), Fail> {
-    // The scheduled run wants a branch on i1. It takes nothing, and it has no price by which the direct run could be paid.
+    // The scheduled run wants a branch on i1. It takes nothing, and it has no price by which the direct run could be
+    // paid.
     let folder = Folder {
         bids: "id,provider,zone,quarter,direction,price,least,greatest,kind\nu1,P,Z,1,up,50.00,0,100,both\ni1,Q,Z,1,up,70.00,50,50,scheduled\n",
         runs: SCHEDULED_AND_DIRECT,

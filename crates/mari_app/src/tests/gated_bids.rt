@@ -1,6 +1,7 @@
 //! Folders with gated bids, and the days that they print, by one worker and by several.
 //!
-//! Where the market leaves a bound's price open, or which node closes the tree, the text is compared around the certificate.
+//! Where the market leaves a bound's price open, or which node closes the tree, the text is compared around the
+//! certificate.
 
 use super::{DEMANDS, Folder, ONE_ZONE, clears_alike, prints, prints_around};
 use std::test::Fail;
@@ -76,7 +77,8 @@ done 1 0
     clears_alike(&rt, rt.alloc(), folder, 0, printed)
 }
 
-// Every potential from 50.00 to 99999.00 has the dual value 499825000 where i1's gate is open, so that bound isn't compared.
+// Every potential from 50.00 to 99999.00 has the dual value 499825000 where i1's gate is open, so that bound isn't
+// compared.
 #[test]
 fn the_price_is_at_the_end_of_its_interval(rt: HostRuntime) -> Result<(), Fail> {
     let folder = Folder {
@@ -174,7 +176,8 @@ done 1 0
     clears_alike(&rt, rt.alloc(), FAMILY, 0, printed)
 }
 
-// At the empty prefix the parent and p1 cost the same, so whether the tree ends there depends on which of them is chosen.
+// At the empty prefix the parent and p1 cost the same, so whether the tree ends there depends on which of them is
+// chosen.
 #[test]
 fn a_parent_in_the_money_runs_with_its_child(rt: HostRuntime) -> Result<(), Fail> {
     let folder = Folder {

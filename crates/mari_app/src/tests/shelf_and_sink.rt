@@ -67,7 +67,8 @@ fn writes_a_part(
     Ok(())
 }
 
-// The head, the block and the totals are each written by 10 bytes a call; a call that fails leaves the pieces before it.
+// The head, the block and the totals are each written by 10 bytes a call; a call that fails leaves the pieces before
+// it.
 #[test]
 fn each_write_of_a_day_that_fails(rt: HostRuntime) -> Result<(), Fail> {
     let alloc = rt.alloc();

@@ -15,7 +15,8 @@ use std::alloc::Global;
 use std::marker::Brand;
 use std::test::Fail;
 
-/// Takes a node and settles it with what is found there, of which nothing is offered: its number, its bound and the answer.
+/// Takes a node and settles it with what is found there, of which nothing is offered: its number, its bound and the
+/// answer.
 fn settled<'m, N: SearchName>(
     alloc: Global,
     market: &Market,
@@ -40,7 +41,8 @@ fn settled<'m, N: SearchName>(
     Ok((node, bound, settled))
 }
 
-/// Both children of the first node are settled, and then a child of the second of them is next, since its bound is the greater.
+/// Both children of the first node are settled, and then a child of the second of them is next, since its bound is the
+/// greater.
 fn best_first<'m, N: SearchName>(
     alloc: Global,
     market: &'m Market,

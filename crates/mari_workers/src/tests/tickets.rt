@@ -16,7 +16,8 @@ use std::alloc::Global;
 use std::marker::Brand;
 use std::test::Fail;
 
-/// A worker takes the one node, and a second one is idle; then the node is reclaimed. The first ticket is settled or given back.
+/// A worker takes the one node, and a second one is idle; then the node is reclaimed. The first ticket is settled or
+/// given back.
 fn reclaimed<'m, N: SearchName>(
     alloc: Global,
     market: &'m Market,
@@ -80,7 +81,8 @@ fn a_reclaimed_ticket_is_stale(rt: HostRuntime) -> Result<(), Fail> {
     Ok(())
 }
 
-/// A worker gives its node back once, and not when it has taken it again. The node then is in its hands, and nothing is closed.
+/// A worker gives its node back once, and not when it has taken it again. The node then is in its hands, and nothing
+/// is closed.
 fn given_back<'m, N: SearchName>(alloc: Global, market: &'m Market, seat: Seat) -> Result<(), Fail>
     requires name { (market.now ≡ N.market) × (N.budget ≡ 3) × (N.workers ≡ 2) }
     requires market { IsValid market.now }

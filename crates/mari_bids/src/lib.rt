@@ -5,7 +5,5 @@
 #![tactic(auto)]
 
 mod bids;
-#[cfg(test)]
-mod tests;
 
 pub use bids::{Bid, BidBook, BidCheck};

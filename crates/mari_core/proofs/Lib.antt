@@ -14,4 +14,3 @@ pub mod Machines
 pub mod Replays
 pub mod EventsKept
 pub mod Journals
-pub mod ExampleSearch

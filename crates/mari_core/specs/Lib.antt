@@ -3,4 +3,3 @@ pub mod Preorder
 pub mod Growth
 pub mod Machine
 pub mod Replay
-pub mod Example

@@ -13,8 +13,6 @@ mod laws;
 mod node;
 mod preorder;
 mod search;
-#[cfg(test)]
-mod tests;
 
 pub use event::{Event, FinishFault, ReplayFault, StepFault};
 pub use growth::Growth;

@@ -7,8 +7,6 @@
 mod demands;
 mod limits;
 mod runs;
-#[cfg(test)]
-mod tests;
 
 pub use demands::{Demand, DemandBook, DemandCheck};
 pub use limits::{LimitBook, LimitCheck, Limits};

@@ -10,8 +10,6 @@ mod gate_words;
 mod prefixes;
 mod preorder;
 mod states;
-#[cfg(test)]
-mod tests;
 
 pub use bounds::{bound_of, bounds_of};
 pub use gate_words::{comes_before, gate_word};

@@ -8,8 +8,6 @@
 mod fault;
 mod line;
 mod reading;
-#[cfg(test)]
-mod tests;
 mod writing;
 
 pub use fault::Unread;

@@ -10,7 +10,5 @@ mod groups;
 mod lines;
 mod links;
 mod so_far;
-#[cfg(test)]
-mod tests;
 
 pub use links::{BidLinks, LinkBook, LinkCheck};

@@ -9,8 +9,6 @@ mod ladder;
 mod marginal;
 mod plain;
 mod quantities;
-#[cfg(test)]
-mod tests;
 
 pub use ladder::{Ladder, Step, ladder_of};
 pub use plain::clear_plain;

@@ -14,5 +14,3 @@ pub use intervals::{Intervals, PriceFault, price_test};
 pub use numbering::areas;
 pub use published::{Pricing, nearest, published_prices};
 
-#[cfg(test)]
-mod tests;

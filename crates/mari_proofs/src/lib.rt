@@ -11,8 +11,6 @@ mod cuts;
 mod dual;
 mod laws;
 mod leaves;
-#[cfg(test)]
-mod tests;
 mod tightness;
 mod trees;
 

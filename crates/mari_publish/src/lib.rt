@@ -13,8 +13,6 @@ mod publication;
 mod reader;
 mod reading;
 mod taking;
-#[cfg(test)]
-mod tests;
 mod write;
 
 pub use fault::TextFault;

@@ -16,8 +16,6 @@ mod laws;
 mod market;
 mod migration;
 mod remaining;
-#[cfg(test)]
-mod tests;
 
 pub use books::Books;
 pub use laws::{migration_keeps_markets, offers_are_kept, stands_after};

@@ -10,8 +10,6 @@ mod fields;
 mod names;
 mod records;
 mod rows;
-#[cfg(test)]
-mod tests;
 
 pub use books::{BookSoFar, read_book};
 pub use checks::{FileCheck, LineFault, RowCheck};

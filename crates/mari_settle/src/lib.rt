@@ -11,8 +11,6 @@ mod operators;
 mod providers;
 mod rents;
 mod settlement;
-#[cfg(test)]
-mod tests;
 
 pub use ledger::{Ledger, OperatorLine};
 pub use settlement::settle_run;

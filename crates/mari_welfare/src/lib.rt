@@ -12,5 +12,3 @@ pub use consistency::{borders_agree, is_consistent};
 pub use feasibility::is_feasible;
 pub use money::welfare;
 
-#[cfg(test)]
-mod tests;

@@ -1,0 +1,70 @@
+use mari_rows::{AddFault, NameIndex, RowFault, rows_of};
+use mari_units::{Name, read_name};
+use std::alloc::Global;
+use std::test::Fail;
+
+fn name_of(alloc: Global, text: &[u8]) -> Result<Name, Fail> {
+    match read_name(alloc, text) {
+        Ok(name) => Ok(name),
+        Err(_) => Err(Fail::new("no name")),
+    }
+}
+
+#[test]
+fn names_keep_their_places(rt: HostRuntime) -> Result<(), Fail> {
+    let mut names = NameIndex::new(rt.alloc());
+    assert_eq!(rt; names.add(rt.alloc(), name_of(rt.alloc(), b"B")?), Ok(0));
+    assert_eq!(rt; names.add(rt.alloc(), name_of(rt.alloc(), b"A")?), Ok(1));
+    let again = name_of(rt.alloc(), b"B")?;
+    assert_eq!(rt; names.add(rt.alloc(), again), Err(AddFault::Repeated));
+    assert_eq!(rt; names.find_or_add(rt.alloc(), b"A"), Ok(1));
+    assert_eq!(rt; names.find(b"B"), Some(0));
+    assert_eq!(rt; names.find(b"C"), None);
+    assert_eq!(rt; names.name_at(1), Some(b"A".as_slice()));
+    assert_eq!(rt; names.name_at(2), None);
+    assert_eq!(rt; names.len(), 2);
+    Ok(())
+}
+
+#[test]
+fn rows_of_each_line_end(rt: HostRuntime) -> Result<(), Fail> {
+    let page = b"\xef\xbb\xbf\"a\",b\r\n1,2\n\n\"3,\"\"\n\",\r,6";
+    let Ok(rows) = rows_of(rt.alloc(), page, "a,b") else {
+        return Err(Fail::new("no rows"));
+    };
+    let rows = rows.rows.as_slice();
+    assert_eq!(rt; rows.len(), 3);
+    assert_eq!(rt; rows[0].line, 2);
+    assert_eq!(rt; rows[0].field(1), b"2".as_slice());
+    assert_eq!(rt; rows[1].line, 3);
+    assert_eq!(rt; rows[1].field(0), b"3,\"\n".as_slice());
+    assert_eq!(rt; rows[1].field(1), b"".as_slice());
+    assert_eq!(rt; rows[2].line, 4);
+    assert_eq!(rt; rows[2].field(1), b"6".as_slice());
+    assert_eq!(rt; rows[2].field(2), b"".as_slice());
+    Ok(())
+}
+
+#[test]
+fn first_bad_line(rt: HostRuntime) {
+    for (page, want) in [
+        (b"".as_slice(), Some(RowFault::BadHeader)),
+        (b"\n\n".as_slice(), Some(RowFault::BadHeader)),
+        (b"a\n1,2\n".as_slice(), Some(RowFault::BadHeader)),
+        (b"a, b\n1,2\n".as_slice(), Some(RowFault::BadHeader)),
+        (b"b,a\n1\n".as_slice(), Some(RowFault::BadHeader)),
+        (
+            b"a,b\n1,2\n1\n\xff,2\n".as_slice(),
+            Some(RowFault::BadRow(3)),
+        ),
+        (b"a,b\n1,2,3\n".as_slice(), Some(RowFault::BadRow(2))),
+        (b"a,b\n\xff\n".as_slice(), Some(RowFault::BadRow(2))),
+        (
+            b"a,b\n1,2\n1,\xff\n1\n".as_slice(),
+            Some(RowFault::NotUtf8(3)),
+        ),
+        (b"a,b\n".as_slice(), None),
+    ] {
+        assert_eq!(rt; rows_of(rt.alloc(), page, "a,b").err(), want);
+    }
+}

@@ -1,0 +1,209 @@
+use mari_rows::BookFault;
+use mari_zones::{BorderBook, BorderEnds, ZoneBook, version_of};
+use std::alloc::Global;
+use std::process::Abort;
+use std::test::Fail;
+
+fn at(line: u32, number: u8) -> Option<BookFault> {
+    Some(BookFault::At { line, number })
+}
+
+#[test]
+fn zones_and_their_operators(rt: HostRuntime) -> Result<(), Fail> {
+    let page = b"\xef\xbb\xbf\"zone\",operator\r\nA,TA\n\"B\",TB\r\n\n\nC,TA\rD,TC";
+    let book = ZoneBook::read(rt.alloc(), page)?;
+    assert_eq!(rt; book.zones.len(), 4);
+    assert_eq!(rt; book.zones.find(b"D"), Some(3));
+    assert_eq!(rt; book.operators.len(), 3);
+    assert_eq!(rt; book.operators.name_at(1), Some(b"TB".as_slice()));
+    assert_eq!(rt; book.operator_of.as_slice(), [0, 1, 0, 2].as_slice());
+    Ok(())
+}
+
+#[test]
+fn each_refusal_of_zones(rt: HostRuntime) {
+    for (page, want) in [
+        (b"".as_slice(), at(1, 1)),
+        (b"zone,operators\nA,TA\n".as_slice(), at(1, 1)),
+        (b"\"zone,operator\"\nA,TA\n".as_slice(), at(1, 1)),
+        (b"zone,operator,\nA,TA\n".as_slice(), at(1, 1)),
+        (b"zone,operator\n!,TA\nB\n".as_slice(), at(3, 2)),
+        (b"zone,operator\nB\n!,TA\n".as_slice(), at(2, 2)),
+        (b"zone,operator\nA,TA\nB\xff,TA,C\n".as_slice(), at(3, 2)),
+        (b"zone,operator\n!,TA\nA,T\xffA\nB\n".as_slice(), at(3, 3)),
+        (b"zone,operator\nA,TA\nA,T!\n".as_slice(), at(3, 12)),
+        (b"zone,operator\nA,\n".as_slice(), at(2, 12)),
+        (
+            b"zone,operator\nA12345678901234567,T\n".as_slice(),
+            at(2, 12),
+        ),
+        (b"zone,operator\nA,TA\nA,TB\n".as_slice(), at(3, 13)),
+        (b"zone,operator\n".as_slice(), at(1, 14)),
+    ] {
+        assert_eq!(rt; ZoneBook::read(rt.alloc(), page).err(), want);
+    }
+}
+
+fn numbered(alloc: Global, header: &[u8], count: u32, rest: &[u8]) -> Result<Vec<u8>, Fail> {
+    let mut page = header.to_vec(alloc)?;
+    for i in 0..count {
+        page.extend_from_slice(i.to_string(alloc)?.as_bytes())?;
+        page.extend_from_slice(rest)?;
+    }
+    Ok(page)
+}
+
+fn read_zones(rt: &impl Abort, alloc: Global, count: u32) -> Result<ZoneBook, Fail> {
+    let page = numbered(alloc, b"zone,operator\n", count, b",T\n")?;
+    assert!(rt; page.len() < 10_000);
+    Ok(ZoneBook::read(alloc, page.as_slice())?)
+}
+
+#[test]
+fn sixty_four_zones_and_no_more(rt: HostRuntime) -> Result<(), Fail> {
+    assert_eq!(rt; read_zones(&rt, rt.alloc(), 64)?.zones.len(), 64);
+    let page = numbered(rt.alloc(), b"zone,operator\n", 65, b",T\n")?;
+    assert!(rt; page.len() < 10_000);
+    assert_eq!(rt;
+        ZoneBook::read(rt.alloc(), page.as_slice()).err(),
+        at(66, 11)
+    );
+    Ok(())
+}
+
+#[test]
+fn borders_between_zones(rt: HostRuntime) -> Result<(), Fail> {
+    let zones = ZoneBook::read(rt.alloc(), b"zone,operator\nA,TA\nB,TB\nC,TB\n")?;
+    let page = b"from,to,limit,back\nA,B,50,007\nC,A,-0,99999\n";
+    let book = BorderBook::read(rt.alloc(), page, &zones)?;
+    let want = [
+        BorderEnds {
+            from: 0,
+            to: 1,
+            limit: 50,
+            back: 7,
+        },
+        BorderEnds {
+            from: 2,
+            to: 0,
+            limit: 0,
+            back: 99_999,
+        },
+    ];
+    assert_eq!(rt; book.borders.as_slice(), want.as_slice());
+    Ok(())
+}
+
+#[test]
+fn each_refusal_of_borders(rt: HostRuntime) -> Result<(), Fail> {
+    let zones = ZoneBook::read(rt.alloc(), b"zone,operator\nA,TA\nB,TB\nC,TB\n")?;
+    for (page, want) in [
+        (b"from,to,back,limit\n".as_slice(), at(1, 1)),
+        (b"from,to,limit,back\nX,A,1,1\nA,B,1\n".as_slice(), at(3, 2)),
+        (
+            b"from,to,limit,back\nX,A,1,1\nA,B,1,\xff\n".as_slice(),
+            at(3, 3),
+        ),
+        (
+            b"from,to,limit,back\nA,B,1,1\nX,A,+1,1\n".as_slice(),
+            at(3, 12),
+        ),
+        (b"from,to,limit,back\nA,a,1,1\n".as_slice(), at(2, 12)),
+        (b"from,to,limit,back\nA,A,x,1\n".as_slice(), at(2, 13)),
+        (
+            b"from,to,limit,back\nA,B,1,1\nB,A,x,1\n".as_slice(),
+            at(3, 14),
+        ),
+        (
+            b"from,to,limit,back\nA,B,1,1\nA,B,1,1\n".as_slice(),
+            at(3, 14),
+        ),
+        (b"from,to,limit,back\nA,B,1,100000\n".as_slice(), at(2, 15)),
+        (b"from,to,limit,back\nA,B,-1,1\n".as_slice(), at(2, 15)),
+        (b"from,to,limit,back\nA,B,+1,1\n".as_slice(), at(2, 15)),
+        (b"from,to,limit,back\nA,B,1,\n".as_slice(), at(2, 15)),
+    ] {
+        assert_eq!(rt; BorderBook::read(rt.alloc(), page, &zones).err(), want);
+    }
+    Ok(())
+}
+
+#[test]
+fn the_version_of_a_page_of_borders(rt: HostRuntime) {
+    for (page, want) in [
+        (b"from,to\n".as_slice(), 2u8),
+        (b"\xef\xbb\xbf\r\n\"from\",to".as_slice(), 2),
+        (b"from,to,limit,back\n".as_slice(), 1),
+        (b"from, to\n".as_slice(), 1),
+        (b"to,from\n".as_slice(), 1),
+        (b"from\n".as_slice(), 1),
+        (b"A,B\nfrom,to\n".as_slice(), 1),
+        (b"".as_slice(), 1),
+    ] {
+        assert_eq!(rt; version_of(rt.alloc(), page), Ok(want));
+    }
+}
+
+#[test]
+fn borders_without_limits(rt: HostRuntime) -> Result<(), Fail> {
+    let zones = ZoneBook::read(rt.alloc(), b"zone,operator\nA,TA\nB,TB\nC,TB\n")?;
+    let book = BorderBook::read(rt.alloc(), b"from,to\nC,A\nA,B\n", &zones)?;
+    let want = [
+        BorderEnds {
+            from: 2,
+            to: 0,
+            limit: 0,
+            back: 0,
+        },
+        BorderEnds {
+            from: 0,
+            to: 1,
+            limit: 0,
+            back: 0,
+        },
+    ];
+    assert_eq!(rt; book.borders.as_slice(), want.as_slice());
+    for (page, want) in [
+        (b"from,to\nA,B,1,1\n".as_slice(), at(2, 2)),
+        (b"from,to\nX,A\nA,\xff\n".as_slice(), at(3, 3)),
+        (b"from,to\nA,B\nA,X\n".as_slice(), at(3, 12)),
+        (b"from,to\nB,B\n".as_slice(), at(2, 13)),
+        (b"from,to\nA,B\nB,C\nB,A\n".as_slice(), at(4, 14)),
+    ] {
+        assert_eq!(rt; BorderBook::read(rt.alloc(), page, &zones).err(), want);
+    }
+    Ok(())
+}
+
+// Borders from each of the first zones to each of the 60 zones behind them, as many as are wanted.
+fn border_page(alloc: Global, count: u32) -> Result<Vec<u8>, Fail> {
+    let mut page = b"from,to,limit,back\n".to_vec(alloc)?;
+    for i in 0..count {
+        page.extend_from_slice((i % 4).to_string(alloc)?.as_bytes())?;
+        page.push(b',')?;
+        page.extend_from_slice((4 + i / 4 % 60).to_string(alloc)?.as_bytes())?;
+        page.extend_from_slice(b",1,1\n")?;
+    }
+    Ok(page)
+}
+
+#[test]
+fn two_hundred_and_fifty_six_borders_and_no_more(rt: HostRuntime) -> Result<(), Fail> {
+    let zones = read_zones(&rt, rt.alloc(), 64)?;
+    let mut page = border_page(rt.alloc(), 240)?;
+    for i in 0..16u32 {
+        page.extend_from_slice(b"63,")?;
+        page.extend_from_slice((40 + i).to_string(rt.alloc())?.as_bytes())?;
+        page.extend_from_slice(b",1,1\n")?;
+    }
+    assert!(rt; page.len() < 10_000);
+    let book = BorderBook::read(rt.alloc(), page.as_slice(), &zones)?;
+    assert_eq!(rt; book.borders.as_slice().len(), 256);
+    page.extend_from_slice(b"0,4,1,1\n")?;
+    assert!(rt; page.len() < 10_000);
+    assert_eq!(rt;
+        BorderBook::read(rt.alloc(), page.as_slice(), &zones).err(),
+        at(258, 11)
+    );
+    Ok(())
+}

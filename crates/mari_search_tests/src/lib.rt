@@ -1,0 +1,17 @@
+//! Tests of what clears a market: gates, welfare, certificates, the merit order, prices, and the machine of a search.
+//!
+//! They call what is public alone, so they stand apart from what they test, which then is proved once.
+#![tactic(auto)]
+
+#[cfg(test)]
+mod certificates;
+#[cfg(test)]
+mod gates;
+#[cfg(test)]
+mod machine;
+#[cfg(test)]
+mod merit;
+#[cfg(test)]
+mod prices;
+#[cfg(test)]
+mod welfare;

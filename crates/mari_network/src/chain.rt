@@ -1,6 +1,6 @@
 //! Moving energy along chains of borders.
 
-ghost use Rattle.std.specs.Prelude.{◌≡◌, ◌≢◌, true, ℕ, ℤ, pos, ◌+ℤ◌, ◌-ℤ◌, ◌≤ℤ◌, ◌<ℤ◌, ◌<◌, length, slice_set, slice_index_or};
+ghost use Rattle.std.specs.Prelude.{◌≡◌, ◌≢◌, true, false, ℕ, ℤ, pos, ◌+ℤ◌, ◌-ℤ◌, ◌≤ℤ◌, ◌<ℤ◌, ◌<◌, length, slice_set, slice_index_or};
 ghost use Rattle.std.specs.List.{AllZip};
 ghost use Rattle.mari_market.specs.Sums.{sum_along};
 ghost use Rattle.mari_market.specs.Activation.{IsWithinLimits, carried_out};
@@ -87,7 +87,8 @@ pub fn has_room(borders: &[Border], flows: &[i64], hops: &[Hop], at: usize) -> b
     requires at { at < length hops.now }
     requires trace { IsTrace borders.now hops.now }
     requires within { AllZip IsWithinLimits borders.now flows.now }
-    ensures { result ≡ true → HasRoom borders.now flows.now hops.now (pos 1) at }
+    ensures some { result ≡ true → HasRoom borders.now flows.now hops.now (pos 1) at }
+    ensures none { result ≡ false → HasRoom borders.now flows.now hops.now (pos 1) at → ⊥ }
 {
     let mut place = at;
     while place > 0 {

@@ -1,5 +1,5 @@
-//! Findings at the nodes of small markets of one zone and one gate, and both solvers at one of two zones, with values
-//! computed by hand.
+//! Findings at the nodes of small markets of one zone and one gate, with values computed by hand, and both solvers at
+//! one of four zones.
 
 use crate::{examine, examine_from};
 use mari_flow::solve;
@@ -183,26 +183,38 @@ fn every_start_leads_to_the_same_optimum(rt: HostRuntime) -> Result<(), Fail> {
     Ok(())
 }
 
-/// Cheap energy in the first of two zones, and more demand in the second than the border carries.
-fn two_zones(alloc: Global) -> Result<Market, Fail> {
-    let border = Border {
-        from: 0,
-        to: 1,
-        limit: 50,
-        back: 50,
-    };
-    let dear = Order {
-        zone: 1,
-        ..bid(6000, 100)
-    };
-    let needed = Order {
-        zone: 1,
-        ..demand(80)
-    };
+/// Demands in four zones of a ring, and bids of many prices, each fifth one downward.
+fn ring(alloc: Global) -> Result<Market, Fail> {
+    let mut borders = Vec::new(alloc);
+    let mut orders = Vec::new(alloc);
+    for zone in 0..4u32 {
+        borders.push(Border {
+            from: zone,
+            to: (zone + 1) % 4,
+            limit: 5 + 7 * zone,
+            back: 30 - 5 * zone,
+        })?;
+        orders.push(Order {
+            zone,
+            ..demand(20 + 30 * zone)
+        })?;
+    }
+    for number in 0..40u32 {
+        let side = if number % 5 == 0 {
+            Side::Withdraw
+        } else {
+            Side::Inject
+        };
+        orders.push(Order {
+            zone: number % 4,
+            side,
+            ..bid(i64::from(number * 7919 % 9000), 1 + number % 17)
+        })?;
+    }
     Ok(Market {
-        zones: 2,
-        borders: Items::of(vec![in alloc; border]?),
-        orders: Items::of(vec![in alloc; bid(2000, 100), dear, needed]?),
+        zones: 4,
+        borders: Items::of(borders),
+        orders: Items::of(orders),
         gates: Items::of(Vec::new(alloc)),
         reference: Cents(4000),
     })
@@ -211,7 +223,7 @@ fn two_zones(alloc: Global) -> Result<Market, Fail> {
 #[test]
 fn plain_and_fast_solver_agree_from_any_start(rt: HostRuntime) -> Result<(), Fail> {
     let alloc = rt.alloc();
-    let market = two_zones(alloc)?;
+    let market = ring(alloc)?;
     let root = Prefix {
         length: 0,
         bits: [0; 8],
@@ -220,19 +232,22 @@ fn plain_and_fast_solver_agree_from_any_start(rt: HostRuntime) -> Result<(), Fai
         return Err("the market is valid, and so is its first prefix".into());
     }
     let plain = solve(alloc, &market, &root).ok().ok_or("an optimum")?;
-    assert_eq!(rt; plain.welfare, 799_712_000);
-    let starts: [(&[u32], &[i64]); 4] = [
-        (&[], &[]),
-        (&[50, 30, 80], &[50]),
-        (&[99_999, 0, 99_999], &[-70]),
-        (&[1, 2, 3, 4], &[5, 6]),
+    let too_short = Activation {
+        mw: Items::of(Vec::new(alloc)),
+        flow: Items::of(Vec::new(alloc)),
+    };
+    let too_much = Activation {
+        mw: Items::of(vec![in alloc; 99_999u32; 44]?),
+        flow: Items::of(vec![in alloc; -70i64; 4]?),
+    };
+    let starts = [
+        None,
+        Some(&plain.activation),
+        Some(&too_short),
+        Some(&too_much),
     ];
-    for (mw, flow) in starts {
-        let start = Activation {
-            mw: Items::of(mw.to_vec(alloc)?),
-            flow: Items::of(flow.to_vec(alloc)?),
-        };
-        let fast = solve_from(alloc, &market, &root, Some(&start));
+    for start in starts {
+        let fast = solve_from(alloc, &market, &root, start);
         assert_eq!(rt; fast.ok().map(|solved| solved.welfare), Some(plain.welfare));
     }
     Ok(())

@@ -1,3 +1,4 @@
 pub mod Hops
+pub mod Merits
 pub mod Shortages
 pub mod Starts

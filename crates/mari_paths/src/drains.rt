@@ -40,7 +40,7 @@ fn cheapest_end(slots: &[Slot], margins: &[Margin], hops: &[Hop], sink: usize) -
     best
 }
 
-/// The ends of another improving chain along the same hops, whose sink has this price.
+/// The ends of another improving chain along the same hops, whose sink has this price or lies in its source's zone.
 fn next_ends(
     network: &Network,
     flows: &[i64],
@@ -59,18 +59,16 @@ fn next_ends(
     ensures room { IfSome result (λ e. HasRoom network.now.borders.now flows.now hops.now (pos 1) e.at) }
 {
     let sink = margins[hops[0].zone as usize].dearest?;
-    if network.slots[sink].price != price {
-        return None;
-    }
     let ends = cheapest_end(network.slots, margins, hops, sink)?;
-    if has_room(network.borders, flows, hops, ends.at) {
+    let goes_on = ends.at == 0 || network.slots[sink].price == price;
+    if goes_on && has_room(network.borders, flows, hops, ends.at) {
         Some(ends)
     } else {
         None
     }
 }
 
-/// Puts other ends to a chain of the same hops, where there are any that improve and whose sink has this price.
+/// Puts other ends to a chain of the same hops, where there are any that improve and by which it is to go on.
 fn go_on(
     network: &Network,
     amounts: &[i64],
@@ -130,7 +128,8 @@ fn push_along(
     );
 }
 
-/// Improves along a chain, and then along others of the same hops to sinks of the same price, while there are any.
+/// Improves along a chain, and then along others of the same hops while there are any, to sinks of the same price or
+/// within the sink's zone.
 pub fn drain(
     network: &Network,
     amounts: &mut [i64],

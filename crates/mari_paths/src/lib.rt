@@ -7,6 +7,7 @@
 #![tactic(auto)]
 
 mod drains;
+mod merit;
 mod optimum;
 mod run;
 mod start;

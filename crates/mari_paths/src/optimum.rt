@@ -69,11 +69,11 @@ fn solve_reals(
 /// prefix's bounds, where orders of undecided gates may run anything up to their greatest, of the greatest welfare,
 /// with potentials of which it is the dual value; or a cut, where no activation lies within the bounds.
 ///
-/// The start's quantities and flows are moved to the nearest within the bounds and limits; a start of other lengths,
-/// or none, is passed over. What that leaves too much or too little in a zone is taken away or given at a price that
-/// no order reaches, and energy is then moved from cheaper to dearer orders along borders with room until no zone's
-/// prices contradict each other. From a start near the optimum few moves are needed, and time is that of a few passes
-/// over the orders.
+/// The start's quantities and flows are moved to the nearest within the bounds and limits; in place of a start of other
+/// lengths, or none, the orders run what they would at one price for the whole market. What that leaves too much or
+/// too little in a zone is taken away or given at a price that no order reaches, and energy is then moved from cheaper
+/// to dearer orders along borders with room until no zone's prices contradict each other. From a start near the
+/// optimum few moves are needed, and time is that of a few passes over the orders.
 pub fn solve_from(
     alloc: Global,
     market: &Market,

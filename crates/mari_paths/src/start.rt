@@ -1,5 +1,5 @@
-//! What a search starts from: the quantities and flows of an activation, set right, or each slot at its least; and
-//! what stands in for what they leave out of balance.
+//! What a search starts from: the quantities and flows of an activation, set right, or what runs at one price; and what
+//! stands in for what they leave out of balance.
 
 ghost use Rattle.std.specs.Prelude.{◌≡◌, ◌<◌, ◌≤◌, ℕ, pos, neg_ℤ, ◌+ℤ◌, ◌-ℤ◌, ◌++◌, true, length, slice_set, IfOk, OnOk};
 ghost use Rattle.std.specs.List.{All, AllZip};
@@ -11,6 +11,7 @@ ghost use Rattle.mari_network.specs.Orders.{IsOrderSlot, AreOrderSlots};
 ghost use Rattle.mari_network.specs.Slots.{amount_at, slot_into, IsSmallSlot, IsWithinSlot};
 ghost use Rattle.mari_paths.specs.Starts.{stand_in_of, stand_ins, IsOrdered, IsNear, AreSmallLimits, AreShort};
 
+use crate::merit::{amounts_at, balancing_price};
 use mari_market::{Activation, Border, Market, Order, Side};
 use mari_network::{BEYOND, Slot};
 use std::alloc::{AllocError, Global};
@@ -78,19 +79,6 @@ fn flows_near(alloc: Global, borders: &[Border], flow: &[i64]) -> Result<Vec<i64
     Ok(flows)
 }
 
-/// Each slot at its least.
-fn least_amounts(alloc: Global, slots: &[Slot]) -> Result<Vec<i64>, AllocError>
-    requires order { All IsOrdered slots.now }
-    requires small { All IsSmallSlot slots.now }
-    ensures within { IfOk result (λ v. AllZip IsWithinSlot slots.now v.items) }
-{
-    let mut amounts = Vec::with_capacity(alloc, slots.len())?;
-    for slot in slots {
-        amounts.push(slot.low)?;
-    }
-    Ok(amounts)
-}
-
 /// Whether an activation has one quantity for each order and one flow for each border.
 fn fits(market: &Market, activation: &Activation) -> bool
     ensures { result ≡ true → (length activation.now.mw ≡ length market.now.orders) × (length activation.now.flow ≡ length market.now.borders) }
@@ -100,13 +88,14 @@ fn fits(market: &Market, activation: &Activation) -> bool
 }
 
 /// What the orders' slots put in and what flows at the start: as near to an activation as may be, if one is given that
-/// fits the market, and else each slot at its least with no flow.
+/// fits the market, and else what runs at one price for the whole market, with no flow.
 pub fn first_run(
     alloc: Global,
     market: &Market,
     slots: &[Slot],
     start: Option<&Activation>,
 ) -> Result<(Vec<i64>, Vec<i64>), AllocError>
+    requires few { length slots.now ≤ 4608 }
     requires lengths { length slots.now ≡ length market.now.orders }
     requires order { All IsOrdered slots.now }
     requires small { All IsSmallSlot slots.now }
@@ -122,7 +111,7 @@ pub fn first_run(
             Ok((amounts, flows))
         }
         _ => {
-            let amounts = least_amounts(alloc, slots)?;
+            let amounts = amounts_at(alloc, slots, balancing_price(slots))?;
             let flows = vec![in alloc; 0i64; borders.len()]?;
             Ok((amounts, flows))
         }

@@ -6,6 +6,7 @@ abbrev pub invariant-loop-place : goal.invariant-loop-place
 invariant-loop-place l = record {
   there : l.place < length l.hops;
   rest : HasRoom l.borders l.flows l.hops (pos 1) l.place → HasRoom l.borders l.flows l.hops (pos 1) l.at;
+  back : HasRoom l.borders l.flows l.hops (pos 1) l.at → HasRoom l.borders l.flows l.hops (pos 1) l.place;
 }
 
 abbrev pub decreases-loop-place : goal.decreases-loop-place

@@ -1,8 +1,10 @@
-//! Tests of a day: the ledger of a run, and what a day's first runs leave to those behind them.
+//! Tests of a day: the ledger of a run, what a day's first runs leave to those behind them, and a generated day.
 //!
 //! They call what is public alone, so they stand apart from what they test, which then is proved once.
 #![tactic(auto)]
 
+#[cfg(test)]
+mod generated;
 #[cfg(test)]
 mod remain;
 #[cfg(test)]

@@ -9,8 +9,6 @@
 mod optimum;
 mod run;
 mod start;
-#[cfg(test)]
-mod tests;
 
 pub use mari_network::{SolveFault, Solved};
 pub use optimum::solve;

@@ -6,7 +6,5 @@
 
 mod admissibility;
 mod node;
-#[cfg(test)]
-mod tests;
 
 pub use node::{examine, examine_from};

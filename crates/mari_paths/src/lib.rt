@@ -11,8 +11,6 @@ mod merit;
 mod optimum;
 mod run;
 mod start;
-#[cfg(test)]
-mod tests;
 
 pub use mari_network::{SolveFault, Solved};
 pub use optimum::solve_from;

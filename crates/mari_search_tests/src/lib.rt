@@ -1,4 +1,5 @@
-//! Tests of what clears a market: gates, welfare, certificates, the merit order, prices, and the machine of a search.
+//! Tests of what clears a market: gates, welfare, certificates, the merit order, both solvers of a
+//! network, prices, a node, and the machine of a search.
 //!
 //! They call what is public alone, so they stand apart from what they test, which then is proved once.
 #![tactic(auto)]
@@ -12,6 +13,10 @@ mod machine;
 #[cfg(test)]
 mod merit;
 #[cfg(test)]
+mod node;
+#[cfg(test)]
 mod prices;
+#[cfg(test)]
+mod solvers;
 #[cfg(test)]
 mod welfare;

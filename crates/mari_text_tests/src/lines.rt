@@ -173,12 +173,9 @@ fn a_line_of_each_kind_reads_back_and_prints_the_same(rt: HostRuntime) -> Result
     Ok(())
 }
 
-#[test]
-fn a_number_is_read_at_both_ends_of_its_range_and_not_past_them(
-    rt: HostRuntime,
-) -> Result<(), Fail> {
-    let alloc = rt.alloc();
-    for (before, range, after) in [
+/// What stands before a number, its range, and what stands behind it.
+fn numbers_of_lines() -> [(&'static str, Range, &'static str); 35] {
+    [
         ("mari 1 2025-03-12 ", QUARTER, " 10000"),
         ("mari 1 2025-03-12 96 ", COUNT, ""),
         ("run ", RUN_NUMBER, " 1 scheduled published"),
@@ -214,7 +211,15 @@ fn a_number_is_read_at_both_ends_of_its_range_and_not_past_them(
         ("total-provider P ", MONEY, ""),
         ("done ", RUNS, " 1"),
         ("done 1 ", RUNS, ""),
-    ] {
+    ]
+}
+
+#[test]
+fn a_number_is_read_at_both_ends_of_its_range_and_not_past_them(
+    rt: HostRuntime,
+) -> Result<(), Fail> {
+    let alloc = rt.alloc();
+    for (before, range, after) in numbers_of_lines() {
         let ends = reads_each(alloc, before, range.ends, after)?;
         assert_eq!(rt; ends, [true, true], "{before}");
         let outside = reads_each(alloc, before, range.outside, after)?;
@@ -223,10 +228,9 @@ fn a_number_is_read_at_both_ends_of_its_range_and_not_past_them(
     Ok(())
 }
 
-#[test]
-fn a_date_is_four_two_and_two_digits(rt: HostRuntime) -> Result<(), Fail> {
-    let alloc = rt.alloc();
-    for (date, want) in [
+/// Texts, and whether each is a date.
+fn dates() -> [(&'static str, bool); 16] {
+    [
         ("0000-00-00", true),
         ("9999-99-99", true),
         ("2025-02-30", true),
@@ -243,7 +247,13 @@ fn a_date_is_four_two_and_two_digits(rt: HostRuntime) -> Result<(), Fail> {
         ("9999-/9-99", false),
         ("9999-99-9a", false),
         ("-999-99-99", false),
-    ] {
+    ]
+}
+
+#[test]
+fn a_date_is_four_two_and_two_digits(rt: HostRuntime) -> Result<(), Fail> {
+    let alloc = rt.alloc();
+    for (date, want) in dates() {
         assert_eq!(rt;
             reads(alloc, &["mari 1 ", date, " 96 10000"])?,
             want,
@@ -253,10 +263,9 @@ fn a_date_is_four_two_and_two_digits(rt: HostRuntime) -> Result<(), Fail> {
     Ok(())
 }
 
-#[test]
-fn a_name_has_1_to_16_letters_digits_hyphens_and_low_lines(rt: HostRuntime) -> Result<(), Fail> {
-    let alloc = rt.alloc();
-    for (name, want) in [
+/// Texts, and whether each is a name.
+fn names() -> [(&'static str, bool); 13] {
+    [
         ("-", true),
         ("_", true),
         ("0", true),
@@ -270,16 +279,21 @@ fn a_name_has_1_to_16_letters_digits_hyphens_and_low_lines(rt: HostRuntime) -> R
         ("/", false),
         (":", false),
         ("é", false),
-    ] {
+    ]
+}
+
+#[test]
+fn a_name_has_1_to_16_letters_digits_hyphens_and_low_lines(rt: HostRuntime) -> Result<(), Fail> {
+    let alloc = rt.alloc();
+    for (name, want) in names() {
         assert_eq!(rt; reads(alloc, &["bid ", name, " 5"])?, want, "{name}");
     }
     Ok(())
 }
 
-#[test]
-fn a_number_is_read_in_its_printed_form_alone(rt: HostRuntime) -> Result<(), Fail> {
-    let alloc = rt.alloc();
-    for (before, printed, others) in [
+/// What stands before a number, printed forms of numbers, and other forms.
+fn forms() -> [(&'static str, [&'static str; 3], [&'static str; 8]); 3] {
+    [
         (
             "flows ",
             ["0", "-1", "10"],
@@ -299,7 +313,13 @@ fn a_number_is_read_in_its_printed_form_alone(rt: HostRuntime) -> Result<(), Fai
                 "-0.0000", "00.0000", "+0.0025", "0.00", "0.00250", "0.0001", "0.0024", ".0025",
             ],
         ),
-    ] {
+    ]
+}
+
+#[test]
+fn a_number_is_read_in_its_printed_form_alone(rt: HostRuntime) -> Result<(), Fail> {
+    let alloc = rt.alloc();
+    for (before, printed, others) in forms() {
         for field in printed {
             assert_eq!(rt; reads(alloc, &[before, field])?, true, "{before}{field}");
         }
@@ -310,10 +330,9 @@ fn a_number_is_read_in_its_printed_form_alone(rt: HostRuntime) -> Result<(), Fai
     Ok(())
 }
 
-#[test]
-fn other_words_are_no_line(rt: HostRuntime) -> Result<(), Fail> {
-    let alloc = rt.alloc();
-    for line in [
+/// Texts that are no line.
+fn no_lines() -> [&'static str; 26] {
+    [
         "",
         "mari 2 2025-03-12 96 10000",
         "Mari 1 2025-03-12 96 10000",
@@ -340,16 +359,21 @@ fn other_words_are_no_line(rt: HostRuntime) -> Result<(), Fail> {
         "at 184467440737095516.16",
         "at 3402823669209384634633746074317682114.56",
         "provider P 34028236692093846346337460743176821.1456",
-    ] {
+    ]
+}
+
+#[test]
+fn other_words_are_no_line(rt: HostRuntime) -> Result<(), Fail> {
+    let alloc = rt.alloc();
+    for line in no_lines() {
         assert_eq!(rt; reads(alloc, &[line])?, false, "{line}");
     }
     Ok(())
 }
 
-#[test]
-fn a_list_has_as_many_fields_as_its_kind_allows(rt: HostRuntime) -> Result<(), Fail> {
-    let alloc = rt.alloc();
-    for (keyword, field, count, want) in [
+/// A list's keyword, a field of it, how many there are, and whether that is a line.
+fn lists() -> [(&'static str, &'static str, u32, bool); 16] {
+    [
         ("bound", " 20.00", 0, false),
         ("bound", " 20.00", 1, true),
         ("bound", " 20.00", 64, true),
@@ -366,7 +390,13 @@ fn a_list_has_as_many_fields_as_its_kind_allows(rt: HostRuntime) -> Result<(), F
         ("mws", " 5", 0, true),
         ("mws", " 5", 4608, true),
         ("mws", " 5", 4609, false),
-    ] {
+    ]
+}
+
+#[test]
+fn a_list_has_as_many_fields_as_its_kind_allows(rt: HostRuntime) -> Result<(), Fail> {
+    let alloc = rt.alloc();
+    for (keyword, field, count, want) in lists() {
         let mut line = joined(alloc, &[keyword])?;
         for _ in 0..count {
             line.push_str(field)?;

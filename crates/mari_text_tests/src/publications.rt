@@ -123,17 +123,22 @@ fn the_parts_of_a_day_make_its_text(rt: HostRuntime) -> Result<(), Fail> {
     Ok(())
 }
 
-#[test]
-fn a_text_that_is_cut_off_is_truncated(rt: HostRuntime) -> Result<(), Fail> {
-    let alloc = rt.alloc();
-    for (parts, line) in [
+/// Parts of a text that is cut off, and the line at which it is.
+fn cut_texts() -> [([&'static str; 4], u32); 6] {
+    [
         (["", "", "", ""], 1),
         (["mari 1 2025", "", "", ""], 1),
         ([HEAD, "", "", ""], 2),
         ([HEAD, TOTAL, "", ""], 3),
         ([HEAD, TOTAL, "done 0 0", ""], 3),
         ([HEAD, TOTAL, DONE, "d"], 4),
-    ] {
+    ]
+}
+
+#[test]
+fn a_text_that_is_cut_off_is_truncated(rt: HostRuntime) -> Result<(), Fail> {
+    let alloc = rt.alloc();
+    for (parts, line) in cut_texts() {
         let fault = fault_of(alloc, &parts)?;
         assert_eq!(rt; fault, Some(TextFault::Truncated(line)));
     }
@@ -157,10 +162,9 @@ fn a_text_cut_at_any_byte_is_truncated_in_its_last_line(rt: HostRuntime) -> Resu
     Ok(())
 }
 
-#[test]
-fn a_line_of_no_form_is_a_bad_line(rt: HostRuntime) -> Result<(), Fail> {
-    let alloc = rt.alloc();
-    for line in [
+/// Second lines of no form.
+fn no_lines() -> [&'static str; 15] {
+    [
         "",
         "zone A 20.00 20.00 20.00",
         "zone A 20.00 20.00 20.00 65",
@@ -176,17 +180,22 @@ fn a_line_of_no_form_is_a_bad_line(rt: HostRuntime) -> Result<(), Fail> {
         "cut out 0",
         "flows 1 +2",
         "total-provider P 10000000000000000.0025",
-    ] {
+    ]
+}
+
+#[test]
+fn a_line_of_no_form_is_a_bad_line(rt: HostRuntime) -> Result<(), Fail> {
+    let alloc = rt.alloc();
+    for line in no_lines() {
         let fault = fault_of(alloc, &[HEAD, line, "\n"])?;
         assert_eq!(rt; fault, Some(TextFault::BadLine(2)), "{line}");
     }
     Ok(())
 }
 
-#[test]
-fn a_line_in_the_wrong_place_is_out_of_order(rt: HostRuntime) -> Result<(), Fail> {
-    let alloc = rt.alloc();
-    for line in [
+/// Lines that can't come second.
+fn misplaced_lines() -> [&'static str; 11] {
+    [
         "zone A 99999.00 -99999.00 20.00 64",
         "bid a 99999",
         "border A B -199998 0.0025",
@@ -198,38 +207,57 @@ fn a_line_in_the_wrong_place_is_out_of_order(rt: HostRuntime) -> Result<(), Fail
         "end 1000",
         "total-provider P -10000000000000000.0000",
         "done 0 0",
-    ] {
+    ]
+}
+
+#[test]
+fn a_line_in_the_wrong_place_is_out_of_order(rt: HostRuntime) -> Result<(), Fail> {
+    let alloc = rt.alloc();
+    for line in misplaced_lines() {
         let fault = fault_of(alloc, &[HEAD, line, "\n"])?;
         assert_eq!(rt; fault, Some(TextFault::BadOrder(2)), "{line}");
     }
     Ok(())
 }
 
-#[test]
-fn numbers_agree_with_the_lines_before(rt: HostRuntime) -> Result<(), Fail> {
-    let alloc = rt.alloc();
-    let fault = fault_of(alloc, &[HEAD, RUN, ZONE, "demand 2 1\n"])?;
-    assert_eq!(rt; fault, Some(TextFault::BadOrder(5)));
-    let fault = fault_of(
-        alloc,
-        &[HEAD, RUN, ZONE, TREE, "branch\n", OPERATOR, "end 2\n"],
-    )?;
-    assert_eq!(rt; fault, Some(TextFault::BadOrder(8)));
-    let fault = fault_of(alloc, &[HEAD, TOTAL, "done 1 0\n"])?;
-    assert_eq!(rt; fault, Some(TextFault::BadOrder(3)));
-    let fault = fault_of(alloc, &[HEAD, TOTAL, DONE, DONE])?;
-    assert_eq!(rt; fault, Some(TextFault::BadOrder(4)));
-    let fault = fault_of(alloc, &[HEAD, TOTAL, DONE, "d\n"])?;
-    assert_eq!(rt; fault, Some(TextFault::BadLine(4)));
-    Ok(())
+/// Parts of a text, and its first fault.
+fn disagreeing_parts() -> [([&'static str; 7], TextFault); 5] {
+    [
+        (
+            [HEAD, RUN, ZONE, "demand 2 1\n", "", "", ""],
+            TextFault::BadOrder(5),
+        ),
+        (
+            [HEAD, RUN, ZONE, TREE, "branch\n", OPERATOR, "end 2\n"],
+            TextFault::BadOrder(8),
+        ),
+        (
+            [HEAD, TOTAL, "done 1 0\n", "", "", "", ""],
+            TextFault::BadOrder(3),
+        ),
+        (
+            [HEAD, TOTAL, DONE, DONE, "", "", ""],
+            TextFault::BadOrder(4),
+        ),
+        (
+            [HEAD, TOTAL, DONE, "d\n", "", "", ""],
+            TextFault::BadLine(4),
+        ),
+    ]
 }
 
 #[test]
-fn a_number_in_range_that_other_lines_do_not_agree_with_is_out_of_order(
-    rt: HostRuntime,
-) -> Result<(), Fail> {
+fn numbers_agree_with_the_lines_before(rt: HostRuntime) -> Result<(), Fail> {
     let alloc = rt.alloc();
-    for (number, line, want) in [
+    for (parts, want) in disagreeing_parts() {
+        assert_eq!(rt; fault_of(alloc, &parts)?, Some(want));
+    }
+    Ok(())
+}
+
+/// The number of a line of `DAY`, what stands in its place, and the line that is out of order then.
+fn disagreeing_lines() -> [(u32, &'static str, u32); 9] {
+    [
         (2, "run 1000 1 scheduled published", 18),
         (7, "demand 512 5", 7),
         (8, "tree 1", 10),
@@ -239,34 +267,47 @@ fn a_number_in_range_that_other_lines_do_not_agree_with_is_out_of_order(
         (22, "done 1000 1", 22),
         (22, "done 1 0", 22),
         (22, "done 1 1000", 22),
-    ] {
+    ]
+}
+
+#[test]
+fn a_number_in_range_that_other_lines_do_not_agree_with_is_out_of_order(
+    rt: HostRuntime,
+) -> Result<(), Fail> {
+    let alloc = rt.alloc();
+    for (number, line, want) in disagreeing_lines() {
         let fault = fault_with(alloc, number, &[line])?;
         assert_eq!(rt; fault, Some(TextFault::BadOrder(want)), "{line}");
     }
     Ok(())
 }
 
+/// The number of a line of `DAY`, what stands in its place and how many times, and the line that is one too many, if
+/// there is one.
+fn many_lines() -> [(u32, &'static str, u32, Option<u32>); 12] {
+    [
+        (4, ZONE, 64, None),
+        (4, ZONE, 65, Some(68)),
+        (5, "border A B 5 0.0000\n", 256, None),
+        (5, "border A B 5 0.0000\n", 257, Some(261)),
+        (6, "bid a 5\n", 4096, None),
+        (6, "bid a 5\n", 4097, Some(4102)),
+        (16, OPERATOR, 64, None),
+        (16, OPERATOR, 65, Some(80)),
+        (17, "provider P 0.0000\n", 4096, None),
+        (17, "provider P 0.0000\n", 4097, Some(4113)),
+        (20, TOTAL, 64, None),
+        (20, TOTAL, 65, Some(84)),
+    ]
+}
+
 #[test]
 fn one_line_more_of_a_kind_than_there_may_be_is_out_of_order(rt: HostRuntime) -> Result<(), Fail> {
     let alloc = rt.alloc();
-    let order = |line| Some(TextFault::BadOrder(line));
-    for (number, line, count, want) in [
-        (4, ZONE, 64, None),
-        (4, ZONE, 65, order(68)),
-        (5, "border A B 5 0.0000\n", 256, None),
-        (5, "border A B 5 0.0000\n", 257, order(261)),
-        (6, "bid a 5\n", 4096, None),
-        (6, "bid a 5\n", 4097, order(4102)),
-        (16, OPERATOR, 64, None),
-        (16, OPERATOR, 65, order(80)),
-        (17, "provider P 0.0000\n", 4096, None),
-        (17, "provider P 0.0000\n", 4097, order(4113)),
-        (20, TOTAL, 64, None),
-        (20, TOTAL, 65, order(84)),
-    ] {
+    for (number, line, count, want) in many_lines() {
         let lines = repeated(alloc, line, count)?;
         let fault = fault_with(alloc, number, &[lines.trim_end()])?;
-        assert_eq!(rt; fault, want, "{count} {line}");
+        assert_eq!(rt; fault, want.map(TextFault::BadOrder), "{count} {line}");
     }
     Ok(())
 }

@@ -1,11 +1,8 @@
-//! Findings at the nodes of small markets of one zone and one gate, with values computed by hand, and both solvers at
-//! one of four zones.
+//! Findings at the nodes of small markets of one zone and one gate, with values computed by hand.
 
-use crate::{examine, examine_from};
-use mari_flow::solve;
 use mari_gates::prefix_feasible;
-use mari_market::{Activation, Border, CutSide, Finding, GateInfo, Market, Order, Prefix, Side};
-use mari_paths::solve_from;
+use mari_market::{Activation, CutSide, Finding, GateInfo, Market, Order, Prefix, Side};
+use mari_node::{examine, examine_from};
 use mari_units::{Cents, Items};
 use std::alloc::Global;
 use std::test::Fail;
@@ -179,76 +176,6 @@ fn every_start_leads_to_the_same_optimum(rt: HostRuntime) -> Result<(), Fail> {
         let (cut, left) = found_from(rt.alloc(), &orders, 1, 1, start)?;
         assert_eq!(rt; cut, None);
         assert_eq!(rt; left.as_slice(), start);
-    }
-    Ok(())
-}
-
-/// Demands in four zones of a ring, and bids of many prices, each fifth one downward.
-fn ring(alloc: Global) -> Result<Market, Fail> {
-    let mut borders = Vec::new(alloc);
-    let mut orders = Vec::new(alloc);
-    for zone in 0..4u32 {
-        borders.push(Border {
-            from: zone,
-            to: (zone + 1) % 4,
-            limit: 5 + 7 * zone,
-            back: 30 - 5 * zone,
-        })?;
-        orders.push(Order {
-            zone,
-            ..demand(20 + 30 * zone)
-        })?;
-    }
-    for number in 0..40u32 {
-        let side = if number % 5 == 0 {
-            Side::Withdraw
-        } else {
-            Side::Inject
-        };
-        orders.push(Order {
-            zone: number % 4,
-            side,
-            ..bid(i64::from(number * 7919 % 9000), 1 + number % 17)
-        })?;
-    }
-    Ok(Market {
-        zones: 4,
-        borders: Items::of(borders),
-        orders: Items::of(orders),
-        gates: Items::of(Vec::new(alloc)),
-        reference: Cents(4000),
-    })
-}
-
-#[test]
-fn plain_and_fast_solver_agree_from_any_start(rt: HostRuntime) -> Result<(), Fail> {
-    let alloc = rt.alloc();
-    let market = ring(alloc)?;
-    let root = Prefix {
-        length: 0,
-        bits: [0; 8],
-    };
-    if !(market.valid() && prefix_feasible(&market, &root)) {
-        return Err("the market is valid, and so is its first prefix".into());
-    }
-    let plain = solve(alloc, &market, &root).ok().ok_or("an optimum")?;
-    let too_short = Activation {
-        mw: Items::of(Vec::new(alloc)),
-        flow: Items::of(Vec::new(alloc)),
-    };
-    let too_much = Activation {
-        mw: Items::of(vec![in alloc; 99_999u32; 44]?),
-        flow: Items::of(vec![in alloc; -70i64; 4]?),
-    };
-    let starts = [
-        None,
-        Some(&plain.activation),
-        Some(&too_short),
-        Some(&too_much),
-    ];
-    for start in starts {
-        let fast = solve_from(alloc, &market, &root, start);
-        assert_eq!(rt; fast.ok().map(|solved| solved.welfare), Some(plain.welfare));
     }
     Ok(())
 }

@@ -1,8 +1,9 @@
-//! Relaxed optima of small markets, and a cut where there is none.
+//! Relaxed optima of small markets by both solvers, and a cut where there is none.
 
-use crate::{SolveFault, Solved, solve};
+use mari_flow::{SolveFault, Solved, solve};
 use mari_gates::prefix_feasible;
-use mari_market::{Border, Cut, CutSide, GateInfo, Market, Order, Prefix, Side};
+use mari_market::{Activation, Border, Cut, CutSide, GateInfo, Market, Order, Prefix, Side};
+use mari_paths::solve_from;
 use mari_units::{Cents, Items};
 use std::alloc::Global;
 use std::test::Fail;
@@ -97,44 +98,52 @@ fn oversized_indivisible_bid(alloc: Global) -> Result<Market, Fail> {
     with_an_indivisible_bid(alloc, orders)
 }
 
-/// The optimum at a prefix, where the market is valid, the prefix feasible in it, and an optimum there.
-fn optimum(alloc: Global, market: &Market, prefix: Prefix) -> Option<Solved> {
-    if market.valid() && prefix_feasible(market, &prefix) {
-        solve(alloc, market, &prefix).ok()
-    } else {
-        None
+/// What the plain and the fast solver find at a prefix.
+fn solved(alloc: Global, market: &Market, prefix: Prefix) -> Result<[Found; 2], Fail> {
+    if !(market.valid() && prefix_feasible(market, &prefix)) {
+        return Err("the market is valid, and the prefix is feasible in it".into());
     }
+    Ok([
+        solve(alloc, market, &prefix),
+        solve_from(alloc, market, &prefix, None),
+    ])
 }
 
-/// The cut at a prefix, where there is no optimum.
-fn cut(alloc: Global, market: &Market, prefix: Prefix) -> Option<Cut> {
-    if !market.valid() || !prefix_feasible(market, &prefix) {
-        return None;
-    }
-    match solve(alloc, market, &prefix) {
+type Found = Result<Solved, SolveFault>;
+
+/// The welfare that each solver states, where there is an optimum.
+fn stated(alloc: Global, market: &Market, prefix: Prefix) -> Result<[Option<u64>; 2], Fail> {
+    let [plain, fast] = solved(alloc, market, prefix)?;
+    Ok([welfare_of(plain), welfare_of(fast)])
+}
+
+fn welfare_of(found: Found) -> Option<u64> {
+    found.ok().map(|solved| solved.welfare)
+}
+
+/// The cut, where there is no optimum.
+fn cut_of(found: Found) -> Option<Cut> {
+    match found {
         Err(SolveFault::Cut(cut)) => Some(cut),
         Err(SolveFault::Memory) => None,
         Ok(_solved) => None,
     }
 }
 
-/// The welfare that is stated, where there is an optimum.
-fn stated(alloc: Global, market: &Market, prefix: Prefix) -> Option<u64> {
-    optimum(alloc, market, prefix).map(|solved| solved.welfare)
-}
-
 #[test]
 fn relaxed_optimum_of_two_zones(rt: HostRuntime) -> Result<(), Fail> {
     let alloc = rt.alloc();
     let market = two_zones_congested(alloc)?;
-    let solved = optimum(alloc, &market, prefix(0, 0)).ok_or("an optimum is there")?;
-    assert_eq!(rt; solved.welfare, 799_712_000);
-    assert_eq!(rt; solved.activation.mw.as_slice(), [50, 30, 80].as_slice());
-    assert_eq!(rt; solved.activation.flow.as_slice(), [50].as_slice());
-    assert_eq!(rt;
-        solved.potentials.cents.as_slice(),
-        [Cents(2000), Cents(6000)].as_slice()
-    );
+    for found in solved(alloc, &market, prefix(0, 0))? {
+        let solved = found.ok().ok_or("an optimum is there")?;
+        assert_eq!(rt; solved.welfare, 799_712_000);
+        assert_eq!(rt; solved.activation.mw.as_slice(), [50, 30, 80].as_slice());
+        assert_eq!(rt; solved.activation.flow.as_slice(), [50].as_slice());
+        assert_eq!(rt;
+            solved.potentials.cents.as_slice(),
+            [Cents(2000), Cents(6000)].as_slice()
+        );
+    }
     Ok(())
 }
 
@@ -142,9 +151,11 @@ fn relaxed_optimum_of_two_zones(rt: HostRuntime) -> Result<(), Fail> {
 fn oversized_bid_open_is_a_cut(rt: HostRuntime) -> Result<(), Fail> {
     let alloc = rt.alloc();
     let market = oversized_indivisible_bid(alloc)?;
-    let cut = cut(alloc, &market, prefix(1, 1)).ok_or("no activation runs the bid")?;
-    assert_eq!(rt; cut.side, CutSide::Out);
-    assert_eq!(rt; cut.zones.as_slice(), [0].as_slice());
+    for found in solved(alloc, &market, prefix(1, 1))? {
+        let cut = cut_of(found).ok_or("no activation runs the bid")?;
+        assert_eq!(rt; cut.side, CutSide::Out);
+        assert_eq!(rt; cut.zones.as_slice(), [0].as_slice());
+    }
     Ok(())
 }
 
@@ -152,8 +163,14 @@ fn oversized_bid_open_is_a_cut(rt: HostRuntime) -> Result<(), Fail> {
 fn oversized_bid_closed_or_undecided(rt: HostRuntime) -> Result<(), Fail> {
     let alloc = rt.alloc();
     let market = oversized_indivisible_bid(alloc)?;
-    assert_eq!(rt; stated(alloc, &market, prefix(1, 0)), Some(299_847_000));
-    assert_eq!(rt; stated(alloc, &market, prefix(0, 0)), Some(299_907_000));
+    assert_eq!(rt;
+        stated(alloc, &market, prefix(1, 0))?,
+        [Some(299_847_000); 2]
+    );
+    assert_eq!(rt;
+        stated(alloc, &market, prefix(0, 0))?,
+        [Some(299_907_000); 2]
+    );
     Ok(())
 }
 
@@ -165,6 +182,6 @@ fn relaxed_value_below_0_is_stated_as_0(rt: HostRuntime) -> Result<(), Fail> {
         ..demand(0, 10)
     };
     let market = with_an_indivisible_bid(alloc, vec![in alloc; indivisible(3000, 10), cheap]?)?;
-    assert_eq!(rt; stated(alloc, &market, prefix(1, 1)), Some(0));
+    assert_eq!(rt; stated(alloc, &market, prefix(1, 1))?, [Some(0); 2]);
     Ok(())
 }

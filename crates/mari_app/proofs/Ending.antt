@@ -255,5 +255,5 @@ module _ (asked : Option Asked) where
         of-line (file_line (codes "toolong") k) status.TooLong result r (λ p. (words, record { file = k; first = λ told t. too-long-is told k (says told t); line = p })) (λ told t. line-too-long k (too-long-is told k (says told t)) refl)
     answers (NoPage k fetch.Memory) result says words ready cause r = of-nothing result r.0 r.1
     answers (Refused refusal) result says words ready cause r =
-        of-line (refused_line refusal) (status.Refused refusal) result r (λ p. (words, (λ told t. refused-is told refusal (says told t)), p)) (λ told t. line-refusal refusal (refused-is told refusal (says told t)) refl)
+        of-line (refused_line refusal) (status.Refused refusal) result r (λ p. (words, (λ told t. refused-is told refusal (says told t)), p, ready.1)) (λ told t. line-refusal refusal (refused-is told refusal (says told t)) refl)
     answers NoMemory result says words ready cause r = of-nothing result r.0 r.1

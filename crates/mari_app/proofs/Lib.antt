@@ -5,6 +5,7 @@ pub mod Gates
 pub mod GeneratedBooks
 pub mod Limits
 pub mod Marks
+pub mod Naming
 pub mod Reporting
 pub mod ShortWords
 pub mod Summaries

@@ -38,6 +38,7 @@ use Rattle.mari_words.specs.declared.command.FilePart.{FilePart}
 use Rattle.mari_app.specs.Commands.{ReadsFolder, already_two, page_of_part, publication_number, publication_path, text_refusal, text_refusal_at}
 use Rattle.mari_app.specs.Summary.{IsGenerated}
 use Rattle.mari_app.specs.Printing.{file_line, invalid_line, refused_line, then_took, usage_line, valid_line}
+use Rattle.mari_app.specs.Refusals.{HasName}
 
 -- the words ask for a text: for the check or for a new file of a folder, or for the summary of a generated day, which it is
 abbrev pub AsksForText : Option Asked → List ℕ → Type 0
@@ -77,7 +78,7 @@ pub record IsReady (job : Job) : Type 0 where
 abbrev pub IsReportable : Outcome → Type 0
 IsReportable (Day job) = IsReady job
 IsReportable (NoPage file why) = IsNamed file
-IsReportable (Refused refusal) = IsNamed refusal.file
+IsReportable (Refused refusal) = IsNamed refusal.file × HasName refusal
 IsReportable _ = ⊤
 
 -- the status of a day, by how it ended

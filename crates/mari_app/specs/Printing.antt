@@ -1,5 +1,5 @@
 -- The lines that the program prints where it prints no day, and what a sink took.
-use Rattle.std.specs.Prelude.{ℕ, List, [], ◌∷◌, ◌++◌, Option}
+use Rattle.std.specs.Prelude.{ℕ, List, [], ◌∷◌, ◌++◌, Option, unwrap_or}
 use lib.Chars.{codes}
 use Rattle.std.specs.Fmt.{decimal}
 use Rattle.std.specs.Option.{option_map}
@@ -21,7 +21,7 @@ file_line word file = word ++ 32 ∷ file_named file ++ 10 ∷ []
 
 -- the line of a refusal: the file, the line in it, and the check by its number and its name
 abbrev pub refused_line : Refusal → List ℕ
-refused_line r = codes "refused " ++ file_named r.file ++ 32 ∷ decimal r.line ++ 32 ∷ decimal r.number ++ 32 ∷ check_name r.file r.number ++ 10 ∷ []
+refused_line r = codes "refused " ++ file_named r.file ++ 32 ∷ decimal r.line ++ 32 ∷ decimal r.number ++ 32 ∷ unwrap_or (check_name r.file r.number) [] ++ 10 ∷ []
 
 -- a line of a word and two numbers
 abbrev pub pair_line : List ℕ → ℕ → ℕ → List ℕ

@@ -16,6 +16,7 @@ use Rattle.mari_app.specs.Commands.{IsInvalid, IsRefused, LacksPage, Prints, Rea
 use Rattle.mari_app.specs.Headline.{WroteDay}
 use Rattle.mari_app.specs.Summary.{IsGenerated}
 use Rattle.mari_app.specs.Printing.{file_line, invalid_line, refused_line, then_took, usage_line}
+use Rattle.mari_app.specs.Refusals.{HasName}
 
 -- all was done: a day is written whose runs are all published, or a text that is printed where all is well
 pub data IsDone (asked : Option Asked) (pages : Pages) (before after : Option (List ℕ)) : Type 0 where
@@ -74,13 +75,13 @@ abbrev pub TookSummary : Option Asked → (before after : Option (List ℕ)) →
 TookSummary asked before after = (number : ℕ) → asked ≡ Some (Generate number) → (text : List ℕ) × IsGenerated number text × (after ≡ then_took before text)
 
 -- what each answer says of what the words ask for, of the pages where they are told, of a fetch that failed, and of what the sink has
--- taken
+-- taken; a refusal is printed with the name of its check, and has one
 abbrev pub Answers : Option Asked → Option Pages → (failed : Type 0) → (before after : Option (List ℕ)) → Status → Type 0
 Answers asked pages failed before after Done = WhereTold pages (λ told. IsDone asked told before after) × TookSummary asked before after
 Answers asked pages failed before after Unpublished = AsksToClear asked × WhereTold pages (λ told. WroteDay asked told false before after)
 Answers asked pages failed before after Usage = (asked ≡ None) × (after ≡ then_took before usage_line)
 Answers asked pages failed before after (Refused refusal) =
-    AsksForFiles asked × WhereTold pages (λ told. IsRefused asked told refusal) × (after ≡ then_took before (refused_line refusal))
+    AsksForFiles asked × WhereTold pages (λ told. IsRefused asked told refusal) × (after ≡ then_took before (refused_line refusal)) × HasName refusal
 Answers asked pages failed before after ReadFault = AsksForFiles asked × ((file : ℕ) × (after ≡ then_took before (file_line (codes "readfault") file)))
 Answers asked pages failed before after WriteFault = WhereTold pages (λ told. IsCutOff asked told failed before after)
 Answers asked pages failed before after Memory = WhereTold pages (λ told. IsStarved asked told before after) × ((after ≡ before) ⊎ AsksToClear asked)

@@ -1,117 +1,103 @@
 -- The names of the checks by which a file may be refused.
-use Rattle.std.specs.Prelude.{ℕ, ◌==◌, List, [], if◌then◌else◌}
-use lib.Chars.{codes}
+use Rattle.std.specs.Prelude.{ℕ, ◌==◌, ◌≢◌, List, [], ◌∷◌, Option, None, IsSomeAnd, if◌then◌else◌, option_map}
+use Rattle.std.specs.List.{find}
+use Rattle.std.specs.Option.{option_or}
+use Rattle.mari_units.specs.declared.faults.Refusal.{Refusal}
+use Rattle.mari_rows.specs.Checks.{row_check_name, row_check_number}
+use Rattle.mari_rows.specs.declared.checks.RowCheck.{RowCheck}
+use Rattle.mari_rows.specs.declared.checks.RowCheck.TheVariants as row
+use Rattle.mari_zones.specs.ZoneChecks.{zone_check_name, zone_check_number}
+use Rattle.mari_zones.specs.BorderChecks.{border_check_name, border_check_number}
+use Rattle.mari_zones.specs.declared.zones.ZoneCheck.{ZoneCheck}
+use Rattle.mari_zones.specs.declared.zones.ZoneCheck.TheVariants as zone
+use Rattle.mari_zones.specs.declared.borders.BorderCheck.{BorderCheck}
+use Rattle.mari_zones.specs.declared.borders.BorderCheck.TheVariants as border
+use Rattle.mari_bids.specs.BidChecks.{bid_check_name, bid_check_number}
+use Rattle.mari_bids.specs.declared.bids.BidCheck.{BidCheck}
+use Rattle.mari_bids.specs.declared.bids.BidCheck.TheVariants as bid
+use Rattle.mari_links.specs.LinkChecks.{link_check_name, link_check_number}
+use Rattle.mari_links.specs.declared.links.LinkCheck.{LinkCheck}
+use Rattle.mari_links.specs.declared.links.LinkCheck.TheVariants as link
+use Rattle.mari_demands.specs.RunChecks.{run_check_name, run_check_number}
+use Rattle.mari_demands.specs.DemandChecks.{demand_check_name, demand_check_number}
+use Rattle.mari_demands.specs.LimitChecks.{limit_check_name, limit_check_number}
+use Rattle.mari_demands.specs.declared.runs.RunCheck.{RunCheck}
+use Rattle.mari_demands.specs.declared.runs.RunCheck.TheVariants as run
+use Rattle.mari_demands.specs.declared.demands.DemandCheck.{DemandCheck}
+use Rattle.mari_demands.specs.declared.demands.DemandCheck.TheVariants as demand
+use Rattle.mari_demands.specs.declared.limits.LimitCheck.{LimitCheck}
+use Rattle.mari_demands.specs.declared.limits.LimitCheck.TheVariants as limit
+use Rattle.mari_day.specs.DateChecks.{date_check_name, date_check_number}
+use Rattle.mari_day.specs.declared.calendar_page.DateCheck.{DateCheck}
+use Rattle.mari_day.specs.declared.calendar_page.DateCheck.TheVariants as date
+use Rattle.mari_app.specs.Checks.{migration_check_name, migration_check_number, text_check_name, text_check_number}
+use Rattle.mari_app.specs.declared.checks.MigrationCheck.{MigrationCheck}
+use Rattle.mari_app.specs.declared.checks.MigrationCheck.TheVariants as migration
+use Rattle.mari_app.specs.declared.checks.TextCheck.{TextCheck}
+use Rattle.mari_app.specs.declared.checks.TextCheck.TheVariants as text
 
--- a check of zones.csv, by its number
-unfoldable pub zone_check : ℕ → List ℕ
-zone_check number =
-    if number == 11 then codes "TooManyZones" else
-    if number == 12 then codes "BadField" else
-    if number == 13 then codes "Repeated" else
-    if number == 14 then codes "NoZone" else
-    []
+-- the name of the check of this number, where one of these has it
+abbrev pub name_among : {C : Type 0} → (number : C → ℕ) (name : C → List ℕ) → List C → ℕ → Option (List ℕ)
+name_among number name checks n = option_map name (find (λ check. number check == n) checks)
 
--- a check of borders.csv, by its number; the last is that of a folder that is migrated though it has limits.csv
-unfoldable pub border_check : ℕ → List ℕ
-border_check number =
-    if number == 11 then codes "TooManyBorders" else
-    if number == 12 then codes "Unknown" else
-    if number == 13 then codes "SelfBorder" else
-    if number == 14 then codes "Repeated" else
-    if number == 15 then codes "Range" else
-    if number == 17 then codes "AlreadyTwo" else
-    []
+-- the checks that every file has
+abbrev pub row_checks : List RowCheck
+row_checks = row.BadHeader ∷ row.BadRow ∷ row.NotUtf8 ∷ []
 
--- a check of bids.csv, by its number
-unfoldable pub bid_check : ℕ → List ℕ
-bid_check number =
-    if number == 11 then codes "BadField" else
-    if number == 12 then codes "Repeated" else
-    if number == 13 then codes "UnknownZone" else
-    if number == 14 then codes "Quarter" else
-    if number == 15 then codes "Range" else
-    if number == 16 then codes "LeastAboveGreatest" else
-    if number == 17 then codes "TooMany" else
-    []
+-- and the checks of each file of its own; borders.csv may also be refused in a folder that is migrated
+abbrev pub date_checks : List DateCheck
+date_checks = date.NotOneRecord ∷ date.BadDate ∷ date.BadZoneText ∷ date.OutOfRange ∷ date.NotWholeQuarters ∷ []
 
--- a check of links.csv, by its number
-unfoldable pub link_check : ℕ → List ℕ
-link_check number =
-    if number == 11 then codes "BadKind" else
-    if number == 12 then codes "UnknownBid" else
-    if number == 13 then codes "WrongQuarter" else
-    if number == 14 then codes "ParentNotEarlier" else
-    if number == 15 then codes "Repeated" else
-    if number == 16 then codes "BadField" else
-    if number == 17 then codes "TooManyGates" else
-    []
+abbrev pub zone_checks : List ZoneCheck
+zone_checks = zone.TooManyZones ∷ zone.BadField ∷ zone.Repeated ∷ zone.NoZone ∷ []
 
--- a check of runs.csv, by its number
-unfoldable pub run_check : ℕ → List ℕ
-run_check number =
-    if number == 11 then codes "BadField" else
-    if number == 12 then codes "RunsOutOfOrder" else
-    if number == 13 then codes "Quarter" else
-    if number == 14 then codes "Range" else
-    if number == 15 then codes "TooMany" else
-    []
+abbrev pub border_checks : List BorderCheck
+border_checks = border.TooManyBorders ∷ border.Unknown ∷ border.SelfBorder ∷ border.Repeated ∷ border.Range ∷ []
 
--- a check of demands.csv, by its number
-unfoldable pub demand_check : ℕ → List ℕ
-demand_check number =
-    if number == 11 then codes "BadField" else
-    if number == 12 then codes "UnknownRun" else
-    if number == 13 then codes "UnknownZone" else
-    if number == 14 then codes "Range" else
-    if number == 15 then codes "TooMany" else
-    []
+abbrev pub migration_checks : List MigrationCheck
+migration_checks = migration.AlreadyTwo ∷ []
 
--- a check of day.csv, by its number
-unfoldable pub day_check : ℕ → List ℕ
-day_check number =
-    if number == 11 then codes "BadDate" else
-    if number == 12 then codes "BadZoneText" else
-    if number == 13 then codes "NotWholeQuarters" else
-    if number == 14 then codes "OutOfRange" else
-    if number == 15 then codes "NotOneRecord" else
-    []
+abbrev pub bid_checks : List BidCheck
+bid_checks = bid.BadField ∷ bid.Repeated ∷ bid.UnknownZone ∷ bid.Quarter ∷ bid.Range ∷ bid.LeastAboveGreatest ∷ bid.TooMany ∷ []
 
--- a check of limits.csv, by its number
-unfoldable pub limit_check : ℕ → List ℕ
-limit_check number =
-    if number == 11 then codes "BadField" else
-    if number == 12 then codes "UnknownRun" else
-    if number == 13 then codes "UnknownBorder" else
-    if number == 14 then codes "Repeated" else
-    if number == 15 then codes "Range" else
-    []
+abbrev pub link_checks : List LinkCheck
+link_checks = link.BadKind ∷ link.UnknownBid ∷ link.WrongQuarter ∷ link.ParentNotEarlier ∷ link.Repeated ∷ link.BadField ∷ link.TooManyGates ∷ []
 
--- a check of the publication's text, by its number
-unfoldable pub text_check : ℕ → List ℕ
-text_check number =
-    if number == 11 then codes "BadLine" else
-    if number == 12 then codes "BadOrder" else
-    if number == 13 then codes "Truncated" else
-    []
+abbrev pub run_checks : List RunCheck
+run_checks = run.BadField ∷ run.RunsOutOfOrder ∷ run.Quarter ∷ run.Range ∷ run.TooMany ∷ []
 
--- a check of one file of its own, by the file's number from 1
-abbrev pub own_check : ℕ → ℕ → List ℕ
-own_check file number =
-    if file == 1 then day_check number else
-    if file == 2 then zone_check number else
-    if file == 3 then border_check number else
-    if file == 4 then bid_check number else
-    if file == 5 then link_check number else
-    if file == 6 then run_check number else
-    if file == 7 then demand_check number else
-    if file == 8 then text_check number else
-    if file == 9 then limit_check number else
-    []
+abbrev pub demand_checks : List DemandCheck
+demand_checks = demand.BadField ∷ demand.UnknownRun ∷ demand.UnknownZone ∷ demand.Range ∷ demand.TooMany ∷ []
 
--- a check by its file's number from 1 and its own: the first three are of records
-unfoldable pub check_name : ℕ → ℕ → List ℕ
-check_name file number =
-    if number == 1 then codes "BadHeader" else
-    if number == 2 then codes "BadRow" else
-    if number == 3 then codes "NotUtf8" else
-    own_check file number
+abbrev pub text_checks : List TextCheck
+text_checks = text.BadLine ∷ text.BadOrder ∷ text.Truncated ∷ []
+
+abbrev pub limit_checks : List LimitCheck
+limit_checks = limit.BadField ∷ limit.UnknownRun ∷ limit.UnknownBorder ∷ limit.Repeated ∷ limit.Range ∷ []
+
+-- the name of a check of borders.csv, by its number
+abbrev pub border_name : ℕ → Option (List ℕ)
+border_name number = option_or (name_among border_check_number border_check_name border_checks number)
+    (name_among migration_check_number migration_check_name migration_checks number)
+
+-- the name of a check of one file of its own, by the file's number from 1
+abbrev pub own_name : (file number : ℕ) → Option (List ℕ)
+own_name file number =
+    if file == 1 then name_among date_check_number date_check_name date_checks number else
+    if file == 2 then name_among zone_check_number zone_check_name zone_checks number else
+    if file == 3 then border_name number else
+    if file == 4 then name_among bid_check_number bid_check_name bid_checks number else
+    if file == 5 then name_among link_check_number link_check_name link_checks number else
+    if file == 6 then name_among run_check_number run_check_name run_checks number else
+    if file == 7 then name_among demand_check_number demand_check_name demand_checks number else
+    if file == 8 then name_among text_check_number text_check_name text_checks number else
+    if file == 9 then name_among limit_check_number limit_check_name limit_checks number else
+    None
+
+-- the name of a check, by its file's number from 1 and its own
+unfoldable pub check_name : (file number : ℕ) → Option (List ℕ)
+check_name file number = option_or (name_among row_check_number row_check_name row_checks number) (own_name file number)
+
+-- the check by which a file is refused has a name, which isn't empty
+abbrev pub HasName : Refusal → Type 0
+HasName refusal = IsSomeAnd (check_name refusal.file refusal.number) (λ name. name ≢ [])

@@ -5,16 +5,19 @@ ghost use Rattle.mari_io.specs.Outside.{Counts, Pages, page_of};
 ghost use Rattle.mari_io.specs.declared.shelf.Fetch.TheVariants as fetch;
 ghost use Rattle.mari_remain.specs.Accepted.{IsAccepted};
 ghost use Rattle.mari_words.specs.Asked.Asked.{Check};
+ghost use Rattle.mari_app.specs.Checks.{text_check_number};
 ghost use Rattle.mari_app.specs.Commands.{publication_path as path_of, text_refusal_at};
 ghost use Rattle.mari_app.specs.Outcome.{CheckTells, IsNoPage, IsOfWords, IsReportable, IsToldVerdict, Says, text_outcome as outcome_of_text};
 
 use crate::books::books_in;
+use crate::checks::TextCheck;
 use crate::outcome::Outcome;
 use crate::writing::pair_line;
 use mari_check::{StreamFault, Verdict, check_stream};
 use mari_io::Shelf;
 use mari_publish::TextFault;
 use mari_remain::Books;
+use mari_rows::FileCheck;
 use mari_units::{Memory, Refusal};
 use std::alloc::Global;
 
@@ -30,14 +33,14 @@ fn publication_path(alloc: Global, folder: &str) -> Result<String, Memory>
     Ok(path)
 }
 
-/// The refusal of the publication's text at a line.
-fn refused_text(line: u32, number: u8) -> Outcome
-    ensures { result ≡ Outcome.Refused (text_refusal_at line number) }
+/// The refusal of the publication's text at a line, by a check.
+fn refused_text(line: u32, check: TextCheck) -> Outcome
+    ensures { result ≡ Outcome.Refused (text_refusal_at line (text_check_number check)) }
 {
     Outcome::Refused(Refusal {
         file: PUBLICATION,
         line,
-        number,
+        number: check.entry().0,
     })
 }
 
@@ -46,9 +49,9 @@ fn text_outcome(fault: TextFault) -> Outcome
     ensures { result ≡ outcome_of_text fault }
 {
     match fault {
-        TextFault::BadLine(line) => refused_text(line, 11),
-        TextFault::BadOrder(line) => refused_text(line, 12),
-        TextFault::Truncated(line) => refused_text(line, 13),
+        TextFault::BadLine(line) => refused_text(line, TextCheck::BadLine),
+        TextFault::BadOrder(line) => refused_text(line, TextCheck::BadOrder),
+        TextFault::Truncated(line) => refused_text(line, TextCheck::Truncated),
         TextFault::Memory => Outcome::NoMemory,
     }
 }

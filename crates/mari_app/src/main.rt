@@ -9,6 +9,7 @@
 mod arguments;
 mod books;
 mod checking;
+mod checks;
 mod clearing;
 mod generating;
 mod migrating;

@@ -1,172 +1,146 @@
-//! The names of the checks by which a file may be refused.
+//! The names of the checks by which a file may be refused, which are those of its readers.
 
-ghost use Rattle.std.specs.Prelude.{◌≡◌, ℕ};
-ghost use Rattle.mari_app.specs.Refusals.{check_name as check_named, day_check as day_checks, zone_check as zone_checks, border_check as border_checks, bid_check as bid_checks, link_check as link_checks, run_check as run_checks, demand_check as demand_checks, limit_check as limit_checks, text_check as text_checks, own_check as own_checks};
+ghost use Rattle.std.specs.Prelude.{◌≡◌, ◌≢◌, [], Some, option_map};
+ghost use Rattle.mari_app.specs.Refusals.{border_name as border_named, check_name as check_named, name_among as named_among, own_name as own_named, HasName};
 
-/// A check of zones.csv.
-#[tactic(auto, unfolding(crate::specs::Refusals::zone_check))]
-fn zone_check(number: u8) -> &'static str
-    ensures { result.now ≡ zone_checks number }
+use crate::checks::{MigrationCheck, TextCheck};
+use mari_bids::BidCheck;
+use mari_day::DateCheck;
+use mari_demands::{DemandCheck, LimitCheck, RunCheck};
+use mari_links::LinkCheck;
+use mari_rows::{FileCheck, RowCheck};
+use mari_units::Refusal;
+use mari_zones::{BorderCheck, ZoneCheck};
+
+/// The checks that every file has.
+const ROW_CHECKS: [RowCheck; 3] = [RowCheck::BadHeader, RowCheck::BadRow, RowCheck::NotUtf8];
+
+// The checks of each file of its own.
+const DATE_CHECKS: [DateCheck; 5] = [
+    DateCheck::NotOneRecord,
+    DateCheck::BadDate,
+    DateCheck::BadZoneText,
+    DateCheck::OutOfRange,
+    DateCheck::NotWholeQuarters,
+];
+
+const ZONE_CHECKS: [ZoneCheck; 4] = [
+    ZoneCheck::TooManyZones,
+    ZoneCheck::BadField,
+    ZoneCheck::Repeated,
+    ZoneCheck::NoZone,
+];
+
+const BORDER_CHECKS: [BorderCheck; 5] = [
+    BorderCheck::TooManyBorders,
+    BorderCheck::Unknown,
+    BorderCheck::SelfBorder,
+    BorderCheck::Repeated,
+    BorderCheck::Range,
+];
+
+const MIGRATION_CHECKS: [MigrationCheck; 1] = [MigrationCheck::AlreadyTwo];
+
+const BID_CHECKS: [BidCheck; 7] = [
+    BidCheck::BadField,
+    BidCheck::Repeated,
+    BidCheck::UnknownZone,
+    BidCheck::Quarter,
+    BidCheck::Range,
+    BidCheck::LeastAboveGreatest,
+    BidCheck::TooMany,
+];
+
+const LINK_CHECKS: [LinkCheck; 7] = [
+    LinkCheck::BadKind,
+    LinkCheck::UnknownBid,
+    LinkCheck::WrongQuarter,
+    LinkCheck::ParentNotEarlier,
+    LinkCheck::Repeated,
+    LinkCheck::BadField,
+    LinkCheck::TooManyGates,
+];
+
+const RUN_CHECKS: [RunCheck; 5] = [
+    RunCheck::BadField,
+    RunCheck::RunsOutOfOrder,
+    RunCheck::Quarter,
+    RunCheck::Range,
+    RunCheck::TooMany,
+];
+
+const DEMAND_CHECKS: [DemandCheck; 5] = [
+    DemandCheck::BadField,
+    DemandCheck::UnknownRun,
+    DemandCheck::UnknownZone,
+    DemandCheck::Range,
+    DemandCheck::TooMany,
+];
+
+const TEXT_CHECKS: [TextCheck; 3] = [
+    TextCheck::BadLine,
+    TextCheck::BadOrder,
+    TextCheck::Truncated,
+];
+
+const LIMIT_CHECKS: [LimitCheck; 5] = [
+    LimitCheck::BadField,
+    LimitCheck::UnknownRun,
+    LimitCheck::UnknownBorder,
+    LimitCheck::Repeated,
+    LimitCheck::Range,
+];
+
+/// The name of the check of a number, where one of these has it.
+fn name_among<C: FileCheck>(checks: &[C], number: u8) -> Option<&'static str>
+    ensures { option_map (λ name. name.now) result ≡ named_among C.number C.name checks.now number }
 {
-    match number {
-        11 => "TooManyZones",
-        12 => "BadField",
-        13 => "Repeated",
-        14 => "NoZone",
-        _ => "",
+    match checks.iter().find(|check| check.entry().0 == number) {
+        Some(check) => Some(check.entry().1),
+        None => None,
     }
 }
 
-/// A check of borders.csv.
-#[tactic(auto, unfolding(crate::specs::Refusals::border_check))]
-fn border_check(number: u8) -> &'static str
-    ensures { result.now ≡ border_checks number }
+/// The name of a check of borders.csv.
+fn border_name(number: u8) -> Option<&'static str>
+    ensures { option_map (λ name. name.now) result ≡ border_named number }
 {
-    match number {
-        11 => "TooManyBorders",
-        12 => "Unknown",
-        13 => "SelfBorder",
-        14 => "Repeated",
-        15 => "Range",
-        17 => "AlreadyTwo",
-        _ => "",
+    match name_among(&BORDER_CHECKS, number) {
+        Some(name) => Some(name),
+        None => name_among(&MIGRATION_CHECKS, number),
     }
 }
 
-/// A check of bids.csv.
-#[tactic(auto, unfolding(crate::specs::Refusals::bid_check))]
-fn bid_check(number: u8) -> &'static str
-    ensures { result.now ≡ bid_checks number }
-{
-    match number {
-        11 => "BadField",
-        12 => "Repeated",
-        13 => "UnknownZone",
-        14 => "Quarter",
-        15 => "Range",
-        16 => "LeastAboveGreatest",
-        17 => "TooMany",
-        _ => "",
-    }
-}
-
-/// A check of links.csv.
-#[tactic(auto, unfolding(crate::specs::Refusals::link_check))]
-fn link_check(number: u8) -> &'static str
-    ensures { result.now ≡ link_checks number }
-{
-    match number {
-        11 => "BadKind",
-        12 => "UnknownBid",
-        13 => "WrongQuarter",
-        14 => "ParentNotEarlier",
-        15 => "Repeated",
-        16 => "BadField",
-        17 => "TooManyGates",
-        _ => "",
-    }
-}
-
-/// A check of runs.csv.
-#[tactic(auto, unfolding(crate::specs::Refusals::run_check))]
-fn run_check(number: u8) -> &'static str
-    ensures { result.now ≡ run_checks number }
-{
-    match number {
-        11 => "BadField",
-        12 => "RunsOutOfOrder",
-        13 => "Quarter",
-        14 => "Range",
-        15 => "TooMany",
-        _ => "",
-    }
-}
-
-/// A check of demands.csv.
-#[tactic(auto, unfolding(crate::specs::Refusals::demand_check))]
-fn demand_check(number: u8) -> &'static str
-    ensures { result.now ≡ demand_checks number }
-{
-    match number {
-        11 => "BadField",
-        12 => "UnknownRun",
-        13 => "UnknownZone",
-        14 => "Range",
-        15 => "TooMany",
-        _ => "",
-    }
-}
-
-/// A check of day.csv.
-#[tactic(auto, unfolding(crate::specs::Refusals::day_check))]
-fn day_check(number: u8) -> &'static str
-    ensures { result.now ≡ day_checks number }
-{
-    match number {
-        11 => "BadDate",
-        12 => "BadZoneText",
-        13 => "NotWholeQuarters",
-        14 => "OutOfRange",
-        15 => "NotOneRecord",
-        _ => "",
-    }
-}
-
-/// A check of limits.csv.
-#[tactic(auto, unfolding(crate::specs::Refusals::limit_check))]
-fn limit_check(number: u8) -> &'static str
-    ensures { result.now ≡ limit_checks number }
-{
-    match number {
-        11 => "BadField",
-        12 => "UnknownRun",
-        13 => "UnknownBorder",
-        14 => "Repeated",
-        15 => "Range",
-        _ => "",
-    }
-}
-
-/// A check of the publication's text.
-#[tactic(auto, unfolding(crate::specs::Refusals::text_check))]
-fn text_check(number: u8) -> &'static str
-    ensures { result.now ≡ text_checks number }
-{
-    match number {
-        11 => "BadLine",
-        12 => "BadOrder",
-        13 => "Truncated",
-        _ => "",
-    }
-}
-
-/// A check of one file of its own, by the file's number from 1.
-fn own_check(file: u8, number: u8) -> &'static str
-    ensures { result.now ≡ own_checks file number }
+/// The name of a check of one file of its own, by the file's number from 1.
+fn own_name(file: u8, number: u8) -> Option<&'static str>
+    ensures { option_map (λ name. name.now) result ≡ own_named file number }
 {
     match file {
-        1 => day_check(number),
-        2 => zone_check(number),
-        3 => border_check(number),
-        4 => bid_check(number),
-        5 => link_check(number),
-        6 => run_check(number),
-        7 => demand_check(number),
-        8 => text_check(number),
-        9 => limit_check(number),
-        _ => "",
+        1 => name_among(&DATE_CHECKS, number),
+        2 => name_among(&ZONE_CHECKS, number),
+        3 => border_name(number),
+        4 => name_among(&BID_CHECKS, number),
+        5 => name_among(&LINK_CHECKS, number),
+        6 => name_among(&RUN_CHECKS, number),
+        7 => name_among(&DEMAND_CHECKS, number),
+        8 => name_among(&TEXT_CHECKS, number),
+        9 => name_among(&LIMIT_CHECKS, number),
+        _ => None,
     }
 }
 
-/// The name of a check, by its file's number from 1 and its own.
+/// The name of the check by which a file is refused.
 #[tactic(auto, unfolding(crate::specs::Refusals::check_name))]
-pub fn check_name(file: u8, number: u8) -> &'static str
-    ensures { result.now ≡ check_named file number }
+pub fn check_name(refusal: Refusal) -> &'static str
+    requires { HasName refusal }
+    ensures name { check_named refusal.file refusal.number ≡ Some result.now }
+    ensures some { result.now ≢ [] }
 {
-    match number {
-        1 => "BadHeader",
-        2 => "BadRow",
-        3 => "NotUtf8",
-        _ => own_check(file, number),
+    if let Some(name) = name_among(&ROW_CHECKS, refusal.number) {
+        return name;
+    }
+    match own_name(refusal.file, refusal.number) {
+        Some(name) => name,
+        None => unreachable!(),
     }
 }

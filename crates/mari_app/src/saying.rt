@@ -4,11 +4,13 @@ ghost use Rattle.std.specs.Prelude.{◌≡◌, ◌≢◌};
 ghost use Rattle.mari_io.specs.Outside.{Counts};
 ghost use Rattle.mari_app.specs.Outcome.{IsNamed, IsReportable, Reported, Reports, ReportsNoPage};
 ghost use Rattle.mari_app.specs.Printing.{file_line as file_text, invalid_line as invalid_text, refused_line as refused_text};
+ghost use Rattle.mari_app.specs.Refusals.{HasName};
 
 use crate::clearing::clear_alone;
 use crate::outcome::Outcome;
 use crate::status::Status;
-use crate::writing::{file_line, pair_line, refused_line, usage_line, write_all};
+use crate::writing::{file_line, pair_line, refused_line, usage_line};
+use mari_day::write_all;
 use mari_io::{Fetch, Sink};
 use mari_units::Refusal;
 use std::alloc::Global;
@@ -54,7 +56,8 @@ fn say_no_page<K: Sink>(alloc: Global, sink: &mut K, file: u8, why: Fetch) -> St
 
 /// Writes the line of a refusal.
 fn say_refused<K: Sink>(alloc: Global, sink: &mut K, refusal: Refusal) -> Status
-    requires { IsNamed refusal.file }
+    requires file { IsNamed refusal.file }
+    requires name { HasName refusal }
     ensures reports { Reports (refused_text refusal) (Status.Refused refusal) (K.taken sink.old) (K.taken sink.new) result }
     ensures cause { Counts (result ≡ Status.WriteFault) (K.faults sink.old) (K.faults sink.new) }
 {

@@ -1,33 +1,15 @@
-//! Writing a text until the sink has taken it whole, and the lines that name a file.
+//! The lines that the program prints where it prints no day.
 
-ghost use Rattle.std.specs.Prelude.{◌≡◌, ◌≤◌, ◌≢◌, ◌⊎◌, ℕ, take, OnOk, OnErr, IsErr, IfOk, ◌++◌};
+ghost use Rattle.std.specs.Prelude.{◌≡◌, OnOk, IfOk, ◌++◌};
 ghost use Rattle.std.specs.Fmt.{decimal};
-ghost use Rattle.mari_io.specs.Outside.{Counts};
 ghost use Rattle.mari_app.specs.Outcome.{IsNamed};
-ghost use Rattle.mari_app.specs.Printing.{then_took, usage_line as usage_text, file_line as file_text, pair_line as pair_text, refused_line as refused_text};
+ghost use Rattle.mari_app.specs.Printing.{usage_line as usage_text, file_line as file_text, pair_line as pair_text, refused_line as refused_text};
+ghost use Rattle.mari_app.specs.Refusals.{HasName};
 
 use crate::refusals::check_name;
 use mari_day::file_name;
-use mari_io::{Failed, Sink};
 use mari_units::{Memory, Refusal};
 use std::alloc::Global;
-
-/// Writes the whole text. After an error the sink has taken a first part of it.
-pub fn write_all<K: Sink>(sink: &mut K, text: &[u8]) -> Result<(), Failed>
-    ensures whole { OnOk result (K.taken sink.new ≡ then_took (K.taken sink.old) text.now) }
-    ensures part { OnErr result ((n : ℕ) × (K.taken sink.new ≡ then_took (K.taken sink.old) (take n text.now))) }
-    ensures cause { Counts (IsErr result) (K.faults sink.old) (K.faults sink.new) }
-{
-    let mut at = 0;
-    while at < text.len() {
-        let count = sink.write(&text[at..])?;
-        if count == 0 {
-            return Err(Failed);
-        }
-        at += count;
-    }
-    Ok(())
-}
 
 /// The line that tells how the program is called.
 #[tactic(auto, unfolding(crate::specs::Printing::usage_line))]
@@ -66,7 +48,8 @@ pub fn file_line(alloc: Global, word: &[u8], file: u8) -> Result<Vec<u8>, Memory
 
 /// The line of a refusal.
 pub fn refused_line(alloc: Global, refusal: Refusal) -> Result<Vec<u8>, Memory>
-    requires { IsNamed refusal.file }
+    requires file { IsNamed refusal.file }
+    requires name { HasName refusal }
     ensures { IfOk result (λ line. line.items ≡ refused_text refusal) }
 {
     let mut line = Vec::new(alloc);
@@ -77,10 +60,7 @@ pub fn refused_line(alloc: Global, refusal: Refusal) -> Result<Vec<u8>, Memory>
     put(&mut line, b" ")?;
     put_number(alloc, &mut line, u128::from(refusal.number))?;
     put(&mut line, b" ")?;
-    put(
-        &mut line,
-        check_name(refusal.file, refusal.number).as_bytes(),
-    )?;
+    put(&mut line, check_name(refusal).as_bytes())?;
     put(&mut line, b"\n")?;
     Ok(line)
 }

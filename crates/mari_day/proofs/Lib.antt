@@ -1,5 +1,6 @@
 pub mod Fetched
 pub mod Folders
+pub mod Refusing
 pub mod Digits
 pub mod Money
 pub mod Assembles

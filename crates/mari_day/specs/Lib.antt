@@ -1,5 +1,6 @@
 pub mod Files
 pub mod DateChecks
+pub mod Refusals
 pub mod CalendarPage
 pub mod Fetching
 pub mod Reading

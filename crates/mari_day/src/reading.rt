@@ -17,6 +17,7 @@ ghost use Rattle.mari_day.specs.CalendarPage.{calendar_day_in, IsCalendarDay};
 ghost use Rattle.mari_day.specs.Dated.{IsDated};
 ghost use Rattle.mari_day.specs.Files.{page_of, IsFileNumber};
 ghost use Rattle.mari_day.specs.Reading.{books_at, limits_at, of_file, refusal_at, BooksTell, FetchesFiles, IsFetchFault, NamesAFile, Reads};
+ghost use Rattle.mari_day.specs.Refusals.{RefusesByCheck};
 
 use crate::calendar_page::CalendarDay;
 use crate::files::File;
@@ -221,8 +222,9 @@ pub fn read_books<S: Shelf>(alloc: Global, shelf: &mut S, folder: &str) -> Resul
     ensures accepted { IfOk result IsAccepted }
     ensures dated { IfOk result IsDated }
 
-    // Why nothing was. Want of memory in a fetch is told as want of memory.
+    // Why nothing was. A refusal is by a check of its file. Want of memory in a fetch is told as want of memory.
     ensures file { NamesAFile result }
+    ensures check { RefusesByCheck result }
     ensures memory { IsFetchFault fetch.Memory result → ⊥ }
     ensures failed { Counts (IsFetchFault fetch.Failed result) (S.faults shelf.old) (S.faults shelf.new) }
     ensures missing { Counts (IsFetchFault fetch.Missing result) (S.misses shelf.old) (S.misses shelf.new) }

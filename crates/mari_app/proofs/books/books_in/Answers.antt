@@ -1,3 +1,4 @@
+use Rattle.mari_app.proofs.Naming.{fault-reportable}
 use Rattle.mari_app.proofs.Telling.{says-fault, words-of-fault}
 use Rattle.mari_app.proofs.books.books_in.Goals as goal
 
@@ -6,3 +7,6 @@ returns-in-Err-clause-told g c = λ asked told reads e. rw c.no_books.ensures (s
 
 pub returns-in-Err-clause-words : goal.returns-in-Err-clause-words
 returns-in-Err-clause-words g c = λ asked reads. rw c.no_books.ensures (words-of-fault asked c.args.folder.now c.in-Err.fault reads)
+
+pub returns-in-Err-clause-reportable : goal.returns-in-Err-clause-reportable
+returns-in-Err-clause-reportable g c = rw c.no_books.ensures (fault-reportable c.in-Err.fault c.in-Err.ensures.file c.in-Err.ensures.check)

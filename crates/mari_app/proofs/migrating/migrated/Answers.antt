@@ -1,6 +1,7 @@
 use Rattle.std.proofs.Common.{Some, refl}
 use Rattle.mari_words.specs.Asked.Asked.{Migrate}
 use Rattle.mari_app.specs.Outcome.Says.{OfMigrate}
+use Rattle.mari_app.proofs.Naming.{migrated-reportable}
 use Rattle.mari_app.proofs.Telling.{words-of-migrated}
 use Rattle.mari_app.proofs.migrating.migrated.Goals as goal
 
@@ -16,3 +17,6 @@ returns-in-Err-clause-words g c = c.in-Err.ensures.words (Some (Migrate c.args.f
 
 pub returns-in-Ok-clause-words : goal.returns-in-Ok-clause-words
 returns-in-Ok-clause-words g c = words-of-migrated c.args.folder.now c.args.part c.in-Ok.books c.migrated_books.result c.migrated_books.ensures
+
+pub returns-in-Ok-clause-reportable : goal.returns-in-Ok-clause-reportable
+returns-in-Ok-clause-reportable g c = migrated-reportable c.in-Ok.books c.args.part c.migrated_books.result c.migrated_books.ensures

@@ -1,0 +1,10 @@
+pub mod Lists
+pub mod Kinds
+pub mod Small
+pub mod Providers
+pub mod Made
+pub mod Past
+pub mod Keeping
+pub mod Scheduling
+pub mod Sums
+pub mod Progressing

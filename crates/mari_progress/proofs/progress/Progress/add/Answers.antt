@@ -1,0 +1,2 @@
+use Rattle.std.proofs.Common.{arith}
+use Rattle.mari_progress.proofs.progress.Progress.add.Goals as goal

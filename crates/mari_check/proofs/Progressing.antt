@@ -9,7 +9,7 @@ use Rattle.mari_remain.specs.Accepted.{IsAccepted}
 use Rattle.mari_progress.specs.Behind.{run_behind}
 use Rattle.mari_progress.specs.Progress.{IsProgress}
 use Rattle.mari_progress.specs.Runs.{IsSoundBlock, IsSoundRun}
-use Rattle.mari_progress.proofs.Kinds.{unpublished-more, unpublished-same}
+use Rattle.mari_progress.proofs.Counts.{unpublished-more, unpublished-same}
 use Rattle.mari_progress.proofs.Lists.{each-more}
 use Rattle.mari_progress.proofs.Progressing.{unpublished-too}
 use Rattle.mari_check.specs.declared.day.DayCheck.{DayCheck}

@@ -34,7 +34,7 @@ use Rattle.mari_progress.specs.Told.{name_at}
 use Rattle.mari_day.specs.declared.block.Priced.{Priced}
 use Rattle.mari_day.proofs.AreaFits.{areas-fit, greatest-fit, least-fit}
 use Rattle.mari_progress.proofs.Lists.{along-length}
-use Rattle.mari_progress.proofs.Providers.{few-providers, providers-there}
+use Rattle.mari_progress.proofs.Listing.{few-providers, providers-there}
 use Rattle.mari_day.proofs.TreeFits.{flows-fit, mws-fit, tree-fits}
 
 -- what holds of a list that another is mapped to

@@ -1,5 +1,5 @@
 -- Sound blocks keep the offers, and the nets of their totals sum to 0.
-use Rattle.std.proofs.Common.{◌≡◌, ◌∙◌, ℕ, zero, suc, ◌+◌, ◌<◌, ◌≤◌, ◌≤ℤ◌, pos, ◌+ℤ◌, List, [], ◌∷◌, length, take, get_or, fold, Option, Some, false, refl, sym, ap, subst, arith}
+use Rattle.std.proofs.Common.{◌≡◌, ◌∙◌, ℕ, zero, suc, ◌<◌, ◌≤◌, ◌≤ℤ◌, pos, ◌+ℤ◌, List, [], ◌∷◌, length, take, get_or, fold, Option, Some, false, refl, sym, ap, subst, arith}
 use Rattle.std.specs.Prelude.{replicate, slice_get, ⊤}
 use Rattle.std.specs.List.{All}
 use Rattle.std.proofs.Math.Seq.{take-length, take-suc}

@@ -1,7 +1,7 @@
 pub mod Lists
-pub mod Kinds
+pub mod Counts
 pub mod Small
-pub mod Providers
+pub mod Listing
 pub mod Made
 pub mod Past
 pub mod Keeping

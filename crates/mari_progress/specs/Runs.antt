@@ -6,7 +6,6 @@ use Rattle.mari_market.specs.declared.market.Order.{Order}
 use Rattle.mari_market.specs.Market.{IsValid}
 use Rattle.mari_market.specs.Optimal.{IsConsistent, IsFeasible}
 use Rattle.mari_market.specs.Sums.{int_sum}
-use Rattle.mari_lines.specs.declared.line.Heading.{Heading}
 use Rattle.mari_publish.specs.declared.publication.Block.{Block}
 use Rattle.mari_publish.specs.declared.publication.Block.TheVariants as block
 use Rattle.mari_publish.specs.declared.publication.FullBlock.{FullBlock}

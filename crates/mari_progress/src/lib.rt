@@ -6,14 +6,14 @@
 //! market and the scheduled prices of the next run are those behind them.
 #![tactic(auto)]
 
-mod heading;
 mod ledger;
 mod progress;
 mod providers;
+mod runs;
 #[cfg(test)]
 mod tests;
 
-pub use heading::{heading, run_count};
 pub use ledger::ledger_of;
 pub use progress::{Progress, Scheduled, Settled};
 pub use providers::providers_of;
+pub use runs::{heading, run_count};

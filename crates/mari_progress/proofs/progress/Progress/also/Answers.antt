@@ -1,4 +1,4 @@
-use Rattle.std.proofs.Common.{◌≡◌, ◌∙◌, ◌==◌, List, Option, Some, None, ap, length, refl}
+use Rattle.std.proofs.Common.{◌≡◌, ◌∙◌, List, Option, Some, None, ap, length}
 use Rattle.std.specs.Prelude.{IfSome, if◌then◌else◌}
 use Rattle.std.specs.List.{All}
 use Rattle.mari_units.specs.declared.numbers.Cents.{Cents}

@@ -221,7 +221,7 @@ module _ (books : Books) (parts : List Part) (old : DayCheck) (x : Part) (w : Wa
         stands = behind p.blocks p.operators p.providers w.clear.blocks x more (s.rest_is ∙ ap (λ (ps : List Part). ps ++ x ∷ more) w.clear.are);
       }
 
-  pub block-settles : (b : Block) → x ≡ part.Block b → (run number : ℕ) → run ≡ old.published + old.unpublished + 1 → FindsNumber (IsFreeIn books old.budget w.clear.blocks b) (Some number)
+  pub block-settles : (b : Block) → x ≡ part.Block b → (run number : ℕ) → run ≡ old.progress.published + old.unpublished + 1 → FindsNumber (IsFreeIn books old.budget w.clear.blocks b) (Some number)
       → IsSettled books (parts ++ x ∷ []) (Invalid run number)
   block-settles b is run number run_is found = λ p more e.
       let spot = placed p more e in

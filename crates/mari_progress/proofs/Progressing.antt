@@ -3,6 +3,7 @@ use Rattle.std.proofs.Common.{◌≡◌, ◌∙◌, ℕ, ◌+◌, ◌<◌, ◌�
 use Rattle.std.specs.Prelude.{IfSome}
 use Rattle.std.proofs.lemmas.List.{length-append, length-map, map-append}
 use Rattle.mari_units.specs.declared.numbers.Cents.{Cents}
+use Rattle.mari_demands.specs.declared.runs.Run.{Run}
 use Rattle.mari_market.specs.declared.activation.Activation.{Activation}
 use Rattle.mari_market.specs.Optimal.{IsFeasible}
 use Rattle.mari_market.specs.Price.{ArePrices}
@@ -92,33 +93,36 @@ module _ (books : Books) (ok : IsAccepted books) (blocks : List Block) (kept : P
       pub same-market : (run : ℕ) → run ≡ run_behind blocks → settled.made ≡ run_market_of books (before_of books blocks) run
       same-market run e = is.adds.market ∙ ap (run_market_of books (before_of books blocks)) (sym e)
 
-      -- the prices of a scheduled run are kept, in place of those of an earlier one
-      abbrev own-prices : Scheduled
-      own-prices = record { quarter = (run_at books (run_behind blocks)).quarter; prices = settled.prices }
+      -- what is kept of the prices, behind a run with this entry
+      abbrev kept-behind : Run → Option Scheduled
+      kept-behind entry = if entry.direct then kept.scheduled else Some (record { quarter = entry.quarter; prices = settled.prices })
 
-      keeps : (new : Option Scheduled) (direct : Bool) → (run_at books (run_behind blocks)).direct ≡ direct → new ≡ (if direct then kept.scheduled else Some own-prices) → KeepsPrices books (blocks ++ block.Published b ∷ []) new
+      keeps : (new : Option Scheduled) (direct : Bool) → (run_at books (run_behind blocks)).direct ≡ direct
+          → new ≡ (if direct then kept.scheduled else Some (record { quarter = (run_at books (run_behind blocks)).quarter; prices = settled.prices })) → KeepsPrices books (blocks ++ block.Published b ∷ []) new
       keeps new true e f = subst (KeepsPrices books (blocks ++ block.Published b ∷ [])) (sym f) (keeps-direct books ok blocks kept.scheduled progress.scheduled b last is.sound.heading e)
       keeps new false e f =
+          let own : Scheduled = record { quarter = (run_at books (run_behind blocks)).quarter; prices = settled.prices } in
           let consistent = is.sound.consistent in
-          subst (KeepsPrices books (blocks ++ block.Published b ∷ [])) (sym f) (keeps-scheduled books ok blocks kept.scheduled progress.scheduled b last is.sound.heading e own-prices refl is.adds.prices consistent.prices.one_each consistent.prices.capped)
+          subst (KeepsPrices books (blocks ++ block.Published b ∷ [])) (sym f) (keeps-scheduled books ok blocks kept.scheduled progress.scheduled b last is.sound.heading e own refl is.adds.prices consistent.prices.one_each consistent.prices.capped)
 
-      -- a published block, which is added to all that is kept
-      pub published-added : (after : Progress) → StandsFor books (before_of books blocks ++ block_of books (run_behind blocks) settled.made.bids settled.activation ∷ []) after.remaining
+      -- the block of a run, which is added to all that is kept
+      pub published-added : (run : ℕ) → run ≡ run_behind blocks → (after : Progress) → StandsFor books (before_of books blocks ++ block_of books run settled.made.bids settled.activation ∷ []) after.remaining
           → after.totals.operators ≡ map_along lines_together kept.totals.operators settled.ledger.operators → after.totals.providers ≡ map_along together kept.totals.providers settled.ledger.providers
-          → after.totals.rents ≡ map_along together kept.totals.rents settled.ledger.rents → after.scheduled ≡ (if (run_at books (run_behind blocks)).direct then kept.scheduled else Some own-prices)
-          → after.published ≡ kept.published + 1 → IsProgress books (blocks ++ block.Published b ∷ []) after
-      published-added after stands operators providers rents scheduled count =
+          → after.totals.rents ≡ map_along together kept.totals.rents settled.ledger.rents → after.scheduled ≡ kept-behind (run_at books run) → after.published ≡ kept.published + 1
+          → IsProgress books (blocks ++ block.Published b ∷ []) after
+      published-added run own after stands operators providers rents scheduled count =
           let p : Block = block.Published b in
-          let past : past_of books p ≡ block_of books (run_behind blocks) settled.made.bids settled.activation =
+          let past : past_of books p ≡ block_of books run settled.made.bids settled.activation =
           past-published books ok blocks progress.stands.first last b is.sound
           ∙ sym (ap (λ (m : RunMarket). block_of books (run_behind blocks) m.bids (activation_of b)) is.adds.market)
-          ∙ sym (ap (λ (a : Activation). block_of books (run_behind blocks) settled.made.bids a) is.adds.activation) in
+          ∙ sym (ap (λ (a : Activation). block_of books (run_behind blocks) settled.made.bids a) is.adds.activation)
+          ∙ sym (ap (λ r. block_of books r settled.made.bids settled.activation) own) in
           record {
             few = omega (arith, last, length-append blocks (p ∷ []));
             stands =
                 let P : List PastBlock → Type 0 = λ past. StandsFor books past after.remaining in
                 subst P (sym (map-append (past_of books) blocks (p ∷ []) ∙ ap (λ x. before_of books blocks ++ x ∷ []) past)) stands;
             totals = totals-more books blocks kept.totals progress.totals b settled is.adds after.totals operators providers rents;
-            scheduled = keeps after.scheduled (run_at books (run_behind blocks)).direct refl scheduled;
+            scheduled = keeps after.scheduled (run_at books (run_behind blocks)).direct refl (scheduled ∙ ap (λ r. kept-behind (run_at books r)) own);
             published = count ∙ ap (λ n. n + 1) progress.published ∙ sym (published-more blocks b);
           }

@@ -1,6 +1,6 @@
 //! What a day keeps between its blocks.
 
-ghost use Rattle.std.specs.Prelude.{◌≡◌, ◌≤◌, ◌++◌, ◌∷◌, [], List, None, IfOk, IfSome, if◌then◌else◌, length, option_map};
+ghost use Rattle.std.specs.Prelude.{◌≡◌, ◌≤◌, ◌++◌, ◌∷◌, [], List, None, Some, IfOk, IfSome, if◌then◌else◌, length, option_map};
 ghost use Rattle.mari_market.specs.Price.{ArePrices};
 ghost use Rattle.mari_publish.specs.declared.publication.Block.{Block as PrintedBlock};
 ghost use Rattle.mari_publish.specs.declared.publication.FullBlock.{FullBlock as PrintedRun};
@@ -106,11 +106,20 @@ impl Progress {
             .after(books, run, &settled.made, &settled.activation);
         self.totals.add(&settled.ledger);
         self.published += 1;
-        let entry = run_entry(books, run);
+        self.keep(run_entry(books, run), settled.prices);
+    }
+
+    /// Keeps the prices of a scheduled run, in place of those of an earlier one.
+    fn keep(&mut self, entry: Run, prices: Prices)
+        ensures scheduled { self.new.scheduled ≡ (if entry.direct then self.old.scheduled else Some (record { quarter = entry.quarter; prices = prices })) }
+        ensures remaining { self.new.remaining ≡ self.old.remaining }
+        ensures totals { self.new.totals ≡ self.old.totals }
+        ensures published { self.new.published ≡ self.old.published }
+    {
         if !entry.direct {
             self.scheduled = Some(Scheduled {
                 quarter: entry.quarter,
-                prices: settled.prices,
+                prices,
             });
         }
     }

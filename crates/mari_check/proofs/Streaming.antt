@@ -12,7 +12,7 @@ use Rattle.mari_lines.specs.declared.line.MoneyLine.{MoneyLine}
 use Rattle.mari_publish.specs.declared.publication.Part.{Part}
 use Rattle.mari_publish.specs.declared.publication.Part.TheVariants as part
 use Rattle.mari_publish.specs.declared.publication.Publication.{Publication}
-use Rattle.mari_publish.specs.Pieces.{ComeState, Gives, HasPart, IsCome, StandsFor, front_parts, parts_of, parts_so_far}
+use Rattle.mari_publish.specs.Pieces.{ComeState, Gives, HasPart, StandsFor, front_parts, parts_of, parts_so_far}
 use Rattle.mari_publish.proofs.Counts.{counted}
 use Rattle.mari_publish.proofs.Pieces.{counts_of}
 use Rattle.mari_lines.specs.declared.line.Line.{Line}

@@ -1,5 +1,5 @@
 -- Every day part keeps the offers, and its nets sum to 0.
-use Rattle.std.proofs.Common.{◌≡◌, ℕ, ◌≤ℤ◌, pos, List, [], ◌∷◌, map, take, Some, refl, arith}
+use Rattle.std.proofs.Common.{◌≡◌, ℕ, ◌≤ℤ◌, pos, List, [], ◌∷◌, map, take, Some, arith}
 use Rattle.std.specs.Prelude.{slice_get}
 use Rattle.std.specs.List.{All}
 use Rattle.std.proofs.lemmas.List.Elements.{All-cons, All-head, All-tail}

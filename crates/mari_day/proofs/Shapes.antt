@@ -1,5 +1,5 @@
 -- What was computed of a run has one entry for each zone, border, bid, operator and provider.
-use Rattle.std.proofs.Common.{◌∙◌, ◌≡◌, ◌≤◌, List, length, Option, ap, arith}
+use Rattle.std.proofs.Common.{◌∙◌, List, length, Option, ap, arith}
 use Rattle.std.proofs.lemmas.List.FromFn.{length-map-range_with_len}
 use Rattle.mari_units.specs.declared.numbers.Cents.{Cents}
 use Rattle.mari_market.specs.declared.clearing.Clearing.{Clearing}

@@ -17,7 +17,7 @@ use Rattle.mari_day.specs.declared.day.DayEnd.TheVariants as end
 use Rattle.mari_day.specs.Files.{Gap}
 use Rattle.mari_day.specs.Files.Gap.{NotHeld, OverLimit}
 use Rattle.mari_day.specs.Reading.{HasBooks, HasGap}
-use Rattle.mari_day.specs.Keeps.{net_sum}
+use Rattle.mari_progress.specs.Keeps.{net_sum}
 use Rattle.mari_day.proofs.Keeping.{balanced, keeps-offers, totals-balance}
 use Rattle.mari_words.specs.Asked.{Asked}
 use Rattle.mari_words.specs.Asked.Asked.{Clear, Check}

@@ -24,7 +24,7 @@ use Rattle.mari_remain.specs.Blocks.{PastBlock}
 use Rattle.mari_remain.specs.Lists.{bids_of_quarter, run_at}
 use Rattle.mari_remain.specs.RunMarket.{gated_left, market_at, taken_before}
 use Rattle.mari_remain.proofs.Places.{places-filter}
-use Rattle.mari_day.specs.Before.{before_of, market_behind, run_behind}
+use Rattle.mari_progress.specs.Behind.{before_of, market_behind, run_behind}
 use Rattle.mari_day.specs.Day.{IsDay}
 use Rattle.mari_day.specs.Reading.{HasBooks}
 use Rattle.mari_scenario.specs.Accepted.{AreAccepted}

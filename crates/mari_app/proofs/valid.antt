@@ -1,4 +1,2 @@
-pub mod Behind
-pub mod Totals
 pub mod Blocks
 pub mod Days

@@ -10,8 +10,9 @@ use Rattle.mari_publish.specs.Ranges.{HasText}
 use Rattle.mari_publish.specs.Texts.{text_of}
 use Rattle.mari_check.specs.Day.{IsValidPublication}
 use Rattle.mari_day.specs.Day.{HasEnough, IsDay}
-use Rattle.mari_day.specs.Keeps.{BlockSumsToZero, KeepsOffers, net_sum}
+use Rattle.mari_day.specs.Keeps.{BlockSumsToZero}
 use Rattle.mari_day.specs.Reading.{HasBooks}
+use Rattle.mari_progress.specs.Keeps.{KeepsOffers, net_sum}
 use Rattle.mari_words.specs.Asked.{Asked}
 use Rattle.mari_words.specs.Asked.Asked.{Clear}
 use Rattle.mari_app.specs.Printing.{then_took}

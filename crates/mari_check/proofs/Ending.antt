@@ -1,12 +1,10 @@
 -- Verdicts on a publication, by what was found.
 use Rattle.std.proofs.Common.{◌≡◌, ◌∙◌, ◌≤◌, ◌<◌, ◌+◌, ◌*◌, ◌^◌, ℕ, zero, suc, Bool, true, false, List, [], ◌∷◌, ◌++◌, Option, Some, None, get_or, length, map, take, refl, sym, ap, subst, arith, inl, inr}
-use Rattle.std.specs.Prelude.{◌↔◌, slice_get, slice_index_or}
+use Rattle.std.specs.Prelude.{◌↔◌, slice_get}
 use Rattle.std.specs.List.{All, range_with_len}
 use Rattle.std.proofs.lemmas.List.{length-take-le}
 use Rattle.std.proofs.lemmas.List.Elements.{All-weaker}
-use Rattle.std.proofs.lemmas.List.FromFn.{get_or-map-range_with_len, length-map-range_with_len}
 use Rattle.std.proofs.lemmas.Option.{slice_get-get_or}
-use Rattle.mari_units.specs.declared.numbers.Quarters.{Quarters}
 use Rattle.mari_lines.specs.declared.line.AmountLine.{AmountLine}
 use Rattle.mari_publish.specs.declared.publication.Block.{Block}
 use Rattle.mari_publish.specs.declared.publication.Block.TheVariants as block
@@ -16,35 +14,37 @@ use Rattle.mari_publish.specs.declared.publication.Publication.{Publication}
 use Rattle.mari_remain.specs.Accepted.{IsAccepted}
 use Rattle.mari_remain.specs.declared.books.Books.{Books}
 use Rattle.mari_settle.specs.Conditions.{LineIsWithin}
-use Rattle.mari_settle.specs.Lines.{nothing}
 use Rattle.mari_settle.specs.declared.ledger.Ledger.{Ledger}
 use Rattle.mari_settle.specs.declared.ledger.OperatorLine.{OperatorLine}
 use Rattle.mari_check.specs.declared.day.DayCheck.{DayCheck}
 use Rattle.mari_check.specs.declared.fault.Fault.{Fault}
 use Rattle.mari_check.specs.declared.fault.Fault.TheVariants as fault
-use Rattle.mari_check.specs.Behind.{run_behind}
-use Rattle.mari_check.specs.Checked.{AreTotals, FindsHead, IsChecked}
+use Rattle.mari_progress.specs.Behind.{run_behind}
+use Rattle.mari_progress.specs.Progress.{AreTotals}
+use Rattle.mari_progress.specs.Runs.{most_of_operator}
+use Rattle.mari_check.specs.Checked.{FindsHead, IsChecked}
 use Rattle.mari_check.specs.Day.{AreFree, FillsBudget, HasHead, HasTotals, IsFirstFault, IsFreeIn, IsNextHeading, IsValidPublication}
 use Rattle.mari_check.specs.Faults.{FindsNumber, IsLeast, NoneBelow}
-use Rattle.mari_check.specs.Money.{amount_line, money_lines_of}
-use Rattle.mari_check.specs.Told.{heading_of, name_at}
-use Rattle.mari_check.specs.Totals.{operator_totals, provider_total, provider_totals}
+use Rattle.mari_progress.specs.Money.{amount_line, money_lines_of}
+use Rattle.mari_progress.specs.Told.{heading_of}
+use Rattle.mari_progress.specs.Totals.{operator_totals, provider_totals}
 use Rattle.mari_check.proofs.Least.{least-is, none-first}
-use Rattle.mari_check.proofs.Progressing.{both-kinds}
+use Rattle.mari_progress.proofs.Counts.{both-kinds}
+use Rattle.mari_progress.proofs.Sums.{provider-lines}
 use Rattle.mari_check.proofs.Zips.{refuted}
 
 -- ---- an unpublished block
 
 module _ (books : Books) (ok : IsAccepted books) (blocks : List Block) (kept : DayCheck) (checked : IsChecked books blocks kept) where
-  pub few-runs : kept.published + kept.unpublished ≤ 1000
-  few-runs = omega (arith, checked.published, checked.unpublished, both-kinds blocks, checked.few, ok.runs.few)
+  pub few-runs : kept.progress.published + kept.unpublished ≤ 1000
+  few-runs = omega (arith, checked.progress.published, checked.unpublished, both-kinds blocks, checked.progress.few, ok.runs.few)
 
   pub few-others : kept.unpublished ≤ 1000
   few-others = omega (arith, few-runs)
 
-  module _ (run : ℕ) (is : run ≡ kept.published + kept.unpublished + 1) where
+  module _ (run : ℕ) (is : run ≡ kept.progress.published + kept.unpublished + 1) where
     pub behind-is : run ≡ run_behind blocks
-    behind-is = omega (arith, is, checked.published, checked.unpublished, both-kinds blocks)
+    behind-is = omega (arith, is, checked.progress.published, checked.unpublished, both-kinds blocks)
 
     -- there is no run behind the last
     pub none-next : (told : Heading) → length books.runs.runs < run → (false ≡ true) ↔ IsNextHeading books blocks told
@@ -96,22 +96,9 @@ module _ (books : Books) (budget : ℕ) (blocks : List Block) (told : Heading) (
 
 -- ---- the totals
 
-same-over : {X : Type 0} (f g : ℕ → X) (a n : ℕ) → ((k : ℕ) → a ≤ k → k < a + n → f k ≡ g k) → map f (range_with_len a n) ≡ map g (range_with_len a n)
-same-over f g a zero same = refl
-same-over f g a (suc n) same =
-    ap (λ x. x ∷ map f (range_with_len (a + 1) n)) (same a (omega arith) (omega arith)) ∙ ap (λ xs. g a ∷ xs) (same-over f g (a + 1) n (λ k from below. same k (omega (arith, from)) (omega (arith, below))))
-
 module _ (books : Books) (blocks : List Block) (ledger : Ledger) (sums : AreTotals books blocks ledger) where
   pub small-lines : length blocks ≤ 1000 → All (LineIsWithin (10 ^ 30)) ledger.operators
-  small-lines few = All-weaker (LineIsWithin (length blocks * 10 ^ 17)) (LineIsWithin (10 ^ 30)) (λ (x : OperatorLine) s. record { payment = omega (arith, few, s.payment); rent = omega (arith, few, s.rent) }) ledger.operators sums.within.operators
-
-  pub one-each-provider : length ledger.providers ≡ length books.bids.providers
-  one-each-provider = ap length sums.providers ∙ length-map-range_with_len _ 0 (length books.bids.providers)
-
-  own-lines : map (amount_line books.bids.providers ledger.providers) (range_with_len 0 (length books.bids.providers)) ≡ provider_totals books blocks
-  own-lines = same-over (amount_line books.bids.providers ledger.providers) (provider_total books blocks) 0 (length books.bids.providers)
-      (λ k from below. ap (λ (q : Quarters). record { name = name_at books.bids.providers k; amount = q })
-      (ap (λ (qs : List Quarters). slice_index_or qs k nothing) sums.providers ∙ get_or-map-range_with_len _ 0 (length books.bids.providers) k k nothing (omega (arith, below)) (omega arith)))
+  small-lines few = All-weaker (LineIsWithin (length blocks * most_of_operator)) (LineIsWithin (10 ^ 30)) (λ (x : OperatorLine) s. record { payment = omega (arith, few, s.payment); rent = omega (arith, few, s.rent) }) ledger.operators sums.operators_within
 
   module _ (p : Publication) (same : p.blocks ≡ blocks) (operators : List MoneyLine) (providers : List AmountLine) (first : p.operators ≡ operators) (second : p.providers ≡ providers)
       (lines : Bool) (test : (lines ≡ true) ↔ (operators ≡ money_lines_of books.zones.operators ledger.operators)) where
@@ -121,8 +108,8 @@ module _ (books : Books) (blocks : List Block) (ledger : Ledger) (sums : AreTota
     pub both-totals : lines ≡ true → (amounts : Bool) → (amounts ≡ true) ↔ (providers ≡ map (amount_line books.bids.providers ledger.providers) (range_with_len 0 (length books.bids.providers)))
         → (amounts ≡ true) ↔ HasTotals books p
     both-totals right amounts also = (
-      λ t. record { operators = first ∙ test.0 right ∙ sums.operators ∙ sym (ap (operator_totals books) same); providers = second ∙ also.0 t ∙ own-lines ∙ sym (ap (provider_totals books) same) },
-      λ h. also.1 (sym second ∙ h.providers ∙ ap (provider_totals books) same ∙ sym own-lines),
+      λ t. record { operators = first ∙ test.0 right ∙ sums.operators ∙ sym (ap (operator_totals books) same); providers = second ∙ also.0 t ∙ provider-lines books blocks ledger sums ∙ sym (ap (provider_totals books) same) },
+      λ h. also.1 (sym second ∙ h.providers ∙ ap (provider_totals books) same ∙ sym (provider-lines books blocks ledger sums)),
     )
 
 -- ---- the whole
@@ -149,7 +136,7 @@ module _ (books : Books) (p : Publication) (head : HasHead books p) (kept : DayC
 
   -- a block has a fault
   pub block-fault : (blocks : List Block) → p.blocks ≡ blocks → (i : ℕ) (x : Block) → i < length blocks → x ≡ get_or blocks i x → IsChecked books (take i blocks) kept → (run number : ℕ)
-      → run ≡ kept.published + kept.unpublished + 1 → FindsNumber (IsFreeIn books kept.budget (take i blocks) x) (Some number) → IsFirstFault books p run number
+      → run ≡ kept.progress.published + kept.unpublished + 1 → FindsNumber (IsFreeIn books kept.budget (take i blocks) x) (Some number) → IsFirstFault books p run number
   block-fault blocks same i x l at checked run number is found =
       let there : slice_get blocks i ≡ Some x = slice_get-get_or blocks i x l ∙ ap Some (sym at) in
       let F : ℕ → Type 0 = λ n. IsLeast (IsFreeIn books n (take i blocks) x) found.0 in
@@ -163,24 +150,24 @@ module _ (books : Books) (p : Publication) (head : HasHead books p) (kept : DayC
         before = subst A (sym same) (free-of (take i blocks) checked.free);
         least = found.0;
         is_least = subst L (sym same) (subst F (sym budget) found.1);
-        run_is = omega (arith, is, checked.published, checked.unpublished, both-kinds (take i blocks), length-take-le i blocks (omega (arith, l)));
+        run_is = omega (arith, is, checked.progress.published, checked.unpublished, both-kinds (take i blocks), length-take-le i blocks (omega (arith, l)));
         number_is = found.2;
       }))
 
   module _ (checked : IsChecked books p.blocks kept) where
-    pub is-missing : (run number : ℕ) → kept.published + kept.unpublished < length books.runs.runs → run ≡ kept.published + kept.unpublished + 1 → number ≡ 1 → IsFirstFault books p run number
+    pub is-missing : (run number : ℕ) → kept.progress.published + kept.unpublished < length books.runs.runs → run ≡ kept.progress.published + kept.unpublished + 1 → number ≡ 1 → IsFirstFault books p run number
     is-missing run number less is e =
         inr (inr (inl (record {
           head = head;
           blocks = free-of p.blocks checked.free;
-          missing = omega (arith, less, checked.published, checked.unpublished, both-kinds p.blocks);
-          run_is = omega (arith, is, checked.published, checked.unpublished, both-kinds p.blocks);
+          missing = omega (arith, less, checked.progress.published, checked.unpublished, both-kinds p.blocks);
+          run_is = omega (arith, is, checked.progress.published, checked.unpublished, both-kinds p.blocks);
           number_is = e;
         })))
 
-    module _ (runs : ℕ) (all : runs ≡ length books.runs.runs) (full : runs ≤ kept.published + kept.unpublished) where
+    module _ (runs : ℕ) (all : runs ≡ length books.runs.runs) (full : runs ≤ kept.progress.published + kept.unpublished) where
       every : length p.blocks ≡ length books.runs.runs
-      every = omega (arith, all, full, checked.few, checked.published, checked.unpublished, both-kinds p.blocks)
+      every = omega (arith, all, full, checked.progress.few, checked.progress.published, checked.unpublished, both-kinds p.blocks)
 
       pub other-totals : (number : ℕ) → (HasTotals books p → ⊥) → number ≡ 12 → IsFirstFault books p runs number
       other-totals number differ e = inr (inr (inr (record { head = head; blocks = free-of p.blocks checked.free; every = every; differ = differ; run_is = all; number_is = e })))

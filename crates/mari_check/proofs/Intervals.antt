@@ -18,7 +18,7 @@ use Rattle.mari_check.specs.declared.ends.End.TheVariants.{Greatest, Least}
 use Rattle.mari_check.specs.Ends.{AreEndPrices}
 use Rattle.mari_check.specs.Faults.{HasIntervals}
 use Rattle.mari_check.specs.Lines.{IsInOrder, IsNearestLine, IsSamePrice}
-use Rattle.mari_check.specs.Told.{activation_of, greatest_of, least_of, prices_of}
+use Rattle.mari_progress.specs.Told.{activation_of, greatest_of, least_of, prices_of}
 use Rattle.mari_check.proofs.Zips.{map-at, same-by}
 
 -- lists of prices are one where they have the same price for each zone

@@ -11,10 +11,7 @@ pub mod Intervals
 pub mod Providers
 pub mod Made
 pub mod Showing
-pub mod Past
 pub mod Keeping
-pub mod Scheduling
-pub mod Sums
 pub mod Progressing
 pub mod DayRuns
 pub mod Ending

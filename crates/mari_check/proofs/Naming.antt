@@ -13,9 +13,9 @@ use Rattle.mari_publish.specs.declared.publication.FullBlock.{FullBlock}
 use Rattle.mari_lines.specs.declared.line.ZoneLine.{ZoneLine}
 use Rattle.mari_remain.specs.declared.books.Books.{Books}
 use Rattle.mari_remain.specs.declared.market.RunMarket.{RunMarket}
-use Rattle.mari_check.specs.Faults.{NamesMarket}
+use Rattle.mari_progress.specs.Told.{NamesMarket}
 use Rattle.mari_check.specs.Lines.{NamesBid, NamesEnds, NamesZone}
-use Rattle.mari_check.specs.Told.{name_at}
+use Rattle.mari_progress.specs.Told.{name_at}
 use Rattle.mari_check.proofs.Zips.{map-itself, zip-from, zip-to}
 
 at-some : (names : List (List ℕ)) (place : ℕ) (own : List ℕ) → Some own ≡ slice_get names place → own ≡ name_at names place

@@ -1,6 +1,6 @@
 -- A page that is read piece by piece.
-use Rattle.std.proofs.Common.{◌≡◌, ◌≢◌, ◌∙◌, ◌+◌, ◌-◌, ◌<◌, ◌≤◌, ℕ, true, List, [], ◌∷◌, ◌++◌, length, take, drop, Option, Some, None, Result, Ok, Err, ◌⊎◌, inl, inr, refl, sym, ap, subst, arith, append_assoc, length-append}
-use Rattle.std.specs.Prelude.{IfErr, IsErrOf, is_some}
+use Rattle.std.proofs.Common.{◌≡◌, ◌≢◌, ◌∙◌, ◌+◌, ◌-◌, ◌<◌, ◌≤◌, ℕ, List, [], ◌∷◌, ◌++◌, length, take, drop, Option, Some, None, Result, Ok, Err, ◌⊎◌, inl, inr, refl, sym, ap, subst, arith, append_assoc, length-append}
+use Rattle.std.specs.Prelude.{IfErr, IsErrOf}
 use Rattle.std.specs.Option.{option_map}
 use Rattle.std.proofs.Math.Seq.{take-append-add, take-append_seam}
 use Rattle.std.proofs.lemmas.Bool.{cases_lt}
@@ -9,9 +9,9 @@ use Rattle.mari_io.specs.Outside.{AppendsExactly, Counts, IsOverlong, IsPiece, O
 use Rattle.mari_io.specs.declared.shelf.Fetch.{Fetch}
 use Rattle.mari_io.specs.declared.shelf.Fetch.TheVariants as fetch
 use Rattle.mari_io.specs.declared.shelf.TheConstants.{MOST_GIVEN, MOST_PIECE}
-use Rattle.mari_publish.specs.Faults.{IsOutcome, IsText, BadLineAt, BadOrderAt}
+use Rattle.mari_publish.specs.Faults.{IsOutcome, IsText}
 use Rattle.mari_publish.specs.Pieces.{ComeState, HasPart, IsEnd, IsNext, NoFault, StandsFor, found_none, with_part}
-use Rattle.mari_lines.specs.Spelling.{line_text, spelling}
+use Rattle.mari_lines.specs.Spelling.{spelling}
 use Rattle.mari_publish.specs.Texts.{text_of_lines}
 use Rattle.mari_publish.specs.declared.fault.TextFault.{TextFault}
 use Rattle.mari_publish.specs.declared.fault.TextFault.TheVariants as fault
@@ -25,7 +25,7 @@ use Rattle.mari_check.specs.declared.stream.Stream.{Stream}
 use Rattle.mari_check.specs.declared.stream.StreamFault.{StreamFault}
 use Rattle.mari_check.specs.declared.stream.StreamFault.TheVariants.{Fetch as OfFetch, Text as OfText, Memory as NoMemory}
 use Rattle.mari_check.specs.declared.verdict.Verdict.{Verdict}
-use Rattle.mari_check.specs.Streams.{EndTells, FaultStops, FaultTells, IsAllRead, IsFound, IsLineFault, IsRead, IsStreamFetch, IsTextFault, IsToldFault, IsTooLong, IsWrappedMemory, LineTells, SameAsRead, StopsAtFault, StreamTells, fault_of_fetch, fault_of_text}
+use Rattle.mari_check.specs.Streams.{EndTells, FaultStops, FaultTells, IsAllRead, IsFound, IsLineFault, IsRead, IsStreamFetch, IsTextFault, IsToldFault, IsWrappedMemory, LineTells, SameAsRead, StopsAtFault, StreamTells, fault_of_fetch, fault_of_text}
 use Rattle.mari_check.specs.Streams.IsToldFault.{OfPage as of-page, OfGiven as of-given}
 use Rattle.mari_check.specs.Verdicts.{IsVerdict}
 

@@ -1,50 +1,30 @@
--- Providers of bids, and the ledger that a block tells.
-use Rattle.std.proofs.Common.{◌≡◌, ℕ, ◌<◌, ◌==◌, Bool, true, false, List, [], ◌∷◌, ◌++◌, length, map, fold, cond, Option, refl, sym, ap, ◌∙◌}
+-- The ledger that a block tells.
+use Rattle.std.proofs.Common.{◌≡◌, ◌∙◌, ℕ, pos, Bool, true, List, [], length, map, Option, refl, sym, ap}
 use Rattle.std.specs.Prelude.{◌↔◌}
-use Rattle.std.specs.List.{All, AllZip, list_any}
-use Rattle.std.proofs.lemmas.List.Elements.{All-head, All-map, All-nil, All-push, All-tail}
-use Rattle.mari_units.specs.declared.numbers.Cents.{Cents}
-use Rattle.mari_units.specs.declared.numbers.Quarters.{Quarters}
-use Rattle.mari_bids.specs.declared.bids.Bid.{Bid}
-use Rattle.mari_market.specs.declared.activation.Activation.{Activation}
-use Rattle.mari_lines.specs.declared.line.BorderLine.{BorderLine}
-use Rattle.mari_publish.specs.declared.publication.FullBlock.{FullBlock}
-use Rattle.mari_remain.specs.Lists.{bid_at}
-use Rattle.mari_remain.specs.declared.books.Books.{Books}
-use Rattle.mari_remain.specs.declared.market.RunMarket.{RunMarket}
-use Rattle.mari_settle.specs.declared.ledger.Ledger.{Ledger}
-use Rattle.mari_settle.specs.Ledger.{operator_lines, provider_amounts, rent_of, rents_of, scheduled_or}
-use Rattle.mari_check.specs.Lines.{TellsRent}
-use Rattle.mari_check.specs.Money.{HasLedger, TellsLedger, amount_line, amounts_of, money_lines_of, providers_among, with_number}
-use Rattle.mari_check.specs.Told.{activation_of, prices_of}
-use Rattle.mari_check.specs.Checked.{IsRunOf}
-use Rattle.mari_check.specs.Markets.{IsMarketOf}
-use Rattle.mari_check.proofs.Zips.{along-long, map-itself, zip-from, zip-to}
+use Rattle.std.specs.List.{All, AllZip}
 use Rattle.std.proofs.lemmas.List.FromFn.{length-map-range_with_len}
 use Rattle.std.proofs.lemmas.Slice.Zip.{AllZip-long}
+use Rattle.mari_units.specs.declared.numbers.Cents.{Cents}
+use Rattle.mari_units.specs.declared.numbers.Quarters.{Quarters}
+use Rattle.mari_market.specs.declared.activation.Activation.{Activation}
 use Rattle.mari_market.specs.declared.activation.Prices.{Prices}
 use Rattle.mari_market.specs.declared.market.Border.{Border}
 use Rattle.mari_market.specs.Optimal.{IsConsistent}
-use Rattle.mari_settle.specs.Conditions.{HasSmallNumbers}
+use Rattle.mari_market.specs.Sums.{int_sum}
+use Rattle.mari_lines.specs.declared.line.BorderLine.{BorderLine}
+use Rattle.mari_publish.specs.declared.publication.FullBlock.{FullBlock}
+use Rattle.mari_remain.specs.declared.books.Books.{Books}
+use Rattle.mari_remain.specs.declared.market.RunMarket.{RunMarket}
+use Rattle.mari_settle.specs.declared.ledger.Ledger.{Ledger}
+use Rattle.mari_settle.specs.Conditions.{HasSmallNumbers, IsWithin, LineIsWithin}
+use Rattle.mari_settle.specs.Ledger.{net_of, operator_lines, provider_amounts, rent_of, rents_of, scheduled_or}
 use Rattle.mari_settle.specs.Lines.{map_along}
-
--- what holds of each number holds of each one once
-module _ (P : ℕ → Type 0) where
-  one-more : (ns : List ℕ) (n : ℕ) → All P ns → P n → All P (with_number ns n)
-  one-more ns n all here = elim (list_any (λ m. m == n) ns) as (λ b. All P (cond b ns (ns ++ n ∷ []))) [
-    | true ↦ all
-    | false ↦ All-push P ns n all here
-  ]
-
-  more : (ns xs : List ℕ) → All P ns → All P xs → All P (fold with_number ns xs)
-  more ns [] all rest = all
-  more ns (x ∷ xs) all rest = more (with_number ns x) xs (one-more ns x all (All-head P x xs rest)) (All-tail P x xs rest)
-
--- each is the provider of a bid
-pub providers-there : (bids : List Bid) (numbers : List ℕ) (n : ℕ) → All (λ (bid : Bid). bid.provider < n) bids → All (λ i. i < length bids) numbers → All (λ place. place < n) (providers_among bids numbers)
-providers-there bids numbers n all there =
-    more (λ place. place < n) [] (map (λ i. (bid_at bids i).provider) numbers) (All-nil (λ place. place < n))
-    (All-map (λ place. place < n) (λ i. (bid_at bids i).provider) numbers (λ k d below. all _ _ (there k d below)))
+use Rattle.mari_progress.specs.Money.{HasLedger, amount_line, amounts_of, money_lines_of, providers_among}
+use Rattle.mari_progress.specs.Runs.{IsMarketOf, IsRunOf, most_of_operator, most_of_provider}
+use Rattle.mari_progress.specs.Told.{activation_of, prices_of}
+use Rattle.mari_progress.proofs.Lists.{along-length}
+use Rattle.mari_check.specs.Lines.{TellsLedger, TellsRent}
+use Rattle.mari_check.proofs.Zips.{map-itself, zip-from, zip-to}
 
 pub rents-to : (lines : List BorderLine) (rents : List Quarters) → AllZip TellsRent lines rents → map (λ (l : BorderLine). l.rent) lines ≡ rents
 rents-to lines rents all = zip-to TellsRent (λ (l : BorderLine). l.rent) (λ (q : Quarters). q) (λ l q e. e) lines rents all ∙ map-itself rents
@@ -74,8 +54,9 @@ module _ (books : Books) (made : RunMarket) (also : Option (List Cents)) (b : Fu
 -- what the block adds to its day
 pub run-of : (books : Books) (made : RunMarket) (also : Option (List Cents)) (b : FullBlock) (ledger : Ledger) (a : Activation) (ps : Prices) → a ≡ activation_of b → ps.cents ≡ prices_of b → IsMarketOf books made → IsConsistent made.market (activation_of b) (prices_of b)
     → HasLedger books made also b → ledger.rents ≡ rents_of made.market a ps.cents → ledger.operators ≡ operator_lines books.zones made.market a ps.cents → ledger.providers ≡ provider_amounts books.bids made.bids a ps.cents (scheduled_or ps.cents also)
-    → HasSmallNumbers ledger → IsRunOf books made also b (record { made = made; activation = a; prices = ps; ledger = ledger })
-run-of books made also b ledger a ps told priced of agrees h rents operators providers small = record {
+    → HasSmallNumbers ledger → All (LineIsWithin most_of_operator) ledger.operators → All (IsWithin most_of_provider) ledger.providers → int_sum net_of ledger.operators ≡ pos 0
+    → IsRunOf books made also b (record { made = made; activation = a; prices = ps; ledger = ledger })
+run-of books made also b ledger a ps told priced of agrees h rents operators providers small operators_small providers_small nets = record {
   market = refl;
   activation = told;
   prices = priced;
@@ -83,7 +64,10 @@ run-of books made also b ledger a ps told priced of agrees h rents operators pro
   providers = providers ∙ same2 books made also b ledger [] a ps.cents told priced (λ x qs. provider_amounts books.bids made.bids x qs (scheduled_or qs also));
   one_each = ap length operators ∙ length-map-range_with_len _ 0 (length books.zones.operators);
   rents =
-      let many : length (map_along (λ (x : Border) f. record { 0 = rent_of (prices_of b) x f }) made.market.borders (activation_of b).flow) ≡ length made.market.borders = along-long _ made.market.borders (activation_of b).flow (AllZip-long _ made.market.borders (activation_of b).flow agrees.borders) in
+      let many : length (map_along (λ (x : Border) f. record { 0 = rent_of (prices_of b) x f }) made.market.borders (activation_of b).flow) ≡ length made.market.borders = along-length _ made.market.borders (activation_of b).flow (AllZip-long _ made.market.borders (activation_of b).flow agrees.borders) in
       ap length (rents ∙ same2 books made also b ledger [] a ps.cents told priced (rents_of made.market)) ∙ many ∙ of.borders;
   small = small;
+  operators_small = operators_small;
+  providers_small = providers_small;
+  nets = nets;
 }

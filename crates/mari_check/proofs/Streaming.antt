@@ -12,7 +12,7 @@ use Rattle.mari_lines.specs.declared.line.MoneyLine.{MoneyLine}
 use Rattle.mari_publish.specs.declared.publication.Part.{Part}
 use Rattle.mari_publish.specs.declared.publication.Part.TheVariants as part
 use Rattle.mari_publish.specs.declared.publication.Publication.{Publication}
-use Rattle.mari_publish.specs.Pieces.{ComeState, Gives, HasPart, IsCome, StandsFor, front_parts, parts_of, parts_so_far}
+use Rattle.mari_publish.specs.Pieces.{ComeState, Gives, HasPart, StandsFor, front_parts, parts_of, parts_so_far}
 use Rattle.mari_publish.proofs.Counts.{counted}
 use Rattle.mari_publish.proofs.Pieces.{counts_of}
 use Rattle.mari_lines.specs.declared.line.Line.{Line}
@@ -221,7 +221,7 @@ module _ (books : Books) (parts : List Part) (old : DayCheck) (x : Part) (w : Wa
         stands = behind p.blocks p.operators p.providers w.clear.blocks x more (s.rest_is ∙ ap (λ (ps : List Part). ps ++ x ∷ more) w.clear.are);
       }
 
-  pub block-settles : (b : Block) → x ≡ part.Block b → (run number : ℕ) → run ≡ old.published + old.unpublished + 1 → FindsNumber (IsFreeIn books old.budget w.clear.blocks b) (Some number)
+  pub block-settles : (b : Block) → x ≡ part.Block b → (run number : ℕ) → run ≡ old.progress.published + old.unpublished + 1 → FindsNumber (IsFreeIn books old.budget w.clear.blocks b) (Some number)
       → IsSettled books (parts ++ x ∷ []) (Invalid run number)
   block-settles b is run number run_is found = λ p more e.
       let spot = placed p more e in

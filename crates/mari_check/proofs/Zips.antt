@@ -67,11 +67,6 @@ along-at f (x ∷ xs) [] i c d e l m = absurd (omega arith)
 along-at f (x ∷ xs) (y ∷ ys) zero c d e l m = refl
 along-at f (x ∷ xs) (y ∷ ys) (suc i) c d e l m = along-at f xs ys i c d e (omega arith) (omega arith)
 
-pub along-long : {X Y Z : Type 0} (f : X → Y → Z) (xs : List X) (ys : List Y) → length ys ≡ length xs → length (map_along f xs ys) ≡ length xs
-along-long f [] ys e = refl
-along-long f (x ∷ xs) [] e = absurd (omega arith)
-along-long f (x ∷ xs) (y ∷ ys) e = ap suc (along-long f xs ys (omega arith))
-
 -- one more item of which something holds
 pub all-more : {X : Type 0} (P : X → Type 0) (xs : List X) (i : ℕ) (x : X) → i < length xs → x ≡ get_or xs i x → P x → All P (take i xs) → All P (take (i + 1) xs)
 all-more P [] i x l at p all = absurd (omega arith)

@@ -8,10 +8,10 @@ use Rattle.mari_publish.specs.declared.publication.Publication.{Publication}
 use Rattle.mari_remain.specs.declared.books.Books.{Books}
 use Rattle.mari_check.specs.declared.fault.Fault.{Fault}
 use Rattle.mari_check.specs.declared.fault.Fault.TheVariants as fault
-use Rattle.mari_check.specs.Behind.{also_behind, market_behind, run_behind}
+use Rattle.mari_progress.specs.Behind.{also_behind, market_behind, run_behind}
 use Rattle.mari_check.specs.Faults.{IsFreeOf, IsLeast, number_of}
-use Rattle.mari_check.specs.Told.{heading_of}
-use Rattle.mari_check.specs.Totals.{operator_totals, provider_totals}
+use Rattle.mari_progress.specs.Told.{heading_of}
+use Rattle.mari_progress.specs.Totals.{operator_totals, provider_totals}
 
 -- the first line states the date and the quarters of the books
 pub record HasHead (books : Books) (p : Publication) : Type 0 where

@@ -1,7 +1,6 @@
 -- The faults of a published block, and which of them is told. Read this file first.
-use Rattle.std.specs.Prelude.{◌≡◌, ◌<◌, ◌≤◌, ℕ, pos, List, Option, Some, None, IfSome, length, map, ⊤}
+use Rattle.std.specs.Prelude.{◌≡◌, ◌<◌, ◌≤◌, ℕ, pos, List, Option, Some, None, IfSome, length, ⊤}
 use Rattle.mari_units.specs.declared.numbers.Cents.{Cents}
-use Rattle.mari_zones.specs.declared.borders.BorderEnds.{BorderEnds}
 use Rattle.mari_market.specs.declared.certificate.TreeItem.{TreeItem}
 use Rattle.mari_market.specs.declared.market.Market.{Market}
 use Rattle.mari_market.specs.Activation.{gate_word_of, welfare_of}
@@ -9,17 +8,14 @@ use Rattle.mari_market.specs.Area.{AreAreas}
 use Rattle.mari_market.specs.Interval.{AreGreatestPrices, AreLeastPrices, ArePublishedPrices}
 use Rattle.mari_market.specs.Optimal.{IsConsistent, IsFeasible}
 use Rattle.mari_market.specs.Tree.{TreeHoldsFor}
-use Rattle.mari_lines.specs.declared.line.BidLine.{BidLine}
-use Rattle.mari_lines.specs.declared.line.BorderLine.{BorderLine}
 use Rattle.mari_publish.specs.declared.publication.FullBlock.{FullBlock}
-use Rattle.mari_lines.specs.declared.line.ZoneLine.{ZoneLine}
 use Rattle.mari_remain.specs.declared.books.Books.{Books}
 use Rattle.mari_remain.specs.declared.market.RunMarket.{RunMarket}
 use Rattle.mari_check.specs.declared.fault.Fault.{Fault}
 use Rattle.mari_check.specs.declared.fault.Fault.TheVariants as fault
-use Rattle.mari_check.specs.Money.{HasLedger}
+use Rattle.mari_progress.specs.Money.{HasLedger}
 use Rattle.mari_check.specs.Shapes.{HasShape}
-use Rattle.mari_check.specs.Told.{activation_of, areas_of, greatest_of, heading_of, least_of, name_at, prices_of}
+use Rattle.mari_progress.specs.Told.{NamesMarket, activation_of, areas_of, greatest_of, heading_of, least_of, prices_of}
 
 -- the faults in their order, from 1
 abbrev pub number_of : Fault → ℕ
@@ -35,14 +31,6 @@ number_of fault.Tree = 9
 number_of fault.Leaf = 10
 number_of fault.Ledger = 11
 number_of fault.Totals = 12
-
--- the lines name the zones, the borders and the bids of the run's market, in their order, and there is a line for each demand
-pub record NamesMarket (books : Books) (made : RunMarket) (b : FullBlock) : Type 0 where
-  pub zones : map (λ (l : ZoneLine). l.name) b.zones ≡ books.zones.zones
-  pub from : map (λ (l : BorderLine). l.from) b.borders ≡ map (λ (ends : BorderEnds). name_at books.zones.zones ends.from) books.borders.borders
-  pub to : map (λ (l : BorderLine). l.to) b.borders ≡ map (λ (ends : BorderEnds). name_at books.zones.zones ends.to) books.borders.borders
-  pub bids : map (λ (l : BidLine). l.id) b.bids ≡ map (name_at books.bids.ids) made.bids
-  pub demands : length b.demands ≡ made.demands
 
 -- each zone's least and greatest price are the least and the greatest of its consistent prices
 pub record HasIntervals (m : Market) (b : FullBlock) : Type 0 where

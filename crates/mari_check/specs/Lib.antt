@@ -1,17 +1,12 @@
 pub mod Faults
-pub mod Told
-pub mod Behind
-pub mod Money
 pub mod Lines
 pub mod Spread
 pub mod Ends
 pub mod Areas
 pub mod Shapes
 pub mod Markets
-pub mod Totals
 pub mod Day
 pub mod Shown
-pub mod Keeps
 pub mod Checked
 pub mod Verdicts
 pub mod Streams

@@ -1,5 +1,5 @@
 -- Lines of a block beside what they are to tell, one beside the other.
-use Rattle.std.specs.Prelude.{◌≡◌, ◌≤ℤ◌, ℕ, List}
+use Rattle.std.specs.Prelude.{◌≡◌, ◌≤ℤ◌, ℕ, List, map}
 use Rattle.mari_units.specs.declared.numbers.Cents.{Cents}
 use Rattle.mari_units.specs.declared.numbers.Quarters.{Quarters}
 use Rattle.mari_zones.specs.declared.borders.BorderEnds.{BorderEnds}
@@ -9,7 +9,11 @@ use Rattle.mari_lines.specs.declared.line.BidLine.{BidLine}
 use Rattle.mari_lines.specs.declared.line.BorderLine.{BorderLine}
 use Rattle.mari_lines.specs.declared.line.MoneyLine.{MoneyLine}
 use Rattle.mari_lines.specs.declared.line.ZoneLine.{ZoneLine}
-use Rattle.mari_check.specs.Told.{name_at}
+use Rattle.mari_publish.specs.declared.publication.FullBlock.{FullBlock}
+use Rattle.mari_remain.specs.declared.books.Books.{Books}
+use Rattle.mari_settle.specs.declared.ledger.Ledger.{Ledger}
+use Rattle.mari_progress.specs.Money.{amount_line, money_lines_of}
+use Rattle.mari_progress.specs.Told.{name_at, rents_told}
 
 -- the line of a zone has the name
 abbrev pub NamesZone : ZoneLine → List ℕ → Type 0
@@ -46,3 +50,9 @@ IsMoneyLine l own = l ≡ own
 
 abbrev pub IsAmountLine : AmountLine → AmountLine → Type 0
 IsAmountLine l own = l ≡ own
+
+-- a block tells this ledger, and of the providers those at these places
+pub record TellsLedger (books : Books) (b : FullBlock) (ledger : Ledger) (places : List ℕ) : Type 0 where
+  pub rents : rents_told b ≡ ledger.rents
+  pub operators : b.operators ≡ money_lines_of books.zones.operators ledger.operators
+  pub providers : b.providers ≡ map (amount_line books.bids.providers ledger.providers) places

@@ -1,5 +1,5 @@
 -- What a published block shows where it has none of the faults.
-use Rattle.std.specs.Prelude.{◌≡◌, ◌≤ℤ◌, ℤ, pos, List, Option}
+use Rattle.std.specs.Prelude.{◌≡◌, ◌≤ℤ◌, pos, List, Option}
 use Rattle.std.specs.List.{All}
 use Rattle.mari_units.specs.declared.numbers.Cents.{Cents}
 use Rattle.mari_units.specs.declared.numbers.Quarters.{Quarters}
@@ -7,17 +7,12 @@ use Rattle.mari_market.specs.Activation.{welfare_of}
 use Rattle.mari_market.specs.Area.{AreAreas}
 use Rattle.mari_market.specs.First.{IsFirst}
 use Rattle.mari_market.specs.Interval.{AreGreatestPrices, AreLeastPrices, ArePublishedPrices}
-use Rattle.mari_market.specs.Sums.{int_sum}
 use Rattle.mari_publish.specs.declared.publication.FullBlock.{FullBlock}
-use Rattle.mari_lines.specs.declared.line.MoneyLine.{MoneyLine}
 use Rattle.mari_remain.specs.declared.books.Books.{Books}
 use Rattle.mari_remain.specs.declared.market.RunMarket.{RunMarket}
-use Rattle.mari_check.specs.Money.{HasLedger}
-use Rattle.mari_check.specs.Told.{activation_of, areas_of, greatest_of, least_of, prices_of, rents_told}
-
--- the sum of the operators' nets
-abbrev pub net_sum : List MoneyLine → ℤ
-net_sum lines = int_sum (λ (l : MoneyLine). l.net.0) lines
+use Rattle.mari_progress.specs.Keeps.{net_sum}
+use Rattle.mari_progress.specs.Money.{HasLedger}
+use Rattle.mari_progress.specs.Told.{activation_of, areas_of, greatest_of, least_of, prices_of, rents_told}
 
 -- the first activation of the market, whoever printed it; its welfare; the prices, intervals and areas; the ledger, whose nets sum to 0
 -- and in which no rent is negative

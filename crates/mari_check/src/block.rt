@@ -11,18 +11,20 @@ ghost use Rattle.mari_check.specs.Faults.{Finds, FindsNumber, FindsUpTo, IsFreeO
 ghost use Rattle.mari_remain.specs.declared.books.Books.{Books as TheBooks};
 ghost use Rattle.mari_remain.specs.declared.market.RunMarket.{RunMarket as TheRunMarket};
 ghost use Rattle.mari_market.specs.Tree.{TreeHoldsFor};
-ghost use Rattle.mari_check.specs.Markets.{IsMadeFor, IsMarketOf};
-ghost use Rattle.mari_check.specs.Told.{activation_of as activation_told, prices_of as prices_told};
+ghost use Rattle.mari_check.specs.Markets.{IsMadeFor};
+ghost use Rattle.mari_progress.specs.Runs.{IsMarketOf};
+ghost use Rattle.mari_progress.specs.Told.{activation_of as activation_told, prices_of as prices_told};
 
 use crate::areas::are_areas;
 use crate::fault::Fault;
 use crate::ledger::has_ledger;
 use crate::names::names_market;
 use crate::pricing::{has_intervals, has_published_prices};
-use crate::told::{activation_of, areas_of, heading, prices_of};
+use crate::told::{activation_of, areas_of, prices_of};
 use crate::tree::has_shape;
 use mari_gates::gate_word;
 use mari_market::{Activation, Market, Prices, TreeItem};
+use mari_progress::heading;
 use mari_proofs::{TreeVerdict, check_tree};
 use mari_publish::FullBlock;
 use mari_remain::{Books, RunMarket};

@@ -1,51 +1,29 @@
 //! The check of a day, block by block.
 
-ghost use Rattle.std.specs.Prelude.{◌≡◌, ◌≤◌, ◌<◌, ◌+◌, ◌++◌, ◌∷◌, [], ℕ, List, None, Ok, Some, IfOk, IfSome, IsTrue, ◌↔◌, if◌then◌else◌, length, option_map};
+ghost use Rattle.std.specs.Prelude.{◌≡◌, ◌≤◌, ◌+◌, ◌++◌, ◌∷◌, [], List, None, Ok, IfOk, IfSome, IsTrue, ◌↔◌, length, option_map};
 ghost use Rattle.mari_market.specs.Optimal.{IsConsistent, IsFeasible};
 ghost use Rattle.mari_market.specs.Price.{ArePrices};
 ghost use Rattle.mari_remain.specs.Accepted.{IsAccepted};
-ghost use Rattle.mari_remain.specs.Blocks.{PastBlock};
-ghost use Rattle.mari_remain.specs.FirstBlocks.{StandsFor, block_of};
-ghost use Rattle.mari_remain.specs.Lists.{run_at};
-ghost use Rattle.mari_remain.specs.RunMarket.{run_market_of};
-ghost use Rattle.mari_settle.specs.Conditions.{LedgerIsWithin, LedgersAddUp};
-ghost use Rattle.mari_check.specs.Money.{HasLedger};
-ghost use Rattle.mari_settle.specs.Lines.{lines_together, map_along, together};
-ghost use Rattle.mari_check.specs.Behind.{run_behind};
-ghost use Rattle.mari_check.specs.Checked.{FindsHead, IsChecked, IsRunOf, IsTested, kept_for, published_block, unpublished_block};
+ghost use Rattle.mari_progress.specs.Behind.{run_behind};
+ghost use Rattle.mari_progress.specs.Money.{HasLedger};
+ghost use Rattle.mari_progress.specs.Progress.{published_block};
+ghost use Rattle.mari_progress.specs.Runs.{IsMarketOf, IsRunOf};
+ghost use Rattle.mari_progress.specs.Told.{activation_of as activation_told, prices_of as prices_told};
+ghost use Rattle.mari_check.specs.Checked.{FindsHead, IsChecked, IsTested, unpublished_block};
 ghost use Rattle.mari_check.specs.Day.{FillsBudget, HasHead, IsFreeIn, IsNextHeading};
 ghost use Rattle.mari_check.specs.Faults.{Finds, FindsNumber};
 ghost use Rattle.mari_publish.specs.declared.publication.Publication.{Publication as ThePublication};
 ghost use Rattle.mari_publish.specs.declared.publication.Block.{Block as PrintedBlock};
-ghost use Rattle.mari_check.specs.Markets.{IsMarketOf};
-ghost use Rattle.mari_check.specs.Told.{activation_of as activation_told, prices_of as prices_told};
 
 use crate::block::fault_in;
 use crate::fault::Fault;
-use crate::ledger::ledger_of;
-use crate::told::{activation_of, heading, prices_of};
-use mari_market::{Activation, Prices};
+use crate::told::{activation_of, prices_of};
+use mari_market::Prices;
+use mari_progress::{Progress, Settled, heading, ledger_of, run_count};
 use mari_publish::{Block, FullBlock, Heading};
-use mari_remain::{Books, Remaining, RunMarket, run_entry};
-use mari_settle::Ledger;
+use mari_remain::{Books, RunMarket};
 use mari_units::{Memory, Name};
 use std::alloc::Global;
-
-/// The prices of a published scheduled block, and its quarter.
-#[derive(Drop)]
-pub struct Scheduled {
-    pub quarter: u32,
-    pub prices: Prices,
-}
-
-/// What a published block adds to its day: its run's market, the activation, the prices and the ledger that it tells.
-#[derive(Drop)]
-pub struct Settled {
-    pub made: RunMarket,
-    pub activation: Activation,
-    pub prices: Prices,
-    pub ledger: Ledger,
-}
 
 /// The least fault of a published block, or what it adds where it has none.
 #[derive(Drop)]
@@ -54,15 +32,12 @@ pub enum Tested {
     Sound(Settled),
 }
 
-/// What the check of a day keeps between its blocks: the budget, what the blocks so far left, the sums of their
-/// ledgers, the prices of the last published scheduled one, and how many of them are published and how many aren't.
+/// What the check of a day keeps between its blocks: the budget, what a day keeps, and how many of the blocks so far
+/// aren't published.
 #[derive(Drop)]
 pub struct DayCheck {
     pub budget: u32,
-    pub remaining: Remaining,
-    pub totals: Ledger,
-    pub scheduled: Option<Scheduled>,
-    pub published: u32,
+    pub progress: Progress,
     pub unpublished: u32,
 }
 
@@ -100,14 +75,10 @@ impl DayCheck {
         requires accepted { IsAccepted books.now }
         ensures { IfOk result (IsChecked books.now []) }
     {
-        let remaining = Remaining::start(alloc, books)?;
-        let totals = Ledger::start(alloc, &books.zones, &books.borders, &books.bids)?;
+        let progress = Progress::start(alloc, books)?;
         Ok(DayCheck {
             budget: 0,
-            remaining,
-            totals,
-            scheduled: None,
-            published: 0,
+            progress,
             unpublished: 0,
         })
     }
@@ -127,59 +98,12 @@ impl DayCheck {
         None
     }
 
-    /// The scheduled prices of a run: a direct run has those of the scheduled block of its quarter, if it is
-    /// published.
-    fn also(&self, books: &Books, run: u32) -> Option<&Prices>
-        requires { 1 ≤ run }
-        ensures { option_map (λ scheduled. scheduled.now.cents) result
-            ≡ (if (run_at books.now run).direct then kept_for (run_at books.now run).quarter self.now.scheduled else None) }
-    {
-        let entry = run_entry(books, run);
-        match &self.scheduled {
-            Some(kept) if entry.direct && kept.quarter == entry.quarter => Some(&kept.prices),
-            _ => None,
-        }
-    }
-
-    /// Adds the published block of a run.
-    fn add(&mut self, books: &Books, run: u32, settled: Settled)
-        requires accepted { IsAccepted books.now }
-        requires last { run ≤ length books.now.runs.runs }
-        requires stands { (blocks : List PastBlock) × StandsFor books.now blocks self.old.remaining × (run ≡ length blocks + 1) × (settled.made ≡ run_market_of books.now blocks run) }
-        requires feasible { IsFeasible settled.made.market settled.activation }
-        requires ledgers { LedgersAddUp self.old.totals settled.ledger }
-        requires few { self.old.published < 1000 }
-        ensures remaining { (blocks : List PastBlock) → StandsFor books.now blocks self.old.remaining → run ≡ length blocks + 1 → settled.made ≡ run_market_of books.now blocks run
-            → StandsFor books.now (blocks ++ block_of books.now run settled.made.bids settled.activation ∷ []) self.new.remaining }
-        ensures operators { self.new.totals.operators ≡ map_along lines_together self.old.totals.operators settled.ledger.operators }
-        ensures providers { self.new.totals.providers ≡ map_along together self.old.totals.providers settled.ledger.providers }
-        ensures rents { self.new.totals.rents ≡ map_along together self.old.totals.rents settled.ledger.rents }
-        ensures within { (m n : ℕ) → LedgerIsWithin m self.old.totals → LedgerIsWithin n settled.ledger → LedgerIsWithin (m + n) self.new.totals }
-        ensures scheduled { self.new.scheduled
-            ≡ (if (run_at books.now run).direct then self.old.scheduled else Some (record { quarter = (run_at books.now run).quarter; prices = settled.prices })) }
-        ensures published { self.new.published ≡ self.old.published + 1 }
-        ensures unpublished { self.new.unpublished ≡ self.old.unpublished }
-        ensures budget { self.new.budget ≡ self.old.budget }
-    {
-        self.remaining
-            .after(books, run, &settled.made, &settled.activation);
-        self.totals.add(&settled.ledger);
-        self.published += 1;
-        let entry = run_entry(books, run);
-        if !entry.direct {
-            self.scheduled = Some(Scheduled {
-                quarter: entry.quarter,
-                prices: settled.prices,
-            });
-        }
-    }
-
     /// The run behind the blocks so far.
     pub(crate) fn next_run(&self) -> u32
-        requires { self.now.published + self.now.unpublished ≤ 1000 }
-        ensures { result ≡ self.now.published + self.now.unpublished + 1 }
+        requires { self.now.progress.published + self.now.unpublished ≤ 1000 }
+        ensures { result ≡ self.now.progress.published + self.now.unpublished + 1 }
     {
-        self.published + self.unpublished + 1
+        self.progress.published + self.unpublished + 1
     }
 
     /// Tests the published block of a run.
@@ -195,8 +119,8 @@ impl DayCheck {
         requires stands { (blocks : List PrintedBlock) × IsChecked books.now blocks self.now × (run ≡ run_behind blocks) }
         ensures { (blocks : List PrintedBlock) → IsChecked books.now blocks self.now → run ≡ run_behind blocks → IfOk result (IsTested books.now self.now.budget blocks block.now) }
     {
-        let made = self.remaining.market_of(alloc, books, run)?;
-        let also = self.also(books, run);
+        let made = self.progress.market_of(alloc, books, run)?;
+        let also = self.progress.also(books, run);
         let budget = Some(self.budget);
         match fault_in(alloc, books, run, &made, block, also, budget)? {
             Some(fault) => Ok(Tested::Faulty(fault)),
@@ -227,7 +151,7 @@ impl DayCheck {
         match self.test_published(alloc, books, run, block)? {
             Tested::Faulty(fault) => Ok(Some(fault)),
             Tested::Sound(settled) => {
-                self.add(books, run, settled);
+                self.progress.add(books, run, settled);
                 Ok(None)
             }
         }
@@ -311,14 +235,6 @@ impl DayCheck {
             None => Ok(None),
         }
     }
-}
-
-// How many runs the day has.
-pub(crate) fn run_count(books: &Books) -> u32
-    requires { length books.now.runs.runs ≤ 1000 }
-    ensures { result ≡ length books.now.runs.runs }
-{
-    books.runs.runs.as_slice().len() as u32
 }
 
 fn is_same(told: Heading, other: Heading) -> bool

@@ -7,12 +7,12 @@ ghost use Rattle.mari_publish.specs.declared.publication.FullBlock.{FullBlock as
 ghost use Rattle.mari_publish.specs.declared.publication.Publication.{Publication as ThePublication};
 ghost use Rattle.mari_remain.specs.Accepted.{IsAccepted};
 ghost use Rattle.mari_remain.specs.declared.market.RunMarket.{RunMarket as TheRunMarket};
-ghost use Rattle.mari_check.specs.Behind.{also_behind, market_behind};
+ghost use Rattle.mari_progress.specs.Behind.{also_behind, market_behind};
 ghost use Rattle.mari_check.specs.Day.{IsValidPublication};
 ghost use Rattle.mari_check.specs.Faults.{IsFreeOf};
-ghost use Rattle.mari_check.specs.Keeps.{KeepsOffers};
+ghost use Rattle.mari_progress.specs.Keeps.{KeepsOffers, net_sum};
 ghost use Rattle.mari_check.specs.Markets.{IsMadeFor};
-ghost use Rattle.mari_check.specs.Shown.{ShowsRun, net_sum};
+ghost use Rattle.mari_check.specs.Shown.{ShowsRun};
 ghost use Rattle.mari_check.specs.declared.fault.Fault.{Fault as TheFault};
 
 use mari_remain::Books;

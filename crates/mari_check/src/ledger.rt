@@ -1,67 +1,28 @@
 //! The money of a block.
 
-ghost use Rattle.std.specs.Prelude.{◌≡◌, ◌≤◌, ◌<◌, ◌==◌, ◌^◌, ◌*◌, ℕ, List, IfOk, IfSome, OnOk, IsTrue, ◌↔◌, length, map, option_map};
-ghost use Rattle.std.specs.List.{All, AllZip, list_any, range_with_len};
+ghost use Rattle.std.specs.Prelude.{◌≡◌, ◌<◌, ◌^◌, IfOk, IfSome, IsTrue, ◌↔◌, length, map, option_map};
+ghost use Rattle.std.specs.List.{All, AllZip, range_with_len};
 ghost use Rattle.mari_market.specs.Optimal.{IsConsistent, IsFeasible};
 ghost use Rattle.mari_market.specs.Price.{ArePrices};
 ghost use Rattle.mari_remain.specs.Accepted.{IsAccepted};
-ghost use Rattle.mari_remain.specs.Lists.{bid_at};
 ghost use Rattle.mari_settle.specs.Conditions.{HasSmallNumbers, LineIsWithin};
-ghost use Rattle.mari_settle.specs.Ledger.{net_of as net_in, operator_lines, provider_amounts, rents_of, scheduled_or};
-ghost use Rattle.mari_check.specs.Lines.{TellsRent};
-ghost use Rattle.mari_check.specs.Markets.{IsMarketOf};
-ghost use Rattle.mari_check.specs.Money.{HasLedger, TellsLedger, amount_line, money_line, money_lines_of, providers_among, with_number};
-ghost use Rattle.mari_check.specs.Told.{activation_of as activation_told, name_at, prices_of as prices_told};
+ghost use Rattle.mari_settle.specs.Ledger.{net_of as net_in};
+ghost use Rattle.mari_check.specs.Lines.{TellsLedger, TellsRent};
+ghost use Rattle.mari_progress.specs.Money.{HasLedger, amount_line, money_line, money_lines_of};
+ghost use Rattle.mari_progress.specs.Runs.{IsMarketOf};
+ghost use Rattle.mari_progress.specs.Told.{activation_of as activation_told, name_at, prices_of as prices_told};
 ghost use Rattle.mari_lines.specs.declared.line.AmountLine.{AmountLine as TheAmountLine};
 ghost use Rattle.mari_lines.specs.declared.line.MoneyLine.{MoneyLine as TheMoneyLine};
 
 use crate::names::is_named;
-use mari_bids::Bid;
 use mari_market::{Activation, Prices};
+use mari_progress::{ledger_of, providers_of};
 use mari_publish::{AmountLine, BorderLine, FullBlock, MoneyLine};
 use mari_remain::{Books, RunMarket};
 use mari_rows::NameIndex;
-use mari_settle::{Ledger, OperatorLine, settle_run};
+use mari_settle::{Ledger, OperatorLine};
 use mari_units::{Memory, Quarters};
 use std::alloc::Global;
-
-// The provider of the bid of a number.
-fn provider_of(bids: &[Bid], number: u32) -> u32
-    ensures { result ≡ (bid_at bids.now number).provider }
-{
-    match bids.get(number as usize) {
-        Some(bid) => bid.provider,
-        None => 0,
-    }
-}
-
-// Whether a place is listed.
-fn is_listed(places: &[u32], place: u32) -> bool
-    ensures { result ≡ list_any (λ m. m == place) places.now }
-{
-    places.contains(&place)
-}
-
-// Lists a place behind others, unless it is listed.
-fn list_once(places: &mut Vec<u32>, place: u32) -> Result<(), Memory>
-    ensures { OnOk result (places.new.items ≡ with_number places.old.items place) }
-{
-    if is_listed(places, place) {
-        return Ok(());
-    }
-    Ok(places.push(place)?)
-}
-
-// The providers of these bids, by the first bid of each.
-fn providers_of(alloc: Global, bids: &[Bid], numbers: &[u32]) -> Result<Vec<u32>, Memory>
-    ensures { IfOk result (λ places. places.items ≡ providers_among bids.now numbers.now) }
-{
-    let mut places = Vec::new(alloc);
-    for number in numbers {
-        list_once(&mut places, provider_of(bids, *number))?;
-    }
-    Ok(places)
-}
 
 fn is_rent(line: &BorderLine, rent: Quarters) -> bool
     ensures { IsTrue result ↔ TellsRent line.now rent }
@@ -170,39 +131,6 @@ pub(crate) fn are_total_lines(lines: &[AmountLine], names: &NameIndex, amounts: 
         }
     }
     true
-}
-
-// The ledger of a run's activation at these prices.
-pub(crate) fn ledger_of(
-    alloc: Global,
-    books: &Books,
-    made: &RunMarket,
-    prices: &Prices,
-    activation: &Activation,
-    also: Option<&Prices>,
-) -> Result<Ledger, Memory>
-    requires accepted { IsAccepted books.now }
-    requires made { IsMarketOf books.now made.now }
-    requires feasible { IsFeasible made.now.market activation.now }
-    requires consistent { IsConsistent made.now.market activation.now prices.now.cents }
-    requires also { IfSome also (λ scheduled. ArePrices made.now.market scheduled.now.cents) }
-    ensures operators { IfOk result (λ ledger. ledger.operators ≡ operator_lines books.now.zones made.now.market activation.now prices.now.cents) }
-    ensures providers { IfOk result (λ ledger. ledger.providers ≡ provider_amounts books.now.bids made.now.bids activation.now prices.now.cents (scheduled_or prices.now.cents (option_map (λ scheduled. scheduled.now.cents) also.entry))) }
-    ensures rents { IfOk result (λ ledger. ledger.rents ≡ rents_of made.now.market activation.now prices.now.cents) }
-    ensures small { IfOk result HasSmallNumbers }
-{
-    let mut ledger = Ledger::start(alloc, &books.zones, &books.borders, &books.bids)?;
-    settle_run(
-        &books.zones,
-        &books.bids,
-        &made.market,
-        made.bids.as_slice(),
-        prices,
-        activation,
-        &mut ledger,
-        also,
-    );
-    Ok(ledger)
 }
 
 /// Whether the block tells the ledger of its run.

@@ -9,7 +9,7 @@ ghost use Rattle.mari_market.specs.Optimal.{IsConsistent, IsFeasible};
 ghost use Rattle.mari_check.specs.Ends.{AreEndPrices};
 ghost use Rattle.mari_check.specs.Faults.{HasIntervals};
 ghost use Rattle.mari_check.specs.Lines.{IsInOrder, IsNearestLine, IsSamePrice};
-ghost use Rattle.mari_check.specs.Told.{activation_of as activation_told, prices_of as prices_told};
+ghost use Rattle.mari_progress.specs.Told.{activation_of as activation_told, prices_of as prices_told};
 
 use crate::ends::{End, ends_of};
 use crate::told::{greatest_of, least_of};

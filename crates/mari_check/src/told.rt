@@ -1,14 +1,13 @@
 //! What a block tells of its run.
 
-ghost use Rattle.std.specs.Prelude.{◌≡◌, ◌≤◌, IfOk, map};
+ghost use Rattle.std.specs.Prelude.{◌≡◌, IfOk, map};
 ghost use Rattle.mari_lines.specs.declared.line.BidLine.{BidLine as TheBidLine};
 ghost use Rattle.mari_lines.specs.declared.line.BorderLine.{BorderLine as TheBorderLine};
 ghost use Rattle.mari_lines.specs.declared.line.ZoneLine.{ZoneLine as TheZoneLine};
-ghost use Rattle.mari_check.specs.Told.{activation_of as activation_told, areas_of as areas_told, greatest_of as greatest_told, heading_of, least_of as least_told, prices_of as prices_told};
+ghost use Rattle.mari_progress.specs.Told.{activation_of as activation_told, areas_of as areas_told, greatest_of as greatest_told, least_of as least_told, prices_of as prices_told};
 
 use mari_market::{Activation, Prices};
-use mari_publish::{BidLine, BorderLine, FullBlock, Heading, ZoneLine};
-use mari_remain::{Books, run_entry};
+use mari_publish::{BidLine, BorderLine, FullBlock, ZoneLine};
 use mari_units::{Cents, Items, Memory};
 use std::alloc::Global;
 
@@ -84,17 +83,4 @@ pub(crate) fn areas_of(alloc: Global, block: &FullBlock) -> Result<Vec<u32>, Mem
     let zones = block.zones.as_slice();
     let areas: Vec<u32> = zones.iter().map(|line| line.area).collect(alloc)?;
     Ok(areas)
-}
-
-/// The heading that a run has.
-pub(crate) fn heading(books: &Books, run: u32) -> Heading
-    requires { 1 ≤ run }
-    ensures { result ≡ heading_of books.now run }
-{
-    let entry = run_entry(books, run);
-    Heading {
-        run,
-        quarter: entry.quarter,
-        direct: entry.direct,
-    }
 }

@@ -8,9 +8,10 @@ ghost use Rattle.mari_check.specs.Checked.{IsChecked};
 ghost use Rattle.mari_check.specs.Day.{HasHead, HasTotals};
 ghost use Rattle.mari_check.specs.Verdicts.{IsVerdict};
 
-use crate::day::{DayCheck, run_count};
+use crate::day::DayCheck;
 use crate::fault::Fault;
 use crate::ledger::{are_money_lines, are_total_lines};
+use mari_progress::run_count;
 use mari_publish::{AmountLine, Block, MoneyLine, Publication};
 use mari_remain::Books;
 use mari_units::Memory;
@@ -32,7 +33,7 @@ impl DayCheck {
         requires stands { (blocks : List PrintedBlock) × IsChecked books.now blocks self.now }
         ensures { (p : ThePublication) → IsChecked books.now p.blocks self.now → p.operators ≡ operators.now → p.providers ≡ providers.now → (IsTrue result ↔ HasTotals books.now p) }
     {
-        let totals = &self.totals;
+        let totals = &self.progress.totals;
         if !are_money_lines(
             operators,
             &books.zones.operators,
@@ -56,7 +57,7 @@ impl DayCheck {
             → IsVerdict books.now p result }
     {
         let runs = run_count(books);
-        if self.published + self.unpublished < runs {
+        if self.progress.published + self.unpublished < runs {
             return Verdict::Invalid {
                 run: self.next_run(),
                 fault: Fault::Heading.number(),
@@ -69,7 +70,7 @@ impl DayCheck {
             };
         }
         Verdict::Valid {
-            published: self.published,
+            published: self.progress.published,
             unpublished: self.unpublished,
         }
     }

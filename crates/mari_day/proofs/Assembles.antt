@@ -13,11 +13,13 @@ use Rattle.mari_remain.specs.declared.market.RunMarket.{RunMarket}
 use Rattle.mari_market.specs.declared.activation.Prices.{Prices}
 use Rattle.mari_settle.specs.Ledger.{operator_lines, provider_amounts, rents_of, scheduled_or}
 use Rattle.mari_day.specs.declared.block.Priced.{Priced}
-use Rattle.mari_day.specs.declared.block.Settled.{Settled}
-use Rattle.mari_day.specs.Assembled.{HasShapes, IsAssembled, IsPriced, IsRunOf}
-use Rattle.mari_day.specs.Money.{amount_line, money_lines_of, providers_among}
-use Rattle.mari_day.specs.Published.{amounts_of, IsPublishedOf}
-use Rattle.mari_day.specs.Run.{activation_of, clearing_of, prices_of}
+use Rattle.mari_progress.specs.declared.progress.Settled.{Settled}
+use Rattle.mari_progress.specs.Runs.{IsRunOf}
+use Rattle.mari_day.specs.Assembled.{HasShapes, IsAssembled, IsPriced}
+use Rattle.mari_progress.specs.Money.{amount_line, amounts_of, money_lines_of, providers_among}
+use Rattle.mari_progress.specs.Told.{activation_of, prices_of}
+use Rattle.mari_day.specs.Published.{IsPublishedOf}
+use Rattle.mari_day.specs.Run.{clearing_of}
 
 along2 : {A B : Type 0} (P : A → B → Type 0) (a a' : A) (b b' : B) → a' ≡ a → b' ≡ b → P a b → P a' b'
 along2 P a a' b b' e f h = let Q : _ → Type 0 = λ x. P x b' in subst Q (sym e) (subst (P a) (sym f) h)

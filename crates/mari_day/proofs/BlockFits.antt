@@ -26,14 +26,15 @@ use Rattle.mari_remain.specs.declared.books.Books.{Books}
 use Rattle.mari_settle.specs.Conditions.{IsSmall, IsSmallLine, IsWithin, LineIsWithin}
 use Rattle.mari_settle.specs.Lines.{map_along, nothing}
 use Rattle.mari_settle.specs.declared.ledger.OperatorLine.{OperatorLine}
-use Rattle.mari_day.specs.Assembled.{HasShapes, IsAssembled, IsMarketOf, IsPriced}
+use Rattle.mari_progress.specs.Runs.{IsMarketOf}
+use Rattle.mari_day.specs.Assembled.{HasShapes, IsAssembled, IsPriced}
 use Rattle.mari_day.specs.Dated.{IsDated}
-use Rattle.mari_day.specs.Money.{amount_line, money_line, providers_among}
-use Rattle.mari_day.specs.Run.{name_at}
+use Rattle.mari_progress.specs.Money.{amount_line, money_line, providers_among}
+use Rattle.mari_progress.specs.Told.{name_at}
 use Rattle.mari_day.specs.declared.block.Priced.{Priced}
 use Rattle.mari_day.proofs.AreaFits.{areas-fit, greatest-fit, least-fit}
-use Rattle.mari_day.proofs.Shapes.{along-length}
-use Rattle.mari_day.proofs.Money.{few-providers, providers-there}
+use Rattle.mari_progress.proofs.Lists.{along-length}
+use Rattle.mari_progress.proofs.Listing.{few-providers, providers-there}
 use Rattle.mari_day.proofs.TreeFits.{flows-fit, mws-fit, tree-fits}
 
 -- what holds of a list that another is mapped to

@@ -1,15 +1,14 @@
 -- The numbers of a day's text are in range.
-use Rattle.std.proofs.Common.{◌≡◌, ◌∙◌, ℕ, zero, suc, ◌+◌, ◌*◌, ◌-◌, ◌<◌, ◌≤◌, ◌==◌, Bool, true, false, List, [], ◌∷◌, length, map, filter, get_or, slice_index_or, cond, refl, ap, arith}
+use Rattle.std.proofs.Common.{◌≡◌, ℕ, zero, suc, ◌*◌, ◌-◌, ◌<◌, ◌≤◌, ◌==◌, Bool, true, false, List, [], ◌∷◌, length, map, filter, get_or, cond, refl, arith}
 use Rattle.std.specs.Prelude.{not, count_by}
 use Rattle.std.specs.List.{All, range_with_len}
 use Rattle.std.proofs.lemmas.Bool.Decides.{nat_tests}
 use Rattle.std.proofs.lemmas.List.{length-map}
-use Rattle.std.proofs.lemmas.List.FromFn.{get_or-map-range_with_len, get_or-range_with_len, length-map-range_with_len, length-range_with_len}
+use Rattle.std.proofs.lemmas.List.FromFn.{get_or-range_with_len, length-range_with_len}
 use Rattle.std.proofs.lemmas.List.Elements.{All-filter, All-map, All-weaker, filter_passes}
 use Rattle.std.proofs.lemmas.List.Filters.{length-filter_both}
 use Rattle.std.proofs.lemmas.List.Sums.{length-filter}
 use Rattle.mari_bids.specs.declared.bids.Bid.{Bid}
-use Rattle.mari_units.specs.declared.numbers.Quarters.{Quarters}
 use Rattle.mari_market.specs.Clearing.{ArePartsOfSearch, IsSpent}
 use Rattle.mari_market.specs.declared.clearing.PartItem.{PartItem}
 use Rattle.mari_market.specs.declared.clearing.Spent.{Spent}
@@ -23,16 +22,17 @@ use Rattle.mari_remain.specs.declared.books.Books.{Books}
 use Rattle.mari_settle.specs.Lines.{nothing}
 use Rattle.mari_settle.specs.declared.ledger.Ledger.{Ledger}
 use Rattle.mari_day.specs.Dated.{IsDated}
-use Rattle.mari_day.specs.Money.{amount_line, money_line, money_lines_of}
+use Rattle.mari_progress.specs.Money.{amount_line, money_line, money_lines_of}
 use Rattle.mari_settle.specs.Conditions.{LineIsWithin}
-use Rattle.mari_day.specs.Assembled.{most_of_operator}
-use Rattle.mari_day.specs.Progress.{AreTotals, IsProgress}
+use Rattle.mari_progress.specs.Progress.{AreTotals}
+use Rattle.mari_progress.specs.Runs.{most_of_operator}
+use Rattle.mari_day.specs.Progress.{IsDayProgress}
 use Rattle.mari_day.specs.Stepped.{IsDayOf}
-use Rattle.mari_day.specs.Totals.{provider_total, provider_totals}
-use Rattle.mari_day.specs.declared.progress.Progress.{Progress}
-use Rattle.mari_day.specs.Run.{heading_of, name_at}
+use Rattle.mari_progress.specs.declared.progress.Progress.{Progress}
+use Rattle.mari_progress.specs.Told.{heading_of}
 use Rattle.mari_day.proofs.BlockFits.{lines-fit, IsHalf}
-use Rattle.mari_day.proofs.Shapes.{along-length}
+use Rattle.mari_progress.proofs.Lists.{along-length}
+use Rattle.mari_progress.proofs.Sums.{one-each-provider, provider-lines}
 
 module _ {X : Type 0} where
   -- a filter of a list leaves no more that pass a test
@@ -70,12 +70,6 @@ module _ {X : Type 0} where
       other : (m n : ℕ) → not (m == suc n) ≡ true → m ≤ suc n → m ≤ n
       other m n differs l = grind (arith, nat_tests, differs, l)
 
--- two functions that agree over a range
-same-over : {X : Type 0} (f g : ℕ → X) (a n : ℕ) → ((k : ℕ) → a ≤ k → k < a + n → f k ≡ g k) → map f (range_with_len a n) ≡ map g (range_with_len a n)
-same-over f g a zero same = refl
-same-over f g a (suc n) same =
-    ap (λ x. x ∷ map f (range_with_len (a + 1) n)) (same a (omega arith) (omega arith)) ∙ ap (λ xs. g a ∷ xs) (same-over f g (a + 1) n (λ k from below. same k (omega (arith, from)) (omega (arith, below))))
-
 module _ (books : Books) (ok : IsAccepted books) (dated : IsDated books) where
   few-bids : length books.bids.bids ≤ 1638400
   few-bids =
@@ -100,9 +94,6 @@ module _ (books : Books) (ok : IsAccepted books) (dated : IsDated books) where
     pub sums-halves : All IsHalf ledger.operators
     sums-halves = All-weaker (LineIsWithin (length blocks * most_of_operator)) IsHalf (λ l s. record { payment = omega (arith, few, s.payment); rent = omega (arith, few, s.rent) }) ledger.operators sums.operators_within
 
-    pub one-each-provider : length ledger.providers ≡ length books.bids.providers
-    one-each-provider = ap length sums.providers ∙ length-map-range_with_len _ 0 (length books.bids.providers)
-
     pub operators-fit : Listed 1 64 IsMoneyLine (money_lines_of books.zones.operators ledger.operators)
     operators-fit =
         let many = along-length money_line books.zones.operators ledger.operators sums.one_each in
@@ -121,17 +112,11 @@ module _ (books : Books) (ok : IsAccepted books) (dated : IsDated books) where
           All-map IsAmountLine (amount_line books.bids.providers ledger.providers) places (λ k d l.
               let there : k < length books.bids.providers = omega (arith, all) in
               let place = get_or-range_with_len 0 (length books.bids.providers) k d there in
-              let within = sums.providers_within (get_or places k d) nothing (omega (arith, place, one-each-provider)) in
+              let within = sums.providers_within (get_or places k d) nothing (omega (arith, place, one-each-provider books blocks ledger sums)) in
               (ok.bids.providers (get_or places k d) [] (omega (arith, place)), omega (arith, few, within))),
         )
 
-    -- these are the totals of the blocks
-    pub are-totals : lines ≡ provider_totals books blocks
-    are-totals = same-over (amount_line books.bids.providers ledger.providers) (provider_total books blocks) 0 (length books.bids.providers)
-        (λ k from below. ap (λ (q : Quarters). record { name = name_at books.bids.providers k; amount = q })
-        (ap (λ (qs : List Quarters). slice_index_or qs k nothing) sums.providers ∙ get_or-map-range_with_len _ 0 (length books.bids.providers) k k nothing (omega (arith, below)) (omega arith)))
-
-  module _ (budget : ℕ) (node_range : Between 1 50000 budget) (blocks : List Block) (kept : Progress) (progress : IsProgress books budget blocks kept) (every : length blocks ≡ length books.runs.runs) where
+  module _ (budget : ℕ) (node_range : Between 1 50000 budget) (blocks : List Block) (kept : Progress) (progress : IsDayProgress books budget blocks kept) (every : length blocks ≡ length books.runs.runs) where
     pub few-blocks : length blocks ≤ 1000
     few-blocks = omega (arith, every, ok.runs.few)
 
@@ -143,7 +128,7 @@ module _ (books : Books) (ok : IsAccepted books) (dated : IsDated books) where
       budget = budget;
       blocks = blocks;
       operators = money_lines_of books.zones.operators kept.totals.operators;
-      providers = lines blocks kept.totals progress.totals few-blocks;
+      providers = lines blocks kept.totals progress.kept.totals few-blocks;
     }
 
     pub is-day : IsDayOf books budget blocks day-of-blocks
@@ -154,16 +139,16 @@ module _ (books : Books) (ok : IsAccepted books) (dated : IsDated books) where
         budget = refl;
         part = progress.part;
         every = every;
-        operators = progress.totals.operators;
-        providers = are-totals blocks kept.totals progress.totals few-blocks;
+        operators = progress.kept.totals.operators;
+        providers = provider-lines books blocks kept.totals progress.kept.totals;
       };
       in_range = record {
         head = (dated.date, dated.quarters, node_range);
         blocks = progress.fits;
         totals = record {
           runs = few-blocks;
-          operators = operators-fit blocks kept.totals progress.totals few-blocks;
-          providers = providers-fit blocks kept.totals progress.totals few-blocks;
+          operators = operators-fit blocks kept.totals progress.kept.totals few-blocks;
+          providers = providers-fit blocks kept.totals progress.kept.totals few-blocks;
         };
       };
       of_blocks = refl;

@@ -9,7 +9,7 @@ use Rattle.mari_publish.specs.declared.publication.Block.TheVariants as block
 use Rattle.mari_publish.specs.declared.publication.Publication.{Publication}
 use Rattle.mari_publish.specs.Lines.{unpublished_in}
 use Rattle.mari_remain.specs.declared.books.Books.{Books}
-use Rattle.mari_day.specs.Before.{market_behind}
+use Rattle.mari_progress.specs.Behind.{market_behind}
 use Rattle.mari_day.specs.Day.{HasEnough, IsDay, IsDayPart}
 use Rattle.mari_day.specs.Published.{IsBlock}
 

@@ -2,17 +2,12 @@ pub mod Fetched
 pub mod Folders
 pub mod Refusing
 pub mod Digits
-pub mod Money
 pub mod Assembles
 pub mod TreeFits
 pub mod AreaFits
 pub mod BlockFits
 pub mod Shapes
 pub mod Days
-pub mod Small
-pub mod Past
-pub mod Sums
-pub mod Scheduling
 pub mod Progressing
 pub mod Keeping
 pub mod Enough

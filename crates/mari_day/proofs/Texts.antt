@@ -19,9 +19,10 @@ use Rattle.mari_remain.specs.declared.books.Books.{Books}
 use Rattle.mari_day.specs.Day.{IsDayPart, part_text, then_took, WroteDay, WrotePart, WrotePrefix}
 use Rattle.mari_day.specs.Stepped.{BrokeOff, Closes, IsDayOf, Stepped, Stopped, WroteBlock, WroteFirst}
 use Rattle.mari_day.specs.declared.step.Stop.TheVariants.{Sink, NoMemory}
-use Rattle.mari_day.specs.declared.progress.Progress.{Progress}
+use Rattle.mari_progress.specs.declared.progress.Progress.{Progress}
 use Rattle.mari_day.specs.declared.step.Stop.{Stop}
-use Rattle.mari_day.proofs.Progressing.{both-kinds, part-more}
+use Rattle.mari_progress.proofs.Counts.{both-kinds}
+use Rattle.mari_day.proofs.Progressing.{part-more}
 
 -- the first line of a text
 abbrev first-line : List ℕ → ℕ → ℕ → List ℕ
@@ -132,13 +133,13 @@ module _ (books : Books) (budget : ℕ) where
         → (kept.published ≤ length books.runs.runs) × WroteDay books budget kept.published (length books.runs.runs - kept.published) before after
     day-written after u all (p, is, e) =
         let both = both-kinds first.blocks in
-        let few : published_in first.blocks ≡ kept.published = sym first.progress.published in (
+        let few : published_in first.blocks ≡ kept.published = sym first.progress.kept.published in (
           omega (arith, both, few, first.counted, all),
           record {
             publication = p;
             day = is.day;
             in_range = is.in_range;
-            counted = first.progress.published ∙ ap published_in (sym is.of_blocks);
+            counted = first.progress.kept.published ∙ ap published_in (sym is.of_blocks);
             others = omega (arith, both, few, first.counted, all) ∙ ap unpublished_in (sym is.of_blocks);
             taken = totals-taken after p is e;
           },

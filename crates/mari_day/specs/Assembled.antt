@@ -1,5 +1,5 @@
 -- A block put together from what was computed of a run.
-use Rattle.std.specs.Prelude.{◌≡◌, ◌<◌, ◌≤◌, ◌+◌, ◌*◌, ◌^◌, ℕ, pos, List, Option, length, map, take, drop}
+use Rattle.std.specs.Prelude.{◌≡◌, ◌≤◌, ℕ, pos, List, Option, length, map, take, drop}
 use Rattle.std.specs.List.{All}
 use Rattle.mari_units.specs.declared.numbers.Cents.{Cents}
 use Rattle.mari_zones.specs.declared.borders.BorderEnds.{BorderEnds}
@@ -12,17 +12,14 @@ use Rattle.mari_remain.specs.declared.books.Books.{Books}
 use Rattle.mari_remain.specs.declared.market.RunMarket.{RunMarket}
 use Rattle.mari_market.specs.Area.{AreAreas}
 use Rattle.mari_market.specs.Interval.{AreLeastPrices, AreGreatestPrices, ArePublishedPrices}
-use Rattle.mari_market.specs.declared.market.Order.{Order}
-use Rattle.mari_market.specs.Market.{IsValid}
 use Rattle.mari_market.specs.Optimal.{IsConsistent}
 use Rattle.mari_market.specs.Sums.{int_sum}
 use Rattle.mari_settle.specs.Ledger.{net_of, operator_lines, provider_amounts, rents_of, scheduled_or}
-use Rattle.mari_settle.specs.Conditions.{HasSmallNumbers, IsWithin, LineIsWithin, NameOrders}
+use Rattle.mari_settle.specs.Conditions.{HasSmallNumbers, IsWithin, LineIsWithin}
 use Rattle.mari_day.specs.declared.block.Priced.{Priced}
-use Rattle.mari_day.specs.declared.block.Settled.{Settled}
-use Rattle.mari_day.specs.Money.{amount_line, money_lines_of, providers_among}
-use Rattle.mari_day.specs.Published.{amounts_of}
-use Rattle.mari_day.specs.Run.{activation_of, heading_of, name_at, prices_of}
+use Rattle.mari_progress.specs.Money.{amount_line, money_lines_of, providers_among}
+use Rattle.mari_progress.specs.Runs.{most_of_operator, most_of_provider}
+use Rattle.mari_progress.specs.Told.{heading_of, name_at}
 
 -- the lines of zones
 pub record HasZoneLines (books : Books) (priced : Priced) (b : FullBlock) : Type 0 where
@@ -70,14 +67,6 @@ pub record HasShapes (books : Books) (numbers : List ℕ) (clearing : Clearing) 
   pub providers : length priced.ledger.providers ≡ length books.bids.providers
   pub small : HasSmallNumbers priced.ledger
 
--- how large a run's ledger is, so that those of a day can be added up: an operator's numbers within 2 * 10^15 quarter-cents of 0,
--- and a provider's within 4 * 10^15
-abbrev pub most_of_operator : ℕ
-most_of_operator = 2 * 10 ^ 15
-
-abbrev pub most_of_provider : ℕ
-most_of_provider = 4 * 10 ^ 15
-
 -- the prices, areas and ledger of a run's clearing, whose quarter has these scheduled prices, or none
 pub record IsPriced (books : Books) (made : RunMarket) (also : Option (List Cents)) (clearing : Clearing) (priced : Priced) : Type 0 where
   pub published : ArePublishedPrices made.market clearing.activation priced.pricing.published.cents
@@ -92,30 +81,3 @@ pub record IsPriced (books : Books) (made : RunMarket) (also : Option (List Cent
   pub operators_small : All (LineIsWithin most_of_operator) priced.ledger.operators
   pub providers_small : All (IsWithin most_of_provider) priced.ledger.providers
   pub nets : int_sum net_of priced.ledger.operators ≡ pos 0
-
--- a market of these books: it is valid, over their zones and borders; its first orders are those of bids that are there, of at most
--- 9,999 MW, and the others those of at most 512 demands
-pub record IsMarketOf (books : Books) (made : RunMarket) : Type 0 where
-  pub valid : IsValid made.market
-  pub zones : made.market.zones ≡ length books.zones.zones
-  pub borders : length made.market.borders ≡ length books.borders.borders
-  pub orders : length made.market.orders ≡ length made.bids + made.demands
-  pub there : All (λ number. number < length books.bids.bids) made.bids
-  pub few : length made.bids ≤ 4096
-  pub few_demands : made.demands ≤ 512
-  pub named : NameOrders books.bids.bids made.bids made.market.orders
-  pub small : All (λ (o : Order). o.greatest ≤ 9999) (take (length made.bids) made.market.orders)
-
--- what the block of a run adds to its day: the market, the activation and the prices that it tells, and its ledger, which is small
-pub record IsRunOf (books : Books) (made : RunMarket) (also : Option (List Cents)) (b : FullBlock) (settled : Settled) : Type 0 where
-  pub market : settled.made ≡ made
-  pub activation : settled.activation ≡ activation_of b
-  pub prices : settled.prices.cents ≡ prices_of b
-  pub operators : b.operators ≡ money_lines_of books.zones.operators settled.ledger.operators
-  pub providers : settled.ledger.providers ≡ amounts_of books made also b
-  pub one_each : length settled.ledger.operators ≡ length books.zones.operators
-  pub rents : length settled.ledger.rents ≡ length books.borders.borders
-  pub small : HasSmallNumbers settled.ledger
-  pub operators_small : All (LineIsWithin most_of_operator) settled.ledger.operators
-  pub providers_small : All (IsWithin most_of_provider) settled.ledger.providers
-  pub nets : int_sum net_of settled.ledger.operators ≡ pos 0

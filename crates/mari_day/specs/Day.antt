@@ -9,9 +9,9 @@ use Rattle.mari_publish.specs.Ranges.{HasText}
 use Rattle.mari_publish.specs.Texts.{block_text_of, head_text_of, text_of}
 use Rattle.mari_remain.specs.declared.books.Books.{Books}
 use Rattle.mari_market.specs.SearchTree.{HasSize}
-use Rattle.mari_day.specs.Before.{market_behind}
+use Rattle.mari_progress.specs.Behind.{market_behind}
 use Rattle.mari_day.specs.Published.{IsBlock}
-use Rattle.mari_day.specs.Totals.{operator_totals, provider_totals}
+use Rattle.mari_progress.specs.Totals.{operator_totals, provider_totals}
 use Rattle.mari_day.specs.declared.text.PrintedDay.{PrintedDay}
 use Rattle.mari_day.specs.declared.day.DayEnd.{DayEnd}
 use Rattle.mari_day.specs.declared.day.DayEnd.TheVariants.{Done, WriteFault, Memory}

@@ -5,10 +5,7 @@ pub mod CalendarPage
 pub mod Fetching
 pub mod Reading
 pub mod Run
-pub mod Before
-pub mod Money
 pub mod Published
-pub mod Totals
 pub mod Day
 pub mod Dated
 pub mod Assembled

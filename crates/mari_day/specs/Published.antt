@@ -1,34 +1,21 @@
 -- A published run: what its block promises, and what an unpublished one says.
-use Rattle.std.specs.Prelude.{◌≡◌, ℕ, List, Option, length, map}
+use Rattle.std.specs.Prelude.{◌≡◌, ℕ, List, Option, length}
 use Rattle.mari_units.specs.declared.numbers.Cents.{Cents}
-use Rattle.mari_units.specs.declared.numbers.Quarters.{Quarters}
 use Rattle.mari_market.specs.declared.clearing.Spent.{Spent}
 use Rattle.mari_market.specs.Clearing.{IsClearing, IsSpent}
+use Rattle.mari_lines.specs.declared.line.Heading.{Heading}
 use Rattle.mari_publish.specs.declared.publication.Block.{Block}
 use Rattle.mari_publish.specs.declared.publication.Block.TheVariants as block
-use Rattle.mari_lines.specs.declared.line.BorderLine.{BorderLine}
 use Rattle.mari_publish.specs.declared.publication.FullBlock.{FullBlock}
-use Rattle.mari_lines.specs.declared.line.Heading.{Heading}
 use Rattle.mari_remain.specs.declared.books.Books.{Books}
 use Rattle.mari_remain.specs.declared.market.RunMarket.{RunMarket}
-use Rattle.mari_settle.specs.Ledger.{operator_lines, provider_amounts, rents_of, scheduled_or}
-use Rattle.mari_day.specs.Before.{also_behind, market_behind, run_behind}
-use Rattle.mari_day.specs.Run.{activation_of, clearing_of, heading_of, prices_of, HasPrices, NamesMarket}
-use Rattle.mari_day.specs.Money.{amount_line, money_lines_of, providers_among}
+use Rattle.mari_progress.specs.Behind.{also_behind, market_behind, run_behind}
+use Rattle.mari_progress.specs.Money.{HasLedger}
+use Rattle.mari_progress.specs.Told.{NamesMarket, heading_of}
+use Rattle.mari_day.specs.Run.{HasPrices, clearing_of}
 
--- the amounts that all providers get in the run, whose quarter has these scheduled prices, or none
-abbrev pub amounts_of : Books → RunMarket → (also : Option (List Cents)) → FullBlock → List Quarters
-amounts_of books made also b = provider_amounts books.bids made.bids (activation_of b) (prices_of b) (scheduled_or (prices_of b) also)
-
--- the ledger of the run: the rent of each border, a line for each operator, and one for each provider that has a bid in the
--- run's market
-pub record HasLedger (books : Books) (made : RunMarket) (also : Option (List Cents)) (b : FullBlock) : Type 0 where
-  pub rents : map (λ (l : BorderLine). l.rent) b.borders ≡ rents_of made.market (activation_of b) (prices_of b)
-  pub operators : b.operators ≡ money_lines_of books.zones.operators (operator_lines books.zones made.market (activation_of b) (prices_of b))
-  pub providers : b.providers ≡ map (amount_line books.bids.providers (amounts_of books made also b)) (providers_among books.bids.bids made.bids)
-
--- a published run of a market: a first activation of its market, with its welfare and a certificate tree of at most so many items
--- that holds at it for its gate word; the prices, intervals and areas; and the ledger
+-- a published run of a market: a first activation of its market, with its welfare and a certificate tree of at most so
+-- many items that holds at it for its gate word; the prices, intervals and areas; and the ledger
 pub record IsPublishedOf (books : Books) (budget run : ℕ) (made : RunMarket) (also : Option (List Cents)) (b : FullBlock) : Type 0 where
   pub heading : b.heading ≡ heading_of books run
   pub names : NamesMarket books made b

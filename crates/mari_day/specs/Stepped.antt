@@ -5,17 +5,17 @@ use Rattle.mari_publish.specs.declared.publication.Publication.{Publication}
 use Rattle.mari_publish.specs.Ranges.{HasText}
 use Rattle.mari_publish.specs.Texts.{block_text_of, total_text_of}
 use Rattle.mari_remain.specs.declared.books.Books.{Books}
-use Rattle.mari_day.specs.declared.progress.Progress.{Progress}
+use Rattle.mari_progress.specs.declared.progress.Progress.{Progress}
 use Rattle.mari_day.specs.declared.step.Stop.{Stop}
 use Rattle.mari_day.specs.declared.step.Stop.TheVariants.{Sink, NoMemory}
 use Rattle.mari_day.specs.Day.{part_text, then_took, IsDay, WrotePart, WrotePrefix}
 use Rattle.mari_day.specs.Published.{IsBlock}
-use Rattle.mari_day.specs.Progress.{IsProgress}
+use Rattle.mari_day.specs.Progress.{IsDayProgress}
 
 -- the block of the run behind these blocks was written, and what is kept stands for one block more
 pub record WroteBlock (books : Books) (budget : ℕ) (blocks : List Block) (kept : Progress) (before after : Option (List ℕ)) : Type 0 where
   pub block : Block
-  pub progress : IsProgress books budget (blocks ++ block ∷ []) kept
+  pub progress : IsDayProgress books budget (blocks ++ block ∷ []) kept
   pub taken : after ≡ then_took before (block_text_of block)
 
 -- a first part of it was written
@@ -34,7 +34,7 @@ Stepped books budget blocks kept before after (Err NoMemory) = after ≡ before
 -- the head and the blocks of the first so many runs were written, and what is kept stands for them
 pub record WroteFirst (books : Books) (budget count : ℕ) (kept : Progress) (before after : Option (List ℕ)) : Type 0 where
   pub blocks : List Block
-  pub progress : IsProgress books budget blocks kept
+  pub progress : IsDayProgress books budget blocks kept
   pub counted : length blocks ≡ count
   pub taken : after ≡ then_took before (part_text books budget blocks)
 

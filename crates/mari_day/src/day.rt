@@ -8,16 +8,16 @@ ghost use Rattle.mari_publish.specs.declared.publication.Block.{Block as Printed
 ghost use Rattle.mari_remain.specs.Accepted.{IsAccepted};
 ghost use Rattle.mari_day.specs.Dated.{IsDated};
 ghost use Rattle.mari_day.specs.Day.{EndsDay, WroteDay};
-ghost use Rattle.mari_day.specs.Money.{amount_line};
-ghost use Rattle.mari_day.specs.Progress.{IsProgress};
+ghost use Rattle.mari_progress.specs.Money.{amount_line};
+ghost use Rattle.mari_day.specs.Progress.{IsDayProgress};
 ghost use Rattle.mari_day.specs.Stepped.{Closes, Stopped, WroteFirst};
 
 use crate::lines::{amount_lines, money_lines};
-use crate::progress::Progress;
 use crate::step::{Stop, step, write_text};
 use mari_bids::BidBook;
 use mari_io::Sink;
 use mari_market::Clearer;
+use mari_progress::{Progress, run_count};
 use mari_publish::{AmountLine, closing_text, head_text};
 use mari_remain::Books;
 use mari_units::{Memory, Quarters};
@@ -74,14 +74,6 @@ fn begin<K: Sink>(alloc: Global, books: &Books, budget: u32, sink: &mut K) -> Re
     }
 }
 
-/// How many runs the day has.
-fn run_count(books: &Books) -> u32
-    requires { length books.now.runs.runs ≤ 1000 }
-    ensures { result ≡ length books.now.runs.runs }
-{
-    books.runs.runs.as_slice().len() as u32
-}
-
 /// Writes the head and the blocks of all runs, in order.
 fn write_runs<C: Clearer, K: Sink>(
     alloc: Global,
@@ -118,8 +110,8 @@ fn close<K: Sink>(
 ) -> Result<(), Stop>
     requires accepted { IsAccepted books.now }
     requires dated { IsDated books.now }
-    requires stands { (budget : ℕ) × (blocks : List PrintedBlock) × IsProgress books.now budget blocks progress.now × (length blocks ≡ length books.now.runs.runs) }
-    ensures closes { (budget : ℕ) (blocks : List PrintedBlock) → (1 ≤ budget) × (budget ≤ 50000) → IsProgress books.now budget blocks progress.now
+    requires stands { (budget : ℕ) × (blocks : List PrintedBlock) × IsDayProgress books.now budget blocks progress.now × (length blocks ≡ length books.now.runs.runs) }
+    ensures closes { (budget : ℕ) (blocks : List PrintedBlock) → (1 ≤ budget) × (budget ≤ 50000) → IsDayProgress books.now budget blocks progress.now
         → length blocks ≡ length books.now.runs.runs → Closes books.now budget blocks (K.taken sink.old) (K.taken sink.new) result }
     ensures cause { Counts (result ≡ Err Stop.Sink) (K.faults sink.old) (K.faults sink.new) }
 {

@@ -6,8 +6,9 @@ ghost use Rattle.mari_publish.specs.declared.publication.Block.{Block as Printed
 ghost use Rattle.mari_publish.specs.declared.publication.Publication.{Publication as ThePublication};
 ghost use Rattle.mari_remain.specs.Accepted.{IsAccepted};
 ghost use Rattle.mari_day.specs.Day.{HasEnough, IsDay, IsDayPart};
-ghost use Rattle.mari_day.specs.Keeps.{BlockSumsToZero, KeepsOffers, net_sum};
-ghost use Rattle.mari_day.specs.Totals.{operator_totals};
+ghost use Rattle.mari_progress.specs.Keeps.{KeepsOffers, net_sum};
+ghost use Rattle.mari_progress.specs.Totals.{operator_totals};
+ghost use Rattle.mari_day.specs.Keeps.{BlockSumsToZero};
 
 use mari_remain::Books;
 

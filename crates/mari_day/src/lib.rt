@@ -11,7 +11,6 @@ mod files;
 mod laws;
 mod lines;
 mod pages;
-mod progress;
 mod reading;
 mod step;
 #[cfg(test)]

@@ -5,17 +5,17 @@ ghost use Rattle.mari_io.specs.Outside.{Counts};
 ghost use Rattle.mari_publish.specs.Ranges.{BlockFits};
 ghost use Rattle.mari_publish.specs.declared.publication.Block.{Block as PrintedBlock};
 ghost use Rattle.mari_remain.specs.Accepted.{IsAccepted};
-ghost use Rattle.mari_day.specs.Before.{run_behind};
+ghost use Rattle.mari_progress.specs.Behind.{run_behind};
 ghost use Rattle.mari_day.specs.Dated.{IsDated};
 ghost use Rattle.mari_day.specs.Day.{then_took};
-ghost use Rattle.mari_day.specs.Progress.{IsProgress, IsRunDone};
+ghost use Rattle.mari_day.specs.Progress.{IsDayProgress, IsRunDone};
 ghost use Rattle.mari_day.specs.Stepped.{Stepped};
 
-use crate::block::{Settled, heading, published_run};
-use crate::progress::Progress;
+use crate::block::published_run;
 use crate::writing::write_all;
 use mari_io::Sink;
 use mari_market::{Cleared, Clearer};
+use mari_progress::{Progress, Settled, heading};
 use mari_publish::{Block, block_text};
 use mari_remain::Books;
 use mari_units::Memory;
@@ -58,14 +58,14 @@ fn run_done<C: Clearer>(
     requires accepted { IsAccepted books.now }
     requires dated { IsDated books.now }
     requires last { run ≤ length books.now.runs.runs }
-    requires stands { (blocks : List PrintedBlock) × IsProgress books.now budget blocks progress.now × (run ≡ run_behind blocks) }
+    requires stands { (blocks : List PrintedBlock) × IsDayProgress books.now budget blocks progress.now × (run ≡ run_behind blocks) }
     requires budget { (1 ≤ budget) × (budget ≤ 50000) }
     requires ready { C.ready clearer.old }
-    ensures done { (blocks : List PrintedBlock) → IsProgress books.now budget blocks progress.now → run ≡ run_behind blocks → IfOk result (IsRunDone books.now budget blocks) }
+    ensures done { (blocks : List PrintedBlock) → IsDayProgress books.now budget blocks progress.now → run ≡ run_behind blocks → IfOk result (IsRunDone books.now budget blocks) }
     ensures fits { IfOk result (λ done. BlockFits done.block) }
     ensures ready { C.ready clearer.new }
 {
-    let made = progress.remaining.market_of(alloc, books, run)?;
+    let made = progress.market_of(alloc, books, run)?;
     match clearer.clear(alloc, &made.market, budget) {
         Cleared::Published(clearing) => {
             let also = progress.also(books, run);
@@ -112,10 +112,10 @@ pub fn step<C: Clearer, K: Sink>(
     requires accepted { IsAccepted books.now }
     requires dated { IsDated books.now }
     requires last { run ≤ length books.now.runs.runs }
-    requires stands { (blocks : List PrintedBlock) × IsProgress books.now budget blocks progress.old × (run ≡ run_behind blocks) }
+    requires stands { (blocks : List PrintedBlock) × IsDayProgress books.now budget blocks progress.old × (run ≡ run_behind blocks) }
     requires budget { (1 ≤ budget) × (budget ≤ 50000) }
     requires ready { C.ready clearer.old }
-    ensures stepped { (blocks : List PrintedBlock) → IsProgress books.now budget blocks progress.old → run ≡ run_behind blocks
+    ensures stepped { (blocks : List PrintedBlock) → IsDayProgress books.now budget blocks progress.old → run ≡ run_behind blocks
         → Stepped books.now budget blocks progress.new (K.taken sink.old) (K.taken sink.new) result }
     ensures cause { Counts (result ≡ Err Stop.Sink) (K.faults sink.old) (K.faults sink.new) }
     ensures ready { C.ready clearer.new }

@@ -1,5 +1,5 @@
 -- A block of a day has none of the faults.
-use Rattle.std.proofs.Common.{ℕ, ◌≤◌, Bool, true, false, pos, List, [], ◌∷◌, ◌++◌, length, Option, Some, subst, arith}
+use Rattle.std.proofs.Common.{ℕ, ◌≤◌, Bool, true, false, pos, List, [], ◌∷◌, ◌++◌, length, Option, Some, arith}
 use Rattle.std.specs.Prelude.{if◌then◌else◌}
 use Rattle.mari_units.specs.declared.numbers.Cents.{Cents}
 use Rattle.mari_market.specs.Activation.{gate_word_of}
@@ -12,22 +12,20 @@ use Rattle.mari_publish.specs.declared.publication.FullBlock.{FullBlock}
 use Rattle.mari_lines.specs.declared.line.Heading.{Heading}
 use Rattle.mari_remain.specs.declared.books.Books.{Books}
 use Rattle.mari_remain.specs.declared.market.RunMarket.{RunMarket}
-use Rattle.mari_day.specs.Before.{also_behind, market_behind, run_behind}
-use Rattle.mari_day.specs.Published.{IsBlock, IsPublishedOf, IsPublishedRun, IsUnpublishedRun}
-use Rattle.mari_day.specs.Run.{activation_of}
+use Rattle.mari_progress.specs.Behind.{market_behind, run_behind}
+use Rattle.mari_day.specs.Published.{IsBlock, IsPublishedOf, IsUnpublishedRun}
+use Rattle.mari_progress.specs.Told.{activation_of}
 use Rattle.mari_check.specs.declared.fault.Fault.{Fault}
 use Rattle.mari_check.specs.declared.fault.Fault.TheVariants as fault
-use Rattle.mari_check.specs.Behind as check
-use Rattle.mari_check.specs.Day.{FillsBudget, IsFreeIn, IsPublishedFree, IsUnpublishedFree}
+use Rattle.mari_check.specs.Day.{FillsBudget, IsFreeIn, IsUnpublishedFree}
 use Rattle.mari_check.specs.Faults.{IsFreeOf}
 use Rattle.mari_check.specs.Shapes.{AnyLeaf}
-use Rattle.mari_app.proofs.valid.Behind.{also-same, market-same}
 
 -- a published block of a market
 free-of : (books : Books) (budget run : ℕ) (made : RunMarket) (also : Option (List Cents)) (b : FullBlock) → IsPublishedOf books budget run made also b
     → (any : Fault) → IsFreeOf books run made also (Some budget) b any
 free-of books budget run made also b is fault.Heading = is.heading
-free-of books budget run made also b is fault.Lines = record { zones = is.names.zones; from = is.names.from; to = is.names.to; bids = is.names.bids; demands = is.names.demands }
+free-of books budget run made also b is fault.Lines = is.names
 free-of books budget run made also b is fault.Infeasible = is.clearing.first.optimal.admissible.feasible
 free-of books budget run made also b is fault.Welfare = is.clearing.welfare
 free-of books budget run made also b is fault.Inconsistent = is.prices.consistent
@@ -39,16 +37,8 @@ free-of books budget run made also b is fault.Tree = record {
   within_budget = is.clearing.within_budget;
 }
 free-of books budget run made also b is fault.Leaf = is.clearing.tree
-free-of books budget run made also b is fault.Ledger = record { rents = is.ledger.rents; operators = is.ledger.operators; providers = is.ledger.providers }
+free-of books budget run made also b is fault.Ledger = is.ledger
 free-of books budget run made also b is fault.Totals = tt
-
--- one behind other blocks, whose market is the same for the check
-published-free : (books : Books) (budget : ℕ) (before : List Block) (b : FullBlock) → IsPublishedRun books budget before b → (any : Fault) → IsPublishedFree books budget before b any
-published-free books budget before b is any =
-    let run = run_behind before in
-    let Made : RunMarket → Type 0 = λ made. IsFreeOf books run made (also_behind books before) (Some budget) b any in
-    let Also : Option (List Cents) → Type 0 = λ also. IsFreeOf books run (check.market_behind books before) also (Some budget) b any in
-    subst Also (also-same books before) (subst Made (market-same books before) (free-of books budget run (market_behind books before) (also_behind books before) b is any))
 
 -- a word has at most two children
 two-children : (word : List Bool) (may : Bool) → length ((word ++ false ∷ []) ∷ (if may then (word ++ true ∷ []) ∷ [] else [])) ≤ 2
@@ -79,5 +69,5 @@ unpublished-free books budget before heading count there is fault.Ledger = tt
 unpublished-free books budget before heading count there is fault.Totals = tt
 
 pub block-is-free : (books : Books) (budget : ℕ) (before : List Block) (b : Block) → run_behind before ≤ length books.runs.runs → IsBlock books budget before b → (any : Fault) → IsFreeIn books budget before b any
-block-is-free books budget before (block.Published b) there is any = (there, published-free books budget before b is any)
+block-is-free books budget before (block.Published b) there is any = (there, free-of books budget _ _ _ b is any)
 block-is-free books budget before (block.Unpublished heading count) there is any = unpublished-free books budget before heading count there is any

@@ -1,14 +1,13 @@
 -- A day has none of the faults.
-use Rattle.std.proofs.Common.{◌∙◌, ℕ, ◌≤◌, length, take, sym, subst, arith}
+use Rattle.std.proofs.Common.{ℕ, ◌≤◌, length, take, sym, subst, arith}
 use Rattle.std.proofs.lemmas.List.{length-take-le}
 use Rattle.std.proofs.lemmas.Option.{slice_get_within}
 use Rattle.mari_publish.specs.declared.publication.Publication.{Publication}
 use Rattle.mari_remain.specs.declared.books.Books.{Books}
-use Rattle.mari_day.specs.Before.{run_behind}
+use Rattle.mari_progress.specs.Behind.{run_behind}
 use Rattle.mari_day.specs.Day.{IsDay}
 use Rattle.mari_check.specs.Day.{AreFree, IsValidPublication}
 use Rattle.mari_app.proofs.valid.Blocks.{block-is-free}
-use Rattle.mari_app.proofs.valid.Totals.{operators-same, providers-same}
 
 pub day-is-valid : (books : Books) (nodes : ℕ) (p : Publication) → IsDay books nodes p → IsValidPublication books p
 day-is-valid books nodes p is = record {
@@ -18,5 +17,5 @@ day-is-valid books nodes p is = record {
       let before : run_behind (take k p.blocks) ≤ length books.runs.runs = omega (arith, within, is.part.few, length-take-le k p.blocks (omega (arith, within))) in
       block-is-free books nodes (take k p.blocks) b before (is.part.each k b there) any);
   every = is.every;
-  totals = record { operators = is.operators ∙ operators-same books p.blocks; providers = is.providers ∙ providers-same books p.blocks };
+  totals = record { operators = is.operators; providers = is.providers };
 }

@@ -4,7 +4,7 @@ use Rattle.mari_market.specs.declared.activation.Activation.{Activation}
 use Rattle.mari_market.specs.declared.market.Market.{Market}
 use Rattle.mari_market.specs.Optimal.{IsConsistent, IsFeasible}
 use Rattle.mari_check.specs.declared.fault.Fault.TheVariants as fault
-use Rattle.mari_check.specs.Told.{prices_of}
+use Rattle.mari_progress.specs.Told.{prices_of}
 use Rattle.mari_check.proofs.Least.{found-none, found-some, last-fails, last-passes}
 use Rattle.mari_check.proofs.block.fault_in.Goals as goal
 

@@ -1,7 +1,7 @@
 use Rattle.std.proofs.Common.{map, take}
 use Rattle.std.specs.List.{AllZip}
 use Rattle.mari_check.specs.Lines.{IsAmountLine}
-use Rattle.mari_check.specs.Money.{amount_line}
+use Rattle.mari_progress.specs.Money.{amount_line}
 use Rattle.mari_check.proofs.ledger.are_amount_lines.Given as goal
 
 abbrev pub invariant-loop-order : goal.invariant-loop-order

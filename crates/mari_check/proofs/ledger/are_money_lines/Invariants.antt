@@ -1,7 +1,7 @@
 use Rattle.std.proofs.Common.{take}
 use Rattle.std.specs.List.{AllZip}
 use Rattle.mari_check.specs.Lines.{IsMoneyLine}
-use Rattle.mari_check.specs.Money.{money_lines_of}
+use Rattle.mari_progress.specs.Money.{money_lines_of}
 use Rattle.mari_check.proofs.ledger.are_money_lines.Given as goal
 
 abbrev pub invariant-loop-operator : goal.invariant-loop-operator

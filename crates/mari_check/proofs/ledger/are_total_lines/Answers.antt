@@ -5,7 +5,7 @@ use Rattle.mari_welfare.proofs.Lists.{passes_all}
 use Rattle.mari_settle.specs.Lines.{nothing}
 use Rattle.mari_lines.specs.declared.line.AmountLine.{AmountLine}
 use Rattle.mari_check.specs.Lines.{IsAmountLine}
-use Rattle.mari_check.specs.Money.{amount_line}
+use Rattle.mari_progress.specs.Money.{amount_line}
 use Rattle.mari_check.proofs.Zips.{fail, map-at, pass, same-by, uneven}
 use Rattle.mari_check.proofs.ledger.are_total_lines.Goals as goal
 

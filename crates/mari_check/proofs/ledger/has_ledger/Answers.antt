@@ -1,6 +1,7 @@
 use Rattle.std.proofs.Common.{◌∙◌, ap, length}
 use Rattle.std.proofs.lemmas.List.FromFn.{length-map-range_with_len}
-use Rattle.mari_check.proofs.Providers.{providers-there, tells-is}
+use Rattle.mari_progress.proofs.Listing.{providers-there}
+use Rattle.mari_check.proofs.Providers.{tells-is}
 use Rattle.mari_check.proofs.ledger.has_ledger.Goals as goal
 
 pub tells_ledger-requires-clause-operators : goal.tells_ledger-requires-clause-operators

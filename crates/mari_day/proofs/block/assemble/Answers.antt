@@ -1,6 +1,6 @@
 use Rattle.std.proofs.Common.{◌∙◌, refl}
 use Rattle.mari_day.proofs.BlockFits.{halves}
-use Rattle.mari_day.proofs.Money.{providers-there}
+use Rattle.mari_progress.proofs.Listing.{providers-there}
 use Rattle.mari_day.proofs.block.assemble.Goals as goal
 
 pub bid_lines-requires-clause-there : goal.bid_lines-requires-clause-there

@@ -1,5 +1,5 @@
 use Rattle.std.proofs.Common.{◌≡◌, ◌++◌, drop, map}
-use Rattle.mari_day.specs.Money.{amount_line}
+use Rattle.mari_progress.specs.Money.{amount_line}
 use Rattle.mari_day.proofs.lines.amount_lines.Given as goal
 
 -- with the lines of those still to come it is the whole

@@ -1,5 +1,5 @@
 use Rattle.std.proofs.Common.{◌≡◌, ◌++◌, drop}
-use Rattle.mari_day.specs.Money.{money_lines_of}
+use Rattle.mari_progress.specs.Money.{money_lines_of}
 use Rattle.mari_day.proofs.lines.money_lines.Given as goal
 
 -- with the lines of those still to come it is the whole

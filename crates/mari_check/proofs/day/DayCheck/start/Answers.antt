@@ -1,14 +1,5 @@
-use Rattle.std.proofs.Common.{refl, arith}
-use Rattle.mari_check.proofs.Sums.{no-totals}
+use Rattle.std.proofs.Common.{refl}
 use Rattle.mari_check.proofs.day.DayCheck.start.Goals as goal
 
 pub returns : goal.returns
-returns c = record {
-  few = omega arith;
-  free = λ k b e. cc e;
-  stands = c.in_ok-remaining.ensures;
-  totals = no-totals c.args.books.now _ c.in_ok-totals.ensures.operators c.in_ok-totals.ensures.providers c.in_ok-totals.ensures.rents c.in_ok-totals.ensures.within;
-  scheduled = record { same = λ r l there. refl; priced = tt };
-  published = refl;
-  unpublished = refl;
-}
+returns c = record { free = λ k b e. cc e; progress = c.in_ok-progress.ensures; unpublished = refl }

@@ -1,4 +1,3 @@
-use Rattle.std.proofs.Common.{sym}
 use Rattle.mari_check.proofs.Piecewise.{end-fault, end-verdict}
 use Rattle.mari_check.proofs.Streaming.{all-found}
 use Rattle.mari_check.proofs.stream.Stream.end.Goals as goal

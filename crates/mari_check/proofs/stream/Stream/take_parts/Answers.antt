@@ -1,6 +1,5 @@
-use Rattle.std.proofs.Common.{◌≡◌, ◌++◌, [], ◌∷◌, List, Ok, sym, subst}
+use Rattle.std.proofs.Common.{◌++◌, [], ◌∷◌, sym, subst}
 use Rattle.mari_publish.specs.Pieces.{ReaderState, StandsFor}
-use Rattle.mari_publish.specs.declared.publication.Part.{Part}
 use Rattle.mari_check.proofs.Piecewise.{all-read, next-fault, next-part, next-stands}
 use Rattle.mari_check.proofs.Streaming.{comes, fewer-left}
 use Rattle.mari_check.proofs.stream.Stream.take_parts.Goals as goal

@@ -1,0 +1,10 @@
+pub mod Lists
+pub mod Counts
+pub mod Small
+pub mod Listing
+pub mod Made
+pub mod Past
+pub mod Keeping
+pub mod Scheduling
+pub mod Sums
+pub mod Progressing

@@ -1,0 +1,7 @@
+pub mod Told
+pub mod Behind
+pub mod Money
+pub mod Totals
+pub mod Keeps
+pub mod Runs
+pub mod Progress

@@ -1,0 +1,49 @@
+-- The money of a block: its lines of operators and providers, and its ledger.
+use Rattle.std.specs.Prelude.{◌≡◌, ℕ, ◌==◌, List, [], ◌∷◌, ◌++◌, Option, fold, map, slice_index_or, if◌then◌else◌}
+use Rattle.std.specs.List.{list_any}
+use Rattle.mari_units.specs.declared.numbers.Cents.{Cents}
+use Rattle.mari_units.specs.declared.numbers.Quarters.{Quarters}
+use Rattle.mari_bids.specs.declared.bids.Bid.{Bid}
+use Rattle.mari_lines.specs.declared.line.AmountLine.{AmountLine}
+use Rattle.mari_publish.specs.declared.publication.FullBlock.{FullBlock}
+use Rattle.mari_lines.specs.declared.line.MoneyLine.{MoneyLine}
+use Rattle.mari_remain.specs.Lists.{bid_at}
+use Rattle.mari_remain.specs.declared.books.Books.{Books}
+use Rattle.mari_remain.specs.declared.market.RunMarket.{RunMarket}
+use Rattle.mari_settle.specs.declared.ledger.OperatorLine.{OperatorLine}
+use Rattle.mari_settle.specs.Ledger.{net_of, operator_lines, provider_amounts, rents_of, scheduled_or}
+use Rattle.mari_settle.specs.Lines.{map_along, nothing}
+use Rattle.mari_progress.specs.Told.{activation_of, name_at, prices_of, rents_told}
+
+-- an operator's line: its name, its payment, its rent, and the payment less the rent
+abbrev pub money_line : List ℕ → OperatorLine → MoneyLine
+money_line name l = record { name = name; payment = l.payment; rent = l.rent; net = record { 0 = net_of l } }
+
+abbrev pub money_lines_of : List (List ℕ) → List OperatorLine → List MoneyLine
+money_lines_of names lines = map_along money_line names lines
+
+-- a provider's line, by its place: its name and its amount
+abbrev pub amount_line : List (List ℕ) → List Quarters → ℕ → AmountLine
+amount_line names amounts place = record { name = name_at names place; amount = slice_index_or amounts place nothing }
+
+-- numbers in order of first appearance, each once
+abbrev pub with_number : List ℕ → ℕ → List ℕ
+with_number numbers n = if list_any (λ m. m == n) numbers then numbers else numbers ++ n ∷ []
+
+abbrev pub each_once : List ℕ → List ℕ
+each_once numbers = fold with_number [] numbers
+
+-- the providers of these bids, by the first bid of each
+abbrev pub providers_among : List Bid → List ℕ → List ℕ
+providers_among bids numbers = each_once (map (λ i. (bid_at bids i).provider) numbers)
+
+-- what each provider gets in the run, whose quarter has these scheduled prices, or none
+abbrev pub amounts_of : Books → RunMarket → (also : Option (List Cents)) → FullBlock → List Quarters
+amounts_of books made also b = provider_amounts books.bids made.bids (activation_of b) (prices_of b) (scheduled_or (prices_of b) also)
+
+-- the block tells the run's ledger: each border's rent, each operator's line, and a line for each provider of the run's
+-- bids
+pub record HasLedger (books : Books) (made : RunMarket) (also : Option (List Cents)) (b : FullBlock) : Type 0 where
+  pub rents : rents_told b ≡ rents_of made.market (activation_of b) (prices_of b)
+  pub operators : b.operators ≡ money_lines_of books.zones.operators (operator_lines books.zones made.market (activation_of b) (prices_of b))
+  pub providers : b.providers ≡ map (amount_line books.bids.providers (amounts_of books made also b)) (providers_among books.bids.bids made.bids)

@@ -1,0 +1,74 @@
+-- A run behind the blocks of the runs before it: its market, what its block has to tell, and what that adds to its day.
+use Rattle.std.specs.Prelude.{◌≡◌, ◌<◌, ◌≤◌, ◌+◌, ◌*◌, ◌^◌, ℕ, pos, List, Option, length, take}
+use Rattle.std.specs.List.{All}
+use Rattle.mari_units.specs.declared.numbers.Cents.{Cents}
+use Rattle.mari_market.specs.declared.market.Order.{Order}
+use Rattle.mari_market.specs.Market.{IsValid}
+use Rattle.mari_market.specs.Optimal.{IsConsistent, IsFeasible}
+use Rattle.mari_market.specs.Sums.{int_sum}
+use Rattle.mari_publish.specs.declared.publication.Block.{Block}
+use Rattle.mari_publish.specs.declared.publication.Block.TheVariants as block
+use Rattle.mari_publish.specs.declared.publication.FullBlock.{FullBlock}
+use Rattle.mari_remain.specs.declared.books.Books.{Books}
+use Rattle.mari_remain.specs.declared.market.RunMarket.{RunMarket}
+use Rattle.mari_settle.specs.Conditions.{HasSmallNumbers, IsWithin, LineIsWithin, NameOrders}
+use Rattle.mari_settle.specs.Ledger.{net_of}
+use Rattle.mari_progress.specs.declared.progress.Settled.{Settled}
+use Rattle.mari_progress.specs.Behind.{also_behind, market_behind, run_behind}
+use Rattle.mari_progress.specs.Money.{HasLedger, amounts_of, money_lines_of}
+use Rattle.mari_progress.specs.Told.{NamesMarket, activation_of, heading_of, prices_of}
+
+-- a market of these books: it is valid, over their zones and borders; its first orders are those of bids that are
+-- there, of at most 9,999 MW, and the others those of at most 512 demands
+pub record IsMarketOf (books : Books) (made : RunMarket) : Type 0 where
+  pub valid : IsValid made.market
+  pub zones : made.market.zones ≡ length books.zones.zones
+  pub borders : length made.market.borders ≡ length books.borders.borders
+  pub orders : length made.market.orders ≡ length made.bids + made.demands
+  pub there : All (λ number. number < length books.bids.bids) made.bids
+  pub few : length made.bids ≤ 4096
+  pub few_demands : made.demands ≤ 512
+  pub named : NameOrders books.bids.bids made.bids made.market.orders
+  pub small : All (λ (o : Order). o.greatest ≤ 9999) (take (length made.bids) made.market.orders)
+
+-- what a later block rests on of a published one behind these blocks: its heading, names, activation, prices and ledger
+-- are its run's
+pub record IsSoundRun (books : Books) (before : List Block) (b : FullBlock) : Type 0 where
+  pub heading : b.heading ≡ heading_of books (run_behind before)
+  pub names : NamesMarket books (market_behind books before) b
+  pub feasible : IsFeasible (market_behind books before).market (activation_of b)
+  pub consistent : IsConsistent (market_behind books before).market (activation_of b) (prices_of b)
+  pub ledger : HasLedger books (market_behind books before) (also_behind books before) b
+
+-- and of an unpublished one, its heading
+abbrev pub IsSoundBlock : Books → (before : List Block) → Block → Type 0
+IsSoundBlock books before (block.Published b) = IsSoundRun books before b
+IsSoundBlock books before (block.Unpublished heading count) = heading ≡ heading_of books (run_behind before)
+
+-- how large a run's ledger is, so that those of a day can be added up: an operator's numbers within 2 * 10^15
+-- quarter-cents of 0, and a provider's within 4 * 10^15
+abbrev pub most_of_operator : ℕ
+most_of_operator = 2 * 10 ^ 15
+
+abbrev pub most_of_provider : ℕ
+most_of_provider = 4 * 10 ^ 15
+
+-- what the block of a run adds to its day: the market, the activation and the prices that it tells, and its ledger,
+-- which is small
+pub record IsRunOf (books : Books) (made : RunMarket) (also : Option (List Cents)) (b : FullBlock) (settled : Settled) : Type 0 where
+  pub market : settled.made ≡ made
+  pub activation : settled.activation ≡ activation_of b
+  pub prices : settled.prices.cents ≡ prices_of b
+  pub operators : b.operators ≡ money_lines_of books.zones.operators settled.ledger.operators
+  pub providers : settled.ledger.providers ≡ amounts_of books made also b
+  pub one_each : length settled.ledger.operators ≡ length books.zones.operators
+  pub rents : length settled.ledger.rents ≡ length books.borders.borders
+  pub small : HasSmallNumbers settled.ledger
+  pub operators_small : All (LineIsWithin most_of_operator) settled.ledger.operators
+  pub providers_small : All (IsWithin most_of_provider) settled.ledger.providers
+  pub nets : int_sum net_of settled.ledger.operators ≡ pos 0
+
+-- a published block of the run behind these blocks, and what it adds
+pub record IsNextRun (books : Books) (before : List Block) (b : FullBlock) (settled : Settled) : Type 0 where
+  pub sound : IsSoundRun books before b
+  pub adds : IsRunOf books (market_behind books before) (also_behind books before) b settled

@@ -1,0 +1,55 @@
+-- What a printed block tells of its run.
+use Rattle.std.specs.Prelude.{◌≡◌, ℕ, List, [], ◌++◌, length, map, slice_index_or}
+use Rattle.mari_units.specs.declared.numbers.Cents.{Cents}
+use Rattle.mari_units.specs.declared.numbers.Quarters.{Quarters}
+use Rattle.mari_zones.specs.declared.borders.BorderEnds.{BorderEnds}
+use Rattle.mari_market.specs.declared.activation.Activation.{Activation}
+use Rattle.mari_lines.specs.declared.line.BidLine.{BidLine}
+use Rattle.mari_lines.specs.declared.line.BorderLine.{BorderLine}
+use Rattle.mari_lines.specs.declared.line.Heading.{Heading}
+use Rattle.mari_lines.specs.declared.line.ZoneLine.{ZoneLine}
+use Rattle.mari_publish.specs.declared.publication.FullBlock.{FullBlock}
+use Rattle.mari_remain.specs.declared.books.Books.{Books}
+use Rattle.mari_remain.specs.declared.market.RunMarket.{RunMarket}
+use Rattle.mari_remain.specs.Lists.{run_at}
+
+-- the name at a place
+abbrev pub name_at : List (List ℕ) → ℕ → List ℕ
+name_at names place = slice_index_or names place []
+
+-- the activation: the MW of the bids and then of the demands, and the flows of the borders
+abbrev pub activation_of : FullBlock → Activation
+activation_of b = record {
+  mw = map (λ (l : BidLine). l.mw) b.bids ++ b.demands;
+  flow = map (λ (l : BorderLine). l.flow) b.borders;
+}
+
+-- zone by zone the price, the least and the greatest price, and the number of the area
+abbrev pub prices_of : FullBlock → List Cents
+prices_of b = map (λ (l : ZoneLine). l.price) b.zones
+
+abbrev pub least_of : FullBlock → List Cents
+least_of b = map (λ (l : ZoneLine). l.least) b.zones
+
+abbrev pub greatest_of : FullBlock → List Cents
+greatest_of b = map (λ (l : ZoneLine). l.greatest) b.zones
+
+abbrev pub areas_of : FullBlock → List ℕ
+areas_of b = map (λ (l : ZoneLine). l.area) b.zones
+
+-- the rents of the borders
+abbrev pub rents_told : FullBlock → List Quarters
+rents_told b = map (λ (l : BorderLine). l.rent) b.borders
+
+-- the heading of a run, counted from 1
+abbrev pub heading_of : Books → ℕ → Heading
+heading_of books run = record { run = run; quarter = (run_at books run).quarter; direct = (run_at books run).direct }
+
+-- the lines name the zones, the borders and the bids of the run's market, in their order, and there is one for each
+-- demand
+pub record NamesMarket (books : Books) (made : RunMarket) (b : FullBlock) : Type 0 where
+  pub zones : map (λ (l : ZoneLine). l.name) b.zones ≡ books.zones.zones
+  pub from : map (λ (l : BorderLine). l.from) b.borders ≡ map (λ (ends : BorderEnds). name_at books.zones.zones ends.from) books.borders.borders
+  pub to : map (λ (l : BorderLine). l.to) b.borders ≡ map (λ (ends : BorderEnds). name_at books.zones.zones ends.to) books.borders.borders
+  pub bids : map (λ (l : BidLine). l.id) b.bids ≡ map (name_at books.bids.ids) made.bids
+  pub demands : length b.demands ≡ made.demands

@@ -1,0 +1,54 @@
+//! The ledger of a run.
+
+ghost use Rattle.std.specs.Prelude.{◌≡◌, IfOk, IfSome, option_map, pos};
+ghost use Rattle.std.specs.List.{All};
+ghost use Rattle.mari_market.specs.Optimal.{IsConsistent, IsFeasible};
+ghost use Rattle.mari_market.specs.Price.{ArePrices};
+ghost use Rattle.mari_market.specs.Sums.{int_sum};
+ghost use Rattle.mari_remain.specs.Accepted.{IsAccepted};
+ghost use Rattle.mari_settle.specs.Conditions.{HasSmallNumbers, IsWithin, LineIsWithin};
+ghost use Rattle.mari_settle.specs.Ledger.{net_of, operator_lines, provider_amounts, rents_of, scheduled_or};
+ghost use Rattle.mari_progress.specs.Runs.{IsMarketOf, most_of_operator, most_of_provider};
+
+use mari_market::{Activation, Prices};
+use mari_remain::{Books, RunMarket};
+use mari_settle::{Ledger, settle_run};
+use mari_units::Memory;
+use std::alloc::Global;
+
+/// The ledger of a run's activation at these prices. A direct run's bids are paid with regard to the scheduled prices
+/// of its quarter, where there are any.
+pub fn ledger_of(
+    alloc: Global,
+    books: &Books,
+    made: &RunMarket,
+    prices: &Prices,
+    activation: &Activation,
+    also: Option<&Prices>,
+) -> Result<Ledger, Memory>
+    requires accepted { IsAccepted books.now }
+    requires made { IsMarketOf books.now made.now }
+    requires feasible { IsFeasible made.now.market activation.now }
+    requires consistent { IsConsistent made.now.market activation.now prices.now.cents }
+    requires also { IfSome also (λ scheduled. ArePrices made.now.market scheduled.now.cents) }
+    ensures operators { IfOk result (λ ledger. ledger.operators ≡ operator_lines books.now.zones made.now.market activation.now prices.now.cents) }
+    ensures providers { IfOk result (λ ledger. ledger.providers ≡ provider_amounts books.now.bids made.now.bids activation.now prices.now.cents (scheduled_or prices.now.cents (option_map (λ scheduled. scheduled.now.cents) also.entry))) }
+    ensures rents { IfOk result (λ ledger. ledger.rents ≡ rents_of made.now.market activation.now prices.now.cents) }
+    ensures small { IfOk result HasSmallNumbers }
+    ensures operators_small { IfOk result (λ ledger. All (LineIsWithin most_of_operator) ledger.operators) }
+    ensures providers_small { IfOk result (λ ledger. All (IsWithin most_of_provider) ledger.providers) }
+    ensures nets { IfOk result (λ ledger. int_sum net_of ledger.operators ≡ pos 0) }
+{
+    let mut ledger = Ledger::start(alloc, &books.zones, &books.borders, &books.bids)?;
+    settle_run(
+        &books.zones,
+        &books.bids,
+        &made.market,
+        made.bids.as_slice(),
+        prices,
+        activation,
+        &mut ledger,
+        also,
+    );
+    Ok(ledger)
+}

@@ -1,0 +1,19 @@
+//! What the printed blocks of a day leave to those behind them.
+//!
+//! Whoever prints a day and whoever checks one keep the same between its blocks: what these left, the sums of their
+//! ledgers, and the scheduled prices. The crate stands on the books and on the types of a publication, and on nothing
+//! that clears a market or tests an activation. Its promise: what is kept stands for the blocks so far, so that the
+//! market and the scheduled prices of the next run are those behind them.
+#![tactic(auto)]
+
+mod ledger;
+mod progress;
+mod providers;
+mod runs;
+#[cfg(test)]
+mod tests;
+
+pub use ledger::ledger_of;
+pub use progress::{Progress, Scheduled, Settled};
+pub use providers::providers_of;
+pub use runs::{heading, run_count};

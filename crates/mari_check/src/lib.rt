@@ -17,8 +17,6 @@ mod names;
 mod pricing;
 mod spread;
 mod stream;
-#[cfg(test)]
-mod tests;
 mod told;
 mod tree;
 mod verdict;

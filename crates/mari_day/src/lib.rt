@@ -13,8 +13,6 @@ mod lines;
 mod pages;
 mod reading;
 mod step;
-#[cfg(test)]
-mod tests;
 mod text;
 mod writing;
 

@@ -1,10 +1,17 @@
-//! Tests of a day: the ledger of a run, what a day's first runs leave to those behind them, and a generated day.
+//! Tests of a day: the ledger of a run, what a day's first runs leave to those behind them, a day that is cleared, its
+//! check, and a generated one.
 //!
 //! They call what is public alone, so they stand apart from what they test, which then is proved once.
 #![tactic(auto)]
 
 #[cfg(test)]
+mod check;
+#[cfg(test)]
+mod day;
+#[cfg(test)]
 mod generated;
+#[cfg(test)]
+mod progress;
 #[cfg(test)]
 mod remain;
 #[cfg(test)]

@@ -10,8 +10,6 @@ mod ledger;
 mod progress;
 mod providers;
 mod runs;
-#[cfg(test)]
-mod tests;
 
 pub use ledger::ledger_of;
 pub use progress::{Progress, Scheduled, Settled};

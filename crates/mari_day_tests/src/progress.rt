@@ -3,11 +3,11 @@
 ghost use Rattle.std.specs.Prelude.{IfOk};
 ghost use Rattle.mari_remain.specs.Accepted.{IsAccepted};
 
-use crate::{Progress, heading, ledger_of, providers_of, run_count};
 use mari_bids::{Bid, BidBook};
 use mari_demands::{DemandBook, RunBook};
 use mari_links::LinkBook;
 use mari_market::{Activation, Prices};
+use mari_progress::{Progress, heading, ledger_of, providers_of, run_count};
 use mari_publish::Heading;
 use mari_remain::Books;
 use mari_settle::{Ledger, OperatorLine};

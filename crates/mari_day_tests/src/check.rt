@@ -5,8 +5,8 @@ ghost use Rattle.std.specs.Prelude.{◌≤◌, IfOk, length};
 ghost use Rattle.mari_io.specs.declared.shelf.TheConstants.{MOST_PIECE};
 ghost use Rattle.mari_remain.specs.Accepted.{IsAccepted};
 
-use crate::{StreamFault, Verdict, check_day, check_run, check_stream};
 use mari_bids::BidBook;
+use mari_check::{StreamFault, Verdict, check_day, check_run, check_stream};
 use mari_demands::{DemandBook, RunBook};
 use mari_io::{FaultPlan, MemoryShelf, Name64, Page};
 use mari_links::LinkBook;

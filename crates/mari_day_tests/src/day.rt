@@ -1,6 +1,6 @@
 //! Days of the calendar, folders with and without limits for each run, and the text of a day.
 
-use crate::{BooksFault, DayEnd, file_name, read_books, run_day};
+use mari_day::{BooksFault, DayEnd, file_name, read_books, run_day};
 use mari_io::{FaultPlan, Fetch, MemoryShelf, MemorySink, Name64, Page};
 use mari_market::{Cleared, Clearer, Market};
 use mari_merit::clear_plain;

@@ -1,5 +1,5 @@
 -- What is tight for the slots is tight for the orders.
-use Rattle.std.proofs.Common.{◌≡◌, ◌==◌, if◌then◌else◌, ℕ, ◌<◌, ℤ, pos, neg_ℤ, ◌≤ℤ◌, ◌<ℤ◌, List, [], ◌∷◌, length, arith, refl, sym, ap, ◌∙◌, subst, take, get_or, ◌++◌, ◌+◌, zero, suc, map}
+use Rattle.std.proofs.Common.{◌≡◌, ◌==◌, if◌then◌else◌, ℕ, ◌<◌, ℤ, pos, neg_ℤ, ◌+ℤ◌, ◌≤ℤ◌, ◌<ℤ◌, List, [], ◌∷◌, length, arith, refl, sym, ap, ◌∙◌, subst, take, get_or, ◌++◌, ◌+◌, zero, suc, map}
 use Rattle.std.proofs.lemmas.Int.{ints, clamps}
 use Rattle.std.specs.List.{All, AllZip}
 use Rattle.std.proofs.lemmas.List.Elements.{All-head, All-tail}
@@ -111,6 +111,17 @@ puts_more (o ∷ os) (x ∷ xs) [] (suc i) d q h l a e = absurd a
 puts_more (o ∷ os) (x ∷ xs) (p ∷ qs) (suc i) d q h l a e =
     let k : suc (i + 1) ≡ suc i + 1 = omega arith in
     subst (λ (n : ℕ). ArePuts (take n (o ∷ os)) (take n (x ∷ xs)) (p ∷ (qs ++ q ∷ []))) k (a.0, puts_more os xs qs i d q (omega arith) (omega arith) a.1 e)
+
+-- with one order and quantity more their sum is that much more
+pub gains_more : (f : Order → ℕ → ℤ) (os : List Order) (qs : List ℕ) (i : ℕ) (d : Order) (q : ℕ) → i < length os → length qs ≡ i → sum_along f (take (i + 1) os) (qs ++ q ∷ []) ≡ sum_along f (take i os) qs +ℤ f (get_or os i d) q
+gains_more f [] qs i d q h l = absurd (omega arith)
+gains_more f (o ∷ os) [] zero d q h l = omega (arith, ints)
+gains_more f (o ∷ os) [] (suc i) d q h l = absurd (omega arith)
+gains_more f (o ∷ os) (p ∷ qs) zero d q h l = absurd (omega arith)
+gains_more f (o ∷ os) (p ∷ qs) (suc i) d q h l =
+    let k : suc (i + 1) ≡ suc i + 1 = omega arith in
+    subst (λ (n : ℕ). sum_along f (take n (o ∷ os)) (p ∷ (qs ++ q ∷ [])) ≡ (f o p +ℤ sum_along f (take i os) qs) +ℤ f (get_or os i d) q) k
+    (let rest : sum_along f (take (i + 1) os) (qs ++ q ∷ []) ≡ sum_along f (take i os) qs +ℤ f (get_or os i d) q = gains_more f os qs i d q (omega arith) (omega arith) in omega (arith, ints, rest))
 
 -- prices within the cap
 pub capped_prices : (prices : List ℤ) → All (λ (c : Cents). IsPrice c.0) (map capped_cents prices)

@@ -1,6 +1,6 @@
 //! From amounts back to quantities, welfare, potentials and cuts.
 
-ghost use Rattle.std.specs.Prelude.{◌≡◌, ◌≢◌, ℕ, pos, ◌≤ℤ◌, ◌<◌, ◌≤◌, ◌*◌, length, IfOk, MatchOption, map, take};
+ghost use Rattle.std.specs.Prelude.{◌≡◌, ◌≢◌, ℕ, pos, neg_ℤ, ◌≤ℤ◌, ◌<◌, ◌≤◌, ◌*◌, length, IfOk, MatchOption, map, take};
 ghost use Rattle.std.specs.Int.{int_max};
 ghost use Rattle.std.specs.List.{All, AllZip};
 ghost use Rattle.mari_market.specs.Sums.{sum_along};
@@ -11,7 +11,7 @@ ghost use Rattle.mari_network.specs.Slots.{amount_at};
 ghost use Rattle.mari_network.specs.Orders.{capped_cents, is_inside, CanPut, ArePuts};
 
 use crate::slots::BEYOND;
-use mari_market::{CutSide, Order, Side, total_gain};
+use mari_market::{CutSide, Order, Side};
 use mari_units::{CAP, Cents};
 use std::alloc::{AllocError, Global};
 
@@ -51,7 +51,7 @@ fn cap(price: i64) -> Cents
 pub fn cap_all(alloc: Global, prices: &[i64]) -> Result<Vec<Cents>, AllocError>
     ensures { IfOk result (λ v. v.items ≡ map capped_cents prices.now) }
 {
-    let mut all = Vec::new(alloc);
+    let mut all = Vec::with_capacity(alloc, prices.len())?;
     for price in prices {
         all.push(cap(*price))?;
     }
@@ -83,36 +83,47 @@ pub fn cut_zones(alloc: Global, side: CutSide, prices: &[i64]) -> Result<Vec<u32
     Ok(zones)
 }
 
-/// The quantities of orders that put in so much.
-pub fn quantities(alloc: Global, orders: &[Order], amounts: &[i64]) -> Result<Vec<u32>, AllocError>
+/// What so many MW of an order add to the welfare, in quarter-cents.
+fn gain_of(order: &Order, mw: u32) -> i64
+    requires price { IsPrice order.now.price.0 }
+    requires small { mw ≤ 99999 }
+    ensures value { result ≡ order_gain order.now mw }
+    ensures least { neg_ℤ (pos (9999900 * 99999)) ≤ℤ result }
+    ensures most { result ≤ℤ pos (9999900 * 99999) }
+{
+    let worth = order.price.0 * i64::from(mw);
+    match order.side {
+        Side::Inject => -worth,
+        Side::Withdraw => worth,
+    }
+}
+
+/// The quantities of orders that put in so much, and what they add to the welfare together, in quarter-cents.
+pub fn quantities(
+    alloc: Global,
+    orders: &[Order],
+    amounts: &[i64],
+) -> Result<(Vec<u32>, i64), AllocError>
+    requires few { length orders.now ≤ 4608 }
+    requires prices { All (λ o. IsPrice o.price.0) orders.now }
     requires lengths { length orders.now ≤ length amounts.now }
     requires fits { AllZip (λ o x. CanPut o.side x) orders.now (take (length orders.now) amounts.now) }
-    ensures puts { IfOk result (λ v. ArePuts orders.now (take (length orders.now) amounts.now) v.items) }
-    ensures long { IfOk result (λ v. length v.items ≡ length orders.now) }
-    ensures small { IfOk result (λ v. All (λ q. q ≤ 99999) v.items) }
+    ensures puts { IfOk result (λ r. ArePuts orders.now (take (length orders.now) amounts.now) r.0.items) }
+    ensures gain { IfOk result (λ r. r.1 ≡ sum_along order_gain orders.now r.0.items) }
 {
-    let mut all = Vec::new(alloc);
+    let mut all = Vec::with_capacity(alloc, orders.len())?;
+    let mut gain = 0i64;
     for (i, order) in orders.iter().enumerate() {
-        all.push(quantity(order.side, amounts[i]))?;
+        let mw = quantity(order.side, amounts[i]);
+        all.push(mw)?;
+        gain += gain_of(order, mw);
     }
-    Ok(all)
+    Ok((all, gain))
 }
 
 /// A welfare as it is stated: 0 where it is negative.
-fn stated(welfare: i128) -> u64
-    requires { welfare ≤ℤ pos (9999900 * 99999 * 4608) }
+pub fn stated(welfare: i64) -> u64
     ensures { pos result ≡ int_max (pos 0) welfare }
 {
     welfare.max(0) as u64
-}
-
-/// The welfare of quantities as it is stated, in quarter-cents.
-pub fn stated_welfare(orders: &[Order], mw: &[u32]) -> u64
-    requires few { length orders.now ≤ 4608 }
-    requires long { length mw.now ≡ length orders.now }
-    requires prices { All (λ o. IsPrice o.price.0) orders.now }
-    requires small { All (λ q. q ≤ 99999) mw.now }
-    ensures { pos result ≡ int_max (pos 0) (sum_along order_gain orders.now mw.now) }
-{
-    stated(total_gain(orders, mw))
 }

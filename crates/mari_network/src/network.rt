@@ -70,7 +70,8 @@ fn slots_by_zone(alloc: Global, slots: &[Slot], zones: usize) -> Result<Vec<Vec<
     ensures long { IfOk result (λ v. length v.items ≡ zones) }
     ensures members { IfOk result (λ v. (z : ℕ) (d : _) → z < zones → AreMembers slots.now (length slots.now) z (slice_index_or v.items z d).items) }
 {
-    let mut members = no_places(alloc, zones, slots.len() / zones)?;
+    let even = slots.len() / zones;
+    let mut members = no_places(alloc, zones, even + even / 2)?;
     for (i, slot) in slots.iter().enumerate() {
         add_place(&mut members, slot.zone as usize, i)?;
     }

@@ -16,7 +16,7 @@ ghost use Rattle.mari_network.specs.declared.slots.Slot.{Slot};
 ghost use Rattle.mari_network.specs.Searching.{AreTightPrices};
 ghost use Rattle.mari_network.specs.Solving.{IsAnswer, IsNetworkOf, AreSlotsOf};
 
-use crate::finish::{cap_all, cut_zones, first_short, quantities, stated_welfare};
+use crate::finish::{cap_all, cut_zones, first_short, quantities, stated};
 use crate::network::Network;
 use mari_market::{Activation, Cut, CutSide, Market, Prices};
 use mari_units::{Items, Memory};
@@ -85,8 +85,7 @@ fn solved_from(
     ensures stated { IfOk result (λ s. pos s.welfare ≡ int_max (pos 0) (welfare_of market.now s.activation)) }
 {
     let orders = market.orders.as_slice();
-    let mw = quantities(alloc, orders, amounts)?;
-    let welfare = stated_welfare(orders, &mw);
+    let (mw, gain) = quantities(alloc, orders, amounts)?;
     let flow = Vec::from_slice(alloc, flows)?;
     let cents = cap_all(alloc, prices)?;
     Ok(Solved {
@@ -97,7 +96,7 @@ fn solved_from(
         potentials: Prices {
             cents: Items::of(cents),
         },
-        welfare,
+        welfare: stated(gain),
     })
 }
 

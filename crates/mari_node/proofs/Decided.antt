@@ -36,7 +36,7 @@ state_decided (suc n) gates word g b l e =
     let implied = undecided gates word (state_within n gates word) g in
     ap (λ (o : Option Bool). decided o implied) e ∙ decided_as b implied
 
-word_at : (word : List Bool) (g : ℕ) → g < length word → slice_get word g ≡ Some (opens_in word g)
+pub word_at : (word : List Bool) (g : ℕ) → g < length word → slice_get word g ≡ Some (opens_in word g)
 word_at [] g l = absurd (omega arith)
 word_at (b ∷ bs) zero l = refl
 word_at (b ∷ bs) (suc g) l = word_at bs g (omega arith)
@@ -50,23 +50,23 @@ and_shut false t h = refl
 shut_or : (b t : Bool) → b ≡ false → t ≡ false → (b || t) ≡ false
 shut_or b t e f = ap (λ (c : Bool). c || t) e ∙ f
 
-or_first : (b t : Bool) → b ≡ true → (b || t) ≡ true
+pub or_first : (b t : Bool) → b ≡ true → (b || t) ≡ true
 or_first b t e = ap (λ (c : Bool). c || t) e
 
-or_second : (b t : Bool) → t ≡ true → (b || t) ≡ true
+pub or_second : (b t : Bool) → t ≡ true → (b || t) ≡ true
 or_second true t e = refl
 or_second false t e = e
 
 idle : (q : ℕ) → q ≤ 0 → nat_lt 0 q ≡ false
 idle q l = grind (arith, nat_tests)
 
-busy : (q : ℕ) → 1 ≤ q → nat_lt 0 q ≡ true
+pub busy : (q : ℕ) → 1 ≤ q → nat_lt 0 q ≡ true
 busy q l = grind (arith, nat_tests)
 
 same_gate : (h g : ℕ) → (h == g) ≡ true → h ≡ g
 same_gate h g e = grind (arith, nat_tests)
 
-its_gate : (g : ℕ) → (g == g) ≡ true
+pub its_gate : (g : ℕ) → (g == g) ≡ true
 its_gate g = grind (arith, nat_tests)
 
 -- an order of a closed gate doesn't run

@@ -4,11 +4,12 @@ ghost use Rattle.std.specs.Prelude.{◌↔◌, IfOk, IsTrue, MatchOption};
 ghost use Rattle.mari_market.specs.Market.{IsValid};
 ghost use Rattle.mari_market.specs.Optimal.{IsAdmissible, IsFeasible};
 ghost use Rattle.mari_node.specs.Nodes.{IsContradictory};
+ghost use Rattle.mari_node.specs.Running.{IsBounded};
 
+use crate::gates::keeps_gates;
 use mari_market::{Activation, Market};
 use mari_prices::{PriceFault, price_test};
 use mari_units::{Items, Memory};
-use mari_welfare::is_feasible;
 use std::alloc::Global;
 
 /// The chain that shows that no prices are consistent with a feasible activation, where none are.
@@ -28,16 +29,18 @@ pub(crate) fn contradiction(
     }
 }
 
-/// Whether an activation is admissible: feasible, with some consistent prices.
+/// Whether an activation is admissible that is within the orders' greatest and the borders' limits, and in balance:
+/// feasible, with some consistent prices.
 pub(crate) fn is_admissible(
     alloc: Global,
     market: &Market,
     activation: &Activation,
 ) -> Result<bool, Memory>
     requires valid { IsValid market.now }
+    requires bounded { IsBounded market.now activation.now }
     ensures { IfOk result (λ admissible. IsTrue admissible ↔ IsAdmissible market.now activation.now) }
 {
-    if !is_feasible(market, activation) {
+    if !keeps_gates(market, activation) {
         return Ok(false);
     }
     let chain = contradiction(alloc, market, activation)?;

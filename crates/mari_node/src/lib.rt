@@ -5,6 +5,7 @@
 #![tactic(auto)]
 
 mod admissibility;
+mod gates;
 mod node;
 
 pub use node::{examine, examine_from};

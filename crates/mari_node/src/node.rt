@@ -6,6 +6,7 @@ ghost use Rattle.mari_market.specs.Market.{IsValid};
 ghost use Rattle.mari_market.specs.Optimal.{IsAdmissible, IsFeasible};
 ghost use Rattle.mari_market.specs.Prefix.{word_of, IsFeasiblePrefix};
 ghost use Rattle.mari_node.specs.Nodes.{best_found, bound_found, conflict_found, IsEmptyWhereNone, IsInnerNode, IsLastNode, IsLeft, IsRelaxedOptimum};
+ghost use Rattle.mari_node.specs.Running.{IsBounded};
 
 use crate::admissibility::{contradiction, is_admissible};
 use mari_market::{Activation, Attained, Conflict, Finding, Market, Prefix, Relaxed};
@@ -86,6 +87,7 @@ fn inner_node(
     solved: Solved,
 ) -> Result<(Relaxed, Activation), Memory>
     requires valid { IsValid market.now }
+    requires bounded { IsBounded market.now solved.activation }
     ensures finding { (word : List Bool) → IsInnerNode market.now word solved → IfOk result (λ found. IsRelaxedFinding market.now word found.0) }
     ensures optimum { IfOk result (λ found. found.1 ≡ solved.activation) }
     ensures best { IfOk result (λ found. IsAdmissible market.now solved.activation → is_some found.0.best ≡ true) }

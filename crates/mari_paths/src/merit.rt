@@ -43,6 +43,7 @@ pub fn balancing_price(slots: &[Slot]) -> i64
     ensures { IsBalancing slots.now result }
 {
     let mut price = -BEYOND;
+    // How far it is from there to the greatest price.
     let mut width = 40_000_000u32;
     while width > 1 {
         let half = width / 2;

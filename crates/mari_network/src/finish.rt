@@ -83,7 +83,7 @@ pub fn cut_zones(alloc: Global, side: CutSide, prices: &[i64]) -> Result<Vec<u32
     Ok(zones)
 }
 
-/// What so many MW of an order add to the welfare, in quarter-cents.
+/// What so many MW of an order add to the welfare, in quarter-cents, in 64 bits.
 fn gain_of(order: &Order, mw: u32) -> i64
     requires price { IsPrice order.now.price.0 }
     requires small { mw ≤ 99999 }
@@ -91,11 +91,7 @@ fn gain_of(order: &Order, mw: u32) -> i64
     ensures least { neg_ℤ (pos (9999900 * 99999)) ≤ℤ result }
     ensures most { result ≤ℤ pos (9999900 * 99999) }
 {
-    let worth = order.price.0 * i64::from(mw);
-    match order.side {
-        Side::Inject => -worth,
-        Side::Withdraw => worth,
-    }
+    order.gain(mw) as i64
 }
 
 /// The quantities of orders that put in so much, and what they add to the welfare together, in quarter-cents.

@@ -13,4 +13,3 @@ mod spread;
 pub use intervals::{Intervals, PriceFault, price_test};
 pub use numbering::areas;
 pub use published::{Pricing, nearest, published_prices};
-

@@ -8,7 +8,6 @@ ghost use Rattle.mari_publish.specs.declared.publication.Publication.{Publicatio
 ghost use Rattle.mari_publish.specs.Faults.{IsText, BadLineAt, BadOrderAt, TruncatedAt};
 ghost use Rattle.mari_publish.specs.Pieces.{StandsFor, HasPart, IsNext, IsEnd, SameAnswer, with_answer, found_none};
 
-
 use crate::coming::{Ahead, Coming, append, forget, is_whole, next_part};
 use crate::fault::TextFault;
 use crate::held::Kept;

@@ -11,4 +11,3 @@ mod money;
 pub use consistency::{borders_agree, is_consistent};
 pub use feasibility::is_feasible;
 pub use money::welfare;
-

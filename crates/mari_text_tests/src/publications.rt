@@ -138,9 +138,9 @@ fn cut_texts() -> [([&'static str; 4], u32); 6] {
 #[test]
 fn a_text_that_is_cut_off_is_truncated(rt: HostRuntime) -> Result<(), Fail> {
     let alloc = rt.alloc();
-    for (parts, line) in cut_texts() {
-        let fault = fault_of(alloc, &parts)?;
-        assert_eq!(rt; fault, Some(TextFault::Truncated(line)));
+    for (parts, line) in &cut_texts() {
+        let fault = fault_of(alloc, parts)?;
+        assert_eq!(rt; fault, Some(TextFault::Truncated(*line)));
     }
     let fault = fault_of(alloc, &[HEAD, TOTAL, DONE])?;
     assert_eq!(rt; fault, None);
@@ -249,8 +249,8 @@ fn disagreeing_parts() -> [([&'static str; 7], TextFault); 5] {
 #[test]
 fn numbers_agree_with_the_lines_before(rt: HostRuntime) -> Result<(), Fail> {
     let alloc = rt.alloc();
-    for (parts, want) in disagreeing_parts() {
-        assert_eq!(rt; fault_of(alloc, &parts)?, Some(want));
+    for (parts, want) in &disagreeing_parts() {
+        assert_eq!(rt; fault_of(alloc, parts)?, Some(*want));
     }
     Ok(())
 }

@@ -7,9 +7,7 @@ ghost use Rattle.mari_market.specs.Prefix.{bit_of, word_of, may_open, group_take
 ghost use Rattle.mari_gates.specs.Prefixes.{IsCleared, ParentsEarlier, decisions};
 
 use mari_market::{GateInfo, Market, Prefix};
-
-/// The most gates that a prefix can decide.
-const MOST_GATES: u32 = 512;
+use mari_units::MOST_GATES;
 
 /// Whether the gate's bit is 1, so that the prefix, where it decides the gate, decides it as open.
 pub fn opens(prefix: &Prefix, gate: u32) -> bool
@@ -90,7 +88,7 @@ fn keeps_rules(gates: &[GateInfo], prefix: &Prefix) -> bool
 fn is_cleared(prefix: &Prefix) -> bool
     ensures { IsTrue result ↔ IsCleared prefix.now }
 {
-    for gate in prefix.length..MOST_GATES {
+    for gate in prefix.length..MOST_GATES as u32 {
         if opens(prefix, gate) {
             return false;
         }

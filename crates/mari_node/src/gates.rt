@@ -1,9 +1,8 @@
 //! Whether what the orders of gates run is feasible, where it is within the orders' greatest and in balance.
 
-ghost use Rattle.std.specs.Prelude.{◌≡◌, ◌↔◌, ◌<◌, ◌≤◌, ◌||◌, ℕ, IfSome, IsTrue, MatchOption, length};
+ghost use Rattle.std.specs.Prelude.{◌≡◌, ◌↔◌, ◌<◌, ◌≤◌, ℕ, IfSome, IsTrue, MatchOption, length};
 ghost use Rattle.std.specs.List.{All, AllZip};
 ghost use Rattle.mari_market.specs.Activation.{runs_gate};
-ghost use Rattle.mari_market.specs.GateRuns.{is_run_of};
 ghost use Rattle.mari_market.specs.Gates.{KeepsGateRules};
 ghost use Rattle.mari_market.specs.Market.{IsValid};
 ghost use Rattle.mari_market.specs.Optimal.{IsFeasible};
@@ -13,50 +12,38 @@ ghost use Rattle.mari_welfare.specs.Gates.{opens_in, IsOfFewGates};
 
 use mari_gates::{child_of, empty_prefix, may_branch_up};
 use mari_market::{Activation, Market, Order};
-use mari_units::MOST_GATES;
-
-/// Marks the gate of an order that runs, if it has one.
-fn mark(runs: &mut [bool; MOST_GATES], order: &Order, mw: u32)
-    requires { IsOfFewGates order.now }
-    ensures { (g : ℕ) → opens_in runs.new g ≡ (opens_in runs.old g || is_run_of g order.now mw) }
-{
-    if let Some(gate) = order.gate
-        && mw > 0
-    {
-        runs[gate as usize] = true;
-    }
-}
+use mari_welfare::OpenGates;
 
 /// The gates of which some order runs; or nothing, where an order runs less than its least.
-fn running(orders: &[Order], mw: &[u32]) -> Option<[bool; MOST_GATES]>
+fn running(orders: &[Order], mw: &[u32]) -> Option<OpenGates>
     requires lengths { length mw.now ≡ length orders.now }
     requires gates { All IsOfFewGates orders.now }
     ensures runs { IfSome result (λ runs. (g : ℕ) → opens_in runs g ≡ runs_gate g orders.now mw.now) }
     ensures whole { MatchOption result (AnyZip IsPartial orders.now mw.now) (λ _. AllZip IsNotPartial orders.now mw.now) }
 {
-    let mut runs = [false; MOST_GATES];
+    let mut runs = OpenGates::none();
     for (i, order) in orders.iter().enumerate() {
         if 0 < mw[i] && mw[i] < order.least {
             return None;
         }
-        mark(&mut runs, order, mw[i]);
+        runs.mark(order, mw[i]);
     }
     Some(runs)
 }
 
 /// Whether an order runs, if it is of a gate that runs.
-fn runs_with_gate(runs: &[bool; MOST_GATES], order: &Order, mw: u32) -> bool
+fn runs_with_gate(runs: &OpenGates, order: &Order, mw: u32) -> bool
     requires { IsOfFewGates order.now }
     ensures { IsTrue result ↔ RunsWhereOpen (opens_in runs.now) order.now mw }
 {
     match order.gate {
         None => true,
-        Some(gate) => mw > 0 || !runs[gate as usize],
+        Some(gate) => mw > 0 || !runs.has(gate),
     }
 }
 
 /// Whether each order of the gates that run does.
-fn run_together(runs: &[bool; MOST_GATES], orders: &[Order], mw: &[u32]) -> bool
+fn run_together(runs: &OpenGates, orders: &[Order], mw: &[u32]) -> bool
     requires lengths { length mw.now ≡ length orders.now }
     requires gates { All IsOfFewGates orders.now }
     ensures { IsTrue result ↔ AllZip (RunsWhereOpen (opens_in runs.now)) orders.now mw.now }
@@ -70,16 +57,17 @@ fn run_together(runs: &[bool; MOST_GATES], orders: &[Order], mw: &[u32]) -> bool
 }
 
 /// Whether the gates that run keep the rules of parents and groups.
-fn keep_rules(market: &Market, runs: &[bool; MOST_GATES]) -> bool
+fn keep_rules(market: &Market, runs: &OpenGates) -> bool
     requires valid { IsValid market.now }
     ensures { IsTrue result ↔ KeepsGateRules market.now.gates (opens_in runs.now) }
 {
     let mut word = empty_prefix();
     for gate in 0..market.gates.as_slice().len() {
-        if runs[gate] && !may_branch_up(market, &word) {
+        let runs_here = runs.has(gate as u32);
+        if runs_here && !may_branch_up(market, &word) {
             return false;
         }
-        word = child_of(&word, runs[gate]);
+        word = child_of(&word, runs_here);
     }
     true
 }

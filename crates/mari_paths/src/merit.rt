@@ -44,7 +44,7 @@ pub fn balancing_price(slots: &[Slot]) -> i64
 {
     let mut price = -BEYOND;
     // How far it is from there to the greatest price.
-    let mut width = 40_000_000u32;
+    let mut width = 2 * BEYOND as u32;
     while width > 1 {
         let half = width / 2;
         let middle = price + i64::from(half);

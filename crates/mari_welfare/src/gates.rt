@@ -1,6 +1,6 @@
 //! Which gates an activation opens, and whether they keep the rules.
 
-ghost use Rattle.std.specs.Prelude.{◌≡◌, ◌||◌, ◌<◌, ◌≤◌, ℕ, length, IsTrue, IfSome, ◌↔◌};
+ghost use Rattle.std.specs.Prelude.{◌≡◌, ◌||◌, ◌<◌, ◌≤◌, ℕ, false, length, IsTrue, IfSome, ◌↔◌};
 ghost use Rattle.std.specs.List.{All};
 ghost use Rattle.mari_market.specs.GateRuns.{is_run_of};
 ghost use Rattle.mari_market.specs.Gates.{KeepsGateRules, group_of as group_of_gate, parent_of as parent_of_gate};
@@ -10,9 +10,10 @@ use mari_market::{GateInfo, Order};
 use mari_units::MOST_GATES;
 use std::marker::Model;
 
-// The gates that an activation opens, as a table of them that is made once.
+/// The gates that an activation opens, as a table of them that is made once. Contracts see, for each gate that there
+/// may be, whether it is open.
 #[derive(Drop)]
-pub(crate) struct OpenGates {
+pub struct OpenGates {
     opened: [bool; MOST_GATES],
 }
 
@@ -24,34 +25,43 @@ impl Model for OpenGates {
     ghost view = { λ t. t.opened };
 }
 
-// Marks the gate of an order that runs, if it has one.
-fn mark(opened: &mut [bool; MOST_GATES], order: &Order, mw: u32)
-    requires { IsOfFewGates order.now }
-    ensures { (g : ℕ) → opens_in opened.new g ≡ (opens_in opened.old g || is_run_of g order.now mw) }
-{
-    if let Some(gate) = order.gate
-        && mw > 0
-    {
-        opened[gate as usize] = true;
-    }
-}
-
 impl OpenGates {
+    /// Every gate closed.
+    pub fn none() -> OpenGates
+        ensures { (g : ℕ) → opens_in result g ≡ false }
+    {
+        OpenGates {
+            opened: [false; MOST_GATES],
+        }
+    }
+
+    /// Opens the gate of an order that runs, if it has one.
+    pub fn mark(&mut self, order: &Order, mw: u32)
+        requires { IsOfFewGates order.now }
+        ensures { (g : ℕ) → opens_in self.new g ≡ (opens_in self.old g || is_run_of g order.now mw) }
+    {
+        if let Some(gate) = order.gate
+            && mw > 0
+        {
+            self.opened[gate as usize] = true;
+        }
+    }
+
     // The gates of which some order runs.
     pub(crate) fn of(orders: &[Order], mw: &[u32]) -> OpenGates
         requires lengths { length mw.now ≡ length orders.now }
         requires gates { All IsOfFewGates orders.now }
         ensures { opens_in result ≡ opens_by orders.now mw.now }
     {
-        let mut opened = [false; MOST_GATES];
+        let mut opened = OpenGates::none();
         for (i, order) in orders.iter().enumerate() {
-            mark(&mut opened, order, mw[i]);
+            opened.mark(order, mw[i]);
         }
-        OpenGates { opened }
+        opened
     }
 
-    // Whether a gate is open.
-    pub(crate) fn has(&self, gate: u32) -> bool
+    /// Whether a gate is open. One beyond those that there may be isn't.
+    pub fn has(&self, gate: u32) -> bool
         ensures { result ≡ opens_in self.now gate }
     {
         (gate as usize) < MOST_GATES && self.opened[gate as usize]

@@ -10,4 +10,5 @@ mod money;
 
 pub use consistency::{borders_agree, is_consistent};
 pub use feasibility::is_feasible;
+pub use gates::OpenGates;
 pub use money::welfare;

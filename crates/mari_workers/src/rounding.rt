@@ -9,11 +9,8 @@ ghost use Rattle.mari_market.specs.Prefix.{IsFeasiblePrefix};
 use mari_gates::{child_of, empty_prefix, may_branch_up};
 use mari_market::{Activation, Attained, Finding, Market, Prefix, Relaxed};
 use mari_node::examine_from;
-use mari_units::Memory;
+use mari_units::{MOST_GATES, Memory};
 use std::alloc::Global;
-
-/// The most gates of a market.
-const MOST_GATES: usize = 512;
 
 /// Which gates have an order that runs at least its least.
 fn running(market: &Market, activation: &Activation) -> [bool; MOST_GATES] {

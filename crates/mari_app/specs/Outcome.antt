@@ -28,7 +28,7 @@ use Rattle.mari_check.specs.Day.{IsFirstFault, IsValidPublication}
 use Rattle.mari_check.specs.Streams.{IsToldFault, IsTooLong}
 use Rattle.mari_words.specs.Asked.{Asked}
 use Rattle.mari_words.specs.Asked.Asked.{Clear, Check, Generate, Migrate}
-use Rattle.mari_words.specs.declared.command.TheConstants.{MOST_NODES, MOST_WORKERS}
+use Rattle.mari_units.specs.declared.limits.TheConstants.{MOST_NODES, MOST_WORKERS}
 use Rattle.mari_app.specs.declared.outcome.Job.{Job}
 use Rattle.mari_app.specs.declared.outcome.Outcome.{Outcome}
 use Rattle.mari_app.specs.declared.outcome.Outcome.TheVariants.{NoCommand, Day, Text, Invalid, NoPage, Refused, NoMemory}

@@ -1,12 +1,11 @@
 //! Clearing the runs of a day, whose text is written as it is made.
 
 ghost use Rattle.std.specs.Prelude.{◌≡◌, ◌≤◌, Some};
-ghost use Rattle.mari_market.specs.Clearing.{Clears};
+ghost use Rattle.mari_market.specs.Clearing.{Clears, IsBudget};
 ghost use Rattle.mari_market.specs.Market.{IsValid};
 ghost use Rattle.mari_io.specs.Outside.{Counts, Pages};
 ghost use Rattle.mari_io.specs.declared.shelf.Fetch.TheVariants as fetch;
 ghost use Rattle.mari_words.specs.Asked.Asked.{Clear};
-ghost use Rattle.mari_words.specs.declared.command.TheConstants.{MOST_NODES, MOST_WORKERS};
 ghost use Rattle.mari_app.specs.Outcome.{IsNoPage, IsOfWords, IsReady, IsReportable, ReportsDay, Says, day_status};
 
 use crate::books::books_in;
@@ -15,6 +14,7 @@ use crate::status::Status;
 use mari_day::{DayEnd, run_day};
 use mari_io::{Shelf, Sink};
 use mari_market::{Cleared, Clearer, Market};
+use mari_units::{MOST_NODES, MOST_WORKERS};
 use mari_workers::{Alone, Crew, Turnstile, search};
 use std::alloc::Global;
 use std::sync::Wait;
@@ -71,7 +71,7 @@ pub fn clear_together<K: Sink, G: Turnstile, R: Threads + Wait + Sync>(
     let workers = job.workers;
     let mut crew = Crew {
         run: |alloc: Global, market: &Market, budget: u32| -> Cleared
-            requires { IsValid market.now × (1 ≤ budget) × (budget ≤ 50000) × (1 ≤ workers) × (workers ≤ 16) }
+            requires { IsValid market.now × (1 ≤ budget) × (budget ≤ MOST_NODES) × (1 ≤ workers) × (workers ≤ MOST_WORKERS) }
             ensures { Clears market.entry.now budget result }
         { search(rt, alloc, market, workers, budget, turnstile) },
     };
@@ -86,7 +86,7 @@ pub fn to_clear<S: Shelf>(
     nodes: u32,
     workers: u32,
 ) -> Outcome
-    requires nodes { (1 ≤ nodes) × (nodes ≤ MOST_NODES) }
+    requires nodes { IsBudget nodes }
     requires workers { (1 ≤ workers) × (workers ≤ MOST_WORKERS) }
     ensures same { S.pages shelf.new ≡ S.pages shelf.old }
     ensures told { (told : Pages) → S.pages shelf.old ≡ Some told → Says (Some (Clear folder.now nodes workers)) told result }

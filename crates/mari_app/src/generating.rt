@@ -23,7 +23,7 @@ use mari_market::{Cleared, Market};
 use mari_publish::read_text;
 use mari_remain::Books;
 use mari_scenario::scenario_pages;
-use mari_units::{Items, Memory};
+use mari_units::{Items, MOST_NODES, Memory};
 use mari_words::{USUAL_NODES, USUAL_WORKERS};
 use mari_workers::{Crew, Turnstile, search};
 use std::alloc::Global;
@@ -62,7 +62,7 @@ fn usual_day<G: Turnstile, R: Threads + Wait + Sync>(
 {
     let mut crew = Crew {
         run: |alloc: Global, market: &Market, budget: u32| -> Cleared
-            requires { IsValid market.now × (1 ≤ budget) × (budget ≤ 50000) }
+            requires { IsValid market.now × (1 ≤ budget) × (budget ≤ MOST_NODES) }
             ensures { Clears market.entry.now budget result }
         { search(rt, alloc, market, USUAL_WORKERS, budget, turnstile) },
     };

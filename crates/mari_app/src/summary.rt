@@ -4,10 +4,9 @@ ghost use Rattle.std.specs.Prelude.{◌≡◌, ◌≤◌, ◌++◌, IfOk, OnOk, 
 ghost use Rattle.std.specs.List.{flat_map};
 ghost use Rattle.mari_app.specs.Summary.{heading_line, number_line, run_line as run_text, summary_of, welfare_in, welfare_sum};
 
-use crate::writing::{put, put_number};
 use mari_publish::Block;
 use mari_remain::Books;
-use mari_units::Memory;
+use mari_units::{MOST_RUNS, Memory, put, put_number};
 use std::alloc::Global;
 
 /// Appends a number behind a word, and the line's end.
@@ -76,7 +75,7 @@ fn welfare_of(block: &Block) -> u64
 /// The sum of the welfares of blocks, in quarter-cents.
 #[tactic(auto, unfolding(crate::specs::Summary::welfare_sum))]
 fn sum_of(blocks: &[Block]) -> u128
-    requires { length blocks.now ≤ 1000 }
+    requires { length blocks.now ≤ MOST_RUNS }
     ensures { result ≡ welfare_sum blocks.now }
 {
     let mut sum: u128 = 0;
@@ -93,7 +92,7 @@ pub fn summary_text(
     books: &Books,
     blocks: &[Block],
 ) -> Result<Vec<u8>, Memory>
-    requires { length blocks.now ≤ 1000 }
+    requires { length blocks.now ≤ MOST_RUNS }
     ensures { IfOk result (λ text. text.items ≡ summary_of number books.now blocks.now) }
 {
     let mut text = Vec::new(alloc);

@@ -8,7 +8,7 @@ ghost use Rattle.mari_app.specs.Refusals.{HasName};
 
 use crate::refusals::check_name;
 use mari_day::file_name;
-use mari_units::{Memory, Refusal};
+use mari_units::{Memory, Refusal, put, put_number};
 use std::alloc::Global;
 
 /// The line that tells how the program is called.
@@ -17,20 +17,6 @@ pub fn usage_line() -> &'static [u8]
     ensures { result.now ≡ usage_text }
 {
     b"usage: mari clear FOLDER [--nodes N] [--workers K] | mari check FOLDER | mari generate NUMBER | mari migrate FOLDER borders | mari migrate FOLDER limits\n"
-}
-
-/// Appends a piece.
-pub fn put(out: &mut Vec<u8>, piece: &[u8]) -> Result<(), Memory>
-    ensures { OnOk result (out.new.items ≡ out.old.items ++ piece.now) }
-{
-    Ok(out.extend_from_slice(piece)?)
-}
-
-/// Appends a number.
-pub fn put_number(alloc: Global, out: &mut Vec<u8>, number: u128) -> Result<(), Memory>
-    ensures { OnOk result (out.new.items ≡ out.old.items ++ decimal number) }
-{
-    put(out, number.to_string(alloc)?.as_bytes())
 }
 
 /// The line of a file, by its number from 1, whose page can't be had.

@@ -3,7 +3,7 @@ use Rattle.std.specs.Prelude.{◌≡◌, ◌≢◌, ◌≤◌, ◌<◌, ℕ, ◌
 use Rattle.std.specs.List.{All, AllPairs}
 use Rattle.mari_units.specs.Names.{is_name}
 use Rattle.mari_units.specs.Numbers.{price_of, whole_of}
-use Rattle.mari_units.specs.declared.limits.TheConstants.{MOST_BID_MW, MOST_BIDS}
+use Rattle.mari_units.specs.declared.limits.TheConstants.{MOST_BID_MW, MOST_BIDS, MOST_PAGE}
 use Rattle.mari_units.specs.declared.numbers.Cents.{Cents}
 use Rattle.mari_rows.specs.Books.{Checks, Grammar}
 use Rattle.mari_rows.specs.Fields.{cents_in, is_first_of, number_in, IsWithinCap}
@@ -157,7 +157,7 @@ pub record IsBidBook (zones : ZoneBook) (quarters : ℕ) (book : BidBook) : Type
   pub ids : All (λ id. is_name id ≡ true) book.ids
   pub providers : All (λ provider. is_name provider ≡ true) book.providers
   pub few_providers : length book.providers ≤ length book.bids
-  pub few : length book.bids ≤ 268435456
+  pub few : length book.bids ≤ MOST_PAGE
   pub distinct : AllPairs (λ a b. a ≢ b) book.ids
   pub bids : All (IsBid zones (length book.providers) quarters) book.bids
-  pub of_quarter : (quarter : ℕ) → count_by (λ (bid : Bid). bid.quarter == quarter) book.bids ≤ 4096
+  pub of_quarter : (quarter : ℕ) → count_by (λ (bid : Bid). bid.quarter == quarter) book.bids ≤ MOST_BIDS

@@ -13,7 +13,7 @@ use mari_rows::{
     BookFault, BookSoFar, FileCheck, LineFault, NameIndex, Row, cents_of, count_one, is_first_of,
     is_price, is_whole, number_of, read_book,
 };
-use mari_units::{Cents, Items, MOST_BID_MW, MOST_BIDS, is_name_text};
+use mari_units::{Cents, Items, MOST_BID_MW, MOST_BIDS, MOST_PAGE, is_name_text};
 use mari_zones::ZoneBook;
 use std::alloc::{AllocError, Global};
 
@@ -83,7 +83,7 @@ impl BidBook {
         zones: &ZoneBook,
         quarters: u32,
     ) -> Result<BidBook, BookFault>
-        requires { length bids.now ≤ 268435456 }
+        requires { length bids.now ≤ MOST_PAGE }
         ensures book { GivesBook result (book_in (bid_grammar zones.now quarters) bids.now) }
         ensures bids { IfOk result (IsBidBook zones.now quarters) }
     {

@@ -22,7 +22,7 @@ use mari_market::Prices;
 use mari_progress::{Progress, Settled, heading, ledger_of, run_count};
 use mari_publish::{Block, FullBlock, Heading};
 use mari_remain::{Books, RunMarket};
-use mari_units::{Memory, Name};
+use mari_units::{MOST_RUNS, Memory, Name};
 use std::alloc::Global;
 
 /// The least fault of a published block, or what it adds where it has none.
@@ -100,7 +100,7 @@ impl DayCheck {
 
     /// The run behind the blocks so far.
     pub(crate) fn next_run(&self) -> u32
-        requires { self.now.progress.published + self.now.unpublished ≤ 1000 }
+        requires { self.now.progress.published + self.now.unpublished ≤ MOST_RUNS }
         ensures { result ≡ self.now.progress.published + self.now.unpublished + 1 }
     {
         self.progress.published + self.unpublished + 1

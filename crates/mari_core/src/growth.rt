@@ -2,7 +2,7 @@
 
 ghost use Rattle.std.specs.Prelude.{◌≡◌, ◌≢◌, ℕ, ◌+◌, ◌<◌, ◌≤◌, pos, ◌∷◌, [], true, map, length, slice_get, IfSome, IfOk, IfErr, OnOk, OnErr, MatchOption, ◌↔◌, IsTrue, Some, None, vec_capacity, vec_len};
 ghost use Rattle.std.specs.Option.{option_map};
-ghost use Rattle.mari_market.specs.Clearing.{IsSpent, ArePartsOfSearch};
+ghost use Rattle.mari_market.specs.Clearing.{IsSpent, ArePartsOfSearch, IsBudget};
 ghost use Rattle.mari_gates.specs.Prefixes.{IsCleared};
 ghost use Rattle.mari_market.specs.Market.{IsValid};
 ghost use Rattle.mari_market.specs.Prefix.{word_of, IsFeasiblePrefix};
@@ -21,7 +21,7 @@ use crate::node::{Node, NodeState};
 use crate::preorder::{finished_items, part_items};
 use mari_gates::{child_of, empty_prefix, may_branch_up};
 use mari_market::{Finding, Leaf, Market, PartItem, Prefix, Relaxed, TreeItem};
-use mari_units::Memory;
+use mari_units::{MOST_NODES, Memory};
 use std::alloc::Global;
 use std::marker::Model;
 
@@ -55,7 +55,7 @@ impl<'m> Model for Growth<'m> {
 /// The first node, counted from this one on, that waits, or the number of nodes where none does.
 fn next_untaken(nodes: &[Node], from: u32) -> u32
     requires within { from ≤ length nodes.now }
-    requires few { length nodes.now ≤ 50000 }
+    requires few { length nodes.now ≤ MOST_NODES }
     requires none_before { (y : ℕ) → y < from → state_at nodes.now y ≡ Some NodeState.Untaken → ⊥ }
     ensures { IsNext nodes.now result }
 {
@@ -103,7 +103,7 @@ impl<'m> Growth<'m> {
     /// A tree whose one node, the prefix that decides no gate, waits.
     pub fn start(alloc: Global, market: &'m Market, budget: u32) -> Result<Growth<'m>, Memory>
         requires market { IsValid market.now }
-        requires budget { (1 ≤ budget) × (budget ≤ 50000) }
+        requires budget { IsBudget budget }
         ensures { IfOk result (λ g. g ≡ seed market.now budget) }
     {
         let mut nodes = Vec::with_capacity(alloc, budget as usize)?;

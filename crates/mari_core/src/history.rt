@@ -6,6 +6,7 @@ ghost use Rattle.mari_market.specs.Market.{IsValid};
 ghost use Rattle.mari_market.specs.Relaxation.{IsClosedWelfare};
 ghost use Rattle.mari_core.specs.Machine.{started, KeepsFacts};
 ghost use Rattle.mari_core.specs.Replay.{AreProper, IsReplayed};
+ghost use Rattle.mari_market.specs.Clearing.{IsBudget};
 
 use crate::event::{Event, ReplayFault, StepFault};
 use crate::search::Search;
@@ -28,7 +29,7 @@ pub fn replay<'m>(
     requires actors { 1 ≤ actors }
     requires attained { IsAttained market.now first }
     requires closed { IsClosedWelfare market.now (pos first.welfare) }
-    requires budget { (1 ≤ budget) × (budget ≤ 50000) }
+    requires budget { IsBudget budget }
     requires events { AreProper (started market.now actors first budget) events.items }
     ensures replayed { IsReplayed (started market.now actors first budget) events.items result }
     ensures facts { IfOk result KeepsFacts }

@@ -7,6 +7,7 @@ ghost use Rattle.mari_core.specs.Nodes.{new_node, in_state};
 
 use mari_gates::opens;
 use mari_market::{Leaf, Prefix};
+use mari_units::MOST_GATES;
 use std::marker::Model;
 
 /// What is known of a node.
@@ -77,7 +78,7 @@ impl Node {
 
     /// Whether it decides the same gates as the prefix, and in the same way.
     pub fn decides(&self, prefix: &Prefix) -> bool
-        requires { length self.now.word ≤ 512 }
+        requires { length self.now.word ≤ MOST_GATES }
         ensures { IsTrue result ↔ (self.now.word ≡ word_of prefix.now) }
     {
         same_word(&self.prefix, prefix)
@@ -93,7 +94,7 @@ impl Node {
 
 /// Whether two prefixes decide the same gates in the same way.
 fn same_word(one: &Prefix, other: &Prefix) -> bool
-    requires { one.now.length ≤ 512 }
+    requires { one.now.length ≤ MOST_GATES }
     ensures { IsTrue result ↔ (word_of one.now ≡ word_of other.now) }
 {
     if one.length != other.length {

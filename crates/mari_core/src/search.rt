@@ -2,7 +2,7 @@
 
 ghost use Rattle.std.specs.Prelude.{◌≡◌, ◌≢◌, ℕ, ◌<◌, ◌≤◌, pos, ◌∷◌, [], true, map, length, replicate, slice_get, IfSome, IfOk, IfErr, MatchOption};
 ghost use Rattle.std.specs.Option.{option_map};
-ghost use Rattle.mari_market.specs.Clearing.{IsOptimalClearing, IsSpent, ArePartsOfSearch};
+ghost use Rattle.mari_market.specs.Clearing.{IsOptimalClearing, IsSpent, ArePartsOfSearch, IsBudget};
 ghost use Rattle.mari_market.specs.Finding.{IsAttained};
 ghost use Rattle.mari_market.specs.Market.{IsValid};
 ghost use Rattle.mari_market.specs.Prefix.{word_of, IsFeasiblePrefix};
@@ -113,7 +113,7 @@ impl<'m> Search<'m> {
         requires actors { 1 ≤ actors }
         requires attained { IsAttained market.now first }
         requires closed { IsClosedWelfare market.now (pos first.welfare) }
-        requires budget { (1 ≤ budget) × (budget ≤ 50000) }
+        requires budget { IsBudget budget }
         ensures started { IfOk result (λ s. s ≡ started market.now actors first budget) }
         ensures facts { IfOk result KeepsFacts }
     {

@@ -16,6 +16,7 @@ use Rattle.mari_day.specs.DateChecks.{date_check_number}
 use Rattle.mari_day.specs.declared.calendar_page.CalendarDay.{CalendarDay}
 use Rattle.mari_day.specs.declared.calendar_page.DateCheck.{DateCheck}
 use Rattle.mari_day.specs.declared.calendar_page.DateCheck.TheVariants.{BadDate, BadZoneText, NotOneRecord, NotWholeQuarters, OutOfRange}
+use Rattle.mari_units.specs.declared.limits.TheConstants.{MOST_QUARTERS}
 
 -- the columns of the file
 unfoldable pub day_columns : List ℕ
@@ -59,4 +60,4 @@ calendar_day_in page = day_of_read (rows_in day_columns page)
 -- what holds of every day that is read: a date in digits, and 1 to 400 quarter hours
 pub record IsCalendarDay (day : CalendarDay) : Type 0 where
   pub date : IsDate day.date
-  pub quarters : Between 1 400 day.quarters
+  pub quarters : Between 1 MOST_QUARTERS day.quarters

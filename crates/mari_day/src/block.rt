@@ -22,7 +22,7 @@ use mari_progress::{Settled, heading, ledger_of, providers_of};
 use mari_publish::{AmountLine, FullBlock};
 use mari_remain::{Books, RunMarket};
 use mari_settle::Ledger;
-use mari_units::{Items, Memory, Quarters};
+use mari_units::{Items, MOST_NODES, Memory, Quarters};
 use std::alloc::Global;
 
 /// What is published of a clearing besides itself: its prices, the area of each zone, and its ledger.
@@ -149,7 +149,7 @@ pub fn published_run(
     requires also { IfSome also (λ scheduled. ArePrices made.market scheduled.now.cents) }
     ensures published { (budget : ℕ) → IsClearing made.market budget clearing
         → IfOk result (λ p. IsPublishedOf books.now budget run made (option_map (λ scheduled. scheduled.now.cents) also.entry) p.block) }
-    ensures fits { (budget : ℕ) → budget ≤ 50000 → IsClearing made.market budget clearing → IfOk result (λ p. FullFits p.block) }
+    ensures fits { (budget : ℕ) → budget ≤ MOST_NODES → IsClearing made.market budget clearing → IfOk result (λ p. FullFits p.block) }
     ensures settled { IfOk result (λ p. IsRunOf books.now made (option_map (λ scheduled. scheduled.now.cents) also.entry) p.block p.settled) }
 {
     let priced = priced_of(alloc, books, &made, &clearing, also)?;

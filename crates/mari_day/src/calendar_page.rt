@@ -9,7 +9,7 @@ ghost use Rattle.mari_day.specs.DateChecks.{date_check_name, date_check_number};
 
 use mari_calendar::{CalendarFault, quarters_of};
 use mari_rows::{BookFault, FileCheck, LineFault, Row, read_rows};
-use mari_units::{Name, NameFault, read_name};
+use mari_units::{MOST_PAGE, Name, NameFault, read_name};
 use std::alloc::Global;
 
 const COLUMNS: &str = "date,rule";
@@ -52,7 +52,7 @@ impl CalendarDay {
     /// The day of a page, or its first refusal. That there is exactly one record is tested before the record.
     #[tactic(auto, unfolding(crate::specs::CalendarPage::day_columns))]
     pub fn read(alloc: Global, page: &[u8]) -> Result<CalendarDay, BookFault>
-        requires { length page.now ≤ 268435456 }
+        requires { length page.now ≤ MOST_PAGE }
         ensures day { GivesBook result (calendar_day_in page.now) }
         ensures facts { IfOk result IsCalendarDay }
     {

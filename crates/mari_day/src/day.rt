@@ -11,6 +11,7 @@ ghost use Rattle.mari_day.specs.Day.{EndsDay, WroteDay};
 ghost use Rattle.mari_progress.specs.Money.{amount_line};
 ghost use Rattle.mari_day.specs.Progress.{IsDayProgress};
 ghost use Rattle.mari_day.specs.Stepped.{Closes, Stopped, WroteFirst};
+ghost use Rattle.mari_market.specs.Clearing.{IsBudget};
 
 use crate::lines::{amount_lines, money_lines};
 use crate::step::{Stop, step, write_text};
@@ -61,7 +62,7 @@ fn all_places(alloc: Global, count: u32) -> Result<Vec<u32>, Memory>
 fn begin<K: Sink>(alloc: Global, books: &Books, budget: u32, sink: &mut K) -> Result<Progress, Stop>
     requires accepted { IsAccepted books.now }
     requires dated { IsDated books.now }
-    requires budget { (1 ≤ budget) × (budget ≤ 50000) }
+    requires budget { IsBudget budget }
     ensures begun { IfOk result (λ progress. WroteFirst books.now budget 0 progress (K.taken sink.old) (K.taken sink.new)) }
     ensures stopped { IfErr result (Stopped books.now budget (K.taken sink.old) (K.taken sink.new)) }
     ensures cause { Counts (result ≡ Err Stop.Sink) (K.faults sink.old) (K.faults sink.new) }
@@ -84,7 +85,7 @@ fn write_runs<C: Clearer, K: Sink>(
 ) -> Result<Progress, Stop>
     requires accepted { IsAccepted books.now }
     requires dated { IsDated books.now }
-    requires budget { (1 ≤ budget) × (budget ≤ 50000) }
+    requires budget { IsBudget budget }
     requires ready { C.ready clearer.old }
     ensures written { IfOk result (λ progress. WroteFirst books.now budget (length books.now.runs.runs) progress (K.taken sink.old) (K.taken sink.new)) }
     ensures stopped { IfErr result (Stopped books.now budget (K.taken sink.old) (K.taken sink.new)) }
@@ -111,7 +112,7 @@ fn close<K: Sink>(
     requires accepted { IsAccepted books.now }
     requires dated { IsDated books.now }
     requires stands { (budget : ℕ) × (blocks : List PrintedBlock) × IsDayProgress books.now budget blocks progress.now × (length blocks ≡ length books.now.runs.runs) }
-    ensures closes { (budget : ℕ) (blocks : List PrintedBlock) → (1 ≤ budget) × (budget ≤ 50000) → IsDayProgress books.now budget blocks progress.now
+    ensures closes { (budget : ℕ) (blocks : List PrintedBlock) → IsBudget budget → IsDayProgress books.now budget blocks progress.now
         → length blocks ≡ length books.now.runs.runs → Closes books.now budget blocks (K.taken sink.old) (K.taken sink.new) result }
     ensures cause { Counts (result ≡ Err Stop.Sink) (K.faults sink.old) (K.faults sink.new) }
 {
@@ -139,7 +140,7 @@ fn write_day<C: Clearer, K: Sink>(
 ) -> Result<u32, Stop>
     requires accepted { IsAccepted books.now }
     requires dated { IsDated books.now }
-    requires budget { (1 ≤ budget) × (budget ≤ 50000) }
+    requires budget { IsBudget budget }
     requires ready { C.ready clearer.old }
     ensures written { IfOk result (λ published. (published ≤ length books.now.runs.runs)
         × WroteDay books.now budget published (length books.now.runs.runs - published) (K.taken sink.old) (K.taken sink.new)) }
@@ -168,7 +169,7 @@ pub fn run_day<C: Clearer, K: Sink>(
 ) -> DayEnd
     requires accepted { IsAccepted books.now }
     requires dated { IsDated books.now }
-    requires budget { (1 ≤ budget) × (budget ≤ 50000) }
+    requires budget { IsBudget budget }
     requires ready { C.ready clearer.old }
     ensures day { EndsDay books.now budget (K.taken sink.old) (K.taken sink.new) result }
     ensures cause { Counts (result ≡ DayEnd.WriteFault) (K.faults sink.old) (K.faults sink.new) }

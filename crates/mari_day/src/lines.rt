@@ -15,7 +15,7 @@ use mari_prices::Pricing;
 use mari_publish::{AmountLine, BidLine, BorderLine, MoneyLine, ZoneLine};
 use mari_rows::NameIndex;
 use mari_settle::OperatorLine;
-use mari_units::{Memory, Name, NameFault, Quarters, read_name};
+use mari_units::{MOST_ZONES, Memory, Name, NameFault, Quarters, read_name};
 use mari_zones::BorderEnds;
 use std::alloc::Global;
 
@@ -42,7 +42,7 @@ pub fn zone_lines(
     pricing: &Pricing,
     areas: &[u32],
 ) -> Result<Vec<ZoneLine>, Memory>
-    requires few { length zones.now ≤ 64 }
+    requires few { length zones.now ≤ MOST_ZONES }
     requires names { All (λ name. is_name name ≡ true) zones.now }
     requires published { length pricing.now.published.cents ≡ length zones.now }
     requires least { length pricing.now.least.cents ≡ length zones.now }
@@ -137,7 +137,7 @@ pub fn money_lines(
     operators: &NameIndex,
     lines: &[OperatorLine],
 ) -> Result<Vec<MoneyLine>, Memory>
-    requires few { length operators.now ≤ 64 }
+    requires few { length operators.now ≤ MOST_ZONES }
     requires names { All (λ name. is_name name ≡ true) operators.now }
     requires one_each { length lines.now ≡ length operators.now }
     requires small { All (LineIsWithin (2 * 10 ^ 18)) lines.now }

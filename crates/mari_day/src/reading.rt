@@ -28,7 +28,7 @@ use mari_io::{Fetch, Shelf};
 use mari_links::LinkBook;
 use mari_remain::Books;
 use mari_rows::BookFault;
-use mari_units::Refusal;
+use mari_units::{MOST_BORDERS, MOST_RUNS, Refusal};
 use mari_zones::{BorderBook, ZoneBook};
 use std::alloc::Global;
 
@@ -139,7 +139,7 @@ fn read_demands(
     runs: &RunBook,
     zones: &ZoneBook,
 ) -> Result<DemandBook, BooksFault>
-    requires { length runs.now.runs ≤ 1000 }
+    requires { length runs.now.runs ≤ MOST_RUNS }
     ensures reads { Reads result (of_file File.Demands (book_in (demand_grammar zones.now (length runs.now.runs)) (page_of folder.now File.Demands))) }
     ensures file { NamesAFile result }
     ensures facts { IfOk result (IsDemandBook zones.now (length runs.now.runs)) }
@@ -158,8 +158,8 @@ fn read_limits(
     borders: &BorderBook,
     runs: &RunBook,
 ) -> Result<Option<LimitBook>, BooksFault>
-    requires borders { length borders.now.borders ≤ 256 }
-    requires runs { length runs.now.runs ≤ 1000 }
+    requires borders { length borders.now.borders ≤ MOST_BORDERS }
+    requires runs { length runs.now.runs ≤ MOST_RUNS }
     ensures reads { Reads result (limits_at zones.now borders.now (length runs.now.runs) folder.now) }
     ensures file { NamesAFile result }
     ensures count { IfOk result (λ limits. length folder.now ≡ (if is_some limits then 8 else 7)) }

@@ -10,6 +10,7 @@ ghost use Rattle.mari_day.specs.Dated.{IsDated};
 ghost use Rattle.mari_day.specs.Day.{then_took};
 ghost use Rattle.mari_day.specs.Progress.{IsDayProgress, IsRunDone};
 ghost use Rattle.mari_day.specs.Stepped.{Stepped};
+ghost use Rattle.mari_market.specs.Clearing.{IsBudget};
 
 use crate::block::published_run;
 use crate::writing::write_all;
@@ -59,7 +60,7 @@ fn run_done<C: Clearer>(
     requires dated { IsDated books.now }
     requires last { run ≤ length books.now.runs.runs }
     requires stands { (blocks : List PrintedBlock) × IsDayProgress books.now budget blocks progress.now × (run ≡ run_behind blocks) }
-    requires budget { (1 ≤ budget) × (budget ≤ 50000) }
+    requires budget { IsBudget budget }
     requires ready { C.ready clearer.old }
     ensures done { (blocks : List PrintedBlock) → IsDayProgress books.now budget blocks progress.now → run ≡ run_behind blocks → IfOk result (IsRunDone books.now budget blocks) }
     ensures fits { IfOk result (λ done. BlockFits done.block) }
@@ -113,7 +114,7 @@ pub fn step<C: Clearer, K: Sink>(
     requires dated { IsDated books.now }
     requires last { run ≤ length books.now.runs.runs }
     requires stands { (blocks : List PrintedBlock) × IsDayProgress books.now budget blocks progress.old × (run ≡ run_behind blocks) }
-    requires budget { (1 ≤ budget) × (budget ≤ 50000) }
+    requires budget { IsBudget budget }
     requires ready { C.ready clearer.old }
     ensures stepped { (blocks : List PrintedBlock) → IsDayProgress books.now budget blocks progress.old → run ≡ run_behind blocks
         → Stepped books.now budget blocks progress.new (K.taken sink.old) (K.taken sink.new) result }

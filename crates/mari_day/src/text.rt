@@ -5,6 +5,7 @@ ghost use Rattle.mari_io.specs.Outside.{Counts, taken_after, TookNothing, IsRefu
 ghost use Rattle.mari_remain.specs.Accepted.{IsAccepted};
 ghost use Rattle.mari_day.specs.Dated.{IsDated};
 ghost use Rattle.mari_day.specs.Day.{IsPrintedDay};
+ghost use Rattle.mari_market.specs.Clearing.{IsBudget};
 
 use crate::day::{DayEnd, run_day};
 use mari_io::{Failed, Sink};
@@ -57,7 +58,7 @@ pub fn day_of<C: Clearer>(
 ) -> Result<PrintedDay, Memory>
     requires accepted { IsAccepted books.now }
     requires dated { IsDated books.now }
-    requires budget { (1 ≤ budget) × (budget ≤ 50000) }
+    requires budget { IsBudget budget }
     requires ready { C.ready clearer.old }
     ensures day { IfOk result (IsPrintedDay books.now budget) }
     ensures ready { C.ready clearer.new }

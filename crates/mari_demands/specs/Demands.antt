@@ -87,10 +87,10 @@ pub record IsDemand (zones : ZoneBook) (runs : ℕ) (demand : Demand) : Type 0 w
   pub first_run : 1 ≤ demand.run
   pub last_run : demand.run ≤ runs
   pub zone : demand.zone < length zones.zones
-  pub mw : unsigned_abs demand.mw ≤ 99999
+  pub mw : unsigned_abs demand.mw ≤ MOST_MW
   pub price : IfSome demand.price (λ (price : Cents). IsWithinCap price.0)
 
 -- what holds of every book of demands that is read: no run has more than 512
 pub record IsDemandBook (zones : ZoneBook) (runs : ℕ) (book : DemandBook) : Type 0 where
   pub demands : All (IsDemand zones runs) book.demands
-  pub of_run : (run : ℕ) → count_by (λ (demand : Demand). demand.run == run) book.demands ≤ 512
+  pub of_run : (run : ℕ) → count_by (λ (demand : Demand). demand.run == run) book.demands ≤ MOST_DEMANDS

@@ -2,6 +2,7 @@
 use Rattle.std.specs.Prelude.{◌≡◌, ◌≤◌, ◌<◌, ℕ, ◌+◌, ◌-◌, ◌*◌, List, [], Option, None, get_or, length, map, unwrap_or}
 use Rattle.std.specs.List.{range_with_len}
 use Rattle.mari_demands.specs.declared.limits.Limits.{Limits}
+use Rattle.mari_units.specs.declared.limits.TheConstants.{MOST_MW}
 
 -- no limit at all: nothing may flow
 abbrev pub no_limits : Limits
@@ -23,5 +24,5 @@ limits_in table run border = get_or (get_or table (run - 1) []) border no_limits
 pub record IsLimitTable (runs borders : ℕ) (table : List (List Limits)) : Type 0 where
   pub runs_there : length table ≡ runs
   pub borders_there : (run : ℕ) → run < runs → length (get_or table run []) ≡ borders
-  pub limit : (run border : ℕ) → (limits_in table run border).limit ≤ 99999
-  pub back : (run border : ℕ) → (limits_in table run border).back ≤ 99999
+  pub limit : (run border : ℕ) → (limits_in table run border).limit ≤ MOST_MW
+  pub back : (run border : ℕ) → (limits_in table run border).back ≤ MOST_MW

@@ -95,6 +95,6 @@ pub record IsBefore (a b : Run) : Type 0 where
 
 -- what holds of every book of runs that is read
 pub record IsRunBook (quarters : ℕ) (book : RunBook) : Type 0 where
-  pub few : length book.runs ≤ 1000
+  pub few : length book.runs ≤ MOST_RUNS
   pub runs : All (IsRun quarters) book.runs
   pub in_order : AllPairs IsBefore book.runs

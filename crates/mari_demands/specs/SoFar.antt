@@ -7,6 +7,7 @@ use Rattle.mari_demands.specs.Runs.{last_quarter, run_of}
 use Rattle.mari_demands.specs.declared.demands.DemandsSoFar.{DemandsSoFar}
 use Rattle.mari_demands.specs.declared.limits.LimitsSoFar.{LimitsSoFar}
 use Rattle.mari_demands.specs.declared.runs.RunsSoFar.{RunsSoFar}
+use Rattle.mari_units.specs.declared.limits.TheConstants.{MOST_BORDERS, MOST_RUNS}
 
 -- the runs of these lines, and the quarter of the last of them
 pub record HoldsRuns (rows : List Row) (so_far : RunsSoFar) : Type 0 where
@@ -21,8 +22,8 @@ pub record HoldsDemands (rows : List Row) (so_far : DemandsSoFar) : Type 0 where
 
 -- what these lines state of each border in each run, at its place
 pub record HoldsLimits (rows : List Row) (so_far : LimitsSoFar) : Type 0 where
-  pub few_runs : so_far.runs ≤ 1000
-  pub few_borders : length so_far.borders.now.borders ≤ 256
+  pub few_runs : so_far.runs ≤ MOST_RUNS
+  pub few_borders : length so_far.borders.now.borders ≤ MOST_BORDERS
   pub sized : length so_far.limits.items ≡ so_far.runs * length so_far.borders.now.borders
   pub limits : (run border : ℕ) → run < so_far.runs → border < length so_far.borders.now.borders
       → get_or so_far.limits.items (run * length so_far.borders.now.borders + border) None ≡ stated so_far.zones.now so_far.borders.now so_far.runs rows (run + 1) border

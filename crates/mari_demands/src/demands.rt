@@ -10,7 +10,7 @@ use mari_rows::{
     BookFault, BookSoFar, FileCheck, LineFault, Row, cents_of, count_one, is_price, is_whole,
     number_of, read_book,
 };
-use mari_units::{Cents, Items, MOST_DEMANDS, MOST_MW, read_mw};
+use mari_units::{Cents, Items, MOST_DEMANDS, MOST_MW, MOST_PAGE, MOST_RUNS, read_mw};
 use mari_zones::ZoneBook;
 use std::alloc::{AllocError, Global};
 
@@ -68,8 +68,8 @@ impl DemandBook {
         runs: &RunBook,
         zones: &ZoneBook,
     ) -> Result<DemandBook, BookFault>
-        requires page { length demands.now ≤ 268435456 }
-        requires runs { length runs.now.runs ≤ 1000 }
+        requires page { length demands.now ≤ MOST_PAGE }
+        requires runs { length runs.now.runs ≤ MOST_RUNS }
         ensures book { GivesBook result (book_in (demand_grammar zones.now (length runs.now.runs)) demands.now) }
         ensures demands { IfOk result (IsDemandBook zones.now (length runs.now.runs)) }
     {

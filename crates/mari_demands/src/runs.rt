@@ -11,7 +11,7 @@ use mari_rows::{
     BookFault, BookSoFar, FileCheck, LineFault, Row, cents_of, is_first_of, is_price, is_whole,
     number_of, read_book,
 };
-use mari_units::{Cents, Items, MOST_RUNS, NumberFault, read_mw};
+use mari_units::{Cents, Items, MOST_PAGE, MOST_RUNS, NumberFault, read_mw};
 use std::alloc::Global;
 
 const COLUMNS: &str = "run,quarter,kind,reference";
@@ -61,7 +61,7 @@ impl RunBook {
     /// The book of a page on a day of so many quarters, or its first refusal.
     #[tactic(auto, unfolding(crate::specs::Runs::run_columns))]
     pub fn read(alloc: Global, runs: &[u8], quarters: u32) -> Result<RunBook, BookFault>
-        requires { length runs.now ≤ 268435456 }
+        requires { length runs.now ≤ MOST_PAGE }
         ensures book { GivesBook result (book_in (run_grammar quarters) runs.now) }
         ensures runs { IfOk result (IsRunBook quarters) }
     {

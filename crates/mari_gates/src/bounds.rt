@@ -7,7 +7,7 @@ ghost use Rattle.mari_market.specs.Prefix.{bounds_at, IsFeasiblePrefix};
 
 use crate::states::states_at;
 use mari_market::{Bounds, Market, Prefix};
-use mari_units::{Items, Memory};
+use mari_units::{Items, MOST_MW, Memory};
 use std::alloc::Global;
 
 /// The least and the greatest that an order may run at the prefix, in MW.
@@ -28,7 +28,7 @@ pub fn bounds_of(alloc: Global, market: &Market, prefix: &Prefix) -> Result<Boun
     requires prefix { IsFeasiblePrefix market.now prefix.now }
     ensures least { IfOk result (λ b. b.least ≡ map (λ o. (bounds_at market.now prefix.now o).lo) market.now.orders) }
     ensures greatest { IfOk result (λ b. b.greatest ≡ map (λ o. (bounds_at market.now prefix.now o).hi) market.now.orders) }
-    ensures in_order { IfOk result (λ b. AllZip (λ lo hi. (lo ≤ hi) × (hi ≤ 99999)) b.least b.greatest) }
+    ensures in_order { IfOk result (λ b. AllZip (λ lo hi. (lo ≤ hi) × (hi ≤ MOST_MW)) b.least b.greatest) }
 {
     let states = states_at(market, prefix);
     let orders = market.orders.as_slice();

@@ -11,10 +11,11 @@ ghost use Rattle.mari_gates.specs.Prefixes.{IsCleared};
 
 use crate::prefixes::{empty_prefix, opens, set_bit};
 use mari_market::{Activation, Market, Order, Prefix};
+use mari_units::MOST_GATES;
 
 /// Sets the bit of an order's gate, if it has one and runs.
 fn mark(prefix: &mut Prefix, order: &Order, mw: u32)
-    requires { IfSome order.now.gate (λ g. g < 512) }
+    requires { IfSome order.now.gate (λ g. g < MOST_GATES) }
     ensures bits { (g : ℕ) → bit_of prefix.new g ≡ (bit_of prefix.old g || is_run_of g order.now mw) }
     ensures length { prefix.new.length ≡ prefix.old.length }
 {
@@ -46,7 +47,7 @@ pub fn gate_word(market: &Market, activation: &Activation) -> Prefix
 /// closed.
 pub fn comes_before(prefix: &Prefix, word: &Prefix) -> bool
     requires prefix { IsCleared prefix.now }
-    requires few { word.now.length ≤ 512 }
+    requires few { word.now.length ≤ MOST_GATES }
     ensures { IsTrue result ↔ ComesBefore (word_of prefix.now) (word_of word.now) }
 {
     for gate in 0..word.length {

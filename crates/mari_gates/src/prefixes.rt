@@ -11,7 +11,7 @@ use mari_units::MOST_GATES;
 
 /// Whether the gate's bit is 1, so that the prefix, where it decides the gate, decides it as open.
 pub fn opens(prefix: &Prefix, gate: u32) -> bool
-    requires { gate < 512 }
+    requires { gate < MOST_GATES }
     ensures { result ≡ bit_of prefix.now gate }
 {
     (prefix.bits[(gate / 64) as usize] >> (gate % 64)) & 1 == 1
@@ -25,7 +25,7 @@ pub(crate) fn is_group_taken(
     group: Option<u32>,
 ) -> bool
     requires gates { decided ≤ length gates.now }
-    requires few { decided ≤ 512 }
+    requires few { decided ≤ MOST_GATES }
     ensures { result ≡ is_taken group gates.now (decisions prefix.now decided) }
 {
     match group {
@@ -37,7 +37,7 @@ pub(crate) fn is_group_taken(
 /// Whether one of the first `decided` gates is of the group and open.
 fn takes_group(gates: &[GateInfo], prefix: &Prefix, decided: u32, group: u32) -> bool
     requires gates { decided ≤ length gates.now }
-    requires few { decided ≤ 512 }
+    requires few { decided ≤ MOST_GATES }
     ensures { result ≡ group_taken group gates.now (decisions prefix.now decided) }
 {
     for gate in 0..decided {
@@ -50,7 +50,7 @@ fn takes_group(gates: &[GateInfo], prefix: &Prefix, decided: u32, group: u32) ->
 
 /// Whether the parent, if there is one, is one of the first `decided` gates and open.
 fn is_parent_open(prefix: &Prefix, decided: u32, parent: Option<u32>) -> bool
-    requires { decided ≤ 512 }
+    requires { decided ≤ MOST_GATES }
     ensures { result ≡ parent_opens (decisions prefix.now decided) parent }
 {
     match parent {
@@ -62,7 +62,7 @@ fn is_parent_open(prefix: &Prefix, decided: u32, parent: Option<u32>) -> bool
 /// Whether the gate may be opened after the gates before it: its parent is open, and no open gate shares its group.
 fn may_open_next(gates: &[GateInfo], prefix: &Prefix, gate: u32) -> bool
     requires gate { gate < length gates.now }
-    requires few { gate < 512 }
+    requires few { gate < MOST_GATES }
     ensures { result ≡ may_open gates.now (decisions prefix.now gate) gate }
 {
     let info = gates[gate as usize];
@@ -71,7 +71,7 @@ fn may_open_next(gates: &[GateInfo], prefix: &Prefix, gate: u32) -> bool
 
 /// Whether the open gates of the prefix keep the rules of parents and groups.
 fn keeps_rules(gates: &[GateInfo], prefix: &Prefix) -> bool
-    requires few { length gates.now ≤ 512 }
+    requires few { length gates.now ≤ MOST_GATES }
     requires decided { prefix.now.length ≤ length gates.now }
     requires earlier { ParentsEarlier gates.now }
     ensures { IsTrue result ↔ IsFeasibleWord gates.now (word_of prefix.now) }
@@ -133,7 +133,7 @@ fn with_bit(word: u64, place: u32, set: bool) -> u64
 
 /// Writes the bit of one gate.
 pub(crate) fn set_bit(prefix: &mut Prefix, gate: u32, opened: bool)
-    requires { gate < 512 }
+    requires { gate < MOST_GATES }
     ensures same { bit_of prefix.new gate ≡ opened }
     ensures others { (g : ℕ) → g ≢ gate → bit_of prefix.new g ≡ bit_of prefix.old g }
     ensures length { prefix.new.length ≡ prefix.old.length }
@@ -155,7 +155,7 @@ pub fn empty_prefix() -> Prefix
 
 /// The prefix that decides one gate more.
 pub fn child_of(prefix: &Prefix, opened: bool) -> Prefix
-    requires room { prefix.now.length < 512 }
+    requires room { prefix.now.length < MOST_GATES }
     requires cleared { IsCleared prefix.now }
     ensures length { result.length ≡ prefix.now.length + 1 }
     ensures word { word_of result ≡ word_of prefix.now ++ opened ∷ [] }
@@ -170,7 +170,7 @@ pub fn child_of(prefix: &Prefix, opened: bool) -> Prefix
 /// The prefix without its last decision.
 pub fn without_last(prefix: &Prefix) -> Prefix
     requires decided { 0 < prefix.now.length }
-    requires few { prefix.now.length ≤ 512 }
+    requires few { prefix.now.length ≤ MOST_GATES }
     requires cleared { IsCleared prefix.now }
     ensures length { result.length + 1 ≡ prefix.now.length }
     ensures word { word_of prefix.now ≡ word_of result ++ bit_of prefix.now result.length ∷ [] }

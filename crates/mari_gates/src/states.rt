@@ -10,6 +10,7 @@ ghost use Rattle.mari_gates.specs.GateTable.{state_in, meaning_of, AreStatesBelo
 
 use crate::prefixes::{is_group_taken, opens};
 use mari_market::{GateInfo, Market, Order, Prefix};
+use mari_units::MOST_GATES;
 use std::marker::Model;
 
 /// What is known of a gate at a prefix: it is open, it is closed, or it may still be either.
@@ -23,7 +24,7 @@ pub enum GateState {
 /// The state of each gate at a prefix.
 #[derive(Drop)]
 pub struct GateStates {
-    states: [GateState; 512],
+    states: [GateState; MOST_GATES],
 }
 
 impl Model for GateStates {
@@ -36,8 +37,8 @@ impl Model for GateStates {
 }
 
 /// What a parent leaves to its child: closed below a closed parent, and else free.
-fn state_below(states: &[GateState; 512], parent: Option<u32>) -> GateState
-    requires { IfSome parent (λ h. h < 512) }
+fn state_below(states: &[GateState; MOST_GATES], parent: Option<u32>) -> GateState
+    requires { IfSome parent (λ h. h < MOST_GATES) }
     ensures { meaning_of result ≡ below_parent (state_in states.now) parent }
 {
     match parent {
@@ -54,10 +55,10 @@ fn state_below(states: &[GateState; 512], parent: Option<u32>) -> GateState
 fn implied_state(
     gates: &[GateInfo],
     prefix: &Prefix,
-    states: &[GateState; 512],
+    states: &[GateState; MOST_GATES],
     gate: u32,
 ) -> GateState
-    requires few { length gates.now ≤ 512 }
+    requires few { length gates.now ≤ MOST_GATES }
     requires gate { gate < length gates.now }
     requires decided { prefix.now.length ≤ gate }
     requires earlier { ParentsEarlier gates.now }
@@ -75,10 +76,10 @@ fn implied_state(
 fn next_state(
     gates: &[GateInfo],
     prefix: &Prefix,
-    states: &[GateState; 512],
+    states: &[GateState; MOST_GATES],
     gate: u32,
 ) -> GateState
-    requires few { length gates.now ≤ 512 }
+    requires few { length gates.now ≤ MOST_GATES }
     requires gate { gate < length gates.now }
     requires earlier { ParentsEarlier gates.now }
     requires before { AreStatesBelow gates.now (word_of prefix.now) states.now gate }
@@ -104,7 +105,7 @@ pub fn states_at(market: &Market, prefix: &Prefix) -> GateStates
     ensures bounds { (o : Order) → GateFits (length market.now.gates) o → span_in (state_in result) o ≡ bounds_at market.now prefix.now o }
 {
     let gates = market.gates.as_slice();
-    let mut states = [GateState::Free; 512];
+    let mut states = [GateState::Free; MOST_GATES];
     for gate in 0..gates.len() as u32 {
         states[gate as usize] = next_state(gates, prefix, &states, gate);
     }
@@ -114,7 +115,7 @@ pub fn states_at(market: &Market, prefix: &Prefix) -> GateStates
 impl GateStates {
     /// The state of a gate.
     fn state(&self, gate: u32) -> GateState
-        requires { gate < 512 }
+        requires { gate < MOST_GATES }
         ensures { meaning_of result ≡ state_in self.now gate }
     {
         self.states[gate as usize]
@@ -122,7 +123,7 @@ impl GateStates {
 
     /// The least and the greatest that an order may run, in MW, where its gate is as the table has it.
     pub fn span(&self, order: &Order) -> (u32, u32)
-        requires { IfSome order.now.gate (λ g. g < 512) }
+        requires { IfSome order.now.gate (λ g. g < MOST_GATES) }
         ensures least { result.0 ≡ (span_in (state_in self.now) order.now).lo }
         ensures greatest { result.1 ≡ (span_in (state_in self.now) order.now).hi }
     {

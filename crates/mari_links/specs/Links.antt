@@ -266,4 +266,4 @@ pub record AreLinks (bids : BidBook) (book : LinkBook) (bid : ℕ) (links : BidL
 pub record IsLinkBook (bids : BidBook) (book : LinkBook) : Type 0 where
   pub one_each : length book.links ≡ length bids.ids
   pub links : (bid : ℕ) (links : BidLinks) → slice_get book.links bid ≡ Some links → AreLinks bids book bid links
-  pub of_quarter : (quarter : ℕ) → count_of bids (filter (has_gate book) (range_with_len 0 (length book.links))) quarter ≤ 512
+  pub of_quarter : (quarter : ℕ) → count_of bids (filter (has_gate book) (range_with_len 0 (length book.links))) quarter ≤ MOST_GATES

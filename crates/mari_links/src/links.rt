@@ -7,7 +7,7 @@ ghost use Rattle.mari_links.specs.Links.{link_columns, link_grammar, said_by, Is
 use crate::so_far::LinksSoFar;
 use mari_bids::BidBook;
 use mari_rows::{BookFault, BookSoFar, FileCheck, LineFault, Row, read_book};
-use mari_units::Items;
+use mari_units::{Items, MOST_PAGE};
 use std::alloc::Global;
 
 const COLUMNS: &str = "kind,first,second";
@@ -68,7 +68,7 @@ impl LinkBook {
     /// The book of a page of links between these bids, or its first refusal.
     #[tactic(auto, unfolding(crate::specs::Links::link_columns))]
     pub fn read(alloc: Global, links: &[u8], bids: &BidBook) -> Result<LinkBook, BookFault>
-        requires { length links.now ≤ 268435456 }
+        requires { length links.now ≤ MOST_PAGE }
         ensures book { GivesBook result (book_in (link_grammar bids.now) links.now) }
         ensures links { IfOk result (IsLinkBook bids.now) }
     {

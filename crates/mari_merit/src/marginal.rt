@@ -6,8 +6,8 @@ ghost use Rattle.std.specs.List.Sorted.{IsPermutation};
 ghost use Rattle.mari_market.specs.Price.{IsPrice};
 ghost use Rattle.mari_merit.specs.Merit.{withdrawn_in, rung_of, room_below, IsMarginal, IsAscending};
 
-use mari_market::{Order, Side};
-use mari_units::{Cents, Memory};
+use mari_market::{MOST_ORDERS, Order, Side};
+use mari_units::{Cents, MOST_MW, Memory};
 use std::alloc::Global;
 
 /// A rung of the merit order: the price of an order, in cents per MWh, and its greatest quantity in MW.
@@ -19,10 +19,10 @@ pub struct Rung {
 
 /// The need: what the withdrawals take at most, in MW.
 pub fn withdrawn(orders: &[Order]) -> u64
-    requires few { length orders.now ≤ 4608 }
-    requires small { All (λ o. o.greatest ≤ 99999) orders.now }
+    requires few { length orders.now ≤ MOST_ORDERS }
+    requires small { All (λ o. o.greatest ≤ MOST_MW) orders.now }
     ensures total { result ≡ withdrawn_in orders.now }
-    ensures bound { result ≤ 99999 * length orders.now }
+    ensures bound { result ≤ MOST_MW * length orders.now }
 {
     let mut total = 0u64;
     for order in orders {
@@ -35,8 +35,8 @@ pub fn withdrawn(orders: &[Order]) -> u64
 
 /// What the orders that are cheaper than a price run at most, in MW.
 pub fn cheaper(orders: &[Order], price: Cents) -> u64
-    requires few { length orders.now ≤ 4608 }
-    requires small { All (λ o. o.greatest ≤ 99999) orders.now }
+    requires few { length orders.now ≤ MOST_ORDERS }
+    requires small { All (λ o. o.greatest ≤ MOST_MW) orders.now }
     ensures { result ≡ room_below price.0 (map rung_of orders.now) }
 {
     let mut total = 0u64;
@@ -73,8 +73,8 @@ fn merit_order(alloc: Global, orders: &[Order]) -> Result<Vec<Rung>, Memory>
 fn marginal_rung(rungs: &[Rung], need: u64) -> Cents
     requires ascending { IsAscending rungs.now }
     requires enough { need ≤ sum_by (λ r. r.room) rungs.now }
-    requires few { length rungs.now ≤ 4608 }
-    requires small { All (λ r. r.room ≤ 99999) rungs.now }
+    requires few { length rungs.now ≤ MOST_ORDERS }
+    requires small { All (λ r. r.room ≤ MOST_MW) rungs.now }
     requires prices { All (λ r. IsPrice r.price) rungs.now }
     ensures { IsMarginal rungs.now need result.0 }
 {
@@ -91,8 +91,8 @@ fn marginal_rung(rungs: &[Rung], need: u64) -> Cents
 /// The marginal price of a need: the orders that are cheaper meet no more of it, and with those at this price all of
 /// it.
 pub fn marginal_price(alloc: Global, orders: &[Order], need: u64) -> Result<Cents, Memory>
-    requires few { length orders.now ≤ 4608 }
-    requires small { All (λ o. o.greatest ≤ 99999) orders.now }
+    requires few { length orders.now ≤ MOST_ORDERS }
+    requires small { All (λ o. o.greatest ≤ MOST_MW) orders.now }
     requires prices { All (λ o. IsPrice o.price.0) orders.now }
     requires need { need ≡ withdrawn_in orders.now }
     ensures { IfOk result (λ price. IsMarginal (map rung_of orders.now) need price.0) }

@@ -11,8 +11,8 @@ ghost use Rattle.mari_merit.specs.Merit.{bound_tree, IsFilled};
 
 use crate::marginal::{cheaper, marginal_price, withdrawn};
 use crate::quantities::quantities;
-use mari_market::{Activation, Clearing, Leaf, Market, Order, Prices, TreeItem};
-use mari_units::{Cents, Items, Memory};
+use mari_market::{Activation, Clearing, Leaf, MOST_ORDERS, Market, Order, Prices, TreeItem};
+use mari_units::{Cents, Items, MOST_MW, Memory};
 use mari_welfare::welfare;
 use std::alloc::Global;
 
@@ -24,8 +24,8 @@ struct Filled {
 }
 
 fn fill(alloc: Global, orders: &[Order]) -> Result<Filled, Memory>
-    requires few { length orders.now ≤ 4608 }
-    requires small { All (λ o. o.greatest ≤ 99999) orders.now }
+    requires few { length orders.now ≤ MOST_ORDERS }
+    requires small { All (λ o. o.greatest ≤ MOST_MW) orders.now }
     requires prices { All (λ o. IsPrice o.price.0) orders.now }
     ensures { IfOk result (λ filled. IsFilled orders.now filled.price.0 filled.mw.items) }
 {

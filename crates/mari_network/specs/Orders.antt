@@ -14,6 +14,8 @@ use Rattle.mari_market.specs.Bounds.{Span}
 use Rattle.mari_market.specs.Cut.{least_put, most_put}
 use Rattle.mari_network.specs.declared.slots.Slot.{Slot}
 use Rattle.mari_network.specs.Slots.{beyond}
+use Rattle.mari_units.specs.declared.numbers.TheConstants.{CAP}
+use Rattle.mari_units.specs.declared.limits.TheConstants.{MOST_MW}
 
 abbrev pub no_order : Order
 no_order = record { zone = 0; side = Inject; price = record { 0 = pos 0 }; least = 0; greatest = 0; gate = None }
@@ -40,7 +42,7 @@ ArePuts (o ∷ os) (x ∷ xs) [] = ⊥
 
 -- the nearest price within the cap
 abbrev pub capped : ℤ → ℤ
-capped p = int_max (neg_ℤ (pos 9999900)) (int_min (pos 9999900) p)
+capped p = int_max (neg_ℤ CAP) (int_min CAP p)
 
 abbrev pub capped_cents : ℤ → Cents
 capped_cents p = record { 0 = capped p }
@@ -52,17 +54,17 @@ is_inside In p = not (lt_z p beyond)
 
 -- an amount that some quantity of the side puts in
 abbrev pub CanPut : Side → ℤ → Type 0
-CanPut Inject x = (pos 0 ≤ℤ x) × (x ≤ℤ pos 99999)
-CanPut Withdraw x = (neg_ℤ (pos 99999) ≤ℤ x) × (x ≤ℤ pos 0)
+CanPut Inject x = (pos 0 ≤ℤ x) × (x ≤ℤ pos MOST_MW)
+CanPut Withdraw x = (neg_ℤ (pos MOST_MW) ≤ℤ x) × (x ≤ℤ pos 0)
 
 -- a slot of an order of one of so many zones
 pub record IsOrderSlot (zones : ℕ) (s : Slot) : Type 0 where
   pub zone : s.zone < zones
-  pub low : neg_ℤ (pos 99999) ≤ℤ s.low
+  pub low : neg_ℤ (pos MOST_MW) ≤ℤ s.low
   pub in_order : s.low ≤ℤ s.high
-  pub high : s.high ≤ℤ pos 99999
-  pub cheap : neg_ℤ (pos 9999900) ≤ℤ s.price
-  pub dear : s.price ≤ℤ pos 9999900
+  pub high : s.high ≤ℤ pos MOST_MW
+  pub cheap : neg_ℤ CAP ≤ℤ s.price
+  pub dear : s.price ≤ℤ CAP
 
 -- the slots of orders, of which each can put in the least and the greatest of its slot
 pub record AreOrderSlots (zones : ℕ) (orders : List Order) (slots : List Slot) : Type 0 where

@@ -11,8 +11,8 @@ ghost use Rattle.mari_network.specs.Slots.{amount_at};
 ghost use Rattle.mari_network.specs.Orders.{capped_cents, is_inside, CanPut, ArePuts};
 
 use crate::slots::BEYOND;
-use mari_market::{CutSide, Order, Side};
-use mari_units::{CAP, Cents};
+use mari_market::{CutSide, MOST_ORDERS, Order, Side};
+use mari_units::{CAP, Cents, MOST_MW, MOST_ZONES};
 use std::alloc::{AllocError, Global};
 
 /// The first amount from a place on that is not 0.
@@ -31,7 +31,7 @@ pub fn first_short(amounts: &[i64], from: usize) -> Option<usize>
 fn quantity(side: Side, amount: i64) -> u32
     requires { CanPut side amount }
     ensures puts { amount ≡ put_in side result }
-    ensures small { result ≤ 99999 }
+    ensures small { result ≤ MOST_MW }
 {
     match side {
         Side::Inject => amount as u32,
@@ -70,7 +70,7 @@ fn is_in_cut(side: CutSide, price: i64) -> bool
 
 /// The zones of a cut.
 pub fn cut_zones(alloc: Global, side: CutSide, prices: &[i64]) -> Result<Vec<u32>, AllocError>
-    requires { length prices.now ≤ 64 }
+    requires { length prices.now ≤ MOST_ZONES }
     ensures rising { IfOk result (λ v. IsRising 0 (length prices.now) v.items) }
     ensures inside { IfOk result (λ v. (z : ℕ) → z < length prices.now → is_in v.items z ≡ is_inside side (amount_at prices.now z)) }
 {
@@ -86,7 +86,7 @@ pub fn cut_zones(alloc: Global, side: CutSide, prices: &[i64]) -> Result<Vec<u32
 /// What so many MW of an order add to the welfare, in quarter-cents, in 64 bits.
 fn gain_of(order: &Order, mw: u32) -> i64
     requires price { IsPrice order.now.price.0 }
-    requires small { mw ≤ 99999 }
+    requires small { mw ≤ MOST_MW }
     ensures value { result ≡ order_gain order.now mw }
     ensures least { neg_ℤ (pos (9999900 * 99999)) ≤ℤ result }
     ensures most { result ≤ℤ pos (9999900 * 99999) }
@@ -100,7 +100,7 @@ pub fn quantities(
     orders: &[Order],
     amounts: &[i64],
 ) -> Result<(Vec<u32>, i64), AllocError>
-    requires few { length orders.now ≤ 4608 }
+    requires few { length orders.now ≤ MOST_ORDERS }
     requires prices { All (λ o. IsPrice o.price.0) orders.now }
     requires lengths { length orders.now ≤ length amounts.now }
     requires fits { AllZip (λ o x. CanPut o.side x) orders.now (take (length orders.now) amounts.now) }

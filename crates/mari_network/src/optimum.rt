@@ -19,7 +19,7 @@ ghost use Rattle.mari_network.specs.Solving.{IsAnswer, IsNetworkOf, AreSlotsOf};
 use crate::finish::{cap_all, cut_zones, first_short, quantities, stated};
 use crate::network::Network;
 use mari_market::{Activation, Cut, CutSide, Market, Prices};
-use mari_units::{Items, Memory};
+use mari_units::{Items, MOST_ZONES, Memory};
 use std::alloc::{AllocError, Global};
 
 /// An activation of the greatest welfare within the bounds of a prefix, and potentials that show it.
@@ -102,7 +102,7 @@ fn solved_from(
 
 /// The cut of the zones of the least prices, or of the greatest.
 fn cut_from(alloc: Global, side: CutSide, prices: &[i64]) -> Result<Cut, AllocError>
-    requires { length prices.now ≤ 64 }
+    requires { length prices.now ≤ MOST_ZONES }
     ensures side { IfOk result (λ cut. cut.side ≡ side) }
     ensures rising { IfOk result (λ cut. IsRising 0 (length prices.now) cut.zones) }
     ensures inside { IfOk result (λ cut. (z : ℕ) → z < length prices.now → is_in cut.zones z ≡ is_inside side (amount_at prices.now z)) }

@@ -6,6 +6,7 @@ use Rattle.mari_market.specs.Sums.{sum_along}
 use Rattle.mari_market.specs.Activation.{carried_out}
 use Rattle.mari_network.specs.declared.slots.Slot.{Slot}
 use Rattle.mari_network.specs.Slots.{beyond, amount_at, slot_into}
+use Rattle.mari_units.specs.declared.limits.TheConstants.{MOST_FLOW}
 
 -- the least of a slot is at most its greatest
 abbrev pub IsOrdered : Slot → Type 0
@@ -18,7 +19,7 @@ pub record IsNear (most : ℕ) (x : ℤ) : Type 0 where
 
 -- limits that a border of a valid market may have
 abbrev pub AreSmallLimits : Border → Type 0
-AreSmallLimits b = (b.limit ≤ 199998) × (b.back ≤ 199998)
+AreSmallLimits b = (b.limit ≤ MOST_FLOW) × (b.back ≤ MOST_FLOW)
 
 -- what gives a zone what it is short of, or takes away what it has too much
 abbrev pub stand_in_if : Bool → ℕ → ℤ → Slot

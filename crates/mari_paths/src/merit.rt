@@ -7,6 +7,7 @@ ghost use Rattle.mari_network.specs.Slots.{IsSmallSlot};
 ghost use Rattle.mari_paths.specs.Merit.{run_at, IsBalancing};
 ghost use Rattle.mari_paths.specs.Starts.{IsOrdered};
 
+use mari_market::MOST_ORDERS;
 use mari_network::{BEYOND, Slot};
 use std::alloc::{AllocError, Global};
 
@@ -23,7 +24,7 @@ fn amount_at_price(slot: &Slot, price: i64) -> i64
 
 /// What slots put in at a price, together.
 fn put_in_at(slots: &[Slot], price: i64) -> i64
-    requires few { length slots.now ≤ 4608 }
+    requires few { length slots.now ≤ MOST_ORDERS }
     requires order { All IsOrdered slots.now }
     requires small { All IsSmallSlot slots.now }
     ensures { result ≡ int_sum (run_at price) slots.now }
@@ -37,7 +38,7 @@ fn put_in_at(slots: &[Slot], price: i64) -> i64
 
 /// The price at which slots put in no more than they take, and a cent above it more, if there is one.
 pub fn balancing_price(slots: &[Slot]) -> i64
-    requires few { length slots.now ≤ 4608 }
+    requires few { length slots.now ≤ MOST_ORDERS }
     requires order { All IsOrdered slots.now }
     requires small { All IsSmallSlot slots.now }
     ensures { IsBalancing slots.now result }

@@ -12,8 +12,9 @@ ghost use Rattle.mari_network.specs.Slots.{amount_at, slot_into, IsSmallSlot, Is
 ghost use Rattle.mari_paths.specs.Starts.{stand_in_of, stand_ins, IsOrdered, IsNear, AreSmallLimits, AreShort};
 
 use crate::merit::{amounts_at, balancing_price};
-use mari_market::{Activation, Border, Market, Order, Side};
+use mari_market::{Activation, Border, MOST_ORDERS, Market, Order, Side};
 use mari_network::{BEYOND, Slot};
+use mari_units::{MOST_BORDERS, MOST_ZONES};
 use std::alloc::{AllocError, Global};
 
 /// The amount that a slot may put in which is nearest to this one.
@@ -95,7 +96,7 @@ pub fn first_run(
     slots: &[Slot],
     start: Option<&Activation>,
 ) -> Result<(Vec<i64>, Vec<i64>), AllocError>
-    requires few { length slots.now ≤ 4608 }
+    requires few { length slots.now ≤ MOST_ORDERS }
     requires lengths { length slots.now ≡ length market.now.orders }
     requires order { All IsOrdered slots.now }
     requires small { All IsSmallSlot slots.now }
@@ -154,7 +155,7 @@ fn carry_out(short: &mut [i64], border: &Border, flow: i64)
 
 /// Takes from what each zone is short of what its slots put in.
 fn take_amounts(short: &mut [i64], slots: &[Slot], amounts: &[i64])
-    requires few { length slots.now ≤ 4608 }
+    requires few { length slots.now ≤ MOST_ORDERS }
     requires slots { All (IsOrderSlot (length short.old)) slots.now }
     requires within { AllZip IsWithinSlot slots.now amounts.now }
     requires none { (z : ℕ) → amount_at short.old z ≡ pos 0 }
@@ -169,7 +170,7 @@ fn take_amounts(short: &mut [i64], slots: &[Slot], amounts: &[i64])
 
 /// Adds to what each zone is short of what its borders carry out.
 fn add_flows(short: &mut [i64], borders: &[Border], flows: &[i64])
-    requires few { length borders.now ≤ 256 }
+    requires few { length borders.now ≤ MOST_BORDERS }
     requires ends { All (IsBetween (length short.old)) borders.now }
     requires limits { All AreSmallLimits borders.now }
     requires within { AllZip IsWithinLimits borders.now flows.now }
@@ -231,7 +232,7 @@ pub fn add_stand_ins(
     amounts: &mut Vec<i64>,
     short: &[i64],
 ) -> Result<(), AllocError>
-    requires few { length short.now ≤ 64 }
+    requires few { length short.now ≤ MOST_ZONES }
     ensures slots { OnOk result (slots.new.items ≡ slots.old.items ++ stand_ins 0 short.now) }
     ensures amounts { OnOk result (amounts.new.items ≡ amounts.old.items ++ short.now) }
 {

@@ -5,7 +5,7 @@ ghost use Rattle.mari_pool.specs.Queued.{child_key, no_nodes, first_key, IsMore,
 
 use mari_core::JournalEntry;
 use mari_market::Finding;
-use mari_units::Memory;
+use mari_units::{MOST_NODES, Memory};
 use std::alloc::Global;
 use std::cmp::Reverse;
 use std::collections::BinaryHeap;
@@ -34,7 +34,7 @@ impl Model for Queue {
 
     ghost view = { λ q. record { keys = q.keys.items; waiting = map number_in (heap_items q.waiting); room = q.room } };
 
-    ghost invariant = { λ q. IsHeap by_key (heap_items q.waiting) × All (IsKeyed q.keys.items) (heap_items q.waiting) × (length q.keys.items ≤ q.room) × (q.room ≤ 50000) × (q.room ≤ vec_capacity q.keys) × (q.room ≤ heap_capacity q.waiting) };
+    ghost invariant = { λ q. IsHeap by_key (heap_items q.waiting) × All (IsKeyed q.keys.items) (heap_items q.waiting) × (length q.keys.items ≤ q.room) × (q.room ≤ MOST_NODES) × (q.room ≤ vec_capacity q.keys) × (q.room ≤ heap_capacity q.waiting) };
 }
 
 /// The key of a node's children: the bound of what was found at the node.
@@ -50,7 +50,7 @@ pub fn child_key(finding: &Finding) -> u64
 impl Queue {
     /// The first node waits. There is room for so many nodes, 1 to 50,000.
     pub fn start(alloc: Global, room: u32) -> Result<Queue, Memory>
-        requires { (1 ≤ room) × (room ≤ 50000) }
+        requires { (1 ≤ room) × (room ≤ MOST_NODES) }
         ensures { IfOk result (λ q. IsMore first_key 1 (no_nodes room) q) }
     {
         let mut queue = Queue {

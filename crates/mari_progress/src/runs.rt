@@ -5,10 +5,11 @@ ghost use Rattle.mari_progress.specs.Told.{heading_of};
 
 use mari_publish::Heading;
 use mari_remain::{Books, run_entry};
+use mari_units::MOST_RUNS;
 
 /// How many runs the day has.
 pub fn run_count(books: &Books) -> u32
-    requires { length books.now.runs.runs ≤ 1000 }
+    requires { length books.now.runs.runs ≤ MOST_RUNS }
     ensures { result ≡ length books.now.runs.runs }
 {
     books.runs.runs.as_slice().len() as u32

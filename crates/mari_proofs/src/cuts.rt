@@ -11,7 +11,8 @@ ghost use Rattle.mari_gates.specs.GateTable.{state_in};
 ghost use Rattle.mari_proofs.specs.NetInjections.{net_put, put_of, carried_of, Exceeds};
 
 use mari_gates::{GateStates, states_at};
-use mari_market::{Border, Cut, CutSide, Market, Order, Prefix, Side};
+use mari_market::{Border, Cut, CutSide, MOST_ORDERS, Market, Order, Prefix, Side};
+use mari_units::{MOST_BORDERS, MOST_GATES, MOST_MW, MOST_ZONES};
 
 /// Whether zone numbers rise strictly and are all there.
 fn are_rising(zones: &[u32], count: u32) -> bool
@@ -36,8 +37,8 @@ fn is_in(zones: &[u32], zone: u32) -> bool
 
 /// The least net injection of an order within its bounds, or the greatest.
 fn net_put(side: CutSide, order: &Order, span: (u32, u32)) -> i64
-    requires least { span.0 ≤ 99999 }
-    requires greatest { span.1 ≤ 99999 }
+    requires least { span.0 ≤ MOST_MW }
+    requires greatest { span.1 ≤ MOST_MW }
     ensures value { result ≡ net_put side order.now.side (record { lo = span.0; hi = span.1 }) }
     ensures low { neg_ℤ (pos 100000) ≤ℤ result }
     ensures high { result ≤ℤ pos 100000 }
@@ -52,7 +53,7 @@ fn net_put(side: CutSide, order: &Order, span: (u32, u32)) -> i64
 
 /// What an order of the set puts in at least, or at most; and 0 of any other.
 fn order_put(side: CutSide, zones: &[u32], order: &Order, states: &GateStates) -> i64
-    requires { IsValidOrder 64 512 order.now }
+    requires { IsValidOrder MOST_ZONES MOST_GATES order.now }
     ensures value { result ≡ put_of side (span_in (state_in states.now)) zones.now order.now }
     ensures low { neg_ℤ (pos 100000) ≤ℤ result }
     ensures high { result ≤ℤ pos 100000 }
@@ -66,7 +67,7 @@ fn order_put(side: CutSide, zones: &[u32], order: &Order, states: &GateStates) -
 
 /// The most that a border carries out of the set, or into it.
 fn border_carries(side: CutSide, zones: &[u32], border: &Border) -> i64
-    requires { IsValidBorder 64 border.now }
+    requires { IsValidBorder MOST_ZONES border.now }
     ensures value { result ≡ carried_of side zones.now border.now }
     ensures low { pos 0 ≤ℤ result }
     ensures high { result ≤ℤ pos 200000 }
@@ -87,8 +88,8 @@ fn border_carries(side: CutSide, zones: &[u32], border: &Border) -> i64
 
 /// What the orders of the set put in at least, or at most.
 fn orders_put(side: CutSide, zones: &[u32], orders: &[Order], states: &GateStates) -> i64
-    requires few { length orders.now ≤ 4608 }
-    requires orders { All (IsValidOrder 64 512) orders.now }
+    requires few { length orders.now ≤ MOST_ORDERS }
+    requires orders { All (IsValidOrder MOST_ZONES MOST_GATES) orders.now }
     ensures value { result ≡ int_sum (put_of side (span_in (state_in states.now)) zones.now) orders.now }
     ensures low { neg_ℤ (pos 460800000) ≤ℤ result }
     ensures high { result ≤ℤ pos 460800000 }
@@ -102,8 +103,8 @@ fn orders_put(side: CutSide, zones: &[u32], orders: &[Order], states: &GateState
 
 /// The most that the borders carry out of the set, or into it.
 fn borders_carry(side: CutSide, zones: &[u32], borders: &[Border]) -> i64
-    requires few { length borders.now ≤ 256 }
-    requires borders { All (IsValidBorder 64) borders.now }
+    requires few { length borders.now ≤ MOST_BORDERS }
+    requires borders { All (IsValidBorder MOST_ZONES) borders.now }
     ensures value { result ≡ int_sum (carried_of side zones.now) borders.now }
     ensures low { pos 0 ≤ℤ result }
     ensures high { result ≤ℤ pos 51200000 }

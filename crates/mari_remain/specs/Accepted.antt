@@ -8,10 +8,11 @@ use Rattle.mari_demands.specs.LimitPairs.{IsLimitTable}
 use Rattle.mari_demands.specs.Runs.{IsRunBook}
 use Rattle.mari_demands.specs.Demands.{IsDemandBook}
 use Rattle.mari_remain.specs.declared.books.Books.{Books}
+use Rattle.mari_units.specs.declared.limits.TheConstants.{MOST_QUARTERS}
 
 -- books of one folder, each read with those before it, on a day of at most 400 quarters
 pub record IsAccepted (books : Books) : Type 0 where
-  pub quarters : books.quarters ≤ 400
+  pub quarters : books.quarters ≤ MOST_QUARTERS
   pub zones : IsZoneBook books.zones
   pub borders : IsBorderBook books.zones books.borders
   pub bids : IsBidBook books.zones books.quarters books.bids

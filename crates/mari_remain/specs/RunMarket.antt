@@ -21,6 +21,7 @@ use Rattle.mari_remain.specs.declared.market.RunMarket.{RunMarket}
 use Rattle.mari_remain.specs.Available.{Taken, is_available, taken_by}
 use Rattle.mari_remain.specs.Blocks.{PastBlock}
 use Rattle.mari_remain.specs.Lists.{bid_at, bids_of_quarter, group_at, parent_at, run_at}
+use Rattle.mari_units.specs.declared.numbers.TheConstants.{CAP}
 
 -- a bid's gate: its place among the gated bids
 abbrev pub gate_of : List ℕ → ℕ → Option ℕ
@@ -46,7 +47,7 @@ bid_order b gate taken = record { zone = b.zone; side = bid_side b.up; price = b
 
 -- a demand that states no price is met at any: it takes at the cap, or gives at its negative
 abbrev pub inelastic_price : ℤ → Cents
-inelastic_price mw = if int_lt mw (pos 0) then record { 0 = neg_ℤ (pos 9999900) } else record { 0 = pos 9999900 }
+inelastic_price mw = if int_lt mw (pos 0) then record { 0 = neg_ℤ CAP } else record { 0 = CAP }
 
 -- a demand below 0 is an injection of the same size, and any other a withdrawal
 abbrev pub demand_side : ℤ → Side

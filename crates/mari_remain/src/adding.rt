@@ -4,6 +4,8 @@ ghost use Rattle.std.specs.Prelude.{◌≡◌, ◌≤◌, ◌<◌, ◌+◌, ◌+
 ghost use Rattle.std.specs.List.{All};
 ghost use Rattle.mari_remain.specs.Blocks.{mw_beside};
 
+use mari_units::MOST_MW;
+
 /// Adds the MW beside these bids.
 pub(crate) fn add_mw(mw: &mut [u32], bids: &[u32], more: &[u32])
     requires there { All (λ bid. bid < length mw.old) bids.now }
@@ -41,7 +43,7 @@ fn clear(flow: &mut [i64])
 /// Adds flows, border by border.
 fn add_flows(flow: &mut [i64], more: &[i64])
     requires lengths { length more.now ≡ length flow.old }
-    requires small { (k : ℕ) → unsigned_abs (get_or flow.old k (pos 0) +ℤ get_or more.now k (pos 0)) ≤ 99999 }
+    requires small { (k : ℕ) → unsigned_abs (get_or flow.old k (pos 0) +ℤ get_or more.now k (pos 0)) ≤ MOST_MW }
     ensures { (k : ℕ) → get_or flow.new k (pos 0) ≡ get_or flow.old k (pos 0) +ℤ get_or more.now k (pos 0) }
 {
     for k in 0..flow.len() {
@@ -72,7 +74,7 @@ fn keep_if(same: bool, flow: &mut [i64])
 /// Adds flows to those of the same quarter, or to nothing where another quarter begins.
 pub(crate) fn carry(same: bool, flow: &mut [i64], more: &[i64])
     requires lengths { length more.now ≡ length flow.old }
-    requires small { (k : ℕ) → unsigned_abs ((if same then get_or flow.old k (pos 0) else pos 0) +ℤ get_or more.now k (pos 0)) ≤ 99999 }
+    requires small { (k : ℕ) → unsigned_abs ((if same then get_or flow.old k (pos 0) else pos 0) +ℤ get_or more.now k (pos 0)) ≤ MOST_MW }
     ensures { (k : ℕ) → get_or flow.new k (pos 0) ≡ (if same then get_or flow.old k (pos 0) else pos 0) +ℤ get_or more.now k (pos 0) }
 {
     keep_if(same, flow);

@@ -4,7 +4,7 @@ ghost use Rattle.std.specs.Prelude.{◌≡◌, ◌≤◌, ◌<◌, ◌++◌, ◌
 ghost use Rattle.std.specs.List.{All, range_with_len};
 ghost use Rattle.mari_remain.specs.Lists.{places_of};
 
-use mari_units::Memory;
+use mari_units::{MOST_PAGE, Memory};
 use std::alloc::{AllocFailed, Global};
 use std::marker::Model;
 
@@ -59,7 +59,7 @@ fn empty(alloc: Global, keys: u32) -> Result<Vec<Numbers>, Memory>
 /// For each key below so many, the places of the items that have it.
 pub(crate) fn index_of(alloc: Global, keys: &[u32], count: u32) -> Result<Vec<Numbers>, Memory>
     requires keys { All (λ key. key < count) keys.now }
-    requires few { length keys.now ≤ 268435456 }
+    requires few { length keys.now ≤ MOST_PAGE }
     ensures { IfOk result (λ index. index.items ≡ map (places_of keys.now) (range_with_len 0 count)) }
 {
     let mut index = empty(alloc, count)?;

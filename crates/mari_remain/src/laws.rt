@@ -13,6 +13,7 @@ ghost use Rattle.mari_remain.specs.Migrated.{AreRead, borders_page, limits_page,
 ghost use Rattle.mari_remain.specs.RunMarket.{limits_at, run_market_of};
 
 use crate::books::Books;
+use mari_units::MOST_PAGE;
 
 /// No bid is activated above its offer over the blocks of a day, and a gated one is activated in at most one of them.
 pub fn offers_are_kept(books: &Books)
@@ -45,7 +46,7 @@ pub fn migration_keeps_markets(books: &Books)
 
     // The two pages are read, without a refusal, and are no longer than a page may be.
     ensures read { (borders : BorderBook) × (limits : List (List Limits)) × AreRead books.now borders limits }
-    ensures short { (length (borders_page books.now) ≤ 268435456) × (length (limits_page books.now) ≤ 268435456) }
+    ensures short { (length (borders_page books.now) ≤ MOST_PAGE) × (length (limits_page books.now) ≤ MOST_PAGE) }
 
     // With what they say in place of what the folder said, the books are accepted, and state the same limits.
     ensures accepted { (borders : BorderBook) (limits : List (List Limits)) → AreRead books.now borders limits → IsAccepted (with_limits books.now borders limits) }

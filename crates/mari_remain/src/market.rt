@@ -20,7 +20,7 @@ use mari_bids::Bid;
 use mari_demands::{Demand, Limits, Run};
 use mari_links::BidLinks;
 use mari_market::{Activation, Border, GateInfo, Market, Order, Side};
-use mari_units::{CAP, Cents, Items, Memory};
+use mari_units::{CAP, Cents, Items, MOST_FLOW, MOST_GATES, MOST_MW, Memory};
 use mari_zones::BorderEnds;
 use std::alloc::Global;
 
@@ -58,7 +58,7 @@ const NO_RUN: Run = Run {
 
 /// The gate of a bid: its place among the gated ones, if it is one of them.
 fn gate_of(gated: &[u32], number: u32) -> Option<u32>
-    requires { length gated.now ≤ 512 }
+    requires { length gated.now ≤ MOST_GATES }
     ensures { result ≡ gate_in gated.now number }
 {
     match place_of(gated, number) {
@@ -106,7 +106,7 @@ fn inelastic_price(mw: i64) -> Cents
 
 /// The order of a demand: below 0 it gives energy, else it takes it.
 fn demand_order(demand: &Demand) -> Order
-    requires { unsigned_abs demand.now.mw ≤ 99999 }
+    requires { unsigned_abs demand.now.mw ≤ MOST_MW }
     ensures { result ≡ demand_order_of demand.now }
 {
     Order {
@@ -139,7 +139,7 @@ fn bid_orders(
     numbers: &[u32],
     gated: &[u32],
 ) -> Result<Vec<Order>, Memory>
-    requires gates { length gated.now ≤ 512 }
+    requires gates { length gated.now ≤ MOST_GATES }
     requires own { All (λ i. (bid_at books.now.bids.bids i).quarter ≡ quarter) numbers.now }
     ensures { IfOk result (λ orders. orders.items ≡ map (λ i. bid_order_of (bid_at books.now.bids.bids i) (gate_in gated.now i) ((taken_in books.now remaining.now quarter).mw i)) numbers.now) }
 {
@@ -188,7 +188,7 @@ fn demands_of(
 
 /// What is known of the gates of the gated bids.
 fn gates_of(alloc: Global, links: &[BidLinks], gated: &[u32]) -> Result<Vec<GateInfo>, Memory>
-    requires { length gated.now ≤ 512 }
+    requires { length gated.now ≤ MOST_GATES }
     ensures { IfOk result (λ gates. gates.items ≡ gates_in links.now gated.now) }
 {
     let mut gates = Vec::new(alloc);
@@ -200,7 +200,7 @@ fn gates_of(alloc: Global, links: &[BidLinks], gated: &[u32]) -> Result<Vec<Gate
 
 /// What is known of the gate of one bid.
 fn gate_info(links: &[BidLinks], gated: &[u32], number: u32) -> GateInfo
-    requires { length gated.now ≤ 512 }
+    requires { length gated.now ≤ MOST_GATES }
     ensures { result ≡ gate_at links.now gated.now number }
 {
     GateInfo {
@@ -220,8 +220,8 @@ pub(crate) fn limits_of(books: &Books, run: u32, border: u32, ends: BorderEnds) 
     requires border { border < length books.now.borders.borders }
     requires ends { ends ≡ ends_at books.now.borders.borders border }
     ensures limits { result ≡ limits_at books.now run border }
-    ensures limit { result.limit ≤ 99999 }
-    ensures back { result.back ≤ 99999 }
+    ensures limit { result.limit ≤ MOST_MW }
+    ensures back { result.back ≤ MOST_MW }
 {
     match &books.limits {
         None => Limits {
@@ -237,7 +237,7 @@ pub(crate) fn limits_of(books: &Books, run: u32, border: u32, ends: BorderEnds) 
 
 /// A number, or 0 where it is below.
 fn at_least_0(mw: i64) -> u32
-    requires { mw ≤ℤ pos 199998 }
+    requires { mw ≤ℤ pos MOST_FLOW }
     ensures { result ≡ at_least_0_of mw }
 {
     if mw < 0 { 0 } else { mw as u32 }
@@ -245,9 +245,9 @@ fn at_least_0(mw: i64) -> u32
 
 /// A border over which so much flowed before, with what is left of its limits.
 fn border_left(ends: BorderEnds, limits: Limits, flow: i64) -> Border
-    requires limit { limits.limit ≤ 99999 }
-    requires back { limits.back ≤ 99999 }
-    requires flow { unsigned_abs flow ≤ 99999 }
+    requires limit { limits.limit ≤ MOST_MW }
+    requires back { limits.back ≤ MOST_MW }
+    requires flow { unsigned_abs flow ≤ MOST_MW }
     ensures { result ≡ border_in ends limits flow }
 {
     Border {
@@ -270,7 +270,7 @@ fn borders_of(
     requires first { 1 ≤ run }
     requires last { run ≤ length books.now.runs.runs }
     requires quarter { quarter ≡ (run_at books.now run).quarter }
-    requires small { All (λ flow. unsigned_abs flow ≤ 99999) remaining.now.flow }
+    requires small { All (λ flow. unsigned_abs flow ≤ MOST_MW) remaining.now.flow }
     ensures { IfOk result (λ made. made.items ≡ borders_left books.now (taken_in books.now remaining.now quarter) run) }
 {
     let mut made = Vec::new(alloc);
@@ -291,9 +291,9 @@ fn orders_of(
     choice: &Choice,
     demands: &[Demand],
 ) -> Result<Vec<Order>, Memory>
-    requires gates { length choice.now.gated.items ≤ 512 }
+    requires gates { length choice.now.gated.items ≤ MOST_GATES }
     requires own { All (λ i. (bid_at books.now.bids.bids i).quarter ≡ quarter) choice.now.numbers.items }
-    requires small { All (λ d. unsigned_abs d.mw ≤ 99999) demands.now }
+    requires small { All (λ d. unsigned_abs d.mw ≤ MOST_MW) demands.now }
     ensures { IfOk result (λ orders. orders.items ≡ orders_in books.now.bids.bids (taken_in books.now remaining.now quarter).mw choice.now.numbers.items choice.now.gated.items demands.now) }
 {
     let mut orders = bid_orders(
@@ -329,7 +329,7 @@ fn made_of(
     requires accepted { IsAccepted books.now }
     requires first { 1 ≤ run }
     requires last { run ≤ length books.now.runs.runs }
-    requires small { All (λ flow. unsigned_abs flow ≤ 99999) remaining.now.flow }
+    requires small { All (λ flow. unsigned_abs flow ≤ MOST_MW) remaining.now.flow }
     requires index { remaining.now.of_quarter ≡ map (bids_of_quarter books.now.bids.bids) (range_with_len 0 (books.now.quarters + 1)) }
     requires demands { remaining.now.of_run ≡ map (numbers_of_run books.now.demands.demands) (range_with_len 0 (length books.now.runs.runs + 1)) }
     ensures { IfOk result (λ made. made ≡ run_market_left books.now (taken_in books.now remaining.now (run_at books.now run).quarter) run) }

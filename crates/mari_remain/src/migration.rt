@@ -10,23 +10,9 @@ ghost use Rattle.mari_remain.specs.Migrated.{border_record, borders_page, limit_
 use crate::books::Books;
 use crate::market::limits_of;
 use mari_demands::Limits;
-use mari_units::Memory;
+use mari_units::{Memory, put, put_number};
 use mari_zones::{BorderEnds, ZoneBook};
 use std::alloc::Global;
-
-// Appends a piece.
-fn put(text: &mut Vec<u8>, piece: &[u8]) -> Result<(), Memory>
-    ensures { OnOk result (text.new.items ≡ text.old.items ++ piece.now) }
-{
-    Ok(text.extend_from_slice(piece)?)
-}
-
-// Appends a number.
-fn put_number(alloc: Global, text: &mut Vec<u8>, number: u32) -> Result<(), Memory>
-    ensures { OnOk result (text.new.items ≡ text.old.items ++ decimal number) }
-{
-    put(text, number.to_string(alloc)?.as_bytes())
-}
 
 // Appends the name of a zone.
 fn put_zone(text: &mut Vec<u8>, zones: &ZoneBook, zone: u32) -> Result<(), Memory>
@@ -58,9 +44,9 @@ fn put_limits(alloc: Global, text: &mut Vec<u8>, limits: Limits) -> Result<(), M
     ensures { OnOk result (text.new.items ≡ text.old.items ++ 44 ∷ decimal limits.limit ++ 44 ∷ decimal limits.back) }
 {
     put(text, b",")?;
-    put_number(alloc, text, limits.limit)?;
+    put_number(alloc, text, u128::from(limits.limit))?;
     put(text, b",")?;
-    put_number(alloc, text, limits.back)
+    put_number(alloc, text, u128::from(limits.back))
 }
 
 // Appends the line of a border's limits in a run.
@@ -74,7 +60,7 @@ fn put_line(
 ) -> Result<(), Memory>
     ensures { OnOk result (text.new.items ≡ text.old.items ++ line_of (limit_record zones.now run ends limits)) }
 {
-    put_number(alloc, text, run)?;
+    put_number(alloc, text, u128::from(run))?;
     put(text, b",")?;
     put_ends(text, zones, ends)?;
     put_limits(alloc, text, limits)?;

@@ -13,7 +13,7 @@ use crate::books::Books;
 use crate::index::{Numbers, index_of};
 use mari_bids::Bid;
 use mari_demands::Demand;
-use mari_units::Memory;
+use mari_units::{MOST_MW, Memory};
 use std::alloc::Global;
 use std::marker::Model;
 
@@ -130,7 +130,7 @@ impl Remaining {
     /// The sum of a border's flows in the published blocks of a quarter.
     pub(crate) fn flow_of(&self, quarter: u32, border: u32) -> i64
         ensures flow { result ≡ (if option_map_or (λ last. last == quarter) self.now.quarter false then get_or self.now.flow border (pos 0) else pos 0) }
-        ensures small { All (λ flow. unsigned_abs flow ≤ 99999) self.now.flow → unsigned_abs result ≤ 99999 }
+        ensures small { All (λ flow. unsigned_abs flow ≤ MOST_MW) self.now.flow → unsigned_abs result ≤ MOST_MW }
     {
         if self.quarter == Some(quarter) {
             self.flow.get(border as usize).copied().unwrap_or(0)

@@ -8,10 +8,9 @@ ghost use Rattle.mari_scenario.specs.Pages.{bid, bid_line, bid_price as bid_pric
 
 use crate::draws::{below, next};
 use crate::text::{
-    put, put_bid, put_comma, put_group, put_number, put_operator, put_price, put_provider,
-    put_whole, put_zone,
+    put_bid, put_comma, put_group, put_operator, put_price, put_provider, put_whole, put_zone,
 };
-use mari_units::{Cents, Memory, cents_text};
+use mari_units::{Cents, Memory, cents_text, put, put_number};
 use std::alloc::Global;
 
 /// Appends the line of zone number `i + 1`.
@@ -71,9 +70,9 @@ fn put_ends(alloc: Global, out: &mut Vec<u8>, from: u32, to: u32) -> Result<(), 
 fn put_last_two(alloc: Global, out: &mut Vec<u8>, first: u32, second: u32) -> Result<(), Memory>
     ensures { OnOk result (out.new.items ≡ out.old.items ++ row (decimal first) (decimal second ∷ [])) }
 {
-    put_number(alloc, out, first)?;
+    put_number(alloc, out, u128::from(first))?;
     put_comma(out)?;
-    put_number(alloc, out, second)?;
+    put_number(alloc, out, u128::from(second))?;
     put(out, b"\n")
 }
 
@@ -189,7 +188,7 @@ fn put_bid_place(
 {
     put_zone(alloc, out, at)?;
     put_comma(out)?;
-    put_number(alloc, out, quarter)?;
+    put_number(alloc, out, u128::from(quarter))?;
     put_comma(out)?;
     put_direction(out, up)?;
     put_comma(out)
@@ -201,7 +200,7 @@ fn put_bid_offer(alloc: Global, out: &mut Vec<u8>, price: i64, least: u32) -> Re
 {
     put_price(alloc, out, price)?;
     put_comma(out)?;
-    put_number(alloc, out, least)?;
+    put_number(alloc, out, u128::from(least))?;
     put_comma(out)
 }
 
@@ -209,7 +208,7 @@ fn put_bid_offer(alloc: Global, out: &mut Vec<u8>, price: i64, least: u32) -> Re
 fn put_bid_end(alloc: Global, out: &mut Vec<u8>, greatest: u32, both: bool) -> Result<(), Memory>
     ensures { OnOk result (out.new.items ≡ out.old.items ++ row (decimal greatest) (kind both ∷ [])) }
 {
-    put_number(alloc, out, greatest)?;
+    put_number(alloc, out, u128::from(greatest))?;
     put_comma(out)?;
     put_kind(out, both)?;
     put(out, b"\n")
@@ -269,9 +268,9 @@ fn put_scheduled(out: &mut Vec<u8>) -> Result<(), Memory>
 fn put_run_front(alloc: Global, out: &mut Vec<u8>, run: u32) -> Result<(), Memory>
     ensures { OnOk result (out.new.items ≡ out.old.items ++ decimal run ++ 44 ∷ decimal run ++ 44 ∷ []) }
 {
-    put_number(alloc, out, run)?;
+    put_number(alloc, out, u128::from(run))?;
     put_comma(out)?;
-    put_number(alloc, out, run)?;
+    put_number(alloc, out, u128::from(run))?;
     put_comma(out)
 }
 
@@ -303,7 +302,7 @@ fn put_demand_fields(alloc: Global, out: &mut Vec<u8>, i: u32, size: u32) -> Res
     requires { i < 192 }
     ensures { OnOk result (out.new.items ≡ out.old.items ++ decimal (i / 8 + 1) ++ 44 ∷ zone (i % 8 + 1) ++ 44 ∷ signed_decimal (pos (below_of 61 size) -ℤ pos 20) ++ 44 ∷ []) }
 {
-    put_number(alloc, out, i / 8 + 1)?;
+    put_number(alloc, out, u128::from(i / 8 + 1))?;
     put_comma(out)?;
     put_zone(alloc, out, i % 8 + 1)?;
     put_comma(out)?;

@@ -5,28 +5,14 @@ ghost use Rattle.std.specs.Fmt.{decimal, signed_decimal};
 ghost use Rattle.mari_units.specs.Numbers.{printed_cents};
 ghost use Rattle.mari_scenario.specs.Pages.{bid, group, operator, provider, zone};
 
-use mari_units::{Cents, Memory, cents_text, whole_text};
+use mari_units::{Cents, Memory, cents_text, put, put_number, whole_text};
 use std::alloc::Global;
-
-/// Appends a piece.
-pub fn put(out: &mut Vec<u8>, piece: &[u8]) -> Result<(), Memory>
-    ensures { OnOk result (out.new.items ≡ out.old.items ++ piece.now) }
-{
-    Ok(out.extend_from_slice(piece)?)
-}
 
 /// Appends a comma.
 pub fn put_comma(out: &mut Vec<u8>) -> Result<(), Memory>
     ensures { OnOk result (out.new.items ≡ out.old.items ++ 44 ∷ []) }
 {
     put(out, b",")
-}
-
-/// Appends a number.
-pub fn put_number(alloc: Global, out: &mut Vec<u8>, n: u32) -> Result<(), Memory>
-    ensures { OnOk result (out.new.items ≡ out.old.items ++ decimal n) }
-{
-    put(out, n.to_string(alloc)?.as_bytes())
 }
 
 /// Appends a whole number that may be negative.
@@ -48,7 +34,7 @@ pub fn put_zone(alloc: Global, out: &mut Vec<u8>, i: u32) -> Result<(), Memory>
     ensures { OnOk result (out.new.items ≡ out.old.items ++ zone i) }
 {
     put(out, b"Z")?;
-    put_number(alloc, out, i)
+    put_number(alloc, out, u128::from(i))
 }
 
 /// Appends an operator's name.
@@ -56,7 +42,7 @@ pub fn put_operator(alloc: Global, out: &mut Vec<u8>, i: u32) -> Result<(), Memo
     ensures { OnOk result (out.new.items ≡ out.old.items ++ operator i) }
 {
     put(out, b"T")?;
-    put_number(alloc, out, i)
+    put_number(alloc, out, u128::from(i))
 }
 
 /// Appends a provider's name.
@@ -64,7 +50,7 @@ pub fn put_provider(alloc: Global, out: &mut Vec<u8>, i: u32) -> Result<(), Memo
     ensures { OnOk result (out.new.items ≡ out.old.items ++ provider i) }
 {
     put(out, b"P")?;
-    put_number(alloc, out, i)
+    put_number(alloc, out, u128::from(i))
 }
 
 /// Appends the name of a quarter's bid.
@@ -72,9 +58,9 @@ pub fn put_bid(alloc: Global, out: &mut Vec<u8>, quarter: u32, place: u32) -> Re
     ensures { OnOk result (out.new.items ≡ out.old.items ++ bid quarter place) }
 {
     put(out, b"q")?;
-    put_number(alloc, out, quarter)?;
+    put_number(alloc, out, u128::from(quarter))?;
     put(out, b"b")?;
-    put_number(alloc, out, place)
+    put_number(alloc, out, u128::from(place))
 }
 
 /// Appends the name of a quarter's group.
@@ -82,5 +68,5 @@ pub fn put_group(alloc: Global, out: &mut Vec<u8>, quarter: u32) -> Result<(), M
     ensures { OnOk result (out.new.items ≡ out.old.items ++ group quarter) }
 {
     put(out, b"g")?;
-    put_number(alloc, out, quarter)
+    put_number(alloc, out, u128::from(quarter))
 }

@@ -11,7 +11,7 @@ ghost use Rattle.mari_settle.specs.Ledger.{carried_in as carried_into, half_of, 
 use crate::ledger::OperatorLine;
 use crate::rents::{price_of, rent_of};
 use mari_market::{Activation, Border, Market, worth};
-use mari_units::{Cents, Quarters};
+use mari_units::{Cents, MOST_ZONES, Quarters};
 use mari_zones::ZoneBook;
 
 // Half of a rent, rounded down to a quarter-cent.
@@ -100,7 +100,7 @@ fn operator_rent(
 
 // What a flow brings into a zone.
 fn carried_in(zone: u32, border: &Border, flow: i64) -> i64
-    requires border { IsValidBorder 64 border.now }
+    requires border { IsValidBorder MOST_ZONES border.now }
     requires flow { IsWithinLimits border.now flow }
     ensures value { result ≡ carried_into zone border.now flow }
     ensures small { unsigned_abs result ≤ 400000 }

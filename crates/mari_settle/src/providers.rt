@@ -10,8 +10,8 @@ ghost use Rattle.mari_settle.specs.Lines.{amount_at};
 
 use crate::rents::price_of;
 use mari_bids::{Bid, BidBook};
-use mari_market::{Activation, worth};
-use mari_units::{Cents, Quarters};
+use mari_market::{Activation, MOST_ORDERS, worth};
+use mari_units::{Cents, MOST_MW, Quarters};
 
 // The price that a bid is paid at: an upward one at the greater of the run's and the scheduled one, a downward one at
 // the lesser.
@@ -40,7 +40,7 @@ fn earned(bid: &Bid, mw: u32, prices: &[Cents], scheduled: &[Cents]) -> i128
     requires lengths { length scheduled.now ≡ length prices.now }
     requires prices { All IsCapped prices.now }
     requires scheduled { All IsCapped scheduled.now }
-    requires mw { mw ≤ 99999 }
+    requires mw { mw ≤ MOST_MW }
     ensures value { result ≡ earned_by bid.now.up (paid_at bid.now.up (price_at prices.now bid.now.zone) (price_at scheduled.now bid.now.zone)) mw }
     ensures small { unsigned_abs result ≤ 1000000000000 }
 {
@@ -80,16 +80,16 @@ fn pay_all(
 )
     requires lengths { length amounts.old ≡ length bids.now.providers }
     requires cleared { (k : ℕ) → amount_at amounts.old k ≡ pos 0 }
-    requires few { length numbers.now ≤ 4608 }
+    requires few { length numbers.now ≤ MOST_ORDERS }
     requires one_each { length numbers.now ≤ length mw.now }
-    requires mw { All (λ q. q ≤ 99999) mw.now }
+    requires mw { All (λ q. q ≤ MOST_MW) mw.now }
     requires lengths_too { length scheduled.now ≡ length prices.now }
     requires prices { All IsCapped prices.now }
     requires scheduled { All IsCapped scheduled.now }
     requires numbers { All (NamesBid bids.now (length prices.now)) numbers.now }
     ensures lengths { length amounts.new ≡ length bids.now.providers }
     ensures paid { (k : ℕ) → amount_at amounts.new k ≡ sum_along (λ number q. bid_amount prices.now scheduled.now k (slice_get bids.now.bids number) q) numbers.now mw.now }
-    ensures small { (k : ℕ) → unsigned_abs (amount_at amounts.new k) ≤ 4608 * 1000000000000 }
+    ensures small { (k : ℕ) → unsigned_abs (amount_at amounts.new k) ≤ MOST_ORDERS * 1000000000000 }
 {
     for (i, number) in numbers.iter().enumerate() {
         let bid = &bids.bids.as_slice()[*number as usize];
@@ -107,9 +107,9 @@ pub(crate) fn write_amounts(
     scheduled: &[Cents],
 )
     requires lengths { length amounts.old ≡ length bids.now.providers }
-    requires few { length numbers.now ≤ 4608 }
+    requires few { length numbers.now ≤ MOST_ORDERS }
     requires one_each { length numbers.now ≤ length activation.now.mw }
-    requires mw { All (λ q. q ≤ 99999) activation.now.mw }
+    requires mw { All (λ q. q ≤ MOST_MW) activation.now.mw }
     requires lengths_too { length scheduled.now ≡ length prices.now }
     requires prices { All IsCapped prices.now }
     requires scheduled { All IsCapped scheduled.now }

@@ -5,6 +5,7 @@
 //! exactly why it writes none, for texts of any length; a printer writes the one printed form.
 #![tactic(auto)]
 
+mod appending;
 mod faults;
 mod items;
 mod limits;
@@ -13,11 +14,12 @@ mod numbers;
 mod printing;
 mod reading;
 
+pub use appending::{put, put_number};
 pub use faults::{Memory, NameFault, NumberFault, Refusal};
 pub use items::Items;
 pub use limits::{
-    MOST_BID_MW, MOST_BIDS, MOST_BORDERS, MOST_DEMANDS, MOST_FLOW, MOST_GATES, MOST_MW, MOST_PAGE,
-    MOST_QUARTERS, MOST_RUNS, MOST_ZONES,
+    MOST_BID_MW, MOST_BIDS, MOST_BORDERS, MOST_DEMANDS, MOST_FLOW, MOST_GATES, MOST_MW, MOST_NODES,
+    MOST_PAGE, MOST_QUARTERS, MOST_RUNS, MOST_WORKERS, MOST_ZONES,
 };
 pub use name::{Name, is_name_text, read_name};
 pub use numbers::{CAP, Cents, Mw, Quarters};

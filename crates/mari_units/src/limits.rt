@@ -1,4 +1,4 @@
-//! The limits of the market files and of a run's market: this project's profile, each said once.
+//! The limits of the market files, of a run's market and of its search: this project's profile, each said once.
 
 /// The most bidding zones of a day.
 pub const MOST_ZONES: usize = 64;
@@ -32,3 +32,9 @@ pub const MOST_FLOW: u32 = 199_998;
 
 /// The most bytes of a page.
 pub const MOST_PAGE: usize = 268_435_456;
+
+/// The most nodes of a search, hence the greatest budget.
+pub const MOST_NODES: u32 = 50_000;
+
+/// The most workers that search a run at once, one thread each.
+pub const MOST_WORKERS: u32 = 16;

@@ -13,16 +13,10 @@ use clap::{ArgMatches, Error};
 use mari_units::Memory;
 use std::alloc::Global;
 
-/// The most nodes that a run's search may make.
-pub const MOST_NODES: u32 = 50_000;
-
-/// How many nodes that is where the words don't say.
+/// How many nodes a run's search may make where the words don't say.
 pub const USUAL_NODES: u32 = 10_000;
 
-/// The most workers that search a run at once.
-pub const MOST_WORKERS: u32 = 16;
-
-/// How many workers there are where the words don't say.
+/// How many workers search a run where the words don't say.
 pub const USUAL_WORKERS: u32 = 2;
 
 /// The last number of a generated day.

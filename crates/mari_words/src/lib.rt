@@ -11,6 +11,5 @@ mod parser;
 mod tests;
 
 pub use command::{
-    Command, FilePart, LAST_NUMBER, MOST_NODES, MOST_WORKERS, USUAL_NODES, USUAL_WORKERS,
-    WordsFault, read_words,
+    Command, FilePart, LAST_NUMBER, USUAL_NODES, USUAL_WORKERS, WordsFault, read_words,
 };

@@ -29,6 +29,7 @@ use Rattle.mari_workers.specs.declared.refining.Fate.TheVariants.{Stays, Branche
 use Rattle.mari_workers.specs.declared.refining.Turn.{Turn}
 use Rattle.mari_workers.specs.declared.refining.Turn.TheVariants.{On, Full, Yield}
 use Rattle.mari_workers.specs.declared.refining.Walk.{Walk}
+use Rattle.mari_units.specs.declared.limits.TheConstants.{MOST_NODES}
 
 -- what may be refined: an optimal clearing with a tree of nodes of the search tree, which opens no gate or has more than the
 -- closed welfare
@@ -54,7 +55,7 @@ ClosesAtClosed m Memory = ⊤
 -- what is aimed at: the optimal welfare, and gate words that come before this one, which opens no gate unless the welfare is
 -- more than the closed welfare
 pub record IsAim (m : Market) (aim : Aim) : Type 0 where
-  pub budget : aim.budget ≤ 50000
+  pub budget : aim.budget ≤ MOST_NODES
   pub word : IsFeasiblePrefix m aim.word
   pub greatest : (a : Activation) → IsAdmissible m a → welfare_of m a ≤ℤ pos aim.welfare
   pub closed : ℕ

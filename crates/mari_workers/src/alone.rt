@@ -4,7 +4,7 @@ ghost use Rattle.std.specs.Prelude.{◌≡◌, ◌-◌, ◌≤◌, None, Some, l
 ghost use Rattle.std.specs.Option.{option_copied};
 ghost use Rattle.mari_core.specs.Machine.{after, refusal, IsProper, KeepsFacts};
 ghost use Rattle.mari_core.specs.Nodes.{words_of};
-ghost use Rattle.mari_market.specs.Clearing.{Clears};
+ghost use Rattle.mari_market.specs.Clearing.{Clears, IsBudget};
 ghost use Rattle.mari_market.specs.Finding.{IsAttained};
 ghost use Rattle.mari_market.specs.Market.{IsValid};
 ghost use Rattle.mari_market.specs.Prefix.{word_of, IsFeasiblePrefix};
@@ -190,7 +190,7 @@ fn visit_all(
 /// Clears a market from its best activation with every gate closed, and refines what is found.
 fn cleared(alloc: Global, market: &Market, budget: u32) -> Result<Cleared, Memory>
     requires market { IsValid market.now }
-    requires budget { (1 ≤ budget) × (budget ≤ 50000) }
+    requires budget { IsBudget budget }
     ensures { IfOk result (Clears market.now budget) }
 {
     let first = first_of(alloc, market)?;
@@ -209,7 +209,7 @@ fn cleared(alloc: Global, market: &Market, budget: u32) -> Result<Cleared, Memor
 /// Spent comes only where the search tree is larger than the budget, with a part of it that the budget can't extend.
 pub fn search_alone(alloc: Global, market: &Market, budget: u32) -> Cleared
     requires market { IsValid market.now }
-    requires budget { (1 ≤ budget) × (budget ≤ 50000) }
+    requires budget { IsBudget budget }
     ensures { Clears market.now budget result }
 {
     match cleared(alloc, market, budget) {

@@ -14,10 +14,10 @@ pub struct Crew<F: Fn(Global, &Market, u32) -> Cleared> {
 impl<F: Fn(Global, &Market, u32) -> Cleared> Clearer for Crew<F> {
     ghost use Rattle.std.specs.Prelude.{◌≤◌, ℕ};
     ghost use Rattle.mari_market.specs.Market.{IsValid};
-    ghost use Rattle.mari_market.specs.Clearing.{Clears};
+    ghost use Rattle.mari_market.specs.Clearing.{Clears, IsBudget};
 
     // Whatever market and budget may be cleared, the call may be made, and clears.
-    ghost ready = { λ c. (a : _) (m : _) (b : ℕ) → IsValid m.now → (1 ≤ b) × (b ≤ 50000) → F.pre c.run a m b × ((r : _) → F.post c.run a m b r → Clears m.now b r) };
+    ghost ready = { λ c. (a : _) (m : _) (b : ℕ) → IsValid m.now → IsBudget b → F.pre c.run a m b × ((r : _) → F.post c.run a m b r → Clears m.now b r) };
 
     fn clear(&mut self, alloc: Global, market: &Market, budget: u32) -> Cleared {
         (self.run)(alloc, market, budget)

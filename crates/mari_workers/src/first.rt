@@ -11,12 +11,12 @@ ghost use Rattle.mari_market.specs.Relaxation.{all_closed, IsClosedWelfare};
 use mari_gates::empty_prefix;
 use mari_market::{Attained, Finding, Market, Prefix, Relaxed};
 use mari_node::examine;
-use mari_units::Memory;
+use mari_units::{MOST_GATES, Memory};
 use std::alloc::Global;
 
 /// The prefix that closes every gate.
 fn closed_prefix(market: &Market) -> Prefix
-    requires { length market.now.gates ≤ 512 }
+    requires { length market.now.gates ≤ MOST_GATES }
     ensures word { word_of result ≡ all_closed market.now }
     ensures cleared { IsCleared result }
 {

@@ -3,7 +3,7 @@
 ghost use Rattle.std.specs.Prelude.{◌≡◌, ◌≤◌, ◌<◌, ◌++◌, ◌∷◌, [], if◌then◌else◌, false, length, map, reverse, IfOk, IsSomeAnd, OnOk, pos};
 ghost use Rattle.mari_gates.specs.Prefixes.{IsCleared};
 ghost use Rattle.mari_core.specs.Preorder.{shape_of};
-ghost use Rattle.mari_market.specs.Clearing.{Clears};
+ghost use Rattle.mari_market.specs.Clearing.{Clears, IsBudget};
 ghost use Rattle.mari_market.specs.Market.{IsValid};
 ghost use Rattle.mari_market.specs.Prefix.{word_of, IsFeasiblePrefix};
 ghost use Rattle.mari_market.specs.Tree.{LeafHolds};
@@ -16,7 +16,7 @@ use mari_market::{
 };
 use mari_node::examine_from;
 use mari_proofs::check_leaf;
-use mari_units::{Items, Memory, Quarters};
+use mari_units::{Items, MOST_GATES, Memory, Quarters};
 use std::alloc::{AllocError, Global};
 
 /// What a walk looks for: activations of the optimal welfare whose gate words come before this one.
@@ -146,7 +146,7 @@ impl Walk {
 
     /// Puts a branch of the prefix behind what is done; its closed child is the next.
     fn descend(&mut self, prefix: &Prefix) -> Result<(), Memory>
-        requires room { prefix.now.length < 512 }
+        requires room { prefix.now.length < MOST_GATES }
         requires cleared { IsCleared prefix.now }
         ensures done { OnOk result (self.new.done.items ≡ self.old.done.items ++ TreeItem.Branch ∷ []) }
         ensures left { OnOk result (self.new.left ≡ self.old.left) }
@@ -285,7 +285,7 @@ fn shapes_of(alloc: Global, tree: &[TreeItem]) -> Result<Vec<PartItem>, Memory>
 /// The first activation, from an optimal one.
 fn refined(alloc: Global, market: &Market, found: Clearing, budget: u32) -> Result<Cleared, Memory>
     requires market { IsValid market.now }
-    requires budget { (1 ≤ budget) × (budget ≤ 50000) }
+    requires budget { IsBudget budget }
     requires found { MayRefine market.now budget found }
     ensures { IfOk result (Clears market.now budget) }
 {
@@ -333,7 +333,7 @@ fn refined(alloc: Global, market: &Market, found: Clearing, budget: u32) -> Resu
 /// of that welfare, which is then the first. Where the new leaves don't fit the budget, the answer is `Spent`.
 pub fn refine(alloc: Global, market: &Market, found: Clearing, budget: u32) -> Cleared
     requires market { IsValid market.now }
-    requires budget { (1 ≤ budget) × (budget ≤ 50000) }
+    requires budget { IsBudget budget }
     requires found { MayRefine market.now budget found }
     ensures law { Clears market.now budget result }
 

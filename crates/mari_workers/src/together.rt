@@ -4,7 +4,7 @@ ghost use Rattle.std.specs.Prelude.{◌≡◌, ℕ, ◌+◌, ◌-◌, ◌<◌, �
 ghost use Rattle.mari_core.specs.Machine.{IsBest};
 ghost use Rattle.mari_incumbent.specs.Incumbent.{standing};
 ghost use Rattle.mari_market.specs.Activation.{gate_word_of};
-ghost use Rattle.mari_market.specs.Clearing.{Clears};
+ghost use Rattle.mari_market.specs.Clearing.{Clears, IsBudget};
 ghost use Rattle.mari_market.specs.Finding.{IsAttained};
 ghost use Rattle.mari_market.specs.Market.{IsValid};
 ghost use Rattle.mari_market.specs.Relaxation.{all_closed, IsClosedWelfare};
@@ -21,7 +21,7 @@ use crossbeam_utils::CachePadded;
 use mari_incumbent::{Incumbent, Seat};
 use mari_market::{Attained, Cleared, Clearing, Market, Spent};
 use mari_pool::{Pool, PoolFault, SearchName, Took};
-use mari_units::{Items, Memory};
+use mari_units::{Items, MOST_WORKERS, Memory};
 use std::alloc::{AllocError, Global};
 use std::marker::Brand;
 use std::sync::{Condvar, Mutex, Wait};
@@ -204,8 +204,8 @@ fn searched<N: SearchName + Send + Sync, G: Turnstile, R: Threads + Wait + Sync>
 ) -> Result<Cleared, Memory>
     requires market { (market.now ≡ N.market) × IsValid market.now }
     requires numbers { (workers ≡ N.workers) × (budget ≡ N.budget) }
-    requires workers { (1 ≤ workers) × (workers ≤ 16) }
-    requires budget { (1 ≤ budget) × (budget ≤ 50000) }
+    requires workers { (1 ≤ workers) × (workers ≤ MOST_WORKERS) }
+    requires budget { IsBudget budget }
     requires incumbent { (incumbent ≡ N.incumbent) × (N.incumbent.all ≡ workers + 2) }
     requires seat { seat ≡ standing N.incumbent N.incumbent.first N.incumbent.first (workers + 2) }
     requires first { IsAttained market.now first × (first.welfare ≡ N.incumbent.first) }
@@ -242,8 +242,8 @@ fn named<G: Turnstile, R: Threads + Wait + Sync>(
     turnstile: &G,
 ) -> Result<Cleared, Memory>
     requires market { IsValid market.now }
-    requires workers { (1 ≤ workers) × (workers ≤ 16) }
-    requires budget { (1 ≤ budget) × (budget ≤ 50000) }
+    requires workers { (1 ≤ workers) × (workers ≤ MOST_WORKERS) }
+    requires budget { IsBudget budget }
     ensures { IfOk result (Clears market.now budget) }
 {
     let first = first_of(alloc, market)?;
@@ -266,8 +266,8 @@ pub fn search<G: Turnstile, R: Threads + Wait + Sync>(
     turnstile: &G,
 ) -> Cleared
     requires market { IsValid market.now }
-    requires workers { (1 ≤ workers) × (workers ≤ 16) }
-    requires budget { (1 ≤ budget) × (budget ≤ 50000) }
+    requires workers { (1 ≤ workers) × (workers ≤ MOST_WORKERS) }
+    requires budget { IsBudget budget }
     ensures { Clears market.now budget result }
 {
     match named(rt, alloc, market, workers, budget, turnstile) {

@@ -83,10 +83,10 @@ pub record IsBorder (zones : ZoneBook) (border : BorderEnds) : Type 0 where
   pub from : border.from < length zones.zones
   pub to : border.to < length zones.zones
   pub apart : border.from ≢ border.to
-  pub limit : border.limit ≤ 99999
-  pub back : border.back ≤ 99999
+  pub limit : border.limit ≤ MOST_MW
+  pub back : border.back ≤ MOST_MW
 
 -- what holds of every book of borders that is read
 pub record IsBorderBook (zones : ZoneBook) (book : BorderBook) : Type 0 where
-  pub few : length book.borders ≤ 256
+  pub few : length book.borders ≤ MOST_BORDERS
   pub borders : All (IsBorder zones) book.borders

@@ -58,10 +58,10 @@ zone_grammar = record { columns = zone_columns; line_checks = zone_checks; file_
 -- what holds of every book of zones that is read: 1 to 64 zones, each with a name of its own and an operator, which has a name
 pub record IsZoneBook (book : ZoneBook) : Type 0 where
   pub some : 1 ≤ length book.zones
-  pub few : length book.zones ≤ 64
+  pub few : length book.zones ≤ MOST_ZONES
   pub zones : All (λ zone. is_name zone ≡ true) book.zones
   pub distinct : AllPairs (λ a b. a ≢ b) book.zones
   pub operators : All (λ operator. is_name operator ≡ true) book.operators
-  pub few_operators : length book.operators ≤ 64
+  pub few_operators : length book.operators ≤ MOST_ZONES
   pub one_each : length book.operator_of ≡ length book.zones
   pub operator_of : All (λ operator. operator < length book.operators) book.operator_of

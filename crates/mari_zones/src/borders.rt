@@ -11,7 +11,7 @@ use crate::zones::ZoneBook;
 use mari_rows::{
     BookFault, BookSoFar, FileCheck, LineFault, Row, has_header, number_of, read_book,
 };
-use mari_units::{Items, MOST_BORDERS, MOST_MW, Memory};
+use mari_units::{Items, MOST_BORDERS, MOST_MW, MOST_PAGE, Memory};
 use std::alloc::Global;
 
 const COLUMNS: &str = "from,to,limit,back";
@@ -64,7 +64,7 @@ pub struct BorderBook {
 impl BorderBook {
     /// The book of a page of either version, or its first refusal. In version 2 all its limits are 0.
     pub fn read(alloc: Global, borders: &[u8], zones: &ZoneBook) -> Result<BorderBook, BookFault>
-        requires { length borders.now ≤ 268435456 }
+        requires { length borders.now ≤ MOST_PAGE }
         ensures book { GivesBook result (borders_in zones.now borders.now) }
         ensures borders { IfOk result (IsBorderBook zones.now) }
     {

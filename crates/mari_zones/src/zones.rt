@@ -8,7 +8,7 @@ ghost use Rattle.mari_zones.specs.Zones.{IsZoneBook, operator_of, zone_checks, z
 ghost use Rattle.mari_zones.specs.ZoneChecks.{zone_check_name, zone_check_number};
 
 use mari_rows::{BookFault, BookSoFar, FileCheck, LineFault, NameIndex, Row, read_book};
-use mari_units::{Items, MOST_ZONES, is_name_text};
+use mari_units::{Items, MOST_PAGE, MOST_ZONES, is_name_text};
 use std::alloc::Global;
 
 const COLUMNS: &str = "zone,operator";
@@ -52,7 +52,7 @@ impl ZoneBook {
     /// The book of a page, or its first refusal.
     #[tactic(auto, unfolding(crate::specs::Zones::zone_columns))]
     pub fn read(alloc: Global, zones: &[u8]) -> Result<ZoneBook, BookFault>
-        requires { length zones.now ≤ 268435456 }
+        requires { length zones.now ≤ MOST_PAGE }
         ensures book { GivesBook result (book_in zone_grammar zones.now) }
         ensures zones { IfOk result IsZoneBook }
     {

@@ -5,15 +5,8 @@ ghost use Rattle.std.specs.Int.RustNames.{unsigned_abs};
 ghost use Rattle.std.specs.Fmt.{decimal, signed_decimal};
 ghost use Rattle.mari_lines.specs.Spelling.{price_text, money_text};
 
-use mari_units::{Cents, Memory, Quarters, cents_text, euros_text, whole_text};
+use mari_units::{Cents, Memory, Quarters, cents_text, euros_text, put, whole_text};
 use std::alloc::Global;
-
-/// Appends a piece.
-pub fn put(out: &mut Vec<u8>, piece: &[u8]) -> Result<(), Memory>
-    ensures { OnOk result (out.new.items ≡ out.old.items ++ piece.now) }
-{
-    Ok(out.extend_from_slice(piece)?)
-}
 
 /// Appends a space and a piece.
 pub fn put_field(out: &mut Vec<u8>, piece: &[u8]) -> Result<(), Memory>

@@ -6,9 +6,9 @@ ghost use Rattle.std.specs.Fmt.{decimal, signed_decimal};
 ghost use Rattle.mari_lines.specs.Spelling.{spaced, price_text, zone_text, side_text, line_text};
 ghost use Rattle.mari_lines.specs.declared.line.Line.TheVariants as line;
 
-use super::pieces::{put, put_flow, put_number, put_price};
+use super::pieces::{put_flow, put_number, put_price};
 use mari_market::{Cut, CutSide};
-use mari_units::{Cents, Memory};
+use mari_units::{Cents, Memory, put};
 use std::alloc::Global;
 
 fn put_prices(alloc: Global, out: &mut Vec<u8>, prices: &[Cents]) -> Result<(), Memory>

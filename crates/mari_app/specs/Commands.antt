@@ -11,7 +11,9 @@ use Rattle.mari_publish.specs.Faults.{IsText}
 use Rattle.mari_publish.specs.Lines.{published_in, unpublished_in}
 use Rattle.mari_remain.specs.declared.books.Books.{Books}
 use Rattle.mari_remain.specs.Migrated.{borders_page, limits_page}
-use Rattle.mari_day.specs.Files.{Gap}
+use Rattle.mari_day.specs.declared.files.File.TheVariants as file
+use Rattle.mari_day.specs.declared.files.TheConstants.{PUBLICATION}
+use Rattle.mari_day.specs.Files.{Gap, number_of}
 use Rattle.mari_day.specs.Files.Gap.{NotHeld, OverLimit}
 use Rattle.mari_day.specs.Reading.{HasBooks, HasGap, HasRefusal}
 use Rattle.mari_check.specs.Day.{IsFirstFault, IsValidPublication}
@@ -20,6 +22,9 @@ use Rattle.mari_words.specs.Asked.{Asked}
 use Rattle.mari_words.specs.Asked.Asked.{Clear, Check, Generate, Migrate}
 use Rattle.mari_words.specs.declared.command.FilePart.{FilePart}
 use Rattle.mari_words.specs.declared.command.FilePart.TheVariants.{Borders, Limits}
+use Rattle.mari_app.specs.declared.checks.MigrationCheck.TheVariants.{AlreadyTwo}
+use Rattle.mari_app.specs.declared.checks.TextCheck.TheVariants.{BadLine, BadOrder, Truncated}
+use Rattle.mari_app.specs.Checks.{migration_check_number, text_check_number}
 use Rattle.mari_app.specs.Printing.{valid_line}
 use Rattle.mari_app.specs.Summary.{IsGenerated}
 
@@ -37,10 +42,6 @@ ReadsFolder asked folder = option_and_then folder_of asked ≡ Some folder
 -- the name of a folder's publication
 abbrev pub publication_path : List ℕ → List ℕ
 publication_path folder = folder ++ codes "/publication.txt"
-
--- the number by which the publication is named among a folder's files
-abbrev pub publication_number : ℕ
-publication_number = 8
 
 -- the folder's publication is checked: its market files give these books, and it is this page
 pub record HasPublication (asked : Option Asked) (pages : Pages) (books : Books) (page : List ℕ) : Type 0 where
@@ -60,18 +61,18 @@ pub record IsReadable (asked : Option Asked) (pages : Pages) : Type 0 where
 
 -- the publication is refused at a line, by the number of a check
 abbrev pub text_refusal_at : (line number : ℕ) → Refusal
-text_refusal_at line number = record { file = publication_number; line = line; number = number }
+text_refusal_at line number = record { file = PUBLICATION; line = line; number = number }
 
 -- the refusal of a text with this fault
 abbrev pub text_refusal : TextFault → Refusal
-text_refusal (text_fault.BadLine n) = text_refusal_at n 11
-text_refusal (text_fault.BadOrder n) = text_refusal_at n 12
-text_refusal (text_fault.Truncated n) = text_refusal_at n 13
+text_refusal (text_fault.BadLine n) = text_refusal_at n (text_check_number BadLine)
+text_refusal (text_fault.BadOrder n) = text_refusal_at n (text_check_number BadOrder)
+text_refusal (text_fault.Truncated n) = text_refusal_at n (text_check_number Truncated)
 text_refusal text_fault.Memory = text_refusal_at 0 0
 
 -- the refusal of borders that leave their limits to limits.csv already
 abbrev pub already_two : Refusal
-already_two = record { file = 3; line = 1; number = 17 }
+already_two = record { file = number_of file.Borders; line = 1; number = migration_check_number AlreadyTwo }
 
 -- the market files are refused: the first refusal of the folder's; or the folder is migrated though it has limits.csv already
 pub data RefusesFiles (asked : Option Asked) (pages : Pages) (refusal : Refusal) : Type 0 where
@@ -95,8 +96,8 @@ pub data IsRefused (asked : Option Asked) (pages : Pages) (refusal : Refusal) : 
 pub data LacksPage (asked : Option Asked) (pages : Pages) (file : ℕ) (gap : Gap) : Type 0 where
   OfBooks : (folder : List ℕ) → ReadsFolder asked folder → HasGap pages folder file gap → LacksPage asked pages file gap
   NoPublication : (folder : List ℕ) (books : Books) → asked ≡ Some (Check folder) → HasBooks pages folder books → page_of pages (publication_path folder) ≡ None
-      → file ≡ publication_number → gap ≡ NotHeld → LacksPage asked pages file gap
-  LongPublication : (books : Books) (page : List ℕ) → HasPublication asked pages books page → IsTooLong page → file ≡ publication_number → gap ≡ OverLimit → LacksPage asked pages file gap
+      → file ≡ PUBLICATION → gap ≡ NotHeld → LacksPage asked pages file gap
+  LongPublication : (books : Books) (page : List ℕ) → HasPublication asked pages books page → IsTooLong page → file ≡ PUBLICATION → gap ≡ OverLimit → LacksPage asked pages file gap
 
 -- the new form of a file
 abbrev pub page_of_part : FilePart → Books → List ℕ

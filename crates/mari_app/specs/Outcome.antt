@@ -14,7 +14,8 @@ use Rattle.mari_day.specs.Dated.{IsDated}
 use Rattle.mari_day.specs.Day.{EndsDay}
 use Rattle.mari_day.specs.declared.day.DayEnd.{DayEnd}
 use Rattle.mari_day.specs.declared.day.DayEnd.TheVariants as end
-use Rattle.mari_day.specs.Files.{Gap}
+use Rattle.mari_day.specs.declared.files.TheConstants.{PUBLICATION}
+use Rattle.mari_day.specs.Files.{Gap, IsNamed}
 use Rattle.mari_day.specs.Files.Gap.{NotHeld, OverLimit}
 use Rattle.mari_day.specs.Reading.{HasBooks, HasGap, HasRefusal}
 use Rattle.mari_day.specs.declared.reading.BooksFault.{BooksFault}
@@ -29,13 +30,15 @@ use Rattle.mari_check.specs.Streams.{IsToldFault, IsTooLong}
 use Rattle.mari_words.specs.Asked.{Asked}
 use Rattle.mari_words.specs.Asked.Asked.{Clear, Check, Generate, Migrate}
 use Rattle.mari_units.specs.declared.limits.TheConstants.{MOST_NODES, MOST_WORKERS}
+use Rattle.mari_app.specs.declared.checks.TextCheck.TheVariants.{BadLine, BadOrder, Truncated}
+use Rattle.mari_app.specs.Checks.{text_check_number}
 use Rattle.mari_app.specs.declared.outcome.Job.{Job}
 use Rattle.mari_app.specs.declared.outcome.Outcome.{Outcome}
 use Rattle.mari_app.specs.declared.outcome.Outcome.TheVariants.{NoCommand, Day, Text, Invalid, NoPage, Refused, NoMemory}
 use Rattle.mari_app.specs.declared.status.Status.{Status}
 use Rattle.mari_app.specs.declared.status.Status.TheVariants as status
 use Rattle.mari_words.specs.declared.command.FilePart.{FilePart}
-use Rattle.mari_app.specs.Commands.{ReadsFolder, already_two, page_of_part, publication_number, publication_path, text_refusal, text_refusal_at}
+use Rattle.mari_app.specs.Commands.{ReadsFolder, already_two, page_of_part, publication_path, text_refusal, text_refusal_at}
 use Rattle.mari_app.specs.Summary.{IsGenerated}
 use Rattle.mari_app.specs.Printing.{file_line, invalid_line, refused_line, then_took, usage_line, valid_line}
 use Rattle.mari_app.specs.Refusals.{HasName}
@@ -62,10 +65,6 @@ IsOfWords asked NoMemory = ⊤
 abbrev pub IsNoPage : Fetch → Outcome → Type 0
 IsNoPage why (NoPage file w) = w ≡ why
 IsNoPage why _ = ⊥
-
--- the number of a file that is named: of a market file, or of the publication
-abbrev pub IsNamed : ℕ → Type 0
-IsNamed file = (1 ≤ file) × (file ≤ 9)
 
 -- a job that can be done: its books are a folder's, and its numbers are within their limits
 pub record IsReady (job : Job) : Type 0 where
@@ -143,9 +142,9 @@ IsSummarised number _ = ⊥
 
 -- what comes of a publication whose text has a fault
 abbrev pub text_outcome : TextFault → Outcome
-text_outcome (text_fault.BadLine n) = Refused (text_refusal_at n 11)
-text_outcome (text_fault.BadOrder n) = Refused (text_refusal_at n 12)
-text_outcome (text_fault.Truncated n) = Refused (text_refusal_at n 13)
+text_outcome (text_fault.BadLine n) = Refused (text_refusal_at n (text_check_number BadLine))
+text_outcome (text_fault.BadOrder n) = Refused (text_refusal_at n (text_check_number BadOrder))
+text_outcome (text_fault.Truncated n) = Refused (text_refusal_at n (text_check_number Truncated))
 text_outcome text_fault.Memory = NoMemory
 
 -- what comes of the verdict on a publication
@@ -158,9 +157,9 @@ IsToldVerdict _ _ = ⊥
 -- a publication that isn't held, or is longer than may be given in pieces
 abbrev pub PageTells : Option (List ℕ) → (file : ℕ) → Fetch → Type 0
 PageTells page file fetch.Failed = ⊤
-PageTells page file fetch.Missing = (page ≡ None) × (file ≡ publication_number)
+PageTells page file fetch.Missing = (page ≡ None) × (file ≡ PUBLICATION)
 PageTells None file fetch.TooLong = ⊥
-PageTells (Some page) file fetch.TooLong = IsTooLong page × (file ≡ publication_number)
+PageTells (Some page) file fetch.TooLong = IsTooLong page × (file ≡ PUBLICATION)
 PageTells page file fetch.Memory = ⊤
 
 -- what is said of the page of a publication that is checked against these books

@@ -27,6 +27,10 @@ use Rattle.mari_demands.specs.declared.demands.DemandCheck.{DemandCheck}
 use Rattle.mari_demands.specs.declared.demands.DemandCheck.TheVariants as demand
 use Rattle.mari_demands.specs.declared.limits.LimitCheck.{LimitCheck}
 use Rattle.mari_demands.specs.declared.limits.LimitCheck.TheVariants as limit
+use Rattle.mari_day.specs.Files.{file_with}
+use Rattle.mari_day.specs.declared.files.File.{File}
+use Rattle.mari_day.specs.declared.files.File.TheVariants as file
+use Rattle.mari_day.specs.declared.files.TheConstants.{PUBLICATION}
 use Rattle.mari_day.specs.DateChecks.{date_check_name, date_check_number}
 use Rattle.mari_day.specs.declared.calendar_page.DateCheck.{DateCheck}
 use Rattle.mari_day.specs.declared.calendar_page.DateCheck.TheVariants as date
@@ -80,19 +84,22 @@ abbrev pub border_name : ℕ → Option (List ℕ)
 border_name number = option_or (name_among border_check_number border_check_name border_checks number)
     (name_among migration_check_number migration_check_name migration_checks number)
 
+-- the name of a check of a market file's own
+abbrev pub named_of : Option File → (number : ℕ) → Option (List ℕ)
+named_of (Some file.Day) number = name_among date_check_number date_check_name date_checks number
+named_of (Some file.Zones) number = name_among zone_check_number zone_check_name zone_checks number
+named_of (Some file.Borders) number = border_name number
+named_of (Some file.Bids) number = name_among bid_check_number bid_check_name bid_checks number
+named_of (Some file.Links) number = name_among link_check_number link_check_name link_checks number
+named_of (Some file.Runs) number = name_among run_check_number run_check_name run_checks number
+named_of (Some file.Demands) number = name_among demand_check_number demand_check_name demand_checks number
+named_of (Some file.Limits) number = name_among limit_check_number limit_check_name limit_checks number
+named_of None number = None
+
 -- the name of a check of one file of its own, by the file's number from 1
 abbrev pub own_name : (file number : ℕ) → Option (List ℕ)
 own_name file number =
-    if file == 1 then name_among date_check_number date_check_name date_checks number else
-    if file == 2 then name_among zone_check_number zone_check_name zone_checks number else
-    if file == 3 then border_name number else
-    if file == 4 then name_among bid_check_number bid_check_name bid_checks number else
-    if file == 5 then name_among link_check_number link_check_name link_checks number else
-    if file == 6 then name_among run_check_number run_check_name run_checks number else
-    if file == 7 then name_among demand_check_number demand_check_name demand_checks number else
-    if file == 8 then name_among text_check_number text_check_name text_checks number else
-    if file == 9 then name_among limit_check_number limit_check_name limit_checks number else
-    None
+    if file == PUBLICATION then name_among text_check_number text_check_name text_checks number else named_of (file_with file) number
 
 -- the name of a check, by its file's number from 1 and its own
 unfoldable pub check_name : (file number : ℕ) → Option (List ℕ)

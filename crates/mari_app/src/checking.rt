@@ -14,15 +14,13 @@ use crate::checks::TextCheck;
 use crate::outcome::Outcome;
 use crate::writing::pair_line;
 use mari_check::{StreamFault, Verdict, check_stream};
+use mari_day::PUBLICATION;
 use mari_io::Shelf;
 use mari_publish::TextFault;
 use mari_remain::Books;
 use mari_rows::FileCheck;
 use mari_units::{Memory, Refusal};
 use std::alloc::Global;
-
-/// The number of the publication among a folder's files.
-const PUBLICATION: u8 = 8;
 
 /// The name of a folder's publication.
 fn publication_path(alloc: Global, folder: &str) -> Result<String, Memory>

@@ -10,19 +10,26 @@ ghost use Rattle.mari_app.specs.Commands.{already_two, page_of_part};
 ghost use Rattle.mari_app.specs.Outcome.{IsMigrated, IsNoPage, IsOfWords, IsReportable, Says};
 
 use crate::books::books_in;
+use crate::checks::MigrationCheck;
 use crate::outcome::Outcome;
+use mari_day::File;
 use mari_io::Shelf;
 use mari_remain::{Books, borders_text, limits_text};
+use mari_rows::FileCheck;
 use mari_units::{Memory, Refusal};
 use mari_words::FilePart;
 use std::alloc::Global;
 
 /// The refusal of a folder whose borders leave their limits to limits.csv already.
-pub const ALREADY_TWO: Refusal = Refusal {
-    file: 3,
-    line: 1,
-    number: 17,
-};
+fn already_two_files() -> Refusal
+    ensures { result ≡ already_two }
+{
+    Refusal {
+        file: File::Borders.number(),
+        line: 1,
+        number: MigrationCheck::AlreadyTwo.entry().0,
+    }
+}
 
 /// The new form of a file.
 fn page_of(alloc: Global, books: &Books, part: FilePart) -> Result<Vec<u8>, Memory>
@@ -41,7 +48,7 @@ fn migrated_books(alloc: Global, books: &Books, part: FilePart) -> Outcome
     ensures { IsMigrated books.now part result }
 {
     if books.limits.is_some() {
-        return Outcome::Refused(ALREADY_TWO);
+        return Outcome::Refused(already_two_files());
     }
     match page_of(alloc, books, part) {
         Ok(text) => Outcome::Text(text),

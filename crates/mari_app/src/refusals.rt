@@ -5,7 +5,7 @@ ghost use Rattle.mari_app.specs.Refusals.{border_name as border_named, check_nam
 
 use crate::checks::{MigrationCheck, TextCheck};
 use mari_bids::BidCheck;
-use mari_day::DateCheck;
+use mari_day::{DateCheck, File, PUBLICATION};
 use mari_demands::{DemandCheck, LimitCheck, RunCheck};
 use mari_links::LinkCheck;
 use mari_rows::{FileCheck, RowCheck};
@@ -115,17 +115,19 @@ fn border_name(number: u8) -> Option<&'static str>
 fn own_name(file: u8, number: u8) -> Option<&'static str>
     ensures { option_map (λ name. name.now) result ≡ own_named file number }
 {
-    match file {
-        1 => name_among(&DATE_CHECKS, number),
-        2 => name_among(&ZONE_CHECKS, number),
-        3 => border_name(number),
-        4 => name_among(&BID_CHECKS, number),
-        5 => name_among(&LINK_CHECKS, number),
-        6 => name_among(&RUN_CHECKS, number),
-        7 => name_among(&DEMAND_CHECKS, number),
-        8 => name_among(&TEXT_CHECKS, number),
-        9 => name_among(&LIMIT_CHECKS, number),
-        _ => None,
+    if file == PUBLICATION {
+        return name_among(&TEXT_CHECKS, number);
+    }
+    match File::with_number(file) {
+        Some(File::Day) => name_among(&DATE_CHECKS, number),
+        Some(File::Zones) => name_among(&ZONE_CHECKS, number),
+        Some(File::Borders) => border_name(number),
+        Some(File::Bids) => name_among(&BID_CHECKS, number),
+        Some(File::Links) => name_among(&LINK_CHECKS, number),
+        Some(File::Runs) => name_among(&RUN_CHECKS, number),
+        Some(File::Demands) => name_among(&DEMAND_CHECKS, number),
+        Some(File::Limits) => name_among(&LIMIT_CHECKS, number),
+        None => None,
     }
 }
 

@@ -2,7 +2,8 @@
 
 ghost use Rattle.std.specs.Prelude.{◌≡◌, ◌≢◌};
 ghost use Rattle.mari_io.specs.Outside.{Counts};
-ghost use Rattle.mari_app.specs.Outcome.{IsNamed, IsReportable, Reported, Reports, ReportsNoPage};
+ghost use Rattle.mari_day.specs.Files.{IsNamed};
+ghost use Rattle.mari_app.specs.Outcome.{IsReportable, Reported, Reports, ReportsNoPage};
 ghost use Rattle.mari_app.specs.Printing.{file_line as file_text, invalid_line as invalid_text, refused_line as refused_text};
 ghost use Rattle.mari_app.specs.Refusals.{HasName};
 

@@ -2,7 +2,7 @@
 
 ghost use Rattle.std.specs.Prelude.{◌≡◌, OnOk, IfOk, ◌++◌};
 ghost use Rattle.std.specs.Fmt.{decimal};
-ghost use Rattle.mari_app.specs.Outcome.{IsNamed};
+ghost use Rattle.mari_day.specs.Files.{IsNamed};
 ghost use Rattle.mari_app.specs.Printing.{usage_line as usage_text, file_line as file_text, pair_line as pair_text, refused_line as refused_text};
 ghost use Rattle.mari_app.specs.Refusals.{HasName};
 

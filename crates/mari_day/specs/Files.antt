@@ -5,6 +5,7 @@ use Rattle.mari_units.specs.declared.limits.TheConstants.{MOST_PAGE}
 use Rattle.mari_io.specs.Outside.{Pages, page_of as page_named}
 use Rattle.mari_zones.specs.Borders.{version_in}
 use Rattle.mari_day.specs.declared.files.File.{File}
+use Rattle.mari_day.specs.declared.files.TheConstants.{PUBLICATION}
 use Rattle.mari_day.specs.declared.files.File.TheVariants.{Day, Zones, Borders, Bids, Links, Runs, Demands, Limits}
 
 -- a file's name in its folder
@@ -29,7 +30,7 @@ place_of Runs = 5
 place_of Demands = 6
 place_of Limits = 7
 
--- the number by which a file is named: eight is that of the publication, which is no market file
+-- the number by which a file is named: one is left out, that of the publication, which is no market file
 abbrev pub number_of : File → ℕ
 number_of Day = 1
 number_of Zones = 2
@@ -40,11 +41,28 @@ number_of Runs = 6
 number_of Demands = 7
 number_of Limits = 9
 
--- the number of a market file: 1 to 7, or 9
+-- the number of a market file
 pub record IsFileNumber (number : ℕ) : Type 0 where
   pub first : 1 ≤ number
-  pub last : number ≤ 9
-  pub other : number ≢ 8
+  pub last : number ≤ number_of Limits
+  pub other : number ≢ PUBLICATION
+
+-- the number of a file, which a market file or the publication has
+abbrev pub IsNamed : ℕ → Type 0
+IsNamed number = (1 ≤ number) × (number ≤ number_of Limits)
+
+-- the market file of a number, if it is that of one
+abbrev pub file_with : ℕ → Option File
+file_with number =
+    if number == number_of Day then Some Day else
+    if number == number_of Zones then Some Zones else
+    if number == number_of Borders then Some Borders else
+    if number == number_of Bids then Some Bids else
+    if number == number_of Links then Some Links else
+    if number == number_of Runs then Some Runs else
+    if number == number_of Demands then Some Demands else
+    if number == number_of Limits then Some Limits else
+    None
 
 -- the seven files that every folder has, in the order in which they are fetched and read
 abbrev pub files : List File
@@ -54,12 +72,14 @@ files = Day ∷ Zones ∷ Borders ∷ Bids ∷ Links ∷ Runs ∷ Demands ∷ []
 abbrev pub files_of : (version : ℕ) → List File
 files_of version = if version == 2 then files ++ Limits ∷ [] else files
 
+-- the name of a market file, or of the publication
+abbrev pub name_or_publication : Option File → List ℕ
+name_or_publication (Some file) = name_of file
+name_or_publication None = codes "publication.txt"
+
 -- the name of the file of a number
 abbrev pub file_named : ℕ → List ℕ
-file_named number =
-    if number == 8 then codes "publication.txt" else
-    if number == 9 then name_of Limits else
-    name_of (slice_index_or files (number - 1) Day)
+file_named number = name_or_publication (file_with number)
 
 -- a file's page among the pages of its folder
 abbrev pub page_of : List (List ℕ) → File → List ℕ

@@ -1,7 +1,7 @@
 //! The market files of a folder.
 
 ghost use Rattle.std.specs.Prelude.{◌≡◌, ◌≤◌, ◌<◌};
-ghost use Rattle.mari_day.specs.Files.{IsFileNumber, file_named, name_of, number_of, place_of};
+ghost use Rattle.mari_day.specs.Files.{IsFileNumber, IsNamed, file_named, file_with, name_of, number_of, place_of};
 
 /// A market file, in the order in which the files are fetched and read.
 #[derive(Clone, Copy, Debug, PartialEq, Eq)]
@@ -26,6 +26,9 @@ pub const FILES: [File; 7] = [
     File::Runs,
     File::Demands,
 ];
+
+/// The number of the publication among the files of a folder. It is no market file.
+pub const PUBLICATION: u8 = 8;
 
 impl File {
     /// The file's name in its folder.
@@ -61,7 +64,7 @@ impl File {
         }
     }
 
-    /// The number by which the file is named, from 1. Eight is that of the publication, which is no market file.
+    /// The number by which the file is named, from 1: `PUBLICATION` is left out.
     pub fn number(self) -> u8
         ensures number { result ≡ number_of self }
         ensures within { IsFileNumber result }
@@ -71,16 +74,32 @@ impl File {
             _ => self.place() as u8 + 1,
         }
     }
+
+    /// The market file of a number, if it is that of one.
+    pub fn with_number(number: u8) -> Option<File>
+        ensures { result ≡ file_with number }
+    {
+        match number {
+            1 => Some(File::Day),
+            2 => Some(File::Zones),
+            3 => Some(File::Borders),
+            4 => Some(File::Bids),
+            5 => Some(File::Links),
+            6 => Some(File::Runs),
+            7 => Some(File::Demands),
+            9 => Some(File::Limits),
+            _ => None,
+        }
+    }
 }
 
-/// The name of the file of a number, from 1: of a market file, or of the publication, which is the eighth.
+/// The name of the file of a number, from 1: of a market file, or of the publication.
 pub fn file_name(number: u8) -> &'static str
-    requires { (1 ≤ number) × (number ≤ 9) }
+    requires { IsNamed number }
     ensures { result.now ≡ file_named number }
 {
-    match number {
-        8 => "publication.txt",
-        9 => File::Limits.name(),
-        _ => FILES[number as usize - 1].name(),
+    match File::with_number(number) {
+        Some(file) => file.name(),
+        None => "publication.txt",
     }
 }

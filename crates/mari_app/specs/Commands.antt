@@ -1,4 +1,5 @@
--- What the words and the pages decide: which folder is read, what is refused, which page can't be had, and what is printed.
+-- What the words and the pages decide: which folder is read, what is refused, which page can't be had, and what is
+-- printed.
 use Rattle.std.specs.Prelude.{ℕ, ◌≡◌, ◌≢◌, ◌≤◌, List, ◌++◌, length, Option, Some, None, option_and_then}
 use lib.Chars.{codes}
 use Rattle.mari_units.specs.declared.faults.Refusal.{Refusal}
@@ -74,7 +75,8 @@ text_refusal text_fault.Memory = text_refusal_at 0 0
 abbrev pub already_two : Refusal
 already_two = record { file = number_of file.Borders; line = 1; number = migration_check_number AlreadyTwo }
 
--- the market files are refused: the first refusal of the folder's; or the folder is migrated though it has limits.csv already
+-- the market files are refused: the first refusal of the folder's; or the folder is migrated though it has limits.csv
+-- already
 pub data RefusesFiles (asked : Option Asked) (pages : Pages) (refusal : Refusal) : Type 0 where
   OfBooks : (folder : List ℕ) → ReadsFolder asked folder → HasRefusal pages folder refusal → RefusesFiles asked pages refusal
   OfVersion : (folder : List ℕ) (part : FilePart) (books : Books) → asked ≡ Some (Migrate folder part) → HasBooks pages folder books
@@ -91,8 +93,8 @@ pub data IsRefused (asked : Option Asked) (pages : Pages) (refusal : Refusal) : 
   OfFiles : RefusesFiles asked pages refusal → IsRefused asked pages refusal
   OfText : (page : List ℕ) (fault : TextFault) → RefusesText asked pages page fault → refusal ≡ text_refusal fault → IsRefused asked pages refusal
 
--- the first file whose page can't be had, by its number, and why: a market file of the folder; or the publication that is checked, which
--- isn't held, or is longer than may be given in pieces
+-- the first file whose page can't be had, by its number, and why: a market file of the folder; or the publication that
+-- is checked, which isn't held, or is longer than may be given in pieces
 pub data LacksPage (asked : Option Asked) (pages : Pages) (file : ℕ) (gap : Gap) : Type 0 where
   OfBooks : (folder : List ℕ) → ReadsFolder asked folder → HasGap pages folder file gap → LacksPage asked pages file gap
   NoPublication : (folder : List ℕ) (books : Books) → asked ≡ Some (Check folder) → HasBooks pages folder books → page_of pages (publication_path folder) ≡ None
@@ -104,8 +106,9 @@ abbrev pub page_of_part : FilePart → Books → List ℕ
 page_of_part Borders books = borders_page books
 page_of_part Limits books = limits_page books
 
--- a text that is printed whole, where all is well: that the publication that is checked is valid, with the numbers of its published and
--- of its other blocks; the new form of a file of a folder whose borders state their limits; or the summary of a generated day
+-- a text that is printed whole, where all is well: that the publication that is checked is valid, with the numbers of
+-- its published and of its other blocks; the new form of a file of a folder whose borders state their limits; or the
+-- summary of a generated day
 pub data Prints (asked : Option Asked) (pages : Pages) (text : List ℕ) : Type 0 where
   Valid : (is : IsReadable asked pages) → IsValidPublication is.books is.publication
       → text ≡ valid_line (published_in is.publication.blocks) (unpublished_in is.publication.blocks) → Prints asked pages text

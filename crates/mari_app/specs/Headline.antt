@@ -1,5 +1,6 @@
--- The headline: what is promised of each day that the program prints. Read this file first; it stands on `Day` and `Published` of
--- `mari_day`, and that on the definitions of `mari_market` (`Optimal`, `Clearing`, `Interval`) and `mari_settle` (`Ledger`).
+-- The headline: what is promised of each day that the program prints. Read this file first; it stands on `Day` and
+-- `Published` of `mari_day`, and that on the definitions of `mari_market` (`Optimal`, `Clearing`, `Interval`) and
+-- `mari_settle` (`Ledger`).
 use Rattle.std.specs.Prelude.{ℕ, pos, ◌≡◌, ◌==◌, Bool, List, Option, Some, slice_get}
 use Rattle.mari_io.specs.Outside.{Pages}
 use Rattle.mari_remain.specs.declared.books.Books.{Books}
@@ -17,12 +18,13 @@ use Rattle.mari_words.specs.Asked.{Asked}
 use Rattle.mari_words.specs.Asked.Asked.{Clear}
 use Rattle.mari_app.specs.Printing.{then_took}
 
--- the text of a day of the folder that the words ask to clear: its pages are held and give books, and the text is that of their day
--- within the budget of nodes, with a block for each run, in order. Each published run has a first activation of its market behind the
--- blocks that are printed before, with its welfare, the prices of its zones, its ledger, and a certificate tree that holds for its gate
--- word; a run that isn't published has a search tree larger than the budget. Over the day no bid runs above its offer, and a gated one
--- in at most one block; the operators' nets sum to 0 in each block and in the totals, and no rent is negative. The checker accepts the
--- day. All of its runs are published, or not
+-- the text of a day of the folder that the words ask to clear: its pages are held and give books, and the text is that
+-- of their day within the budget of nodes, with a block for each run, in order. Each published run has a first
+-- activation of its market behind the blocks that are printed before, with its welfare, the prices of its zones, its
+-- ledger, and a certificate tree that holds for its gate word; a run that isn't published has a search tree larger than
+-- the budget. Over the day no bid runs above its offer, and a gated one in at most one block; the operators' nets sum
+-- to 0 in each block and in the totals, and no rent is negative. The checker accepts the day. All of its runs are
+-- published, or not
 pub record HasDay (asked : Option Asked) (pages : Pages) (whole : Bool) (text : List ℕ) : Type 0 where
   pub folder : List ℕ
   pub nodes : ℕ

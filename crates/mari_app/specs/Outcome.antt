@@ -43,7 +43,8 @@ use Rattle.mari_app.specs.Summary.{IsGenerated}
 use Rattle.mari_app.specs.Printing.{file_line, invalid_line, refused_line, then_took, usage_line, valid_line}
 use Rattle.mari_app.specs.Refusals.{HasName}
 
--- the words ask for a text: for the check or for a new file of a folder, or for the summary of a generated day, which it is
+-- the words ask for a text: for the check or for a new file of a folder, or for the summary of a generated day, which
+-- it is
 abbrev pub AsksForText : Option Asked → List ℕ → Type 0
 AsksForText None text = ⊥
 AsksForText (Some (Clear folder nodes workers)) text = ⊥
@@ -86,8 +87,8 @@ day_status (end.Done published unpublished) = if unpublished == 0 then status.Do
 day_status end.WriteFault = status.WriteFault
 day_status end.Memory = status.Memory
 
--- how a text is reported with a status: it is printed whole; or a write failed, and a first part of it was taken; or there was no
--- memory for it, and nothing was taken
+-- how a text is reported with a status: it is printed whole; or a write failed, and a first part of it was taken; or
+-- there was no memory for it, and nothing was taken
 pub data Reports (text : List ℕ) (wanted : Status) (before after : Option (List ℕ)) (result : Status) : Type 0 where
   Printed : result ≡ wanted → after ≡ then_took before text → Reports text wanted before after result
   CutOff : result ≡ status.WriteFault → (n : ℕ) → after ≡ then_took before (take n text) → Reports text wanted before after result
@@ -181,9 +182,9 @@ abbrev pub fetch_of : Gap → Fetch
 fetch_of NotHeld = fetch.Missing
 fetch_of OverLimit = fetch.TooLong
 
--- what an outcome says of what the words ask for and of the pages: the words are no command; a folder's market files are refused, or a
--- page of them can't be had; or they give books, which are cleared, checked or migrated; a day is generated; or a fetch failed, or there
--- was no memory
+-- what an outcome says of what the words ask for and of the pages: the words are no command; a folder's market files
+-- are refused, or a page of them can't be had; or they give books, which are cleared, checked or migrated; a day is
+-- generated; or a fetch failed, or there was no memory
 pub data Says (asked : Option Asked) (pages : Pages) (o : Outcome) : Type 0 where
   OfUsage : asked ≡ None → o ≡ NoCommand → Says asked pages o
   OfRefusal : (folder : List ℕ) (refusal : Refusal) → ReadsFolder asked folder → HasRefusal pages folder refusal → o ≡ Refused refusal → Says asked pages o

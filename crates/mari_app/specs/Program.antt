@@ -74,8 +74,8 @@ AsksForFiles asked = (folder : List ℕ) × ReadsFolder asked folder
 abbrev pub TookSummary : Option Asked → (before after : Option (List ℕ)) → Type 0
 TookSummary asked before after = (number : ℕ) → asked ≡ Some (Generate number) → (text : List ℕ) × IsGenerated number text × (after ≡ then_took before text)
 
--- what each answer says of what the words ask for, of the pages where they are told, of a fetch that failed, and of what the sink has
--- taken; a refusal is printed with the name of its check, and has one
+-- what each answer says of what the words ask for, of the pages where they are told, of a fetch that failed, and of
+-- what the sink has taken; a refusal is printed with the name of its check, and has one
 abbrev pub Answers : Option Asked → Option Pages → (failed : Type 0) → (before after : Option (List ℕ)) → Status → Type 0
 Answers asked pages failed before after Done = WhereTold pages (λ told. IsDone asked told before after) × TookSummary asked before after
 Answers asked pages failed before after Unpublished = AsksToClear asked × WhereTold pages (λ told. WroteDay asked told false before after)

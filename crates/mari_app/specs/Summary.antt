@@ -45,8 +45,8 @@ heading_line number books =
 abbrev pub summary_of : ℕ → Books → List Block → List ℕ
 summary_of number books blocks = heading_line number books ++ flat_map run_line blocks ++ number_line (codes "sum ") (welfare_sum blocks)
 
--- the text is the summary of a day of the pages that a number generates, cleared with the usual budget of nodes: of eight zones, ten
--- borders, 960 bids and 24 runs, every one of which is published
+-- the text is the summary of a day of the pages that a number generates, cleared with the usual budget of nodes: of
+-- eight zones, ten borders, 960 bids and 24 runs, every one of which is published
 pub record IsGenerated (number : ℕ) (text : List ℕ) : Type 0 where
   pub books : Books
   pub gives : HasBooks (scenario_at number) (codes "s") books

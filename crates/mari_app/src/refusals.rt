@@ -15,7 +15,7 @@ use mari_zones::{BorderCheck, ZoneCheck};
 /// The checks that every file has.
 const ROW_CHECKS: [RowCheck; 3] = [RowCheck::BadHeader, RowCheck::BadRow, RowCheck::NotUtf8];
 
-// The checks of each file of its own.
+/// The checks of each file of its own.
 const DATE_CHECKS: [DateCheck; 5] = [
     DateCheck::NotOneRecord,
     DateCheck::BadDate,

@@ -84,8 +84,8 @@ has_bad_field row = not (is_name (id_of row) && is_name (provider_of row) && is_
 abbrev pub count_of : ℕ → List Row → ℕ → ℕ
 count_of quarters rows quarter = count_by (λ row. quarter_at quarters row == quarter) rows
 
--- a line is refused for a bad field, for a bid of an earlier line, for an unknown zone, for a quarter that the day has not,
--- for a price or a quantity out of range, and for a least quantity above the greatest
+-- a line is refused for a bad field, for a bid of an earlier line, for an unknown zone, for a quarter that the day has
+-- not, for a price or a quantity out of range, and for a least quantity above the greatest
 abbrev pub bid_checks : ZoneBook → ℕ → List Row → Row → Checks
 bid_checks zones quarters earlier row =
     (has_bad_field row, bid_check_number BadField)
@@ -139,7 +139,8 @@ bid_grammar zones quarters = record {
   book = bid_book zones quarters;
 }
 
--- a bid of a zone of the day, of one of so many providers, in one of so many quarters, with its price and quantities in range
+-- a bid of a zone of the day, of one of so many providers, in one of so many quarters, with its price and quantities in
+-- range
 pub record IsBid (zones : ZoneBook) (providers quarters : ℕ) (bid : Bid) : Type 0 where
   pub provider : bid.provider < providers
   pub zone : bid.zone < length zones.zones
@@ -150,8 +151,8 @@ pub record IsBid (zones : ZoneBook) (providers quarters : ℕ) (bid : Bid) : Typ
   pub most : bid.greatest ≤ 9999
   pub least : bid.least ≤ bid.greatest
 
--- what holds of every book of bids that is read: each bid has a name of its own, each provider a name, and no quarter has more
--- than 4,096 bids
+-- what holds of every book of bids that is read: each bid has a name of its own, each provider a name, and no quarter
+-- has more than 4,096 bids
 pub record IsBidBook (zones : ZoneBook) (quarters : ℕ) (book : BidBook) : Type 0 where
   pub named : length book.ids ≡ length book.bids
   pub ids : All (λ id. is_name id ≡ true) book.ids

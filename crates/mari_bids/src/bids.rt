@@ -106,7 +106,7 @@ fn is_both(line: &Row) -> Option<bool>
     is_first_of(line.field(8), b"both", b"scheduled")
 }
 
-// Whether a field is no name, no number, no price or no word of its column.
+/// Whether a field is no name, no number, no price or no word of its column.
 fn has_bad_field(line: &Row) -> bool
     ensures { result ≡ has_bad_field_in line.now }
 {
@@ -120,7 +120,7 @@ fn has_bad_field(line: &Row) -> bool
         && is_both(line).is_some())
 }
 
-// The bid of a line behind others with these names, but for the place of its provider, or the first check that fails.
+/// The bid of a line behind others with these names, but for the place of its provider, or the first check that fails.
 fn bid_of(zones: &ZoneBook, quarters: u32, ids: &NameIndex, line: &Row) -> Result<Bid, BidCheck>
     ensures bid { (earlier : List Line) → ids.now ≡ map id_of earlier
         → IsRead bid_check_number result (first_failing (bid_checks zones.now quarters earlier line.now)) (bid_at zones.now quarters 0 line.now) }
@@ -165,7 +165,7 @@ fn bid_of(zones: &ZoneBook, quarters: u32, ids: &NameIndex, line: &Row) -> Resul
     })
 }
 
-// The bids of the lines so far, and how many there are of each quarter.
+/// The bids of the lines so far, and how many there are of each quarter.
 #[derive(Drop)]
 struct BidsSoFar<'a> {
     zones: &'a ZoneBook,

@@ -30,8 +30,8 @@ moment_in y d = match_some (rule_day y d.0) (last_nanosecond y) (λ day.
 abbrev pub shift_of : ℤ → ℤ → ℤ
 shift_of std summer = nanos_of_seconds summer -ℤ nanos_of_seconds std
 
--- how many seconds a wall clock is ahead of UTC when it shows a moment, where its summer time is behind its standard time;
--- what it skips or shows twice counts by the offset before the change
+-- how many seconds a wall clock is ahead of UTC when it shows a moment, where its summer time is behind its standard
+-- time; what it skips or shows twice counts by the offset before the change
 abbrev pub offset_behind : (std summer : ℤ) → ℤ × ℤ → ℤ → ℤ
 offset_behind std summer w at =
     if in_window w at then summer

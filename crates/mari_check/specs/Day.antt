@@ -48,7 +48,8 @@ IsUnpublishedFree books budget before heading count fault.Leaf = ⊤
 IsUnpublishedFree books budget before heading count fault.Ledger = ⊤
 IsUnpublishedFree books budget before heading count fault.Totals = ⊤
 
--- what is so where the block behind these blocks doesn't have a fault. A published one whose run isn't there has a fault in its heading
+-- what is so where the block behind these blocks doesn't have a fault. A published one whose run isn't there has a
+-- fault in its heading
 abbrev pub IsFreeIn : Books → (budget : ℕ) → (before : List Block) → Block → Fault → Type 0
 IsFreeIn books budget before (block.Published b) any = (run_behind before ≤ length books.runs.runs) × IsPublishedFree books budget before b any
 IsFreeIn books budget before (block.Unpublished heading count) any = IsUnpublishedFree books budget before heading count any
@@ -62,8 +63,8 @@ pub record HasTotals (books : Books) (p : Publication) : Type 0 where
   pub operators : p.operators ≡ operator_totals books p.blocks
   pub providers : p.providers ≡ provider_totals books p.blocks
 
--- a valid publication: its first line is that of the books, there is a block for each run and none of them has a fault, and the totals
--- are their sums
+-- a valid publication: its first line is that of the books, there is a block for each run and none of them has a fault,
+-- and the totals are their sums
 pub record IsValidPublication (books : Books) (p : Publication) : Type 0 where
   pub head : HasHead books p
   pub blocks : AreFree books p.budget p.blocks

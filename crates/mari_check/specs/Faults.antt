@@ -42,8 +42,9 @@ pub record IsShaped (m : Market) (budget : Option ℕ) (items : List TreeItem) :
   pub shape : HasShape m items
   pub within_budget : IfSome budget (λ most. length items ≤ most)
 
--- what is so where a fault isn't there: of a block of a run, counted from 1, with this market, where the run's quarter has these
--- scheduled prices, or none, and the day this budget, where one is given. The totals are no matter of one block
+-- what is so where a fault isn't there: of a block of a run, counted from 1, with this market, where the run's quarter
+-- has these scheduled prices, or none, and the day this budget, where one is given. The totals are no matter of one
+-- block
 abbrev pub IsFreeOf : Books → (run : ℕ) → RunMarket → (also : Option (List Cents)) → (budget : Option ℕ) → FullBlock → Fault → Type 0
 IsFreeOf books run made also budget b fault.Heading = b.heading ≡ heading_of books run
 IsFreeOf books run made also budget b fault.Lines = NamesMarket books made b
@@ -77,7 +78,8 @@ FindsNumber free_of (Some number) = (least : Fault) × IsLeast free_of least × 
 abbrev pub NoneBelow : (Fault → Type 0) → ℕ → Type 0
 NoneBelow free_of number = (any : Fault) → number_of any < number → free_of any
 
--- of the faults from one number to another, where none of a lower one is there, the least is told, or that none of them is there either
+-- of the faults from one number to another, where none of a lower one is there, the least is told, or that none of them
+-- is there either
 abbrev pub FindsUpTo : (Fault → Type 0) → ℕ → Option Fault → Type 0
 FindsUpTo free_of number None = NoneBelow free_of number
 FindsUpTo free_of number (Some least) = IsLeast free_of least

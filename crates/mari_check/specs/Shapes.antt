@@ -9,7 +9,7 @@ use Rattle.mari_market.specs.Tree.{AreParts}
 abbrev pub AnyLeaf : List Bool → Leaf → Type 0
 AnyLeaf word leaf = ⊤
 
--- the items are, in preorder, those of a whole tree of the market, whatever its leaves say: a branch stands only where a gate is left
--- to decide, its children's parts stand behind it, and nothing is missing or left over
+-- the items are, in preorder, those of a whole tree of the market, whatever its leaves say: a branch stands only where
+-- a gate is left to decide, its children's parts stand behind it, and nothing is missing or left over
 abbrev pub HasShape : Market → List TreeItem → Type 0
 HasShape m items = AreParts m AnyLeaf ([] ∷ []) items

@@ -14,8 +14,8 @@ use Rattle.mari_progress.specs.Keeps.{net_sum}
 use Rattle.mari_progress.specs.Money.{HasLedger}
 use Rattle.mari_progress.specs.Told.{activation_of, areas_of, greatest_of, least_of, prices_of, rents_told}
 
--- the first activation of the market, whoever printed it; its welfare; the prices, intervals and areas; the ledger, whose nets sum to 0
--- and in which no rent is negative
+-- the first activation of the market, whoever printed it; its welfare; the prices, intervals and areas; the ledger,
+-- whose nets sum to 0 and in which no rent is negative
 pub record ShowsRun (books : Books) (made : RunMarket) (also : Option (List Cents)) (b : FullBlock) : Type 0 where
   pub first : IsFirst made.market (activation_of b)
   pub welfare : welfare_of made.market (activation_of b) ≡ pos b.welfare

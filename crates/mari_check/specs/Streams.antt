@@ -37,8 +37,8 @@ IsLineFault text (fault.BadOrder n) = BadOrderAt text n
 IsLineFault text (fault.Truncated n) = ⊥
 IsLineFault text fault.Memory = ⊥
 
--- the fault that is told of a page: the first of its text, where the page may be given whole; of a longer page that of a whole line of the
--- bytes that are given, and never that the text is cut off
+-- the fault that is told of a page: the first of its text, where the page may be given whole; of a longer page that of
+-- a whole line of the bytes that are given, and never that the text is cut off
 pub data IsToldFault (page : List ℕ) (fault : TextFault) : Type 0 where
   OfPage : length page ≤ MOST_GIVEN → IsTextFault page fault → IsToldFault page fault
   OfGiven : MOST_GIVEN < length page → IsLineFault (take MOST_GIVEN page) fault → IsToldFault page fault
@@ -82,9 +82,9 @@ SameAsRead books (Err e) (Err (OfText f)) = (e ≡ f) ⊎ (e ≡ fault.Memory)
 SameAsRead books answer (Err (OfFetch f)) = ⊤
 SameAsRead books answer (Err NoMemory) = ⊤
 
--- a fault of a line was answered as soon as it had come: one call on the shelf, the last, gave the piece that brought it. No whole line of
--- what was read before has a fault, the fault is that of what was read and the piece, and all that stands behind these on the page is left.
--- What is left and how many calls were made, the shelf tells
+-- a fault of a line was answered as soon as it had come: one call on the shelf, the last, gave the piece that brought
+-- it. No whole line of what was read before has a fault, the fault is that of what was read and the piece, and all that
+-- stands behind these on the page is left. What is left and how many calls were made, the shelf tells
 pub record StopsAtFault {S : Type 0} (rest : S → Option (List ℕ)) (calls : S → ℕ) (page : List ℕ) (fault : TextFault) (shelf : S) : Type 0 where
   pub read : List ℕ
   pub piece : List ℕ

@@ -12,7 +12,7 @@ use mari_market::{Activation, Market};
 use mari_units::{MOST_ZONES, Memory};
 use std::alloc::Global;
 
-// Each zone's place, which is its own label.
+/// Each zone's place, which is its own label.
 fn places(alloc: Global, zones: u32) -> Result<Vec<u64>, Memory>
     ensures { IfOk result (λ v. v.items ≡ range_with_len 0 zones) }
 {
@@ -23,7 +23,7 @@ fn places(alloc: Global, zones: u32) -> Result<Vec<u64>, Memory>
     Ok(places)
 }
 
-// Whether two zones have one area exactly where they have one label.
+/// Whether two zones have one area exactly where they have one label.
 fn is_alike(areas: &[u32], labels: &[u64], zone: usize, other: usize) -> bool
     requires lengths { length labels.now ≡ length areas.now }
     requires zone { zone < length areas.now }
@@ -37,7 +37,7 @@ fn is_alike(areas: &[u32], labels: &[u64], zone: usize, other: usize) -> bool
     }
 }
 
-// Whether this zone has one area with exactly the zones that have its label.
+/// Whether this zone has one area with exactly the zones that have its label.
 fn agrees_at(areas: &[u32], labels: &[u64], zone: usize) -> bool
     requires lengths { length labels.now ≡ length areas.now }
     requires zone { zone < length areas.now }
@@ -51,7 +51,7 @@ fn agrees_at(areas: &[u32], labels: &[u64], zone: usize) -> bool
     true
 }
 
-// Whether all zones have one area exactly where they have one label.
+/// Whether all zones have one area exactly where they have one label.
 fn agree(areas: &[u32], labels: &[u64]) -> bool
     requires lengths { length labels.now ≡ length areas.now }
     ensures { IsTrue result ↔ ((zone : ℕ) → zone < length areas.now → AgreeAt areas.now labels.now zone) }
@@ -64,7 +64,7 @@ fn agree(areas: &[u32], labels: &[u64]) -> bool
     true
 }
 
-// Whether a number is that of a zone no later than this one.
+/// Whether a number is that of a zone no later than this one.
 fn has_before(areas: &[u32], zone: usize, number: u32) -> bool
     requires zone { zone < length areas.now }
     ensures { IsTrue result ↔ HasBefore areas.now zone number }
@@ -77,7 +77,7 @@ fn has_before(areas: &[u32], zone: usize, number: u32) -> bool
     false
 }
 
-// Whether a zone's number is at least 1, and each number up to it is that of a zone no later.
+/// Whether a zone's number is at least 1, and each number up to it is that of a zone no later.
 fn is_numbered(areas: &[u32], zone: usize) -> bool
     requires few { length areas.now ≤ MOST_ZONES }
     requires zone { zone < length areas.now }
@@ -94,7 +94,7 @@ fn is_numbered(areas: &[u32], zone: usize) -> bool
     true
 }
 
-// Whether the areas are numbered from 1 by their first zones.
+/// Whether the areas are numbered from 1 by their first zones.
 fn are_numbered(areas: &[u32]) -> bool
     requires few { length areas.now ≤ MOST_ZONES }
     ensures { IsTrue result ↔ AreNumbered areas.now }

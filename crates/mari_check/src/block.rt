@@ -32,7 +32,7 @@ use mari_units::{Memory, Quarters};
 use mari_welfare::{is_consistent, is_feasible, welfare};
 use std::alloc::Global;
 
-// A fault of the heading or of the names.
+/// A fault of the heading or of the names.
 fn naming_fault(books: &Books, run: u32, made: &RunMarket, block: &FullBlock) -> Option<Fault>
     requires { 1 ≤ run }
     ensures { (also : Option (List TheCents)) (budget : Option ℕ) → FindsUpTo (IsFreeOf books.now run made.now also budget block.now) 3 result }
@@ -46,7 +46,7 @@ fn naming_fault(books: &Books, run: u32, made: &RunMarket, block: &FullBlock) ->
     None
 }
 
-// Whether the block states the welfare of its activation.
+/// Whether the block states the welfare of its activation.
 fn has_welfare(market: &Market, activation: &Activation, block: &FullBlock) -> bool
     requires valid { IsValid market.now }
     requires feasible { IsFeasible market.now activation.now }
@@ -55,7 +55,7 @@ fn has_welfare(market: &Market, activation: &Activation, block: &FullBlock) -> b
     welfare(market, activation).0 == i128::from(block.welfare)
 }
 
-// A fault of the activation, of its welfare, or of the prices.
+/// A fault of the activation, of its welfare, or of the prices.
 fn trading_fault(
     market: &Market,
     block: &FullBlock,
@@ -80,7 +80,7 @@ fn trading_fault(
     None
 }
 
-// A fault of the intervals, of the prices in them, or of the areas, where the prices are consistent.
+/// A fault of the intervals, of the prices in them, or of the areas, where the prices are consistent.
 fn pricing_fault(
     alloc: Global,
     market: &Market,
@@ -107,7 +107,7 @@ fn pricing_fault(
     Ok(None)
 }
 
-// Whether the tree is a whole one, of no more items than the budget, where there is one.
+/// Whether the tree is a whole one, of no more items than the budget, where there is one.
 fn is_shaped(market: &Market, tree: &[TreeItem], budget: Option<u32>) -> bool
     requires { IsValid market.now }
     ensures { IsTrue result ↔ IsShaped market.now budget tree.now }
@@ -119,7 +119,7 @@ fn is_shaped(market: &Market, tree: &[TreeItem], budget: Option<u32>) -> bool
     fits && has_shape(market, tree)
 }
 
-// Whether each leaf of the tree holds at the block's welfare for the gate word of its activation.
+/// Whether each leaf of the tree holds at the block's welfare for the gate word of its activation.
 fn has_leaves(market: &Market, block: &FullBlock, activation: &Activation) -> bool
     requires valid { IsValid market.now }
     requires activation { activation.now ≡ activation_told block.now }
@@ -131,7 +131,7 @@ fn has_leaves(market: &Market, block: &FullBlock, activation: &Activation) -> bo
     check_tree(market, block.tree.as_slice(), cutoff, &word) == TreeVerdict::Holds
 }
 
-// A fault of the tree's shape, or of a leaf.
+/// A fault of the tree's shape, or of a leaf.
 fn tree_fault(
     market: &Market,
     block: &FullBlock,
@@ -153,7 +153,7 @@ fn tree_fault(
     None
 }
 
-// The least fault of a published block of a run with this market, whose quarter has these scheduled prices, or none.
+/// The least fault of a published block of a run with this market, whose quarter has these scheduled prices, or none.
 pub(crate) fn fault_in(
     alloc: Global,
     books: &Books,

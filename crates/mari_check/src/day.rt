@@ -243,7 +243,7 @@ fn is_same(told: Heading, other: Heading) -> bool
     told == other
 }
 
-// Whether so many nodes fill the budget, so that two more are above it.
+/// Whether so many nodes fill the budget, so that two more are above it.
 fn fills_budget(budget: u32, count: u32) -> bool
     ensures { IsTrue result ↔ FillsBudget budget count }
 {

@@ -14,7 +14,7 @@ use mari_market::{Activation, Market, Order, Standing};
 use mari_units::{CAP, Cents, Memory};
 use std::alloc::Global;
 
-// The standing of an order of a feasible activation, where an order of a gate runs exactly where its gate is open.
+/// The standing of an order of a feasible activation, where an order of a gate runs exactly where its gate is open.
 fn own_standing(order: &Order, mw: u32) -> Standing
     ensures { result ≡ own_standing_of order.now.gate mw }
 {
@@ -34,7 +34,7 @@ pub(crate) enum End {
 }
 
 impl End {
-    // The height of a price.
+    /// The height of a price.
     fn height(self, price: Cents) -> u64
         requires { IsPrice price.0 }
         ensures { IsHeight self price.0 result }
@@ -45,7 +45,7 @@ impl End {
         }
     }
 
-    // The price of a height.
+    /// The price of a height.
     fn price(self, height: u64) -> Cents
         requires { height ≤ most_value }
         ensures { IsHeight self result.0 height }
@@ -56,7 +56,7 @@ impl End {
         }
     }
 
-    // How the bounds spread.
+    /// How the bounds spread.
     fn along(self) -> Along
         ensures { result ≡ along_of self }
     {
@@ -66,7 +66,7 @@ impl End {
         }
     }
 
-    // Whether an order bounds its zone's price at this end.
+    /// Whether an order bounds its zone's price at this end.
     fn is_set_by(self, order: &Order, mw: u32) -> bool
         ensures { IsTrue result ↔ SetsAtEnd self (own_standing_of order.now.gate mw) order.now.side order.now.greatest mw }
     {
@@ -78,7 +78,7 @@ impl End {
     }
 }
 
-// The bound of an order's zone, raised to what the order sets.
+/// The bound of an order's zone, raised to what the order sets.
 fn raised(bound: u64, order: &Order, mw: u32, end: End) -> u64
     requires { IsPrice order.now.price.0 }
     ensures { IsRaised end order.now mw order.now.zone bound result }
@@ -90,7 +90,7 @@ fn raised(bound: u64, order: &Order, mw: u32, end: End) -> u64
     }
 }
 
-// Each zone's tightest bound, by its height.
+/// Each zone's tightest bound, by its height.
 fn tightest(
     alloc: Global,
     zones: u32,
@@ -112,7 +112,7 @@ fn tightest(
     Ok(bounds)
 }
 
-// The prices of heights.
+/// The prices of heights.
 fn prices_of(alloc: Global, heights: &[u64], end: End) -> Result<Vec<Cents>, Memory>
     requires { AreSmall heights.now }
     ensures { IfOk result (λ prices. ArePricesOf end heights.now prices.items) }

@@ -30,7 +30,7 @@ fn is_rent(line: &BorderLine, rent: Quarters) -> bool
     line.rent == rent
 }
 
-// Whether the lines tell these rents.
+/// Whether the lines tell these rents.
 fn are_rents(lines: &[BorderLine], rents: &[Quarters]) -> bool
     ensures { IsTrue result ↔ AllZip TellsRent lines.now rents.now }
 {
@@ -45,7 +45,7 @@ fn are_rents(lines: &[BorderLine], rents: &[Quarters]) -> bool
     true
 }
 
-// An operator's payment less its rent.
+/// An operator's payment less its rent.
 fn net_of(own: OperatorLine) -> Quarters
     requires { LineIsWithin (10 ^ 30) own }
     ensures { result.0 ≡ net_in own }
@@ -53,7 +53,7 @@ fn net_of(own: OperatorLine) -> Quarters
     Quarters(own.payment.0 - own.rent.0)
 }
 
-// Whether a line tells the name at a place, and an operator's payment, rent and net.
+/// Whether a line tells the name at a place, and an operator's payment, rent and net.
 fn is_money_line(line: &MoneyLine, names: &NameIndex, place: u32, own: OperatorLine) -> bool
     requires { LineIsWithin (10 ^ 30) own }
     ensures { IsTrue result ↔ (line.now ≡ money_line (name_at names.now place) own) }
@@ -85,7 +85,7 @@ pub(crate) fn are_money_lines(lines: &[MoneyLine], names: &NameIndex, own: &[Ope
     true
 }
 
-// Whether a line tells the name of a provider, and its amount.
+/// Whether a line tells the name of a provider, and its amount.
 fn is_amount_line(line: &AmountLine, names: &NameIndex, amounts: &[Quarters], place: u32) -> bool
     requires { place < length amounts.now }
     ensures { IsTrue result ↔ (line.now ≡ amount_line names.now amounts.now place) }
@@ -157,7 +157,7 @@ pub(crate) fn has_ledger(
     Ok(tells_ledger(books, block, &ledger, &places))
 }
 
-// Whether the block tells this ledger, and of the providers those at these places.
+/// Whether the block tells this ledger, and of the providers those at these places.
 fn tells_ledger(books: &Books, block: &FullBlock, ledger: &Ledger, places: &[u32]) -> bool
     requires operators { length ledger.now.operators ≡ length books.now.zones.operators }
     requires providers { length ledger.now.providers ≡ length books.now.bids.providers }

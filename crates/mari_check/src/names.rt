@@ -37,7 +37,7 @@ fn zones_named(lines: &[ZoneLine], names: &NameIndex) -> bool
     true
 }
 
-// Whether a border's line has the names of its zones.
+/// Whether a border's line has the names of its zones.
 fn are_ends_named(line: &BorderLine, names: &NameIndex, ends: BorderEnds) -> bool
     ensures { IsTrue result ↔ NamesEnds names.now line.now ends }
 {

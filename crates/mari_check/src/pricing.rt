@@ -38,7 +38,7 @@ fn are_same(prices: &[Cents], others: &[Cents]) -> bool
     true
 }
 
-// Whether these are the prices at an end of all zones' intervals.
+/// Whether these are the prices at an end of all zones' intervals.
 fn are_ends(
     alloc: Global,
     market: &Market,
@@ -77,7 +77,7 @@ pub(crate) fn has_intervals(
     Ok(is)
 }
 
-// The price from the least to the greatest that is nearest to the reference.
+/// The price from the least to the greatest that is nearest to the reference.
 fn nearest(line: &ZoneLine, reference: Cents) -> Cents
     requires { IsInOrder line.now }
     ensures { IsNearest line.now.least.0 line.now.greatest.0 reference.0 result.0 }
@@ -85,7 +85,7 @@ fn nearest(line: &ZoneLine, reference: Cents) -> Cents
     Cents(reference.0.clamp(line.least.0, line.greatest.0))
 }
 
-// Whether a zone's price is the one of its interval that is nearest to the reference.
+/// Whether a zone's price is the one of its interval that is nearest to the reference.
 fn is_nearest(line: &ZoneLine, reference: Cents) -> bool
     requires { IsInOrder line.now }
     ensures { IsTrue result ↔ IsNearestLine reference line.now }

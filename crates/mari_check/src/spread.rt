@@ -23,7 +23,7 @@ fn is_uncongested(border: &Border, flow: i64) -> bool
 }
 
 impl Along {
-    // Whether the border leads from its first zone to its second.
+    /// Whether the border leads from its first zone to its second.
     fn leads_on(self, border: &Border, flow: i64) -> bool
         ensures { IsTrue result ↔ LeadsOn self border.now flow }
     {
@@ -34,7 +34,7 @@ impl Along {
         }
     }
 
-    // Whether it leads from its second zone to its first.
+    /// Whether it leads from its second zone to its first.
     fn leads_back(self, border: &Border, flow: i64) -> bool
         ensures { IsTrue result ↔ LeadsBack self border.now flow }
     {
@@ -46,7 +46,7 @@ impl Along {
     }
 }
 
-// Raises the second zone's value to that of the first, and tells whether it was below.
+/// Raises the second zone's value to that of the first, and tells whether it was below.
 fn raise(values: &mut [u64], from: u32, to: u32) -> bool
     requires from { from < length values.old }
     requires to { to < length values.old }
@@ -60,7 +60,7 @@ fn raise(values: &mut [u64], from: u32, to: u32) -> bool
     true
 }
 
-// The same where the first zone leads to the second.
+/// The same where the first zone leads to the second.
 fn raise_if(leads: bool, values: &mut [u64], from: u32, to: u32) -> bool
     requires from { from < length values.old }
     requires to { to < length values.old }
@@ -73,7 +73,7 @@ fn raise_if(leads: bool, values: &mut [u64], from: u32, to: u32) -> bool
     }
 }
 
-// Raises the values at both ends of a border as far as it leads, and tells whether one was raised.
+/// Raises the values at both ends of a border as far as it leads, and tells whether one was raised.
 fn over_border(values: &mut [u64], border: &Border, flow: i64, along: Along) -> bool
     requires from { border.now.from < length values.old }
     requires to { border.now.to < length values.old }
@@ -92,7 +92,7 @@ fn over_border(values: &mut [u64], border: &Border, flow: i64, along: Along) -> 
     on || back
 }
 
-// Goes over all borders once, and tells whether a value was raised.
+/// Goes over all borders once, and tells whether a value was raised.
 fn round(values: &mut [u64], borders: &[Border], flow: &[i64], along: Along) -> bool
     requires lengths { length flow.now ≡ length borders.now }
     requires ends { All (IsAmong (length values.old)) borders.now }
@@ -110,7 +110,7 @@ fn round(values: &mut [u64], borders: &[Border], flow: &[i64], along: Along) -> 
     raised
 }
 
-// Raises the values until no border raises any.
+/// Raises the values until no border raises any.
 fn spread_out(values: &mut [u64], borders: &[Border], flow: &[i64], along: Along)
     requires lengths { length flow.now ≡ length borders.now }
     requires ends { All (IsAmong (length values.old)) borders.now }

@@ -11,7 +11,7 @@ use mari_publish::{BidLine, BorderLine, FullBlock, ZoneLine};
 use mari_units::{Cents, Items, Memory};
 use std::alloc::Global;
 
-// How many MW the bids run.
+/// How many MW the bids run.
 fn mws_of(alloc: Global, lines: &[BidLine]) -> Result<Vec<u32>, Memory>
     ensures { IfOk result (λ mw. mw.items ≡ map (λ (l : TheBidLine). l.mw) lines.now) }
 {
@@ -19,7 +19,7 @@ fn mws_of(alloc: Global, lines: &[BidLine]) -> Result<Vec<u32>, Memory>
     Ok(mw)
 }
 
-// What flows over the borders.
+/// What flows over the borders.
 fn flows_of(alloc: Global, lines: &[BorderLine]) -> Result<Vec<i64>, Memory>
     ensures { IfOk result (λ flow. flow.items ≡ map (λ (l : TheBorderLine). l.flow) lines.now) }
 {
@@ -27,7 +27,7 @@ fn flows_of(alloc: Global, lines: &[BorderLine]) -> Result<Vec<i64>, Memory>
     Ok(flow)
 }
 
-// What the zones' prices are.
+/// What the zones' prices are.
 fn cents_of(alloc: Global, lines: &[ZoneLine]) -> Result<Vec<Cents>, Memory>
     ensures { IfOk result (λ cents. cents.items ≡ map (λ (l : TheZoneLine). l.price) lines.now) }
 {

@@ -9,7 +9,7 @@ ghost use Rattle.mari_check.specs.Shapes.{AnyLeaf, HasShape};
 use mari_gates::{child_of, empty_prefix, next_after};
 use mari_market::{Market, Prefix, TreeItem};
 
-// Whether an item is a branch where every gate is decided.
+/// Whether an item is a branch where every gate is decided.
 fn is_full_branch(market: &Market, prefix: &Prefix, item: &TreeItem) -> bool
     ensures { IsTrue result ↔ IsFullBranch market.now prefix.now item.now }
 {
@@ -19,7 +19,7 @@ fn is_full_branch(market: &Market, prefix: &Prefix, item: &TreeItem) -> bool
     }
 }
 
-// The prefix of the next item, if there is one.
+/// The prefix of the next item, if there is one.
 fn behind(market: &Market, prefix: &Prefix, item: &TreeItem) -> Option<Prefix>
     requires market { IsValid market.now }
     requires prefix { IsFeasiblePrefix market.now prefix.now }

@@ -25,8 +25,8 @@ use Rattle.mari_units.specs.declared.limits.TheConstants.{MOST_NODES}
 
 -- ---- what grows
 
--- a part of a market's search tree: the nodes in the order in which they were made, at most the budget, and a mark that a
--- node could not branch within it
+-- a part of a market's search tree: the nodes in the order in which they were made, at most the budget, and a mark that
+-- a node could not branch within it
 pub record Grown : Type 0 where
   pub market : Market
   pub budget : ℕ
@@ -128,8 +128,8 @@ IsEntryCutAt w (Branch k x cutoff) = cutoff ≤ w
 IsEntryCutAt w (Full k x cutoff) = cutoff ≤ w
 IsEntryCutAt w (GiveBack k x) = ⊤
 
--- the journal's entries, with the certificates of closed nodes, are allowed one after the other, at cutoffs of at most w, and
--- lead from the start to the tree
+-- the journal's entries, with the certificates of closed nodes, are allowed one after the other, at cutoffs of at most
+-- w, and lead from the start to the tree
 pub record LeadsTo (journal : List JournalEntry) (w : ℕ) (g : Grown) : Type 0 where
   pub entries : List Entry
   pub kept : map in_journal entries ≡ journal
@@ -228,9 +228,9 @@ pub record IsCrowded (g : Grown) : Type 0 where
   pub promising : IsPromising g.market node.word
   pub more : g.budget < length g.nodes + length (children g.market.gates node.word)
 
--- what every entry keeps: the nodes are distinct nodes of the search tree, at most as many as the budget; the first is the
--- empty word; the children of a node are nodes exactly where it is branched; closed leaves hold at their cutoffs; and where
--- the mark is on, some leaf could branch but for the budget
+-- what every entry keeps: the nodes are distinct nodes of the search tree, at most as many as the budget; the first is
+-- the empty word; the children of a node are nodes exactly where it is branched; closed leaves hold at their cutoffs;
+-- and where the mark is on, some leaf could branch but for the budget
 pub record IsGrowth (g : Grown) : Type 0 where
   pub valid : IsValid g.market
   pub budget_is : (1 ≤ g.budget) × (g.budget ≤ MOST_NODES)

@@ -1,7 +1,6 @@
--- The search machine: what a search keeps, and what each event changes in it. Read this file first.
---
--- Its tree is read on in `Growth` (how nodes are taken, closed, branched and given back) and `Preorder`; an event is what one
--- actor does in one step.
+-- The search machine: what a search keeps, and what each event changes in it. Read this file first.  Its tree is read
+-- on in `Growth` (how nodes are taken, closed, branched and given back) and `Preorder`; an event is what one actor does
+-- in one step.
 use Rattle.std.specs.Prelude.{◌≡◌, ℕ, ◌≤◌, ◌<◌, ◌==◌, pos, max, nat_lt, if◌then◌else◌, List, [], ◌∷◌, length, replicate, Option, Some, None, slice_get, IfSome, ⊤, All}
 use Rattle.mari_market.specs.declared.market.Market.{Market}
 use Rattle.mari_market.specs.declared.finding.Attained.{Attained}
@@ -16,8 +15,8 @@ use Rattle.mari_core.specs.Nodes.{changed, state_at}
 use Rattle.mari_core.specs.Growth.{Grown, seed, grown, settling, MaySettle, take_refused, return_refused, IsGrowth, AreCutAt}
 use Rattle.mari_core.specs.Growth.Entry.{Take as TakeEntry, GiveBack as GiveBackEntry}
 
--- a search: its tree; the incumbent, which is the greatest welfare that is known; what each actor saw, offered and has as its
--- best; and the first activation, the best of those with all gates closed
+-- a search: its tree; the incumbent, which is the greatest welfare that is known; what each actor saw, offered and has
+-- as its best; and the first activation, the best of those with all gates closed
 pub record Machine : Type 0 where
   pub tree : Grown
   pub incumbent : ℕ
@@ -74,8 +73,8 @@ refusal s (Take k x) = by_actor (slice_get s.actors k) (take_refused (state_at s
 refusal s (Settle k x finding) = by_actor (slice_get s.actors k) (return_refused k (state_at s.tree.nodes x))
 refusal s (GiveBack k x) = by_actor (slice_get s.actors k) (return_refused k (state_at s.tree.nodes x))
 
--- what may be handed in: an offer is an admissible activation with its welfare; a finding is one of that node, and where the
--- node decides every gate the actor has seen at least its bound, unless there is a conflict
+-- what may be handed in: an offer is an admissible activation with its welfare; a finding is one of that node, and
+-- where the node decides every gate the actor has seen at least its bound, unless there is a conflict
 abbrev pub IsProper : Machine → Event → Type 0
 IsProper s (Look k) = ⊤
 IsProper s (Offer k attained) = IsAttained s.tree.market attained
@@ -90,8 +89,8 @@ abbrev pub greatest : ℕ → List Actor → ℕ
 greatest welfare [] = welfare
 greatest welfare (a ∷ others) = max a.offered (greatest welfare others)
 
--- the best that an actor has: none exactly where it offered no more than the first welfare, and else an admissible activation
--- of the welfare that it offered
+-- the best that an actor has: none exactly where it offered no more than the first welfare, and else an admissible
+-- activation of the welfare that it offered
 abbrev pub IsBest : Market → ℕ → ℕ → Option Attained → Type 0
 IsBest m welfare offered None = offered ≡ welfare
 IsBest m welfare offered (Some best) = IsAttained m best × (best.welfare ≡ offered) × (welfare < offered)
@@ -102,9 +101,9 @@ pub record IsActor (m : Market) (welfare incumbent : ℕ) (a : Actor) : Type 0 w
   pub below : a.seen ≤ incumbent
   pub best : IsBest m welfare a.offered a.best
 
--- what every event keeps: the incumbent is at least what every actor saw, which is at least the closed welfare; it is the
--- greatest of the closed welfare and all that was offered; each actor has its best; the tree is a growth, closed at cutoffs of
--- at most the incumbent
+-- what every event keeps: the incumbent is at least what every actor saw, which is at least the closed welfare; it is
+-- the greatest of the closed welfare and all that was offered; each actor has its best; the tree is a growth, closed at
+-- cutoffs of at most the incumbent
 pub record KeepsFacts (s : Machine) : Type 0 where
   pub tree : IsGrowth s.tree
   pub cutoffs : AreCutAt s.incumbent s.tree.nodes

@@ -1,4 +1,5 @@
--- The nodes of a search in preorder: after each node stand those below its closed child, and then those below its open child.
+-- The nodes of a search in preorder: after each node stand those below its closed child, and then those below its open
+-- child.
 use Rattle.std.specs.Prelude.{◌≡◌, ◌==◌, ℕ, ◌+◌, Bool, true, false, if◌then◌else◌, nat_lt, List, [], ◌∷◌, ◌++◌, length, map, Option, Some, None, ⊤, All}
 use Rattle.mari_market.specs.declared.certificate.TreeItem.{TreeItem}
 use Rattle.mari_market.specs.declared.certificate.TreeItem.TheVariants.{Branch as BranchItem, Leaf as LeafItem}
@@ -10,7 +11,8 @@ use Rattle.mari_core.specs.declared.event.FinishFault.{FinishFault}
 use Rattle.mari_core.specs.declared.event.FinishFault.TheVariants.{NotClosed, Memory}
 use Rattle.mari_core.specs.Nodes.{TreeNode, state_at, children_of}
 
--- a walk in preorder from the numbers that wait: each number is the first that waits, and in its place its children wait then
+-- a walk in preorder from the numbers that wait: each number is the first that waits, and in its place its children
+-- wait then
 abbrev pub IsWalk : List TreeNode → List ℕ → List ℕ → Type 0
 IsWalk nodes [] [] = ⊤
 IsWalk nodes [] (x ∷ xs) = ⊥

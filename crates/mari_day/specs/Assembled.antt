@@ -53,8 +53,8 @@ pub record IsAssembled (books : Books) (run : ℕ) (numbers : List ℕ) (clearin
   pub operators : b.operators ≡ money_lines_of books.zones.operators priced.ledger.operators
   pub providers : b.providers ≡ map (amount_line books.bids.providers priced.ledger.providers) (providers_among books.bids.bids numbers)
 
--- one price of each kind and one area for each zone, a flow and a rent for each border, a quantity for each bid, an amount for
--- each provider, and a line for each operator, all of them small
+-- one price of each kind and one area for each zone, a flow and a rent for each border, a quantity for each bid, an
+-- amount for each provider, and a line for each operator, all of them small
 pub record HasShapes (books : Books) (numbers : List ℕ) (clearing : Clearing) (priced : Priced) : Type 0 where
   pub published : length priced.pricing.published.cents ≡ length books.zones.zones
   pub least : length priced.pricing.least.cents ≡ length books.zones.zones

@@ -39,7 +39,8 @@ pub record SomeFetched (most before now : ℕ) : Type 0 where
   pub within : count ≤ most
   pub fetched : now ≡ counted_by count before
 
--- how many fetches the pages of so many files take: one for each, and where a file's page can't be had one for it and each before it
+-- how many fetches the pages of so many files take: one for each, and where a file's page can't be had one for it and
+-- each before it
 abbrev pub FetchedUpTo : (count before now : ℕ) → PagesFault → Type 0
 FetchedUpTo count before now NoMemory = SomeFetched count before now
 FetchedUpTo count before now (Of file why) = now ≡ counted_by (place_of file + 1) before
@@ -68,7 +69,8 @@ PageTells file page (Err (Of f Missing)) = (f ≡ file) × (gap_of page ≡ Some
 PageTells file page (Err (Of f TooLong)) = (f ≡ file) × (gap_of page ≡ Some OverLimit)
 PageTells file page (Err (Of f Memory)) = f ≡ file
 
--- what fetching these files says of the pages, where they are told: all of them, or the first that isn't held or is too long
+-- what fetching these files says of the pages, where they are told: all of them, or the first that isn't held or is too
+-- long
 abbrev pub FetchingTells : Pages → List ℕ → List File → Result (List (List ℕ)) PagesFault → Type 0
 FetchingTells pages folder fs (Ok texts) = ArePages pages folder fs texts
 FetchingTells pages folder fs (Err NoMemory) = ⊤

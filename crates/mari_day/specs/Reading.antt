@@ -104,8 +104,8 @@ IsFetchFault fault (Err (why.Fetch number f)) = f ≡ fault
 IsFetchFault fault (Err (why.Refused refusal)) = ⊥
 IsFetchFault fault (Err why.Memory) = ⊥
 
--- how many fetches reading so many files takes: one for each, and where a file's page can't be had one for it and each before it;
--- limits.csv, the ninth by its number, is the eighth that is fetched
+-- how many fetches reading so many files takes: one for each, and where a file's page can't be had one for it and each
+-- before it; limits.csv, the ninth by its number, is the eighth that is fetched
 abbrev pub FetchesBooks : (count before now : ℕ) → Result Books BooksFault → Type 0
 FetchesBooks count before now (Ok books) = (count ≡ (if is_some books.limits then 8 else 7)) × (now ≡ counted_by count before)
 FetchesBooks count before now (Err (why.Fetch number f)) = now ≡ counted_by (min number 8) before

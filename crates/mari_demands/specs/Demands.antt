@@ -43,7 +43,8 @@ is_inelastic row = length (field_of row 3) == 0
 abbrev pub count_of : ℕ → List Row → ℕ → ℕ
 count_of runs rows run = count_by (λ row. run_at runs row == run) rows
 
--- a line is refused for a bad field, for an unknown run, for an unknown zone, and for a quantity or a price out of range
+-- a line is refused for a bad field, for an unknown run, for an unknown zone, and for a quantity or a price out of
+-- range
 abbrev pub demand_checks : ZoneBook → ℕ → Row → Checks
 demand_checks zones runs row =
     (not (is_some (whole_of (field_of row 0)) && is_some (whole_of (field_of row 2)) && (is_inelastic row || is_some (price_of (field_of row 3)))), demand_check_number BadField)

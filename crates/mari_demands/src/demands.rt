@@ -78,7 +78,7 @@ impl DemandBook {
     }
 }
 
-// A line's quantity.
+/// A line's quantity.
 fn mw_of(line: &Row) -> Option<i64>
     ensures { result ≡ mw_in line.now }
 {
@@ -88,7 +88,7 @@ fn mw_of(line: &Row) -> Option<i64>
     }
 }
 
-// The demand of a line, or the first check that fails.
+/// The demand of a line, or the first check that fails.
 fn demand_of(zones: &ZoneBook, runs: u32, line: &Row) -> Result<Demand, DemandCheck>
     ensures demand { IsRead demand_check_number result (first_failing (demand_checks zones.now runs line.now)) (demand_in zones.now runs line.now) }
     ensures run { IfOk result (λ demand. demand.run ≤ runs) }
@@ -121,7 +121,7 @@ fn demand_of(zones: &ZoneBook, runs: u32, line: &Row) -> Result<Demand, DemandCh
     })
 }
 
-// The demands of the lines so far, and how many there are of each run.
+/// The demands of the lines so far, and how many there are of each run.
 #[derive(Drop)]
 struct DemandsSoFar<'a> {
     zones: &'a ZoneBook,

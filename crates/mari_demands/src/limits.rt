@@ -108,7 +108,7 @@ impl LimitBook {
     }
 }
 
-// The border that leads from one zone to another.
+/// The border that leads from one zone to another.
 fn border_between(borders: &BorderBook, from: u32, to: u32) -> Option<usize>
     ensures { result ≡ position (leads from to) borders.now.borders }
 {
@@ -119,7 +119,7 @@ fn border_between(borders: &BorderBook, from: u32, to: u32) -> Option<usize>
         .position(|border| border.from == from && border.to == to)
 }
 
-// The border that a line names.
+/// The border that a line names.
 fn border_of(zones: &ZoneBook, borders: &BorderBook, line: &Row) -> Option<usize>
     ensures { result ≡ border_in zones.now borders.now line.now }
 {
@@ -132,7 +132,7 @@ fn border_of(zones: &ZoneBook, borders: &BorderBook, line: &Row) -> Option<usize
     border_between(borders, from, to)
 }
 
-// The limits that a line states.
+/// The limits that a line states.
 fn limits_of(line: &Row) -> Option<Limits>
     ensures { result ≡ limits_of_line line.now }
 {
@@ -145,7 +145,7 @@ fn limits_of(line: &Row) -> Option<Limits>
     }
 }
 
-// What the lines so far state of each border in each run.
+/// What the lines so far state of each border in each run.
 #[derive(Drop)]
 struct LimitsSoFar<'a> {
     zones: &'a ZoneBook,
@@ -179,7 +179,7 @@ impl<'a> LimitsSoFar<'a> {
         })
     }
 
-    // The place of what is stated of the run and the border that a line names, or the first check that it fails.
+    /// The place of what is stated of the run and the border that a line names, or the first check that it fails.
     fn place_of(&self, line: &Row) -> Result<usize, LimitCheck>
         requires borders { length self.now.borders.now.borders ≤ 256 }
         requires runs { self.now.runs ≤ 1000 }

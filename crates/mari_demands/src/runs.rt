@@ -81,7 +81,7 @@ fn is_direct(line: &Row) -> Option<bool>
     is_first_of(line.field(2), b"direct", b"scheduled")
 }
 
-// Whether a text writes a whole number below another.
+/// Whether a text writes a whole number below another.
 fn is_below(text: &[u8], bound: u32) -> bool
     ensures { result ≡ is_number_below bound (whole_of text.now) }
 {
@@ -92,7 +92,7 @@ fn is_below(text: &[u8], bound: u32) -> bool
     }
 }
 
-// Whether a line comes too late behind a run of this quarter.
+/// Whether a line comes too late behind a run of this quarter.
 fn comes_too_late(last: Option<u32>, line: &Row) -> bool
     ensures { result ≡ comes_too_late_in last line.now }
 {
@@ -106,7 +106,7 @@ fn comes_too_late(last: Option<u32>, line: &Row) -> bool
     }
 }
 
-// The run of a line behind so many, the last of which has this quarter, or the first check that fails.
+/// The run of a line behind so many, the last of which has this quarter, or the first check that fails.
 fn run_of(quarters: u32, runs: usize, last: Option<u32>, line: &Row) -> Result<Run, RunCheck>
     ensures { (earlier : List Line) → runs ≡ length earlier → last ≡ last_quarter quarters earlier
         → IsRead run_check_number result (first_failing (run_checks quarters earlier line.now)) (run_in quarters line.now) }
@@ -138,7 +138,7 @@ fn run_of(quarters: u32, runs: usize, last: Option<u32>, line: &Row) -> Result<R
     })
 }
 
-// The runs of the lines so far, and the quarter of the last of them.
+/// The runs of the lines so far, and the quarter of the last of them.
 #[derive(Drop)]
 struct RunsSoFar {
     quarters: u32,

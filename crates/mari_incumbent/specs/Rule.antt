@@ -25,8 +25,8 @@ pub record Fits (first all incumbent : ℕ) (v : View) : Type 0 where
   pub with_parts : 0 < v.parts → (v.first ≡ first) × (v.all ≡ all) × (first ≤ v.offered) × (v.offered ≤ v.seen)
   pub without_parts : v.parts ≡ 0 → v.offered ≤ first
 
--- the rule over one incumbent and all views: the incumbent is at least what each saw; it is the greatest of the first number and
--- all that was offered; the parts sum to those of the start; and a view fits with its parts or without
+-- the rule over one incumbent and all views: the incumbent is at least what each saw; it is the greatest of the first
+-- number and all that was offered; the parts sum to those of the start; and a view fits with its parts or without
 pub record Kept (first all : ℕ) (words : List ℕ) (views : List View) : Type 0 where
   pub incumbent : ℕ
   pub words_are : words ≡ incumbent ∷ []

@@ -26,8 +26,8 @@ abbrev pub left_of : List Page → Option ℕ → ℕ → List ℕ
 left_of pages None given = []
 left_of pages (Some place) given = drop given (bytes_of pages place)
 
--- a shelf in memory: its pages, its plan, how many calls were made, and its counts; the most bytes of a piece, whether a page
--- was opened, what is left of it, and how many bytes of it were given
+-- a shelf in memory: its pages, its plan, how many calls were made, and its counts; the most bytes of a piece, whether
+-- a page was opened, what is left of it, and how many bytes of it were given
 pub record ShelfState : Type 0 where
   pub pages : Pages
   pub plan : FaultPlan
@@ -86,7 +86,8 @@ abbrev pub after_piece : ShelfState → Result ℕ Fetch → ShelfState
 after_piece s (Ok count) = record s { calls = counted s.calls; left = drop count s.left; given = s.given + count }
 after_piece s (Err fault) = after_fetch s (refusal fault)
 
--- a sink in memory: what it took, how much it takes in a call and in all, its plan, how many writes were made, and its count
+-- a sink in memory: what it took, how much it takes in a call and in all, its plan, how many writes were made, and its
+-- count
 pub record SinkState : Type 0 where
   pub bytes : List ℕ
   pub most : ℕ

@@ -92,7 +92,8 @@ pub record IsPiece (left old new : List ℕ) (count : ℕ) : Type 0 where
 abbrev pub rest_after : {E : Type 0} → Option (List ℕ) → Result ℕ E → Option (List ℕ)
 rest_after rest result = option_map (λ left. drop (taken_count result) left) rest
 
--- a page is too long to be given in pieces: as many bytes as may be were given, and where it is known what is left, some are
+-- a page is too long to be given in pieces: as many bytes as may be were given, and where it is known what is left,
+-- some are
 abbrev pub IsOverlong : Option (List ℕ) → ℕ → Type 0
 IsOverlong None given = given ≡ MOST_GIVEN
 IsOverlong (Some left) given = (given ≡ MOST_GIVEN) × (left ≢ [])

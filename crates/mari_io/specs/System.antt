@@ -5,7 +5,8 @@ use Rattle.mari_io.specs.Outside.{counted, counted_if, is_failed, is_missing, is
 use Rattle.mari_io.specs.declared.shelf.Fetch.{Fetch}
 use Rattle.mari_io.specs.declared.shelf.Fetch.TheVariants.{Failed, Missing, Memory}
 
--- why a file isn't opened, by the kind of the system's error: it isn't there, memory was wanting, or else the fetch failed
+-- why a file isn't opened, by the kind of the system's error: it isn't there, memory was wanting, or else the fetch
+-- failed
 abbrev pub fault_of_opening : ErrorKind → Fetch
 fault_of_opening ErrorKind.NotFound = Missing
 fault_of_opening ErrorKind.OutOfMemory = Memory
@@ -16,8 +17,8 @@ abbrev pub fault_of_reading : ErrorKind → Fetch
 fault_of_reading ErrorKind.OutOfMemory = Memory
 fault_of_reading _ = Failed
 
--- what a shelf of real files counted: its calls, and those that failed, found no file, or found one that is too long; whether
--- a file was opened to be given in pieces, and how many bytes of it were given
+-- what a shelf of real files counted: its calls, and those that failed, found no file, or found one that is too long;
+-- whether a file was opened to be given in pieces, and how many bytes of it were given
 pub record DiskCounts : Type 0 where
   pub calls : ℕ
   pub faults : ℕ

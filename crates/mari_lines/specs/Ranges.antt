@@ -4,8 +4,10 @@ use Rattle.std.specs.Char.{is_ascii_digit}
 use Rattle.std.specs.Int.RustNames.{unsigned_abs}
 use Rattle.std.specs.List.{All, list_all}
 use Rattle.mari_units.specs.Names.{is_name}
+use Rattle.mari_units.specs.declared.limits.TheConstants.{MOST_BORDERS, MOST_DEMANDS, MOST_FLOW, MOST_MW, MOST_NODES, MOST_QUARTERS, MOST_RUNS, MOST_ZONES}
 use Rattle.mari_units.specs.declared.numbers.Cents.{Cents}
 use Rattle.mari_units.specs.declared.numbers.Quarters.{Quarters}
+use Rattle.mari_market.specs.declared.limits.TheConstants.{MOST_ORDERS}
 use Rattle.mari_market.specs.Cut.{IsRising}
 use Rattle.mari_market.specs.Price.{IsPrice}
 use Rattle.mari_lines.specs.declared.line.Heading.{Heading}
@@ -44,11 +46,11 @@ IsPriceLine c = IsPrice c.0
 
 -- a zone's number from 0
 abbrev pub IsZone : ℕ → Type 0
-IsZone zone = zone < 64
+IsZone zone = zone < MOST_ZONES
 
 -- a run's number, and its quarter
 abbrev pub IsHeading : Heading → Type 0
-IsHeading h = Between 1 1000 h.run × Between 1 400 h.quarter
+IsHeading h = Between 1 MOST_RUNS h.run × Between 1 MOST_QUARTERS h.quarter
 
 abbrev pub IsMoneyLine : MoneyLine → Type 0
 IsMoneyLine m = IsName m.name × IsMoney m.payment × IsMoney m.rent × IsMoney m.net
@@ -62,25 +64,25 @@ Listed least greatest P xs = Between least greatest (length xs) × All P xs
 
 -- the ranges of the numbers in a line, and how many it may have
 abbrev pub InRange : Line → Type 0
-InRange (line.Head date quarters budget) = IsDate date × Between 1 400 quarters × Between 1 50000 budget
+InRange (line.Head date quarters budget) = IsDate date × Between 1 MOST_QUARTERS quarters × Between 1 MOST_NODES budget
 InRange (line.Run heading) = IsHeading heading
-InRange (line.Unpublished heading count) = IsHeading heading × Between 1 50000 count
+InRange (line.Unpublished heading count) = IsHeading heading × Between 1 MOST_NODES count
 InRange (line.Welfare welfare) = welfare < 2 ^ 63
-InRange (line.Zone z) = IsName z.name × IsPrice z.price.0 × IsPrice z.least.0 × IsPrice z.greatest.0 × Between 1 64 z.area
-InRange (line.Border b) = IsName b.from × IsName b.to × Within 199998 b.flow × IsMoney b.rent
-InRange (line.Bid b) = IsName b.id × (b.mw ≤ 99999)
-InRange (line.Demand place mw) = Between 1 512 place × (mw ≤ 99999)
-InRange (line.Tree count) = Between 1 50000 count
+InRange (line.Zone z) = IsName z.name × IsPrice z.price.0 × IsPrice z.least.0 × IsPrice z.greatest.0 × Between 1 MOST_ZONES z.area
+InRange (line.Border b) = IsName b.from × IsName b.to × Within MOST_FLOW b.flow × IsMoney b.rent
+InRange (line.Bid b) = IsName b.id × (b.mw ≤ MOST_MW)
+InRange (line.Demand place mw) = Between 1 MOST_DEMANDS place × (mw ≤ MOST_MW)
+InRange (line.Tree count) = Between 1 MOST_NODES count
 InRange line.Branch = ⊤
-InRange (line.Bound prices) = Listed 1 64 IsPriceLine prices
-InRange (line.Cut cut) = Between 1 64 (length cut.zones) × IsRising 0 64 cut.zones
-InRange (line.Conflict zones) = Listed 1 64 IsZone zones
-InRange (line.At prices) = Listed 1 64 IsPriceLine prices
-InRange (line.Flows flows) = Listed 0 256 (λ flow. Within 199998 flow) flows
-InRange (line.Mws mws) = Listed 0 4608 (λ mw. mw ≤ 99999) mws
+InRange (line.Bound prices) = Listed 1 MOST_ZONES IsPriceLine prices
+InRange (line.Cut cut) = Between 1 MOST_ZONES (length cut.zones) × IsRising 0 MOST_ZONES cut.zones
+InRange (line.Conflict zones) = Listed 1 MOST_ZONES IsZone zones
+InRange (line.At prices) = Listed 1 MOST_ZONES IsPriceLine prices
+InRange (line.Flows flows) = Listed 0 MOST_BORDERS (λ flow. Within MOST_FLOW flow) flows
+InRange (line.Mws mws) = Listed 0 MOST_ORDERS (λ mw. mw ≤ MOST_MW) mws
 InRange (line.Operator operator) = IsMoneyLine operator
 InRange (line.Provider provider) = IsAmountLine provider
-InRange (line.End run) = Between 1 1000 run
+InRange (line.End run) = Between 1 MOST_RUNS run
 InRange (line.TotalOperator operator) = IsMoneyLine operator
 InRange (line.TotalProvider provider) = IsAmountLine provider
-InRange (line.Done published unpublished) = (published ≤ 1000) × (unpublished ≤ 1000)
+InRange (line.Done published unpublished) = (published ≤ MOST_RUNS) × (unpublished ≤ MOST_RUNS)

@@ -18,7 +18,7 @@ use crate::line::{AmountLine, BidLine, BorderLine, Heading, Keyword, Line, Money
 use keyword::keyword_of;
 use lists::{read_flows, read_mws, read_prices, read_zones};
 use mari_market::Cut;
-use mari_units::Name;
+use mari_units::{MOST_DEMANDS, MOST_MW, MOST_NODES, MOST_QUARTERS, MOST_RUNS, MOST_ZONES, Name};
 pub use separator::split_once;
 use std::alloc::Global;
 use words::Words;
@@ -31,7 +31,7 @@ fn read_zone(alloc: Global, words: &mut Words<'_>) -> Result<ZoneLine, Unread>
     let price = words.price(alloc)?;
     let least = words.price(alloc)?;
     let greatest = words.price(alloc)?;
-    let area = words.number(alloc, 1, 64)?;
+    let area = words.number(alloc, 1, MOST_ZONES as u32)?;
     words.end()?;
     Ok(ZoneLine {
         name,
@@ -48,8 +48,8 @@ fn read_head(alloc: Global, words: &mut Words<'_>) -> Result<(Name, u32, u32), U
 {
     words.version()?;
     let date = words.date(alloc)?;
-    let quarters = words.number(alloc, 1, 400)?;
-    let budget = words.number(alloc, 1, 50_000)?;
+    let quarters = words.number(alloc, 1, MOST_QUARTERS)?;
+    let budget = words.number(alloc, 1, MOST_NODES)?;
     words.end()?;
     Ok((date, quarters, budget))
 }
@@ -85,7 +85,7 @@ fn read_bid(alloc: Global, words: &mut Words<'_>) -> Result<BidLine, Unread>
     ensures { Reads (λ x. InRange (line.Bid x)) (λ x. fields (line.Bid x)) words.old result }
 {
     let id = words.name(alloc)?;
-    let mw = words.number(alloc, 0, 99_999)?;
+    let mw = words.number(alloc, 0, MOST_MW)?;
     words.end()?;
     Ok(BidLine { id, mw })
 }
@@ -94,8 +94,8 @@ fn read_bid(alloc: Global, words: &mut Words<'_>) -> Result<BidLine, Unread>
 fn read_demand(alloc: Global, words: &mut Words<'_>) -> Result<(u32, u32), Unread>
     ensures { Reads (λ x. InRange (line.Demand x.0 x.1)) (λ x. fields (line.Demand x.0 x.1)) words.old result }
 {
-    let place = words.number(alloc, 1, 512)?;
-    let mw = words.number(alloc, 0, 99_999)?;
+    let place = words.number(alloc, 1, MOST_DEMANDS as u32)?;
+    let mw = words.number(alloc, 0, MOST_MW)?;
     words.end()?;
     Ok((place, mw))
 }
@@ -104,7 +104,7 @@ fn read_demand(alloc: Global, words: &mut Words<'_>) -> Result<(u32, u32), Unrea
 fn read_tree(alloc: Global, words: &mut Words<'_>) -> Result<u32, Unread>
     ensures { Reads (λ x. InRange (line.Tree x)) (λ x. fields (line.Tree x)) words.old result }
 {
-    let count = words.number(alloc, 1, 50_000)?;
+    let count = words.number(alloc, 1, MOST_NODES)?;
     words.end()?;
     Ok(count)
 }
@@ -113,7 +113,7 @@ fn read_tree(alloc: Global, words: &mut Words<'_>) -> Result<u32, Unread>
 fn read_end(alloc: Global, words: &mut Words<'_>) -> Result<u32, Unread>
     ensures { Reads (λ x. InRange (line.End x)) (λ x. fields (line.End x)) words.old result }
 {
-    let run = words.number(alloc, 1, 1000)?;
+    let run = words.number(alloc, 1, MOST_RUNS as u32)?;
     words.end()?;
     Ok(run)
 }
@@ -122,8 +122,8 @@ fn read_end(alloc: Global, words: &mut Words<'_>) -> Result<u32, Unread>
 fn read_done(alloc: Global, words: &mut Words<'_>) -> Result<(u32, u32), Unread>
     ensures { Reads (λ x. InRange (line.Done x.0 x.1)) (λ x. fields (line.Done x.0 x.1)) words.old result }
 {
-    let published = words.number(alloc, 0, 1000)?;
-    let unpublished = words.number(alloc, 0, 1000)?;
+    let published = words.number(alloc, 0, MOST_RUNS as u32)?;
+    let unpublished = words.number(alloc, 0, MOST_RUNS as u32)?;
     words.end()?;
     Ok((published, unpublished))
 }
@@ -155,13 +155,13 @@ fn read_provider(alloc: Global, words: &mut Words<'_>) -> Result<AmountLine, Unr
     Ok(AmountLine { name, amount })
 }
 
-/// Whether zone numbers are below 64 and rise strictly.
+/// Whether zone numbers are below `MOST_ZONES` and rise strictly.
 fn are_rising(zones: &[u32]) -> bool
-    ensures { IsTrue result ↔ IsRising 0 64 zones.now }
+    ensures { IsTrue result ↔ IsRising 0 MOST_ZONES zones.now }
 {
     let mut least = 0;
     for zone in zones {
-        if *zone < least || *zone >= 64 {
+        if *zone < least || *zone >= MOST_ZONES as u32 {
             return false;
         }
         least = *zone + 1;
@@ -185,8 +185,8 @@ fn read_cut(alloc: Global, words: &mut Words<'_>) -> Result<Cut, Unread>
 fn read_run(alloc: Global, words: &mut Words<'_>) -> Result<Line, Unread>
     ensures { Reads (λ l. InRange l × (keyword_of_line l ≡ Keyword.Run)) fields words.old result }
 {
-    let run = words.number(alloc, 1, 1_000)?;
-    let quarter = words.number(alloc, 1, 400)?;
+    let run = words.number(alloc, 1, MOST_RUNS as u32)?;
+    let quarter = words.number(alloc, 1, MOST_QUARTERS)?;
     let direct = words.direct()?;
     let published = words.published()?;
     let heading = Heading {
@@ -198,7 +198,7 @@ fn read_run(alloc: Global, words: &mut Words<'_>) -> Result<Line, Unread>
         words.end()?;
         return Ok(Line::Run(heading));
     }
-    let count = words.number(alloc, 1, 50_000)?;
+    let count = words.number(alloc, 1, MOST_NODES)?;
     words.end()?;
     Ok(Line::Unpublished(heading, count))
 }

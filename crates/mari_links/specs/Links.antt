@@ -106,7 +106,8 @@ timed_of bids row Bars = Some (link_of bids row Bars)
 timed_of bids row Technical = Some (link_of bids row Technical)
 timed_of bids row _ = None
 
--- what lines say, each in their order: the members of groups, the children with their parents, and the links to earlier quarters
+-- what lines say, each in their order: the members of groups, the children with their parents, and the links to earlier
+-- quarters
 pub record Said : Type 0 where
   pub members : List Member
   pub children : List Link
@@ -161,8 +162,9 @@ abbrev pub names_no_bid : BidBook → Row → LinkKind → Bool
 names_no_bid bids row Group = not (is_some (bid_named bids (second_of row)))
 names_no_bid bids row _ = not (is_some (bid_named bids (first_of row)) && is_some (bid_named bids (second_of row)))
 
--- whether a line's bids are of quarters that cannot be so linked: a group has one quarter, that of its first member, and
--- parent and child have the same; one is needed or barred by a bid of one or two quarters before, or technically of one before
+-- whether a line's bids are of quarters that cannot be so linked: a group has one quarter, that of its first member,
+-- and parent and child have the same; one is needed or barred by a bid of one or two quarters before, or technically of
+-- one before
 abbrev pub has_wrong_quarter : BidBook → Said → Row → LinkKind → Bool
 has_wrong_quarter bids said row Group =
     option_map_or (λ quarter. not (quarter == quarter_of bids (bid_of bids (second_of row)))) (quarter_of_group bids said.members (first_of row)) false
@@ -197,8 +199,8 @@ name_checks bids row =
     ∷ (of_kind (names_no_bid bids row) row, link_check_number UnknownBid)
     ∷ []
 
--- and, behind lines that say this, for a wrong quarter, for a parent that does not stand before its child, and for what an
--- earlier line says
+-- and, behind lines that say this, for a wrong quarter, for a parent that does not stand before its child, and for what
+-- an earlier line says
 abbrev pub place_checks : BidBook → Said → Row → Checks
 place_checks bids said row =
     (of_kind (has_wrong_quarter bids said row) row, link_check_number WrongQuarter)

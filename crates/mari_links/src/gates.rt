@@ -11,7 +11,7 @@ use mari_rows::count_one;
 use mari_units::MOST_GATES;
 use std::alloc::{AllocError, Global};
 
-// The last quarter of these bids.
+/// The last quarter of these bids.
 fn last_quarter(bids: &BidBook) -> u32
     ensures { (bid : ℕ) → quarter_in bids.now bid ≤ result }
 {

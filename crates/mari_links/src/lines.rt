@@ -35,7 +35,7 @@ pub struct Link {
     pub second: u32,
 }
 
-// The kind that a word names.
+/// The kind that a word names.
 #[tactic(auto, unfolding(crate::specs::Links::group_word, crate::specs::Links::child_word, crate::specs::Links::needs_word, crate::specs::Links::bars_word, crate::specs::Links::technical_word))]
 fn kind_of(word: &[u8]) -> Option<LinkKind>
     ensures { result ≡ kind_named word.now }

@@ -80,7 +80,7 @@ impl LinkBook {
     }
 }
 
-// What the lines so far say of these bids.
+/// What the lines so far say of these bids.
 #[derive(Drop)]
 struct LinksOfBids<'a> {
     bids: &'a BidBook,

@@ -46,7 +46,7 @@ impl LinksSoFar {
         })
     }
 
-    // Puts a bid into a group.
+    /// Puts a bid into a group.
     fn join(&mut self, alloc: Global, bids: &BidBook, group: &[u8], bid: u32) -> Result<(), Memory>
         requires room { length self.old.groups.names < 4294967295 }
         requires group { is_name group.now ≡ true }
@@ -60,7 +60,7 @@ impl LinksSoFar {
         Ok(())
     }
 
-    // Gives a child its parent.
+    /// Gives a child its parent.
     fn follow(&mut self, bids: &BidBook, link: Link)
         requires child { link.first < length bids.now.ids }
         requires parent { link.second < length bids.now.ids }
@@ -72,7 +72,7 @@ impl LinksSoFar {
         self.entries[link.second as usize].lead();
     }
 
-    // Links a bid to one of an earlier quarter.
+    /// Links a bid to one of an earlier quarter.
     fn name(&mut self, bids: &BidBook, link: Link) -> Result<(), Memory>
         requires first { link.first < length bids.now.ids }
         requires sized { length self.old.entries.items ≡ length bids.now.ids }
@@ -84,7 +84,7 @@ impl LinksSoFar {
         Ok(())
     }
 
-    // Whether a line links bids of quarters that cannot be so linked.
+    /// Whether a line links bids of quarters that cannot be so linked.
     fn has_wrong_quarter(&self, bids: &BidBook, line: &Row, link: Link) -> bool
         requires kind { kind_of line.now ≡ Some link.kind }
         requires link { link ≡ link_of_line bids.now line.now link.kind }
@@ -103,7 +103,7 @@ impl LinksSoFar {
         }
     }
 
-    // Whether an earlier line puts the bid into a group, or gives the child a parent, or is equal.
+    /// Whether an earlier line puts the bid into a group, or gives the child a parent, or is equal.
     fn is_repeated(&self, bids: &BidBook, line: &Row, link: Link) -> bool
         requires first { link.first < length bids.now.ids }
         requires second { link.second < length bids.now.ids }
@@ -118,7 +118,7 @@ impl LinksSoFar {
         }
     }
 
-    // The first check that a link fails behind the lines so far.
+    /// The first check that a link fails behind the lines so far.
     fn failing_check(&self, bids: &BidBook, line: &Row, link: Link) -> Option<LinkCheck>
         requires first { link.first < length bids.now.ids }
         requires second { link.second < length bids.now.ids }
@@ -138,7 +138,7 @@ impl LinksSoFar {
         }
     }
 
-    // Holds what a line says that fails no check.
+    /// Holds what a line says that fails no check.
     fn hold(&mut self, alloc: Global, bids: &BidBook, line: &Row, link: Link) -> Result<(), Memory>
         requires room { length self.old.groups.names < 4294967295 }
         requires first { link.first < length bids.now.ids }

@@ -1,5 +1,5 @@
--- Two equal indivisible bids of 30 MW at 30.00, a bid of up to 100 MW at 50.00, and a demand of 30 MW: opening either bid is
--- optimal, and the later one is published.
+-- Two equal indivisible bids of 30 MW at 30.00, a bid of up to 100 MW at 50.00, and a demand of 30 MW: opening either
+-- bid is optimal, and the later one is published.
 use Rattle.std.proofs.Common.{◌≡◌, Bool, true, false, ℕ, zero, suc, ◌<◌, ◌≤◌, pos, List, [], ◌∷◌, Some, arith, refl}
 use Rattle.std.proofs.lemmas.Int.{ints, clamps}
 use Rattle.mari_units.specs.declared.Cents.{Cents}

@@ -135,7 +135,8 @@ opened_as k [] opens g b l = absurd (omega arith)
 opened_as k (c ∷ cs) opens zero b l = ap opens (add-zero k) ∙ b.0
 opened_as k (c ∷ cs) opens (suc g) b l = ap opens (omega arith) ∙ opened_as (suc k) cs opens g b.1 (omega arith)
 
--- where the gate word of an activation comes before another gate word, whatever the activation begins with is early for that
+-- where the gate word of an activation comes before another gate word, whatever the activation begins with is early for
+-- that
 pub front_is_early : (m : Market) (a : Activation) (word gates : List Bool) → length gates ≡ length m.gates → Begins word (is_open m a) → ComesBefore (gate_word_of m a) gates → IsEarly gates word
 front_is_early m a word gates full b h =
     let own = gate_word_of m a in
@@ -165,8 +166,8 @@ tree_holds_without_gates m a w items none h = AreParts-map m (LeafHolds m w) (Le
 below_less : (v w : ℤ) → v ≡ w → v ≤ℤ (w -ℤ pos 1) → ⊥
 below_less v w e l = omega (arith, ints, e, l)
 
--- a tree that holds for a gate word at the welfare of an admissible activation leaves no activation of that welfare whose
--- gate word comes before
+-- a tree that holds for a gate word at the welfare of an admissible activation leaves no activation of that welfare
+-- whose gate word comes before
 pub earlier_is_worse : (m : Market) (w : ℤ) (gates : List Bool) (items : List TreeItem) (b : Activation) → IsValid m → length gates ≡ length m.gates → TreeHoldsFor m w gates items → IsAdmissible m b → ComesBefore (gate_word_of m b) gates → welfare_of m b ≤ℤ (w -ℤ pos 1)
 earlier_is_worse m w gates items b v full h adm before =
     (parts_reach m (LeafHoldsFor m w gates) (welfare_of m b ≤ℤ (w -ℤ pos 1)) b v adm.feasible

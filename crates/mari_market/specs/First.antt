@@ -6,8 +6,8 @@ use Rattle.mari_market.specs.Activation.{gate_word_of}
 use Rattle.mari_market.specs.Optimal.{IsOptimal}
 use Rattle.mari_market.specs.Prefix.{opens_in}
 
--- a word comes before another: at the first gate that differs it is closed. A gate that a word doesn't decide counts as closed,
--- so a prefix comes before a gate word where it does when it is continued with closed gates
+-- a word comes before another: at the first gate that differs it is closed. A gate that a word doesn't decide counts as
+-- closed, so a prefix comes before a gate word where it does when it is continued with closed gates
 pub record ComesBefore (word other : List Bool) : Type 0 where
   pub gate : ℕ
   pub same : (g : ℕ) → g < gate → opens_in word g ≡ opens_in other g

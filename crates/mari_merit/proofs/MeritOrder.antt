@@ -15,7 +15,8 @@ use Rattle.mari_merit.specs.Ladder.{AreInMeritOrder, IsNotBehind, belongs, step_
 by_price_and_number : (p q : ℤ) (m n : ℕ) → is_lt (ordering_then (int_cmp q p) (nat_cmp n m)) ≡ false → (p <ℤ q) ⊎ ((p ≡ q) × (m ≤ n))
 by_price_and_number p q m n h = grind (arith, ints)
 
--- a step that doesn't sort below one isn't what that one is behind: by price and number, and by price turned round and number
+-- a step that doesn't sort below one isn't what that one is behind: by price and number, and by price turned round and
+-- number
 cheaper : (a b : Step) → is_lt (ordering_then (int_cmp b.price.0 a.price.0) (nat_cmp b.order a.order)) ≡ false → IsNotBehind Inject a b
 cheaper a b h = by_price_and_number a.price.0 b.price.0 a.order b.order h
 

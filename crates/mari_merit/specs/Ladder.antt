@@ -35,7 +35,8 @@ belongs m zone side s = ((order_at m.orders s.order).zone == zone && is_on side 
 abbrev pub steps_among : Market → Bounds → ℕ → Side → ℕ → List Step
 steps_among m b zone side n = filter (belongs m zone side) (map (step_of m b) (range_with_len 0 n))
 
--- a step isn't behind another: of injections the cheaper comes first, of withdrawals the dearer, and of one price the lower number
+-- a step isn't behind another: of injections the cheaper comes first, of withdrawals the dearer, and of one price the
+-- lower number
 abbrev pub IsNotBehind : Side → Step → Step → Type 0
 IsNotBehind Inject a b = (a.price.0 <ℤ b.price.0) ⊎ ((a.price.0 ≡ b.price.0) × (a.order ≤ b.order))
 IsNotBehind Withdraw a b = (b.price.0 <ℤ a.price.0) ⊎ ((a.price.0 ≡ b.price.0) × (a.order ≤ b.order))

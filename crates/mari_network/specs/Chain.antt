@@ -57,7 +57,8 @@ pub data HasRoom (bs : List Border) (fs : List ℤ) (hops : List Hop) (d : ℤ) 
   begins : HasRoom bs fs hops d 0
   goes_on : (k : ℕ) → 0 < k → d ≤ℤ hop_room bs fs (hop_at hops k) → HasRoom bs fs hops d (hop_at hops k).before → HasRoom bs fs hops d k
 
--- a slot of the first hop's zone can put in less, and a cheaper one of another hop's can put in more, with room along the chain
+-- a slot of the first hop's zone can put in less, and a cheaper one of another hop's can put in more, with room along
+-- the chain
 pub record IsImproving (n : NetworkRecord) (xs fs : List ℤ) (c : ChainRecord) : Type 0 where
   pub trace : IsTrace n.borders.now c.hops.items
   pub there : c.at < length c.hops.items

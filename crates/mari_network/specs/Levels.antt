@@ -11,7 +11,8 @@ use Rattle.mari_network.specs.Spread.{is_marked, AreClosed}
 abbrev pub OrderedOver : (ℕ → Bool) → (ℕ → ℤ) → Border → ℤ → Type 0
 OrderedOver marked p b f = (forth : Bool) → pos 0 <ℤ room_of forth b f → marked (head_of forth b) ≡ true → p (head_of forth b) ≤ℤ p (tail_of forth b)
 
--- the marked zones have their prices: each at least the least, and no unmarked one has a slot above them that may put in less
+-- the marked zones have their prices: each at least the least, and no unmarked one has a slot above them that may put
+-- in less
 pub record AreLevels (slots : List Slot) (bs : List Border) (xs fs : List ℤ) (marked : List Bool) (p : ℕ → ℤ) : Type 0 where
   pub closed : AreClosed bs fs marked
   pub ordered : AllZip (OrderedOver (is_marked marked) p) bs fs

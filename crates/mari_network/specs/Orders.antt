@@ -27,7 +27,8 @@ slot_of s o = record { zone = o.zone; price = o.price.0; low = least_put o.side 
 abbrev pub slots_of : (Order → Span) → List Order → List Slot
 slots_of spans orders = map (λ o. slot_of (spans o) o) orders
 
--- what stands in where orders leave a zone out of balance: a slot of the least price that only takes energy, or one of the greatest that only gives it
+-- what stands in where orders leave a zone out of balance: a slot of the least price that only takes energy, or one of
+-- the greatest that only gives it
 abbrev pub IsExtra : ℤ → Slot → Type 0
 IsExtra m s = ((s.price ≡ neg_ℤ m) × (s.high ≡ pos 0)) ⊎ ((s.price ≡ m) × (s.low ≡ pos 0))
 

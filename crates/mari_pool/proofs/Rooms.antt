@@ -64,8 +64,8 @@ branch_untaken first (c ∷ o ∷ rest) = refl
 
 -- ---- entries
 
--- what an entry is paid by: a taken node by its own; a node that waits by its own, where none could not branch; and a node that
--- is given back by its worker number
+-- what an entry is paid by: a taken node by its own; a node that waits by its own, where none could not branch; and a
+-- node that is given back by its worker number
 abbrev pub IsPaid : Grown → Entry → ℕ → ℕ → Type 0
 IsPaid g (Take k x) before after = (g.full ≡ false) × (after ≡ before)
 IsPaid g (Close k x leaf cutoff) before after = after ≡ before

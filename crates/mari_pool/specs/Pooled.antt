@@ -17,8 +17,9 @@ use Rattle.mari_pool.specs.declared.ticket.Settled.TheVariants as settled
 
 -- ---- what a pool is
 
--- a pool: its tree; the key of each node; its journal, and for how many entries that has room; the turn at which each node was
--- last taken, where a turn is the place of its entry; which worker numbers gave a ticket back; and the pool's own seat
+-- a pool: its tree; the key of each node; its journal, and for how many entries that has room; the turn at which each
+-- node was last taken, where a turn is the place of its entry; which worker numbers gave a ticket back; and the pool's
+-- own seat
 pub record Pooled : Type 0 where
   pub tree : Grown
   pub keys : List ℕ
@@ -50,8 +51,8 @@ abbrev pub unreturned : List Bool → ℕ
 unreturned [] = 0
 unreturned (b ∷ bs) = (if b then 0 else 1) + unreturned bs
 
--- how many entries may still come: those of the nodes, two for each node that the budget still allows, and two for each worker
--- number that hasn't given a ticket back
+-- how many entries may still come: those of the nodes, two for each node that the budget still allows, and two for each
+-- worker number that hasn't given a ticket back
 abbrev pub owed : Grown → List Bool → ℕ
 owed g returned = owed_among g.full g.nodes + (if g.full then 0 else 2 * (g.budget - length g.nodes) + 2 * unreturned returned)
 
@@ -69,10 +70,10 @@ abbrev pub taken_among : List TreeNode → ℕ
 taken_among [] = 0
 taken_among (n ∷ ns) = taken_in n.state + taken_among ns
 
--- what holds of a pool whenever its lock is free: its tree is a growth of the search's market within its budget, to which the
--- journal leads at cutoffs that the pool's seat has seen; each node has a key; that seat is of the search's incumbent, which
--- starts at the closed welfare, and has one part, by which nothing was offered; and the journal has room for all that may still
--- come
+-- what holds of a pool whenever its lock is free: its tree is a growth of the search's market within its budget, to
+-- which the journal leads at cutoffs that the pool's seat has seen; each node has a key; that seat is of the search's
+-- incumbent, which starts at the closed welfare, and has one part, by which nothing was offered; and the journal has
+-- room for all that may still come
 pub record IsPool (m : Market) (budget workers : ℕ) (incumbent : IncumbentId) (p : Pooled) : Type 0 where
   pub market_is : p.tree.market ≡ m
   pub budget_is : p.tree.budget ≡ budget
@@ -113,7 +114,8 @@ meeting p seen = record p { seat = standing p.seat.incumbent (max p.seat.seen se
 abbrev pub keys_after : Grown → Entry → List ℕ → ℕ → List ℕ
 keys_after g e keys key = keys ++ replicate (length (grown g e).nodes - length g.nodes) key
 
--- the seats meet, and the node is settled at what the other saw; the keys of its children are the bound that was found at it
+-- the seats meet, and the node is settled at what the other saw; the keys of its children are the bound that was found
+-- at it
 abbrev pub settled_with : Pooled → ℕ → ℕ → ℕ → Finding → Pooled
 settled_with p worker node seen finding =
     record (entered (meeting p seen) (settling p.tree worker node seen finding)) { keys = keys_after p.tree (settling p.tree worker node seen finding) p.keys (child_key finding) }

@@ -13,7 +13,8 @@ use Rattle.mari_core.specs.Nodes.{TreeNode, state_at}
 
 -- ---- keys
 
--- a queue: a key for each node that there is; the numbers of those that wait, in no order; and for how many nodes it has room
+-- a queue: a key for each node that there is; the numbers of those that wait, in no order; and for how many nodes it
+-- has room
 pub record Queued : Type 0 where
   pub keys : List ℕ
   pub waiting : List ℕ

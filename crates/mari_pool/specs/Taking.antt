@@ -26,8 +26,8 @@ pub record IsIdle (p q : Pooled) (n : ℕ) : Type 0 where
   pub same : q ≡ p
 
 module _ {N : Type 0} {g : Ghosts N} where
-  -- of the nodes that wait that of the greatest key, and of equal keys the one of the lowest number, is taken by the worker, at
-  -- the turn that is the place of the entry
+  -- of the nodes that wait that of the greatest key, and of equal keys the one of the lowest number, is taken by the
+  -- worker, at the turn that is the place of the entry
   pub record IsTaken (worker : ℕ) (p q : Pooled) (x : Ticket N g) : Type 0 where
     pub not_full : p.tree.full ≡ false
     pub waits : IsFirstWaiting p.keys p.tree.nodes x.node

@@ -10,7 +10,7 @@ use mari_market::{Order, Standing};
 use mari_units::{CAP, Cents};
 use std::alloc::{AllocError, Global};
 
-// The standing of an order of a feasible activation, where an order of a gate runs exactly where its gate is open.
+/// The standing of an order of a feasible activation, where an order of a gate runs exactly where its gate is open.
 fn own_standing(order: &Order, mw: u32) -> Standing
     ensures { result ≡ own_standing order.now.gate mw }
 {
@@ -41,7 +41,7 @@ impl End {
         }
     }
 
-    // Whether an order bounds its zone's price at this end.
+    /// Whether an order bounds its zone's price at this end.
     fn is_set_by(self, order: &Order, mw: u32) -> bool
         ensures { IsTrue result ↔ SetsAtEnd self (own_standing order.now.gate mw) order.now.side order.now.greatest mw }
     {
@@ -53,7 +53,7 @@ impl End {
     }
 }
 
-// The bound of an order's zone, raised to what the order sets.
+/// The bound of an order's zone, raised to what the order sets.
 fn raised(bound: i64, order: &Order, mw: u32, end: End) -> i64
     requires { IsPrice order.now.price.0 }
     ensures { IsRaised end order.now mw order.now.zone bound result }

@@ -83,7 +83,7 @@ pub(crate) fn prices_of(
     })
 }
 
-// Whether a least price is above the upper bound, which stands with its sign turned.
+/// Whether a least price is above the upper bound, which stands with its sign turned.
 fn is_above(entry: &Option<Settled>, upper: i64) -> bool
     requires upper { IsPrice upper }
     requires value { IfSome entry.now (λ s. IsPrice s.value) }
@@ -112,7 +112,7 @@ pub(crate) fn contradicted(settled: &[Option<Settled>], uppers: &[i64]) -> Optio
     None
 }
 
-// The zone that settled this one.
+/// The zone that settled this one.
 fn previous_of(settled: &[Option<Settled>], zone: u32) -> Option<u32>
     requires { zone < length settled.now }
     ensures { (s : SettledZone) → entry_at settled.now zone ≡ Some s → result ≡ s.previous }

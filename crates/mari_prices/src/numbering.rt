@@ -12,7 +12,7 @@ use mari_market::{Activation, Market};
 use mari_units::{MOST_ZONES, Memory};
 use std::alloc::{AllocError, Global};
 
-// Each zone's number, with the sign turned.
+/// Each zone's number, with the sign turned.
 fn places(alloc: Global, zones: u32) -> Result<Vec<i64>, AllocError>
     ensures one_each { IfOk result (λ v. length v.items ≡ zones) }
     ensures places { IfOk result (λ v. ArePlaces v.items) }
@@ -24,7 +24,7 @@ fn places(alloc: Global, zones: u32) -> Result<Vec<i64>, AllocError>
     Ok(places)
 }
 
-// The first zone of a zone's area.
+/// The first zone of a zone's area.
 fn first_of(entry: &Option<Settled>) -> usize
     ensures { result ≡ first_in entry.now }
 {
@@ -34,7 +34,7 @@ fn first_of(entry: &Option<Settled>) -> usize
     }
 }
 
-// Numbers areas from 1 by their first zones.
+/// Numbers areas from 1 by their first zones.
 fn number(alloc: Global, settled: &[Option<Settled>]) -> Result<Vec<u32>, AllocError>
     requires few { length settled.now ≤ MOST_ZONES }
     requires firsts { AreFirsts (length settled.now) (first_at settled.now) }

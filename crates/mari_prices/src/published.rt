@@ -28,7 +28,7 @@ pub fn nearest(least: Cents, greatest: Cents, reference: Cents) -> Cents
     Cents(reference.0.clamp(least.0, greatest.0))
 }
 
-// The least and the greatest consistent price of each zone, which are there for an admissible activation.
+/// The least and the greatest consistent price of each zone, which are there for an admissible activation.
 fn intervals_of(
     alloc: Global,
     market: &Market,
@@ -46,7 +46,7 @@ fn intervals_of(
     }
 }
 
-// The price of each interval that is nearest to the reference.
+/// The price of each interval that is nearest to the reference.
 fn nearest_prices(
     alloc: Global,
     least: &[Cents],

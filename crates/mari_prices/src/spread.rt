@@ -19,7 +19,7 @@ pub(crate) struct Settled {
     pub(crate) depth: u32,
 }
 
-// What the second zone gets from the first, if that is settled and the second is free.
+/// What the second zone gets from the first, if that is settled and the second is free.
 fn passed_on(settled: &[Option<Settled>], from: u32, to: u32) -> Option<Settled>
     requires from { from < length settled.now }
     requires to { to < length settled.now }
@@ -39,7 +39,7 @@ fn passed_on(settled: &[Option<Settled>], from: u32, to: u32) -> Option<Settled>
     }
 }
 
-// The same, if the border leads that way.
+/// The same, if the border leads that way.
 fn led(leads: bool, settled: &[Option<Settled>], from: u32, to: u32) -> Option<Settled>
     requires from { from < length settled.now }
     requires to { to < length settled.now }
@@ -54,7 +54,7 @@ fn led(leads: bool, settled: &[Option<Settled>], from: u32, to: u32) -> Option<S
     }
 }
 
-// A free zone to which the border leads from a settled one, and what it gets.
+/// A free zone to which the border leads from a settled one, and what it gets.
 fn led_over(
     settled: &[Option<Settled>],
     border: &Border,
@@ -86,7 +86,7 @@ fn led_over(
     }
 }
 
-// A free zone to which some border leads from a settled one, and what it gets.
+/// A free zone to which some border leads from a settled one, and what it gets.
 fn next_led(
     settled: &[Option<Settled>],
     borders: &[Border],
@@ -107,7 +107,7 @@ fn next_led(
     None
 }
 
-// The zone of the greater value, where there are two.
+/// The zone of the greater value, where there are two.
 fn greater(values: &[i64], best: Option<u32>, zone: u32) -> u32
     requires zone { zone < length values.now }
     requires best { IfSome best (λ z. z < length values.now) }
@@ -121,7 +121,7 @@ fn greater(values: &[i64], best: Option<u32>, zone: u32) -> u32
     }
 }
 
-// The free zone of the greatest value.
+/// The free zone of the greatest value.
 fn greatest_free(settled: &[Option<Settled>], values: &[i64]) -> Option<u32>
     requires lengths { length values.now ≡ length settled.now }
     requires few { length settled.now ≤ MOST_ZONES }
@@ -136,7 +136,7 @@ fn greatest_free(settled: &[Option<Settled>], values: &[i64]) -> Option<u32>
     best
 }
 
-// The next zone to settle, and what it gets.
+/// The next zone to settle, and what it gets.
 fn next(
     settled: &[Option<Settled>],
     values: &[i64],

@@ -9,16 +9,17 @@ use Rattle.mari_market.specs.Tree.{AreParts}
 use Rattle.mari_proofs.specs.declared.trees.TreeVerdict.{TreeVerdict}
 use Rattle.mari_proofs.specs.declared.trees.TreeVerdict.TheVariants.{Holds, BadShape, BadLeaf}
 
--- the items are, in order, parts of the first of these words, and the words left have no part yet: each item is a leaf that
--- holds at the first word left, or a branch, where a gate is left to decide, which leaves the word's children in its place
+-- the items are, in order, parts of the first of these words, and the words left have no part yet: each item is a leaf
+-- that holds at the first word left, or a branch, where a gate is left to decide, which leaves the word's children in
+-- its place
 abbrev pub LeavesWords : Market → (List Bool → LeafRecord → Type 0) → List (List Bool) → List TreeItem → List (List Bool) → Type 0
 LeavesWords m holds words [] left = words ≡ left
 LeavesWords m holds [] (item ∷ items) left = ⊥
 LeavesWords m holds (word ∷ words) (Leaf leaf ∷ items) left = holds word leaf × LeavesWords m holds words items left
 LeavesWords m holds (word ∷ words) (Branch ∷ items) left = (length word < length m.gates) × LeavesWords m holds (children m.gates word ++ words) items left
 
--- the shape fails at the first of these items, where these words are left: there is an item and no word, or a word and no
--- item, or a branch at a word that decides every gate
+-- the shape fails at the first of these items, where these words are left: there is an item and no word, or a word and
+-- no item, or a branch at a word that decides every gate
 abbrev pub ShapeFails : Market → List (List Bool) → List TreeItem → Type 0
 ShapeFails m [] [] = ⊥
 ShapeFails m [] (item ∷ items) = ⊤
@@ -33,8 +34,8 @@ LeafFails m holds (word ∷ words) [] = ⊥
 LeafFails m holds (word ∷ words) (Branch ∷ items) = ⊥
 LeafFails m holds (word ∷ words) (Leaf leaf ∷ items) = holds word leaf → ⊥
 
--- the items before the place are parts of the tree, and there its shape fails; the place after the last item is that of an
--- ending too early
+-- the items before the place are parts of the tree, and there its shape fails; the place after the last item is that of
+-- an ending too early
 pub record IsBadShape (m : Market) (holds : List Bool → LeafRecord → Type 0) (items : List TreeItem) (place : ℕ) : Type 0 where
   pub within : place ≤ length items
   pub left : List (List Bool)

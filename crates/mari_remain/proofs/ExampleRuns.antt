@@ -93,7 +93,8 @@ what_is_left_of_a_border = refl
 pub another_quarter_has_it_all : limits_in two_zones (congested ∷ unpublished 2 1 true ∷ []) 3 ≡ (50, 20) ∷ []
 another_quarter_has_it_all = refl
 
--- limits of 30 there and 50 back that are stated for the second run alone, behind a flow of 50 MW there: nothing there, and 100 back
+-- limits of 30 there and 50 back that are stated for the second run alone, behind a flow of 50 MW there: nothing there,
+-- and 100 back
 abbrev limited : Books
 limited = record two_zones {
   limits = Some (
@@ -138,7 +139,8 @@ technical_after_a_scheduled_run = refl
 pub technical_after_a_direct_run : numbers_of linked (unpublished 1 1 false ∷ published 2 1 true (0 ∷ []) (5 ∷ 5 ∷ []) [] ∷ []) 3 ≡ []
 technical_after_a_direct_run = refl
 
--- an indivisible bid that didn't run in the scheduled run is offered whole in a direct one, and the other has 70 MW left
+-- an indivisible bid that didn't run in the scheduled run is offered whole in a direct one, and the other has 70 MW
+-- left
 abbrev indivisible : Books
 indivisible = books ([] ∷ []) [] (up 0 1 3000 40 40 ∷ up 0 1 5000 0 100 ∷ [])
     (record { gated = true; group = None; parent = None; needs = []; bars = []; technical = [] } ∷ no_links ∷ [])

@@ -10,8 +10,8 @@ use Rattle.mari_remain.specs.declared.books.Books.{Books}
 use Rattle.mari_remain.specs.Blocks.{PastBlock, flow_of, is_activated, mw_of, of_direct_runs, of_quarter}
 use Rattle.mari_remain.specs.Lists.{bid_at, group_at, parent_at}
 
--- what was taken before a run: the MW of each bid in the run's quarter, whether a bid was activated at all, whether a direct run
--- activated it, and the sum of each border's flows in the quarter
+-- what was taken before a run: the MW of each bid in the run's quarter, whether a bid was activated at all, whether a
+-- direct run activated it, and the sum of each border's flows in the quarter
 pub record Taken : Type 0 where
   pub mw : ℕ → ℕ
   pub activated : ℕ → Bool
@@ -71,6 +71,7 @@ abbrev pub is_available_up : Books → Taken → Run → ℕ → ℕ → Bool
 is_available_up books taken run zero i = false
 is_available_up books taken run (suc n) i = may_run books taken run i && parent_allows (is_available_up books taken run n) taken (parent_at books.links.links i)
 
--- available: a bid may run, and its parent allows it. Parents have smaller numbers, so their chain ends within the bid's own number
+-- available: a bid may run, and its parent allows it. Parents have smaller numbers, so their chain ends within the
+-- bid's own number
 abbrev pub is_available : Books → Taken → Run → ℕ → Bool
 is_available books taken run i = is_available_up books taken run (suc i) i

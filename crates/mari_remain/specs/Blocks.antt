@@ -4,7 +4,8 @@ use Rattle.std.specs.Option.{option_map_or}
 use Rattle.mari_market.specs.Sums.{int_sum}
 use Rattle.mari_market.specs.declared.activation.Activation.{Activation}
 
--- what a published block tells: the numbers of the bids that are the first orders of its run's market, and the activation
+-- what a published block tells: the numbers of the bids that are the first orders of its run's market, and the
+-- activation
 pub record PastRun : Type 0 where
   pub bids : List ℕ
   pub activation : Activation

@@ -10,7 +10,8 @@ use Rattle.mari_remain.specs.Available.{Taken}
 use Rattle.mari_remain.specs.Lists.{bid_at, bids_of_quarter, numbers_of_run, run_at}
 use Rattle.mari_remain.specs.RunMarket.{market_at, numbers_of}
 
--- what a published block of a run tells: the bids of the run's market behind these blocks, and an activation that is feasible there
+-- what a published block of a run tells: the bids of the run's market behind these blocks, and an activation that is
+-- feasible there
 pub record IsPastRun (books : Books) (blocks : List PastBlock) (run : ℕ) (past : PastRun) : Type 0 where
   pub bids : past.bids ≡ numbers_of books blocks run
   pub feasible : IsFeasible (market_at books blocks run) past.activation
@@ -40,8 +41,8 @@ AreFirstBlocks books blocks = (k : ℕ) (b : PastBlock) → slice_get blocks k �
 abbrev pub last_quarter : List PastBlock → Option ℕ
 last_quarter blocks = fold (λ before (b : PastBlock). if is_some b.published then Some b.quarter else before) None blocks
 
--- what is kept of the blocks: the MW of each bid, whether a direct run activated it, the quarter of the last published block, and the
--- sum of each border's flows in that quarter
+-- what is kept of the blocks: the MW of each bid, whether a direct run activated it, the quarter of the last published
+-- block, and the sum of each border's flows in that quarter
 pub record Kept : Type 0 where
   pub mw : List ℕ
   pub direct : List Bool
@@ -52,7 +53,8 @@ pub record Kept : Type 0 where
   -- the numbers of the demands of each run, from run 0 on, which has none
   pub of_run : List (List ℕ)
 
--- what is kept stands for a list of blocks: they are those of the first runs, and the MW, the marks, the quarter and the flows are theirs
+-- what is kept stands for a list of blocks: they are those of the first runs, and the MW, the marks, the quarter and
+-- the flows are theirs
 pub record StandsFor (books : Books) (blocks : List PastBlock) (kept : Kept) : Type 0 where
   pub first : AreFirstBlocks books blocks
   pub mw : kept.mw ≡ map (mw_of blocks) (range_with_len 0 (length books.bids.bids))
@@ -71,8 +73,8 @@ taken_in books kept quarter = record {
   flow = λ k. if option_map_or (λ last. last == quarter) kept.quarter false then get_or kept.flow k (pos 0) else pos 0;
 }
 
--- what is kept behind one more published block: its MW and marks are added, its quarter is the last, and its flows are added to those of
--- its quarter
+-- what is kept behind one more published block: its MW and marks are added, its quarter is the last, and its flows are
+-- added to those of its quarter
 pub record IsKeptAfter (b : PastBlock) (kept after : Kept) : Type 0 where
   pub mws : length after.mw ≡ length kept.mw
   pub mw : (i : ℕ) → get_or after.mw i 0 ≡ get_or kept.mw i 0 + mw_in i b

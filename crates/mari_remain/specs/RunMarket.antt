@@ -68,7 +68,8 @@ ends_at borders k = slice_index_or borders k (record { from = 0; to = 0; limit =
 abbrev pub own_limits : BorderEnds → Limits
 own_limits ends = record { limit = ends.limit; back = ends.back }
 
--- the limits of a border in a run: those that the file of limits states for it, or where there is no such file those of the file of borders
+-- the limits of a border in a run: those that the file of limits states for it, or where there is no such file those of
+-- the file of borders
 abbrev pub stated_limits : Option (List (List Limits)) → BorderEnds → (run border : ℕ) → Limits
 stated_limits None ends run k = own_limits ends
 stated_limits (Some table) ends run k = limits_in table run k
@@ -90,8 +91,8 @@ border_of ends limits flow = record {
   back = at_least_0 (pos limits.back +ℤ flow);
 }
 
--- what is known of a bid's gate: its group, and its parent where that is among these gated bids. A parent that was activated
--- before is not among them
+-- what is known of a bid's gate: its group, and its parent where that is among these gated bids. A parent that was
+-- activated before is not among them
 abbrev pub gate_at : List BidLinks → List ℕ → ℕ → GateInfo
 gate_at links gated i = record { group = group_at links i; parent = option_and_then (gate_of gated) (parent_at links i) }
 

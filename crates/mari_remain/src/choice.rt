@@ -55,7 +55,7 @@ fn is_gated(links: &LinkBook, number: u32) -> bool
     }
 }
 
-// Whether two bids are in one group.
+/// Whether two bids are in one group.
 fn share_group(links: &[BidLinks], number: u32, other: u32) -> bool
     ensures { result ≡ share_group_in links.now number other }
 {
@@ -65,7 +65,7 @@ fn share_group(links: &[BidLinks], number: u32, other: u32) -> bool
     }
 }
 
-// Whether something is left of a bid of which so much was taken in its quarter.
+/// Whether something is left of a bid of which so much was taken in its quarter.
 fn is_left(books: &Books, number: u32, taken: u32) -> bool
     ensures { (t : Taken) → t.mw number ≡ taken → result ≡ is_left_in books.now t number }
 {
@@ -76,28 +76,28 @@ fn is_left(books: &Books, number: u32, taken: u32) -> bool
     }
 }
 
-// Whether all of these bids were activated.
+/// Whether all of these bids were activated.
 fn are_activated(remaining: &Remaining, bids: &[u32]) -> bool
     ensures { result ≡ list_all (λ i. nat_lt 0 (get_or remaining.now.mw i 0)) bids.now }
 {
     bids.iter().all(|bid| remaining.is_activated(*bid))
 }
 
-// Whether one of these bids was activated.
+/// Whether one of these bids was activated.
 fn is_one_activated(remaining: &Remaining, bids: &[u32]) -> bool
     ensures { result ≡ list_any (λ i. nat_lt 0 (get_or remaining.now.mw i 0)) bids.now }
 {
     bids.iter().any(|bid| remaining.is_activated(*bid))
 }
 
-// Whether a direct run activated one of these bids.
+/// Whether a direct run activated one of these bids.
 fn is_one_by_direct_run(remaining: &Remaining, bids: &[u32]) -> bool
     ensures { result ≡ list_any (λ i. get_or remaining.now.direct i false) bids.now }
 {
     bids.iter().any(|bid| remaining.by_direct_run(*bid))
 }
 
-// Whether the bids that this one names were activated, or not, as they have to be.
+/// Whether the bids that this one names were activated, or not, as they have to be.
 fn keeps_links(remaining: &Remaining, links: &BidLinks) -> bool
     ensures { result ≡ keeps_links_in remaining.now links.now }
 {
@@ -106,7 +106,7 @@ fn keeps_links(remaining: &Remaining, links: &BidLinks) -> bool
         && !is_one_by_direct_run(remaining, links.technical.as_slice())
 }
 
-// The bids of a quarter that were activated and are in a group.
+/// The bids of a quarter that were activated and are in a group.
 fn rivals_of(
     alloc: Global,
     books: &Books,
@@ -126,28 +126,28 @@ fn rivals_of(
     Ok(rivals)
 }
 
-// Whether another bid is in the group of this one.
+/// Whether another bid is in the group of this one.
 fn is_rival(links: &[BidLinks], number: u32, other: u32) -> bool
     ensures { result ≡ (not (other == number) && share_group_in links.now number other) }
 {
     other != number && share_group(links, number, other)
 }
 
-// Whether another one of these bids is in the group of this one.
+/// Whether another one of these bids is in the group of this one.
 fn has_rival(links: &[BidLinks], rivals: &[u32], number: u32) -> bool
     ensures { result ≡ list_any (λ j. not (j == number) && share_group_in links.now number j) rivals.now }
 {
     rivals.iter().any(|other| is_rival(links, number, *other))
 }
 
-// Whether a bid is for this kind of run.
+/// Whether a bid is for this kind of run.
 fn is_for(books: &Books, run: Run, number: u32) -> bool
     ensures { result ≡ is_for_in run (bid_at books.now.bids.bids number) }
 {
     bid_of(books.bids.bids.as_slice(), number).both || !run.direct
 }
 
-// Whether no other bid of its group was activated.
+/// Whether no other bid of its group was activated.
 fn has_free_group(
     books: &Books,
     remaining: &Remaining,
@@ -163,7 +163,7 @@ fn has_free_group(
     !rival
 }
 
-// Whether the bids that a bid names allow it.
+/// Whether the bids that a bid names allow it.
 fn names_allow(books: &Books, remaining: &Remaining, number: u32) -> bool
     ensures { result ≡ option_map_or (keeps_links_in remaining.now) (slice_get books.now.links.links number) true }
 {
@@ -173,7 +173,7 @@ fn names_allow(books: &Books, remaining: &Remaining, number: u32) -> bool
     }
 }
 
-// Whether nothing but its parent can keep a bid from a run.
+/// Whether nothing but its parent can keep a bid from a run.
 fn may_run(books: &Books, remaining: &Remaining, run: Run, rivals: &[u32], number: u32) -> bool
     requires accepted { IsAccepted books.now }
     requires quarter { (bid_at books.now.bids.bids number).quarter ≡ run.quarter }
@@ -194,14 +194,14 @@ fn may_run(books: &Books, remaining: &Remaining, run: Run, rivals: &[u32], numbe
     names_allow(books, remaining, number)
 }
 
-// Whether a bid is among these.
+/// Whether a bid is among these.
 fn is_among(numbers: &[u32], number: u32) -> bool
     ensures { result ≡ list_any (λ j. j == number) numbers.now }
 {
     numbers.iter().any(|other| *other == number)
 }
 
-// Whether a bid is available, behind the available gated bids before it.
+/// Whether a bid is available, behind the available gated bids before it.
 fn is_next(
     books: &Books,
     remaining: &Remaining,

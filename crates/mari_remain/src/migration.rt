@@ -14,7 +14,7 @@ use mari_units::{Memory, put, put_number};
 use mari_zones::{BorderEnds, ZoneBook};
 use std::alloc::Global;
 
-// Appends the name of a zone.
+/// Appends the name of a zone.
 fn put_zone(text: &mut Vec<u8>, zones: &ZoneBook, zone: u32) -> Result<(), Memory>
     ensures { OnOk result (text.new.items ≡ text.old.items ++ zone_at zones.now zone) }
 {
@@ -22,7 +22,7 @@ fn put_zone(text: &mut Vec<u8>, zones: &ZoneBook, zone: u32) -> Result<(), Memor
     put(text, name)
 }
 
-// Appends the names of a border's zones, with a comma between.
+/// Appends the names of a border's zones, with a comma between.
 fn put_ends(text: &mut Vec<u8>, zones: &ZoneBook, ends: BorderEnds) -> Result<(), Memory>
     ensures { OnOk result (text.new.items ≡ text.old.items ++ zone_at zones.now ends.from ++ 44 ∷ zone_at zones.now ends.to) }
 {
@@ -31,7 +31,7 @@ fn put_ends(text: &mut Vec<u8>, zones: &ZoneBook, ends: BorderEnds) -> Result<()
     put_zone(text, zones, ends.to)
 }
 
-// Appends the line of a border.
+/// Appends the line of a border.
 fn put_border(text: &mut Vec<u8>, zones: &ZoneBook, ends: BorderEnds) -> Result<(), Memory>
     ensures { OnOk result (text.new.items ≡ text.old.items ++ line_of (border_record zones.now ends)) }
 {
@@ -39,7 +39,7 @@ fn put_border(text: &mut Vec<u8>, zones: &ZoneBook, ends: BorderEnds) -> Result<
     put(text, b"\n")
 }
 
-// Appends limits, each behind a comma.
+/// Appends limits, each behind a comma.
 fn put_limits(alloc: Global, text: &mut Vec<u8>, limits: Limits) -> Result<(), Memory>
     ensures { OnOk result (text.new.items ≡ text.old.items ++ 44 ∷ decimal limits.limit ++ 44 ∷ decimal limits.back) }
 {
@@ -49,7 +49,7 @@ fn put_limits(alloc: Global, text: &mut Vec<u8>, limits: Limits) -> Result<(), M
     put_number(alloc, text, u128::from(limits.back))
 }
 
-// Appends the line of a border's limits in a run.
+/// Appends the line of a border's limits in a run.
 fn put_line(
     alloc: Global,
     text: &mut Vec<u8>,
@@ -67,7 +67,7 @@ fn put_line(
     put(text, b"\n")
 }
 
-// Appends the lines of a run: its limits of each border.
+/// Appends the lines of a run: its limits of each border.
 fn put_run(alloc: Global, text: &mut Vec<u8>, books: &Books, run: u32) -> Result<(), Memory>
     requires accepted { IsAccepted books.now }
     requires first { 1 ≤ run }
@@ -81,7 +81,7 @@ fn put_run(alloc: Global, text: &mut Vec<u8>, books: &Books, run: u32) -> Result
     Ok(())
 }
 
-// Appends the lines of borders.
+/// Appends the lines of borders.
 fn put_borders(text: &mut Vec<u8>, zones: &ZoneBook, borders: &[BorderEnds]) -> Result<(), Memory>
     ensures { OnOk result (text.new.items ≡ text.old.items ++ flat_map line_of (map (border_record zones.now) borders.now)) }
 {
@@ -91,7 +91,7 @@ fn put_borders(text: &mut Vec<u8>, zones: &ZoneBook, borders: &[BorderEnds]) -> 
     Ok(())
 }
 
-// Appends the lines of every run.
+/// Appends the lines of every run.
 fn put_runs(alloc: Global, text: &mut Vec<u8>, books: &Books) -> Result<(), Memory>
     requires { IsAccepted books.now }
     ensures { OnOk result (text.new.items ≡ text.old.items ++ flat_map line_of (flat_map (run_records books.now) (range_with_len 1 (length books.now.runs.runs)))) }

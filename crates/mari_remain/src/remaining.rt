@@ -38,7 +38,7 @@ impl Model for Remaining {
     ghost view = { λ r. record { mw = r.mw.items; direct = r.direct.items; quarter = r.quarter; flow = r.flow.items; of_quarter = r.of_quarter.items; of_run = r.of_run.items } };
 }
 
-// The quarter of each bid.
+/// The quarter of each bid.
 fn quarters_of(alloc: Global, bids: &[Bid]) -> Result<Vec<u32>, Memory>
     ensures { IfOk result (λ quarters. quarters.items ≡ map (λ (bid : TheBid). bid.quarter) bids.now) }
 {
@@ -49,7 +49,7 @@ fn quarters_of(alloc: Global, bids: &[Bid]) -> Result<Vec<u32>, Memory>
     Ok(quarters)
 }
 
-// The bids of each quarter of the day.
+/// The bids of each quarter of the day.
 fn bids_by_quarter(alloc: Global, books: &Books) -> Result<Vec<Numbers>, Memory>
     requires { IsAccepted books.now }
     ensures { IfOk result (λ index. index.items ≡ map (bids_of_quarter books.now.bids.bids) (range_with_len 0 (books.now.quarters + 1))) }
@@ -59,7 +59,7 @@ fn bids_by_quarter(alloc: Global, books: &Books) -> Result<Vec<Numbers>, Memory>
     Ok(index)
 }
 
-// The run of each demand.
+/// The run of each demand.
 fn runs_of(alloc: Global, demands: &[Demand]) -> Result<Vec<u32>, Memory>
     ensures { IfOk result (λ runs. runs.items ≡ map (λ (demand : TheDemand). demand.run) demands.now) }
 {
@@ -70,7 +70,7 @@ fn runs_of(alloc: Global, demands: &[Demand]) -> Result<Vec<u32>, Memory>
     Ok(runs)
 }
 
-// The demands of each run of the day.
+/// The demands of each run of the day.
 fn demands_by_run(alloc: Global, books: &Books) -> Result<Vec<Numbers>, Memory>
     requires { IsAccepted books.now }
     ensures { IfOk result (λ index. index.items ≡ map (numbers_of_run books.now.demands.demands) (range_with_len 0 (length books.now.runs.runs + 1))) }

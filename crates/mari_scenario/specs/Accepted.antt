@@ -35,9 +35,9 @@ date_text = codes "2025-03-12"
 abbrev pub rule_text : List ℕ
 rule_text = codes "UTC0"
 
--- the day's page has one record, of a date and a rule by which the day has 96 quarter hours; each other file's grammar accepts its
--- page, with the books of the files before it; the borders' is of the form that states the limits itself; and so many zones, borders,
--- bids and runs are there, with at most eight gated bids in a quarter
+-- the day's page has one record, of a date and a rule by which the day has 96 quarter hours; each other file's grammar
+-- accepts its page, with the books of the files before it; the borders' is of the form that states the limits itself;
+-- and so many zones, borders, bids and runs are there, with at most eight gated bids in a quarter
 pub record AreAccepted (pages : Pages) : Type 0 where
   pub zones : ZoneBook
   pub borders : BorderBook

@@ -59,7 +59,8 @@ direction up = if up then codes "up" else codes "down"
 abbrev pub kind : Bool → List ℕ
 kind both = if both then codes "both" else codes "scheduled"
 
--- what the draws of a bid give, from the state before them: its direction, its price in cents, its greatest quantity and its kind
+-- what the draws of a bid give, from the state before them: its direction, its price in cents, its greatest quantity
+-- and its kind
 abbrev pub is_up : ℕ → Bool
 is_up x = nat_lt (draw 2 4 x) 3
 

@@ -33,7 +33,7 @@ fn number_1_has_960_bids_24_runs_and_192_demands(rt: HostRuntime) -> Result<(), 
     Ok(())
 }
 
-// The draws run on through the files, so the last line of each tells of all before it.
+/// The draws run on through the files, so the last line of each tells of all before it.
 #[test]
 fn files_of_number_1_begin_and_end_as_its_draws_say(rt: HostRuntime) -> Result<(), Fail> {
     let pages = scenario_pages(rt.alloc(), 1)?;

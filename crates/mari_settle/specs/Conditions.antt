@@ -39,8 +39,8 @@ pub record HasFlows (m : Market) (a : Activation) : Type 0 where
   pub one_each : length a.flow ≡ length m.borders
   pub within : AllZip IsWithinLimits m.borders a.flow
 
--- what operators' lines are made of: a valid market, each of whose zones has an operator and a price within the cap, and
--- flows within the borders' limits
+-- what operators' lines are made of: a valid market, each of whose zones has an operator and a price within the cap,
+-- and flows within the borders' limits
 pub record Settles (zones : ZoneBook) (m : Market) (a : Activation) (ps : List Cents) : Type 0 where
   pub market : IsValid m
   pub operators : length zones.operator_of ≡ m.zones

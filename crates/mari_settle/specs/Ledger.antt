@@ -1,4 +1,5 @@
--- The ledger of a run: the rents of its borders, and what operators and providers get for the energy that they exchange.
+-- The ledger of a run: the rents of its borders, and what operators and providers get for the energy that they
+-- exchange.
 use Rattle.std.specs.Prelude.{int_le, ◌==◌, if◌then◌else◌, Bool, true, false, ℕ, ℤ, pos, neg_ℤ, ◌+ℤ◌, ◌-ℤ◌, ◌*ℤ◌, List, length, map, slice_get, slice_index, Option, Some, None}
 use Rattle.std.specs.Int.{int_div_euclid}
 use Rattle.std.specs.List.{range_with_len}
@@ -31,8 +32,8 @@ half_of rent = int_div_euclid rent (pos 2)
 abbrev pub operator_at : ZoneBook → ℕ → ℕ
 operator_at zones z = slice_index zones.operator_of z
 
--- what one operator gets of a rent: as the operator of the border's first zone the half with an odd quarter-cent, as that of
--- its second zone the half without, as that of both the whole
+-- what one operator gets of a rent: as the operator of the border's first zone the half with an odd quarter-cent, as
+-- that of its second zone the half without, as that of both the whole
 abbrev pub share_of : (first second operator : ℕ) → ℤ → ℤ
 share_of first second operator rent =
     (if first == operator then rent -ℤ half_of rent else pos 0) +ℤ (if second == operator then half_of rent else pos 0)
@@ -78,7 +79,8 @@ abbrev pub earned : Bool → ℤ → ℕ → ℤ
 earned true p q = p *ℤ pos q
 earned false p q = neg_ℤ (p *ℤ pos q)
 
--- the price that a bid is paid at, of the run's and the scheduled one: an upward bid at the greater, a downward bid at the lesser
+-- the price that a bid is paid at, of the run's and the scheduled one: an upward bid at the greater, a downward bid at
+-- the lesser
 abbrev pub paid_at : Bool → (own scheduled : ℤ) → ℤ
 paid_at true own scheduled = if int_le own scheduled then scheduled else own
 paid_at false own scheduled = if int_le own scheduled then own else scheduled
@@ -88,7 +90,8 @@ abbrev pub scheduled_or : List Cents → Option (List Cents) → List Cents
 scheduled_or ps None = ps
 scheduled_or ps (Some scheduled) = scheduled
 
--- what q MW of the bid earn a provider at these prices of the run and its quarter's scheduled ones: nothing where the bid is another's
+-- what q MW of the bid earn a provider at these prices of the run and its quarter's scheduled ones: nothing where the
+-- bid is another's
 abbrev pub bid_amount : (ps scheduled : List Cents) → ℕ → Option Bid → ℕ → ℤ
 bid_amount ps scheduled provider None q = pos 0
 bid_amount ps scheduled provider (Some bid) q =

@@ -8,7 +8,7 @@ ghost use Rattle.mari_settle.specs.Lines.{lines_together, map_along, together};
 use crate::ledger::{Ledger, OperatorLine};
 use mari_units::Quarters;
 
-// The sum of two amounts.
+/// The sum of two amounts.
 fn sum_of(amount: Quarters, other: Quarters) -> Quarters
     requires { AddUp amount other }
     ensures { result ≡ together amount other }
@@ -16,7 +16,7 @@ fn sum_of(amount: Quarters, other: Quarters) -> Quarters
     Quarters(amount.0 + other.0)
 }
 
-// The sum of two lines of one operator.
+/// The sum of two lines of one operator.
 fn sum_of_lines(line: OperatorLine, other: OperatorLine) -> OperatorLine
     requires { LinesAddUp line other }
     ensures { result ≡ lines_together line other }
@@ -27,7 +27,7 @@ fn sum_of_lines(line: OperatorLine, other: OperatorLine) -> OperatorLine
     }
 }
 
-// Adds to each amount the other one at its place.
+/// Adds to each amount the other one at its place.
 fn add_amounts(amounts: &mut [Quarters], others: &[Quarters])
     requires { AllZip AddUp amounts.old others.now }
     ensures { amounts.new ≡ map_along together amounts.old others.now }
@@ -37,7 +37,7 @@ fn add_amounts(amounts: &mut [Quarters], others: &[Quarters])
     }
 }
 
-// Adds to each line the other one at its place.
+/// Adds to each line the other one at its place.
 fn add_lines(lines: &mut [OperatorLine], others: &[OperatorLine])
     requires { AllZip LinesAddUp lines.old others.now }
     ensures { lines.new ≡ map_along lines_together lines.old others.now }

@@ -14,7 +14,7 @@ use mari_market::{Activation, Border, Market, worth};
 use mari_units::{Cents, MOST_ZONES, Quarters};
 use mari_zones::ZoneBook;
 
-// Half of a rent, rounded down to a quarter-cent.
+/// Half of a rent, rounded down to a quarter-cent.
 fn lesser_half(rent: i128) -> i128
     requires { unsigned_abs rent ≤ 4000000000000 }
     ensures value { result ≡ half_of rent }
@@ -23,7 +23,7 @@ fn lesser_half(rent: i128) -> i128
     rent.div_euclid(2)
 }
 
-// The other half, with an odd quarter-cent.
+/// The other half, with an odd quarter-cent.
 fn greater_half(rent: i128) -> i128
     requires { unsigned_abs rent ≤ 4000000000000 }
     ensures value { result ≡ rent -ℤ half_of rent }
@@ -32,7 +32,7 @@ fn greater_half(rent: i128) -> i128
     rent - lesser_half(rent)
 }
 
-// A part of a rent for one to whom it is due, and nothing for another.
+/// A part of a rent for one to whom it is due, and nothing for another.
 fn part_if(due: bool, part: i128) -> i128
     requires { unsigned_abs part ≤ 4000000000000 }
     ensures value { result ≡ (if due then part else pos 0) }
@@ -41,7 +41,7 @@ fn part_if(due: bool, part: i128) -> i128
     if due { part } else { 0 }
 }
 
-// What an operator gets of a rent, where it operates the border's first zone, its second one, or both.
+/// What an operator gets of a rent, where it operates the border's first zone, its second one, or both.
 fn share(first: bool, second: bool, rent: i128) -> i128
     requires { unsigned_abs rent ≤ 4000000000000 }
     ensures value { result ≡ (if first then rent -ℤ half_of rent else pos 0) +ℤ (if second then half_of rent else pos 0) }
@@ -50,7 +50,7 @@ fn share(first: bool, second: bool, rent: i128) -> i128
     part_if(first, greater_half(rent)) + part_if(second, lesser_half(rent))
 }
 
-// The operator of a zone.
+/// The operator of a zone.
 fn operator_of(zones: &ZoneBook, zone: u32) -> usize
     requires { zone < length zones.now.operator_of }
     ensures { result ≡ operator_at zones.now zone }
@@ -58,7 +58,7 @@ fn operator_of(zones: &ZoneBook, zone: u32) -> usize
     zones.operator_of.as_slice()[zone as usize] as usize
 }
 
-// What an operator gets of the rent of a border.
+/// What an operator gets of the rent of a border.
 fn share_of_border(
     zones: &ZoneBook,
     border: &Border,
@@ -78,7 +78,7 @@ fn share_of_border(
     share(first, second, rent_of(border, flow, prices))
 }
 
-// An operator's part of the rents of all borders.
+/// An operator's part of the rents of all borders.
 fn operator_rent(
     zones: &ZoneBook,
     market: &Market,
@@ -98,7 +98,7 @@ fn operator_rent(
     total
 }
 
-// What a flow brings into a zone.
+/// What a flow brings into a zone.
 fn carried_in(zone: u32, border: &Border, flow: i64) -> i64
     requires border { IsValidBorder MOST_ZONES border.now }
     requires flow { IsWithinLimits border.now flow }
@@ -110,7 +110,7 @@ fn carried_in(zone: u32, border: &Border, flow: i64) -> i64
     inward - outward
 }
 
-// The flows that enter a zone less those that leave it.
+/// The flows that enter a zone less those that leave it.
 fn net_import(market: &Market, activation: &Activation, zone: u32) -> i64
     requires market { IsValid market.now }
     requires flows { HasFlows market.now activation.now }
@@ -125,7 +125,7 @@ fn net_import(market: &Market, activation: &Activation, zone: u32) -> i64
     total
 }
 
-// What the energy that a zone takes in is worth.
+/// What the energy that a zone takes in is worth.
 fn import_worth(market: &Market, activation: &Activation, prices: &[Cents], zone: u32) -> i128
     requires market { IsValid market.now }
     requires flows { HasFlows market.now activation.now }
@@ -140,7 +140,7 @@ fn import_worth(market: &Market, activation: &Activation, prices: &[Cents], zone
     )
 }
 
-// What an operator pays for the energy that a zone takes in: nothing where the zone is another's.
+/// What an operator pays for the energy that a zone takes in: nothing where the zone is another's.
 fn payment_for(
     zones: &ZoneBook,
     market: &Market,
@@ -161,7 +161,7 @@ fn payment_for(
     }
 }
 
-// What an operator pays for the energy that its zones take in.
+/// What an operator pays for the energy that its zones take in.
 fn operator_payment(
     zones: &ZoneBook,
     market: &Market,
@@ -180,7 +180,7 @@ fn operator_payment(
     total
 }
 
-// Writes each operator's line.
+/// Writes each operator's line.
 pub(crate) fn write_lines(
     lines: &mut [OperatorLine],
     zones: &ZoneBook,

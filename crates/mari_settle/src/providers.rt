@@ -13,8 +13,8 @@ use mari_bids::{Bid, BidBook};
 use mari_market::{Activation, MOST_ORDERS, worth};
 use mari_units::{Cents, MOST_MW, Quarters};
 
-// The price that a bid is paid at: an upward one at the greater of the run's and the scheduled one, a downward one at
-// the lesser.
+/// The price that a bid is paid at: an upward one at the greater of the run's and the scheduled one, a downward one at
+/// the lesser.
 fn paid_price(bid: &Bid, prices: &[Cents], scheduled: &[Cents]) -> i64
     requires zone { bid.now.zone < length prices.now }
     requires lengths { length scheduled.now ≡ length prices.now }
@@ -34,7 +34,7 @@ fn paid_price(bid: &Bid, prices: &[Cents], scheduled: &[Cents]) -> i64
     }
 }
 
-// What so many MW of a bid earn its provider.
+/// What so many MW of a bid earn its provider.
 fn earned(bid: &Bid, mw: u32, prices: &[Cents], scheduled: &[Cents]) -> i128
     requires zone { bid.now.zone < length prices.now }
     requires lengths { length scheduled.now ≡ length prices.now }
@@ -48,7 +48,7 @@ fn earned(bid: &Bid, mw: u32, prices: &[Cents], scheduled: &[Cents]) -> i128
     if bid.up { worth } else { -worth }
 }
 
-// Sets each amount to 0.
+/// Sets each amount to 0.
 fn clear(amounts: &mut [Quarters])
     ensures lengths { length amounts.new ≡ length amounts.old }
     ensures cleared { (k : ℕ) → amount_at amounts.new k ≡ pos 0 }
@@ -58,7 +58,7 @@ fn clear(amounts: &mut [Quarters])
     }
 }
 
-// Adds to the amount of one provider.
+/// Adds to the amount of one provider.
 fn pay(amounts: &mut [Quarters], provider: u32, amount: i128)
     requires provider { provider < length amounts.old }
     requires so_far { unsigned_abs (amount_at amounts.old provider) ≤ 10 ^ 17 }
@@ -69,7 +69,7 @@ fn pay(amounts: &mut [Quarters], provider: u32, amount: i128)
     amounts[provider as usize].0 += amount;
 }
 
-// Pays each provider what its bids among these earn it.
+/// Pays each provider what its bids among these earn it.
 fn pay_all(
     amounts: &mut [Quarters],
     bids: &BidBook,
@@ -97,7 +97,7 @@ fn pay_all(
     }
 }
 
-// Writes each provider's amount.
+/// Writes each provider's amount.
 pub(crate) fn write_amounts(
     amounts: &mut [Quarters],
     bids: &BidBook,

@@ -11,7 +11,7 @@ ghost use Rattle.mari_settle.specs.Ledger.{rent_of as rent_at, rents_of};
 use mari_market::{Activation, Border, Market, worth};
 use mari_units::{Cents, Quarters};
 
-// A zone's price.
+/// A zone's price.
 pub(crate) fn price_of(prices: &[Cents], zone: u32) -> i64
     requires zone { zone < length prices.now }
     requires prices { All IsCapped prices.now }
@@ -21,7 +21,7 @@ pub(crate) fn price_of(prices: &[Cents], zone: u32) -> i64
     prices[zone as usize].0
 }
 
-// How much dearer a border's second zone is than its first.
+/// How much dearer a border's second zone is than its first.
 fn gap_of(border: &Border, prices: &[Cents]) -> i64
     requires border { IsValidBorder (length prices.now) border.now }
     requires prices { All IsCapped prices.now }
@@ -31,7 +31,7 @@ fn gap_of(border: &Border, prices: &[Cents]) -> i64
     price_of(prices, border.to) - price_of(prices, border.from)
 }
 
-// A border's rent.
+/// A border's rent.
 pub(crate) fn rent_of(border: &Border, flow: i64, prices: &[Cents]) -> i128
     requires border { IsValidBorder (length prices.now) border.now }
     requires prices { All IsCapped prices.now }
@@ -42,7 +42,7 @@ pub(crate) fn rent_of(border: &Border, flow: i64, prices: &[Cents]) -> i128
     worth(Cents(gap_of(border, prices)), flow)
 }
 
-// Writes each border's rent.
+/// Writes each border's rent.
 pub(crate) fn write_rents(
     rents: &mut [Quarters],
     market: &Market,

@@ -18,7 +18,7 @@ use mari_market::{Activation, Market, Prices};
 use mari_units::Cents;
 use mari_zones::ZoneBook;
 
-// The scheduled prices, or where there are none these.
+/// The scheduled prices, or where there are none these.
 fn scheduled_or<'a>(prices: &'a [Cents], also: Option<&'a Prices>) -> &'a [Cents]
     ensures prices { result.now ≡ scheduled_or_in prices.now (option_map (λ scheduled. scheduled.now.cents) also.entry) }
     ensures capped { All IsCapped prices.now → IfSome also.entry (λ scheduled. All IsCapped scheduled.now.cents) → All IsCapped result.now }

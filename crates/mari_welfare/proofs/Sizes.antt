@@ -26,7 +26,8 @@ constant : {X : Type 0} (xs : List X) → int_sum (λ (x : X). pos (9999900 * 99
 constant [] = refl
 constant (x ∷ xs) = omega (arith, ints, constant xs)
 
--- the welfare of a feasible activation is at most what all orders gain at their greatest quantities and the greatest price
+-- the welfare of a feasible activation is at most what all orders gain at their greatest quantities and the greatest
+-- price
 pub welfare_at_most : (m : Market) (a : Activation) → IsValid m → IsFeasible m a → welfare_of m a ≤ℤ pos (9999900 * 99999 * 4608)
 welfare_at_most m a v f =
     let each = sum_along-le order_gain (λ (o : Order). pos (9999900 * 99999)) (λ (o : Order) (q : ℕ). IsValidOrder m.zones (length m.gates) o × IsWithin (own_bounds m a o) q)

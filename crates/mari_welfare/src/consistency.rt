@@ -14,7 +14,7 @@ use crate::gates::OpenGates;
 use mari_market::{Activation, Border, Market, Order, Prices, Standing};
 use mari_units::Cents;
 
-// The standing of an order where these gates are open.
+/// The standing of an order where these gates are open.
 fn standing_of_order(opened: &OpenGates, order: &Order) -> Standing
     ensures { result ≡ standing_of (opens_in opened.now) order.now.gate }
 {
@@ -25,7 +25,7 @@ fn standing_of_order(opened: &OpenGates, order: &Order) -> Standing
     }
 }
 
-// Whether what an order runs is consistent with a price.
+/// Whether what an order runs is consistent with a price.
 fn is_consistent_trade(standing: Standing, order: &Order, mw: u32, price: Cents) -> bool
     ensures { IsTrue result ↔ IsConsistentTrade standing order.now.side order.now.price.0 order.now.greatest mw price.0 }
 {
@@ -35,7 +35,7 @@ fn is_consistent_trade(standing: Standing, order: &Order, mw: u32, price: Cents)
     !(order.sets_upper(standing, mw) && order.price.0 < price.0)
 }
 
-// Whether what an order runs is consistent with its zone's price.
+/// Whether what an order runs is consistent with its zone's price.
 fn is_consistent_order(opened: &OpenGates, order: &Order, mw: u32, prices: &[Cents]) -> bool
     requires { order.now.zone < length prices.now }
     ensures { IsTrue result ↔ IsConsistentOrder (opens_in opened.now) prices.now order.now mw }
@@ -57,7 +57,7 @@ fn orders_agree(opened: &OpenGates, orders: &[Order], mw: &[u32], prices: &[Cent
     true
 }
 
-// Whether a zone's price is at most another's.
+/// Whether a zone's price is at most another's.
 fn is_no_dearer(prices: &[Cents], zone: u32, than: u32) -> bool
     requires zone { zone < length prices.now }
     requires than { than < length prices.now }
@@ -66,7 +66,7 @@ fn is_no_dearer(prices: &[Cents], zone: u32, than: u32) -> bool
     prices[zone as usize].0 <= prices[than as usize].0
 }
 
-// Whether a border that could carry more leads to no dearer zone.
+/// Whether a border that could carry more leads to no dearer zone.
 fn keeps_more(border: &Border, flow: i64, prices: &[Cents]) -> bool
     requires { IsValidBorder (length prices.now) border.now }
     ensures { IsTrue result ↔ (HasRoomOn border.now flow → price_at prices.now border.now.to ≤ℤ price_at prices.now border.now.from) }
@@ -74,7 +74,7 @@ fn keeps_more(border: &Border, flow: i64, prices: &[Cents]) -> bool
     !border.has_room_on(flow) || is_no_dearer(prices, border.to, border.from)
 }
 
-// Whether a border that could carry less leads to no cheaper zone.
+/// Whether a border that could carry less leads to no cheaper zone.
 fn keeps_less(border: &Border, flow: i64, prices: &[Cents]) -> bool
     requires { IsValidBorder (length prices.now) border.now }
     ensures { IsTrue result ↔ (HasRoomBack border.now flow → price_at prices.now border.now.from ≤ℤ price_at prices.now border.now.to) }
@@ -82,7 +82,7 @@ fn keeps_less(border: &Border, flow: i64, prices: &[Cents]) -> bool
     !border.has_room_back(flow) || is_no_dearer(prices, border.from, border.to)
 }
 
-// Whether the prices at a border's ends are consistent with its flow.
+/// Whether the prices at a border's ends are consistent with its flow.
 fn is_consistent_border(border: &Border, flow: i64, prices: &[Cents]) -> bool
     requires { IsValidBorder (length prices.now) border.now }
     ensures { IsTrue result ↔ IsConsistentBorder prices.now border.now flow }

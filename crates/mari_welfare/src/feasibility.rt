@@ -15,7 +15,7 @@ use crate::gates::{OpenGates, keep_gate_rules};
 use mari_market::{Activation, Border, MOST_ORDERS, Market, Order, Side};
 use mari_units::{MOST_BORDERS, MOST_ZONES};
 
-// Whether an order runs within its bounds.
+/// Whether an order runs within its bounds.
 fn is_within(opened: &OpenGates, order: &Order, mw: u32) -> bool
     ensures { IsTrue result ↔ IsWithin (bounds_by (opens_in opened.now) order.now) mw }
 {
@@ -38,7 +38,7 @@ fn orders_fit(opened: &OpenGates, orders: &[Order], mw: &[u32]) -> bool
     true
 }
 
-// Whether a flow is within its border's limits.
+/// Whether a flow is within its border's limits.
 fn is_within_limits(border: &Border, flow: i64) -> bool
     ensures { IsTrue result ↔ IsWithinLimits border.now flow }
 {
@@ -57,7 +57,7 @@ fn flows_fit(borders: &[Border], flow: &[i64]) -> bool
     true
 }
 
-// Adds to what is left over in a zone.
+/// Adds to what is left over in a zone.
 fn add_to(left: &mut [i128; MOST_ZONES], zone: u32, mw: i128)
     requires zone { zone < MOST_ZONES }
     requires so_far { unsigned_abs (left_in left.old zone) ≤ 2 ^ 80 }
@@ -67,7 +67,7 @@ fn add_to(left: &mut [i128; MOST_ZONES], zone: u32, mw: i128)
     left[zone as usize] += mw;
 }
 
-// What an order puts into its zone.
+/// What an order puts into its zone.
 fn put_in(order: &Order, mw: u32) -> i128
     ensures value { result ≡ put_in order.now.side mw }
     ensures small { unsigned_abs result ≤ 2 ^ 32 }
@@ -78,7 +78,7 @@ fn put_in(order: &Order, mw: u32) -> i128
     }
 }
 
-// Injections less withdrawals of each zone.
+/// Injections less withdrawals of each zone.
 fn net_injections(orders: &[Order], mw: &[u32]) -> [i128; MOST_ZONES]
     requires few { length orders.now ≤ MOST_ORDERS }
     requires lengths { length mw.now ≡ length orders.now }
@@ -93,7 +93,7 @@ fn net_injections(orders: &[Order], mw: &[u32]) -> [i128; MOST_ZONES]
     left
 }
 
-// Takes a flow from what is left over in the zone that it leaves, and adds it to the zone that it enters.
+/// Takes a flow from what is left over in the zone that it leaves, and adds it to the zone that it enters.
 fn carry(left: &mut [i128; MOST_ZONES], border: &Border, flow: i64)
     requires from { border.now.from < MOST_ZONES }
     requires to { border.now.to < MOST_ZONES }
@@ -105,7 +105,7 @@ fn carry(left: &mut [i128; MOST_ZONES], border: &Border, flow: i64)
     add_to(left, border.to, i128::from(flow));
 }
 
-// Takes the flows that leave each zone from what is left over there, and adds those that enter it.
+/// Takes the flows that leave each zone from what is left over there, and adds those that enter it.
 fn take_outflows(left: &mut [i128; MOST_ZONES], borders: &[Border], flow: &[i64])
     requires few { length borders.now ≤ MOST_BORDERS }
     requires lengths { length flow.now ≡ length borders.now }
@@ -118,7 +118,7 @@ fn take_outflows(left: &mut [i128; MOST_ZONES], borders: &[Border], flow: &[i64]
     }
 }
 
-// Whether nothing is left over in the first zones.
+/// Whether nothing is left over in the first zones.
 fn is_nothing_left(left: &[i128; MOST_ZONES], zones: u32) -> bool
     requires { zones ≤ MOST_ZONES }
     ensures { IsTrue result ↔ ((z : ℕ) → z < zones → left_in left.now z ≡ pos 0) }
@@ -131,7 +131,7 @@ fn is_nothing_left(left: &[i128; MOST_ZONES], zones: u32) -> bool
     true
 }
 
-// Whether each of so many zones is in balance.
+/// Whether each of so many zones is in balance.
 fn is_balanced(zones: u32, orders: &[Order], mw: &[u32], borders: &[Border], flow: &[i64]) -> bool
     requires zones { zones ≤ MOST_ZONES }
     requires few_orders { length orders.now ≤ MOST_ORDERS }
@@ -147,7 +147,7 @@ fn is_balanced(zones: u32, orders: &[Order], mw: &[u32], borders: &[Border], flo
     is_nothing_left(&left, zones)
 }
 
-// Whether there are one quantity for each order and one flow for each border.
+/// Whether there are one quantity for each order and one flow for each border.
 pub(crate) fn has_lengths(market: &Market, activation: &Activation) -> bool
     ensures { IsTrue result ↔ HasLengths market.now activation.now }
 {

@@ -47,7 +47,7 @@ impl OpenGates {
         }
     }
 
-    // The gates of which some order runs.
+    /// The gates of which some order runs.
     pub(crate) fn of(orders: &[Order], mw: &[u32]) -> OpenGates
         requires lengths { length mw.now ≡ length orders.now }
         requires gates { All IsOfFewGates orders.now }
@@ -91,7 +91,7 @@ fn parent_of(gates: &[GateInfo], gate: usize) -> Option<u32>
     gates[gate].parent
 }
 
-// Whether another gate of the group is open.
+/// Whether another gate of the group is open.
 fn is_rival(gates: &[GateInfo], opened: &OpenGates, place: usize, group: u32, other: usize) -> bool
     requires few { length gates.now ≤ MOST_GATES }
     requires there { other < length gates.now }
@@ -112,7 +112,7 @@ fn is_alone_in(gates: &[GateInfo], opened: &OpenGates, place: usize, group: u32)
     true
 }
 
-// Whether no other gate of the gate's group is open.
+/// Whether no other gate of the gate's group is open.
 fn is_alone(gates: &[GateInfo], opened: &OpenGates, place: usize) -> bool
     requires few { length gates.now ≤ MOST_GATES }
     requires there { place < length gates.now }
@@ -133,7 +133,7 @@ fn keeps_rules_at(gates: &[GateInfo], opened: &OpenGates, place: usize) -> bool
         || (has_open_parent(opened, parent_of(gates, place)) && is_alone(gates, opened, place))
 }
 
-// Whether the open gates keep the rules of parents and groups.
+/// Whether the open gates keep the rules of parents and groups.
 pub(crate) fn keep_gate_rules(gates: &[GateInfo], opened: &OpenGates) -> bool
     requires few { length gates.now ≤ MOST_GATES }
     ensures { IsTrue result ↔ KeepsGateRules gates.now (opens_in opened.now) }

@@ -6,8 +6,8 @@ use Rattle.mari_words.specs.declared.command.FilePart.{FilePart}
 use Rattle.mari_words.specs.declared.asking.Asked.{Asked as Lent}
 use Rattle.mari_words.specs.declared.asking.Asked.TheVariants as lent
 
--- a folder to clear, with how many nodes each run's search may make and how many workers; a folder to check; the number of a
--- generated day; and a folder of which a file's new form is printed
+-- a folder to clear, with how many nodes each run's search may make and how many workers; a folder to check; the number
+-- of a generated day; and a folder of which a file's new form is printed
 pub data Asked : Type 0 where
   Clear : (folder : List ℕ) (nodes workers : ℕ) → Asked
   Check : (folder : List ℕ) → Asked

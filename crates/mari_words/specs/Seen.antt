@@ -16,8 +16,8 @@ pub data Choice : Type 0 where
   Nodes : Choice
   Workers : Choice
 
--- what some words have given: those that belong to no option, the options' values, the option whose value comes next, and
--- whether `--` has come
+-- what some words have given: those that belong to no option, the options' values, the option whose value comes next,
+-- and whether `--` has come
 pub record Seen : Type 0 where
   pub words : List Text
   pub nodes : Option Text

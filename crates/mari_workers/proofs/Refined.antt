@@ -1,4 +1,5 @@
--- The ends of a walk that refines: a clearing of the first activation, or a part of the search tree that the budget can't extend.
+-- The ends of a walk that refines: a clearing of the first activation, or a part of the search tree that the budget
+-- can't extend.
 use Rattle.std.proofs.Common.{◌≡◌, inl, inr, Bool, ℕ, suc, ◌+◌, ◌<◌, ◌≤◌, ℤ, pos, ◌≤ℤ◌, List, [], ◌∷◌, ◌++◌, length, map, reverse, Some, None, arith, refl, sym, ap, subst, ◌∙◌, length-append}
 use Rattle.std.specs.Prelude.{Contains}
 use Rattle.std.proofs.lemmas.Int.{ints}
@@ -130,7 +131,8 @@ crowded_spends m aim x done left whole items v h e f =
 
 -- ---- at the closed welfare
 
--- a clearing of the closed welfare opens no gate, where it comes from one that opens none or has more than the closed welfare
+-- a clearing of the closed welfare opens no gate, where it comes from one that opens none or has more than the closed
+-- welfare
 closed_by : (m : Market) (budget : ℕ) (found c : Clearing) → MayRefine m budget found → IsClearing m budget c → IsClosedWelfare m (pos c.welfare) → gate_word_of m c.activation ≡ all_closed m
 closed_by m budget found c h k w = elim h.above [
   | inl e ↦ one_first_word m c.activation found.activation k.first (closed_is_first m found.activation h.clearing.optimal e) ∙ e

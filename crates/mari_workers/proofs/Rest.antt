@@ -57,7 +57,8 @@ clearing_by_tree m budget c a valid at same w holds within =
       within_budget = within;
     }
 
--- the optimal clearing may be refined: it is that of the first activation, which opens no gate, or has more than its welfare
+-- the optimal clearing may be refined: it is that of the first activation, which opens no gate, or has more than its
+-- welfare
 pub refinable : (m : Market) (budget first offered : ℕ) (best : Option Attained) (a : Attained) (c : Clearing) → IsOptimalClearing m budget c → ArePartsOfSearch m ([] ∷ []) (map shape_of c.tree) → IsClosedWelfare m (pos first) → gate_word_of m a.activation ≡ all_closed m → IsBest m first offered best → c.activation ≡ (unwrap_or best a).activation → c.welfare ≡ (unwrap_or best a).welfare → MayRefine m budget c
 refinable m budget first offered None a c clearing parts closed gates h same w = record {
   clearing = clearing;

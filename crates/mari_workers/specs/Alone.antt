@@ -14,8 +14,8 @@ use Rattle.mari_core.specs.Nodes.{state_at}
 use Rattle.mari_pool.specs.Pooled.{taken_among}
 use Rattle.mari_pool.specs.Queued.{Queued, child_key, IsQueueOf}
 
--- a search of the market between two visits, with the queue of its nodes, none of which is taken; it began with an activation
--- that opens no gate
+-- a search of the market between two visits, with the queue of its nodes, none of which is taken; it began with an
+-- activation that opens no gate
 pub record IsUnderWay (m : Market) (s : Machine) (q : Queued) : Type 0 where
   pub market : s.tree.market ≡ m
   pub facts : KeepsFacts s
@@ -44,7 +44,8 @@ after_offer s (Some best) = after s (Offer 0 best)
 abbrev pub visited : Machine → ℕ → Finding → Machine
 visited s x finding = after (after_offer (after s (Take 0 x)) (best_in finding)) (Settle 0 x finding)
 
--- the search has visited the node of this number and word, with what may be found there, and this is the key of its children
+-- the search has visited the node of this number and word, with what may be found there, and this is the key of its
+-- children
 pub record IsVisited (m : Market) (old new : Machine) (x : ℕ) (word : List Bool) (key : ℕ) : Type 0 where
   pub finding : Finding
   pub is_finding : IsFinding m word finding

@@ -31,8 +31,8 @@ use Rattle.mari_workers.specs.declared.refining.Turn.TheVariants.{On, Full, Yiel
 use Rattle.mari_workers.specs.declared.refining.Walk.{Walk}
 use Rattle.mari_units.specs.declared.limits.TheConstants.{MOST_NODES}
 
--- what may be refined: an optimal clearing with a tree of nodes of the search tree, which opens no gate or has more than the
--- closed welfare
+-- what may be refined: an optimal clearing with a tree of nodes of the search tree, which opens no gate or has more
+-- than the closed welfare
 pub record MayRefine (m : Market) (budget : ℕ) (c : Clearing) : Type 0 where
   pub clearing : IsOptimalClearing m budget c
   pub nodes : ArePartsOfSearch m ([] ∷ []) (map shape_of c.tree)
@@ -52,8 +52,8 @@ ClosesAtClosed m (Published c) = IsClosedWelfare m (pos c.welfare) → gate_word
 ClosesAtClosed m (Spent s) = ⊤
 ClosesAtClosed m Memory = ⊤
 
--- what is aimed at: the optimal welfare, and gate words that come before this one, which opens no gate unless the welfare is
--- more than the closed welfare
+-- what is aimed at: the optimal welfare, and gate words that come before this one, which opens no gate unless the
+-- welfare is more than the closed welfare
 pub record IsAim (m : Market) (aim : Aim) : Type 0 where
   pub budget : aim.budget ≤ MOST_NODES
   pub word : IsFeasiblePrefix m aim.word
@@ -62,7 +62,8 @@ pub record IsAim (m : Market) (aim : Aim) : Type 0 where
   pub is_closed : IsClosedWelfare m (pos closed)
   pub above : (word_of aim.word ≡ all_closed m) ⊎ (closed < aim.welfare)
 
--- an early leaf below which an optimal activation may lie: it holds at the welfare, and its relaxed welfare is at least that
+-- an early leaf below which an optimal activation may lie: it holds at the welfare, and its relaxed welfare is at least
+-- that
 pub record IsToBranch (m : Market) (w : ℕ) (gates word : List Bool) (leaf : LeafRecord) : Type 0 where
   pub holds : LeafHolds m (pos w) word leaf
   pub early : IsEarly gates word
@@ -110,8 +111,8 @@ pub record IsOldLeaf (m : Market) (w : ℕ) (word : List Bool) (leaf : LeafRecor
   pub holds : LeafHolds m (pos w) word leaf
   pub node : IsNode m word
 
--- a walk through a tree: the items so far are parts of it that hold for the gate word, and those that are left, the next at
--- the end, are the parts of the next prefix and of the words that wait behind it, and hold at the welfare
+-- a walk through a tree: the items so far are parts of it that hold for the gate word, and those that are left, the
+-- next at the end, are the parts of the next prefix and of the words that wait behind it, and hold at the welfare
 pub record IsWalk (m : Market) (aim : Aim) (done left : List TreeItem) (next : Option Prefix) : Type 0 where
   pub before : LeavesWords m (IsNewLeaf m aim.welfare (word_of aim.word)) ([] ∷ []) done (left_at m.gates next)
   pub behind : AreParts m (IsOldLeaf m aim.welfare) (left_at m.gates next) (reverse left)

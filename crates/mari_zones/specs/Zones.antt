@@ -55,7 +55,8 @@ zone_columns = codes "zone,operator"
 abbrev pub zone_grammar : Grammar ZoneBook
 zone_grammar = record { columns = zone_columns; line_checks = zone_checks; file_checks = zone_file_checks; book = zone_book }
 
--- what holds of every book of zones that is read: 1 to 64 zones, each with a name of its own and an operator, which has a name
+-- what holds of every book of zones that is read: 1 to 64 zones, each with a name of its own and an operator, which has
+-- a name
 pub record IsZoneBook (book : ZoneBook) : Type 0 where
   pub some : 1 ≤ length book.zones
   pub few : length book.zones ≤ MOST_ZONES

@@ -16,7 +16,7 @@ use std::alloc::Global;
 
 const COLUMNS: &str = "from,to,limit,back";
 
-// The columns of version 2, where limits are stated for each run.
+/// The columns of version 2, where limits are stated for each run.
 const BARE_COLUMNS: &str = "from,to";
 
 /// A check of borders.csv.
@@ -90,7 +90,7 @@ pub fn version_of(alloc: Global, borders: &[u8]) -> Result<u8, Memory>
     }
 }
 
-// The columns of a version.
+/// The columns of a version.
 #[tactic(auto, unfolding(crate::specs::Borders::bare_columns, crate::specs::Borders::border_columns))]
 fn columns_of(version: u8) -> &'static str
     ensures { result.now ≡ columns_in version }
@@ -98,7 +98,7 @@ fn columns_of(version: u8) -> &'static str
     if version == 2 { BARE_COLUMNS } else { COLUMNS }
 }
 
-// The limit that a field writes, which is 0 in version 2.
+/// The limit that a field writes, which is 0 in version 2.
 fn limit_of(version: u8, text: &[u8]) -> Option<u32>
     ensures { result ≡ limit_in version text.now }
 {
@@ -109,7 +109,7 @@ fn limit_of(version: u8, text: &[u8]) -> Option<u32>
     }
 }
 
-// Whether two borders are between the same two zones, in either order.
+/// Whether two borders are between the same two zones, in either order.
 fn is_between_same(border: BorderEnds, other: BorderEnds) -> bool
     ensures { result ≡ is_between_same_in border other }
 {
@@ -117,14 +117,14 @@ fn is_between_same(border: BorderEnds, other: BorderEnds) -> bool
         || (border.from == other.to && border.to == other.from)
 }
 
-// Whether one of these borders is between the same two zones.
+/// Whether one of these borders is between the same two zones.
 fn is_repeated(border: BorderEnds, earlier: &[BorderEnds]) -> bool
     ensures { result ≡ list_any (is_between_same_in border) earlier.now }
 {
     earlier.iter().any(|other| is_between_same(border, *other))
 }
 
-// The border of a line behind these, or the first check that fails.
+/// The border of a line behind these, or the first check that fails.
 fn border_of(
     zones: &ZoneBook,
     version: u8,
@@ -163,7 +163,7 @@ fn border_of(
     Ok(border)
 }
 
-// The borders of the lines so far.
+/// The borders of the lines so far.
 #[derive(Drop)]
 struct BordersSoFar<'a> {
     zones: &'a ZoneBook,

@@ -65,7 +65,7 @@ impl ZoneBook {
     }
 }
 
-// The zones of the lines so far.
+/// The zones of the lines so far.
 #[derive(Drop)]
 struct ZonesSoFar {
     zones: NameIndex,
@@ -73,7 +73,7 @@ struct ZonesSoFar {
     operator_of: Vec<u32>,
 }
 
-// The first check that a line fails behind others with these zones.
+/// The first check that a line fails behind others with these zones.
 fn failing_check(zones: &NameIndex, line: &Row) -> Option<ZoneCheck>
     ensures first { (earlier : List Line) → zones.now ≡ zones_of earlier
         → option_map zone_check_number result ≡ first_failing (zone_checks earlier line.now) }

@@ -9,16 +9,17 @@ ghost use Rattle.mari_lines.specs.Reading.{Reads};
 use super::number::{read_flow, read_number, read_price, read_zone_number};
 use super::words::Words;
 use crate::fault::Unread;
-use mari_units::{Cents, Items};
+use mari_market::MOST_ORDERS;
+use mari_units::{Cents, Items, MOST_BORDERS, MOST_FLOW, MOST_MW, MOST_ZONES};
 use std::alloc::Global;
 
-/// One to 64 prices, to the end of the line.
+/// One to `MOST_ZONES` prices, to the end of the line.
 pub fn read_prices(alloc: Global, words: &mut Words<'_>) -> Result<Items<Cents>, Unread>
-    ensures { Reads (Listed 1 64 IsPriceLine) (map price_text) words.old result }
+    ensures { Reads (Listed 1 MOST_ZONES IsPriceLine) (map price_text) words.old result }
 {
     let mut prices = Vec::new(alloc);
     while let Some(word) = words.next_word() {
-        if prices.len() >= 64 {
+        if prices.len() >= MOST_ZONES {
             return Err(Unread::Formless);
         }
         let price = read_price(alloc, word)?;
@@ -30,13 +31,13 @@ pub fn read_prices(alloc: Global, words: &mut Words<'_>) -> Result<Items<Cents>,
     Ok(Items::of(prices))
 }
 
-/// At most 256 flows, to the end of the line.
+/// At most `MOST_BORDERS` flows, to the end of the line.
 pub fn read_flows(alloc: Global, words: &mut Words<'_>) -> Result<Items<i64>, Unread>
-    ensures { Reads (Listed 0 256 (λ flow. Within 199998 flow)) (map signed_decimal) words.old result }
+    ensures { Reads (Listed 0 MOST_BORDERS (λ flow. Within MOST_FLOW flow)) (map signed_decimal) words.old result }
 {
     let mut flows = Vec::new(alloc);
     while let Some(word) = words.next_word() {
-        if flows.len() >= 256 {
+        if flows.len() >= MOST_BORDERS {
             return Err(Unread::Formless);
         }
         let flow = read_flow(alloc, word)?;
@@ -45,28 +46,28 @@ pub fn read_flows(alloc: Global, words: &mut Words<'_>) -> Result<Items<i64>, Un
     Ok(Items::of(flows))
 }
 
-/// At most 4,608 quantities, to the end of the line.
+/// At most `MOST_ORDERS` quantities, to the end of the line.
 pub fn read_mws(alloc: Global, words: &mut Words<'_>) -> Result<Items<u32>, Unread>
-    ensures { Reads (Listed 0 4608 (λ mw. mw ≤ 99999)) (map decimal) words.old result }
+    ensures { Reads (Listed 0 MOST_ORDERS (λ mw. mw ≤ MOST_MW)) (map decimal) words.old result }
 {
     let mut mws = Vec::new(alloc);
     while let Some(word) = words.next_word() {
-        if mws.len() >= 4608 {
+        if mws.len() >= MOST_ORDERS {
             return Err(Unread::Formless);
         }
-        let mw = read_number(alloc, word, 0, 99_999)?;
+        let mw = read_number(alloc, word, 0, MOST_MW)?;
         mws.push(mw)?;
     }
     Ok(Items::of(mws))
 }
 
-/// One to 64 zones, to the end of the line.
+/// One to `MOST_ZONES` zones, to the end of the line.
 pub fn read_zones(alloc: Global, words: &mut Words<'_>) -> Result<Items<u32>, Unread>
-    ensures { Reads (Listed 1 64 IsZone) (map zone_text) words.old result }
+    ensures { Reads (Listed 1 MOST_ZONES IsZone) (map zone_text) words.old result }
 {
     let mut zones = Vec::new(alloc);
     while let Some(word) = words.next_word() {
-        if zones.len() >= 64 {
+        if zones.len() >= MOST_ZONES {
             return Err(Unread::Formless);
         }
         let zone = read_zone_number(alloc, word)?;

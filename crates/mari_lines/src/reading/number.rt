@@ -10,7 +10,8 @@ ghost use Rattle.mari_lines.specs.Reading.{Reads, digits_in as digits_of, value_
 
 use crate::fault::Unread;
 use mari_units::{
-    CAP, Cents, Name, NameFault, Quarters, cents_text, euros_text, read_name, whole_text,
+    CAP, Cents, MOST_FLOW, MOST_ZONES, Name, NameFault, Quarters, cents_text, euros_text,
+    read_name, whole_text,
 };
 use std::alloc::Global;
 
@@ -84,9 +85,9 @@ pub fn read_welfare(alloc: Global, text: &[u8]) -> Result<u64, Unread>
 
 /// The flow that is printed so.
 pub fn read_flow(alloc: Global, text: &[u8]) -> Result<i64, Unread>
-    ensures { Reads (λ z. Within 199998 z) signed_decimal text.now result }
+    ensures { Reads (λ z. Within MOST_FLOW z) signed_decimal text.now result }
 {
-    let value = read_whole(alloc, text, -199_998, 199_998)?;
+    let value = read_whole(alloc, text, -i128::from(MOST_FLOW), i128::from(MOST_FLOW))?;
     Ok(value as i64)
 }
 
@@ -173,6 +174,6 @@ pub fn read_date(alloc: Global, text: &[u8]) -> Result<Name, Unread>
 pub fn read_zone_number(alloc: Global, text: &[u8]) -> Result<u32, Unread>
     ensures { Reads IsZone zone_text text.now result }
 {
-    let zone = read_number(alloc, text, 1, 64)?;
+    let zone = read_number(alloc, text, 1, MOST_ZONES as u32)?;
     Ok(zone - 1)
 }

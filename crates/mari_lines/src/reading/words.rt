@@ -15,7 +15,7 @@ use super::number::{
 use super::separator::split_once;
 use crate::fault::Unread;
 use mari_market::CutSide;
-use mari_units::{Cents, Name, Quarters};
+use mari_units::{Cents, MOST_FLOW, Name, Quarters};
 use std::alloc::Global;
 use std::marker::Model;
 
@@ -105,7 +105,7 @@ impl<'a> Words<'a> {
 
     /// Takes a flow.
     pub fn flow(&mut self, alloc: Global) -> Result<i64, Unread>
-        ensures { ReadsFirst (λ z. Within 199998 z) signed_decimal self.old self.new result }
+        ensures { ReadsFirst (λ z. Within MOST_FLOW z) signed_decimal self.old self.new result }
     {
         let word = self.word()?;
         read_flow(alloc, word)

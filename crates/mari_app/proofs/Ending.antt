@@ -11,7 +11,7 @@ use Rattle.mari_publish.specs.declared.publication.Publication.{Publication}
 use Rattle.mari_publish.specs.Faults.{IsText}
 use Rattle.mari_publish.specs.Texts.{text_of}
 use Rattle.mari_remain.specs.declared.books.Books.{Books}
-use Rattle.mari_day.specs.Day.{EndsDay, WroteDay}
+use Rattle.mari_day.specs.Day.{EndsDay, WroteDay, then_took}
 use Rattle.mari_day.specs.declared.day.DayEnd.{DayEnd}
 use Rattle.mari_day.specs.declared.day.DayEnd.TheVariants as end
 use Rattle.mari_day.specs.Files.{Gap}
@@ -35,7 +35,7 @@ use Rattle.mari_app.specs.Headline.{WroteDay as WroteDayOf}
 use Rattle.mari_app.specs.Outcome.{AsksForText, CheckTells, IsNoPage, IsOfWords, IsReady, IsReportable, Reported, Reports, ReportsDay, Says, day_status, fetch_of}
 use Rattle.mari_app.specs.Outcome.Reports.{Printed, CutOff, Starved}
 use Rattle.mari_app.specs.Outcome.Says.{OfUsage, OfRefusal, OfGap, OfClear, OfCheck, OfMigrate, OfGenerate, Fails, Starves}
-use Rattle.mari_app.specs.Printing.{file_line, invalid_line, refused_line, then_took, usage_line}
+use Rattle.mari_app.specs.Printing.{file_line, invalid_line, refused_line, usage_line}
 use Rattle.mari_app.specs.Program.{Answers, AreCleared, AsksForFiles, AsksToClear, IsLine, TookSummary, WhereTold}
 use Rattle.mari_app.specs.Program.IsDone.{Cleared as done-cleared, Printed as done-printed}
 use Rattle.mari_app.specs.Program.IsLine.{OfUsage as line-usage, OfRefusal as line-refusal, OfFault as line-fault, OfMissing as line-missing, OfTooLong as line-too-long, OfInvalid as line-invalid, OfText as line-text}

@@ -21,10 +21,10 @@ if-ok P Q (Ok x) f h = f x h
 if-ok P Q (Err e) f h = tt
 
 pub summarised : (number : ℕ) (books : Books) (day : PrintedDay) (p : Publication) (text : List ℕ) → AreAccepted (scenario_at number) → HasBooks (scenario_at number) (codes "s") books
-    → IsPrintedDay books USUAL_NODES day → IsText day.text.items p → text ≡ summary_of number books p.blocks → IsGenerated number text
+    → IsPrintedDay books USUAL_NODES day → IsText day.text p → text ≡ summary_of number books p.blocks → IsGenerated number text
 summarised number books day p text accepted gives is read spelled =
-    let printed : IsText day.text.items is.publication = record { has = is.in_range; is = is.text } in
-    let same : is.publication ≡ p = one_text day.text.items is.publication p printed read in
+    let printed : IsText day.text is.publication = record { has = is.in_range; is = is.text } in
+    let same : is.publication ≡ p = one_text day.text is.publication p printed read in
     let P : Publication → Type 0 = λ q. IsDay books USUAL_NODES q in
     let day-is : IsDay books USUAL_NODES p = subst P same is.is_day in
     let whole-is : books ≡ whole (scenario_at number) accepted = same-books (scenario_at number) accepted books gives in

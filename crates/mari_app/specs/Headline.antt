@@ -10,13 +10,12 @@ use Rattle.mari_publish.specs.Lines.{unpublished_in}
 use Rattle.mari_publish.specs.Ranges.{HasText}
 use Rattle.mari_publish.specs.Texts.{text_of}
 use Rattle.mari_check.specs.Day.{IsValidPublication}
-use Rattle.mari_day.specs.Day.{HasEnough, IsDay}
+use Rattle.mari_day.specs.Day.{HasEnough, IsDay, then_took}
 use Rattle.mari_day.specs.Keeps.{BlockSumsToZero}
 use Rattle.mari_day.specs.Reading.{HasBooks}
 use Rattle.mari_progress.specs.Keeps.{KeepsOffers, net_sum}
 use Rattle.mari_words.specs.Asked.{Asked}
 use Rattle.mari_words.specs.Asked.Asked.{Clear}
-use Rattle.mari_app.specs.Printing.{then_took}
 
 -- the text of a day of the folder that the words ask to clear: its pages are held and give books, and the text is that
 -- of their day within the budget of nodes, with a block for each run, in order. Each published run has a first

@@ -11,7 +11,7 @@ use Rattle.mari_publish.specs.declared.fault.TextFault.TheVariants as text_fault
 use Rattle.mari_remain.specs.declared.books.Books.{Books}
 use Rattle.mari_remain.specs.Accepted.{IsAccepted}
 use Rattle.mari_day.specs.Dated.{IsDated}
-use Rattle.mari_day.specs.Day.{EndsDay}
+use Rattle.mari_day.specs.Day.{EndsDay, then_took}
 use Rattle.mari_day.specs.declared.day.DayEnd.{DayEnd}
 use Rattle.mari_day.specs.declared.day.DayEnd.TheVariants as end
 use Rattle.mari_day.specs.declared.files.TheConstants.{PUBLICATION}
@@ -40,7 +40,7 @@ use Rattle.mari_app.specs.declared.status.Status.TheVariants as status
 use Rattle.mari_words.specs.declared.command.FilePart.{FilePart}
 use Rattle.mari_app.specs.Commands.{ReadsFolder, already_two, page_of_part, publication_path, text_refusal, text_refusal_at}
 use Rattle.mari_app.specs.Summary.{IsGenerated}
-use Rattle.mari_app.specs.Printing.{file_line, invalid_line, refused_line, then_took, usage_line, valid_line}
+use Rattle.mari_app.specs.Printing.{file_line, invalid_line, refused_line, usage_line, valid_line}
 use Rattle.mari_app.specs.Refusals.{HasName}
 
 -- the words ask for a text: for the check or for a new file of a folder, or for the summary of a generated day, which

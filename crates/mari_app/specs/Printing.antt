@@ -1,15 +1,10 @@
--- The lines that the program prints where it prints no day, and what a sink took.
-use Rattle.std.specs.Prelude.{ℕ, List, [], ◌∷◌, ◌++◌, Option, unwrap_or}
+-- The lines that the program prints where it prints no day.
+use Rattle.std.specs.Prelude.{ℕ, List, [], ◌∷◌, ◌++◌, unwrap_or}
 use lib.Chars.{codes}
 use Rattle.std.specs.Fmt.{decimal}
-use Rattle.std.specs.Option.{option_map}
 use Rattle.mari_units.specs.declared.faults.Refusal.{Refusal}
 use Rattle.mari_day.specs.Files.{file_named}
 use Rattle.mari_app.specs.Refusals.{check_name}
-
--- the sink has taken this text too
-abbrev pub then_took : Option (List ℕ) → List ℕ → Option (List ℕ)
-then_took taken text = option_map (λ t. t ++ text) taken
 
 -- the line that tells how the program is called
 unfoldable pub usage_line : List ℕ

@@ -3,7 +3,7 @@ use Rattle.std.specs.Prelude.{ℕ, ◌≡◌, ◌⊎◌, true, false, List, Opti
 use lib.Chars.{codes}
 use Rattle.mari_units.specs.declared.faults.Refusal.{Refusal}
 use Rattle.mari_io.specs.Outside.{Pages}
-use Rattle.mari_day.specs.Day.{WrotePart, WrotePrefix}
+use Rattle.mari_day.specs.Day.{WrotePart, WrotePrefix, then_took}
 use Rattle.mari_day.specs.Files.{Gap}
 use Rattle.mari_day.specs.Files.Gap.{NotHeld, OverLimit}
 use Rattle.mari_day.specs.Reading.{HasBooks}
@@ -15,7 +15,7 @@ use Rattle.mari_app.specs.declared.status.Status.TheVariants.{Done, Unpublished,
 use Rattle.mari_app.specs.Commands.{IsInvalid, IsRefused, LacksPage, Prints, ReadsFolder}
 use Rattle.mari_app.specs.Headline.{WroteDay}
 use Rattle.mari_app.specs.Summary.{IsGenerated}
-use Rattle.mari_app.specs.Printing.{file_line, invalid_line, refused_line, then_took, usage_line}
+use Rattle.mari_app.specs.Printing.{file_line, invalid_line, refused_line, usage_line}
 use Rattle.mari_app.specs.Refusals.{HasName}
 
 -- all was done: a day is written whose runs are all published, or a text that is printed where all is well

@@ -20,17 +20,12 @@ fn behind_name(mut words: Vec<String>) -> Vec<String>
 /// The words behind the program's name. One that isn't text makes them no words at all, which are no command; want of
 /// memory has its own status.
 pub fn words_of(rt: &(impl Env + AllocGlobal)) -> Result<Vec<String>, Status> {
-    let mut words = Vec::new(rt.alloc());
     match env::args(rt) {
-        Ok(arguments) => {
-            for word in arguments {
-                if words.push(word).is_err() {
-                    return Err(Status::Memory);
-                }
-            }
-            Ok(behind_name(words))
-        }
+        Ok(words) => match words.collect(rt.alloc()) {
+            Ok(words) => Ok(behind_name(words)),
+            Err(_) => Err(Status::Memory),
+        },
         Err(error) if error.kind() == ErrorKind::OutOfMemory => Err(Status::Memory),
-        Err(_) => Ok(words),
+        Err(_) => Ok(Vec::new(rt.alloc())),
     }
 }

@@ -14,7 +14,7 @@ use crate::checks::TextCheck;
 use crate::outcome::Outcome;
 use crate::writing::pair_line;
 use mari_check::{StreamFault, Verdict, check_stream};
-use mari_day::PUBLICATION;
+use mari_day::{PUBLICATION, file_name};
 use mari_io::Shelf;
 use mari_publish::TextFault;
 use mari_remain::Books;
@@ -27,7 +27,8 @@ fn publication_path(alloc: Global, folder: &str) -> Result<String, Memory>
     ensures { IfOk result (λ path. string_bytes path ≡ path_of folder.now) }
 {
     let mut path = String::from_str(alloc, folder)?;
-    path.push_str("/publication.txt")?;
+    path.push_str("/")?;
+    path.push_str(file_name(PUBLICATION))?;
     Ok(path)
 }
 

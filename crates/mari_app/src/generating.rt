@@ -82,7 +82,7 @@ fn summary<G: Turnstile, R: Threads + Wait + Sync>(
 {
     let books = generated_books(alloc, number)?;
     let day = usual_day(rt, alloc, &books, turnstile)?;
-    match read_text(alloc, &day.text) {
+    match read_text(alloc, day.text.as_slice()) {
         Ok(publication) => summary_text(alloc, number, &books, publication.blocks.as_slice()),
         Err(_) => Err(Memory),
     }

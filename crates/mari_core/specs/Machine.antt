@@ -60,6 +60,14 @@ after s (GiveBack k x) = record s { tree = grown s.tree (GiveBackEntry k x) }
 
 -- ---- when an event is refused
 
+-- the actor whose step an event is
+abbrev pub actor_of : Event → ℕ
+actor_of (Look k) = k
+actor_of (Offer k attained) = k
+actor_of (Take k x) = k
+actor_of (Settle k x finding) = k
+actor_of (GiveBack k x) = k
+
 -- where the actor isn't there that is the fault, and else the other, if there is one
 abbrev pub by_actor : Option Actor → Option StepFault → Option StepFault
 by_actor None fault = Some NoActor

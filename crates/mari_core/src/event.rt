@@ -1,6 +1,7 @@
 //! What may happen in a search, and why it may be refused.
 
 ghost use Rattle.std.specs.Prelude.{◌≡◌};
+ghost use Rattle.mari_core.specs.Machine.{actor_of};
 ghost use Rattle.mari_core.specs.declared.event.StepFault.TheVariants.{Memory as NoStepMemory};
 ghost use Rattle.mari_core.specs.declared.event.FinishFault.TheVariants.{Memory as NoFinishMemory};
 
@@ -36,6 +37,21 @@ pub enum Event {
         actor: u32,
         node: u32,
     },
+}
+
+impl Event {
+    /// The actor whose step it is.
+    pub(crate) fn actor(&self) -> u32
+        ensures { result ≡ actor_of self.now }
+    {
+        match self {
+            Event::Look { actor }
+            | Event::Offer { actor, .. }
+            | Event::Take { actor, .. }
+            | Event::Settle { actor, .. }
+            | Event::GiveBack { actor, .. } => *actor,
+        }
+    }
 }
 
 /// Why a step was refused.

@@ -141,6 +141,9 @@ impl<'m> Search<'m> {
         ensures memory { IfErr result (λ fault. fault ≢ NoStepMemory) }
         ensures facts { KeepsFacts self.new }
     {
+        if event.actor() as usize >= self.actors.len() {
+            return Err(StepFault::NoActor);
+        }
         match event {
             Event::Look { actor } => self.look(actor),
             Event::Offer { actor, attained } => self.offer(actor, attained),
@@ -156,15 +159,13 @@ impl<'m> Search<'m> {
 
     /// An actor looks at the incumbent.
     fn look(&mut self, actor: u32) -> Result<(), StepFault>
+        requires there { actor < length self.old.actors }
         ensures change { IfOk result (λ _. self.new ≡ after self.old (Look actor)) }
         ensures same { IfErr result (λ _. self.new ≡ self.old) }
         ensures answer { IsAnswer (refusal self.old (Look actor)) result }
         ensures memory { IfErr result (λ fault. fault ≢ NoStepMemory) }
         ensures facts { KeepsFacts self.new }
     {
-        if actor as usize >= self.actors.len() {
-            return Err(StepFault::NoActor);
-        }
         let by = &mut self.actors[actor as usize];
         by.look(self.incumbent);
         Ok(())
@@ -172,16 +173,14 @@ impl<'m> Search<'m> {
 
     /// An actor offers an admissible activation.
     fn offer(&mut self, actor: u32, attained: Attained) -> Result<(), StepFault>
-        requires { IsAttained self.old.tree.market attained }
+        requires there { actor < length self.old.actors }
+        requires attained { IsAttained self.old.tree.market attained }
         ensures change { IfOk result (λ _. self.new ≡ after self.old (Offer actor attained)) }
         ensures same { IfErr result (λ _. self.new ≡ self.old) }
         ensures answer { IsAnswer (refusal self.old (Offer actor attained)) result }
         ensures memory { IfErr result (λ fault. fault ≢ NoStepMemory) }
         ensures facts { KeepsFacts self.new }
     {
-        if actor as usize >= self.actors.len() {
-            return Err(StepFault::NoActor);
-        }
         self.incumbent = self.incumbent.max(attained.welfare);
         let by = &mut self.actors[actor as usize];
         by.offer(self.incumbent, attained);
@@ -190,30 +189,26 @@ impl<'m> Search<'m> {
 
     /// An actor takes a node that waits.
     fn take(&mut self, actor: u32, node: u32) -> Result<(), StepFault>
+        requires there { actor < length self.old.actors }
         ensures change { IfOk result (λ _. self.new ≡ after self.old (Take actor node)) }
         ensures same { IfErr result (λ _. self.new ≡ self.old) }
         ensures answer { IsAnswer (refusal self.old (Take actor node)) result }
         ensures memory { IfErr result (λ fault. fault ≢ NoStepMemory) }
         ensures facts { KeepsFacts self.new }
     {
-        if actor as usize >= self.actors.len() {
-            return Err(StepFault::NoActor);
-        }
         self.tree.take(actor, node)
     }
 
     /// An actor settles a node that it has taken, at what it saw of the incumbent.
     fn settle(&mut self, actor: u32, node: u32, finding: Finding) -> Result<(), StepFault>
-        requires { IsProper self.old (Settle actor node finding) }
+        requires there { actor < length self.old.actors }
+        requires proper { IsProper self.old (Settle actor node finding) }
         ensures change { IfOk result (λ _. self.new ≡ after self.old (Settle actor node finding)) }
         ensures same { IfErr result (λ _. self.new ≡ self.old) }
         ensures answer { IsAnswer (refusal self.old (Settle actor node finding)) result }
         ensures memory { IfErr result (λ fault. fault ≢ NoStepMemory) }
         ensures facts { KeepsFacts self.new }
     {
-        if actor as usize >= self.actors.len() {
-            return Err(StepFault::NoActor);
-        }
         let cutoff = self.actors[actor as usize].seen;
         self.tree.settle(actor, node, finding, cutoff)?;
         Ok(())
@@ -221,15 +216,13 @@ impl<'m> Search<'m> {
 
     /// An actor gives back a node that it has taken.
     fn give_back(&mut self, actor: u32, node: u32) -> Result<(), StepFault>
+        requires there { actor < length self.old.actors }
         ensures change { IfOk result (λ _. self.new ≡ after self.old (GiveBack actor node)) }
         ensures same { IfErr result (λ _. self.new ≡ self.old) }
         ensures answer { IsAnswer (refusal self.old (GiveBack actor node)) result }
         ensures memory { IfErr result (λ fault. fault ≢ NoStepMemory) }
         ensures facts { KeepsFacts self.new }
     {
-        if actor as usize >= self.actors.len() {
-            return Err(StepFault::NoActor);
-        }
         self.tree.give_back(actor, node)
     }
 

@@ -88,6 +88,6 @@ pub record IsPrintedDay (books : Books) (nodes : ℕ) (day : PrintedDay) : Type 
   pub publication : Publication
   pub is_day : IsDay books nodes publication
   pub in_range : HasText publication
-  pub text : day.text.items ≡ text_of publication
+  pub text : day.text ≡ text_of publication
   pub published : day.published ≡ published_in publication.blocks
   pub unpublished : day.unpublished ≡ unpublished_in publication.blocks

@@ -11,13 +11,13 @@ use crate::day::{DayEnd, run_day};
 use mari_io::{Failed, Sink};
 use mari_market::Clearer;
 use mari_remain::Books;
-use mari_units::Memory;
+use mari_units::{Items, Memory};
 use std::alloc::Global;
 
 /// The text of a day, and how many of its runs are published, and how many are not.
 #[derive(Drop)]
 pub struct PrintedDay {
-    pub text: Vec<u8>,
+    pub text: Items<u8>,
     pub published: u32,
     pub unpublished: u32,
 }
@@ -72,7 +72,7 @@ pub fn day_of<C: Clearer>(
             published,
             unpublished,
         } => Ok(PrintedDay {
-            text: sink.text,
+            text: Items::of(sink.text),
             published,
             unpublished,
         }),

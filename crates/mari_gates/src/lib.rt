@@ -13,6 +13,6 @@ mod states;
 
 pub use bounds::{bound_of, bounds_of};
 pub use gate_words::{comes_before, gate_word};
-pub use prefixes::{child_of, empty_prefix, may_branch_up, opens, prefix_feasible, without_last};
+pub use prefixes::{child_of, empty_prefix, may_branch_up, opens, prefix_feasible};
 pub use preorder::next_after;
 pub use states::{GateState, GateStates, states_at};

@@ -77,7 +77,7 @@ impl Border {
 }
 
 /// Whether a price lies from the negative of the cap to the cap.
-pub fn is_price(price: Cents) -> bool
+pub(crate) fn is_price(price: Cents) -> bool
     ensures { IsTrue result ↔ IsPrice price.0 }
 {
     -CAP <= price.0 && price.0 <= CAP

@@ -204,3 +204,9 @@ word-closed x n e none = ap (λ (k : ℕ). map (bit_of x) (range_with_len 0 k)) 
         let first : f a ≡ false = ap f (sym (add-zero a)) ∙ h 0 (omega arith) in
         let rest : map f (range_with_len (a + 1) k) ≡ replicate k false = all_false (a + 1) k f (λ i l. ap f (omega arith) ∙ h (suc i) (omega arith)) in
         ap (λ (b : Bool). b ∷ map f (range_with_len (a + 1) k)) first ∙ ap (λ (bs : List Bool). false ∷ bs) rest
+
+-- ---- the closed welfare
+
+-- it is one number
+pub closed_one : (m : Market) (v w : ℤ) → IsClosedWelfare m v → IsClosedWelfare m w → v ≡ w
+closed_one m v w hv hw = omega (arith, ints, hv.reached.2, hw.reached.2, hv.greatest hw.reached.0 hw.reached.1, hw.greatest hv.reached.0 hv.reached.1)

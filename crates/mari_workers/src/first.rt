@@ -1,6 +1,6 @@
 //! The best activation with every gate closed, from which a search starts.
 
-ghost use Rattle.std.specs.Prelude.{◌≡◌, ◌≤◌, pos, length, IfOk};
+ghost use Rattle.std.specs.Prelude.{◌≡◌, ◌≤◌, ℤ, pos, length, IfOk};
 ghost use Rattle.mari_gates.specs.Prefixes.{IsCleared};
 ghost use Rattle.mari_market.specs.Activation.{gate_word_of};
 ghost use Rattle.mari_market.specs.Finding.{IsAttained};
@@ -25,11 +25,13 @@ fn closed_prefix(market: &Market) -> Prefix
     prefix
 }
 
-/// The best activation with every gate closed. There always is one, and its welfare is the closed welfare.
-pub(crate) fn first_of(alloc: Global, market: &Market) -> Result<Attained, Memory>
+/// The best activation with every gate closed, from which a search starts. There always is one, and its welfare, in
+/// quarter-cents, is the closed welfare, which is one number and at least 0.
+pub fn first_of(alloc: Global, market: &Market) -> Result<Attained, Memory>
     requires { IsValid market.now }
     ensures attained { IfOk result (IsAttained market.now) }
     ensures closed { IfOk result (λ first. IsClosedWelfare market.now (pos first.welfare)) }
+    ensures one { (w : ℤ) → IsClosedWelfare market.now w → IfOk result (λ first. w ≡ pos first.welfare) }
     ensures gates { IfOk result (λ first. gate_word_of market.now first.activation ≡ all_closed market.now) }
 {
     let Finding::Relaxed(relaxed) = examine(alloc, market, &closed_prefix(market))? else {

@@ -20,6 +20,7 @@ mod worker;
 
 pub use alone::{Alone, search_alone};
 pub use crew::Crew;
+pub use first::first_of;
 pub use refining::refine;
 pub use together::search;
 pub use turnstile::{FreeTurnstile, Turnstile};

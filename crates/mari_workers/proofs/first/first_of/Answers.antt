@@ -1,5 +1,6 @@
+use Rattle.std.proofs.Common.{pos}
 use Rattle.mari_market.specs.Prefix.{word_of}
-use Rattle.mari_workers.proofs.Closed.{closed_found, closed_has_best, closed_is_relaxed, closed_gates, closed_welfare}
+use Rattle.mari_workers.proofs.Closed.{closed_found, closed_has_best, closed_is_relaxed, closed_gates, closed_one, closed_welfare}
 use Rattle.mari_workers.proofs.first.first_of.Goals as goal
 
 pub unreachable-requires : goal.unreachable-requires
@@ -19,3 +20,8 @@ pub returns-clause-gates : goal.returns-clause-gates
 returns-clause-gates c =
     let f = closed_found c.args.market.now (word_of c.closed_prefix.result) c.in_ok-relaxed.field-0 c.in-Relaxed.relaxed c.closed_prefix.ensures.word c.in-Relaxed.is c.in_ok-relaxed.ensures.finding in
     closed_gates c.args.market.now c.in-Relaxed.relaxed c.in-Some.first f c.in-Some.is
+
+pub returns-clause-one : goal.returns-clause-one
+returns-clause-one c w is =
+    let f = closed_found c.args.market.now (word_of c.closed_prefix.result) c.in_ok-relaxed.field-0 c.in-Relaxed.relaxed c.closed_prefix.ensures.word c.in-Relaxed.is c.in_ok-relaxed.ensures.finding in
+    closed_one c.args.market.now w (pos c.in-Some.first.welfare) is (closed_welfare c.args.market.now c.in-Relaxed.relaxed c.in-Some.first f c.in-Some.is)

@@ -9,7 +9,7 @@ use Rattle.mari_core.proofs.search.Search.look.Goals as goal
 -- the actors, as they are written
 looked : (c : goal.After-self-1) → set c.self.inside.actors.items c.args.actor c.look.new.self ≡ changed (seeing c.self.inside.incumbent) c.self.inside.actors.items c.args.actor
 looked c =
-    let l : c.args.actor < length c.self.inside.actors.items = omega (arith, c.if-actor-len.false, c.len.ensures, c.self.inside.actors.ok.0) in
+    let l : c.args.actor < length c.self.inside.actors.items = omega (arith, c.requires.there, ap (λ (s : Machine). length s.actors) c.self.view_is) in
     ap (λ (a : Actor). set c.self.inside.actors.items c.args.actor a) (c.look.ensures ∙ ap (seeing c.self.inside.incumbent) c.index_mut-by.ensures.value)
     ∙ set_is_changed (seeing c.self.inside.incumbent) c.self.inside.actors.items c.args.actor c.index_mut-by.result.now l
 
@@ -26,4 +26,4 @@ returns-clause-change c =
 
 pub returns-clause-answer : goal.returns-clause-answer
 returns-clause-answer c =
-    by_actor_there c.args.self.now.actors c.args.actor None (omega (arith, c.if-actor-len.false, c.len.ensures, c.self.inside.actors.ok.0, ap (λ (s : Machine). length s.actors) c.self.view_is))
+    by_actor_there c.args.self.now.actors c.args.actor None (c.requires.there)

@@ -9,25 +9,25 @@ use Rattle.mari_core.proofs.search.Search.offer.Goals as goal
 
 pub invariant_of-self : goal.invariant_of-self
 invariant_of-self c =
-    let l : c.args.actor < length c.self.inside.actors.items = omega (arith, c.if-actor-len.false, c.len.ensures, c.self.inside.actors.ok.0) in
+    let l : c.args.actor < length c.self.inside.actors.items = omega (arith, c.requires.there, ap (λ (s : Machine). length s.actors) c.self.view_is) in
     let is : set c.self.inside.actors.items c.args.actor c.offer.new.self ≡ changed (offering c.max-self-inside.result c.args.attained) c.self.inside.actors.items c.args.actor =
     ap (λ (a : Actor). set c.self.inside.actors.items c.args.actor a) (c.offer.ensures ∙ ap (offering c.max-self-inside.result c.args.attained) c.index_mut-by.ensures.value)
     ∙ set_is_changed (offering c.max-self-inside.result c.args.attained) c.self.inside.actors.items c.args.actor c.index_mut-by.result.now l in
-    let at = subst (λ (s : Machine). IsAttained s.tree.market c.args.attained) (sym c.self.view_is) c.requires in
+    let at = subst (λ (s : Machine). IsAttained s.tree.market c.args.attained) (sym c.self.view_is) c.requires.attained in
     offer_kept _ c.args.actor c.max-self-inside.result c.args.attained _ c.self.invariant at l c.max-self-inside.ensures is
 
 pub returns-clause-facts : goal.returns-clause-facts
 returns-clause-facts c =
-    let l : c.args.actor < length c.self.inside.actors.items = omega (arith, c.if-actor-len.false, c.len.ensures, c.self.inside.actors.ok.0) in
+    let l : c.args.actor < length c.self.inside.actors.items = omega (arith, c.requires.there, ap (λ (s : Machine). length s.actors) c.self.view_is) in
     let is : set c.self.inside.actors.items c.args.actor c.offer.new.self ≡ changed (offering c.max-self-inside.result c.args.attained) c.self.inside.actors.items c.args.actor =
     ap (λ (a : Actor). set c.self.inside.actors.items c.args.actor a) (c.offer.ensures ∙ ap (offering c.max-self-inside.result c.args.attained) c.index_mut-by.ensures.value)
     ∙ set_is_changed (offering c.max-self-inside.result c.args.attained) c.self.inside.actors.items c.args.actor c.index_mut-by.result.now l in
-    let at = subst (λ (s : Machine). IsAttained s.tree.market c.args.attained) (sym c.self.view_is) c.requires in
+    let at = subst (λ (s : Machine). IsAttained s.tree.market c.args.attained) (sym c.self.view_is) c.requires.attained in
     offer_kept _ c.args.actor c.max-self-inside.result c.args.attained _ c.self.invariant at l c.max-self-inside.ensures is
 
 pub returns-clause-change : goal.returns-clause-change
 returns-clause-change c =
-    let l : c.args.actor < length c.self.inside.actors.items = omega (arith, c.if-actor-len.false, c.len.ensures, c.self.inside.actors.ok.0) in
+    let l : c.args.actor < length c.self.inside.actors.items = omega (arith, c.requires.there, ap (λ (s : Machine). length s.actors) c.self.view_is) in
     let is : set c.self.inside.actors.items c.args.actor c.offer.new.self ≡ changed (offering c.max-self-inside.result c.args.attained) c.self.inside.actors.items c.args.actor =
     ap (λ (a : Actor). set c.self.inside.actors.items c.args.actor a) (c.offer.ensures ∙ ap (offering c.max-self-inside.result c.args.attained) c.index_mut-by.ensures.value)
     ∙ set_is_changed (offering c.max-self-inside.result c.args.attained) c.self.inside.actors.items c.args.actor c.index_mut-by.result.now l in
@@ -37,4 +37,4 @@ returns-clause-change c =
 
 pub returns-clause-answer : goal.returns-clause-answer
 returns-clause-answer c =
-    by_actor_there c.args.self.now.actors c.args.actor None (omega (arith, c.if-actor-len.false, c.len.ensures, c.self.inside.actors.ok.0, ap (λ (s : Machine). length s.actors) c.self.view_is))
+    by_actor_there c.args.self.now.actors c.args.actor None (c.requires.there)

@@ -16,5 +16,5 @@ pub returns-clause-answer : goal.returns-clause-answer
 returns-clause-answer c =
     let refused = answer_by_refusal (take_refused (state_at c.self.inside.tree.nodes c.args.node)) c.take.result c.take.ensures.answer in
     answer_there c.args.self.now.actors c.args.actor (take_refused (state_at c.args.self.now.tree.nodes c.args.node)) c.take.result
-    (omega (arith, c.if-actor-len.false, c.len.ensures, c.self.inside.actors.ok.0, ap (λ (s : Machine). length s.actors) c.self.view_is))
+    (c.requires.there)
     (subst (λ (s : Machine). IsAnswer (take_refused (state_at s.tree.nodes c.args.node)) c.take.result) c.self.view_is refused)

@@ -28,12 +28,19 @@ fn no_books(fault: BooksFault) -> Outcome
 
 /// The books of a folder, whose market files are fetched in their order and then read in that order.
 pub fn books_in<S: Shelf>(alloc: Global, shelf: &mut S, folder: &str) -> Result<Books, Outcome>
+    // What is found of the folder's pages, where the shelf tells them.
     ensures same { S.pages shelf.new ≡ S.pages shelf.old }
     ensures told { (asked : Option Asked) (told : Pages) → ReadsFolder asked folder.now → S.pages shelf.old ≡ Some told → Found asked told folder.now result }
+
+    // What holds of the books on any shelf.
     ensures accepted { IfOk result IsAccepted }
     ensures dated { IfOk result IsDated }
+
+    // What comes in their place.
     ensures words { (asked : Option Asked) → ReadsFolder asked folder.now → IfErr result (IsOfWords asked) }
     ensures reportable { IfErr result IsReportable }
+
+    // Why a page wasn't had.
     ensures failed { Counts (IsNoBooks fetch.Failed result) (S.faults shelf.old) (S.faults shelf.new) }
     ensures missing { Counts (IsNoBooks fetch.Missing result) (S.misses shelf.old) (S.misses shelf.new) }
     ensures too_long { Counts (IsNoBooks fetch.TooLong result) (S.overs shelf.old) (S.overs shelf.new) }

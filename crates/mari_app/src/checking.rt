@@ -73,11 +73,18 @@ fn verdict_outcome(alloc: Global, verdict: Verdict) -> Outcome
 
 /// What comes of books whose publication is checked. It is read in pieces.
 fn checked_books<S: Shelf>(alloc: Global, shelf: &mut S, books: &Books, folder: &str) -> Outcome
+    // The market files are read.
     requires { IsAccepted books.now }
+
+    // What is found of the publication's page, where the shelf tells it.
     ensures same { S.pages shelf.new ≡ S.pages shelf.old }
     ensures told { (told : Pages) → S.pages shelf.old ≡ Some told → CheckTells books.now (page_of told (path_of folder.now)) result }
+
+    // What comes of the words on any shelf.
     ensures words { IsOfWords (Some (Check folder.now)) result }
     ensures reportable { IsReportable result }
+
+    // Why the page wasn't had.
     ensures failed { Counts (IsNoPage fetch.Failed result) (S.faults shelf.old) (S.faults shelf.new) }
     ensures missing { Counts (IsNoPage fetch.Missing result) (S.misses shelf.old) (S.misses shelf.new) }
     ensures too_long { Counts (IsNoPage fetch.TooLong result) (S.overs shelf.old) (S.overs shelf.new) }
@@ -95,10 +102,15 @@ fn checked_books<S: Shelf>(alloc: Global, shelf: &mut S, books: &Books, folder: 
 
 /// What comes of a folder whose publication is checked against its market files. It waits for nobody.
 pub fn checked<S: Shelf>(alloc: Global, shelf: &mut S, folder: &str) -> Outcome
+    // What is found of the folder's pages, where the shelf tells them.
     ensures same { S.pages shelf.new ≡ S.pages shelf.old }
     ensures told { (told : Pages) → S.pages shelf.old ≡ Some told → Says (Some (Check folder.now)) told result }
+
+    // What comes of the words on any shelf.
     ensures words { IsOfWords (Some (Check folder.now)) result }
     ensures reportable { IsReportable result }
+
+    // Why a page wasn't had.
     ensures failed { Counts (IsNoPage fetch.Failed result) (S.faults shelf.old) (S.faults shelf.new) }
     ensures missing { Counts (IsNoPage fetch.Missing result) (S.misses shelf.old) (S.misses shelf.new) }
     ensures too_long { Counts (IsNoPage fetch.TooLong result) (S.overs shelf.old) (S.overs shelf.new) }

@@ -86,12 +86,19 @@ pub fn to_clear<S: Shelf>(
     nodes: u32,
     workers: u32,
 ) -> Outcome
+    // Both numbers are such as a command may have.
     requires nodes { IsBudget nodes }
     requires workers { (1 ≤ workers) × (workers ≤ MOST_WORKERS) }
+
+    // What is found of the folder's pages, where the shelf tells them.
     ensures same { S.pages shelf.new ≡ S.pages shelf.old }
     ensures told { (told : Pages) → S.pages shelf.old ≡ Some told → Says (Some (Clear folder.now nodes workers)) told result }
+
+    // What comes of the words on any shelf.
     ensures words { IsOfWords (Some (Clear folder.now nodes workers)) result }
     ensures reportable { IsReportable result }
+
+    // Why a page wasn't had.
     ensures failed { Counts (IsNoPage fetch.Failed result) (S.faults shelf.old) (S.faults shelf.new) }
     ensures missing { Counts (IsNoPage fetch.Missing result) (S.misses shelf.old) (S.misses shelf.new) }
     ensures too_long { Counts (IsNoPage fetch.TooLong result) (S.overs shelf.old) (S.overs shelf.new) }

@@ -58,10 +58,15 @@ fn migrated_books(alloc: Global, books: &Books, part: FilePart) -> Outcome
 
 /// What comes of a folder, a file of which is asked for in its new form.
 pub fn migrated<S: Shelf>(alloc: Global, shelf: &mut S, folder: &str, part: FilePart) -> Outcome
+    // What is found of the folder's pages, where the shelf tells them.
     ensures same { S.pages shelf.new ≡ S.pages shelf.old }
     ensures told { (told : Pages) → S.pages shelf.old ≡ Some told → Says (Some (Migrate folder.now part)) told result }
+
+    // What comes of the words on any shelf.
     ensures words { IsOfWords (Some (Migrate folder.now part)) result }
     ensures reportable { IsReportable result }
+
+    // Why a page wasn't had.
     ensures failed { Counts (IsNoPage fetch.Failed result) (S.faults shelf.old) (S.faults shelf.new) }
     ensures missing { Counts (IsNoPage fetch.Missing result) (S.misses shelf.old) (S.misses shelf.new) }
     ensures too_long { Counts (IsNoPage fetch.TooLong result) (S.overs shelf.old) (S.overs shelf.new) }

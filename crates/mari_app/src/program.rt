@@ -35,11 +35,16 @@ fn outcome_of<S: Shelf, G: Turnstile, R: Threads + Wait + Sync>(
     shelf: &mut S,
     turnstile: &G,
 ) -> Outcome
+    // What is found of the pages, where the shelf tells them.
     ensures same { S.pages shelf.new ≡ S.pages shelf.old }
     ensures told { (told : Pages) → S.pages shelf.old ≡ Some told → Says (command_at (map string_bytes words.now)) told result }
+
+    // What comes of the words on any shelf.
     ensures words { IsOfWords (command_at (map string_bytes words.now)) result }
     ensures generated { (number : ℕ) → command_at (map string_bytes words.now) ≡ Some (Generate number) → IsSummarised number result }
     ensures reportable { IsReportable result }
+
+    // Why a page wasn't had.
     ensures failed { Counts (IsNoPage fetch.Failed result) (S.faults shelf.old) (S.faults shelf.new) }
     ensures missing { Counts (IsNoPage fetch.Missing result) (S.misses shelf.old) (S.misses shelf.new) }
     ensures too_long { Counts (IsNoPage fetch.TooLong result) (S.overs shelf.old) (S.overs shelf.new) }

@@ -50,12 +50,17 @@ fn settled_of(
     block: &FullBlock,
     also: Option<&Prices>,
 ) -> Result<Settled, Memory>
+    // The run's market, as the folder's books give it.
     requires accepted { IsAccepted books.now }
     requires made { IsMarketOf books.now made }
+
+    // What the block tells of it was tested, beside the scheduled prices if there are any.
     requires feasible { IsFeasible made.market (activation_told block.now) }
     requires consistent { IsConsistent made.market (activation_told block.now) (prices_told block.now) }
     requires ledger { HasLedger books.now made (option_map (λ scheduled. scheduled.now.cents) also) block.now }
     requires also { IfSome also (λ scheduled. ArePrices made.market scheduled.now.cents) }
+
+    // So the day can keep it.
     ensures { IfOk result (IsRunOf books.now made (option_map (λ scheduled. scheduled.now.cents) also.entry) block.now) }
 {
     let activation = activation_of(alloc, block)?;

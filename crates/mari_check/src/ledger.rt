@@ -143,13 +143,18 @@ pub(crate) fn has_ledger(
     activation: &Activation,
     also: Option<&Prices>,
 ) -> Result<bool, Memory>
+    // The run's market, as the folder's books give it.
     requires accepted { IsAccepted books.now }
     requires made { IsMarketOf books.now made.now }
+
+    // What the block tells of it was tested; the scheduled prices come with it if there are any.
     requires activation { activation.now ≡ activation_told block.now }
     requires prices { prices.now.cents ≡ prices_told block.now }
     requires feasible { IsFeasible made.now.market activation.now }
     requires consistent { IsConsistent made.now.market activation.now prices.now.cents }
     requires also { IfSome also (λ scheduled. ArePrices made.now.market scheduled.now.cents) }
+
+    // No other ledger passes.
     ensures { IfOk result (λ is. IsTrue is ↔ HasLedger books.now made.now (option_map (λ scheduled. scheduled.now.cents) also.entry) block.now) }
 {
     let ledger = ledger_of(alloc, books, made, prices, activation, also)?;

@@ -167,14 +167,19 @@ fn read_pieces<S: Shelf>(
     shelf: &mut S,
     stream: &mut Stream,
 ) -> Result<(), StreamFault>
+    // Nothing of the publication is read yet.
     requires accepted { IsAccepted books.now }
     requires open { S.is_open shelf.old ≡ true }
     requires given { S.given shelf.old ≡ 0 }
     requires read { IsRead books.now [] [] stream.old }
+
+    // What was read, and where it is told what was left, how far.
     ensures same { S.pages shelf.new ≡ S.pages shelf.old }
     ensures read { OnOk result ((text : List ℕ) × IsAllRead books.now text stream.new) }
     ensures told { (page : List ℕ) → S.rest shelf.old ≡ Some page → PiecesTell books.now page stream.new result }
     ensures stops { (page : List ℕ) → S.rest shelf.old ≡ Some page → IfErr result (FaultStops S.rest S.fetches page shelf.new) }
+
+    // Why it wasn't read to its end. Want of memory is told as such.
     ensures memory { IsWrappedMemory result → ⊥ }
     ensures failed { Counts (IsStreamFetch fetch.Failed result) (S.faults shelf.old) (S.faults shelf.new) }
     ensures missing { Counts (IsStreamFetch fetch.Missing result) (S.misses shelf.old) (S.misses shelf.new) }

@@ -324,13 +324,20 @@ impl<'m> Growth<'m> {
         finding: Finding,
         cutoff: u64,
     ) -> Result<JournalEntry, StepFault>
+        // What the actor knows of the market, and has found of the node.
         requires cutoff { IsCutoff self.old.market cutoff }
         requires finding { IfSome (slice_get self.old.nodes node) (MaySettle self.old.market cutoff finding) }
+
+        // One entry, or none after an error.
         ensures change { IfOk result (λ _. self.new ≡ grown self.old (settling self.old actor node cutoff finding)) }
         ensures entry { IfOk result (λ entry. entry ≡ in_journal (settling self.old actor node cutoff finding)) }
         ensures same { IfErr result (λ _. self.new ≡ self.old) }
+
+        // Why there is none; it takes no memory.
         ensures answer { IsRefusal (return_refused actor (state_at self.old.nodes node)) result }
         ensures memory { IfErr result (λ fault. fault ≢ NoStepMemory) }
+
+        // What every entry keeps.
         ensures facts { IsGrowth self.new }
     {
         self.check_taken(actor, node)?;

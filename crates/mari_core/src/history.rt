@@ -25,12 +25,15 @@ pub fn replay<'m>(
     budget: u32,
     events: Vec<Event>,
 ) -> Result<Search<'m>, ReplayFault>
+    // What the search starts from, and what is to happen to it.
     requires market { IsValid market.now }
     requires actors { 1 ≤ actors }
     requires attained { IsAttained market.now first }
     requires closed { IsClosedWelfare market.now (pos first.welfare) }
     requires budget { IsBudget budget }
     requires events { AreProper (started market.now actors first budget) events.items }
+
+    // What comes of it.
     ensures replayed { IsReplayed (started market.now actors first budget) events.items result }
     ensures facts { IfOk result KeepsFacts }
 {

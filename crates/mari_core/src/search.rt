@@ -109,11 +109,14 @@ impl<'m> Search<'m> {
         first: Attained,
         budget: u32,
     ) -> Result<Search<'m>, Memory>
+        // What the caller knows of the market and of the activation to start with.
         requires market { IsValid market.now }
         requires actors { 1 ≤ actors }
         requires attained { IsAttained market.now first }
         requires closed { IsClosedWelfare market.now (pos first.welfare) }
         requires budget { IsBudget budget }
+
+        // The start of every search.
         ensures started { IfOk result (λ s. s ≡ started market.now actors first budget) }
         ensures facts { IfOk result KeepsFacts }
     {
@@ -274,12 +277,17 @@ impl<'m> Search<'m> {
     /// An optimal activation and the tree that shows it, where each node is branched or closed. The search is gone
     /// then.
     pub fn finish(self, alloc: Global) -> Result<Clearing, FinishFault>
+        // The optimum: the best that any actor had, or what the search started from.
         ensures clearing { IfOk result (λ c. IsOptimalClearing self.entry.tree.market self.entry.tree.budget c) }
         ensures welfare { IfOk result (λ c. c.welfare ≡ self.entry.incumbent) }
         ensures activation { IfOk result (λ c. c.activation ≡ (best_of self.entry.incumbent self.entry.first self.entry.actors).activation) }
         ensures first { self.entry.incumbent ≡ self.entry.first.welfare → IfOk result (λ c. c.activation ≡ self.entry.first.activation) }
+
+        // The tree that shows it.
         ensures tree { IfOk result (λ c. IsTree self.entry.tree.nodes c.tree) }
         ensures search { IfOk result (λ c. ArePartsOfSearch self.entry.tree.market ([] ∷ []) (map shape_of c.tree)) }
+
+        // Why there is none yet.
         ensures not_closed { IfErr result (IsOpenFault self.entry.tree.nodes) }
     {
         let Search {

@@ -141,15 +141,22 @@ pub fn published_run(
     clearing: Clearing,
     also: Option<&Prices>,
 ) -> Result<PublishedRun, Memory>
+    // The folder's books, and one of their runs.
     requires accepted { IsAccepted books.now }
     requires dated { IsDated books.now }
     requires run { (1 ≤ run) × (run ≤ length books.now.runs.runs) }
+
+    // Its market and an optimum of it, with the scheduled prices if there are any.
     requires made { IsMarketOf books.now made }
     requires optimal { IsOptimal made.market clearing.activation }
     requires also { IfSome also (λ scheduled. ArePrices made.market scheduled.now.cents) }
+
+    // The block, by whatever budget the market was cleared.
     ensures published { (budget : ℕ) → IsClearing made.market budget clearing
         → IfOk result (λ p. IsPublishedOf books.now budget run made (option_map (λ scheduled. scheduled.now.cents) also.entry) p.block) }
     ensures fits { (budget : ℕ) → budget ≤ MOST_NODES → IsClearing made.market budget clearing → IfOk result (λ p. FullFits p.block) }
+
+    // What it adds.
     ensures settled { IfOk result (λ p. IsRunOf books.now made (option_map (λ scheduled. scheduled.now.cents) also.entry) p.block p.settled) }
 {
     let priced = priced_of(alloc, books, &made, &clearing, also)?;

@@ -83,13 +83,18 @@ fn write_runs<C: Clearer, K: Sink>(
     clearer: &mut C,
     sink: &mut K,
 ) -> Result<Progress, Stop>
+    // What is to be cleared, and by whom.
     requires accepted { IsAccepted books.now }
     requires dated { IsDated books.now }
     requires budget { IsBudget budget }
     requires ready { C.ready clearer.old }
+
+    // What the sink has taken by the end, and why no more.
     ensures written { IfOk result (λ progress. WroteFirst books.now budget (length books.now.runs.runs) progress (K.taken sink.old) (K.taken sink.new)) }
     ensures stopped { IfErr result (Stopped books.now budget (K.taken sink.old) (K.taken sink.new)) }
     ensures cause { Counts (result ≡ Err Stop.Sink) (K.faults sink.old) (K.faults sink.new) }
+
+    // The clearer may clear on.
     ensures ready { C.ready clearer.new }
 {
     let mut progress = begin(alloc, books, budget, sink)?;
@@ -138,14 +143,19 @@ fn write_day<C: Clearer, K: Sink>(
     clearer: &mut C,
     sink: &mut K,
 ) -> Result<u32, Stop>
+    // What is to be cleared, and by whom.
     requires accepted { IsAccepted books.now }
     requires dated { IsDated books.now }
     requires budget { IsBudget budget }
     requires ready { C.ready clearer.old }
+
+    // What the sink has taken by the end, and why no more.
     ensures written { IfOk result (λ published. (published ≤ length books.now.runs.runs)
         × WroteDay books.now budget published (length books.now.runs.runs - published) (K.taken sink.old) (K.taken sink.new)) }
     ensures stopped { IfErr result (Stopped books.now budget (K.taken sink.old) (K.taken sink.new)) }
     ensures cause { Counts (result ≡ Err Stop.Sink) (K.faults sink.old) (K.faults sink.new) }
+
+    // The clearer may clear on.
     ensures ready { C.ready clearer.new }
 {
     let progress = write_runs(alloc, books, budget, clearer, sink)?;
@@ -167,12 +177,17 @@ pub fn run_day<C: Clearer, K: Sink>(
     clearer: &mut C,
     sink: &mut K,
 ) -> DayEnd
+    // What is to be cleared, and by whom.
     requires accepted { IsAccepted books.now }
     requires dated { IsDated books.now }
     requires budget { IsBudget budget }
     requires ready { C.ready clearer.old }
+
+    // What the sink has taken by the end, and why no more.
     ensures day { EndsDay books.now budget (K.taken sink.old) (K.taken sink.new) result }
     ensures cause { Counts (result ≡ DayEnd.WriteFault) (K.faults sink.old) (K.faults sink.new) }
+
+    // The clearer may clear on.
     ensures ready { C.ready clearer.new }
 {
     match write_day(alloc, books, budget, clearer, sink) {

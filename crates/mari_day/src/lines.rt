@@ -42,12 +42,17 @@ pub fn zone_lines(
     pricing: &Pricing,
     areas: &[u32],
 ) -> Result<Vec<ZoneLine>, Memory>
+    // The zones by their names.
     requires few { length zones.now ≤ MOST_ZONES }
     requires names { All (λ name. is_name name ≡ true) zones.now }
+
+    // Three prices and an area for each.
     requires published { length pricing.now.published.cents ≡ length zones.now }
     requires least { length pricing.now.least.cents ≡ length zones.now }
     requires greatest { length pricing.now.greatest.cents ≡ length zones.now }
     requires areas { length areas.now ≡ length zones.now }
+
+    // The lines stand in the zones' order.
     ensures names { IfOk result (λ lines. map (λ (l : ZoneLineOf). l.name) lines.items ≡ zones.now) }
     ensures prices { IfOk result (λ lines. map (λ (l : ZoneLineOf). l.price) lines.items ≡ pricing.now.published.cents) }
     ensures least { IfOk result (λ lines. map (λ (l : ZoneLineOf). l.least) lines.items ≡ pricing.now.least.cents) }
@@ -79,11 +84,16 @@ pub fn border_lines(
     flow: &[i64],
     rents: &[Quarters],
 ) -> Result<Vec<BorderLine>, Memory>
+    // The borders, between zones with names.
     requires names { All (λ name. is_name name ≡ true) zones.now }
     requires from { All (λ (b : Ends). b.from < length zones.now) borders.now }
     requires to { All (λ (b : Ends). b.to < length zones.now) borders.now }
+
+    // A flow and a rent for each.
     requires flow { length flow.now ≡ length borders.now }
     requires rents { length rents.now ≡ length borders.now }
+
+    // The lines stand in the borders' order.
     ensures from { IfOk result (λ lines. map (λ (l : BorderLineOf). l.from) lines.items ≡ map (λ (b : Ends). name_at zones.now b.from) borders.now) }
     ensures to { IfOk result (λ lines. map (λ (l : BorderLineOf). l.to) lines.items ≡ map (λ (b : Ends). name_at zones.now b.to) borders.now) }
     ensures flow { IfOk result (λ lines. map (λ (l : BorderLineOf). l.flow) lines.items ≡ flow.now) }

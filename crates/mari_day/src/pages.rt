@@ -76,12 +76,19 @@ fn fetch_page<S: Shelf>(
     folder: &str,
     file: File,
 ) -> Result<Items<u8>, PagesFault>
+    // The shelf is asked once, or not at all for want of memory.
     ensures same { S.pages shelf.new ≡ S.pages shelf.old }
     ensures small { IfOk result (λ page. length page ≤ MOST_PAGE) }
     ensures fetched { FetchesPage (S.fetches shelf.old) (S.fetches shelf.new) result }
+
+    // Whose a fault is. Want of memory in a fetch is told as such.
     ensures file { IsOfFile file result }
     ensures memory { IsFault fetch.Memory result → ⊥ }
+
+    // What it says of the page, where pages are told.
     ensures told { (told : Pages) → S.pages shelf.old ≡ Some told → PageTells file (page_in told folder.now file) result }
+
+    // Why the page wasn't had.
     ensures failed { Counts (IsFault fetch.Failed result) (S.faults shelf.old) (S.faults shelf.new) }
     ensures missing { Counts (IsFault fetch.Missing result) (S.misses shelf.old) (S.misses shelf.new) }
     ensures too_long { Counts (IsFault fetch.TooLong result) (S.overs shelf.old) (S.overs shelf.new) }
@@ -104,11 +111,16 @@ fn fetch_seven<S: Shelf>(
     shelf: &mut S,
     folder: &str,
 ) -> Result<Items<Items<u8>>, PagesFault>
+    // The shelf is asked for each file once, up to the first whose page can't be had.
     ensures same { S.pages shelf.new ≡ S.pages shelf.old }
     ensures small { IfOk result (All (λ (page : List ℕ). length page ≤ MOST_PAGE)) }
     ensures fetched { FetchesPages 7 (S.fetches shelf.old) (S.fetches shelf.new) result }
+
+    // What it says of the pages, where they are told. Want of memory is told as such.
     ensures memory { IsFault fetch.Memory result → ⊥ }
     ensures told { (told : Pages) → S.pages shelf.old ≡ Some told → FetchingTells told folder.now files result }
+
+    // Why a page wasn't had.
     ensures failed { Counts (IsFault fetch.Failed result) (S.faults shelf.old) (S.faults shelf.new) }
     ensures missing { Counts (IsFault fetch.Missing result) (S.misses shelf.old) (S.misses shelf.new) }
     ensures too_long { Counts (IsFault fetch.TooLong result) (S.overs shelf.old) (S.overs shelf.new) }
@@ -159,10 +171,15 @@ pub fn fetch_pages<S: Shelf>(
     shelf: &mut S,
     folder: &str,
 ) -> Result<Folder, PagesFault>
+    // The shelf is asked for each file once, up to the first whose page can't be had.
     ensures same { S.pages shelf.new ≡ S.pages shelf.old }
     ensures fetched { FetchesFolder (S.pages shelf.old) folder.now (S.fetches shelf.old) (S.fetches shelf.new) result }
+
+    // What it says of the pages, where they are told. Want of memory is told as such.
     ensures memory { IsFault fetch.Memory result → ⊥ }
     ensures told { (told : Pages) → S.pages shelf.old ≡ Some told → FetchingTells told folder.now (files_in told folder.now) result }
+
+    // Why a page wasn't had.
     ensures failed { Counts (IsFault fetch.Failed result) (S.faults shelf.old) (S.faults shelf.new) }
     ensures missing { Counts (IsFault fetch.Missing result) (S.misses shelf.old) (S.misses shelf.new) }
     ensures too_long { Counts (IsFault fetch.TooLong result) (S.overs shelf.old) (S.overs shelf.new) }

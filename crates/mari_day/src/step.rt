@@ -56,14 +56,21 @@ fn run_done<C: Clearer>(
     progress: &Progress,
     clearer: &mut C,
 ) -> Result<RunDone, Memory>
+    // The books, and what is kept of the blocks before this run.
     requires accepted { IsAccepted books.now }
     requires dated { IsDated books.now }
     requires last { run ≤ length books.now.runs.runs }
     requires stands { (blocks : List PrintedBlock) × IsDayProgress books.now budget blocks progress.now × (run ≡ run_behind blocks) }
+
+    // What clears it.
     requires budget { IsBudget budget }
     requires ready { C.ready clearer.old }
+
+    // The block, whatever blocks these are.
     ensures done { (blocks : List PrintedBlock) → IsDayProgress books.now budget blocks progress.now → run ≡ run_behind blocks → IfOk result (IsRunDone books.now budget blocks) }
     ensures fits { IfOk result (λ done. BlockFits done.block) }
+
+    // The clearer may clear on.
     ensures ready { C.ready clearer.new }
 {
     let made = progress.market_of(alloc, books, run)?;
@@ -110,15 +117,22 @@ pub fn step<C: Clearer, K: Sink>(
     clearer: &mut C,
     sink: &mut K,
 ) -> Result<(), Stop>
+    // The books, and what is kept of the blocks before this run.
     requires accepted { IsAccepted books.now }
     requires dated { IsDated books.now }
     requires last { run ≤ length books.now.runs.runs }
     requires stands { (blocks : List PrintedBlock) × IsDayProgress books.now budget blocks progress.old × (run ≡ run_behind blocks) }
+
+    // What clears it.
     requires budget { IsBudget budget }
     requires ready { C.ready clearer.old }
+
+    // What is written and kept, whatever blocks these are, and why no more.
     ensures stepped { (blocks : List PrintedBlock) → IsDayProgress books.now budget blocks progress.old → run ≡ run_behind blocks
         → Stepped books.now budget blocks progress.new (K.taken sink.old) (K.taken sink.new) result }
     ensures cause { Counts (result ≡ Err Stop.Sink) (K.faults sink.old) (K.faults sink.new) }
+
+    // The clearer may clear on.
     ensures ready { C.ready clearer.new }
 {
     let done = run_done(alloc, books, run, budget, progress, clearer)?;

@@ -42,14 +42,21 @@ fn solve_slots(alloc: Global, market: &Market, reals: &[Slot]) -> Result<Solved,
 /// taken away or given at a price that no order reaches, and energy is then moved from cheaper to dearer orders along
 /// borders with room until no zone's prices contradict each other.
 pub fn solve(alloc: Global, market: &Market, prefix: &Prefix) -> Result<Solved, SolveFault>
+    // What the caller knows of the market and the prefix.
     requires market { IsValid market.now }
     requires prefix { IsFeasiblePrefix market.now prefix.now }
+
+    // The optimum, and that it is one.
     ensures within { IfOk result (λ s. IsWithinBounds (bounds_at market.now prefix.now) market.now s.activation) }
     ensures relaxed { IfOk result (λ s. IsRelaxedWelfare market.now (word_of prefix.now) (welfare_of market.now s.activation)) }
+
+    // The potentials that show it, and its welfare as it is stated.
     ensures dual { IfOk result (λ s. dual_value_of (bounds_at market.now prefix.now) market.now s.potentials.cents ≡ welfare_of market.now s.activation) }
     ensures tight { IfOk result (λ s. IsTight (bounds_at market.now prefix.now) market.now s.activation s.potentials.cents) }
     ensures potentials { IfOk result (λ s. ArePrices market.now s.potentials.cents) }
     ensures stated { IfOk result (λ s. pos s.welfare ≡ int_max (pos 0) (welfare_of market.now s.activation)) }
+
+    // The cut, and that there is no optimum then.
     ensures cut { IfErr result (λ fault. OfCut fault (IsCut (bounds_at market.now prefix.now) market.now)) }
     ensures empty { IfErr result (λ fault. OfCut fault (λ _. NoneWithin (bounds_at market.now prefix.now) market.now)) }
 {

@@ -96,12 +96,19 @@ impl<R: Files + Drop> DiskShelf<R> {
 
     /// Appends the next bytes of the file that is open, unless as many were given as may be.
     fn read_on(&mut self, into: &mut Vec<u8>) -> Result<u32, Fetch>
+        // There is a file to read on.
         requires open { self.old.is_open ≡ true }
+
+        // How much of it is given by now; nothing else changes.
         ensures given { self.new ≡ more_given self.old result }
         ensures limit { self.new.given ≤ MOST_GIVEN }
+
+        // What was given.
         ensures ok { IfOk result (λ n. AppendsExactly n into.old.items into.new.items) }
         ensures few { IfOk result (λ n. n ≤ MOST_PIECE) }
         ensures err { OnErr result (into.new.items ≡ into.old.items) }
+
+        // Why nothing was; that there is no such file is no cause.
         ensures not_missing { IsErrOf result Missing → ⊥ }
         ensures over { IsErrOf result TooLong ↔ (self.old.given ≡ MOST_GIVEN) }
     {
@@ -173,13 +180,20 @@ fn read_page<F: Read>(file: &mut F, into: &mut Vec<u8>) -> Result<(), Fetch>
 /// Appends the next bytes of a file, at most so many. Room for them is made before they are read, so that none is
 /// lost.
 fn read_piece<F: Read>(file: &mut F, into: &mut Vec<u8>, most: u64) -> Result<u32, Fetch>
+    // Something is asked for.
     requires some { 1 ≤ most }
+
+    // What was read: nothing only where the file ends.
     ensures ok { IfOk result (λ n. AppendsExactly n into.old.items into.new.items) }
     ensures few { IfOk result (λ n. (n ≤ most) × (n ≤ MOST_PIECE)) }
     ensures bytes { OnOk result (Consumes (F.remaining file.old) (F.remaining file.new) (drop (length into.old.items) into.new.items)) }
     ensures at_end { IfOk result (λ n. n ≡ 0 → IsAtEnd (F.remaining file.old)) }
+
+    // What an error leaves: all as it was.
     ensures err { OnErr result (into.new.items ≡ into.old.items) }
     ensures none_lost { OnErr result (Keeps (F.remaining file.old) (F.remaining file.new)) }
+
+    // Why nothing was read: a failure, or want of memory.
     ensures not_missing { IsErrOf result Missing → ⊥ }
     ensures not_too_long { IsErrOf result TooLong → ⊥ }
 {

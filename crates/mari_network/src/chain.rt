@@ -45,13 +45,18 @@ pub struct Chain {
 
 /// Lets so much more flow over the border of a hop.
 fn push_hop(borders: &[Border], flows: &mut [i64], hop: Hop, more: i64)
+    // The border of the hop can carry that much.
     requires lengths { length flows.old ≡ length borders.now }
     requires there { hop.border < length borders.now }
     requires more { pos 0 ≤ℤ more }
     requires room { more ≤ℤ hop_room borders.now flows.old hop }
     requires within { AllZip IsWithinLimits borders.now flows.old }
+
+    // One flow changes, and none leaves its limits.
     ensures flows { flows.new ≡ slice_set flows.old hop.border (slice_index_or flows.old hop.border (pos 0) +ℤ more_flow hop.forth more) }
     ensures within { AllZip IsWithinLimits borders.now flows.new }
+
+    // What leaves one of its two zones comes into the other.
     ensures carried { (z : ℕ) → sum_along (carried_out z) borders.now flows.new ≡ (sum_along (carried_out z) borders.now flows.old +ℤ at_zone z (tail_of hop.forth (border_at borders.now hop.border)) more) -ℤ at_zone z (head_of hop.forth (border_at borders.now hop.border)) more }
 {
     let now = flows[hop.border];
@@ -103,12 +108,15 @@ pub fn has_room(borders: &[Border], flows: &[i64], hops: &[Hop], at: usize) -> b
 
 /// How much can be moved along a chain back to its first zone, and no more than asked for.
 fn room(borders: &[Border], flows: &[i64], hops: &[Hop], at: usize, most: i64) -> i64
+    // Flows that may be, and a chain that has room.
     requires lengths { length flows.now ≡ length borders.now }
     requires at { at < length hops.now }
     requires most { pos 1 ≤ℤ most }
     requires trace { IsTrace borders.now hops.now }
     requires within { AllZip IsWithinLimits borders.now flows.now }
     requires some { HasRoom borders.now flows.now hops.now (pos 1) at }
+
+    // There is so much room, and at least a MW.
     ensures some { pos 1 ≤ℤ result }
     ensures most { result ≤ℤ most }
     ensures room { HasRoom borders.now flows.now hops.now result at }
@@ -125,12 +133,15 @@ fn room(borders: &[Border], flows: &[i64], hops: &[Hop], at: usize, most: i64) -
 
 /// Moves energy along a chain back to its first zone.
 fn carry(borders: &[Border], flows: &mut [i64], hops: &[Hop], at: usize, most: i64)
+    // Flows that may be, and a chain that has so much room.
     requires lengths { length flows.old ≡ length borders.now }
     requires at { at < length hops.now }
     requires most { pos 0 ≤ℤ most }
     requires trace { IsTrace borders.now hops.now }
     requires within { AllZip IsWithinLimits borders.now flows.old }
     requires room { HasRoom borders.now flows.old hops.now most at }
+
+    // No flow leaves its limits, and the zones within the chain carry out what they did.
     ensures within { AllZip IsWithinLimits borders.now flows.new }
     ensures carried { (z : ℕ) → (sum_along (carried_out z) borders.now flows.new +ℤ at_zone z (hop_at hops.now 0).zone most) ≡ sum_along (carried_out z) borders.now flows.old +ℤ at_zone z (hop_at hops.now at).zone most }
 {
@@ -144,9 +155,12 @@ fn carry(borders: &[Border], flows: &mut [i64], hops: &[Hop], at: usize, most: i
 
 /// How much can be moved from a chain's source to its sink.
 fn most_along(network: &Network, amounts: &[i64], flows: &[i64], chain: &Chain) -> i64
+    // What the caller knows of what runs, and of the chain.
     requires network { IsNetwork network.now }
     requires runs { Runs network.now amounts.now flows.now }
     requires chain { IsImproving network.now amounts.now flows.now chain.now }
+
+    // At least a MW, which both slots and every hop have room for.
     ensures some { pos 1 ≤ℤ result }
     ensures sink { result ≤ℤ (amount_at amounts.now chain.now.sink -ℤ (slot_at network.now.slots.now chain.now.sink).low) }
     ensures source { result ≤ℤ ((slot_at network.now.slots.now chain.now.source).high -ℤ amount_at amounts.now chain.now.source) }

@@ -105,10 +105,15 @@ fn margin_of(network: &Network, amounts: &[i64], zone: usize) -> Margin
 
 /// Looks for the marginal slots of a zone again.
 pub fn refresh(network: &Network, amounts: &[i64], margins: &mut [Margin], zone: usize)
+    // What the caller knows of what runs.
     requires network { IsNetwork network.now }
     requires amounts { length amounts.now ≡ length network.now.slots.now }
+
+    // One of the zones, each of which has an entry.
     requires zone { zone < length network.now.meeting.items }
     requires long { length margins.old ≡ length network.now.meeting.items }
+
+    // The entry of this zone is right, whatever stood there.
     ensures long { length margins.new ≡ length margins.old }
     ensures here { IsMarginOf network.now.slots.now amounts.now zone (slice_index_or margins.new zone no_margin) }
     ensures others { (z : ℕ) → z ≢ zone → slice_index_or margins.new z no_margin ≡ slice_index_or margins.old z no_margin }

@@ -76,11 +76,16 @@ fn solved_from(
     flows: &[i64],
     prices: &[i64],
 ) -> Result<Solved, AllocError>
+    // The orders of the market stand first.
     requires market { IsValid market.now }
     requires long { length market.now.orders ≤ length amounts.now }
     requires fits { AllZip (λ o x. CanPut o.side x) market.now.orders (take (length market.now.orders) amounts.now) }
+
+    // The activation.
     ensures puts { IfOk result (λ s. ArePuts market.now.orders (take (length market.now.orders) amounts.now) s.activation.mw) }
     ensures flow { IfOk result (λ s. s.activation.flow ≡ flows.now) }
+
+    // The potentials, within the cap, and the welfare as it is stated.
     ensures potentials { IfOk result (λ s. s.potentials.cents ≡ map capped_cents prices.now) }
     ensures stated { IfOk result (λ s. pos s.welfare ≡ int_max (pos 0) (welfare_of market.now s.activation)) }
 {
@@ -123,12 +128,17 @@ pub fn answer(
     flows: &[i64],
     prices: &[i64],
 ) -> Result<Solved, SolveFault>
+    // The network is the market's.
     requires market { IsValid market.now }
     requires network { IsNetwork network.now }
     requires same { IsNetworkOf market.now network.now }
+
+    // What runs in it, where no chain is left.
     requires runs { Runs network.now amounts.now flows.now }
     requires tight { AreTightPrices network.now amounts.now flows.now prices.now }
     requires long { length market.now.orders ≤ length amounts.now }
+
+    // The answer, by whatever bounds the slots were made.
     ensures { (spans : Order → Span) (more : List Slot) → AreSlotsOf spans market.now more network.now.slots.now → IsAnswer spans market.now result }
 {
     // What runs is told by the network, whose amounts, flows and prices these are.

@@ -63,16 +63,25 @@ fn reach_over(
     hops: &mut Vec<Hop>,
     hop: Hop,
 ) -> Result<(), AllocError>
+    // A hop from one that was found.
     requires before { hop.before < length hops.old.items }
     requires border { hop.border < length borders.now }
     requires zone { hop.zone ≡ tail_of hop.forth (border_at borders.now hop.border) }
+
+    // Flows that may be, between zones that can be marked.
     requires flows { length flows.now ≡ length borders.now }
     requires limits { AllZip IsWithinLimits borders.now flows.now }
     requires ends { All (IsBetween (length marked.old)) borders.now }
+
+    // The hops are still a spread, from wherever it began.
     ensures spread { OnOk result ((old : List Bool) (start : ℕ) → IsSpread borders.now flows.now old start marked.old hops.old.items → IsSpread borders.now flows.now old start marked.new hops.new.items) }
+
+    // Nothing is taken back.
     ensures keeps { Keeps marked.old marked.new }
     ensures stay { (k : ℕ) → k < length hops.old.items → hop_at hops.new.items k ≡ hop_at hops.old.items k }
     ensures more { length hops.old.items ≤ length hops.new.items }
+
+    // By this border nothing comes from a zone that isn't marked.
     ensures into { OnOk result (pos 0 <ℤ room_of hop.forth (border_at borders.now hop.border) (amount_at flows.now hop.border) → head_of hop.forth (border_at borders.now hop.border) ≡ (hop_at hops.old.items hop.before).zone → is_marked marked.new hop.zone ≡ true) }
 {
     let zone = hops[hop.before].zone;
@@ -111,16 +120,25 @@ fn look(
     hops: &mut Vec<Hop>,
     at: usize,
 ) -> Result<(), AllocError>
+    // One of the hops that were found.
     requires network { IsNetwork network.now }
     requires marks { length marked.old ≡ length network.now.meeting.items }
     requires at { at < length hops.old.items }
     requires zone { (hop_at hops.old.items at).zone < length network.now.meeting.items }
+
+    // Flows that may be.
     requires flows { length flows.now ≡ length network.now.borders.now }
     requires limits { AllZip IsWithinLimits network.now.borders.now flows.now }
+
+    // The hops are still a spread, from wherever it began.
     ensures spread { OnOk result ((old : List Bool) (start : ℕ) → IsSpread network.now.borders.now flows.now old start marked.old hops.old.items → IsSpread network.now.borders.now flows.now old start marked.new hops.new.items) }
+
+    // Nothing is taken back.
     ensures keeps { Keeps marked.old marked.new }
     ensures stay { (k : ℕ) → k < length hops.old.items → hop_at hops.new.items k ≡ hop_at hops.old.items k }
     ensures more { length hops.old.items ≤ length hops.new.items }
+
+    // By no border anything comes to its zone from one that isn't marked.
     ensures into { OnOk result (AllZip (MarkedInto marked.new (hop_at hops.old.items at).zone) network.now.borders.now flows.now) }
 {
     let places = meeting_at(network, hops[at].zone);
@@ -152,13 +170,18 @@ fn spread(
     marked: &mut [bool],
     start: u32,
 ) -> Result<Vec<Hop>, AllocError>
+    // A zone to begin from.
     requires network { IsNetwork network.now }
     requires marks { length marked.old ≡ length network.now.meeting.items }
     requires start { start < length marked.old }
     requires fresh { is_marked marked.old start ≡ false }
+
+    // Flows that may be, and marks that earlier searches left.
     requires flows { length flows.now ≡ length network.now.borders.now }
     requires limits { AllZip IsWithinLimits network.now.borders.now flows.now }
     requires closed { AreClosed network.now.borders.now flows.now marked.old }
+
+    // The chains, and marks as a next search wants them.
     ensures spread { IfOk result (λ hops. IsSpread network.now.borders.now flows.now marked.old start marked.new hops.items) }
     ensures closed { OnOk result (AreClosed network.now.borders.now flows.now marked.new) }
 {
@@ -219,12 +242,17 @@ fn chain_by_levels(
     marked: &mut [bool],
     prices: &mut [i64],
 ) -> Result<Option<Chain>, AllocError>
+    // What the caller knows of what runs, and of the margins.
     requires network { IsNetwork network.now }
     requires margins { AreMargins network.now.slots.now amounts.now (length network.now.meeting.items) (length network.now.slots.now) margins.now }
     requires runs { Runs network.now amounts.now flows.now }
+
+    // A place for each zone.
     requires marks { length marked.old ≡ length network.now.meeting.items }
     requires prices { length prices.old ≡ length network.now.meeting.items }
     requires fresh { (z : ℕ) → is_marked marked.old z ≡ false }
+
+    // One of the two, where memory suffices.
     ensures { IfOk result (λ r. MatchOption r (AreTightPrices network.now amounts.now flows.now prices.new) (IsImproving network.now amounts.now flows.now)) }
 {
     let slots = network.slots;

@@ -28,12 +28,17 @@ pub struct Slot {
 
 /// Lets a slot put in more, or less where that is negative.
 pub fn move_amount(slots: &[Slot], amounts: &mut [i64], at: usize, more: i64)
+    // The slot may put in what it then does.
     requires at { at < length slots.now }
     requires lengths { length amounts.old ≡ length slots.now }
     requires small { IsSmallSlot (slot_at slots.now at) }
     requires moved { IsWithinSlot (slot_at slots.now at) (amount_at amounts.old at +ℤ more) }
+
+    // One amount changes, and none leaves its slot's bounds.
     ensures moved { amounts.new ≡ slice_set amounts.old at (amount_at amounts.old at +ℤ more) }
     ensures within { AllZip IsWithinSlot slots.now amounts.old → AllZip IsWithinSlot slots.now amounts.new }
+
+    // What that does to a zone's sum, and to what all is worth.
     ensures into { (z : ℕ) → sum_along (slot_into z) slots.now amounts.new ≡ sum_along (slot_into z) slots.now amounts.old +ℤ at_zone z (slot_at slots.now at).zone more }
     ensures worth { sum_along worth slots.now amounts.new ≡ sum_along worth slots.now amounts.old -ℤ ((slot_at slots.now at).price *ℤ more) }
 {

@@ -48,12 +48,17 @@ fn next_ends(
     hops: &[Hop],
     price: i64,
 ) -> Option<Ends>
+    // Flows that may be, and hops along which they can be changed.
     requires network { IsNetwork network.now }
     requires lengths { length flows.now ≡ length network.now.borders.now }
     requires within { AllZip IsWithinLimits network.now.borders.now flows.now }
     requires hops { AreHops (length margins.now) network.now.borders.now hops.now }
+
+    // The margins name slots that there are.
     requires dearest { (z i : ℕ) → z < length margins.now → dearest_at margins.now z ≡ Some i → i < length network.now.slots.now }
     requires cheapest { (z i : ℕ) → z < length margins.now → cheapest_at margins.now z ≡ Some i → i < length network.now.slots.now }
+
+    // Ends by which the hops improve, if the margins are right.
     ensures ends { IfSome result (λ e. AreEnds network.now.slots.now margins.now hops.now e.sink e) }
     ensures sink { IfSome result (λ e. dearest_at margins.now (hop_at hops.now 0).zone ≡ Some e.sink) }
     ensures room { IfSome result (λ e. HasRoom network.now.borders.now flows.now hops.now (pos 1) e.at) }
@@ -105,10 +110,13 @@ fn push_along(
     margins: &mut [Margin],
     chain: &Chain,
 )
+    // What the caller knows of what runs, and of the chain.
     requires network { IsNetwork network.now }
     requires runs { Runs network.now amounts.old flows.old }
     requires margins { AreMargins network.now.slots.now amounts.old (length network.now.meeting.items) (length network.now.slots.now) margins.old }
     requires chain { IsImproving network.now amounts.old flows.old chain.now }
+
+    // The same of what runs then, and that it is better.
     ensures runs { Runs network.now amounts.new flows.new }
     ensures margins { AreMargins network.now.slots.now amounts.new (length network.now.meeting.items) (length network.now.slots.now) margins.new }
     ensures rises { sum_along worth network.now.slots.now amounts.old <ℤ sum_along worth network.now.slots.now amounts.new }
@@ -137,10 +145,13 @@ pub fn drain(
     margins: &mut [Margin],
     chain: &mut Chain,
 )
+    // What the caller knows of what runs, and of the first chain.
     requires network { IsNetwork network.now }
     requires runs { Runs network.now amounts.old flows.old }
     requires margins { AreMargins network.now.slots.now amounts.old (length network.now.meeting.items) (length network.now.slots.now) margins.old }
     requires chain { IsImproving network.now amounts.old flows.old chain.old }
+
+    // The same of what runs then, and that it is better.
     ensures runs { Runs network.now amounts.new flows.new }
     ensures margins { AreMargins network.now.slots.now amounts.new (length network.now.meeting.items) (length network.now.slots.now) margins.new }
     ensures rises { sum_along worth network.now.slots.now amounts.old <ℤ sum_along worth network.now.slots.now amounts.new }

@@ -155,10 +155,13 @@ fn carry_out(short: &mut [i64], border: &Border, flow: i64)
 
 /// Takes from what each zone is short of what its slots put in.
 fn take_amounts(short: &mut [i64], slots: &[Slot], amounts: &[i64])
+    // What runs in slots of orders, where no zone is short yet.
     requires few { length slots.now ≤ MOST_ORDERS }
     requires slots { All (IsOrderSlot (length short.old)) slots.now }
     requires within { AllZip IsWithinSlot slots.now amounts.now }
     requires none { (z : ℕ) → amount_at short.old z ≡ pos 0 }
+
+    // So much each zone is short then, and flows can still be added.
     ensures long { length short.new ≡ length short.old }
     ensures near { (z : ℕ) → IsNear 500000000 (amount_at short.new z) }
     ensures each { (z : ℕ) → amount_at short.new z ≡ neg_ℤ (sum_along (slot_into z) slots.now amounts.now) }
@@ -170,11 +173,16 @@ fn take_amounts(short: &mut [i64], slots: &[Slot], amounts: &[i64])
 
 /// Adds to what each zone is short of what its borders carry out.
 fn add_flows(short: &mut [i64], borders: &[Border], flows: &[i64])
+    // Flows that may be.
     requires few { length borders.now ≤ MOST_BORDERS }
     requires ends { All (IsBetween (length short.old)) borders.now }
     requires limits { All AreSmallLimits borders.now }
     requires within { AllZip IsWithinLimits borders.now flows.now }
+
+    // What the slots left.
     requires near { (z : ℕ) → IsNear 500000000 (amount_at short.old z) }
+
+    // So much each zone is short then, and no number runs over.
     ensures long { length short.new ≡ length short.old }
     ensures near { (z : ℕ) → IsNear 700000000 (amount_at short.new z) }
     ensures each { (z : ℕ) → amount_at short.new z ≡ amount_at short.old z +ℤ sum_along (carried_out z) borders.now flows.now }

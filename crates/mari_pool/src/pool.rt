@@ -73,12 +73,17 @@ impl<'m, N: SearchName> Pool<'m, N> {
         workers: u32,
         seat: Seat,
     ) -> Result<Pool<'m, N>, Memory>
+        // The search is the one of the name, and can be one.
         requires name { (market.now ≡ N.market) × (budget ≡ N.budget) × (workers ≡ N.workers) }
         requires market { IsValid market.now }
         requires budget { IsBudget budget }
         requires workers { (1 ≤ workers) × (workers ≤ MOST_WORKERS) }
+
+        // The pool's own seat, by which nothing was offered.
         requires seat { (seat.incumbent ≡ N.incumbent) × (seat.parts ≡ 1) × (seat.offered ≡ N.incumbent.first) }
         requires closed { IsClosedWelfare market.now (pos N.incumbent.first) }
+
+        // The start, with a journal that will never need more memory.
         ensures pool { IfOk result (λ p. p ≡ started market.now budget workers p.room seat) }
         ensures room { IfOk result (λ p. 2 * budget + 2 * workers + 2 ≤ p.room) }
     {

@@ -52,11 +52,16 @@ pub fn price_test(
     market: &Market,
     activation: &Activation,
 ) -> Result<Intervals, PriceFault>
+    // What the caller knows of the market and the activation.
     requires valid { IsValid market.now }
     requires feasible { IsFeasible market.now activation.now }
+
+    // The intervals, and that there are prices.
     ensures some { OnOk result ((ps : List Cents) × IsConsistent market.now activation.now ps) }
     ensures least { IfOk result (λ i. AreLeastPrices market.now activation.now i.least.cents) }
     ensures greatest { IfOk result (λ i. AreGreatestPrices market.now activation.now i.greatest.cents) }
+
+    // The conflict, and that there are none.
     ensures none { IfErr result (λ e. OnConflict e (λ _. (ps : List Cents) → IsConsistent market.now activation.now ps → ⊥)) }
     ensures chain { IfErr result (λ e. OnConflict e (IsContradiction market.now activation.now)) }
     ensures short { IfErr result (λ e. OnConflict e (λ chain. length chain ≤ market.now.zones)) }

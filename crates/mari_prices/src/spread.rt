@@ -144,11 +144,16 @@ fn next(
     flow: &[i64],
     along: Along,
 ) -> Option<(u32, Settled)>
+    // The zones, and the borders between them.
     requires values { length values.now ≡ length settled.now }
     requires lengths { length flow.now ≡ length borders.now }
     requires ends { All (λ b. (b.from < length settled.now) × (b.to < length settled.now)) borders.now }
     requires few { length settled.now ≤ MOST_ZONES }
+
+    // What is settled so far.
     requires short { AreShort settled.now }
+
+    // That all are settled, or which is next.
     ensures none { IfNone result (NoneFreeBefore (length settled.now) settled.now) }
     ensures some { IfSome result (λ p. IsNext (LeadsTo along borders.now flow.now) (value_in values.now) settled.now p.0 p.1) }
 {

@@ -26,17 +26,26 @@ pub fn ledger_of(
     activation: &Activation,
     also: Option<&Prices>,
 ) -> Result<Ledger, Memory>
+    // The run's market, as the folder's books give it.
     requires accepted { IsAccepted books.now }
     requires made { IsMarketOf books.now made.now }
+
+    // What runs in it, and at which prices.
     requires feasible { IsFeasible made.now.market activation.now }
     requires consistent { IsConsistent made.now.market activation.now prices.now.cents }
     requires also { IfSome also (λ scheduled. ArePrices made.now.market scheduled.now.cents) }
+
+    // Exactly the run's operators' lines, providers' amounts and rents.
     ensures operators { IfOk result (λ ledger. ledger.operators ≡ operator_lines books.now.zones made.now.market activation.now prices.now.cents) }
     ensures providers { IfOk result (λ ledger. ledger.providers ≡ provider_amounts books.now.bids made.now.bids activation.now prices.now.cents (scheduled_or prices.now.cents (option_map (λ scheduled. scheduled.now.cents) also.entry))) }
     ensures rents { IfOk result (λ ledger. ledger.rents ≡ rents_of made.now.market activation.now prices.now.cents) }
+
+    // So a day's ledgers can be added up.
     ensures small { IfOk result HasSmallNumbers }
     ensures operators_small { IfOk result (λ ledger. All (LineIsWithin most_of_operator) ledger.operators) }
     ensures providers_small { IfOk result (λ ledger. All (IsWithin most_of_provider) ledger.providers) }
+
+    // What some operators pay, the others get.
     ensures nets { IfOk result (λ ledger. int_sum net_of ledger.operators ≡ pos 0) }
 {
     let mut ledger = Ledger::start(alloc, &books.zones, &books.borders, &books.bids)?;

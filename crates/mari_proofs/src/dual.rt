@@ -46,10 +46,13 @@ fn gap(order: &Order, potential: Cents) -> i64
 
 /// The most that an order gains at a potential, from its least to its greatest quantity.
 fn best_trade(order: &Order, span: (u32, u32), potential: Cents) -> i128
+    // Prices within the cap, and quantities within their limit.
     requires order { IsPrice order.now.price.0 }
     requires potential { IsPrice potential.0 }
     requires least { span.0 ≤ MOST_MW }
     requires greatest { span.1 ≤ MOST_MW }
+
+    // So many quarter-cents, few enough to be summed over all orders.
     ensures value { result ≡ best_trade order.now.side order.now.price.0 potential.0 (record { lo = span.0; hi = span.1 }) }
     ensures low { neg_ℤ (pos 4000000000000) ≤ℤ result }
     ensures high { result ≤ℤ pos 4000000000000 }
@@ -153,11 +156,15 @@ fn total_value(market: &Market, states: &GateStates, potentials: &[Cents]) -> i1
 /// There is one potential for each zone, in cents per MWh. Whatever the potentials, no activation within the prefix's
 /// bounds has a greater welfare; one has as great a welfare exactly where each of its orders and borders is tight.
 pub fn dual_value(market: &Market, prefix: &Prefix, potentials: &Prices) -> Quarters
+    // What the caller knows of the market, the prefix and the potentials.
     requires market { IsValid market.now }
     requires prefix { IsFeasiblePrefix market.now prefix.now }
     requires potentials { ArePrices market.now potentials.now.cents }
+
+    // The value as it is defined.
     ensures value { result.0 ≡ dual_value_of (bounds_at market.now prefix.now) market.now potentials.now.cents }
 
+    // What it shows of activations.
     ensures weak_duality { (a : Activation) → IsWithinBounds (bounds_at market.now prefix.now) market.now a → welfare_of market.now a ≤ℤ result.0 }
     ensures equal_where_tight { (a : Activation) → IsWithinBounds (bounds_at market.now prefix.now) market.now a → IsTight (bounds_at market.now prefix.now) market.now a potentials.now.cents → welfare_of market.now a ≡ result.0 }
     ensures tight_where_equal { (a : Activation) → IsWithinBounds (bounds_at market.now prefix.now) market.now a → welfare_of market.now a ≡ result.0 → IsTight (bounds_at market.now prefix.now) market.now a potentials.now.cents }

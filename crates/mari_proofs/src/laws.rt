@@ -26,9 +26,14 @@ pub fn one_gate_word(market: &Market)
 ///
 /// The call does nothing: its contract is the law.
 pub fn one_first(market: &Market)
+    // Any market that may be cleared.
     requires { IsValid market.now }
+
+    // What runs is one in its gates and its worth.
     ensures word { (a b : Activation) → IsFirst market.now a → IsFirst market.now b → gate_word_of market.now a ≡ gate_word_of market.now b }
     ensures welfare { (a b : Activation) → IsFirst market.now a → IsFirst market.now b → welfare_of market.now a ≡ welfare_of market.now b }
+
+    // So its prices are one too.
     ensures prices { (a b : Activation) → IsFirst market.now a → IsFirst market.now b → (ps : List Cents) → IsConsistent market.now a ps → IsConsistent market.now b ps }
     ensures least { (a b : Activation) → IsFirst market.now a → IsFirst market.now b → (z : ℕ) (c : ℤ) → IsLeastPrice market.now a z c → IsLeastPrice market.now b z c }
     ensures greatest { (a b : Activation) → IsFirst market.now a → IsFirst market.now b → (z : ℕ) (c : ℤ) → IsGreatestPrice market.now a z c → IsGreatestPrice market.now b z c }

@@ -214,11 +214,14 @@ fn gate_info(links: &[BidLinks], gated: &[u32], number: u32) -> GateInfo
 
 /// The limits that the files state for a border in a run.
 pub(crate) fn limits_of(books: &Books, run: u32, border: u32, ends: BorderEnds) -> Limits
+    // A run and a border of the folder's books.
     requires accepted { IsAccepted books.now }
     requires first { 1 ≤ run }
     requires last { run ≤ length books.now.runs.runs }
     requires border { border < length books.now.borders.borders }
     requires ends { ends ≡ ends_at books.now.borders.borders border }
+
+    // Stated for the day or for that run, and no greater than a file may state them.
     ensures limits { result ≡ limits_at books.now run border }
     ensures limit { result.limit ≤ MOST_MW }
     ensures back { result.back ≤ MOST_MW }
@@ -326,12 +329,17 @@ fn made_of(
     remaining: &Remaining,
     run: u32,
 ) -> Result<RunMarket, Memory>
+    // A run of the folder's books.
     requires accepted { IsAccepted books.now }
     requires first { 1 ≤ run }
     requires last { run ≤ length books.now.runs.runs }
+
+    // What the blocks before it left, and the index of what may run.
     requires small { All (λ flow. unsigned_abs flow ≤ MOST_MW) remaining.now.flow }
     requires index { remaining.now.of_quarter ≡ map (bids_of_quarter books.now.bids.bids) (range_with_len 0 (books.now.quarters + 1)) }
     requires demands { remaining.now.of_run ≡ map (numbers_of_run books.now.demands.demands) (range_with_len 0 (length books.now.runs.runs + 1)) }
+
+    // The market behind these blocks.
     ensures { IfOk result (λ made. made ≡ run_market_left books.now (taken_in books.now remaining.now (run_at books.now run).quarter) run) }
 {
     let entry = run_entry(books, run);

@@ -36,11 +36,16 @@ fn paid_price(bid: &Bid, prices: &[Cents], scheduled: &[Cents]) -> i64
 
 /// What so many MW of a bid earn its provider.
 fn earned(bid: &Bid, mw: u32, prices: &[Cents], scheduled: &[Cents]) -> i128
+    // The bid's zone has a price of the run, and a scheduled one.
     requires zone { bid.now.zone < length prices.now }
     requires lengths { length scheduled.now ≡ length prices.now }
     requires prices { All IsCapped prices.now }
     requires scheduled { All IsCapped scheduled.now }
+
+    // As much as a bid may offer.
     requires mw { mw ≤ MOST_MW }
+
+    // So many quarter-cents, few enough to be summed over all bids.
     ensures value { result ≡ earned_by bid.now.up (paid_at bid.now.up (price_at prices.now bid.now.zone) (price_at scheduled.now bid.now.zone)) mw }
     ensures small { unsigned_abs result ≤ 1000000000000 }
 {
@@ -78,15 +83,22 @@ fn pay_all(
     prices: &[Cents],
     scheduled: &[Cents],
 )
+    // Nobody is paid yet.
     requires lengths { length amounts.old ≡ length bids.now.providers }
     requires cleared { (k : ℕ) → amount_at amounts.old k ≡ pos 0 }
+
+    // What each of the bids runs.
     requires few { length numbers.now ≤ MOST_ORDERS }
     requires one_each { length numbers.now ≤ length mw.now }
     requires mw { All (λ q. q ≤ MOST_MW) mw.now }
+
+    // The prices by which it is paid.
     requires lengths_too { length scheduled.now ≡ length prices.now }
     requires prices { All IsCapped prices.now }
     requires scheduled { All IsCapped scheduled.now }
     requires numbers { All (NamesBid bids.now (length prices.now)) numbers.now }
+
+    // Each provider's sum, which never runs over.
     ensures lengths { length amounts.new ≡ length bids.now.providers }
     ensures paid { (k : ℕ) → amount_at amounts.new k ≡ sum_along (λ number q. bid_amount prices.now scheduled.now k (slice_get bids.now.bids number) q) numbers.now mw.now }
     ensures small { (k : ℕ) → unsigned_abs (amount_at amounts.new k) ≤ MOST_ORDERS * 1000000000000 }
@@ -106,14 +118,21 @@ pub(crate) fn write_amounts(
     prices: &[Cents],
     scheduled: &[Cents],
 )
+    // A place for each provider.
     requires lengths { length amounts.old ≡ length bids.now.providers }
+
+    // What each of the bids runs.
     requires few { length numbers.now ≤ MOST_ORDERS }
     requires one_each { length numbers.now ≤ length activation.now.mw }
     requires mw { All (λ q. q ≤ MOST_MW) activation.now.mw }
+
+    // The prices by which it is paid.
     requires lengths_too { length scheduled.now ≡ length prices.now }
     requires prices { All IsCapped prices.now }
     requires scheduled { All IsCapped scheduled.now }
     requires numbers { All (NamesBid bids.now (length prices.now)) numbers.now }
+
+    // Each provider's amount, whatever stood there.
     ensures value { amounts.new ≡ provider_amounts bids.now numbers.now activation.now prices.now scheduled.now }
     ensures small { All (IsWithin (10 ^ 17)) amounts.new }
 {

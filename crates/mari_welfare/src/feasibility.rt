@@ -133,13 +133,20 @@ fn is_nothing_left(left: &[i128; MOST_ZONES], zones: u32) -> bool
 
 /// Whether each of so many zones is in balance.
 fn is_balanced(zones: u32, orders: &[Order], mw: &[u32], borders: &[Border], flow: &[i64]) -> bool
+    // As many as a market may have.
     requires zones { zones ≤ MOST_ZONES }
     requires few_orders { length orders.now ≤ MOST_ORDERS }
     requires few_borders { length borders.now ≤ MOST_BORDERS }
+
+    // What each order runs, and each border carries.
     requires orders { length mw.now ≡ length orders.now }
     requires borders { length flow.now ≡ length borders.now }
+
+    // Each lies where a market may have zones.
     requires places { All (λ o. o.zone < MOST_ZONES) orders.now }
     requires ends { All (λ b. (b.from < MOST_ZONES) × (b.to < MOST_ZONES)) borders.now }
+
+    // Exactly what the zones' balance asks.
     ensures { IsTrue result ↔ ((z : ℕ) → z < zones → sum_along (put_into z) orders.now mw.now ≡ sum_along (carried_out z) borders.now flow.now) }
 {
     let mut left = net_injections(orders, mw);

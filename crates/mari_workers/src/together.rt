@@ -120,12 +120,17 @@ fn settle_rest<'m, N: SearchName, R: Wait>(
     incumbent: &Incumbent,
     mine: &mut Worked,
 ) -> Result<bool, Memory>
+    // The search is the one of the name.
     requires market { (market.now ≡ N.market) × IsValid market.now }
     requires worker { worker ≤ N.workers }
     requires incumbent { incumbent.now ≡ N.incumbent }
+
+    // What this worker has, before and after.
     requires mine { Holds N.market N.incumbent mine.old }
     ensures mine { Holds N.market N.incumbent mine.new }
     ensures parts { mine.new.seat.parts ≡ mine.old.seat.parts }
+
+    // What the answer says of the pool.
     ensures closed { IfOk result (λ closed. closed ≡ true → IsIdle pool.new pool.new 0) }
     ensures spent { IfOk result (λ closed. closed ≡ false → pool.new.tree.full ≡ true) }
 {
@@ -161,14 +166,21 @@ fn published<'m, N: SearchName>(
     mine: Worked,
     first: Attained,
 ) -> Result<Clearing, Memory>
+    // The search is the one of the name, and all its seats but the pool's are in this one.
     requires market { IsValid N.market }
     requires incumbent { incumbent ≡ N.incumbent }
     requires mine { Holds N.market N.incumbent mine }
     requires parts { mine.seat.parts + 1 ≡ N.incumbent.all }
+
+    // The best activation with every gate closed.
     requires first { IsAttained N.market first × (first.welfare ≡ N.incumbent.first) }
     requires closed { IsClosedWelfare N.market (pos N.incumbent.first) }
     requires gates { gate_word_of N.market first.activation ≡ all_closed N.market }
+
+    // No leaf is open.
     requires idle { IsIdle pool pool 0 }
+
+    // So the best that was offered is an optimum.
     ensures { IfOk result (MayRefine N.market N.budget) }
 {
     let tree = match pool.finish(alloc) {
@@ -202,15 +214,22 @@ fn searched<N: SearchName + Send + Sync, G: Turnstile, R: Threads + Wait + Sync>
     first: Attained,
     turnstile: &G,
 ) -> Result<Cleared, Memory>
+    // The search is the one of the name, and can be one.
     requires market { (market.now ≡ N.market) × IsValid market.now }
     requires numbers { (workers ≡ N.workers) × (budget ≡ N.budget) }
     requires workers { (1 ≤ workers) × (workers ≤ MOST_WORKERS) }
     requires budget { IsBudget budget }
+
+    // A part of the seat for each worker, and two more.
     requires incumbent { (incumbent ≡ N.incumbent) × (N.incumbent.all ≡ workers + 2) }
     requires seat { seat ≡ standing N.incumbent N.incumbent.first N.incumbent.first (workers + 2) }
+
+    // The best activation with every gate closed.
     requires first { IsAttained market.now first × (first.welfare ≡ N.incumbent.first) }
     requires closed { IsClosedWelfare market.now (pos first.welfare) }
     requires gates { gate_word_of market.now first.activation ≡ all_closed market.now }
+
+    // The law of whatever clears.
     ensures { IfOk result (Clears market.now budget) }
 {
     let mut mine = Worked { seat, best: None };

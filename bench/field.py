@@ -5,9 +5,10 @@ usage: python3 bench/field.py [PROGRAM] [--repeats N] [--seconds N] [--without-s
 
 PROGRAM is the built program, by default crates/mari_app/out/mari_app. On Debian the others come by
     apt-get update; apt-get install -y liblemon-dev g++ coinor-cbc glpk-utils lp-solve python3-scipy valgrind
-bench/lemon.cpp is built first, and a solver that isn't installed is left out; without valgrind so are the counts of instructions. The commands
-run one after the other, one thread each, and the least processor time of the repeats is told. A solver has the seconds for each run, 20
-without the option; a dash says that it didn't end. It is no test: nothing fails where a machine is slow, but an answer that differs stops it.
+bench/lemon.cpp is built first, and a solver that isn't installed is left out; without valgrind so are the counts of
+instructions. The commands run one after the other, one thread each, and the least processor time of the repeats is
+told. A solver has the seconds for each run, 20 without the option; a dash says that it didn't end. It is no test:
+nothing fails where a machine is slow, but an answer that differs stops it.
 """
 
 import argparse
@@ -150,7 +151,8 @@ def gated(bench):
 
 
 def gateless(bench):
-    """The markets without gates: whole processes, and the instructions of the solve: of ours with its price test, of LEMON's with its network."""
+    """The markets without gates: whole processes, and the instructions of the solve: of ours with its price test, of
+    LEMON's with its network."""
     print(header("market", "mari, s", "LEMON, s", "solve, instructions", "LEMON's", "ratio"))
     for name, shape in GATELESS.items():
         folder = bench.folder(folders.market(**shape))

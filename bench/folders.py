@@ -1,13 +1,15 @@
 #!/usr/bin/env python3
 """Makes folders of market files to measure with.
 
-usage: python3 bench/folders.py FOLDER [--zones N] [--borders N] [--bids N] [--gates N] [--size N] [--load N] [--demands N] [--runs N] [--seed N]
+usage: python3 bench/folders.py FOLDER [--zones N] [--borders N] [--bids N] [--gates N] [--size N] [--load N]
+                                       [--demands N] [--runs N] [--seed N]
        python3 bench/folders.py FOLDER --day NUMBER
 
-The first form makes markets of one shape: a ring of zones with chords, three bids of four upward, as many demands as zones or as told, and
-gated bids spread evenly over the others. Border limits and demands grow with the bids, so a market of more bids is the same market
-in finer steps. `size` multiplies the gated bids, and `load` is added to each demand's draw: at 0 few gates are worth opening, at 40
-their prices lie amid the margin. Each run is the scheduled one of its quarter. The second form makes the day that `mari generate NUMBER` clears.
+The first form makes markets of one shape: a ring of zones with chords, three bids of four upward, as many demands as
+zones or as told, and gated bids spread evenly over the others. Border limits and demands grow with the bids, so a
+market of more bids is the same market in finer steps. `size` multiplies the gated bids, and `load` is added to each
+demand's draw: at 0 few gates are worth opening, at 40 their prices lie amid the margin. Each run is the scheduled one
+of its quarter. The second form makes the day that `mari generate NUMBER` clears.
 """
 
 import argparse
@@ -58,7 +60,7 @@ def network(dice, zones, borders):
 
 
 def gated_bid(greatest, gate, size):
-    """The least and the greatest quantity of a gated bid: each second one is indivisible, the others go down to a half."""
+    """The least and the greatest quantity of a gated bid: each second is indivisible, others go down to a half."""
     greatest = min(9999, greatest * size)
     return (greatest if gate % 2 == 0 else max(1, greatest // 2)), greatest
 

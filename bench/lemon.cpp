@@ -2,14 +2,16 @@
 //
 //   g++ -std=c++20 -O2 -march=native -o lemon lemon.cpp     (Debian's liblemon-dev)
 //   lemon FOLDER [NODES]    the optimum of each run, within a budget of nodes (50,000 without it)
-//   lemon --least FOLDER    and how large the least tree of bounds is that shows it, and the least that shows the first gate word
+//   lemon --least FOLDER    and how large the least tree of bounds is that shows it, and the least that shows the
+//                           first gate word
 //   lemon --relaxed FOLDER  each run's relaxed problem alone, no gate decided
 //   lemon --read FOLDER     the pages are read, and nothing is solved
 //
-// Gates are decided in the order of bids.csv, the node of the greatest bound comes first (of equal bounds the older one), and every
-// node is solved from nothing. A node whose relaxed activation has consistent prices is an incumbent and ends there. Money is in
-// quarter-cents, as `mari clear` prints it. It knows scheduled runs, one a quarter, and groups and parents within a quarter; it makes no
-// certificate, no intervals, no ledger, and leaves open which of several optimal gate words it finds.
+// Gates are decided in the order of bids.csv, the node of the greatest bound comes first (of equal bounds the older
+// one), and every node is solved from nothing. A node whose relaxed activation has consistent prices is an incumbent
+// and ends there. Money is in quarter-cents, as `mari clear` prints it. It knows scheduled runs, one a quarter, and
+// groups and parents within a quarter; it makes no certificate, no intervals, no ledger, and leaves open which of
+// several optimal gate words it finds.
 
 #include <lemon/network_simplex.h>
 #include <lemon/smart_graph.h>
@@ -311,8 +313,9 @@ public:
         return {best, nodes, true};
     }
 
-    // The nodes of the least tree in the order of gates: below a node whose relaxed welfare exceeds the optimum there are more, for no
-    // bound ends the tree there. For the first optimal word nodes that reach the optimum are branched too, until that word is met.
+    // The nodes of the least tree in the order of gates: below a node whose relaxed welfare exceeds the optimum there
+    // are more, for no bound ends the tree there. For the first optimal word nodes that reach the optimum are branched
+    // too, until that word is met.
     size_t least_tree(Number optimum, size_t budget, bool of_first_word) {
         is_met = !of_first_word;
         return nodes_from("", optimum, budget);

@@ -3,15 +3,17 @@
 
 usage: /usr/bin/python3 bench/milp.py SOLVER FOLDER [--seconds N]
 
-SOLVER is highs (by scipy), cuts (HiGHS too, see below), cbc, glpk or lp_solve. It prints for each run `run R welfare W` in quarter-cents,
-or `run R unknown` where the solver didn't end in time, and last `seconds S`: the processor time of the solvers alone, without reading
-and without the making of the models. The welfare is summed in whole numbers over the quantities that the solver gives.
+SOLVER is highs (by scipy), cuts (HiGHS too, see below), cbc, glpk or lp_solve. It prints for each run `run R welfare W`
+in quarter-cents, or `run R unknown` where the solver didn't end in time, and last `seconds S`: the processor time of
+the solvers alone, without reading and without the making of the models. The welfare is summed in whole numbers over the
+quantities that the solver gives.
 
-With its gates decided a run is a flow problem, so quantities and flows are whole at the vertices and only gates need integer columns. Prices
-are consistent with an activation exactly where they are dual optimal for it and no open gate loses, so one row, the primal value at least
-the dual one, says that there are such prices. Only comparisons of prices matter to it; so in these rows the k-th least price
-stands as the number k, which keeps big M small, and the objective alone has true cents. `cuts` leaves the prices out, tests
-what it finds in whole numbers, forbids that all gates of an inadmissible word are open together, and solves again.
+With its gates decided a run is a flow problem, so quantities and flows are whole at the vertices and only gates need
+integer columns. Prices are consistent with an activation exactly where they are dual optimal for it and no open gate
+loses, so one row, the primal value at least the dual one, says that there are such prices. Only comparisons of prices
+matter to it; so in these rows the k-th least price stands as the number k, which keeps big M small, and the objective
+alone has true cents. `cuts` leaves the prices out, tests what it finds in whole numbers, forbids that all gates of an
+inadmissible word are open together, and solves again.
 """
 
 import argparse
@@ -220,7 +222,7 @@ def has_prices(market, runs, flows):
     return all(low <= high for low, high in zip(least, greatest))
 
 
-# ---- the solvers: each takes a model and seconds, and gives the values of the columns, or None, and the processor seconds
+# ---- the solvers: each takes a model and seconds, and gives the columns' values, or None, and the processor seconds
 
 
 def highs(model, seconds):
@@ -319,8 +321,8 @@ def by_prices(solve):
 def by_cuts(market, seconds):
     """Solves the model without prices, and again without each word whose activation has none.
 
-    Every admissible activation whose gates include those of a cut word has less welfare than was found with that word alone, or
-    would show that word's activation to be admissible itself.
+    Every admissible activation whose gates include those of a cut word has less welfare than was found with that word
+    alone, or would show that word's activation to be admissible itself.
     """
     spent, cuts = 0.0, []
     while spent < seconds:

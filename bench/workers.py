@@ -3,9 +3,9 @@
 
 usage: python3 bench/workers.py [PROGRAM [REPEATS]]
 
-PROGRAM is the built program, by default crates/mari_app/out/mari_app. It prints a table: for each number of workers the best and
-the median wall time of all repeats, and the ratio of the best to that of one worker. It is no test: nothing fails where a
-machine is slow or busy, and the load average is told beside the times.
+PROGRAM is the built program, by default crates/mari_app/out/mari_app. It prints a table: for each number of workers the
+best and the median wall time of all repeats, and the ratio of the best to that of one worker. It is no test: nothing
+fails where a machine is slow or busy, and the load average is told beside the times.
 """
 
 import os
@@ -28,7 +28,7 @@ NODES = 50_000
 
 
 def pages(seed):
-    """The pages of a folder: zones in a ring, plain bids in each, and gated bids whose prices are close to the margin."""
+    """The pages of a folder: a ring of zones, plain bids in each, and gated bids priced close to the margin."""
     dice = random.Random(seed)
     zones = [f"Z{zone}" for zone in range(1, ZONES + 1)]
     made = folders.empty_pages()
@@ -48,7 +48,8 @@ def pages(seed):
 
 
 def clear(program, folder, workers):
-    """The wall time in seconds, and the lines that every number of workers prints alike: the welfare and the size of the tree."""
+    """The wall time in seconds, and the lines that every number of workers prints alike: the welfare and the size of
+    the tree."""
     began = time.perf_counter()
     words = [program, "clear", folder, "--nodes", str(NODES), "--workers", str(workers)]
     done = subprocess.run(words, stdout=subprocess.PIPE, check=False)

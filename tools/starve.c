@@ -1,7 +1,7 @@
 /* Refuses allocations by number: the library that tools/starve loads before libc.
  *
- * Every allocation of the built program is a malloc or a realloc. STARVE_COUNTER names a file of eight bytes in which they are counted,
- * STARVE_AT the one that is refused, from 1, and STARVE_ON is 1 where each later one is refused too.
+ * Every allocation of the built program is a malloc or a realloc. STARVE_COUNTER names a file of eight bytes in which
+ * they are counted, STARVE_AT the one that is refused, from 1, and STARVE_ON is 1 where each later one is refused too.
  */
 #define _GNU_SOURCE
 #include <errno.h>

@@ -148,7 +148,7 @@ pub record IsBid (zones : ZoneBook) (providers quarters : ℕ) (bid : Bid) : Typ
   pub last_quarter : bid.quarter ≤ quarters
   pub price : IsWithinCap bid.price.0
   pub some : 1 ≤ bid.greatest
-  pub most : bid.greatest ≤ 9999
+  pub most : bid.greatest ≤ MOST_BID_MW
   pub least : bid.least ≤ bid.greatest
 
 -- what holds of every book of bids that is read: each bid has a name of its own, each provider a name, and no quarter

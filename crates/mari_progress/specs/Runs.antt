@@ -17,7 +17,7 @@ use Rattle.mari_progress.specs.declared.progress.Settled.{Settled}
 use Rattle.mari_progress.specs.Behind.{also_behind, market_behind, run_behind}
 use Rattle.mari_progress.specs.Money.{HasLedger, amounts_of, money_lines_of}
 use Rattle.mari_progress.specs.Told.{NamesMarket, activation_of, heading_of, prices_of}
-use Rattle.mari_units.specs.declared.limits.TheConstants.{MOST_BIDS, MOST_DEMANDS}
+use Rattle.mari_units.specs.declared.limits.TheConstants.{MOST_BID_MW, MOST_BIDS, MOST_DEMANDS}
 
 -- a market of these books: it is valid, over their zones and borders; its first orders are those of bids that are
 -- there, of at most 9,999 MW, and the others those of at most 512 demands
@@ -30,7 +30,7 @@ pub record IsMarketOf (books : Books) (made : RunMarket) : Type 0 where
   pub few : length made.bids ≤ MOST_BIDS
   pub few_demands : made.demands ≤ MOST_DEMANDS
   pub named : NameOrders books.bids.bids made.bids made.market.orders
-  pub small : All (λ (o : Order). o.greatest ≤ 9999) (take (length made.bids) made.market.orders)
+  pub small : All (λ (o : Order). o.greatest ≤ MOST_BID_MW) (take (length made.bids) made.market.orders)
 
 -- what a later block rests on of a published one behind these blocks: its heading, names, activation, prices and ledger
 -- are its run's

@@ -4,13 +4,13 @@ ghost use Rattle.std.specs.Prelude.{◌≡◌, ◌≤◌, ◌<◌, ◌+◌, ◌+
 ghost use Rattle.std.specs.List.{All};
 ghost use Rattle.mari_remain.specs.Blocks.{mw_beside};
 
-use mari_units::MOST_MW;
+use mari_units::{MOST_BID_MW, MOST_MW};
 
 /// Adds the MW beside these bids.
 pub(crate) fn add_mw(mw: &mut [u32], bids: &[u32], more: &[u32])
     requires there { All (λ bid. bid < length mw.old) bids.now }
     requires long { length bids.now ≤ length more.now }
-    requires small { (i : ℕ) → get_or mw.old i 0 + mw_beside i bids.now more.now ≤ 9999 }
+    requires small { (i : ℕ) → get_or mw.old i 0 + mw_beside i bids.now more.now ≤ MOST_BID_MW }
     ensures { (i : ℕ) → get_or mw.new i 0 ≡ get_or mw.old i 0 + mw_beside i bids.now more.now }
 {
     for (place, bid) in bids.iter().enumerate() {

@@ -15,7 +15,7 @@ use crate::providers::write_amounts;
 use crate::rents::write_rents;
 use mari_bids::BidBook;
 use mari_market::{Activation, Market, Prices};
-use mari_units::Cents;
+use mari_units::{Cents, MOST_BID_MW};
 use mari_zones::ZoneBook;
 
 /// The scheduled prices, or where there are none these.
@@ -66,7 +66,7 @@ pub fn settle_run(
 
     // So a day's ledgers can be added up.
     ensures small { HasSmallNumbers ledger.new }
-    ensures providers_small { All (λ q. q ≤ 9999) (take (length numbers.now) activation.now.mw) → All (IsWithin (4 * 10 ^ 15)) ledger.new.providers }
+    ensures providers_small { All (λ q. q ≤ MOST_BID_MW) (take (length numbers.now) activation.now.mw) → All (IsWithin (4 * 10 ^ 15)) ledger.new.providers }
     ensures operators_small { All (LineIsWithin (2 * 10 ^ 15)) ledger.new.operators }
 {
     let prices = prices.cents.as_slice();

@@ -113,7 +113,7 @@ fn euros_and(euros: Option<u64>, cents: Option<u64>) -> Option<u64>
 ///
 /// It lies from -`CAP` to `CAP`.
 pub fn read_cents(text: &[u8]) -> Result<Cents, NumberFault>
-    ensures { result ≡ ranged (λ z. record { 0 = z }) (neg_ℤ (pos 9999900)) (pos 9999900) (price_of text.now) }
+    ensures { result ≡ ranged (λ z. record { 0 = z }) (neg_ℤ CAP) CAP (price_of text.now) }
 {
     let (minus, digits) = split_sign(text);
     let Some(size) = unsigned_cents(digits) else {

@@ -116,7 +116,7 @@ pub fn has_header(alloc: Global, page: &[u8], columns: &str) -> Result<bool, Mem
     if wide_line(page, columns.len()) == Some(1) {
         return Ok(false);
     }
-    let mut records = Records::of(alloc, page);
+    let mut records = Records::of(alloc, page)?;
     let is_header = records.next_is(alloc, columns.as_slice())?;
     Ok(is_header.unwrap_or(false))
 }
@@ -131,7 +131,7 @@ fn rows_behind_header<'a>(
     ensures rows { IfOk result (λ rows. rows_behind_header_in (map (λ c. c.now) columns.now) (records_in page.now) ≡ Ok rows) }
     ensures fault { IfErr result (IsFaultOf (rows_behind_header_in (map (λ c. c.now) columns.now) (records_in page.now))) }
 {
-    let mut records = Records::of(alloc, page);
+    let mut records = Records::of(alloc, page)?;
     match records.next_is(alloc, columns)? {
         Some(true) => Ok(RowReader { records, line: 2 }),
         Some(false) | None => Err(RowFault::BadHeader),

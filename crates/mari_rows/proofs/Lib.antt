@@ -8,3 +8,5 @@ pub mod NameLemmas
 pub mod PlaceLemmas
 pub mod RecordLemmas
 pub mod RowLemmas
+pub mod WalkLemmas
+pub mod WideLemmas

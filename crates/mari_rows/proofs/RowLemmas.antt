@@ -1,6 +1,6 @@
 -- Rows, their fields and the first fault among them.
 use Rattle.std.proofs.Common.{◌≡◌, ◌≤◌, ◌+◌, ◌==◌, ℕ, suc, zero, ◌&&◌, Bool, true, false, List, [], ◌∷◌, ◌++◌, Option, Some, None, Result, Ok, Err, take, length, refl, sym, arith, IsUtf8, All, if◌then◌else◌}
-use Rattle.std.specs.Prelude.{MatchResult, is_ok}
+use Rattle.std.specs.Prelude.{IfErr, MatchResult, is_ok}
 use Rattle.std.specs.List.{list_all}
 use Rattle.std.specs.Option.{option_or}
 use Rattle.std.specs.Str.{bytes_eq, is_utf8}
@@ -71,8 +71,13 @@ fault-checked width read (BadRow line) there = rw there refl
 fault-checked width read (NotUtf8 line) there = rw there refl
 fault-checked width read Memory there = tt
 
+pub faults-checked : {X : Type 0} (width : ℕ) (read : Result (List Row) RowFault) (given : Result X RowFault) → IfErr given (IsFaultOf read)
+    → IfErr given (IsFaultOf (rows_checked width read))
+faults-checked width read (Ok value) there = tt
+faults-checked width read (Err fault) there = fault-checked width read fault there
+
 -- a row without a fault has as many fields as are wanted
-width-of : (width : ℕ) (row : Row) → fault_of_row width row ≡ None → length row.fields ≡ width
+pub width-of : (width : ℕ) (row : Row) → fault_of_row width row ≡ None → length row.fields ≡ width
 width-of width row none = by (length row.fields == width) refl none
   where
     by : (b : Bool) → (length row.fields == width) ≡ b

@@ -6,3 +6,4 @@ pub mod Headers
 pub mod Names
 pub mod Records
 pub mod Rows
+pub mod Widths

@@ -10,6 +10,7 @@ mod fields;
 mod names;
 mod records;
 mod rows;
+mod widths;
 
 pub use books::{BookSoFar, read_book};
 pub use checks::{FileCheck, LineFault, RowCheck};

@@ -145,18 +145,20 @@ fn read_record(reader: &mut Reader<&[u8]>, row: &mut ByteRecord) -> Result<bool,
 }
 
 impl<'a> Records<'a> {
-    /// The records of a page.
-    pub(crate) fn of(alloc: Global, page: &'a [u8]) -> Self
-        ensures { result ≡ records_in page.now }
+    /// The records of a page. The reader is given a header of no fields, or else it would keep two copies of the first
+    /// record.
+    pub(crate) fn of(alloc: Global, page: &'a [u8]) -> Result<Self, Memory>
+        ensures { IfOk result (λ records. records ≡ records_in page.now) }
     {
-        Records {
-            reader: ReaderBuilder::new()
-                .has_headers(false)
-                .flexible(true)
-                .from_reader(alloc, page),
+        let mut reader = ReaderBuilder::new().flexible(true).from_reader(alloc, page);
+        if reader.set_byte_headers(ByteRecord::new(alloc)).is_err() {
+            return Err(Memory);
+        }
+        Ok(Records {
+            reader,
             row: ByteRecord::new(alloc),
             has_ended: false,
-        }
+        })
     }
 
     /// The fields of the next record. Once memory was wanted there are no more.

@@ -1,12 +1,14 @@
 //! The rows of a page: its records below the header, each with its line.
-ghost use Rattle.std.specs.Prelude.{◌≡◌, ◌≤◌, ◌<◌, ◌∷◌, [], ◌^◌, All, length, map, IfOk, IfErr, OnErr, MatchOption};
+ghost use Rattle.std.specs.Prelude.{◌≡◌, ◌≤◌, ◌<◌, ◌∷◌, [], ◌^◌, ℕ, All, List, length, map, IfOk, IfErr, OnErr, MatchOption};
 ghost use Rattle.mari_rows.specs.Headers.{has_header as has_header_in};
 ghost use Rattle.mari_rows.specs.Records.{records_in};
-ghost use Rattle.mari_rows.specs.Rows.{columns_of as columns_in, field_of, first_row_fault, rows_behind_header as rows_behind_header_in, rows_in, IsFaultOf, TellsRow};
+ghost use Rattle.mari_rows.specs.Rows.{columns_of as columns_in, field_of, first_row_fault, rows_behind_header as rows_behind_header_in, rows_from, rows_in, IsFaultOf, TellsRow};
+ghost use Rattle.mari_rows.specs.Widths.{first_wide};
 
 use crate::faults::RowFault;
 use crate::field::Field;
 use crate::records::{Records, Tested};
+use crate::widths::wide_line;
 use mari_units::{Items, Memory};
 use std::alloc::{AllocError, Global};
 use std::marker::Model;
@@ -76,6 +78,13 @@ impl<'a> RowReader<'a> {
         }
     }
 
+    // The line of the next row, if there is one.
+    fn next_line(&self) -> u32
+        ensures { (records : List (List (List ℕ))) × (self.now ≡ rows_from result records) }
+    {
+        self.line
+    }
+
     // Tests the next row, where so many fields are wanted.
     fn test_next(&mut self, width: usize) -> Result<Tested, Memory>
         ensures tested { IfOk result (TellsRow width self.old self.new) }
@@ -104,7 +113,10 @@ pub fn has_header(alloc: Global, page: &[u8], columns: &str) -> Result<bool, Mem
     ensures { IfOk result (λ has. has ≡ has_header_in columns.now page.now) }
 {
     let columns = columns_of(alloc, columns)?;
-    let mut records = Records::of(alloc, page);
+    if wide_line(page, columns.len()) == Some(1) {
+        return Ok(false);
+    }
+    let mut records = Records::of(alloc, page)?;
     let is_header = records.next_is(alloc, columns.as_slice())?;
     Ok(is_header.unwrap_or(false))
 }
@@ -119,18 +131,28 @@ fn rows_behind_header<'a>(
     ensures rows { IfOk result (λ rows. rows_behind_header_in (map (λ c. c.now) columns.now) (records_in page.now) ≡ Ok rows) }
     ensures fault { IfErr result (IsFaultOf (rows_behind_header_in (map (λ c. c.now) columns.now) (records_in page.now))) }
 {
-    let mut records = Records::of(alloc, page);
+    let mut records = Records::of(alloc, page)?;
     match records.next_is(alloc, columns)? {
         Some(true) => Ok(RowReader { records, line: 2 }),
         Some(false) | None => Err(RowFault::BadHeader),
     }
 }
 
-// The first row with a fault by itself. No row is copied.
-fn first_fault_of(rows: &mut RowReader<'_>, width: usize) -> Result<Option<RowFault>, Memory>
+// The first row with a fault by itself, where the row of the line `wide` is the first of very many fields. No row is
+// copied, and that one isn't read.
+fn first_fault_of(
+    rows: &mut RowReader<'_>,
+    width: usize,
+    wide: Option<usize>,
+) -> Result<Option<RowFault>, Memory>
+    requires { (most : ℕ) × (width ≤ most) × (wide ≡ first_wide most rows.old) }
     ensures { IfOk result (λ fault. fault ≡ first_row_fault width rows.old) }
 {
     'rows: loop {
+        let line = rows.next_line();
+        if wide == Some(line as usize) {
+            return Ok(Some(RowFault::BadRow(line)));
+        }
         match rows.test_next(width)? {
             Tested::Fine => {}
             Tested::Faulty(fault) => return Ok(Some(fault)),
@@ -152,8 +174,13 @@ pub fn read_rows<'a>(
     ensures fault { IfErr result (IsFaultOf (rows_in columns.now page.now)) }
 {
     let columns = columns_of(alloc, columns)?;
+    let width = columns.len();
+    let wide = wide_line(page, width);
+    if wide == Some(1) {
+        return Err(RowFault::BadHeader);
+    }
     let mut rows = rows_behind_header(alloc, page, columns.as_slice())?;
-    match first_fault_of(&mut rows, columns.len())? {
+    match first_fault_of(&mut rows, width, wide)? {
         Some(fault) => Err(fault),
         None => rows_behind_header(alloc, page, columns.as_slice()),
     }

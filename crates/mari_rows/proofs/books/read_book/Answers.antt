@@ -1,7 +1,5 @@
-use Rattle.std.proofs.Common.{◌≡◌, ◌∙◌, ◌≤◌, Ok, length, arith, rules, sym}
-use Rattle.mari_rows.specs.Rows.{rows_in}
+use Rattle.std.proofs.Common.{◌≤◌, length, arith}
 use Rattle.mari_rows.proofs.RowLemmas.{length-rows_in}
-use Rattle.mari_rows.proofs.BookLemmas.{gives-error, gives-rows}
 use Rattle.mari_rows.proofs.books.read_book.Goals as goal
 
 pub book_of-requires-clause-lines : goal.book_of-requires-clause-lines

@@ -1,20 +1,20 @@
 -- What runs within bounds and in balance is feasible where the orders of each gate run together, at least their least.
-use Rattle.std.proofs.Common.{◌≡◌, ◌&&◌, ◌||◌, if◌then◌else◌, Bool, true, false, ℕ, zero, suc, ◌+◌, ◌<◌, ◌≤◌, List, [], ◌∷◌, ◌++◌, Option, Some, None, length, length-append, arith, refl, sym, ap, ◌∙◌, inl, inr}
+use Rattle.std.proofs.Common.{◌≡◌, ◌&&◌, if◌then◌else◌, Bool, true, false, ℕ, zero, suc, ◌+◌, ◌<◌, ◌≤◌, List, [], ◌∷◌, ◌++◌, Option, Some, None, length, length-append, arith, refl, ap, ◌∙◌, inl, inr}
 use Rattle.std.proofs.lemmas.Bool.{both_ways, cases_lt}
 use Rattle.std.proofs.lemmas.List.FromFn.{length-map-range_with_len}
 use Rattle.std.proofs.lemmas.Option.{slice_get_past}
 use Rattle.std.specs.Prelude.{◌↔◌, IsTrue, nat_lt, slice_get, option_and_then, MatchOption}
-use Rattle.std.specs.List.{All, AllZip}
+use Rattle.std.specs.List.{AllZip}
 use Rattle.mari_market.specs.declared.market.GateInfo.{GateInfo}
 use Rattle.mari_market.specs.declared.market.Order.{Order}
 use Rattle.mari_market.specs.declared.market.Market.{Market}
 use Rattle.mari_market.specs.declared.activation.Activation.{Activation}
 use Rattle.mari_market.specs.declared.prefix.Prefix.{Prefix}
 use Rattle.mari_market.specs.Activation.{is_gate, is_open, runs_gate}
-use Rattle.mari_market.specs.Bounds.{Span, IsWithin, GateState, gated_span, span_of, span_in, own_bounds}
+use Rattle.mari_market.specs.Bounds.{IsWithin, GateState, gated_span, span_of, span_in, own_bounds}
 use Rattle.mari_market.specs.Bounds.GateState.{Open, Closed, Free}
-use Rattle.mari_market.specs.Gates.{group_of, parent_of, KeepsGateRules}
-use Rattle.mari_market.specs.Market.{GateFits, IsValid, IsValidOrder}
+use Rattle.mari_market.specs.Gates.{KeepsGateRules}
+use Rattle.mari_market.specs.Market.{IsValid, IsValidOrder}
 use Rattle.mari_market.specs.Optimal.{IsFeasible}
 use Rattle.mari_market.specs.Prefix.{bit_of, word_of, opens_in, bounds_of_word, IsFeasibleWord}
 use Rattle.mari_market.specs.Relaxation.{IsWithinBounds}

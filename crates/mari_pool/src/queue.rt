@@ -28,6 +28,7 @@ pub struct Queue {
 impl Model for Queue {
     ghost use Rattle.std.specs.Prelude.{◌≤◌, All, length, map, vec_capacity};
     ghost use Rattle.std.specs.BinaryHeap.{heap_items, heap_capacity, IsHeap};
+    ghost use Rattle.mari_units.specs.declared.limits.TheConstants.{MOST_NODES};
     ghost use Rattle.mari_pool.specs.Queued.{Queued, number_in, by_key, IsKeyed};
 
     ghost Value = { Queued };

@@ -1,6 +1,8 @@
 -- A book from its page: the checks of its lines, the first that fails, and what its lines say.
 use Rattle.std.specs.Prelude.{◌≡◌, ℕ, Bool, List, [], ◌∷◌, Option, Some, None, Result, Ok, Err, if◌then◌else◌, option_map}
 use Rattle.std.specs.Option.{option_or}
+use Rattle.mari_rows.specs.Checks.{row_check_number}
+use Rattle.mari_rows.specs.declared.checks.RowCheck.TheVariants as check
 use Rattle.mari_rows.specs.First.{first_fault, unless_fault}
 use Rattle.mari_rows.specs.Rows.{rows_in}
 use Rattle.mari_rows.specs.declared.faults.BookFault.{BookFault}
@@ -31,9 +33,9 @@ pub record Grammar (Book : Type 0) : Type 0 where
 
 -- the refusal that a fault of the rows is
 abbrev pub refusal_of : RowFault → BookFault
-refusal_of unread.BadHeader = refused.At 1 1
-refusal_of (unread.BadRow line) = refused.At line 2
-refusal_of (unread.NotUtf8 line) = refused.At line 3
+refusal_of unread.BadHeader = refused.At 1 (row_check_number check.BadHeader)
+refusal_of (unread.BadRow line) = refused.At line (row_check_number check.BadRow)
+refusal_of (unread.NotUtf8 line) = refused.At line (row_check_number check.NotUtf8)
 refusal_of unread.Memory = refused.Memory
 
 module _ {Book : Type 0} (g : Grammar Book) where

@@ -4,6 +4,7 @@ use Rattle.std.specs.Option.{option_and_then}
 use Rattle.std.specs.Str.{bytes_eq}
 use Rattle.mari_units.specs.Numbers.{price_of, whole_of}
 use Rattle.mari_units.specs.declared.numbers.Cents.{Cents}
+use Rattle.mari_units.specs.declared.numbers.TheConstants.{CAP}
 
 -- a number from the least to the greatest
 abbrev pub within : ℕ → ℕ → ℤ → Option ℕ
@@ -16,12 +17,12 @@ number_in least greatest text = option_and_then (within least greatest) (whole_o
 
 -- a number of cents from -CAP to CAP
 pub record IsWithinCap (cents : ℤ) : Type 0 where
-  pub low : neg_ℤ (pos 9999900) ≤ℤ cents
-  pub high : cents ≤ℤ pos 9999900
+  pub low : neg_ℤ CAP ≤ℤ cents
+  pub high : cents ≤ℤ CAP
 
 -- a price from -CAP to CAP
 abbrev pub within_cap : ℤ → Option Cents
-within_cap cents = if int_le (neg_ℤ (pos 9999900)) cents && int_le cents (pos 9999900) then Some (record { 0 = cents }) else None
+within_cap cents = if int_le (neg_ℤ CAP) cents && int_le cents CAP then Some (record { 0 = cents }) else None
 
 -- the price that a text writes, where it is from -CAP to CAP
 abbrev pub cents_in : List ℕ → Option Cents

@@ -7,6 +7,7 @@ ghost use Rattle.mari_rows.specs.declared.rows.Row.{Row as Line};
 use crate::checks::{FileCheck, LineFault};
 use crate::faults::BookFault;
 use crate::rows::{Row, RowReader, read_rows};
+use mari_units::MOST_PAGE;
 use std::alloc::Global;
 
 /// What keeps the book of the lines so far.
@@ -25,7 +26,7 @@ pub trait BookSoFar {
 
     /// Takes one more line, or tells the first check that it fails. After that it is used no more.
     fn take(&mut self, alloc: Global, line: &Row) -> Result<(), LineFault<Self::Check>>
-        requires { (earlier : List Line) × Holds self.old earlier × (length earlier < 268435456) }
+        requires { (earlier : List Line) × Holds self.old earlier × (length earlier < MOST_PAGE) }
         ensures same { grammar self.new ≡ grammar self.old }
         ensures takes { (earlier : List Line) → Holds self.old earlier
             → TakesLine Self.Check.number result (first_failing ((grammar self.old).line_checks earlier line.now)) (λ _. Holds self.new (earlier ++ line.now ∷ [])) };
@@ -37,13 +38,13 @@ pub trait BookSoFar {
             → TakesLine Self.Check.number result (first_failing ((grammar self).file_checks lines)) (λ book. book ≡ (grammar self).book lines) };
 }
 
-// The book of these lines, or their first refusal.
+/// The book of these lines, or their first refusal.
 fn book_of<S: BookSoFar + Drop>(
     alloc: Global,
     lines: &mut RowReader<'_>,
     mut so_far: S,
 ) -> Result<S::Book, BookFault>
-    requires lines { length lines.old ≤ 268435456 }
+    requires lines { length lines.old ≤ MOST_PAGE }
     requires none { S.Holds so_far [] }
     ensures { GivesBook result (book_of_rows (S.grammar so_far) lines.old) }
 {
@@ -65,7 +66,7 @@ pub fn read_book<S: BookSoFar + Drop>(
     columns: &str,
     so_far: S,
 ) -> Result<S::Book, BookFault>
-    requires page { length page.now ≤ 268435456 }
+    requires page { length page.now ≤ MOST_PAGE }
     requires columns { (S.grammar so_far).columns ≡ columns.now }
     requires none { S.Holds so_far [] }
     ensures { GivesBook result (book_in (S.grammar so_far) page.now) }

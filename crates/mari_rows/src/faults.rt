@@ -1,6 +1,7 @@
 //! What is wrong with a page, and where.
 ghost use Rattle.std.specs.Prelude.{◌≡◌};
 
+use crate::checks::{FileCheck, RowCheck};
 use mari_units::Memory;
 use std::alloc::{AllocError, AllocFailed};
 use thiserror::Error;
@@ -96,11 +97,13 @@ impl From<RowFault> for BookFault {
     ghost from_gives = { λ fault refusal. refusal ≡ refusal_of fault };
 
     fn from(fault: RowFault) -> Self {
-        match fault {
-            RowFault::BadHeader => BookFault::At { line: 1, number: 1 },
-            RowFault::BadRow(line) => BookFault::At { line, number: 2 },
-            RowFault::NotUtf8(line) => BookFault::At { line, number: 3 },
-            RowFault::Memory => BookFault::Memory,
-        }
+        let (line, check) = match fault {
+            RowFault::BadHeader => (1, RowCheck::BadHeader),
+            RowFault::BadRow(line) => (line, RowCheck::BadRow),
+            RowFault::NotUtf8(line) => (line, RowCheck::NotUtf8),
+            RowFault::Memory => return BookFault::Memory,
+        };
+        let (number, _name) = check.entry();
+        BookFault::At { line, number }
     }
 }

@@ -56,7 +56,7 @@ fn is_text(bytes: &[u8]) -> bool
     std::str::from_utf8(bytes).is_ok()
 }
 
-// Whether each field of a record is text.
+/// Whether each field of a record is text.
 #[tactic(auto, using(crate::proofs::RowLemmas::text_more, crate::proofs::RowLemmas::not_text))]
 fn all_text(row: &ByteRecord) -> bool
     ensures { result ≡ list_all is_utf8_of (fields_of row.now) }
@@ -71,7 +71,7 @@ fn all_text(row: &ByteRecord) -> bool
     true
 }
 
-// What is wrong with a record of this line by itself, where so many fields are wanted. No field is copied.
+/// What is wrong with a record of this line by itself, where so many fields are wanted. No field is copied.
 fn test(row: &ByteRecord, line: u32, width: usize) -> Tested
     ensures { TellsRecord width line (fields_of row.now) result }
 {
@@ -84,7 +84,7 @@ fn test(row: &ByteRecord, line: u32, width: usize) -> Tested
     }
 }
 
-// The fields of a record, copied.
+/// The fields of a record, copied.
 fn fields_from(alloc: Global, row: &ByteRecord) -> Result<Vec<Field>, Memory>
     ensures { IfOk result (λ v. v.items ≡ fields_of row.now) }
 {
@@ -103,7 +103,7 @@ fn texts_of(alloc: Global, fields: &[Field]) -> Result<Vec<&[u8]>, AllocError>
     fields.iter().map(|field| field.as_slice()).collect(alloc)
 }
 
-// Whether the fields are the column names.
+/// Whether the fields are the column names.
 fn is_header(alloc: Global, fields: &[Field], columns: &[&[u8]]) -> Result<bool, Memory>
     ensures { IfOk result (λ r. r ≡ is_header_of (map (λ c. c.now) columns.now) fields.now) }
 {
@@ -111,7 +111,7 @@ fn is_header(alloc: Global, fields: &[Field], columns: &[&[u8]]) -> Result<bool,
     Ok(texts.as_slice() == columns)
 }
 
-// Whether a record is the column names. One of another number of fields isn't copied.
+/// Whether a record is the column names. One of another number of fields isn't copied.
 #[tactic(auto, using(crate::proofs::RowLemmas::no_header))]
 fn is_header_record(alloc: Global, row: &ByteRecord, columns: &[&[u8]]) -> Result<bool, Memory>
     ensures { IfOk result (λ r. r ≡ is_header_of (map (λ c. c.now) columns.now) (fields_of row.now)) }
@@ -123,7 +123,7 @@ fn is_header_record(alloc: Global, row: &ByteRecord, columns: &[&[u8]]) -> Resul
     is_header(alloc, fields.as_slice(), columns)
 }
 
-// What stops a reader that takes records of any number of fields is want of memory.
+/// What stops a reader that takes records of any number of fields is want of memory.
 fn memory_of(error: Error) -> Memory
     requires { NotLengths (error_kind error) }
 {
@@ -133,7 +133,7 @@ fn memory_of(error: Error) -> Memory
     }
 }
 
-// Reads the next record, if there is one.
+/// Reads the next record, if there is one.
 fn read_record(reader: &mut Reader<&[u8]>, row: &mut ByteRecord) -> Result<bool, Memory>
     requires { IsBetweenRecords reader.old }
     ensures { IfOk result (ReadsRecord reader.old reader.new (fields_of row.new)) }

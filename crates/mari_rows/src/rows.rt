@@ -9,7 +9,7 @@ use crate::faults::RowFault;
 use crate::field::Field;
 use crate::records::{Records, Tested};
 use crate::widths::wide_line;
-use mari_units::{Items, Memory};
+use mari_units::{Items, MOST_PAGE, Memory};
 use std::alloc::{AllocError, Global};
 use std::marker::Model;
 
@@ -78,14 +78,14 @@ impl<'a> RowReader<'a> {
         }
     }
 
-    // The line of the next row, if there is one.
+    /// The line of the next row, if there is one.
     fn next_line(&self) -> u32
         ensures { (records : List (List (List ℕ))) × (self.now ≡ rows_from result records) }
     {
         self.line
     }
 
-    // Tests the next row, where so many fields are wanted.
+    /// Tests the next row, where so many fields are wanted.
     fn test_next(&mut self, width: usize) -> Result<Tested, Memory>
         ensures tested { IfOk result (TellsRow width self.old self.new) }
         ensures err { OnErr result (self.new ≡ []) }
@@ -98,7 +98,7 @@ impl<'a> RowReader<'a> {
     }
 }
 
-// The texts between the commas.
+/// The texts between the commas.
 fn columns_of(alloc: Global, columns: &str) -> Result<Vec<&[u8]>, AllocError>
     ensures { IfOk result (λ v. map (λ x. x.now) v.items ≡ columns_in columns.now) }
 {
@@ -121,13 +121,13 @@ pub fn has_header(alloc: Global, page: &[u8], columns: &str) -> Result<bool, Mem
     Ok(is_header.unwrap_or(false))
 }
 
-// The rows of a page whose header is these columns.
+/// The rows of a page whose header is these columns.
 fn rows_behind_header<'a>(
     alloc: Global,
     page: &'a [u8],
     columns: &[&[u8]],
 ) -> Result<RowReader<'a>, RowFault>
-    requires { length page.now ≤ 268435456 }
+    requires { length page.now ≤ MOST_PAGE }
     ensures rows { IfOk result (λ rows. rows_behind_header_in (map (λ c. c.now) columns.now) (records_in page.now) ≡ Ok rows) }
     ensures fault { IfErr result (IsFaultOf (rows_behind_header_in (map (λ c. c.now) columns.now) (records_in page.now))) }
 {
@@ -138,8 +138,8 @@ fn rows_behind_header<'a>(
     }
 }
 
-// The first row with a fault by itself, where the row of the line `wide` is the first of very many fields. No row is
-// copied, and that one isn't read.
+/// The first row with a fault by itself, where the row of the line `wide` is the first of very many fields. No row is
+/// copied, and that one isn't read.
 fn first_fault_of(
     rows: &mut RowReader<'_>,
     width: usize,
@@ -169,7 +169,7 @@ pub fn read_rows<'a>(
     page: &'a [u8],
     columns: &str,
 ) -> Result<RowReader<'a>, RowFault>
-    requires { length page.now ≤ 268435456 }
+    requires { length page.now ≤ MOST_PAGE }
     ensures rows { IfOk result (λ rows. rows_in columns.now page.now ≡ Ok rows) }
     ensures fault { IfErr result (IsFaultOf (rows_in columns.now page.now)) }
 {
@@ -188,7 +188,7 @@ pub fn read_rows<'a>(
 
 /// The rows of a page with these columns, whose names stand between the commas.
 pub fn rows_of(alloc: Global, bytes: &[u8], columns: &str) -> Result<Rows, RowFault>
-    requires { length bytes.now ≤ 268435456 }
+    requires { length bytes.now ≤ MOST_PAGE }
     ensures rows { IfOk result (λ rows. rows_in columns.now bytes.now ≡ Ok rows.rows) }
     ensures widths { IfOk result (λ rows. All (λ row. length row.fields ≡ length (columns_in columns.now)) rows.rows) }
     ensures fault { IfErr result (IsFaultOf (rows_in columns.now bytes.now)) }

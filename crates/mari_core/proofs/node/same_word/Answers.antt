@@ -1,4 +1,4 @@
-use Rattle.std.proofs.Common.{◌≡◌, Bool, true, false, refl, ℕ, ◌<◌, ◌≤◌, Some, length, arith, ap, sym, ◌∙◌}
+use Rattle.std.proofs.Common.{◌≡◌, Bool, true, false, refl, ℕ, ◌<◌, Some, length, arith, ap, sym, ◌∙◌}
 use mathlib.Core.Bool.{not, beq}
 use Rattle.std.specs.Prelude.{slice_get}
 use Rattle.mari_market.specs.Prefix.{bit_of, word_of}

@@ -1,4 +1,4 @@
-use Rattle.std.proofs.Common.{◌≤◌, length, arith, ap}
+use Rattle.std.proofs.Common.{length, arith, ap}
 use Rattle.mari_gates.proofs.Decisions.{length-decisions}
 use Rattle.mari_core.specs.Nodes.{TreeNode}
 use Rattle.mari_core.proofs.node.Node.decides.Goals as goal

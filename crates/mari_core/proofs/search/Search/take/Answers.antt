@@ -1,4 +1,4 @@
-use Rattle.std.proofs.Common.{length, arith, ap, subst}
+use Rattle.std.proofs.Common.{subst}
 use Rattle.mari_core.specs.Nodes.{state_at}
 use Rattle.mari_core.specs.Growth.{take_refused, IsAnswer}
 use Rattle.mari_core.specs.Growth.Entry.{Take}

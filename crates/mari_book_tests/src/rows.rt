@@ -1,4 +1,4 @@
-use mari_rows::{AddFault, NameIndex, RowFault, rows_of};
+use mari_rows::{AddFault, NameIndex, RowFault, has_header, rows_of};
 use mari_units::{Name, read_name};
 use std::alloc::Global;
 use std::test::Fail;
@@ -67,4 +67,48 @@ fn first_bad_line(rt: HostRuntime) {
     ] {
         assert_eq!(rt; rows_of(rt.alloc(), page, "a,b").err(), want);
     }
+}
+
+/// A page of 16,777,216 commas between these bytes: where no quotes hold them, a record of one field more than is read.
+fn page_of_commas(alloc: Global, before: &[u8], after: &[u8]) -> Result<Vec<u8>, Fail> {
+    let mut page = before.to_vec(alloc)?;
+    page.extend_from_slice(vec![in alloc; b','; 16_777_216]?.as_slice())?;
+    page.extend_from_slice(after)?;
+    Ok(page)
+}
+
+#[test]
+fn records_of_very_many_fields(rt: HostRuntime) -> Result<(), Fail> {
+    for (before, after, want) in [
+        (
+            b"".as_slice(),
+            b"\n1,2\n".as_slice(),
+            Some(RowFault::BadHeader),
+        ),
+        (b"b,a\n", b"", Some(RowFault::BadHeader)),
+        (b"a,b\n", b"", Some(RowFault::BadRow(2))),
+        (
+            b"\xef\xbb\xbfa,b\r\n\r\n",
+            b"\n1\n",
+            Some(RowFault::BadRow(2)),
+        ),
+        (b"a,b\n1,\"\n\"\n", b"\xff", Some(RowFault::BadRow(3))),
+        (b"a,b\n1,\xff\n", b"", Some(RowFault::NotUtf8(2))),
+        (b"a,b\n1\n", b"", Some(RowFault::BadRow(2))),
+        (b"a,b\n1,\"", b"\"\n", None),
+    ] {
+        let page = page_of_commas(rt.alloc(), before, after)?;
+        assert!(rt; page.len() < 20_000_000);
+        assert_eq!(rt; rows_of(rt.alloc(), page.as_slice(), "a,b").err(), want);
+    }
+    Ok(())
+}
+
+#[test]
+fn header_of_very_many_fields(rt: HostRuntime) -> Result<(), Fail> {
+    for (before, want) in [(b"".as_slice(), false), (b"a,b\n", true)] {
+        let page = page_of_commas(rt.alloc(), before, b"")?;
+        assert_eq!(rt; has_header(rt.alloc(), page.as_slice(), "a,b"), Ok(want));
+    }
+    Ok(())
 }

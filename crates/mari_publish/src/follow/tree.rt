@@ -4,7 +4,7 @@ ghost use Rattle.std.specs.Prelude.{◌≡◌, ◌<◌, length, nat_lt, if◌the
 ghost use Rattle.mari_publish.specs.Order.{after, after_growing, with_item, with_pending, conflict_item, kept_with, Steps, Follows};
 ghost use Rattle.mari_publish.specs.declared.held.Held.TheVariants as held_as;
 
-use super::step::{Refused, empty, keep, more, push};
+use super::step::{Refused, empty, keep, more, push, stay};
 use crate::held::{Ending, Growing, Held, Kept, Listing, Pending};
 use crate::publication::Part;
 use mari_lines::{Line, MoneyLine};
@@ -73,7 +73,7 @@ fn at_item(alloc: Global, growing: Growing, line: Line) -> (Held, Result<(), Ref
         Line::Cut(cut) => add_item(alloc, growing, TreeItem::Leaf(Leaf::Cut(cut))),
         Line::Conflict(zones) => open_conflict(growing, zones),
         Line::Operator(operator) => close_tree(alloc, growing, operator),
-        _ => (Held::Growing(growing), Err(Refused::Order)),
+        line => stay(Held::Growing(growing), line),
     }
 }
 
@@ -165,20 +165,20 @@ fn after_grown(alloc: Global, growing: Growing, line: Line) -> (Held, Result<(),
                 tree_with(listing, count, tree, Pending::At(zones, at)),
                 Ok(()),
             ),
-            _ => (
-                tree_with(listing, count, tree, Pending::Zones(zones)),
-                Err(Refused::Order),
-            ),
+            line => {
+                let held = tree_with(listing, count, tree, Pending::Zones(zones));
+                stay(held, line)
+            }
         },
         Pending::At(zones, at) => match line {
             Line::Flows(flows) => (
                 tree_with(listing, count, tree, Pending::Flows(zones, at, flows)),
                 Ok(()),
             ),
-            _ => (
-                tree_with(listing, count, tree, Pending::At(zones, at)),
-                Err(Refused::Order),
-            ),
+            line => {
+                let held = tree_with(listing, count, tree, Pending::At(zones, at));
+                stay(held, line)
+            }
         },
         Pending::Flows(zones, at, flows) => match line {
             Line::Mws(mws) => {
@@ -190,10 +190,10 @@ fn after_grown(alloc: Global, growing: Growing, line: Line) -> (Held, Result<(),
                 };
                 close_conflict(growing, zones, at, flows, mws)
             }
-            _ => (
-                tree_with(listing, count, tree, Pending::Flows(zones, at, flows)),
-                Err(Refused::Order),
-            ),
+            line => {
+                let held = tree_with(listing, count, tree, Pending::Flows(zones, at, flows));
+                stay(held, line)
+            }
         },
     }
 }

@@ -12,7 +12,7 @@ use std::alloc::Global;
 use std::mem;
 
 /// Why a line does not go on.
-#[derive(Clone, Copy, Debug, PartialEq, Eq)]
+#[derive(Clone, Copy)]
 pub enum Refused {
     Order,
     Memory,

@@ -19,6 +19,7 @@ fn add_item(alloc: Global, growing: Growing, item: TreeItem) -> (Held, Result<()
 {
     let mut growing = growing;
     if growing.tree.as_slice().len() as u64 >= u64::from(growing.count) {
+        drop(item);
         return (Held::Growing(growing), Err(Refused::Order));
     }
     let step = more(push(alloc, &mut growing.tree, item));
@@ -30,12 +31,18 @@ fn open_conflict(growing: Growing, zones: Items<u32>) -> (Held, Result<(), Refus
     requires { growing.pending ≡ Pending.Nothing }
     ensures { Steps (after_growing growing Pending.Nothing (Line.Conflict zones)) (held_as.Growing growing) result.0 result.1 }
 {
-    let mut growing = growing;
     if growing.tree.as_slice().len() as u64 >= u64::from(growing.count) {
         return (Held::Growing(growing), Err(Refused::Order));
     }
-    growing.pending = Pending::Zones(zones);
-    (Held::Growing(growing), Ok(()))
+    let Growing {
+        listing,
+        count,
+        tree,
+        pending,
+    } = growing;
+    drop(pending);
+    let held = tree_with(listing, count, tree, Pending::Zones(zones));
+    (held, Ok(()))
 }
 
 /// The first operator's line behind a tree.
@@ -50,9 +57,16 @@ fn close_tree(alloc: Global, growing: Growing, operator: MoneyLine) -> (Held, Re
     if push(alloc, &mut operators, operator).is_err() {
         return (Held::Growing(growing), Err(Refused::Memory));
     }
+    let Growing {
+        listing,
+        tree,
+        pending,
+        ..
+    } = growing;
+    drop(pending);
     let ending = Ending {
-        listing: growing.listing,
-        tree: growing.tree,
+        listing,
+        tree,
         operators,
         providers: empty(alloc),
     };
@@ -125,8 +139,9 @@ fn close_conflict(
         listing,
         count,
         tree,
-        ..
+        pending,
     } = growing;
+    drop(pending);
     let (mut tree, has_room) = reserve(tree.into_vec());
     if !has_room {
         let pending = Pending::Flows(zones, prices, flows);

@@ -148,9 +148,7 @@ fn close_conflict(
         let held = tree_with(listing, count, Items::of(tree), pending);
         return (held, Err(Refused::Memory));
     }
-    if tree.push(conflict_of(zones, prices, flows, mws)).is_err() {
-        unreachable!();
-    }
+    tree.push_reserved(conflict_of(zones, prices, flows, mws));
     let held = tree_with(listing, count, Items::of(tree), Pending::Nothing);
     (held, Ok(()))
 }

@@ -86,8 +86,7 @@ returns-in-TooLong-clause-handles c = (subst (λ (a : Ahead). NoLineIn a (drop c
 
 pub returns-in_default-clause-handles : goal.returns-in_default-clause-handles
 returns-in_default-clause-handles c =
-    let is = from_place c.args.coming.now.bytes.items c.deref.result.now c.args.coming.now.handled _ c.deref.ensures.value refl in
-    (
+    let is = from_place c.args.coming.now.bytes.items c.deref.result.now c.args.coming.now.handled _ c.deref.ensures.value refl in (
       subst (λ (a : Ahead). NoLineIn a (drop c.args.coming.now.handled c.args.coming.now.bytes.items)) (sym c.in-Kept.is) (subst (λ (w : List ℕ). Lacks 10 w) (sym is) c.in_default.ensures),
       refl,
     )

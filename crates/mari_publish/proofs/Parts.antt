@@ -1,8 +1,9 @@
 -- The text of a publication is that of its parts.
-use Rattle.std.proofs.Common.{◌≡◌, List, [], ◌∷◌, ◌++◌, refl, sym, ap, ◌∙◌, append_assoc, ℕ, Result, Ok, Err}
+use Rattle.std.proofs.Common.{◌≡◌, ◌<◌, ◌≤◌, ◌+◌, List, [], ◌∷◌, ◌++◌, length, get_or, drop, refl, sym, ap, subst, ◌∙◌, append_assoc, ℕ, Result, Ok, Err}
 use Rattle.std.specs.Result.{OnOk}
-use Rattle.std.proofs.lemmas.List.{append-nil}
-use Rattle.std.specs.List.{flat_map}
+use Rattle.std.proofs.lemmas.List.{append-nil, at_drop_more, at_drop_all}
+use Rattle.std.proofs.lemmas.List.Elements.{All-get_or}
+use Rattle.std.specs.List.{All, flat_map}
 use Rattle.std.proofs.lemmas.Grind.{flat_map-append}
 use Rattle.mari_publish.specs.declared.publication.Block.{Block}
 use Rattle.mari_publish.specs.declared.publication.Publication.{Publication}
@@ -39,3 +40,18 @@ three_texts p y z w ey ez ew =
     ew ∙ ap (λ (t : List ℕ). t ++ total_text_of p) (ez ∙ ap (λ (t : List ℕ). t ++ text_of_lines (flat_map block_lines p.blocks)) ey ∙ ap (λ (t : List ℕ). line_text (line.Head p.date p.quarters p.budget) ++ t) (text_of_blocks p.blocks))
     ∙ append_assoc (line_text (line.Head p.date p.quarters p.budget)) (flat_map block_text_of p.blocks) (total_text_of p)
     ∙ ap (λ (t : List ℕ). t ++ (flat_map block_text_of p.blocks ++ total_text_of p)) (sym (append-nil (line_text (line.Head p.date p.quarters p.budget))))
+
+-- a loop writes the lines of a list's items: one more is written, so that those still to come are one less
+pub one_put : {X : Type 0} (F : List X → List Line) (g : X → List ℕ) → ((y : X) (ys : List X) → text_of_lines (F (y ∷ ys)) ≡ g y ++ text_of_lines (F ys))
+    → (xs : List X) (i : ℕ) (x : X) (a b whole : List ℕ) → i < length xs → x ≡ get_or xs i x → b ≡ a ++ g x → a ++ text_of_lines (F (drop i xs)) ≡ whole → b ++ text_of_lines (F (drop (i + 1) xs)) ≡ whole
+one_put F g first xs i x a b whole lt is put e =
+    let rest = drop (i + 1) xs in
+    ap (λ (t : List ℕ). t ++ text_of_lines (F rest)) put ∙ append_assoc a (g x) (text_of_lines (F rest))
+    ∙ ap (λ (t : List ℕ). a ++ t) (sym (first x rest) ∙ ap (λ y. text_of_lines (F (y ∷ rest))) is ∙ sym (at_drop_more (λ ys. text_of_lines (F ys)) xs i x lt)) ∙ e
+
+-- none is still to come
+pub all_put : {X : Type 0} (F : List X → List Line) → text_of_lines (F []) ≡ [] → (xs : List X) (i : ℕ) (a whole : List ℕ) → length xs ≤ i → a ++ text_of_lines (F (drop i xs)) ≡ whole → a ≡ whole
+all_put F nothing xs i a whole le e = sym (append-nil a) ∙ ap (λ (t : List ℕ). a ++ t) (sym (at_drop_all (λ ys. text_of_lines (F ys)) xs i le ∙ nothing)) ∙ e
+
+pub at_place : {X : Type 0} (P : X → Type 0) (xs : List X) (i : ℕ) (x : X) → i < length xs → x ≡ get_or xs i x → All P xs → P x
+at_place P xs i x lt is all = subst P (sym is) (All-get_or P xs i x lt all)

@@ -16,7 +16,7 @@ use std::alloc::Global;
 
 /// What is there of the bytes behind the handled lines: all of them, or of a line that is too long a mark, and whether
 /// it has ended.
-#[derive(Clone, Copy, Debug, PartialEq, Eq)]
+#[derive(Clone, Copy)]
 pub enum Ahead {
     Kept,
     TooLong,
@@ -137,7 +137,7 @@ pub fn is_whole(coming: &Coming) -> bool
     ensures whole { result ≡ true → IsWhole (come_of coming.now) }
     ensures unfinished { result ≡ false → IsWhole (come_of coming.now) → ⊥ }
 {
-    if coming.ahead != Ahead::Kept {
+    if !matches!(coming.ahead, Ahead::Kept) {
         return false;
     }
     if coming.handled < coming.bytes.len() {

@@ -19,6 +19,7 @@ use mari_lines::Line;
 use std::alloc::Global;
 use std::mem;
 pub use step::Refused;
+use step::refuse_line;
 use totals::in_totals;
 use tree::in_tree;
 
@@ -37,6 +38,6 @@ pub fn follow(alloc: Global, kept: &mut Kept, line: Line) -> Result<Option<Part>
         Held::Growing(growing) => in_tree(alloc, kept, growing, line),
         Held::Ending(ending) => behind_tree(alloc, kept, ending, line),
         Held::Totals(operators, providers) => { in_totals(alloc, kept, operators, providers, line) }
-        Held::Done => Err(Refused::Order),
+        Held::Done => refuse_line(kept, Held::Done, line),
     }
 }

@@ -59,7 +59,7 @@ pub enum Held {
 }
 
 /// How many blocks so far are published, and how many are not.
-#[derive(Clone, Copy, Debug, PartialEq, Eq)]
+#[derive(Clone, Copy)]
 pub struct Counts {
     pub published: u32,
     pub unpublished: u32,

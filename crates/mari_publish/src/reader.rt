@@ -106,10 +106,13 @@ impl TextReader {
         ensures text { (text : List ℕ) (parts : List PartValue) (p : PublicationValue) → StandsFor self.come text parts → IsText text p → IsOk result }
         ensures truncated { (text : List ℕ) (parts : List PartValue) (n : ℕ) → StandsFor self.come text parts → TruncatedAt text n → result ≡ Err (text_fault.Truncated n) }
     {
-        if is_whole(&self.coming) {
+        let whole = is_whole(&self.coming);
+        let number = self.coming.lines + 1;
+        drop(self);
+        if whole {
             Ok(())
         } else {
-            Err(TextFault::Truncated(self.coming.lines + 1))
+            Err(TextFault::Truncated(number))
         }
     }
 }

@@ -1,7 +1,7 @@
 //! Reading a text.
 
 ghost use Rattle.std.specs.Prelude.{◌≡◌, ℕ, OnOk, Ok, Err};
-ghost use Rattle.mari_publish.specs.Order.{grown, nothing_read};
+ghost use Rattle.mari_publish.specs.Order.{grown, nothing_kept, nothing_read};
 ghost use Rattle.mari_publish.specs.Faults.{IsText, BadLineAt, BadOrderAt, TruncatedAt, IsOutcome, Answers};
 ghost use Rattle.mari_publish.specs.Gathering.{seen, Finishes};
 ghost use Rattle.mari_publish.specs.declared.publication.Publication.{Publication as PublicationValue};
@@ -13,6 +13,7 @@ use crate::taking::{LineFault, take_line};
 use mari_lines::{AmountLine, MoneyLine, split_once};
 use mari_units::{Items, Memory, Name};
 use std::alloc::Global;
+use std::mem;
 
 /// The parts so far.
 #[derive(Drop)]
@@ -52,12 +53,14 @@ fn gather(alloc: Global, gathered: &mut Gathered, part: Option<Part>) -> Result<
             quarters,
             budget,
         } => {
-            gathered.date = Some(date);
-            gathered.quarters = quarters;
-            gathered.budget = budget;
-            gathered.blocks = Vec::new(alloc);
-            gathered.operators = Items::of(Vec::new(alloc));
-            gathered.providers = Items::of(Vec::new(alloc));
+            *gathered = Gathered {
+                date: Some(date),
+                quarters,
+                budget,
+                blocks: Vec::new(alloc),
+                operators: Items::of(Vec::new(alloc)),
+                providers: Items::of(Vec::new(alloc)),
+            };
             Ok(())
         }
         Part::Block(block) => {
@@ -75,64 +78,62 @@ fn gather(alloc: Global, gathered: &mut Gathered, part: Option<Part>) -> Result<
     }
 }
 
-/// The publication, if the text ends where one does.
+/// The publication, if the text ends where one does: its parts are taken from those gathered.
 fn finish(
-    gathered: Gathered,
-    held: Held,
+    alloc: Global,
+    gathered: &mut Gathered,
+    held: &Held,
     rest: &[u8],
     number: u32,
 ) -> Result<Publication, TextFault>
-    ensures { Finishes gathered held rest.now number result }
+    ensures { Finishes gathered.old held.now rest.now number result }
 {
     if !rest.is_empty() {
         return Err(TextFault::Truncated(number));
     }
-    let Held::Done = held else {
+    if !matches!(held, Held::Done) {
         return Err(TextFault::Truncated(number));
-    };
-    let Gathered {
-        date,
-        quarters,
-        budget,
-        blocks,
-        operators,
-        providers,
-    } = gathered;
-    let Some(date) = date else {
+    }
+    let Some(date) = gathered.date.take() else {
         return Err(TextFault::Truncated(number));
     };
     Ok(Publication {
         date,
-        quarters,
-        budget,
-        blocks: Items::of(blocks),
-        operators,
-        providers,
+        quarters: gathered.quarters,
+        budget: gathered.budget,
+        blocks: Items::of(mem::replace(&mut gathered.blocks, Vec::new(alloc))),
+        operators: mem::replace(&mut gathered.operators, Items::of(Vec::new(alloc))),
+        providers: mem::replace(&mut gathered.providers, Items::of(Vec::new(alloc))),
     })
 }
 
 /// The one publication whose text this is, or the first fault.
-fn read_lines(alloc: Global, bytes: &[u8]) -> Result<Publication, TextFault>
+fn read_lines(
+    alloc: Global,
+    kept: &mut Kept,
+    gathered: &mut Gathered,
+    bytes: &[u8],
+) -> Result<Publication, TextFault>
+    requires kept { kept.old ≡ nothing_kept }
+    requires gathered { seen gathered.old ≡ nothing_read }
     ensures { IsOutcome bytes.now result }
 {
-    let mut kept = Kept::start();
-    let mut gathered = nothing(alloc);
     let mut rest = bytes;
     let mut number = 1u32;
     while let Some((here, after)) = split_once(b'\n', rest) {
-        let part = match take_line(alloc, &mut kept, here) {
+        let part = match take_line(alloc, kept, here) {
             Ok(part) => part,
             Err(LineFault::Form) => return Err(TextFault::BadLine(number)),
             Err(LineFault::Order) => return Err(TextFault::BadOrder(number)),
             Err(LineFault::Memory) => return Err(TextFault::Memory),
         };
-        if gather(alloc, &mut gathered, part).is_err() {
+        if gather(alloc, gathered, part).is_err() {
             return Err(TextFault::Memory);
         }
         rest = after;
         number += 1;
     }
-    finish(gathered, kept.held, rest, number)
+    finish(alloc, gathered, &kept.held, rest, number)
 }
 
 /// The one publication whose text this is, or the first fault: the number of its line from 1, the first line with a
@@ -145,5 +146,10 @@ pub fn read_text(alloc: Global, bytes: &[u8]) -> Result<Publication, TextFault>
     ensures bad_order { (n : ℕ) → BadOrderAt bytes.now n → Answers (Err (TextFault.BadOrder n)) result }
     ensures truncated { (n : ℕ) → TruncatedAt bytes.now n → Answers (Err (TextFault.Truncated n)) result }
 {
-    read_lines(alloc, bytes)
+    let mut kept = Kept::start();
+    let mut gathered = nothing(alloc);
+    let outcome = read_lines(alloc, &mut kept, &mut gathered, bytes);
+    drop(kept);
+    drop(gathered);
+    outcome
 }

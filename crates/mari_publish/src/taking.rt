@@ -11,7 +11,7 @@ use mari_lines::{Unread, read_line};
 use std::alloc::Global;
 
 /// Why a line is no next line.
-#[derive(Clone, Copy, Debug, PartialEq, Eq)]
+#[derive(Clone, Copy)]
 pub enum LineFault {
     Form,
     Order,

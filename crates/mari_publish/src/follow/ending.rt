@@ -4,7 +4,7 @@ ghost use Rattle.std.specs.Prelude.{◌≡◌, ◌<◌};
 ghost use Rattle.mari_publish.specs.Order.{after, after_ending, full_block as full_block_of, kept_with, Steps, Follows};
 ghost use Rattle.mari_publish.specs.declared.held.Held.TheVariants as held_as;
 
-use super::step::{Refused, keep, push};
+use super::step::{Refused, go_on, keep, push, refuse};
 use crate::held::{Ending, Held, Kept, Listing};
 use crate::publication::{Block, FullBlock, Part};
 use mari_lines::Line;
@@ -30,7 +30,10 @@ fn list_party(alloc: Global, ending: &mut Ending, line: Line) -> Result<(), Refu
             }
             Ok(push(alloc, &mut ending.providers, provider)?)
         }
-        _ => Err(Refused::Order),
+        line => {
+            drop(line);
+            Err(Refused::Order)
+        }
     }
 }
 
@@ -71,12 +74,11 @@ fn close_block(kept: &mut Kept, ending: Ending, run: u32) -> Result<Option<Part>
     ensures { Follows (after kept.old (held_as.Ending ending) (Line.End run)) (kept_with kept.old (held_as.Ending ending)) kept.new result }
 {
     if run != ending.listing.heading.run {
-        kept.held = Held::Ending(ending);
-        return Err(Refused::Order);
+        return refuse(kept, Held::Ending(ending));
     }
-    kept.held = Held::Between;
     kept.counts.published += 1;
-    Ok(Some(Part::Block(Block::Published(full_block(ending)))))
+    let block = Block::Published(full_block(ending));
+    go_on(kept, Held::Between, Some(Part::Block(block)))
 }
 
 /// A line behind a block's tree.

@@ -4,7 +4,7 @@ ghost use Rattle.std.specs.Prelude.{◌≡◌, ◌≤◌, ◌+◌, []};
 ghost use Rattle.mari_publish.specs.Order.{after, starts_block, kept_with, Follows};
 ghost use Rattle.mari_publish.specs.declared.held.Held.TheVariants as held_as;
 
-use super::step::{Refused, empty, go_on, push, refuse, refuse_line};
+use super::step::{Refused, empty, go_on, hold, push, refuse, refuse_line};
 use crate::held::{Held, Kept, Listing};
 use crate::publication::{Block, Part};
 use mari_lines::{Heading, Line, MoneyLine};
@@ -23,7 +23,7 @@ pub fn at_start(kept: &mut Kept, line: Line) -> Result<Option<Part>, Refused>
             };
             go_on(kept, Held::Between, Some(head))
         }
-        _ => refuse(kept, Held::Start),
+        line => refuse_line(kept, Held::Start, line),
     }
 }
 
@@ -33,11 +33,9 @@ fn open_run(kept: &mut Kept, heading: Heading) -> Result<Option<Part>, Refused>
     ensures { Follows (starts_block kept.old (Line.Run heading)) (kept_with kept.old held_as.Between) kept.new result }
 {
     if kept.counts.published + kept.counts.unpublished >= 1000 {
-        kept.held = Held::Between;
-        return Err(Refused::Order);
+        return refuse(kept, Held::Between);
     }
-    kept.held = Held::Run(heading);
-    Ok(None)
+    go_on(kept, Held::Run(heading), None)
 }
 
 /// The line of a run that isn't published, behind the head or a block.
@@ -45,12 +43,12 @@ fn tell_unpublished(kept: &mut Kept, heading: Heading, count: u32) -> Result<Opt
     requires { kept.old.counts.published + kept.old.counts.unpublished ≤ 1000 }
     ensures { Follows (starts_block kept.old (Line.Unpublished heading count)) (kept_with kept.old held_as.Between) kept.new result }
 {
-    kept.held = Held::Between;
     if kept.counts.published + kept.counts.unpublished >= 1000 {
-        return Err(Refused::Order);
+        return refuse(kept, Held::Between);
     }
     kept.counts.unpublished += 1;
-    Ok(Some(Part::Block(Block::Unpublished(heading, count))))
+    let block = Block::Unpublished(heading, count);
+    go_on(kept, Held::Between, Some(Part::Block(block)))
 }
 
 /// The first operator's line of the totals, behind the head or a block.
@@ -59,11 +57,10 @@ fn open_totals(alloc: Global, kept: &mut Kept, operator: MoneyLine) -> Result<Op
 {
     let mut operators = empty(alloc);
     if push(alloc, &mut operators, operator).is_err() {
-        kept.held = Held::Between;
+        hold(kept, Held::Between);
         return Err(Refused::Memory);
     }
-    kept.held = Held::Totals(operators, empty(alloc));
-    Ok(None)
+    go_on(kept, Held::Totals(operators, empty(alloc)), None)
 }
 
 /// A line behind the head or a block.
@@ -75,10 +72,7 @@ pub fn between_blocks(alloc: Global, kept: &mut Kept, line: Line) -> Result<Opti
         Line::Run(heading) => open_run(kept, heading),
         Line::Unpublished(heading, count) => tell_unpublished(kept, heading, count),
         Line::TotalOperator(operator) => open_totals(alloc, kept, operator),
-        _ => {
-            kept.held = Held::Between;
-            Err(Refused::Order)
-        }
+        line => refuse_line(kept, Held::Between, line),
     }
 }
 

@@ -3,7 +3,7 @@
 ghost use Rattle.mari_publish.specs.Order.{after, after_listing, kept_with, Steps, Follows};
 ghost use Rattle.mari_publish.specs.declared.held.Held.TheVariants as held_as;
 
-use super::step::{Refused, empty, keep, push};
+use super::step::{Refused, empty, keep, push, stay};
 use crate::held::{Growing, Held, Kept, Listing, Pending};
 use crate::publication::Part;
 use mari_lines::{BidLine, BorderLine, Line, ZoneLine};
@@ -115,7 +115,7 @@ fn after_listed(alloc: Global, block: Listing, line: Line) -> (Held, Result<(), 
             (Held::Listing(block), step)
         }
         Line::Tree(count) => open_tree(alloc, block, count),
-        _ => (Held::Listing(block), Err(Refused::Order)),
+        line => stay(Held::Listing(block), line),
     }
 }
 

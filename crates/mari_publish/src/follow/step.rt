@@ -12,7 +12,7 @@ use std::alloc::Global;
 use std::mem;
 
 /// Why a line does not go on.
-#[derive(Clone, Copy, Debug, PartialEq, Eq)]
+#[derive(Clone, Copy)]
 pub enum Refused {
     Order,
     Memory,
@@ -53,11 +53,18 @@ pub fn empty<T>(alloc: Global) -> Items<T>
     Items::of(Vec::new(alloc))
 }
 
+/// Holds this from now on, with the same counts. What was held is let go here, and in no other function.
+pub fn hold(kept: &mut Kept, held: Held)
+    ensures { kept.new ≡ kept_with kept.old held }
+{
+    drop(mem::replace(&mut kept.held, held));
+}
+
 /// What is held now, with the same counts.
 pub fn keep(kept: &mut Kept, held: Held, step: Result<(), Refused>) -> Result<Option<Part>, Refused>
     ensures { (expected : Option HeldValue) (old : HeldValue) → Steps expected old held step → Follows (keeps kept.old expected) (kept_with kept.old old) kept.new result }
 {
-    kept.held = held;
+    hold(kept, held);
     match step {
         Ok(()) => Ok(None),
         Err(refused) => Err(refused),
@@ -69,7 +76,7 @@ pub fn refuse(kept: &mut Kept, held: Held) -> Result<Option<Part>, Refused>
     ensures kept { kept.new ≡ kept_with kept.old held }
     ensures refused { result ≡ Err Refused.Order }
 {
-    kept.held = held;
+    hold(kept, held);
     Err(Refused::Order)
 }
 
@@ -82,11 +89,20 @@ pub fn refuse_line(kept: &mut Kept, held: Held, line: Line) -> Result<Option<Par
     refuse(kept, held)
 }
 
+/// A line that may not follow, where what is held is not stored yet.
+pub fn stay(held: Held, line: Line) -> (Held, Result<(), Refused>)
+    ensures held { result.0 ≡ held }
+    ensures refused { result.1 ≡ Err Refused.Order }
+{
+    drop(line);
+    (held, Err(Refused::Order))
+}
+
 /// A line that may, and the part that is whole with it.
 pub fn go_on(kept: &mut Kept, held: Held, part: Option<Part>) -> Result<Option<Part>, Refused>
     ensures kept { kept.new ≡ kept_with kept.old held }
     ensures part { result ≡ Ok part }
 {
-    kept.held = held;
+    hold(kept, held);
     Ok(part)
 }

@@ -3,7 +3,7 @@
 ghost use Rattle.mari_publish.specs.Order.{after, after_totals, kept_with, Steps, Follows};
 ghost use Rattle.mari_publish.specs.declared.held.Held.TheVariants as held_as;
 
-use super::step::{Refused, keep, more, push};
+use super::step::{Refused, go_on, keep, more, push, refuse, stay};
 use crate::held::{Held, Kept};
 use crate::publication::Part;
 use mari_lines::{AmountLine, Line, MoneyLine};
@@ -59,7 +59,7 @@ fn after_total(
     match line {
         Line::TotalOperator(operator) => total_operator(alloc, operators, providers, operator),
         Line::TotalProvider(provider) => total_provider(alloc, operators, providers, provider),
-        _ => (Held::Totals(operators, providers), Err(Refused::Order)),
+        line => stay(Held::Totals(operators, providers), line),
     }
 }
 
@@ -74,18 +74,16 @@ fn close_totals(
     ensures { Follows (after kept.old (held_as.Totals operators providers) (Line.Done published unpublished)) (kept_with kept.old (held_as.Totals operators providers)) kept.new result }
 {
     if published != kept.counts.published {
-        kept.held = Held::Totals(operators, providers);
-        return Err(Refused::Order);
+        return refuse(kept, Held::Totals(operators, providers));
     }
     if unpublished != kept.counts.unpublished {
-        kept.held = Held::Totals(operators, providers);
-        return Err(Refused::Order);
+        return refuse(kept, Held::Totals(operators, providers));
     }
-    kept.held = Held::Done;
-    Ok(Some(Part::Totals {
+    let totals = Part::Totals {
         operators,
         providers,
-    }))
+    };
+    go_on(kept, Held::Done, Some(totals))
 }
 
 /// A line of the totals.

@@ -4,7 +4,7 @@ ghost use Rattle.std.specs.Prelude.{◌≡◌, ◌<◌, length, nat_lt, if◌the
 ghost use Rattle.mari_publish.specs.Order.{after, after_growing, with_item, with_pending, conflict_item, kept_with, Steps, Follows};
 ghost use Rattle.mari_publish.specs.declared.held.Held.TheVariants as held_as;
 
-use super::step::{Refused, empty, keep, more, push};
+use super::step::{Refused, empty, keep, more, push, stay};
 use crate::held::{Ending, Growing, Held, Kept, Listing, Pending};
 use crate::publication::Part;
 use mari_lines::{Line, MoneyLine};
@@ -19,6 +19,7 @@ fn add_item(alloc: Global, growing: Growing, item: TreeItem) -> (Held, Result<()
 {
     let mut growing = growing;
     if growing.tree.as_slice().len() as u64 >= u64::from(growing.count) {
+        drop(item);
         return (Held::Growing(growing), Err(Refused::Order));
     }
     let step = more(push(alloc, &mut growing.tree, item));
@@ -30,12 +31,18 @@ fn open_conflict(growing: Growing, zones: Items<u32>) -> (Held, Result<(), Refus
     requires { growing.pending ≡ Pending.Nothing }
     ensures { Steps (after_growing growing Pending.Nothing (Line.Conflict zones)) (held_as.Growing growing) result.0 result.1 }
 {
-    let mut growing = growing;
     if growing.tree.as_slice().len() as u64 >= u64::from(growing.count) {
         return (Held::Growing(growing), Err(Refused::Order));
     }
-    growing.pending = Pending::Zones(zones);
-    (Held::Growing(growing), Ok(()))
+    let Growing {
+        listing,
+        count,
+        tree,
+        pending,
+    } = growing;
+    drop(pending);
+    let held = tree_with(listing, count, tree, Pending::Zones(zones));
+    (held, Ok(()))
 }
 
 /// The first operator's line behind a tree.
@@ -50,9 +57,16 @@ fn close_tree(alloc: Global, growing: Growing, operator: MoneyLine) -> (Held, Re
     if push(alloc, &mut operators, operator).is_err() {
         return (Held::Growing(growing), Err(Refused::Memory));
     }
+    let Growing {
+        listing,
+        tree,
+        pending,
+        ..
+    } = growing;
+    drop(pending);
     let ending = Ending {
-        listing: growing.listing,
-        tree: growing.tree,
+        listing,
+        tree,
         operators,
         providers: empty(alloc),
     };
@@ -73,7 +87,7 @@ fn at_item(alloc: Global, growing: Growing, line: Line) -> (Held, Result<(), Ref
         Line::Cut(cut) => add_item(alloc, growing, TreeItem::Leaf(Leaf::Cut(cut))),
         Line::Conflict(zones) => open_conflict(growing, zones),
         Line::Operator(operator) => close_tree(alloc, growing, operator),
-        _ => (Held::Growing(growing), Err(Refused::Order)),
+        line => stay(Held::Growing(growing), line),
     }
 }
 
@@ -125,17 +139,16 @@ fn close_conflict(
         listing,
         count,
         tree,
-        ..
+        pending,
     } = growing;
+    drop(pending);
     let (mut tree, has_room) = reserve(tree.into_vec());
     if !has_room {
         let pending = Pending::Flows(zones, prices, flows);
         let held = tree_with(listing, count, Items::of(tree), pending);
         return (held, Err(Refused::Memory));
     }
-    if tree.push(conflict_of(zones, prices, flows, mws)).is_err() {
-        unreachable!();
-    }
+    tree.push_reserved(conflict_of(zones, prices, flows, mws));
     let held = tree_with(listing, count, Items::of(tree), Pending::Nothing);
     (held, Ok(()))
 }
@@ -165,20 +178,20 @@ fn after_grown(alloc: Global, growing: Growing, line: Line) -> (Held, Result<(),
                 tree_with(listing, count, tree, Pending::At(zones, at)),
                 Ok(()),
             ),
-            _ => (
-                tree_with(listing, count, tree, Pending::Zones(zones)),
-                Err(Refused::Order),
-            ),
+            line => {
+                let held = tree_with(listing, count, tree, Pending::Zones(zones));
+                stay(held, line)
+            }
         },
         Pending::At(zones, at) => match line {
             Line::Flows(flows) => (
                 tree_with(listing, count, tree, Pending::Flows(zones, at, flows)),
                 Ok(()),
             ),
-            _ => (
-                tree_with(listing, count, tree, Pending::At(zones, at)),
-                Err(Refused::Order),
-            ),
+            line => {
+                let held = tree_with(listing, count, tree, Pending::At(zones, at));
+                stay(held, line)
+            }
         },
         Pending::Flows(zones, at, flows) => match line {
             Line::Mws(mws) => {
@@ -190,10 +203,10 @@ fn after_grown(alloc: Global, growing: Growing, line: Line) -> (Held, Result<(),
                 };
                 close_conflict(growing, zones, at, flows, mws)
             }
-            _ => (
-                tree_with(listing, count, tree, Pending::Flows(zones, at, flows)),
-                Err(Refused::Order),
-            ),
+            line => {
+                let held = tree_with(listing, count, tree, Pending::Flows(zones, at, flows));
+                stay(held, line)
+            }
         },
     }
 }

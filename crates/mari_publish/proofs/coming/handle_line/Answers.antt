@@ -1,4 +1,17 @@
-use Rattle.std.proofs.Common.{inr, refl}
+use Rattle.std.proofs.Common.{◌≡◌, List, ℕ, None, Err, inl, inr, drop, refl, sym, ap, subst}
+use Rattle.mari_lines.specs.declared.line.Line.{Line}
+use Rattle.mari_lines.specs.Ranges.{InRange}
+use Rattle.mari_lines.specs.Reading.{Lacks}
+use Rattle.mari_lines.specs.Spelling.{spelling}
+use Rattle.mari_publish.specs.declared.coming.Ahead.{Ahead}
+use Rattle.mari_publish.specs.declared.coming.Coming.{Coming}
+use Rattle.mari_publish.specs.declared.held.Kept.{Kept}
+use Rattle.mari_publish.specs.declared.taking.LineFault.{LineFault}
+use Rattle.mari_publish.specs.declared.taking.LineFault.TheVariants as line_fault
+use Rattle.mari_publish.specs.Gathering.{Took}
+use Rattle.mari_publish.specs.Handling.{IsFormless}
+use Rattle.mari_publish.specs.Order.{after}
+use Rattle.mari_publish.specs.Pieces.{NoLineIn, come_of}
 use Rattle.mari_publish.proofs.Pieces.{too_long}
 use Rattle.mari_publish.proofs.MoreText.{drop_line, from_place}
 use Rattle.mari_publish.proofs.coming.handle_line.Goals as goal
@@ -24,3 +37,56 @@ returns-in-Ok-clause-handles c =
       all = c.in-Kept.is;
       left = drop_line c.args.coming.now.bytes.items c.in-Some.here.now c.in-Some._after.now c.args.coming.now.handled is;
     }
+
+-- a line that was not taken: what is wrong with it, and what is kept is as it was
+formless : (k r : Kept) (here : List ℕ) (f : LineFault) → f ≡ line_fault.Form → Took k here r (Err f) → IsFormless here × (r ≡ k)
+formless k r here f is t = subst (λ g. Took k here r (Err g)) is t
+
+misplaced : (k r : Kept) (here : List ℕ) (f : LineFault) → f ≡ line_fault.Order → Took k here r (Err f) → (l : Line) × InRange l × (spelling l ≡ here) × (after k k.held l ≡ None) × (r ≡ k)
+misplaced k r here f is t = subst (λ g. Took k here r (Err g)) is t
+
+untaken : (k r : Kept) (here : List ℕ) (f : LineFault) → f ≡ line_fault.Memory → Took k here r (Err f) → r ≡ k
+untaken k r here f is t = subst (λ g. Took k here r (Err g)) is t
+
+same_come : (c : Coming) (r : Kept) → r ≡ c.kept → come_of (record { kept = r; lines = c.lines; ahead = c.ahead; bytes = c.bytes; handled = c.handled }) ≡ come_of c
+same_come c r e = ap (λ (k : Kept). come_of (record { kept = k; lines = c.lines; ahead = c.ahead; bytes = c.bytes; handled = c.handled })) e
+
+pub returns-in-Err-Form-clause-handles : goal.returns-in-Err-Form-clause-handles
+returns-in-Err-Form-clause-handles c =
+    let is = from_place c.args.coming.now.bytes.items c.deref.result.now c.args.coming.now.handled _ c.deref.ensures.value c.in-Some.ensures.1 in
+    let t = formless c.args.coming.now.kept c.take_line.new.kept c.in-Some.here.now c.in-Err-Form.field-0 c.in-Err-Form.field-0-is c.in-Err-Form.ensures in
+    (inr (c.in-Some.here.now, c.in-Some._after.now, record { all = c.in-Kept.is; is = is; whole = c.in-Some.ensures.0 }, t.0), refl, same_come c.args.coming.now c.take_line.new.kept t.1)
+
+pub returns-in-Err-Order-clause-handles : goal.returns-in-Err-Order-clause-handles
+returns-in-Err-Order-clause-handles c =
+    let is = from_place c.args.coming.now.bytes.items c.deref.result.now c.args.coming.now.handled _ c.deref.ensures.value c.in-Some.ensures.1 in
+    let t = misplaced c.args.coming.now.kept c.take_line.new.kept c.in-Some.here.now c.in-Err-Order.field-0 c.in-Err-Order.field-0-is c.in-Err-Order.ensures in (
+      record {
+        here = c.in-Some.here.now;
+        behind = c.in-Some._after.now;
+        begins = record { all = c.in-Kept.is; is = is; whole = c.in-Some.ensures.0 };
+        line = t.0;
+        in_range = t.1;
+        spelled = t.2;
+        misplaced = t.3;
+      },
+      refl,
+      same_come c.args.coming.now c.take_line.new.kept t.4,
+    )
+
+pub returns-in-Err-Memory-clause-handles : goal.returns-in-Err-Memory-clause-handles
+returns-in-Err-Memory-clause-handles c =
+    same_come c.args.coming.now c.take_line.new.kept (untaken c.args.coming.now.kept c.take_line.new.kept c.in-Some.here.now c.in-Err-Memory.field-0 c.in-Err-Memory.field-0-is c.in-Err-Memory.ensures)
+
+pub returns-in-Ended-clause-handles : goal.returns-in-Ended-clause-handles
+returns-in-Ended-clause-handles c = (inl c.in-Ended.is, refl, refl)
+
+pub returns-in-TooLong-clause-handles : goal.returns-in-TooLong-clause-handles
+returns-in-TooLong-clause-handles c = (subst (λ (a : Ahead). NoLineIn a (drop c.args.coming.now.handled c.args.coming.now.bytes.items)) (sym c.in-TooLong.is) tt, refl)
+
+pub returns-in_default-clause-handles : goal.returns-in_default-clause-handles
+returns-in_default-clause-handles c =
+    let is = from_place c.args.coming.now.bytes.items c.deref.result.now c.args.coming.now.handled _ c.deref.ensures.value refl in (
+      subst (λ (a : Ahead). NoLineIn a (drop c.args.coming.now.handled c.args.coming.now.bytes.items)) (sym c.in-Kept.is) (subst (λ (w : List ℕ). Lacks 10 w) (sym is) c.in_default.ensures),
+      refl,
+    )

@@ -10,7 +10,7 @@ taken (Ok x) P e h = h
 taken (Err x) P e h = absurd cc
 
 pub loop-here-init : goal.loop-here-init
-loop-here-init c = progress_of_nothing c.args.bytes.now (seen c.nothing-gathered.result) c.start-kept.result c.nothing-gathered.ensures c.start-kept.ensures
+loop-here-init c = progress_of_nothing c.args.bytes.now (seen c.args.gathered.now) c.args.kept.now c.requires.gathered c.requires.kept
 
 pub take_line-requires-clause-counts : goal.take_line-requires-clause-counts
 take_line-requires-clause-counts c = counts_fit c.args.bytes.now c.loop-here.rest.now c.loop-here.number (seen c.loop-here.gathered) c.loop-here.kept c.loop-here.invariant

@@ -11,5 +11,5 @@ no_head : (k : Kept) (l : Line) → ((date : List ℕ) (quarters budget : ℕ) �
 no_head k (line.Head date quarters budget) h = absurd (h date quarters budget refl)
 no_head k _ h = refl
 
-pub returns : goal.returns
-returns c = refused_so _ _ _ _ (no_head c.args.kept.now c.args.line c.in_default.not-Head) c.refuse.ensures.kept c.refuse.ensures.refused
+pub returns-in_default : goal.returns-in_default
+returns-in_default c = refused_so _ _ _ _ (no_head c.args.kept.now c.args.line c.in_default.not-Head) c.refuse_line.ensures.kept c.refuse_line.ensures.refused

@@ -26,6 +26,7 @@ use Rattle.mari_publish.specs.declared.held.Kept.{Kept}
 use Rattle.mari_publish.specs.declared.follow.step.Refused.{Refused}
 use Rattle.mari_publish.specs.declared.follow.step.Refused.TheVariants as refused
 use Rattle.mari_publish.specs.Lines.{item_lines, demand_lines, block_lines, lines_of}
+use Rattle.mari_units.specs.declared.limits.TheConstants.{MOST_BIDS, MOST_BORDERS, MOST_RUNS, MOST_ZONES}
 
 -- the lines that have come of a conflict
 abbrev pub pending_lines : Pending → List Line
@@ -74,11 +75,11 @@ empty xs = length xs == 0
 
 -- in a block before its tree: zones, borders, bids, demands, and then the tree
 abbrev pub after_listing : Listing → Line → Option Held
-after_listing b (line.Zone z) = if empty b.borders && empty b.bids && empty b.demands && nat_lt (length b.zones) 64
+after_listing b (line.Zone z) = if empty b.borders && empty b.bids && empty b.demands && nat_lt (length b.zones) MOST_ZONES
     then Some (held.Listing (record { heading = b.heading; welfare = b.welfare; zones = b.zones ++ z ∷ []; borders = b.borders; bids = b.bids; demands = b.demands })) else None
-after_listing b (line.Border x) = if nat_lt 0 (length b.zones) && empty b.bids && empty b.demands && nat_lt (length b.borders) 256
+after_listing b (line.Border x) = if nat_lt 0 (length b.zones) && empty b.bids && empty b.demands && nat_lt (length b.borders) MOST_BORDERS
     then Some (held.Listing (record { heading = b.heading; welfare = b.welfare; zones = b.zones; borders = b.borders ++ x ∷ []; bids = b.bids; demands = b.demands })) else None
-after_listing b (line.Bid x) = if nat_lt 0 (length b.zones) && empty b.demands && nat_lt (length b.bids) 4096
+after_listing b (line.Bid x) = if nat_lt 0 (length b.zones) && empty b.demands && nat_lt (length b.bids) MOST_BIDS
     then Some (held.Listing (record { heading = b.heading; welfare = b.welfare; zones = b.zones; borders = b.borders; bids = b.bids ++ x ∷ []; demands = b.demands })) else None
 after_listing b (line.Demand place mw) = if nat_lt 0 (length b.zones) && place == length b.demands + 1
     then Some (held.Listing (record { heading = b.heading; welfare = b.welfare; zones = b.zones; borders = b.borders; bids = b.bids; demands = b.demands ++ mw ∷ [] })) else None
@@ -119,9 +120,9 @@ full_block e = block.Published (record {
 
 -- behind a tree: operators, and then providers
 abbrev pub after_ending : Ending → Line → Option Held
-after_ending e (line.Operator o) = if empty e.providers && nat_lt (length e.operators) 64
+after_ending e (line.Operator o) = if empty e.providers && nat_lt (length e.operators) MOST_ZONES
     then Some (held.Ending (record { listing = e.listing; tree = e.tree; operators = e.operators ++ o ∷ []; providers = e.providers })) else None
-after_ending e (line.Provider p) = if nat_lt (length e.providers) 4096
+after_ending e (line.Provider p) = if nat_lt (length e.providers) MOST_BIDS
     then Some (held.Ending (record { listing = e.listing; tree = e.tree; operators = e.operators; providers = e.providers ++ p ∷ [] })) else None
 after_ending e _ = None
 
@@ -138,16 +139,16 @@ keeps k (Some h) = Some (record { held = h; counts = k.counts }, None)
 
 -- behind the head or a block
 abbrev pub starts_block : Kept → Line → Option (Kept × Option Part)
-starts_block k (line.Run h) = if nat_lt (k.counts.published + k.counts.unpublished) 1000
+starts_block k (line.Run h) = if nat_lt (k.counts.published + k.counts.unpublished) MOST_RUNS
     then Some (record { held = held.Run h; counts = k.counts }, None) else None
-starts_block k (line.Unpublished h count) = if nat_lt (k.counts.published + k.counts.unpublished) 1000
+starts_block k (line.Unpublished h count) = if nat_lt (k.counts.published + k.counts.unpublished) MOST_RUNS
     then Some (record { held = held.Between; counts = one_unpublished k.counts }, Some (part.Block (block.Unpublished h count))) else None
 starts_block k (line.TotalOperator o) = keeps k (Some (held.Totals (o ∷ []) []))
 starts_block k _ = None
 
 -- in the totals: operators, and then providers
 abbrev pub after_totals : List MoneyLine → List AmountLine → Line → Option Held
-after_totals os ps (line.TotalOperator o) = if empty ps && nat_lt (length os) 64 then Some (held.Totals (os ++ o ∷ []) ps) else None
+after_totals os ps (line.TotalOperator o) = if empty ps && nat_lt (length os) MOST_ZONES then Some (held.Totals (os ++ o ∷ []) ps) else None
 after_totals os ps (line.TotalProvider p) = if nat_lt (length ps) 1638400 then Some (held.Totals os (ps ++ p ∷ [])) else None
 after_totals os ps _ = None
 
@@ -217,8 +218,8 @@ Follows expected old new (Err refused.Memory) = new ≡ old
 
 -- in a block there is room for it among the runs
 abbrev pub HasRoom : Held → Counts → Type 0
-HasRoom (held.Run h) c = c.published + c.unpublished < 1000
-HasRoom (held.Listing b) c = c.published + c.unpublished < 1000
-HasRoom (held.Growing g) c = c.published + c.unpublished < 1000
-HasRoom (held.Ending e) c = c.published + c.unpublished < 1000
+HasRoom (held.Run h) c = c.published + c.unpublished < MOST_RUNS
+HasRoom (held.Listing b) c = c.published + c.unpublished < MOST_RUNS
+HasRoom (held.Growing g) c = c.published + c.unpublished < MOST_RUNS
+HasRoom (held.Ending e) c = c.published + c.unpublished < MOST_RUNS
 HasRoom _ c = ⊤

@@ -9,6 +9,7 @@ use Rattle.mari_publish.specs.declared.publication.Block.{Block}
 use Rattle.mari_publish.specs.declared.publication.Block.TheVariants as block
 use Rattle.mari_publish.specs.declared.publication.Publication.{Publication}
 use Rattle.mari_publish.specs.Lines.{item_lines}
+use Rattle.mari_units.specs.declared.limits.TheConstants.{MOST_BIDS, MOST_BORDERS, MOST_DEMANDS, MOST_MW, MOST_NODES, MOST_RUNS, MOST_ZONES}
 
 -- the lines of an item are in range
 abbrev pub ItemFits : TreeItem → Type 0
@@ -18,22 +19,22 @@ ItemFits item = AllByRecursion InRange (item_lines item)
 pub record FullFits (b : FullBlock) : Type 0 where
   pub heading : IsHeading b.heading
   pub welfare : b.welfare < 2 ^ 63
-  pub zones : Listed 1 64 (λ z. InRange (line.Zone z)) b.zones
-  pub borders : Listed 0 256 (λ x. InRange (line.Border x)) b.borders
-  pub bids : Listed 0 4096 (λ x. InRange (line.Bid x)) b.bids
-  pub demands : Listed 0 512 (λ mw. mw ≤ 99999) b.demands
-  pub tree : Listed 1 50000 ItemFits b.tree
-  pub operators : Listed 1 64 IsMoneyLine b.operators
-  pub providers : Listed 0 4096 IsAmountLine b.providers
+  pub zones : Listed 1 MOST_ZONES (λ z. InRange (line.Zone z)) b.zones
+  pub borders : Listed 0 MOST_BORDERS (λ x. InRange (line.Border x)) b.borders
+  pub bids : Listed 0 MOST_BIDS (λ x. InRange (line.Bid x)) b.bids
+  pub demands : Listed 0 MOST_DEMANDS (λ mw. mw ≤ MOST_MW) b.demands
+  pub tree : Listed 1 MOST_NODES ItemFits b.tree
+  pub operators : Listed 1 MOST_ZONES IsMoneyLine b.operators
+  pub providers : Listed 0 MOST_BIDS IsAmountLine b.providers
 
 abbrev pub BlockFits : Block → Type 0
 BlockFits (block.Published b) = FullFits b
-BlockFits (block.Unpublished heading count) = IsHeading heading × Between 1 50000 count
+BlockFits (block.Unpublished heading count) = IsHeading heading × Between 1 MOST_NODES count
 
 -- the same of the closing lines
 pub record TotalsFit (p : Publication) : Type 0 where
-  pub runs : length p.blocks ≤ 1000
-  pub operators : Listed 1 64 IsMoneyLine p.operators
+  pub runs : length p.blocks ≤ MOST_RUNS
+  pub operators : Listed 1 MOST_ZONES IsMoneyLine p.operators
   pub providers : Listed 0 1638400 IsAmountLine p.providers
 
 -- the same of the whole: the publication has a text

@@ -11,7 +11,7 @@ use crate::held::{Held, Kept};
 use crate::publication::Part;
 use crate::taking::{LineFault, take_line};
 use mari_lines::{MOST_LINE, split_once};
-use mari_units::Memory;
+use mari_units::{MOST_RUNS, Memory};
 use std::alloc::Global;
 
 /// What is there of the bytes behind the handled lines: all of them, or of a line that is too long a mark, and whether
@@ -45,7 +45,7 @@ pub enum Step {
 /// Handles the first line behind the handled ones, if it is whole.
 fn handle_line(alloc: Global, coming: &mut Coming) -> Result<Step, TextFault>
     requires handled { coming.old.handled ≤ vec_len coming.old.bytes }
-    requires counts { coming.old.kept.counts.published + coming.old.kept.counts.unpublished ≤ 1000 }
+    requires counts { coming.old.kept.counts.published + coming.old.kept.counts.unpublished ≤ MOST_RUNS }
     requires room { HasRoom coming.old.kept.held coming.old.kept.counts }
     requires lines { coming.old.lines < 2 ^ 31 }
     ensures handles { Handles (come_of coming.old) (come_of coming.new) result }

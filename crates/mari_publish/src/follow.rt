@@ -16,6 +16,7 @@ use ending::behind_tree;
 use heading::{at_start, behind_heading, between_blocks};
 use listing::in_listing;
 use mari_lines::Line;
+use mari_units::MOST_RUNS;
 use std::alloc::Global;
 use std::mem;
 pub use step::Refused;
@@ -26,7 +27,7 @@ use tree::in_tree;
 /// Takes a line, and gives the part that is whole with it. What is kept stays as it is where the line may not follow,
 /// and where there is no memory for it.
 pub fn follow(alloc: Global, kept: &mut Kept, line: Line) -> Result<Option<Part>, Refused>
-    requires counts { kept.old.counts.published + kept.old.counts.unpublished ≤ 1000 }
+    requires counts { kept.old.counts.published + kept.old.counts.unpublished ≤ MOST_RUNS }
     requires room { HasRoom kept.old.held kept.old.counts }
     ensures { Follows (after kept.old kept.old.held line) kept.old kept.new result }
 {

@@ -8,6 +8,7 @@ use crate::follow::{Refused, follow};
 use crate::held::Kept;
 use crate::publication::Part;
 use mari_lines::{Unread, read_line};
+use mari_units::MOST_RUNS;
 use std::alloc::Global;
 
 /// Why a line is no next line.
@@ -21,7 +22,7 @@ pub enum LineFault {
 /// Takes the line that is spelled so, and gives the part that is whole with it. After a fault what is kept is as it
 /// was.
 pub fn take_line(alloc: Global, kept: &mut Kept, here: &[u8]) -> Result<Option<Part>, LineFault>
-    requires counts { kept.old.counts.published + kept.old.counts.unpublished ≤ 1000 }
+    requires counts { kept.old.counts.published + kept.old.counts.unpublished ≤ MOST_RUNS }
     requires room { HasRoom kept.old.held kept.old.counts }
     ensures { Took kept.old here.now kept.new result }
 {

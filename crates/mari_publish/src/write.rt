@@ -17,7 +17,7 @@ use mari_lines::{
     put_done, put_end, put_head, put_operator, put_provider, put_run, put_total_operator,
     put_total_provider, put_unpublished, put_welfare, put_zone,
 };
-use mari_units::{Memory, Name};
+use mari_units::{MOST_DEMANDS, MOST_RUNS, Memory, Name};
 use std::alloc::Global;
 use tree::put_tree_lines;
 
@@ -98,7 +98,7 @@ fn put_total_providers(
 }
 
 fn put_demands(alloc: Global, out: &mut Vec<u8>, demands: &[u32]) -> Result<(), Memory>
-    requires { length demands.now ≤ 512 }
+    requires { length demands.now ≤ MOST_DEMANDS }
     ensures { OnOk result (out.new.items ≡ out.old.items ++ text_of_lines (demand_lines 1 demands.now)) }
 {
     for (i, mw) in demands.iter().enumerate() {
@@ -165,7 +165,7 @@ fn put_blocks(alloc: Global, out: &mut Vec<u8>, blocks: &[Block]) -> Result<(), 
 
 /// How many blocks are published.
 fn published_in(blocks: &[Block]) -> u32
-    requires { length blocks.now ≤ 1000 }
+    requires { length blocks.now ≤ MOST_RUNS }
     ensures { result ≡ published_of blocks.now }
 {
     let mut count = 0;
@@ -180,7 +180,7 @@ fn published_in(blocks: &[Block]) -> u32
 /// How many are not.
 #[tactic(auto, using(crate::proofs::Counts::counted))]
 fn unpublished_in(blocks: &[Block]) -> u32
-    requires { length blocks.now ≤ 1000 }
+    requires { length blocks.now ≤ MOST_RUNS }
     ensures { result ≡ unpublished_of blocks.now }
 {
     blocks.len() as u32 - published_in(blocks)

@@ -8,6 +8,7 @@ use super::step::{Refused, go_on, keep, push, refuse};
 use crate::held::{Ending, Held, Kept, Listing};
 use crate::publication::{Block, FullBlock, Part};
 use mari_lines::Line;
+use mari_units::{MOST_BIDS, MOST_RUNS, MOST_ZONES};
 use std::alloc::Global;
 
 /// A line behind a tree.
@@ -19,13 +20,13 @@ fn list_party(alloc: Global, ending: &mut Ending, line: Line) -> Result<(), Refu
             if !ending.providers.as_slice().is_empty() {
                 return Err(Refused::Order);
             }
-            if ending.operators.as_slice().len() >= 64 {
+            if ending.operators.as_slice().len() >= MOST_ZONES {
                 return Err(Refused::Order);
             }
             Ok(push(alloc, &mut ending.operators, operator)?)
         }
         Line::Provider(provider) => {
-            if ending.providers.as_slice().len() >= 4096 {
+            if ending.providers.as_slice().len() >= MOST_BIDS {
                 return Err(Refused::Order);
             }
             Ok(push(alloc, &mut ending.providers, provider)?)
@@ -70,7 +71,7 @@ fn full_block(ending: Ending) -> FullBlock
 
 /// The block that ends with this run's number.
 fn close_block(kept: &mut Kept, ending: Ending, run: u32) -> Result<Option<Part>, Refused>
-    requires { kept.old.counts.published < 1000 }
+    requires { kept.old.counts.published < MOST_RUNS }
     ensures { Follows (after kept.old (held_as.Ending ending) (Line.End run)) (kept_with kept.old (held_as.Ending ending)) kept.new result }
 {
     if run != ending.listing.heading.run {
@@ -88,7 +89,7 @@ pub fn behind_tree(
     ending: Ending,
     line: Line,
 ) -> Result<Option<Part>, Refused>
-    requires { kept.old.counts.published < 1000 }
+    requires { kept.old.counts.published < MOST_RUNS }
     ensures { Follows (after kept.old (held_as.Ending ending) line) (kept_with kept.old (held_as.Ending ending)) kept.new result }
 {
     match line {

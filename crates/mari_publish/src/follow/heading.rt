@@ -8,6 +8,7 @@ use super::step::{Refused, empty, go_on, hold, push, refuse, refuse_line};
 use crate::held::{Held, Kept, Listing};
 use crate::publication::{Block, Part};
 use mari_lines::{Heading, Line, MoneyLine};
+use mari_units::MOST_RUNS;
 use std::alloc::Global;
 
 /// The first line.
@@ -29,10 +30,10 @@ pub fn at_start(kept: &mut Kept, line: Line) -> Result<Option<Part>, Refused>
 
 /// The heading of a run that is published, behind the head or a block.
 fn open_run(kept: &mut Kept, heading: Heading) -> Result<Option<Part>, Refused>
-    requires { kept.old.counts.published + kept.old.counts.unpublished ≤ 1000 }
+    requires { kept.old.counts.published + kept.old.counts.unpublished ≤ MOST_RUNS }
     ensures { Follows (starts_block kept.old (Line.Run heading)) (kept_with kept.old held_as.Between) kept.new result }
 {
-    if kept.counts.published + kept.counts.unpublished >= 1000 {
+    if kept.counts.published + kept.counts.unpublished >= MOST_RUNS as u32 {
         return refuse(kept, Held::Between);
     }
     go_on(kept, Held::Run(heading), None)
@@ -40,10 +41,10 @@ fn open_run(kept: &mut Kept, heading: Heading) -> Result<Option<Part>, Refused>
 
 /// The line of a run that isn't published, behind the head or a block.
 fn tell_unpublished(kept: &mut Kept, heading: Heading, count: u32) -> Result<Option<Part>, Refused>
-    requires { kept.old.counts.published + kept.old.counts.unpublished ≤ 1000 }
+    requires { kept.old.counts.published + kept.old.counts.unpublished ≤ MOST_RUNS }
     ensures { Follows (starts_block kept.old (Line.Unpublished heading count)) (kept_with kept.old held_as.Between) kept.new result }
 {
-    if kept.counts.published + kept.counts.unpublished >= 1000 {
+    if kept.counts.published + kept.counts.unpublished >= MOST_RUNS as u32 {
         return refuse(kept, Held::Between);
     }
     kept.counts.unpublished += 1;
@@ -65,7 +66,7 @@ fn open_totals(alloc: Global, kept: &mut Kept, operator: MoneyLine) -> Result<Op
 
 /// A line behind the head or a block.
 pub fn between_blocks(alloc: Global, kept: &mut Kept, line: Line) -> Result<Option<Part>, Refused>
-    requires { kept.old.counts.published + kept.old.counts.unpublished ≤ 1000 }
+    requires { kept.old.counts.published + kept.old.counts.unpublished ≤ MOST_RUNS }
     ensures { Follows (starts_block kept.old line) (kept_with kept.old held_as.Between) kept.new result }
 {
     match line {

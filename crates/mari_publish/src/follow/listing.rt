@@ -7,6 +7,7 @@ use super::step::{Refused, empty, keep, push, stay};
 use crate::held::{Growing, Held, Kept, Listing, Pending};
 use crate::publication::Part;
 use mari_lines::{BidLine, BorderLine, Line, ZoneLine};
+use mari_units::{MOST_BIDS, MOST_BORDERS, MOST_ZONES};
 use std::alloc::Global;
 
 /// A zone's line in a block before its tree.
@@ -22,7 +23,7 @@ fn list_zone(alloc: Global, block: &mut Listing, zone: ZoneLine) -> Result<(), R
     if !block.demands.as_slice().is_empty() {
         return Err(Refused::Order);
     }
-    if block.zones.as_slice().len() >= 64 {
+    if block.zones.as_slice().len() >= MOST_ZONES {
         return Err(Refused::Order);
     }
     Ok(push(alloc, &mut block.zones, zone)?)
@@ -41,7 +42,7 @@ fn list_border(alloc: Global, block: &mut Listing, border: BorderLine) -> Result
     if !block.demands.as_slice().is_empty() {
         return Err(Refused::Order);
     }
-    if block.borders.as_slice().len() >= 256 {
+    if block.borders.as_slice().len() >= MOST_BORDERS {
         return Err(Refused::Order);
     }
     Ok(push(alloc, &mut block.borders, border)?)
@@ -57,7 +58,7 @@ fn list_bid(alloc: Global, block: &mut Listing, bid: BidLine) -> Result<(), Refu
     if !block.demands.as_slice().is_empty() {
         return Err(Refused::Order);
     }
-    if block.bids.as_slice().len() >= 4096 {
+    if block.bids.as_slice().len() >= MOST_BIDS {
         return Err(Refused::Order);
     }
     Ok(push(alloc, &mut block.bids, bid)?)

@@ -7,7 +7,7 @@ use super::step::{Refused, go_on, keep, more, push, refuse, stay};
 use crate::held::{Held, Kept};
 use crate::publication::Part;
 use mari_lines::{AmountLine, Line, MoneyLine};
-use mari_units::Items;
+use mari_units::{Items, MOST_ZONES};
 use std::alloc::Global;
 
 /// An operator's line of the totals.
@@ -23,7 +23,7 @@ fn total_operator(
     if !providers.as_slice().is_empty() {
         return (Held::Totals(operators, providers), Err(Refused::Order));
     }
-    if operators.as_slice().len() >= 64 {
+    if operators.as_slice().len() >= MOST_ZONES {
         return (Held::Totals(operators, providers), Err(Refused::Order));
     }
     let step = more(push(alloc, &mut operators, operator));

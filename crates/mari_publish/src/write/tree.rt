@@ -9,7 +9,7 @@ use mari_lines::{
     put_at, put_bound, put_branch, put_conflict, put_cut, put_flow_line, put_mw_line, put_tree,
 };
 use mari_market::{Conflict, Leaf, TreeItem};
-use mari_units::Memory;
+use mari_units::{MOST_NODES, Memory};
 use std::alloc::Global;
 
 fn put_conflict_lines(alloc: Global, out: &mut Vec<u8>, conflict: &Conflict) -> Result<(), Memory>
@@ -43,7 +43,7 @@ fn put_items(alloc: Global, out: &mut Vec<u8>, items: &[TreeItem]) -> Result<(),
 
 /// Appends the lines of a certificate tree.
 pub fn put_tree_lines(alloc: Global, out: &mut Vec<u8>, items: &[TreeItem]) -> Result<(), Memory>
-    requires { length items.now ≤ 50000 }
+    requires { length items.now ≤ MOST_NODES }
     ensures { OnOk result (out.new.items ≡ out.old.items ++ text_of_lines (tree_lines items.now)) }
 {
     put_tree(alloc, out, items.len() as u32)?;

@@ -97,6 +97,23 @@ fn may_open(market: &Market, prefix: Prefix) -> Option<bool> {
 }
 
 #[test]
+fn an_indivisible_bid_runs_whole_or_not_once_its_gate_is_decided(
+    rt: HostRuntime,
+) -> Result<(), Fail> {
+    let alloc = rt.alloc();
+    let alone = GateInfo {
+        group: None,
+        parent: None,
+    };
+    let orders = vec![in alloc; bid(3000, 40, 40, Some(0))]?;
+    let market = one_zone(orders, vec![in alloc; alone]?, alloc);
+    assert_eq!(rt; bound(&market, prefix(1, 1), 0), Some((40, 40)));
+    assert_eq!(rt; bound(&market, prefix(1, 0), 0), Some((0, 0)));
+    assert_eq!(rt; bound(&market, prefix(0, 0), 0), Some((0, 40)));
+    Ok(())
+}
+
+#[test]
 fn one_open_bid_closes_its_group(rt: HostRuntime) -> Result<(), Fail> {
     let market = exclusive_group(rt.alloc())?;
     assert_eq!(rt; may_open(&market, prefix(0, 0)), Some(true));

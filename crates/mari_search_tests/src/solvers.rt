@@ -98,6 +98,16 @@ fn oversized_indivisible_bid(alloc: Global) -> Result<Market, Fail> {
     with_an_indivisible_bid(alloc, orders)
 }
 
+/// A bid of up to 40 MW and an indivisible one of 20 MW, which is dearer, for a demand of 50 MW.
+fn paradox_bid(alloc: Global) -> Result<Market, Fail> {
+    let orders = vec![in alloc;
+        injection(0, 1000, 40),
+        indivisible(2000, 20),
+        demand(0, 50),
+    ]?;
+    with_an_indivisible_bid(alloc, orders)
+}
+
 /// What the plain and the fast solver find at a prefix.
 fn solved(alloc: Global, market: &Market, prefix: Prefix) -> Result<[Found; 2], Fail> {
     if !(market.valid() && prefix_feasible(market, &prefix)) {
@@ -170,6 +180,21 @@ fn oversized_bid_closed_or_undecided(rt: HostRuntime) -> Result<(), Fail> {
     assert_eq!(rt;
         stated(alloc, &market, prefix(0, 0))?,
         [Some(299_907_000); 2]
+    );
+    Ok(())
+}
+
+#[test]
+fn paradox_bid_open_or_closed(rt: HostRuntime) -> Result<(), Fail> {
+    let alloc = rt.alloc();
+    let market = paradox_bid(alloc)?;
+    assert_eq!(rt;
+        stated(alloc, &market, prefix(1, 1))?,
+        [Some(499_925_000); 2]
+    );
+    assert_eq!(rt;
+        stated(alloc, &market, prefix(1, 0))?,
+        [Some(399_956_000); 2]
     );
     Ok(())
 }

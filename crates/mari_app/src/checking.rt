@@ -73,7 +73,7 @@ fn verdict_outcome(alloc: Global, verdict: Verdict) -> Outcome
 
 /// What comes of books whose publication is checked. It is read in pieces.
 fn checked_books<S: Shelf>(alloc: Global, shelf: &mut S, books: &Books, folder: &str) -> Outcome
-    // The market files are read.
+    // The market files are accepted.
     requires { IsAccepted books.now }
 
     // What is found of the publication's page, where the shelf tells it.

@@ -60,7 +60,7 @@ fn settled_of(
     requires ledger { HasLedger books.now made (option_map (λ scheduled. scheduled.now.cents) also) block.now }
     requires also { IfSome also (λ scheduled. ArePrices made.market scheduled.now.cents) }
 
-    // So the day can keep it.
+    // What the day keeps of it.
     ensures { IfOk result (IsRunOf books.now made (option_map (λ scheduled. scheduled.now.cents) also.entry) block.now) }
 {
     let activation = activation_of(alloc, block)?;

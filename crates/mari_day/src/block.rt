@@ -156,7 +156,7 @@ pub fn published_run(
         → IfOk result (λ p. IsPublishedOf books.now budget run made (option_map (λ scheduled. scheduled.now.cents) also.entry) p.block) }
     ensures fits { (budget : ℕ) → budget ≤ MOST_NODES → IsClearing made.market budget clearing → IfOk result (λ p. FullFits p.block) }
 
-    // What it adds.
+    // What the block adds to its day.
     ensures settled { IfOk result (λ p. IsRunOf books.now made (option_map (λ scheduled. scheduled.now.cents) also.entry) p.block p.settled) }
 {
     let priced = priced_of(alloc, books, &made, &clearing, also)?;

@@ -9,7 +9,7 @@ ghost use Rattle.mari_demands.specs.Limits.{border_in, leads, limit_columns, lim
 
 use crate::runs::RunBook;
 use mari_rows::{BookFault, BookSoFar, FileCheck, LineFault, Row, is_whole, number_of, read_book};
-use mari_units::MOST_MW;
+use mari_units::{MOST_BORDERS, MOST_MW, MOST_PAGE, MOST_RUNS};
 use mari_zones::{BorderBook, ZoneBook};
 use std::alloc::{AllocError, Global};
 use std::marker::Model;
@@ -65,12 +65,13 @@ impl Model for LimitBook {
     ghost use Rattle.std.specs.Prelude.{◌≡◌, ◌≤◌, ◌*◌, List, length};
     ghost use Rattle.mari_demands.specs.LimitPairs.{table_of};
     ghost use Rattle.mari_demands.specs.declared.limits.Limits.{Limits};
+    ghost use Rattle.mari_units.specs.declared.limits.TheConstants.{MOST_BORDERS, MOST_RUNS};
 
     ghost Value = { List (List Limits) };
 
     ghost view = { λ b. table_of b.runs b.borders b.limits.items };
 
-    ghost invariant = { λ b. (length b.limits.items ≡ b.runs * b.borders) × (b.runs ≤ 1000) × (b.borders ≤ 256) };
+    ghost invariant = { λ b. (length b.limits.items ≡ b.runs * b.borders) × (b.runs ≤ MOST_RUNS) × (b.borders ≤ MOST_BORDERS) };
 }
 
 impl LimitBook {
@@ -83,9 +84,9 @@ impl LimitBook {
         borders: &BorderBook,
         runs: &RunBook,
     ) -> Result<LimitBook, BookFault>
-        requires page { length limits.now ≤ 268435456 }
-        requires borders { length borders.now.borders ≤ 256 }
-        requires runs { length runs.now.runs ≤ 1000 }
+        requires page { length limits.now ≤ MOST_PAGE }
+        requires borders { length borders.now.borders ≤ MOST_BORDERS }
+        requires runs { length runs.now.runs ≤ MOST_RUNS }
         ensures book { GivesBook result (book_in (limit_grammar zones.now borders.now (length runs.now.runs)) limits.now) }
         ensures limits { IfOk result (IsLimitTable (length runs.now.runs) (length borders.now.borders)) }
     {
@@ -163,8 +164,8 @@ impl<'a> LimitsSoFar<'a> {
         borders: &'a BorderBook,
         runs: u32,
     ) -> Result<Self, AllocError>
-        requires borders { length borders.now.borders ≤ 256 }
-        requires runs { runs ≤ 1000 }
+        requires borders { length borders.now.borders ≤ MOST_BORDERS }
+        requires runs { runs ≤ MOST_RUNS }
         ensures zones { IfOk result (λ so_far. so_far.zones.now ≡ zones.now) }
         ensures borders { IfOk result (λ so_far. so_far.borders.now ≡ borders.now) }
         ensures runs { IfOk result (λ so_far. so_far.runs ≡ runs) }
@@ -181,8 +182,8 @@ impl<'a> LimitsSoFar<'a> {
 
     /// The place of what is stated of the run and the border that a line names, or the first check that it fails.
     fn place_of(&self, line: &Row) -> Result<usize, LimitCheck>
-        requires borders { length self.now.borders.now.borders ≤ 256 }
-        requires runs { self.now.runs ≤ 1000 }
+        requires borders { length self.now.borders.now.borders ≤ MOST_BORDERS }
+        requires runs { self.now.runs ≤ MOST_RUNS }
         ensures { IsRead limit_check_number result (first_failing (name_checks self.now.zones.now self.now.borders.now self.now.runs line.now))
             (place_in self.now.zones.now self.now.borders.now self.now.runs line.now) }
     {

@@ -1,4 +1,7 @@
 //! Which line may follow, and what has come with it. A line that is refused changes nothing.
+//!
+//! What owns memory is let go by a call of `drop`, here and in the reading of a text, which costs the proof less than the
+//! end of each way out does.
 
 ghost use Rattle.std.specs.Prelude.{◌≤◌, ◌+◌};
 ghost use Rattle.mari_publish.specs.Order.{after, Follows, HasRoom};

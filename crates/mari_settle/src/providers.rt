@@ -42,7 +42,7 @@ fn earned(bid: &Bid, mw: u32, prices: &[Cents], scheduled: &[Cents]) -> i128
     requires prices { All IsCapped prices.now }
     requires scheduled { All IsCapped scheduled.now }
 
-    // As much as a bid may offer.
+    // No more than any order of a market runs.
     requires mw { mw ≤ MOST_MW }
 
     // So many quarter-cents, few enough to be summed over all bids.

@@ -7,7 +7,7 @@ use super::step::{Refused, go_on, keep, more, push, refuse, stay};
 use crate::held::{Held, Kept};
 use crate::publication::Part;
 use mari_lines::{AmountLine, Line, MoneyLine};
-use mari_units::{Items, MOST_ZONES};
+use mari_units::{Items, MOST_BIDS, MOST_QUARTERS, MOST_ZONES};
 use std::alloc::Global;
 
 /// An operator's line of the totals.
@@ -40,7 +40,7 @@ fn total_provider(
     ensures { Steps (after_totals operators providers (Line.TotalProvider provider)) (held_as.Totals operators providers) result.0 result.1 }
 {
     let mut providers = providers;
-    if providers.as_slice().len() >= 1_638_400 {
+    if providers.as_slice().len() >= MOST_BIDS * MOST_QUARTERS as usize {
         return (Held::Totals(operators, providers), Err(Refused::Order));
     }
     let step = more(push(alloc, &mut providers, provider));

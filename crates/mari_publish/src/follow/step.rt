@@ -53,7 +53,8 @@ pub fn empty<T>(alloc: Global) -> Items<T>
     Items::of(Vec::new(alloc))
 }
 
-/// Holds this from now on, with the same counts. What was held is let go here, and in no other function.
+/// Holds this from now on, with the same counts. Lines are followed by this alone: each function that itself let go of
+/// what was held would take ten seconds to prove.
 pub fn hold(kept: &mut Kept, held: Held)
     ensures { kept.new ≡ kept_with kept.old held }
 {

@@ -1,5 +1,6 @@
 pub mod Appended
 pub mod Printed
+pub mod Canonical
 pub mod Numbers
 pub mod NotRead
 pub mod Splits

@@ -7,6 +7,7 @@ ghost use Rattle.mari_lines.specs.Spelling.{fields, money_fields, amount_fields,
 ghost use Rattle.mari_lines.specs.Reading.{Reads};
 ghost use Rattle.mari_lines.specs.declared.line.Line.TheVariants as line;
 
+mod canonical;
 mod keyword;
 mod lists;
 mod number;
@@ -28,10 +29,10 @@ fn read_zone(alloc: Global, words: &mut Words<'_>) -> Result<ZoneLine, Unread>
     ensures { Reads (λ z. InRange (line.Zone z)) (λ z. fields (line.Zone z)) words.old result }
 {
     let name = words.name(alloc)?;
-    let price = words.price(alloc)?;
-    let least = words.price(alloc)?;
-    let greatest = words.price(alloc)?;
-    let area = words.number(alloc, 1, MOST_ZONES as u32)?;
+    let price = words.price()?;
+    let least = words.price()?;
+    let greatest = words.price()?;
+    let area = words.number(1, MOST_ZONES as u32)?;
     words.end()?;
     Ok(ZoneLine {
         name,
@@ -48,17 +49,17 @@ fn read_head(alloc: Global, words: &mut Words<'_>) -> Result<(Name, u32, u32), U
 {
     words.version()?;
     let date = words.date(alloc)?;
-    let quarters = words.number(alloc, 1, MOST_QUARTERS)?;
-    let budget = words.number(alloc, 1, MOST_NODES)?;
+    let quarters = words.number(1, MOST_QUARTERS)?;
+    let budget = words.number(1, MOST_NODES)?;
     words.end()?;
     Ok((date, quarters, budget))
 }
 
 /// A run's welfare.
-fn read_welfare(alloc: Global, words: &mut Words<'_>) -> Result<u64, Unread>
+fn read_welfare(words: &mut Words<'_>) -> Result<u64, Unread>
     ensures { Reads (λ x. InRange (line.Welfare x)) (λ x. fields (line.Welfare x)) words.old result }
 {
-    let welfare = words.welfare(alloc)?;
+    let welfare = words.welfare()?;
     words.end()?;
     Ok(welfare)
 }
@@ -69,8 +70,8 @@ fn read_border(alloc: Global, words: &mut Words<'_>) -> Result<BorderLine, Unrea
 {
     let from = words.name(alloc)?;
     let to = words.name(alloc)?;
-    let flow = words.flow(alloc)?;
-    let rent = words.money(alloc)?;
+    let flow = words.flow()?;
+    let rent = words.money()?;
     words.end()?;
     Ok(BorderLine {
         from,
@@ -85,45 +86,45 @@ fn read_bid(alloc: Global, words: &mut Words<'_>) -> Result<BidLine, Unread>
     ensures { Reads (λ x. InRange (line.Bid x)) (λ x. fields (line.Bid x)) words.old result }
 {
     let id = words.name(alloc)?;
-    let mw = words.number(alloc, 0, MOST_MW)?;
+    let mw = words.number(0, MOST_MW)?;
     words.end()?;
     Ok(BidLine { id, mw })
 }
 
 /// A demand's place and quantity.
-fn read_demand(alloc: Global, words: &mut Words<'_>) -> Result<(u32, u32), Unread>
+fn read_demand(words: &mut Words<'_>) -> Result<(u32, u32), Unread>
     ensures { Reads (λ x. InRange (line.Demand x.0 x.1)) (λ x. fields (line.Demand x.0 x.1)) words.old result }
 {
-    let place = words.number(alloc, 1, MOST_DEMANDS as u32)?;
-    let mw = words.number(alloc, 0, MOST_MW)?;
+    let place = words.number(1, MOST_DEMANDS as u32)?;
+    let mw = words.number(0, MOST_MW)?;
     words.end()?;
     Ok((place, mw))
 }
 
 /// How many items a tree has.
-fn read_tree(alloc: Global, words: &mut Words<'_>) -> Result<u32, Unread>
+fn read_tree(words: &mut Words<'_>) -> Result<u32, Unread>
     ensures { Reads (λ x. InRange (line.Tree x)) (λ x. fields (line.Tree x)) words.old result }
 {
-    let count = words.number(alloc, 1, MOST_NODES)?;
+    let count = words.number(1, MOST_NODES)?;
     words.end()?;
     Ok(count)
 }
 
 /// The number of the run that ends.
-fn read_end(alloc: Global, words: &mut Words<'_>) -> Result<u32, Unread>
+fn read_end(words: &mut Words<'_>) -> Result<u32, Unread>
     ensures { Reads (λ x. InRange (line.End x)) (λ x. fields (line.End x)) words.old result }
 {
-    let run = words.number(alloc, 1, MOST_RUNS as u32)?;
+    let run = words.number(1, MOST_RUNS as u32)?;
     words.end()?;
     Ok(run)
 }
 
 /// How many runs were published, and how many not.
-fn read_done(alloc: Global, words: &mut Words<'_>) -> Result<(u32, u32), Unread>
+fn read_done(words: &mut Words<'_>) -> Result<(u32, u32), Unread>
     ensures { Reads (λ x. InRange (line.Done x.0 x.1)) (λ x. fields (line.Done x.0 x.1)) words.old result }
 {
-    let published = words.number(alloc, 0, MOST_RUNS as u32)?;
-    let unpublished = words.number(alloc, 0, MOST_RUNS as u32)?;
+    let published = words.number(0, MOST_RUNS as u32)?;
+    let unpublished = words.number(0, MOST_RUNS as u32)?;
     words.end()?;
     Ok((published, unpublished))
 }
@@ -133,9 +134,9 @@ fn read_operator(alloc: Global, words: &mut Words<'_>) -> Result<MoneyLine, Unre
     ensures { Reads IsMoneyLine money_fields words.old result }
 {
     let name = words.name(alloc)?;
-    let payment = words.money(alloc)?;
-    let rent = words.money(alloc)?;
-    let net = words.money(alloc)?;
+    let payment = words.money()?;
+    let rent = words.money()?;
+    let net = words.money()?;
     words.end()?;
     Ok(MoneyLine {
         name,
@@ -150,7 +151,7 @@ fn read_provider(alloc: Global, words: &mut Words<'_>) -> Result<AmountLine, Unr
     ensures { Reads IsAmountLine amount_fields words.old result }
 {
     let name = words.name(alloc)?;
-    let amount = words.money(alloc)?;
+    let amount = words.money()?;
     words.end()?;
     Ok(AmountLine { name, amount })
 }
@@ -182,11 +183,11 @@ fn read_cut(alloc: Global, words: &mut Words<'_>) -> Result<Cut, Unread>
 }
 
 /// What stands behind `run`.
-fn read_run(alloc: Global, words: &mut Words<'_>) -> Result<Line, Unread>
+fn read_run(words: &mut Words<'_>) -> Result<Line, Unread>
     ensures { Reads (λ l. InRange l × (keyword_of_line l ≡ Keyword.Run)) fields words.old result }
 {
-    let run = words.number(alloc, 1, MOST_RUNS as u32)?;
-    let quarter = words.number(alloc, 1, MOST_QUARTERS)?;
+    let run = words.number(1, MOST_RUNS as u32)?;
+    let quarter = words.number(1, MOST_QUARTERS)?;
     let direct = words.direct()?;
     let published = words.published()?;
     let heading = Heading {
@@ -198,7 +199,7 @@ fn read_run(alloc: Global, words: &mut Words<'_>) -> Result<Line, Unread>
         words.end()?;
         return Ok(Line::Run(heading));
     }
-    let count = words.number(alloc, 1, MOST_NODES)?;
+    let count = words.number(1, MOST_NODES)?;
     words.end()?;
     Ok(Line::Unpublished(heading, count))
 }
@@ -212,16 +213,16 @@ fn read_fields(alloc: Global, keyword: Keyword, words: &mut Words<'_>) -> Result
             let (date, quarters, budget) = read_head(alloc, words)?;
             Ok(Line::Head(date, quarters, budget))
         }
-        Keyword::Run => read_run(alloc, words),
-        Keyword::Welfare => Ok(Line::Welfare(read_welfare(alloc, words)?)),
+        Keyword::Run => read_run(words),
+        Keyword::Welfare => Ok(Line::Welfare(read_welfare(words)?)),
         Keyword::Zone => Ok(Line::Zone(read_zone(alloc, words)?)),
         Keyword::Border => Ok(Line::Border(read_border(alloc, words)?)),
         Keyword::Bid => Ok(Line::Bid(read_bid(alloc, words)?)),
         Keyword::Demand => {
-            let (place, mw) = read_demand(alloc, words)?;
+            let (place, mw) = read_demand(words)?;
             Ok(Line::Demand(place, mw))
         }
-        Keyword::Tree => Ok(Line::Tree(read_tree(alloc, words)?)),
+        Keyword::Tree => Ok(Line::Tree(read_tree(words)?)),
         Keyword::Branch => {
             words.end()?;
             Ok(Line::Branch)
@@ -234,11 +235,11 @@ fn read_fields(alloc: Global, keyword: Keyword, words: &mut Words<'_>) -> Result
         Keyword::Mws => Ok(Line::Mws(read_mws(alloc, words)?)),
         Keyword::Operator => Ok(Line::Operator(read_operator(alloc, words)?)),
         Keyword::Provider => Ok(Line::Provider(read_provider(alloc, words)?)),
-        Keyword::End => Ok(Line::End(read_end(alloc, words)?)),
+        Keyword::End => Ok(Line::End(read_end(words)?)),
         Keyword::TotalOperator => Ok(Line::TotalOperator(read_operator(alloc, words)?)),
         Keyword::TotalProvider => Ok(Line::TotalProvider(read_provider(alloc, words)?)),
         Keyword::Done => {
-            let (published, unpublished) = read_done(alloc, words)?;
+            let (published, unpublished) = read_done(words)?;
             Ok(Line::Done(published, unpublished))
         }
     }

@@ -22,7 +22,7 @@ pub fn read_prices(alloc: Global, words: &mut Words<'_>) -> Result<Items<Cents>,
         if prices.len() >= MOST_ZONES {
             return Err(Unread::Formless);
         }
-        let price = read_price(alloc, word)?;
+        let price = read_price(word)?;
         prices.push(price)?;
     }
     if prices.is_empty() {
@@ -40,7 +40,7 @@ pub fn read_flows(alloc: Global, words: &mut Words<'_>) -> Result<Items<i64>, Un
         if flows.len() >= MOST_BORDERS {
             return Err(Unread::Formless);
         }
-        let flow = read_flow(alloc, word)?;
+        let flow = read_flow(word)?;
         flows.push(flow)?;
     }
     Ok(Items::of(flows))
@@ -55,7 +55,7 @@ pub fn read_mws(alloc: Global, words: &mut Words<'_>) -> Result<Items<u32>, Unre
         if mws.len() >= MOST_ORDERS {
             return Err(Unread::Formless);
         }
-        let mw = read_number(alloc, word, 0, MOST_MW)?;
+        let mw = read_number(word, 0, MOST_MW)?;
         mws.push(mw)?;
     }
     Ok(Items::of(mws))
@@ -70,7 +70,7 @@ pub fn read_zones(alloc: Global, words: &mut Words<'_>) -> Result<Items<u32>, Un
         if zones.len() >= MOST_ZONES {
             return Err(Unread::Formless);
         }
-        let zone = read_zone_number(alloc, word)?;
+        let zone = read_zone_number(word)?;
         zones.push(zone)?;
     }
     if zones.is_empty() {

@@ -1,6 +1,6 @@
 //! Names, numbers, prices and money as they are printed.
 
-ghost use Rattle.std.specs.Prelude.{◌≡◌, ◌≤◌, ◌<◌, ◌^◌, ◌≤ℤ◌, ◌↔◌, IsTrue, min, ◌-◌, pos, neg_ℤ};
+ghost use Rattle.std.specs.Prelude.{◌≡◌, ◌≤◌, ◌<◌, ◌^◌, ◌≤ℤ◌, min, ◌-◌, pos, neg_ℤ};
 ghost use Rattle.std.specs.Char.{is_ascii_digit};
 ghost use Rattle.std.specs.List.{list_all};
 ghost use Rattle.std.specs.Fmt.{decimal, signed_decimal};
@@ -8,11 +8,9 @@ ghost use Rattle.mari_lines.specs.Ranges.{Between, Within, IsName, IsDate, IsPri
 ghost use Rattle.mari_lines.specs.Spelling.{price_text, money_text, zone_text};
 ghost use Rattle.mari_lines.specs.Reading.{Reads, digits_in as digits_of, value_in};
 
+use super::canonical::{is_cents_text, is_money_text, is_whole_text};
 use crate::fault::Unread;
-use mari_units::{
-    CAP, Cents, MOST_FLOW, MOST_ZONES, Name, NameFault, Quarters, cents_text, euros_text,
-    read_name, whole_text,
-};
+use mari_units::{CAP, Cents, MOST_FLOW, MOST_ZONES, Name, NameFault, Quarters, read_name};
 use std::alloc::Global;
 
 /// The number that the digits of a text write, or the greatest of 128 bits where it is greater.
@@ -42,15 +40,8 @@ fn value_of(text: &[u8], unit: u128) -> i128
     }
 }
 
-/// Whether both are the same bytes.
-pub fn is_same(text: &[u8], other: &[u8]) -> bool
-    ensures { IsTrue result ↔ (text.now ≡ other.now) }
-{
-    text == other
-}
-
 /// The whole number from `least` to `greatest` that is printed so.
-fn read_whole(alloc: Global, text: &[u8], least: i128, greatest: i128) -> Result<i128, Unread>
+fn read_whole(text: &[u8], least: i128, greatest: i128) -> Result<i128, Unread>
     requires { (neg_ℤ (pos (2 ^ 63)) ≤ℤ least) × (greatest ≤ℤ pos (2 ^ 63)) }
     ensures { Reads (λ z. (least ≤ℤ z) × (z ≤ℤ greatest)) signed_decimal text.now result }
 {
@@ -61,38 +52,38 @@ fn read_whole(alloc: Global, text: &[u8], least: i128, greatest: i128) -> Result
     if value > greatest {
         return Err(Unread::Formless);
     }
-    if !is_same(&whole_text(alloc, value)?, text) {
+    if !is_whole_text(text, value) {
         return Err(Unread::Formless);
     }
     Ok(value)
 }
 
 /// The number from `least` to `greatest` that is printed so.
-pub fn read_number(alloc: Global, text: &[u8], least: u32, greatest: u32) -> Result<u32, Unread>
+pub fn read_number(text: &[u8], least: u32, greatest: u32) -> Result<u32, Unread>
     ensures { Reads (Between least greatest) decimal text.now result }
 {
-    let value = read_whole(alloc, text, i128::from(least), i128::from(greatest))?;
+    let value = read_whole(text, i128::from(least), i128::from(greatest))?;
     Ok(value as u32)
 }
 
 /// The welfare that is printed so.
-pub fn read_welfare(alloc: Global, text: &[u8]) -> Result<u64, Unread>
+pub fn read_welfare(text: &[u8]) -> Result<u64, Unread>
     ensures { Reads (λ n. n < 2 ^ 63) decimal text.now result }
 {
-    let value = read_whole(alloc, text, 0, i128::from(i64::MAX))?;
+    let value = read_whole(text, 0, i128::from(i64::MAX))?;
     Ok(value as u64)
 }
 
 /// The flow that is printed so.
-pub fn read_flow(alloc: Global, text: &[u8]) -> Result<i64, Unread>
+pub fn read_flow(text: &[u8]) -> Result<i64, Unread>
     ensures { Reads (λ z. Within MOST_FLOW z) signed_decimal text.now result }
 {
-    let value = read_whole(alloc, text, -i128::from(MOST_FLOW), i128::from(MOST_FLOW))?;
+    let value = read_whole(text, -i128::from(MOST_FLOW), i128::from(MOST_FLOW))?;
     Ok(value as i64)
 }
 
 /// The price from -CAP to CAP that is printed so.
-pub fn read_price(alloc: Global, text: &[u8]) -> Result<Cents, Unread>
+pub fn read_price(text: &[u8]) -> Result<Cents, Unread>
     ensures { Reads IsPriceLine price_text text.now result }
 {
     let value = value_of(text, 1);
@@ -103,7 +94,7 @@ pub fn read_price(alloc: Global, text: &[u8]) -> Result<Cents, Unread>
         return Err(Unread::Formless);
     }
     let price = Cents(value as i64);
-    if !is_same(&cents_text(alloc, price)?, text) {
+    if !is_cents_text(text, price) {
         return Err(Unread::Formless);
     }
     Ok(price)
@@ -113,7 +104,7 @@ pub fn read_price(alloc: Global, text: &[u8]) -> Result<Cents, Unread>
 const MOST_MONEY: i128 = 4_000_000_000_000_000_000;
 
 /// The money that is printed so.
-pub fn read_money(alloc: Global, text: &[u8]) -> Result<Quarters, Unread>
+pub fn read_money(text: &[u8]) -> Result<Quarters, Unread>
     ensures { Reads IsMoney money_text text.now result }
 {
     let value = value_of(text, 25);
@@ -124,7 +115,7 @@ pub fn read_money(alloc: Global, text: &[u8]) -> Result<Quarters, Unread>
         return Err(Unread::Formless);
     }
     let money = Quarters(value);
-    if !is_same(&euros_text(alloc, money)?, text) {
+    if !is_money_text(text, money) {
         return Err(Unread::Formless);
     }
     Ok(money)
@@ -171,9 +162,9 @@ pub fn read_date(alloc: Global, text: &[u8]) -> Result<Name, Unread>
 }
 
 /// The zone that is written so: its number from 0.
-pub fn read_zone_number(alloc: Global, text: &[u8]) -> Result<u32, Unread>
+pub fn read_zone_number(text: &[u8]) -> Result<u32, Unread>
     ensures { Reads IsZone zone_text text.now result }
 {
-    let zone = read_number(alloc, text, 1, MOST_ZONES as u32)?;
+    let zone = read_number(text, 1, MOST_ZONES as u32)?;
     Ok(zone - 1)
 }

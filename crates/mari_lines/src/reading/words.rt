@@ -1,6 +1,6 @@
 //! The words of a line, read one after the other.
 
-ghost use Rattle.std.specs.Prelude.{◌≡◌, ◌≢◌, ◌==◌, ◌∷◌, [], ◌<◌, ◌^◌, MatchOption, MatchResult, codes, ⊤};
+ghost use Rattle.std.specs.Prelude.{◌≡◌, ◌≢◌, ◌==◌, ◌∷◌, [], ◌<◌, ◌^◌, ◌↔◌, IsTrue, MatchOption, MatchResult, codes, ⊤};
 ghost use Rattle.std.specs.List.{slice_split};
 ghost use Rattle.std.specs.Fmt.{decimal, signed_decimal};
 ghost use Rattle.mari_lines.specs.Ranges.{Between, Within, IsName, IsDate, IsPriceLine, IsMoney};
@@ -9,8 +9,7 @@ ghost use Rattle.mari_lines.specs.Reading.{ReadsFirst};
 ghost use Rattle.mari_lines.specs.declared.fault.Unread.TheVariants as unread;
 
 use super::number::{
-    is_same, read_date, read_flow, read_money, read_name_text, read_number, read_price,
-    read_welfare,
+    read_date, read_flow, read_money, read_name_text, read_number, read_price, read_welfare,
 };
 use super::separator::split_once;
 use crate::fault::Unread;
@@ -18,6 +17,13 @@ use mari_market::CutSide;
 use mari_units::{Cents, MOST_FLOW, Name, Quarters};
 use std::alloc::Global;
 use std::marker::Model;
+
+/// Whether both are the same bytes.
+fn is_same(text: &[u8], other: &[u8]) -> bool
+    ensures { IsTrue result ↔ (text.now ≡ other.now) }
+{
+    text == other
+}
 
 /// The words that are left of a line, which contracts see as the list of them.
 #[derive(Drop)]
@@ -88,43 +94,43 @@ impl<'a> Words<'a> {
     }
 
     /// Takes a number from `least` to `greatest`.
-    pub fn number(&mut self, alloc: Global, least: u32, greatest: u32) -> Result<u32, Unread>
+    pub fn number(&mut self, least: u32, greatest: u32) -> Result<u32, Unread>
         ensures { ReadsFirst (Between least greatest) decimal self.old self.new result }
     {
         let word = self.word()?;
-        read_number(alloc, word, least, greatest)
+        read_number(word, least, greatest)
     }
 
     /// Takes a welfare.
-    pub fn welfare(&mut self, alloc: Global) -> Result<u64, Unread>
+    pub fn welfare(&mut self) -> Result<u64, Unread>
         ensures { ReadsFirst (λ n. n < 2 ^ 63) decimal self.old self.new result }
     {
         let word = self.word()?;
-        read_welfare(alloc, word)
+        read_welfare(word)
     }
 
     /// Takes a flow.
-    pub fn flow(&mut self, alloc: Global) -> Result<i64, Unread>
+    pub fn flow(&mut self) -> Result<i64, Unread>
         ensures { ReadsFirst (λ z. Within MOST_FLOW z) signed_decimal self.old self.new result }
     {
         let word = self.word()?;
-        read_flow(alloc, word)
+        read_flow(word)
     }
 
     /// Takes a price.
-    pub fn price(&mut self, alloc: Global) -> Result<Cents, Unread>
+    pub fn price(&mut self) -> Result<Cents, Unread>
         ensures { ReadsFirst IsPriceLine price_text self.old self.new result }
     {
         let word = self.word()?;
-        read_price(alloc, word)
+        read_price(word)
     }
 
     /// Takes an amount of money.
-    pub fn money(&mut self, alloc: Global) -> Result<Quarters, Unread>
+    pub fn money(&mut self) -> Result<Quarters, Unread>
         ensures { ReadsFirst IsMoney money_text self.old self.new result }
     {
         let word = self.word()?;
-        read_money(alloc, word)
+        read_money(word)
     }
 
     /// Takes a date.

@@ -1,4 +1,4 @@
-use Rattle.std.proofs.Common.{◌≡◌, ◌<◌, ◌^◌, ◌<ℤ◌, ap, ◌∙◌, arith, to_z, of_z, pos, neg_ℤ}
+use Rattle.std.proofs.Common.{◌≡◌, ◌<◌, ◌^◌, ◌<ℤ◌, sym, ap, ◌∙◌, arith, to_z, of_z, pos, neg_ℤ}
 use mir.Syntax.{w128}
 use Rattle.std.specs.Int.RustNames.{unsigned_abs}
 use Rattle.std.proofs.lemmas.Int.{ints}
@@ -18,9 +18,9 @@ returns-then-value-gt-MOST_MONEY c = λ z r e.
     let above : pos 4000000000000000000 <ℤ c.value_of-value.result = grind (arith, ints) in
     not_above_greatest _ _ z.0 (c.value_of-value.ensures ∙ money_is z.0 c.args.text.now small e) above (size_of_within z.0 4000000000000000000 r).1
 
-pub returns-then-not-is_same : goal.returns-then-not-is_same
-returns-then-not-is_same c = λ z r e.
+pub returns-then-not-is_money_text : goal.returns-then-not-is_money_text
+returns-then-not-is_money_text c = λ z r e.
     let small : unsigned_abs z.0 < 2 ^ 64 = omega arith in
     let passed : to_z w128 (of_z w128 c.value_of-value.result) ≡ c.value_of-value.result = omega (arith, ints) in
-    let printed = c.deref.ensures.value ∙ c.in_ok-euros_text.ensures ∙ ap printed_euros (passed ∙ c.value_of-value.ensures ∙ money_is z.0 c.args.text.now small e) ∙ e in
-    let yes = c.if-not-is_same.ensures.1 printed in absurd cc
+    let printed = ap printed_euros (passed ∙ c.value_of-value.ensures ∙ money_is z.0 c.args.text.now small e) ∙ e in
+    let yes = c.if-not-is_money_text.ensures.1 (sym printed) in absurd cc

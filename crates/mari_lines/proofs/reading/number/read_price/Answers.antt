@@ -1,4 +1,4 @@
-use Rattle.std.proofs.Common.{◌≡◌, ◌<ℤ◌, ap, ◌∙◌, arith, to_z, of_z, pos, neg_ℤ}
+use Rattle.std.proofs.Common.{◌≡◌, ◌<ℤ◌, sym, ap, ◌∙◌, arith, to_z, of_z, pos, neg_ℤ}
 use mir.Syntax.{w64, w128}
 use Rattle.std.proofs.lemmas.Int.{ints}
 use Rattle.mari_units.specs.Numbers.{printed_cents}
@@ -17,10 +17,10 @@ returns-then-value-from-2 c = λ z r e.
     let above : pos 9999900 <ℤ c.value_of-value.result = grind (arith, ints) in
     not_above_greatest _ _ z.0 (c.value_of-value.ensures ∙ price_is z.0 c.args.text.now small e) above r.high
 
-pub returns-then-not-is_same : goal.returns-then-not-is_same
-returns-then-not-is_same c = λ z r e.
+pub returns-then-not-is_cents_text : goal.returns-then-not-is_cents_text
+returns-then-not-is_cents_text c = λ z r e.
     let small = size_between (neg_ℤ (pos 9999900)) (pos 9999900) z.0 (omega (arith, ints)) (omega (arith, ints)) r.low r.high in
     let read = c.value_of-value.ensures ∙ price_is z.0 c.args.text.now small e in
     let same : to_z w64 (of_z w64 (to_z w128 (of_z w128 c.value_of-value.result))) ≡ z.0 = omega (arith, ints, read, r.low, r.high) in
-    let printed = c.deref.ensures.value ∙ c.in_ok-cents_text.ensures ∙ ap printed_cents same ∙ e in
-    let yes = c.if-not-is_same.ensures.1 printed in absurd cc
+    let printed = ap printed_cents same ∙ e in
+    let yes = c.if-not-is_cents_text.ensures.1 (sym printed) in absurd cc

@@ -1,4 +1,4 @@
-use Rattle.std.proofs.Common.{◌≡◌, ◌<ℤ◌, ap, ◌∙◌, arith, to_z, of_z}
+use Rattle.std.proofs.Common.{◌≡◌, ◌<ℤ◌, sym, ap, ◌∙◌, arith, to_z, of_z}
 use mir.Syntax.{w128}
 use Rattle.std.specs.Fmt.{signed_decimal}
 use Rattle.std.proofs.lemmas.Int.{ints}
@@ -17,10 +17,10 @@ returns-then-value-greatest c = λ z r e.
     let above : c.args.greatest <ℤ c.value_of-value.result = grind (arith, ints) in
     not_above_greatest _ _ z (c.value_of-value.ensures ∙ whole_is z c.args.text.now small e) above r.1
 
-pub returns-then-not-is_same : goal.returns-then-not-is_same
-returns-then-not-is_same c = λ z r e.
+pub returns-then-not-is_whole_text : goal.returns-then-not-is_whole_text
+returns-then-not-is_whole_text c = λ z r e.
     let small = size_between c.args.least c.args.greatest z c.requires.0 c.requires.1 r.0 r.1 in
     let passed : to_z w128 (of_z w128 c.value_of-value.result) ≡ c.value_of-value.result = omega (arith, ints) in
     let same = passed ∙ c.value_of-value.ensures ∙ whole_is z c.args.text.now small e in
-    let printed = c.deref.ensures.value ∙ c.in_ok-whole_text.ensures ∙ ap signed_decimal same ∙ e in
-    let yes = c.if-not-is_same.ensures.1 printed in absurd cc
+    let printed = ap signed_decimal same ∙ e in
+    let yes = c.if-not-is_whole_text.ensures.1 (sym printed) in absurd cc

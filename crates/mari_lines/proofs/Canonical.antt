@@ -10,7 +10,7 @@ use Rattle.std.proofs.lemmas.List.{append_assoc, append_cancel_right}
 use Rattle.mari_units.specs.Numbers.{sign_of, printed_ten_thousandths}
 use Rattle.mari_lines.proofs.Printed.{not_below}
 
--- a number of one digit, and one of more
+-- a number of one digit
 pub one_digit : (n : ℕ) → n < 10 → decimal n ≡ (48 + n % 10) ∷ []
 one_digit n small =
     let same : 48 + n ≡ 48 + n % 10 = omega arith in
@@ -77,7 +77,8 @@ hundredths_end whole a b = sym (append_assoc whole (46 ∷ []) (a ∷ b ∷ []))
 -- four decimals are two behind two
 pub ten_thousandths_end : (n : ℕ)
     → printed_ten_thousandths n
-    ≡ (decimal (n / 100 / 100) ++ 46 ∷ (48 + n / 100 % 100 / 10) ∷ (48 + n / 100 % 10) ∷ []) ++ (48 + n % 100 / 10) ∷ (48 + n % 10) ∷ []
+    ≡ (decimal (n / 100 / 100) ++ 46 ∷ (48 + n / 100 % 100 / 10) ∷ (48 + n / 100 % 10) ∷ [])
+    ++ (48 + n % 100 / 10) ∷ (48 + n % 10) ∷ []
 ten_thousandths_end n =
     let whole : n / 100 / 100 ≡ n / 10000 = omega arith in
     let first : 48 + n / 100 % 100 / 10 ≡ 48 + n % 10000 / 1000 = omega arith in

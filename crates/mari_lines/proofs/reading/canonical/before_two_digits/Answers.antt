@@ -4,7 +4,8 @@ use Rattle.mari_lines.proofs.reading.canonical.before_two_digits.Goals as goal
 
 pub returns-in_err-front : goal.returns-in_err-front
 returns-in_err-front c =
-    none_off c.from_residual.result c.args.text.now _ _ _ c.from_residual.ensures c.last_digit.ensures c.in_err-front.ensures
+    none_off c.from_residual.result c.args.text.now _ _ _ c.from_residual.ensures c.last_digit.ensures
+    c.in_err-front.ensures
 
 pub returns : goal.returns
 returns c =

@@ -8,8 +8,8 @@ returns-in_default c = never (λ e. c.in_default.ensures _ (e ∙ hundredths_end
 
 pub returns-in_default-before : goal.returns-in_default-before
 returns-in_default-before c =
-    let pointed = before_end c.args.text.now _ _ _ _ c.in-Some.ensures (hundredths_end (decimal (c.args.number / 100)) _ _) in
-    never (λ e. c.in_default-before.ensures _ (pointed.1 e))
+    let decimals = hundredths_end (decimal (c.args.number / 100)) _ _ in
+    never (λ e. c.in_default-before.ensures _ ((before_end c.args.text.now _ _ _ _ c.in-Some.ensures decimals).1 e))
 
 pub returns : goal.returns
 returns c =

@@ -7,4 +7,5 @@ returns-in_default c = never (λ e. c.in_default.ensures _ (e ∙ ten_thousandth
 
 pub returns : goal.returns
 returns c =
-    through c.is_hundredths.ensures (before_end c.args.text.now _ _ _ _ c.in-Some.ensures (ten_thousandths_end c.args.number))
+    let decimals = ten_thousandths_end c.args.number in
+    through c.is_hundredths.ensures (before_end c.args.text.now _ _ _ _ c.in-Some.ensures decimals)

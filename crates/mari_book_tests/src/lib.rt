@@ -1,4 +1,5 @@
-//! Tests of the books of market files: names and records, zones, borders, bids, links, runs, demands and limits.
+//! Tests of the books of market files: numbers and names, records, zones, borders, bids, links, runs, demands and
+//! limits.
 //!
 //! They call what is public alone, so they stand apart from what they test, which then is proved once.
 #![tactic(auto)]
@@ -11,5 +12,7 @@ mod demands;
 mod links;
 #[cfg(test)]
 mod rows;
+#[cfg(test)]
+mod units;
 #[cfg(test)]
 mod zones;

@@ -12,8 +12,6 @@
 mod draws;
 mod lines;
 mod pages;
-#[cfg(test)]
-mod tests;
 mod text;
 
 pub use pages::scenario_pages;

@@ -1,4 +1,4 @@
-//! Tests of what clears a market: gates, welfare, certificates, the merit order, both solvers of a
+//! Tests of what clears a market: markets themselves, gates, welfare, certificates, the merit order, both solvers of a
 //! network, prices, a node, and the machine of a search.
 //!
 //! They call what is public alone, so they stand apart from what they test, which then is proved once.
@@ -10,6 +10,8 @@ mod certificates;
 mod gates;
 #[cfg(test)]
 mod machine;
+#[cfg(test)]
+mod markets;
 #[cfg(test)]
 mod merit;
 #[cfg(test)]

@@ -1,4 +1,4 @@
-//! Tests of a day's text: its lines, whole publications, and texts that come in pieces.
+//! Tests of texts: the lines of a day, whole publications, texts that come in pieces, and the words of a command.
 //!
 //! They call what is public alone, so they stand apart from what they test, which then is proved once.
 #![tactic(auto)]
@@ -11,3 +11,5 @@ mod pieces;
 mod publications;
 #[cfg(test)]
 mod texts;
+#[cfg(test)]
+mod words;

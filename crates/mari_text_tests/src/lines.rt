@@ -4,7 +4,7 @@ ghost use Rattle.mari_lines.specs.Ranges.{InRange};
 
 use crate::texts::joined;
 use mari_lines::{
-    Line, Unread, put_at, put_bid, put_border, put_bound, put_branch, put_conflict, put_cut,
+    FormFault, Line, put_at, put_bid, put_border, put_bound, put_branch, put_conflict, put_cut,
     put_demand, put_done, put_end, put_flow_line, put_head, put_mw_line, put_operator,
     put_provider, put_run, put_total_operator, put_total_provider, put_tree, put_unpublished,
     put_welfare, put_zone, read_line,
@@ -109,8 +109,8 @@ fn reads(alloc: Global, parts: &[&str]) -> Result<bool, Fail> {
     let text = joined(alloc, parts)?;
     match read_line(alloc, text.as_bytes()) {
         Ok(_) => Ok(true),
-        Err(Unread::Formless) => Ok(false),
-        Err(Unread::Memory) => Err(Fail::from("there is no memory")),
+        Err(FormFault::Formless) => Ok(false),
+        Err(FormFault::Memory) => Err(Fail::from("there is no memory")),
     }
 }
 

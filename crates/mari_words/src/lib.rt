@@ -7,8 +7,6 @@
 mod asking;
 mod command;
 mod parser;
-#[cfg(test)]
-mod tests;
 
 pub use command::{
     Command, FilePart, LAST_NUMBER, USUAL_NODES, USUAL_WORKERS, WordsFault, read_words,

@@ -1,7 +1,7 @@
 //! The pages of a generated day.
 
-use crate::scenario_pages;
 use mari_io::Page;
+use mari_scenario::scenario_pages;
 use std::test::Fail;
 
 /// How many lines a page has.

@@ -1,6 +1,6 @@
 //! Words that are commands, and words that are none.
 
-use crate::{Command, FilePart, WordsFault, read_words};
+use mari_words::{Command, FilePart, WordsFault, read_words};
 use std::alloc::Global;
 use std::test::Fail;
 

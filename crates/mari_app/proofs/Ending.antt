@@ -11,7 +11,7 @@ use Rattle.mari_publish.specs.declared.publication.Publication.{Publication}
 use Rattle.mari_publish.specs.Faults.{IsText}
 use Rattle.mari_publish.specs.Texts.{text_of}
 use Rattle.mari_remain.specs.declared.books.Books.{Books}
-use Rattle.mari_day.specs.Day.{EndsDay, WroteDay, then_took}
+use Rattle.mari_day.specs.Day.{EndsDay, WroteWholeDay, then_took}
 use Rattle.mari_day.specs.declared.day.DayEnd.{DayEnd}
 use Rattle.mari_day.specs.declared.day.DayEnd.TheVariants as end
 use Rattle.mari_day.specs.Files.{Gap}
@@ -31,7 +31,7 @@ use Rattle.mari_app.specs.Commands.IsRefused.{OfFiles as refused-files, OfText a
 use Rattle.mari_app.specs.Commands.RefusesFiles.{OfBooks as refuses-books, OfVersion as refuses-version}
 use Rattle.mari_app.specs.Commands.LacksPage.{OfBooks as lacks-book, NoPublication as lacks-publication, LongPublication as lacks-long}
 use Rattle.mari_app.specs.Commands.Prints.{Valid as prints-valid, Migrated as prints-migrated, Generated as prints-generated}
-use Rattle.mari_app.specs.Headline.{WroteDay as WroteDayOf}
+use Rattle.mari_app.specs.Headline.{WroteDay}
 use Rattle.mari_app.specs.Outcome.{AsksForText, CheckTells, IsNoPage, IsOfWords, IsReady, IsReportable, Reported, Reports, ReportsDay, Says, day_status, fetch_of}
 use Rattle.mari_app.specs.Outcome.Reports.{Printed, CutOff, Starved}
 use Rattle.mari_app.specs.Outcome.Says.{OfUsage, OfRefusal, OfGap, OfClear, OfCheck, OfMigrate, OfGenerate, Fails, Starves}
@@ -198,8 +198,8 @@ module _ (asked : Option Asked) where
     of-nothing result e p = subst Ends (sym e) (starved p)
 
     -- a day that is written whole
-    wrote : (told : Pages) (job : Job) (published unpublished : ℕ) (whole : Bool) → IsReady job → AreCleared asked told job.books job.nodes → WroteDay job.books job.nodes published unpublished before after
-        → (unpublished == 0) ≡ whole → WroteDayOf asked told whole before after
+    wrote : (told : Pages) (job : Job) (published unpublished : ℕ) (whole : Bool) → IsReady job → AreCleared asked told job.books job.nodes → WroteWholeDay job.books job.nodes published unpublished before after
+        → (unpublished == 0) ≡ whole → WroteDay asked told whole before after
     wrote told job published unpublished whole ready is w e = record {
       text = text_of w.publication;
       day = record {
@@ -226,7 +226,7 @@ module _ (asked : Option Asked) where
       clears : AsksToClear asked
       clears = (folder, job.nodes, job.workers, clear)
 
-      of-done : (published unpublished : ℕ) (whole : Bool) → WroteDay job.books job.nodes published unpublished before after → (unpublished == 0) ≡ whole → Ends (if whole then status.Done else status.Unpublished)
+      of-done : (published unpublished : ℕ) (whole : Bool) → WroteWholeDay job.books job.nodes published unpublished before after → (unpublished == 0) ≡ whole → Ends (if whole then status.Done else status.Unpublished)
       of-done published unpublished true w e = (λ told t. done-cleared (wrote told job published unpublished true ready (is told t) w e), no-summary before after folder job.nodes job.workers clear)
       of-done published unpublished false w e = (clears, λ told t. wrote told job published unpublished false ready (is told t) w e)
 

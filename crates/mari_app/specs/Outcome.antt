@@ -29,16 +29,15 @@ use Rattle.mari_check.specs.Day.{IsFirstFault, IsValidPublication}
 use Rattle.mari_check.specs.Streams.{IsToldFault, IsTooLong}
 use Rattle.mari_words.specs.Asked.{Asked}
 use Rattle.mari_words.specs.Asked.Asked.{Clear, Check, Generate, Migrate}
-use Rattle.mari_units.specs.declared.limits.TheConstants.{MOST_NODES, MOST_WORKERS}
-use Rattle.mari_app.specs.declared.checks.TextCheck.TheVariants.{BadLine, BadOrder, Truncated}
-use Rattle.mari_app.specs.Checks.{text_check_number}
+use Rattle.mari_market.specs.Clearing.{IsBudget}
+use Rattle.mari_units.specs.declared.limits.TheConstants.{MOST_WORKERS}
 use Rattle.mari_app.specs.declared.outcome.Job.{Job}
 use Rattle.mari_app.specs.declared.outcome.Outcome.{Outcome}
 use Rattle.mari_app.specs.declared.outcome.Outcome.TheVariants.{NoCommand, Day, Text, Invalid, NoPage, Refused, NoMemory}
 use Rattle.mari_app.specs.declared.status.Status.{Status}
 use Rattle.mari_app.specs.declared.status.Status.TheVariants as status
 use Rattle.mari_words.specs.declared.command.FilePart.{FilePart}
-use Rattle.mari_app.specs.Commands.{ReadsFolder, already_two, page_of_part, publication_path, text_refusal, text_refusal_at}
+use Rattle.mari_app.specs.Commands.{ReadsFolder, already_two, page_of_part, publication_path, text_refusal}
 use Rattle.mari_app.specs.Summary.{IsGenerated}
 use Rattle.mari_app.specs.Printing.{file_line, invalid_line, refused_line, usage_line, valid_line}
 use Rattle.mari_app.specs.Refusals.{HasName}
@@ -71,7 +70,7 @@ IsNoPage why _ = ⊥
 pub record IsReady (job : Job) : Type 0 where
   pub accepted : IsAccepted job.books
   pub dated : IsDated job.books
-  pub nodes : (1 ≤ job.nodes) × (job.nodes ≤ MOST_NODES)
+  pub nodes : IsBudget job.nodes
   pub workers : (1 ≤ job.workers) × (job.workers ≤ MOST_WORKERS)
 
 -- an outcome that can be reported
@@ -143,9 +142,9 @@ IsSummarised number _ = ⊥
 
 -- what comes of a publication whose text has a fault
 abbrev pub text_outcome : TextFault → Outcome
-text_outcome (text_fault.BadLine n) = Refused (text_refusal_at n (text_check_number BadLine))
-text_outcome (text_fault.BadOrder n) = Refused (text_refusal_at n (text_check_number BadOrder))
-text_outcome (text_fault.Truncated n) = Refused (text_refusal_at n (text_check_number Truncated))
+text_outcome (text_fault.BadLine n) = Refused (text_refusal (text_fault.BadLine n))
+text_outcome (text_fault.BadOrder n) = Refused (text_refusal (text_fault.BadOrder n))
+text_outcome (text_fault.Truncated n) = Refused (text_refusal (text_fault.Truncated n))
 text_outcome text_fault.Memory = NoMemory
 
 -- what comes of the verdict on a publication

@@ -14,7 +14,7 @@ use crate::status::Status;
 use mari_day::{DayEnd, run_day};
 use mari_io::{Shelf, Sink};
 use mari_market::{Cleared, Clearer, Market};
-use mari_units::{MOST_NODES, MOST_WORKERS};
+use mari_units::MOST_WORKERS;
 use mari_workers::{Alone, Crew, Turnstile, search};
 use std::alloc::Global;
 use std::sync::Wait;
@@ -71,7 +71,7 @@ pub fn clear_together<K: Sink, G: Turnstile, R: Threads + Wait + Sync>(
     let workers = job.workers;
     let mut crew = Crew {
         run: |alloc: Global, market: &Market, budget: u32| -> Cleared
-            requires { IsValid market.now × (1 ≤ budget) × (budget ≤ MOST_NODES) × (1 ≤ workers) × (workers ≤ MOST_WORKERS) }
+            requires { IsValid market.now × IsBudget budget × (1 ≤ workers) × (workers ≤ MOST_WORKERS) }
             ensures { Clears market.entry.now budget result }
         { search(rt, alloc, market, workers, budget, turnstile) },
     };

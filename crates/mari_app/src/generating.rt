@@ -3,7 +3,7 @@
 ghost use Rattle.std.specs.Prelude.{◌≡◌, ◌<◌, ◌≤◌, ◌^◌, IfOk, Some};
 ghost use lib.Chars.{codes};
 ghost use Rattle.mari_io.specs.declared.shelf.Fetch.TheVariants as fetch;
-ghost use Rattle.mari_market.specs.Clearing.{Clears};
+ghost use Rattle.mari_market.specs.Clearing.{Clears, IsBudget};
 ghost use Rattle.mari_market.specs.Market.{IsValid};
 ghost use Rattle.mari_remain.specs.Accepted.{IsAccepted};
 ghost use Rattle.mari_day.specs.Dated.{IsDated};
@@ -23,7 +23,7 @@ use mari_market::{Cleared, Market};
 use mari_publish::read_text;
 use mari_remain::Books;
 use mari_scenario::scenario_pages;
-use mari_units::{Items, MOST_NODES, Memory};
+use mari_units::{Items, Memory};
 use mari_words::{USUAL_NODES, USUAL_WORKERS};
 use mari_workers::{Crew, Turnstile, search};
 use std::alloc::Global;
@@ -62,7 +62,7 @@ fn usual_day<G: Turnstile, R: Threads + Wait + Sync>(
 {
     let mut crew = Crew {
         run: |alloc: Global, market: &Market, budget: u32| -> Cleared
-            requires { IsValid market.now × (1 ≤ budget) × (budget ≤ MOST_NODES) }
+            requires { IsValid market.now × IsBudget budget }
             ensures { Clears market.entry.now budget result }
         { search(rt, alloc, market, USUAL_WORKERS, budget, turnstile) },
     };

@@ -4,8 +4,8 @@ use mari_io::Fetch;
 use mari_remain::Books;
 use mari_units::Refusal;
 
-/// A day to clear: its books, how many nodes each run's search may make, 1 to 50,000, and how many workers search, 1
-/// to 16.
+/// A day to clear: its books, how many nodes each run's search may make, 1 to `MOST_NODES`, and how many workers
+/// search, 1 to `MOST_WORKERS`.
 #[derive(Drop)]
 pub struct Job {
     pub books: Books,

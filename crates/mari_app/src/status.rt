@@ -8,8 +8,8 @@ use mari_units::Refusal;
 use std::process::ExitCode;
 
 /// How the program ended: all is printed; at least one run is unpublished; the words are no command; the input is
-/// refused; a fetch failed; a write failed; there was no memory; the checked text is wrong at a run; a page is
-/// missing; a page is too long.
+/// refused; a fetch failed; a write failed; there was no memory; the publication isn't valid, with its first run
+/// that has a fault and the fault's number; a page is missing; a page is too long.
 #[derive(Clone, Copy, Debug, PartialEq, Eq)]
 pub enum Status {
     Done,

@@ -38,7 +38,7 @@ fn put_heading(alloc: Global, text: &mut Vec<u8>, number: u32, books: &Books) ->
     )
 }
 
-/// Appends the line of a published block.
+/// Appends the line of a published block; of an unpublished one it appends nothing.
 fn put_run(alloc: Global, text: &mut Vec<u8>, block: &Block) -> Result<(), Memory>
     ensures { OnOk result (text.new.items ≡ text.old.items ++ run_text block.now) }
 {

@@ -152,7 +152,7 @@ pub record IsBid (zones : ZoneBook) (providers quarters : ℕ) (bid : Bid) : Typ
   pub least : bid.least ≤ bid.greatest
 
 -- what holds of every book of bids that is read: each bid has a name of its own, each provider a name, and no quarter
--- has more than 4,096 bids
+-- has more than `MOST_BIDS` bids
 pub record IsBidBook (zones : ZoneBook) (quarters : ℕ) (book : BidBook) : Type 0 where
   pub named : length book.ids ≡ length book.bids
   pub ids : All (λ id. is_name id ≡ true) book.ids

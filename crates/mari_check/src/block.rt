@@ -194,8 +194,8 @@ pub(crate) fn fault_in(
 /// its activation, its welfare, its prices, intervals and areas, its tree and its ledger.
 ///
 /// The market is the one that is made of this run behind the blocks before. A direct run whose quarter has a published
-/// scheduled block is checked with the prices of that block; for any other run there are none. How many items the tree
-/// may have is no matter here.
+/// scheduled block is checked with the prices of that block; for any other run there are none. The number of the
+/// tree's items isn't tested here.
 pub fn check_run(
     alloc: Global,
     books: &Books,

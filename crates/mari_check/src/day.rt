@@ -19,7 +19,7 @@ use crate::block::fault_in;
 use crate::fault::Fault;
 use crate::told::{activation_of, prices_of};
 use mari_market::Prices;
-use mari_progress::{Progress, Settled, heading, ledger_of, run_count};
+use mari_progress::{Progress, SettledRun, heading, ledger_of, run_count};
 use mari_publish::{Block, FullBlock, Heading};
 use mari_remain::{Books, RunMarket};
 use mari_units::{MOST_RUNS, Memory, Name};
@@ -29,7 +29,7 @@ use std::alloc::Global;
 #[derive(Drop)]
 pub enum Tested {
     Faulty(Fault),
-    Sound(Settled),
+    Sound(SettledRun),
 }
 
 /// What the check of a day keeps between its blocks: the budget, what a day keeps, and how many of the blocks so far
@@ -49,7 +49,7 @@ fn settled_of(
     made: RunMarket,
     block: &FullBlock,
     also: Option<&Prices>,
-) -> Result<Settled, Memory>
+) -> Result<SettledRun, Memory>
     // The run's market, as the folder's books give it.
     requires accepted { IsAccepted books.now }
     requires made { IsMarketOf books.now made }
@@ -66,7 +66,7 @@ fn settled_of(
     let activation = activation_of(alloc, block)?;
     let prices = prices_of(alloc, block)?;
     let ledger = ledger_of(alloc, books, &made, &prices, &activation, also)?;
-    Ok(Settled {
+    Ok(SettledRun {
         made,
         activation,
         prices,

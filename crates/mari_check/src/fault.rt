@@ -3,11 +3,12 @@
 ghost use Rattle.std.specs.Prelude.{◌≡◌};
 ghost use Rattle.mari_check.specs.Faults.{number_of};
 
-/// What can be wrong with a printed block, or with the totals of a day. Of several faults the one with the least
-/// number is told.
+/// What can be wrong with the first line, a block or the totals of a printed day. Of several faults the one with the
+/// least number is told.
 #[derive(Clone, Copy, Debug, Drop, PartialEq, Eq)]
 pub enum Fault {
-    /// The run, its quarter or its kind isn't that of the book of runs at this place.
+    /// The run, its quarter or its kind isn't that of the book of runs at this place; there is a block too few or too
+    /// many; or, of run 0, the date or the number of quarters is another.
     Heading,
     /// The lines of zones, borders and bids don't name those of the run's market, or demands are missing or too many.
     Lines,
@@ -23,7 +24,8 @@ pub enum Fault {
     Price,
     /// The number of an area is another.
     Area,
-    /// The tree is no whole tree, or has more items than the budget.
+    /// The tree is no whole tree, or has more items than the budget; of an unpublished block, its count of nodes
+    /// doesn't fill the budget.
     Tree,
     /// A leaf of the tree doesn't hold.
     Leaf,

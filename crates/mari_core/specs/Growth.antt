@@ -21,7 +21,7 @@ use Rattle.mari_core.specs.declared.event.StepFault.{StepFault}
 use Rattle.mari_core.specs.declared.event.StepFault.TheVariants.{NoNode, NotUntaken, NotTaken, Memory}
 use Rattle.mari_core.specs.Nodes.{TreeNode, new_node, in_state, changed, words_of, word_at, state_at, child_numbers, branch_of}
 use Rattle.mari_core.specs.Preorder.{HasPreorder}
-use Rattle.mari_units.specs.declared.limits.TheConstants.{MOST_NODES}
+use Rattle.mari_market.specs.Clearing.{IsBudget}
 
 -- ---- what grows
 
@@ -233,7 +233,7 @@ pub record IsCrowded (g : Grown) : Type 0 where
 -- and where the mark is on, some leaf could branch but for the budget
 pub record IsGrowth (g : Grown) : Type 0 where
   pub valid : IsValid g.market
-  pub budget_is : (1 ≤ g.budget) × (g.budget ≤ MOST_NODES)
+  pub budget_is : IsBudget g.budget
   pub nodes_are : AreNodes g.market (words_of g.nodes)
   pub root : slice_get (words_of g.nodes) 0 ≡ Some []
   pub within_budget : length g.nodes ≤ g.budget

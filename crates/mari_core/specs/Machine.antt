@@ -1,6 +1,7 @@
--- The search machine: what a search keeps, and what each event changes in it. Read this file first.  Its tree is read
--- on in `Growth` (how nodes are taken, closed, branched and given back) and `Preorder`; an event is what one actor does
--- in one step.
+-- The search machine: what a search keeps, and what each event changes in it. Read this file first.
+--
+-- Its tree is read on in `Growth` (how nodes are taken, closed, branched and given back) and `Preorder`; an event is
+-- what one actor does in one step.
 use Rattle.std.specs.Prelude.{◌≡◌, ℕ, ◌≤◌, ◌<◌, ◌==◌, pos, max, nat_lt, if◌then◌else◌, List, [], ◌∷◌, length, replicate, Option, Some, None, slice_get, IfSome, ⊤, All}
 use Rattle.mari_market.specs.declared.market.Market.{Market}
 use Rattle.mari_market.specs.declared.finding.Attained.{Attained}

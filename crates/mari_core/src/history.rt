@@ -25,7 +25,7 @@ pub fn replay<'m>(
     budget: u32,
     events: Vec<Event>,
 ) -> Result<Search<'m>, ReplayFault>
-    // What the search starts from, and what is to happen to it.
+    // What `Search::start` asks for, and what `Search::step` asks for at each event.
     requires market { IsValid market.now }
     requires actors { 1 ≤ actors }
     requires attained { IsAttained market.now first }
@@ -33,7 +33,7 @@ pub fn replay<'m>(
     requires budget { IsBudget budget }
     requires events { AreProper (started market.now actors first budget) events.items }
 
-    // What comes of it.
+    // The search after the events, or the first event that is refused.
     ensures replayed { IsReplayed (started market.now actors first budget) events.items result }
     ensures facts { IfOk result KeepsFacts }
 {

@@ -109,14 +109,14 @@ impl<'m> Search<'m> {
         first: Attained,
         budget: u32,
     ) -> Result<Search<'m>, Memory>
-        // What the caller knows of the market and of the activation to start with.
+        // A market, somebody to search it, and its best activation with all gates closed.
         requires market { IsValid market.now }
         requires actors { 1 ≤ actors }
         requires attained { IsAttained market.now first }
         requires closed { IsClosedWelfare market.now (pos first.welfare) }
         requires budget { IsBudget budget }
 
-        // The start of every search.
+        // One node that waits, and nothing seen or offered above that activation.
         ensures started { IfOk result (λ s. s ≡ started market.now actors first budget) }
         ensures facts { IfOk result KeepsFacts }
     {
@@ -176,12 +176,17 @@ impl<'m> Search<'m> {
 
     /// An actor offers an admissible activation.
     fn offer(&mut self, actor: u32, attained: Attained) -> Result<(), StepFault>
+        // The actor is there, and what it hands in is true of the market.
         requires there { actor < length self.old.actors }
         requires attained { IsAttained self.old.tree.market attained }
+
+        // What the event changes, or why nothing does; memory is never wanted.
         ensures change { IfOk result (λ _. self.new ≡ after self.old (Offer actor attained)) }
         ensures same { IfErr result (λ _. self.new ≡ self.old) }
         ensures answer { IsAnswer (refusal self.old (Offer actor attained)) result }
         ensures memory { IfErr result (λ fault. fault ≢ NoStepMemory) }
+
+        // What every event keeps.
         ensures facts { KeepsFacts self.new }
     {
         self.incumbent = self.incumbent.max(attained.welfare);
@@ -204,12 +209,17 @@ impl<'m> Search<'m> {
 
     /// An actor settles a node that it has taken, at what it saw of the incumbent.
     fn settle(&mut self, actor: u32, node: u32, finding: Finding) -> Result<(), StepFault>
+        // The actor is there, and what it hands in is true of the market.
         requires there { actor < length self.old.actors }
         requires proper { IsProper self.old (Settle actor node finding) }
+
+        // What the event changes, or why nothing does; memory is never wanted.
         ensures change { IfOk result (λ _. self.new ≡ after self.old (Settle actor node finding)) }
         ensures same { IfErr result (λ _. self.new ≡ self.old) }
         ensures answer { IsAnswer (refusal self.old (Settle actor node finding)) result }
         ensures memory { IfErr result (λ fault. fault ≢ NoStepMemory) }
+
+        // What every event keeps.
         ensures facts { KeepsFacts self.new }
     {
         let cutoff = self.actors[actor as usize].seen;

@@ -13,7 +13,7 @@ use Rattle.mari_remain.specs.declared.market.RunMarket.{RunMarket}
 use Rattle.mari_market.specs.declared.activation.Prices.{Prices}
 use Rattle.mari_settle.specs.Ledger.{operator_lines, provider_amounts, rents_of, scheduled_or}
 use Rattle.mari_day.specs.declared.block.Priced.{Priced}
-use Rattle.mari_progress.specs.declared.progress.Settled.{Settled}
+use Rattle.mari_progress.specs.declared.progress.SettledRun.{SettledRun}
 use Rattle.mari_progress.specs.Runs.{IsRunOf}
 use Rattle.mari_day.specs.Assembled.{HasShapes, IsAssembled, IsPriced}
 use Rattle.mari_progress.specs.Money.{amount_line, amounts_of, money_lines_of, providers_among}
@@ -69,7 +69,7 @@ module _ (books : Books) (budget run : ℕ) (made : RunMarket) (also : Option (L
       }
 
   -- what the block adds to its day
-  pub run-of : (settled : Settled) → IsPriced books made also clearing priced → HasShapes books made.bids clearing priced → settled.made ≡ made → settled.activation ≡ clearing.activation → settled.prices ≡ priced.pricing.published
+  pub run-of : (settled : SettledRun) → IsPriced books made also clearing priced → HasShapes books made.bids clearing priced → settled.made ≡ made → settled.activation ≡ clearing.activation → settled.prices ≡ priced.pricing.published
       → settled.ledger ≡ priced.ledger → IsRunOf books made also b settled
   run-of settled p shapes same of prices ledger = record {
     market = same;

@@ -9,7 +9,7 @@ use Rattle.mari_publish.specs.Ranges.{BlockFits}
 use Rattle.mari_remain.specs.declared.books.Books.{Books}
 use Rattle.mari_remain.specs.Accepted.{IsAccepted}
 use Rattle.mari_progress.specs.declared.progress.Progress.{Progress}
-use Rattle.mari_progress.specs.declared.progress.Settled.{Settled}
+use Rattle.mari_progress.specs.declared.progress.SettledRun.{SettledRun}
 use Rattle.mari_progress.specs.Behind.{run_behind}
 use Rattle.mari_progress.specs.Progress.{IsProgress}
 use Rattle.mari_progress.specs.Runs.{IsNextRun, IsSoundBlock, IsSoundRun}
@@ -53,11 +53,11 @@ module _ (books : Books) (budget : ℕ) (blocks : List Block) (kept : Progress) 
       }
 
   -- a block that adds something is published
-  pub some-run : (d : Block) → IsBlock books budget blocks d → (settled : Settled) → IsSettledIn books blocks d (Some settled) → (b : FullBlock) × IsNextRun books blocks b settled
+  pub some-run : (d : Block) → IsBlock books budget blocks d → (settled : SettledRun) → IsSettledIn books blocks d (Some settled) → (b : FullBlock) × IsNextRun books blocks b settled
   some-run (block.Unpublished heading count) is settled of = absurd of
   some-run (block.Published b) is settled of = (b, record { sound = sound-run books budget blocks b is; adds = of })
 
-  pub some-more : (d : Block) → IsBlock books budget blocks d → BlockFits d → (settled : Settled) → IsSettledIn books blocks d (Some settled) → (after : Progress)
+  pub some-more : (d : Block) → IsBlock books budget blocks d → BlockFits d → (settled : SettledRun) → IsSettledIn books blocks d (Some settled) → (after : Progress)
       → ((b : FullBlock) → IsNextRun books blocks b settled → IsProgress books (blocks ++ block.Published b ∷ []) after) → IsDayProgress books budget (blocks ++ d ∷ []) after
   some-more (block.Unpublished heading count) is fits settled of after added = absurd of
   some-more (block.Published b) is fits settled of after added =

@@ -16,7 +16,7 @@ use Rattle.mari_lines.specs.Spelling.{line_text}
 use Rattle.mari_publish.specs.Texts.{block_text_of, head_text_of, text_of, text_of_lines, total_text_of}
 use Rattle.mari_publish.proofs.Parts.{text_of_blocks}
 use Rattle.mari_remain.specs.declared.books.Books.{Books}
-use Rattle.mari_day.specs.Day.{IsDayPart, part_text, then_took, WroteDay, WrotePart, WrotePrefix}
+use Rattle.mari_day.specs.Day.{IsDayPart, part_text, then_took, WroteWholeDay, WrotePart, WrotePrefix}
 use Rattle.mari_day.specs.Stepped.{BrokeOff, Closes, IsDayOf, Stepped, Stopped, WroteBlock, WroteFirst}
 use Rattle.mari_day.specs.declared.step.Stop.TheVariants.{Sink, NoMemory}
 use Rattle.mari_progress.specs.declared.progress.Progress.{Progress}
@@ -130,7 +130,7 @@ module _ (books : Books) (budget : ℕ) where
 
     -- the whole day
     pub day-written : (after : Option (List ℕ)) (u : Unit {0}) → count ≡ length books.runs.runs → Closes books budget first.blocks mid after (Ok u)
-        → (kept.published ≤ length books.runs.runs) × WroteDay books budget kept.published (length books.runs.runs - kept.published) before after
+        → (kept.published ≤ length books.runs.runs) × WroteWholeDay books budget kept.published (length books.runs.runs - kept.published) before after
     day-written after u all (p, is, e) =
         let both = both-kinds first.blocks in
         let few : published_in first.blocks ≡ kept.published = sym first.progress.kept.published in (

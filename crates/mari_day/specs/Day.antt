@@ -52,7 +52,7 @@ abbrev pub then_took : Option (List ℕ) → List ℕ → Option (List ℕ)
 then_took taken text = option_map (λ t. t ++ text) taken
 
 -- a day was written whole, with so many published blocks and so many others
-pub record WroteDay (books : Books) (budget published unpublished : ℕ) (before after : Option (List ℕ)) : Type 0 where
+pub record WroteWholeDay (books : Books) (budget published unpublished : ℕ) (before after : Option (List ℕ)) : Type 0 where
   pub publication : Publication
   pub day : IsDay books budget publication
   pub in_range : HasText publication
@@ -75,7 +75,7 @@ pub record WrotePart (books : Books) (budget : ℕ) (before after : Option (List
 
 -- what a sink has taken of a day, by how it ended
 abbrev pub EndsDay : Books → (budget : ℕ) → (before after : Option (List ℕ)) → DayEnd → Type 0
-EndsDay books budget before after (Done published unpublished) = WroteDay books budget published unpublished before after
+EndsDay books budget before after (Done published unpublished) = WroteWholeDay books budget published unpublished before after
 EndsDay books budget before after WriteFault = WrotePrefix books budget before after
 EndsDay books budget before after Memory = (after ≡ before) ⊎ WrotePart books budget before after
 

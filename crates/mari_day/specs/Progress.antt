@@ -6,7 +6,7 @@ use Rattle.mari_publish.specs.declared.publication.Block.TheVariants as block
 use Rattle.mari_publish.specs.Ranges.{BlockFits}
 use Rattle.mari_remain.specs.declared.books.Books.{Books}
 use Rattle.mari_progress.specs.declared.progress.Progress.{Progress}
-use Rattle.mari_progress.specs.declared.progress.Settled.{Settled}
+use Rattle.mari_progress.specs.declared.progress.SettledRun.{SettledRun}
 use Rattle.mari_progress.specs.Behind.{also_behind, market_behind}
 use Rattle.mari_progress.specs.Progress.{IsProgress}
 use Rattle.mari_progress.specs.Runs.{IsRunOf}
@@ -21,7 +21,7 @@ pub record IsDayProgress (books : Books) (budget : ℕ) (blocks : List Block) (p
   pub kept : IsProgress books blocks p
 
 -- what a block adds to its day, which is nothing unless it is published
-abbrev pub IsSettledIn : Books → (before : List Block) → Block → Option Settled → Type 0
+abbrev pub IsSettledIn : Books → (before : List Block) → Block → Option SettledRun → Type 0
 IsSettledIn books before (block.Published b) (Some settled) = IsRunOf books (market_behind books before) (also_behind books before) b settled
 IsSettledIn books before (block.Published b) None = ⊥
 IsSettledIn books before (block.Unpublished heading count) (Some settled) = ⊥

@@ -18,7 +18,7 @@ use crate::lines::{amount_lines, bid_lines, border_lines, demand_mws, money_line
 use mari_bids::BidBook;
 use mari_market::{Activation, Clearing, Prices};
 use mari_prices::{Pricing, areas, published_prices};
-use mari_progress::{Settled, heading, ledger_of, providers_of};
+use mari_progress::{SettledRun, heading, ledger_of, providers_of};
 use mari_publish::{AmountLine, FullBlock};
 use mari_remain::{Books, RunMarket};
 use mari_settle::Ledger;
@@ -37,7 +37,7 @@ pub struct Priced {
 #[derive(Drop)]
 pub struct PublishedRun {
     pub block: FullBlock,
-    pub settled: Settled,
+    pub settled: SettledRun,
 }
 
 /// A block, and the activation that it tells.
@@ -169,7 +169,7 @@ pub fn published_run(
     } = priced;
     Ok(PublishedRun {
         block,
-        settled: Settled {
+        settled: SettledRun {
             made,
             activation,
             prices: pricing.published,

@@ -7,7 +7,7 @@ ghost use Rattle.mari_io.specs.Outside.{Counts};
 ghost use Rattle.mari_publish.specs.declared.publication.Block.{Block as PrintedBlock};
 ghost use Rattle.mari_remain.specs.Accepted.{IsAccepted};
 ghost use Rattle.mari_day.specs.Dated.{IsDated};
-ghost use Rattle.mari_day.specs.Day.{EndsDay, WroteDay};
+ghost use Rattle.mari_day.specs.Day.{EndsDay, WroteWholeDay};
 ghost use Rattle.mari_progress.specs.Money.{amount_line};
 ghost use Rattle.mari_day.specs.Progress.{IsDayProgress};
 ghost use Rattle.mari_day.specs.Stepped.{Closes, Stopped, WroteFirst};
@@ -58,7 +58,7 @@ fn all_places(alloc: Global, count: u32) -> Result<Vec<u32>, Memory>
     Ok(places)
 }
 
-/// Writes the head.
+/// Writes the head, and gives what is kept before the first block.
 fn begin<K: Sink>(alloc: Global, books: &Books, budget: u32, sink: &mut K) -> Result<Progress, Stop>
     requires accepted { IsAccepted books.now }
     requires dated { IsDated books.now }
@@ -151,7 +151,7 @@ fn write_day<C: Clearer, K: Sink>(
 
     // What the sink has taken by the end, and why no more.
     ensures written { IfOk result (λ published. (published ≤ length books.now.runs.runs)
-        × WroteDay books.now budget published (length books.now.runs.runs - published) (K.taken sink.old) (K.taken sink.new)) }
+        × WroteWholeDay books.now budget published (length books.now.runs.runs - published) (K.taken sink.old) (K.taken sink.new)) }
     ensures stopped { IfErr result (Stopped books.now budget (K.taken sink.old) (K.taken sink.new)) }
     ensures cause { Counts (result ≡ Err Stop.Sink) (K.faults sink.old) (K.faults sink.new) }
 

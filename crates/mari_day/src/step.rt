@@ -16,7 +16,7 @@ use crate::block::published_run;
 use crate::writing::write_all;
 use mari_io::Sink;
 use mari_market::{Cleared, Clearer};
-use mari_progress::{Progress, Settled, heading};
+use mari_progress::{Progress, SettledRun, heading};
 use mari_publish::{Block, block_text};
 use mari_remain::Books;
 use mari_units::Memory;
@@ -44,7 +44,7 @@ impl From<Memory> for Stop {
 #[derive(Drop)]
 pub struct RunDone {
     pub block: Block,
-    pub settled: Option<Settled>,
+    pub settled: Option<SettledRun>,
 }
 
 /// Makes the market of a run behind the blocks so far, clears it, and makes its block.

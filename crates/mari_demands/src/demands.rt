@@ -43,8 +43,8 @@ impl FileCheck for DemandCheck {
     }
 }
 
-/// A demand of a run, which counts from 1, in a zone by its place: so many MW, below 0 for a surplus, at most at a
-/// price in cents per MWh. Without a price it is inelastic.
+/// A demand of a run, which counts from 1, in a zone by its place: so many MW, below 0 for a surplus, at a price
+/// in cents per MWh: the greatest that a demand pays, the least that a surplus takes. Without a price it is inelastic.
 #[derive(Clone, Copy, Debug, PartialEq, Eq)]
 pub struct Demand {
     pub run: u32,

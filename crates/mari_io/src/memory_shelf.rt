@@ -41,14 +41,15 @@ impl Model for MemoryShelf {
 }
 
 impl MemoryShelf {
-    /// A shelf of these pages, of which nothing was asked yet, and whose pieces have 65,536 bytes. It takes no memory.
+    /// A shelf of these pages, of which nothing was asked yet, and whose pieces have `MOST_PIECE` bytes. It takes no
+    /// memory.
     pub fn new(pages: Vec<Page>, plan: FaultPlan) -> MemoryShelf
         ensures { result ≡ new_shelf (pages_of pages.items) plan MOST_PIECE }
     {
         MemoryShelf::with_piece(pages, plan, MOST_PIECE as u32)
     }
 
-    /// The same, where a piece has at most so many bytes, 1 to 65,536. It takes no memory.
+    /// The same, where a piece has at most so many bytes, 1 to `MOST_PIECE`. It takes no memory.
     pub fn with_piece(pages: Vec<Page>, plan: FaultPlan, piece: u32) -> MemoryShelf
         requires some { 1 ≤ piece }
         requires few { piece ≤ MOST_PIECE }

@@ -11,8 +11,8 @@ pub const MOST_PIECE: usize = 65_536;
 /// The most bytes that are given of a page in pieces.
 pub const MOST_GIVEN: u64 = 1_099_511_627_776;
 
-/// Why a call gave nothing: it failed, there is no such page, the page is longer than 268,435,456 bytes, or in pieces
-/// than 1,099,511,627,776 bytes, or there was no memory for it.
+/// Why a call gave nothing: it failed, there is no such page, the page is longer than `MOST_PAGE`, or in pieces than
+/// `MOST_GIVEN`, or there was no memory for it.
 #[derive(Clone, Copy, Debug, PartialEq, Eq)]
 pub enum Fetch {
     Failed,
@@ -91,8 +91,8 @@ pub trait Shelf {
         ensures too_long { Counts (IsErrOf result TooLong) (overs self.old) (overs self.new) }
         ensures not_too_long { IsErrOf result TooLong → ⊥ };
 
-    /// Appends the next bytes of the page that is open, at most 65,536, and answers how many they are: 0 exactly at
-    /// its end. After an error `into` and what is left of the page are as they were.
+    /// Appends the next bytes of the page that is open, at most `MOST_PIECE`, and answers how many they are: 0 exactly
+    /// at its end. After an error `into` and what is left of the page are as they were.
     fn next_piece(&mut self, into: &mut Vec<u8>) -> Result<u32, Fetch>
         requires open { is_open self.old ≡ true }
         ensures same { pages self.new ≡ pages self.old }

@@ -6,7 +6,7 @@ use Rattle.std.proofs.lemmas.Fmt.{decimal_injective}
 use Rattle.mari_market.specs.Cut.{IsRising}
 use Rattle.std.proofs.lemmas.List.{append-nil, map-append}
 use Rattle.std.proofs.lemmas.List.Elements.{All-nil, All-append}
-use Rattle.mari_lines.specs.declared.fault.Unread.{Unread}
+use Rattle.mari_lines.specs.declared.fault.FormFault.{FormFault}
 use Rattle.mari_lines.specs.Ranges.{Listed, IsZone}
 use Rattle.mari_lines.specs.Spelling.{zone_text}
 use Rattle.mari_lines.specs.Reading.{Reads}
@@ -46,8 +46,8 @@ at_word R f [] (y ∷ ys) w left a e = (y, head_of R y ys a, cc)
 at_word R f (x ∷ xs) [] w left a e = absurd cc
 at_word R f (x ∷ xs) (y ∷ ys) w left a e = let rest : map f ys ≡ map f xs ++ w ∷ left = cc in at_word R f xs ys w left (tail_of R y ys a) rest
 
-pub begun_unread : {X : Type 0} (R : X → Type 0) (f : X → List ℕ) (least most : ℕ) (xs : List X) (w : List ℕ) (ws left all : List (List ℕ)) (e : Unread) (result : Result (List X) Unread)
-    → Begun R f most xs ws all → ws ≡ w ∷ left → Reads R f w (Err e) → (x : Unread) × (result ≡ Err x) × (x ≡ e) → Reads (Listed least most R) (map f) all result
+pub begun_unread : {X : Type 0} (R : X → Type 0) (f : X → List ℕ) (least most : ℕ) (xs : List X) (w : List ℕ) (ws left all : List (List ℕ)) (e : FormFault) (result : Result (List X) FormFault)
+    → Begun R f most xs ws all → ws ≡ w ∷ left → Reads R f w (Err e) → (x : FormFault) × (result ≡ Err x) × (x ≡ e) → Reads (Listed least most R) (map f) all result
 begun_unread R f least most xs w ws left all e result b next none is = handed_on R f w (Listed least most R) (map f) all e result is none (λ ys r same. at_word R f xs ys w left r.1 (same ∙ b.whole ∙ ap (λ (vs : List (List ℕ)). map f xs ++ vs) next))
 
 length_map : {X : Type 0} (f : X → List ℕ) (xs : List X) → length (map f xs) ≡ length xs

@@ -21,8 +21,8 @@ use Rattle.mari_lines.specs.Ranges.{InRange, IsHeading, Within, IsMoney, IsMoney
 use Rattle.mari_lines.specs.Spelling.{spaced, fields, keyword_of, keyword_text, spelling, price_text, money_text, money_fields, amount_fields, zone_text, side_text, kind_text}
 use Rattle.mari_lines.proofs.Numbers.{same_whole, same_price, same_money}
 use Rattle.mari_lines.proofs.Gathered.{same_list, same_zone, same_number, rising_zones}
-use Rattle.mari_lines.specs.declared.fault.Unread.{Unread}
-use Rattle.mari_lines.specs.declared.fault.Unread.TheVariants as unread
+use Rattle.mari_lines.specs.declared.fault.FormFault.{FormFault}
+use Rattle.mari_lines.specs.declared.fault.FormFault.TheVariants as form_fault
 use Rattle.mari_lines.specs.Reading.{Reads}
 use Rattle.mari_lines.proofs.Graphic.{spelled, spelled_split}
 use Rattle.mari_lines.proofs.Splits.{some_words}
@@ -222,17 +222,17 @@ same_line l m r s e =
     same_fields l m r s (same_keyword (keyword_of l) (keyword_of m) first) others
 
 -- a line whose first word and fields were read
-pub line_read : (keyword : Keyword) (text w : List ℕ) (ws : List (List ℕ)) (result : Result Line Unread) → slice_split (λ b. eqb b 32) text ≡ w ∷ ws → keyword_text keyword ≡ w
+pub line_read : (keyword : Keyword) (text w : List ℕ) (ws : List (List ℕ)) (result : Result Line FormFault) → slice_split (λ b. eqb b 32) text ≡ w ∷ ws → keyword_text keyword ≡ w
     → Reads (λ l. InRange l × (keyword_of l ≡ keyword)) fields ws result → Reads InRange spelling text result
 unfolding spelling
 line_read keyword text w ws (Ok l) split k r =
     (r.0.0, ap (λ (v : List ℕ). v ++ spaced (fields l)) (ap keyword_text r.0.1 ∙ k) ∙ ap (λ (vs : List (List ℕ)). w ++ spaced vs) r.1 ∙ sym (ap spelled split) ∙ spelled_split text)
-line_read keyword text w ws (Err unread.Formless) split k r = λ l range e.
+line_read keyword text w ws (Err form_fault.Formless) split k r = λ l range e.
     let words : keyword_text (keyword_of l) ∷ fields l ≡ w ∷ ws = sym (words_of_line l range) ∙ ap (λ (t : List ℕ). slice_split (λ b. eqb b 32) t) e ∙ split in
     let first : keyword_text (keyword_of l) ≡ w = cc in
     let others : fields l ≡ ws = cc in
     r l (range, same_keyword (keyword_of l) keyword (first ∙ sym k)) others
-line_read keyword text w ws (Err unread.Memory) split k r = tt
+line_read keyword text w ws (Err form_fault.Memory) split k r = tt
 
 -- a text without words, and one with another first word
 pub no_words : (text : List ℕ) → slice_split (λ b. eqb b 32) text ≡ [] → ⊥

@@ -10,6 +10,7 @@ use Rattle.mari_units.specs.declared.numbers.Quarters.{Quarters}
 use Rattle.mari_market.specs.declared.limits.TheConstants.{MOST_ORDERS}
 use Rattle.mari_market.specs.Cut.{IsRising}
 use Rattle.mari_market.specs.Price.{IsPrice}
+use Rattle.mari_lines.specs.declared.line.TheConstants.{MOST_MONEY}
 use Rattle.mari_lines.specs.declared.line.Heading.{Heading}
 use Rattle.mari_lines.specs.declared.line.MoneyLine.{MoneyLine}
 use Rattle.mari_lines.specs.declared.line.AmountLine.{AmountLine}
@@ -34,12 +35,8 @@ is_date text = length text == 10 && list_all is_ascii_digit (take 4 text) && sli
 abbrev pub IsDate : List ℕ → Type 0
 IsDate text = IsName text × (is_date text ≡ true)
 
--- the greatest amount of money, in quarter-cents
-abbrev pub most_money : ℕ
-most_money = 4000000000000000000
-
 abbrev pub IsMoney : Quarters → Type 0
-IsMoney q = Within most_money q.0
+IsMoney q = Within MOST_MONEY q.0
 
 abbrev pub IsPriceLine : Cents → Type 0
 IsPriceLine c = IsPrice c.0

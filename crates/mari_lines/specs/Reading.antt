@@ -4,14 +4,14 @@ use Rattle.std.specs.Borrow.{Bor}
 use Rattle.std.specs.Char.{is_ascii_digit}
 use Rattle.std.specs.List.{list_all, slice_split}
 use Rattle.mari_units.specs.Numbers.{has_minus, with_sign}
-use Rattle.mari_lines.specs.declared.fault.Unread.{Unread}
-use Rattle.mari_lines.specs.declared.fault.Unread.TheVariants as unread
+use Rattle.mari_lines.specs.declared.fault.FormFault.{FormFault}
+use Rattle.mari_lines.specs.declared.fault.FormFault.TheVariants as form_fault
 
 -- x is in range and is written as t; or nothing in range is; or memory ran out
-abbrev pub Reads : {X T : Type 0} → (X → Type 0) → (X → T) → T → Result X Unread → Type 0
+abbrev pub Reads : {X T : Type 0} → (X → Type 0) → (X → T) → T → Result X FormFault → Type 0
 Reads InItsRange written t (Ok x) = InItsRange x × (written x ≡ t)
-Reads InItsRange written t (Err unread.Formless) = (x : _) → InItsRange x → written x ≡ t → ⊥
-Reads InItsRange written t (Err unread.Memory) = ⊤
+Reads InItsRange written t (Err form_fault.Formless) = (x : _) → InItsRange x → written x ≡ t → ⊥
+Reads InItsRange written t (Err form_fault.Memory) = ⊤
 
 -- no byte is the separator
 abbrev pub Lacks : ℕ → List ℕ → Type 0
@@ -23,10 +23,10 @@ words_in None = []
 words_in (Some text) = slice_split (λ b. b == 32) text.now
 
 -- the first word is that of x, and the others are left; or it is that of nothing in range; or memory ran out
-abbrev pub ReadsFirst : {X : Type 0} → (X → Type 0) → (X → List ℕ) → List (List ℕ) → List (List ℕ) → Result X Unread → Type 0
+abbrev pub ReadsFirst : {X : Type 0} → (X → Type 0) → (X → List ℕ) → List (List ℕ) → List (List ℕ) → Result X FormFault → Type 0
 ReadsFirst InItsRange written words left (Ok x) = InItsRange x × (words ≡ written x ∷ left)
-ReadsFirst InItsRange written words left (Err unread.Formless) = (x : _) (others : List (List ℕ)) → InItsRange x → words ≡ written x ∷ others → ⊥
-ReadsFirst InItsRange written words left (Err unread.Memory) = ⊤
+ReadsFirst InItsRange written words left (Err form_fault.Formless) = (x : _) (others : List (List ℕ)) → InItsRange x → words ≡ written x ∷ others → ⊥
+ReadsFirst InItsRange written words left (Err form_fault.Memory) = ⊤
 
 -- one byte more of a number: a digit is its last digit, and any other byte changes nothing
 abbrev pub with_byte : ℕ → ℕ → ℕ

@@ -10,9 +10,10 @@ mod line;
 mod reading;
 mod writing;
 
-pub use fault::Unread;
+pub use fault::FormFault;
 pub use line::{
-    AmountLine, BidLine, BorderLine, Heading, Keyword, Line, MOST_LINE, MoneyLine, ZoneLine,
+    AmountLine, BidLine, BorderLine, Heading, Keyword, Line, MOST_LINE, MOST_MONEY, MoneyLine,
+    ZoneLine,
 };
 pub use reading::{read_line, split_once};
 pub use writing::{

@@ -6,7 +6,11 @@ use mari_units::{Cents, Items, Name, Quarters};
 /// The most bytes of a line: no line of a text has more.
 pub const MOST_LINE: usize = 32_768;
 
-/// A zone, its price, the least and the greatest consistent price, and the number of its area from 1.
+/// The greatest amount of money in a line, either way, in quarter-cents.
+pub const MOST_MONEY: u64 = 4_000_000_000_000_000_000;
+
+/// A zone, its price and the least and the greatest consistent one, in cents per MWh, and the number of its area from
+/// 1.
 #[derive(Drop)]
 pub struct ZoneLine {
     pub name: Name,
@@ -16,7 +20,7 @@ pub struct ZoneLine {
     pub area: u32,
 }
 
-/// A border, its flow in MW from its first zone to its second, and its congestion rent.
+/// A border, its flow in MW from its first zone to its second, and its congestion rent in quarter-cents.
 #[derive(Drop)]
 pub struct BorderLine {
     pub from: Name,
@@ -32,7 +36,7 @@ pub struct BidLine {
     pub mw: u32,
 }
 
-/// What an operator pays for energy, its part of the rents, and the rest of the two.
+/// What an operator pays for energy, its part of the rents, and the first less the second, in quarter-cents.
 #[derive(Drop)]
 pub struct MoneyLine {
     pub name: Name,
@@ -41,7 +45,7 @@ pub struct MoneyLine {
     pub net: Quarters,
 }
 
-/// A provider and what it is paid.
+/// A provider and what it is paid, in quarter-cents; below 0 it pays.
 #[derive(Drop)]
 pub struct AmountLine {
     pub name: Name,
@@ -57,6 +61,10 @@ pub struct Heading {
 }
 
 /// A line by its kind. A conflict takes the four lines from `Conflict` to `Mws`.
+///
+/// `Head` has the date, the quarters and the budget; `Unpublished` the count of nodes; `Welfare` quarter-cents;
+/// `Demand` its place from 1 and its MW; `Tree` the count of its items; `End` the run; `Done` the published and the
+/// other runs.
 #[derive(Drop)]
 pub enum Line {
     Head(Name, u32, u32),

@@ -14,7 +14,7 @@ mod number;
 mod separator;
 mod words;
 
-use crate::fault::Unread;
+use crate::fault::FormFault;
 use crate::line::{AmountLine, BidLine, BorderLine, Heading, Keyword, Line, MoneyLine, ZoneLine};
 use keyword::keyword_of;
 use lists::{read_flows, read_mws, read_prices, read_zones};
@@ -25,7 +25,7 @@ use std::alloc::Global;
 use words::Words;
 
 /// A zone's fields.
-fn read_zone(alloc: Global, words: &mut Words<'_>) -> Result<ZoneLine, Unread>
+fn read_zone(alloc: Global, words: &mut Words<'_>) -> Result<ZoneLine, FormFault>
     ensures { Reads (λ z. InRange (line.Zone z)) (λ z. fields (line.Zone z)) words.old result }
 {
     let name = words.name(alloc)?;
@@ -44,7 +44,7 @@ fn read_zone(alloc: Global, words: &mut Words<'_>) -> Result<ZoneLine, Unread>
 }
 
 /// The date, the number of quarters and the budget of the first line.
-fn read_head(alloc: Global, words: &mut Words<'_>) -> Result<(Name, u32, u32), Unread>
+fn read_head(alloc: Global, words: &mut Words<'_>) -> Result<(Name, u32, u32), FormFault>
     ensures { Reads (λ x. InRange (line.Head x.0 x.1 x.2)) (λ x. fields (line.Head x.0 x.1 x.2)) words.old result }
 {
     words.version()?;
@@ -56,7 +56,7 @@ fn read_head(alloc: Global, words: &mut Words<'_>) -> Result<(Name, u32, u32), U
 }
 
 /// A run's welfare.
-fn read_welfare(words: &mut Words<'_>) -> Result<u64, Unread>
+fn read_welfare(words: &mut Words<'_>) -> Result<u64, FormFault>
     ensures { Reads (λ x. InRange (line.Welfare x)) (λ x. fields (line.Welfare x)) words.old result }
 {
     let welfare = words.welfare()?;
@@ -65,7 +65,7 @@ fn read_welfare(words: &mut Words<'_>) -> Result<u64, Unread>
 }
 
 /// A border's fields.
-fn read_border(alloc: Global, words: &mut Words<'_>) -> Result<BorderLine, Unread>
+fn read_border(alloc: Global, words: &mut Words<'_>) -> Result<BorderLine, FormFault>
     ensures { Reads (λ x. InRange (line.Border x)) (λ x. fields (line.Border x)) words.old result }
 {
     let from = words.name(alloc)?;
@@ -82,7 +82,7 @@ fn read_border(alloc: Global, words: &mut Words<'_>) -> Result<BorderLine, Unrea
 }
 
 /// A bid's fields.
-fn read_bid(alloc: Global, words: &mut Words<'_>) -> Result<BidLine, Unread>
+fn read_bid(alloc: Global, words: &mut Words<'_>) -> Result<BidLine, FormFault>
     ensures { Reads (λ x. InRange (line.Bid x)) (λ x. fields (line.Bid x)) words.old result }
 {
     let id = words.name(alloc)?;
@@ -92,7 +92,7 @@ fn read_bid(alloc: Global, words: &mut Words<'_>) -> Result<BidLine, Unread>
 }
 
 /// A demand's place and quantity.
-fn read_demand(words: &mut Words<'_>) -> Result<(u32, u32), Unread>
+fn read_demand(words: &mut Words<'_>) -> Result<(u32, u32), FormFault>
     ensures { Reads (λ x. InRange (line.Demand x.0 x.1)) (λ x. fields (line.Demand x.0 x.1)) words.old result }
 {
     let place = words.number(1, MOST_DEMANDS as u32)?;
@@ -102,7 +102,7 @@ fn read_demand(words: &mut Words<'_>) -> Result<(u32, u32), Unread>
 }
 
 /// How many items a tree has.
-fn read_tree(words: &mut Words<'_>) -> Result<u32, Unread>
+fn read_tree(words: &mut Words<'_>) -> Result<u32, FormFault>
     ensures { Reads (λ x. InRange (line.Tree x)) (λ x. fields (line.Tree x)) words.old result }
 {
     let count = words.number(1, MOST_NODES)?;
@@ -111,7 +111,7 @@ fn read_tree(words: &mut Words<'_>) -> Result<u32, Unread>
 }
 
 /// The number of the run that ends.
-fn read_end(words: &mut Words<'_>) -> Result<u32, Unread>
+fn read_end(words: &mut Words<'_>) -> Result<u32, FormFault>
     ensures { Reads (λ x. InRange (line.End x)) (λ x. fields (line.End x)) words.old result }
 {
     let run = words.number(1, MOST_RUNS as u32)?;
@@ -120,7 +120,7 @@ fn read_end(words: &mut Words<'_>) -> Result<u32, Unread>
 }
 
 /// How many runs were published, and how many not.
-fn read_done(words: &mut Words<'_>) -> Result<(u32, u32), Unread>
+fn read_done(words: &mut Words<'_>) -> Result<(u32, u32), FormFault>
     ensures { Reads (λ x. InRange (line.Done x.0 x.1)) (λ x. fields (line.Done x.0 x.1)) words.old result }
 {
     let published = words.number(0, MOST_RUNS as u32)?;
@@ -130,7 +130,7 @@ fn read_done(words: &mut Words<'_>) -> Result<(u32, u32), Unread>
 }
 
 /// An operator's fields.
-fn read_operator(alloc: Global, words: &mut Words<'_>) -> Result<MoneyLine, Unread>
+fn read_operator(alloc: Global, words: &mut Words<'_>) -> Result<MoneyLine, FormFault>
     ensures { Reads IsMoneyLine money_fields words.old result }
 {
     let name = words.name(alloc)?;
@@ -147,7 +147,7 @@ fn read_operator(alloc: Global, words: &mut Words<'_>) -> Result<MoneyLine, Unre
 }
 
 /// A provider's fields.
-fn read_provider(alloc: Global, words: &mut Words<'_>) -> Result<AmountLine, Unread>
+fn read_provider(alloc: Global, words: &mut Words<'_>) -> Result<AmountLine, FormFault>
     ensures { Reads IsAmountLine amount_fields words.old result }
 {
     let name = words.name(alloc)?;
@@ -171,19 +171,19 @@ fn are_rising(zones: &[u32]) -> bool
 }
 
 /// A cut's side and its zones.
-fn read_cut(alloc: Global, words: &mut Words<'_>) -> Result<Cut, Unread>
+fn read_cut(alloc: Global, words: &mut Words<'_>) -> Result<Cut, FormFault>
     ensures { Reads (λ x. InRange (line.Cut x)) (λ x. fields (line.Cut x)) words.old result }
 {
     let side = words.side()?;
     let zones = read_zones(alloc, words)?;
     if !are_rising(zones.as_slice()) {
-        return Err(Unread::Formless);
+        return Err(FormFault::Formless);
     }
     Ok(Cut { side, zones })
 }
 
 /// What stands behind `run`.
-fn read_run(words: &mut Words<'_>) -> Result<Line, Unread>
+fn read_run(words: &mut Words<'_>) -> Result<Line, FormFault>
     ensures { Reads (λ l. InRange l × (keyword_of_line l ≡ Keyword.Run)) fields words.old result }
 {
     let run = words.number(1, MOST_RUNS as u32)?;
@@ -205,7 +205,7 @@ fn read_run(words: &mut Words<'_>) -> Result<Line, Unread>
 }
 
 /// What stands behind a line's first word.
-fn read_fields(alloc: Global, keyword: Keyword, words: &mut Words<'_>) -> Result<Line, Unread>
+fn read_fields(alloc: Global, keyword: Keyword, words: &mut Words<'_>) -> Result<Line, FormFault>
     ensures { Reads (λ l. InRange l × (keyword_of_line l ≡ keyword)) fields words.old result }
 {
     match keyword {
@@ -246,15 +246,15 @@ fn read_fields(alloc: Global, keyword: Keyword, words: &mut Words<'_>) -> Result
 }
 
 /// The line that is spelled so.
-pub fn read_line(alloc: Global, text: &[u8]) -> Result<Line, Unread>
+pub fn read_line(alloc: Global, text: &[u8]) -> Result<Line, FormFault>
     ensures { Reads InRange spelling text.now result }
 {
     let mut words = Words::of(text);
     let Some(first) = words.next_word() else {
-        return Err(Unread::Formless);
+        return Err(FormFault::Formless);
     };
     let Some(keyword) = keyword_of(first) else {
-        return Err(Unread::Formless);
+        return Err(FormFault::Formless);
     };
     read_fields(alloc, keyword, &mut words)
 }

@@ -11,7 +11,7 @@ mod tree;
 
 use crate::line::{AmountLine, BidLine, BorderLine, Heading, MoneyLine, ZoneLine};
 use mari_units::{Memory, Name, put};
-use pieces::{put_field, put_flow, put_money, put_number, put_price};
+use pieces::{put_field, put_flow, put_money, put_number_field, put_price};
 use std::alloc::Global;
 pub use tree::{put_at, put_bound, put_branch, put_conflict, put_cut, put_flow_line, put_mw_line};
 
@@ -27,8 +27,8 @@ pub fn put_head(
 {
     put(out, b"mari 1")?;
     put_field(out, date.bytes())?;
-    put_number(alloc, out, u64::from(quarters))?;
-    put_number(alloc, out, u64::from(budget))?;
+    put_number_field(alloc, out, u64::from(quarters))?;
+    put_number_field(alloc, out, u64::from(budget))?;
     put(out, b"\n")
 }
 
@@ -48,8 +48,8 @@ fn put_heading(alloc: Global, out: &mut Vec<u8>, heading: Heading) -> Result<(),
     ensures { OnOk result (out.new.items ≡ out.old.items ++ codes "run" ++ spaced (heading_fields heading)) }
 {
     put(out, b"run")?;
-    put_number(alloc, out, u64::from(heading.run))?;
-    put_number(alloc, out, u64::from(heading.quarter))?;
+    put_number_field(alloc, out, u64::from(heading.run))?;
+    put_number_field(alloc, out, u64::from(heading.quarter))?;
     put_kind(out, heading.direct)
 }
 
@@ -72,7 +72,7 @@ pub fn put_unpublished(
 {
     put_heading(alloc, out, heading)?;
     put(out, b" unpublished")?;
-    put_number(alloc, out, u64::from(count))?;
+    put_number_field(alloc, out, u64::from(count))?;
     put(out, b"\n")
 }
 
@@ -81,7 +81,7 @@ pub fn put_welfare(alloc: Global, out: &mut Vec<u8>, welfare: u64) -> Result<(),
     ensures { OnOk result (out.new.items ≡ out.old.items ++ line_text (line.Welfare welfare)) }
 {
     put(out, b"welfare")?;
-    put_number(alloc, out, welfare)?;
+    put_number_field(alloc, out, welfare)?;
     put(out, b"\n")
 }
 
@@ -94,7 +94,7 @@ pub fn put_zone(alloc: Global, out: &mut Vec<u8>, zone: &ZoneLine) -> Result<(),
     put_price(alloc, out, zone.price)?;
     put_price(alloc, out, zone.least)?;
     put_price(alloc, out, zone.greatest)?;
-    put_number(alloc, out, u64::from(zone.area))?;
+    put_number_field(alloc, out, u64::from(zone.area))?;
     put(out, b"\n")
 }
 
@@ -117,7 +117,7 @@ pub fn put_bid(alloc: Global, out: &mut Vec<u8>, bid: &BidLine) -> Result<(), Me
 {
     put(out, b"bid")?;
     put_field(out, bid.id.bytes())?;
-    put_number(alloc, out, u64::from(bid.mw))?;
+    put_number_field(alloc, out, u64::from(bid.mw))?;
     put(out, b"\n")
 }
 
@@ -126,8 +126,8 @@ pub fn put_demand(alloc: Global, out: &mut Vec<u8>, place: u32, mw: u32) -> Resu
     ensures { OnOk result (out.new.items ≡ out.old.items ++ line_text (line.Demand place mw)) }
 {
     put(out, b"demand")?;
-    put_number(alloc, out, u64::from(place))?;
-    put_number(alloc, out, u64::from(mw))?;
+    put_number_field(alloc, out, u64::from(place))?;
+    put_number_field(alloc, out, u64::from(mw))?;
     put(out, b"\n")
 }
 
@@ -136,7 +136,7 @@ pub fn put_tree(alloc: Global, out: &mut Vec<u8>, count: u32) -> Result<(), Memo
     ensures { OnOk result (out.new.items ≡ out.old.items ++ line_text (line.Tree count)) }
 {
     put(out, b"tree")?;
-    put_number(alloc, out, u64::from(count))?;
+    put_number_field(alloc, out, u64::from(count))?;
     put(out, b"\n")
 }
 
@@ -213,7 +213,7 @@ pub fn put_end(alloc: Global, out: &mut Vec<u8>, run: u32) -> Result<(), Memory>
     ensures { OnOk result (out.new.items ≡ out.old.items ++ line_text (line.End run)) }
 {
     put(out, b"end")?;
-    put_number(alloc, out, u64::from(run))?;
+    put_number_field(alloc, out, u64::from(run))?;
     put(out, b"\n")
 }
 
@@ -227,7 +227,7 @@ pub fn put_done(
     ensures { OnOk result (out.new.items ≡ out.old.items ++ line_text (line.Done published unpublished)) }
 {
     put(out, b"done")?;
-    put_number(alloc, out, u64::from(published))?;
-    put_number(alloc, out, u64::from(unpublished))?;
+    put_number_field(alloc, out, u64::from(published))?;
+    put_number_field(alloc, out, u64::from(unpublished))?;
     put(out, b"\n")
 }

@@ -140,18 +140,18 @@ impl LinksSoFar {
 
     /// Holds what a line says that fails no check.
     fn hold(&mut self, alloc: Global, bids: &BidBook, line: &Row, link: Link) -> Result<(), Memory>
-        // Both bids are in the book, and one more group would fit.
+        // Room for one more group, and both bids in the book.
         requires room { length self.old.groups.names < 4294967295 }
         requires first { link.first < length bids.now.ids }
         requires second { link.second < length bids.now.ids }
         requires sized { length self.old.entries.items ≡ length bids.now.ids }
 
-        // The line is understood.
+        // What is understood of the line: its kind, its bids and, in a group, a name.
         requires kind { kind_of line.now ≡ Some link.kind }
         requires link { link ≡ link_of_line bids.now line.now link.kind }
         requires group { link.kind ≡ LinkKind.Group → is_name (first_of line.now) ≡ true }
 
-        // Behind whatever lines came, unless it repeats one.
+        // What the lines before it say and what this one says, unless it repeats one of them.
         ensures { (earlier : List Line) → HoldsLinks bids.now (said_by bids.now earlier) self.old
             → is_repeated_in bids.now (said_by bids.now earlier) line.now link.kind ≡ false
             → OnOk result (HoldsLinks bids.now (said_by bids.now (earlier ++ line.now ∷ [])) self.new) }

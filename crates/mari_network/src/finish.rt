@@ -1,6 +1,6 @@
 //! From amounts back to quantities, welfare, potentials and cuts.
 
-ghost use Rattle.std.specs.Prelude.{◌≡◌, ◌≢◌, ℕ, pos, neg_ℤ, ◌≤ℤ◌, ◌<◌, ◌≤◌, ◌*◌, length, IfOk, MatchOption, map, take};
+ghost use Rattle.std.specs.Prelude.{◌≡◌, ◌≢◌, ℕ, pos, neg_ℤ, ◌≤ℤ◌, ◌*ℤ◌, ◌<◌, ◌≤◌, ◌*◌, length, IfOk, MatchOption, map, take};
 ghost use Rattle.std.specs.Int.{int_max};
 ghost use Rattle.std.specs.List.{All, AllZip};
 ghost use Rattle.mari_market.specs.Sums.{sum_along};
@@ -88,8 +88,8 @@ fn gain_of(order: &Order, mw: u32) -> i64
     requires price { IsPrice order.now.price.0 }
     requires small { mw ≤ MOST_MW }
     ensures value { result ≡ order_gain order.now mw }
-    ensures least { neg_ℤ (pos (9999900 * 99999)) ≤ℤ result }
-    ensures most { result ≤ℤ pos (9999900 * 99999) }
+    ensures least { (neg_ℤ (CAP *ℤ pos MOST_MW)) ≤ℤ result }
+    ensures most { result ≤ℤ (CAP *ℤ pos MOST_MW) }
 {
     order.gain(mw) as i64
 }

@@ -242,17 +242,17 @@ fn chain_by_levels(
     marked: &mut [bool],
     prices: &mut [i64],
 ) -> Result<Option<Chain>, AllocError>
-    // What the caller knows of what runs, and of the margins.
+    // A network, what its slots and borders run at, and how far each slot may still go.
     requires network { IsNetwork network.now }
     requires margins { AreMargins network.now.slots.now amounts.now (length network.now.meeting.items) (length network.now.slots.now) margins.now }
     requires runs { Runs network.now amounts.now flows.now }
 
-    // A place for each zone.
+    // A place for each zone, of which none is marked.
     requires marks { length marked.old ≡ length network.now.meeting.items }
     requires prices { length prices.old ≡ length network.now.meeting.items }
     requires fresh { (z : ℕ) → is_marked marked.old z ≡ false }
 
-    // One of the two, where memory suffices.
+    // Prices that show that nothing improves, or a chain that does.
     ensures { IfOk result (λ r. MatchOption r (AreTightPrices network.now amounts.now flows.now prices.new) (IsImproving network.now amounts.now flows.now)) }
 {
     let slots = network.slots;

@@ -1,11 +1,12 @@
 //! The nodes that wait, and which of them comes next.
 
 ghost use Rattle.std.specs.Prelude.{◌≡◌, ◌-◌, ◌<◌, ◌≤◌, length, IfOk, MatchOption};
+ghost use Rattle.mari_market.specs.Clearing.{IsBudget};
 ghost use Rattle.mari_pool.specs.Queued.{child_key, no_nodes, first_key, IsMore, IsFirst, IsIdleQueue, IsBack, CanFollow, Follows};
 
 use mari_core::JournalEntry;
 use mari_market::Finding;
-use mari_units::{MOST_NODES, Memory};
+use mari_units::Memory;
 use std::alloc::Global;
 use std::cmp::Reverse;
 use std::collections::BinaryHeap;
@@ -49,9 +50,9 @@ pub fn child_key(finding: &Finding) -> u64
 }
 
 impl Queue {
-    /// The first node waits. There is room for so many nodes, 1 to 50,000.
+    /// The first node waits. There is room for so many nodes, 1 to `MOST_NODES`.
     pub fn start(alloc: Global, room: u32) -> Result<Queue, Memory>
-        requires { (1 ≤ room) × (room ≤ MOST_NODES) }
+        requires { IsBudget room }
         ensures { IfOk result (λ q. IsMore first_key 1 (no_nodes room) q) }
     {
         let mut queue = Queue {

@@ -9,7 +9,7 @@ use Rattle.mari_market.specs.Area.{JoinsBy, Joins, InOneArea, AreAreas, area_at}
 use Rattle.mari_market.specs.Area.InOneArea.{itself, further}
 use Rattle.mari_market.specs.Market.{IsValid, IsValidBorder}
 use Rattle.mari_prices.specs.declared.along.Along.TheVariants.{Joined}
-use Rattle.mari_prices.specs.declared.spread.Settled.{Settled}
+use Rattle.mari_prices.specs.declared.spread.SettledZone.{SettledZone}
 use Rattle.mari_prices.specs.Along.{LeadsOver, LeadsTo}
 use Rattle.mari_prices.specs.Firsts.{ArePlaces, first_in, first_at, AreFirsts, AreNumbered}
 use Rattle.mari_prices.specs.Spread.{entry_at, value_in, IsFirst, IsAfter, SpreadsAlong}
@@ -57,19 +57,19 @@ area_back m a y _ (further w z k j) = area_on m a z w y (further z w itself (joi
 -- ---- first zones
 
 -- each zone has its place as its own value, and these spread along uncongested borders
-pub record AreSpread (m : Market) (a : Activation) (values : List ℤ) (xs : List (Option Settled)) : Type 0 where
+pub record AreSpread (m : Market) (a : Activation) (values : List ℤ) (xs : List (Option SettledZone)) : Type 0 where
   pub values_each : length values ≡ m.zones
   pub one_each : length xs ≡ m.zones
   pub places : ArePlaces values
   pub spread : SpreadsAlong Joined m.borders a.flow values xs
 
-record HasFirst (m : Market) (a : Activation) (z : ℕ) (s : Settled) : Type 0 where
+record HasFirst (m : Market) (a : Activation) (z : ℕ) (s : SettledZone) : Type 0 where
   first : ℕ
   there : first < m.zones
   value : s.value ≡ neg_ℤ (pos first)
   joined : InOneArea m a first z
 
-has_first : (m : Market) (a : Activation) (values : List ℤ) (xs : List (Option Settled)) → AreSpread m a values xs → (n z : ℕ) (s : Settled) → s.depth ≤ n → entry_at xs z ≡ Some s → HasFirst m a z s
+has_first : (m : Market) (a : Activation) (values : List ℤ) (xs : List (Option SettledZone)) → AreSpread m a values xs → (n z : ℕ) (s : SettledZone) → s.depth ≤ n → entry_at xs z ≡ Some s → HasFirst m a z s
 has_first m a values xs h zero z s d e = by_source (h.spread.spreading.source z s e)
   where
     by_source : IsFirst (value_in values) z s ⊎ IsAfter (LeadsTo Joined m.borders a.flow) xs z s → HasFirst m a z s
@@ -77,7 +77,7 @@ has_first m a values xs h zero z s d e = by_source (h.spread.spreading.source z 
     by_source (inr k) = absurd (omega (arith, k.depth))
 has_first m a values xs h (suc n) z s d e = by_source (h.spread.spreading.source z s e) (λ y t l k. has_first m a values xs h n y t l k)
   where
-    by_source : IsFirst (value_in values) z s ⊎ IsAfter (LeadsTo Joined m.borders a.flow) xs z s → ((y : ℕ) (t : Settled) → t.depth ≤ n → entry_at xs y ≡ Some t → HasFirst m a y t) → HasFirst m a z s
+    by_source : IsFirst (value_in values) z s ⊎ IsAfter (LeadsTo Joined m.borders a.flow) xs z s → ((y : ℕ) (t : SettledZone) → t.depth ≤ n → entry_at xs y ≡ Some t → HasFirst m a y t) → HasFirst m a z s
     by_source (inl f) before = record {
       first = z;
       there = omega (arith, entry_within xs z s e, h.one_each);
@@ -88,11 +88,11 @@ has_first m a values xs h (suc n) z s d e = by_source (h.spread.spreading.source
         let b = before k.before k.entry (omega (arith, k.depth)) k.settled in
         record { first = b.first; there = b.there; value = k.value ∙ b.value; joined = further k.before z b.joined (joins_from m a k.before z k.leads) }
 
-abbrev SameValue : Market → List (Option Settled) → ℕ → ℕ → Type 0
-SameValue m xs y z = (z < m.zones) × ((s t : Settled) → entry_at xs y ≡ Some s → entry_at xs z ≡ Some t → s.value ≡ t.value)
+abbrev SameValue : Market → List (Option SettledZone) → ℕ → ℕ → Type 0
+SameValue m xs y z = (z < m.zones) × ((s t : SettledZone) → entry_at xs y ≡ Some s → entry_at xs z ≡ Some t → s.value ≡ t.value)
 
-same_value : (m : Market) (a : Activation) (values : List ℤ) (xs : List (Option Settled)) → IsValid m → AreSpread m a values xs → (y z : ℕ) → y < m.zones → InOneArea m a y z → SameValue m xs y z
-same_value m a values xs v h y _ l itself = (l, λ s t e f. let one : s ≡ t = cc in ap (λ (x : Settled). x.value) one)
+same_value : (m : Market) (a : Activation) (values : List ℤ) (xs : List (Option SettledZone)) → IsValid m → AreSpread m a values xs → (y z : ℕ) → y < m.zones → InOneArea m a y z → SameValue m xs y z
+same_value m a values xs v h y _ l itself = (l, λ s t e f. let one : s ≡ t = cc in ap (λ (x : SettledZone). x.value) one)
 same_value m a values xs v h y _ l (further w z k j) =
     let before = same_value m a values xs v h y w l k in
     let u = h.spread.settled w (omega (arith, before.0, h.one_each)) in (
@@ -110,14 +110,14 @@ abs_neg : (n : ℕ) → unsigned_abs (neg_ℤ (pos n)) ≡ n
 abs_neg zero = refl
 abs_neg (suc n) = refl
 
-first_is : (m : Market) (a : Activation) (values : List ℤ) (xs : List (Option Settled)) (z : ℕ) → AreSpread m a values xs → z < m.zones → (first_at xs z < m.zones) × InOneArea m a (first_at xs z) z
+first_is : (m : Market) (a : Activation) (values : List ℤ) (xs : List (Option SettledZone)) (z : ℕ) → AreSpread m a values xs → z < m.zones → (first_at xs z < m.zones) × InOneArea m a (first_at xs z) z
 first_is m a values xs z h l =
     let s = h.spread.settled z (omega (arith, l, h.one_each)) in
     let f = has_first m a values xs h s.0.depth z s.0 (omega arith) s.1 in
     let at : first_at xs z ≡ f.first = ap first_in s.1 ∙ ap unsigned_abs f.value ∙ abs_neg f.first in
     (subst (λ (x : ℕ). x < m.zones) (sym at) f.there, subst (λ (x : ℕ). InOneArea m a x z) (sym at) f.joined)
 
-same_first : (m : Market) (a : Activation) (values : List ℤ) (xs : List (Option Settled)) (y z : ℕ) → IsValid m → AreSpread m a values xs → y < m.zones → z < m.zones → InOneArea m a y z → first_at xs y ≡ first_at xs z
+same_first : (m : Market) (a : Activation) (values : List ℤ) (xs : List (Option SettledZone)) (y z : ℕ) → IsValid m → AreSpread m a values xs → y < m.zones → z < m.zones → InOneArea m a y z → first_at xs y ≡ first_at xs z
 same_first m a values xs y z v h l k j =
     let s = h.spread.settled y (omega (arith, l, h.one_each)) in
     let t = h.spread.settled z (omega (arith, k, h.one_each)) in
@@ -126,7 +126,7 @@ same_first m a values xs y z v h l k j =
 not_above : (n z : ℕ) (v : ℤ) → neg_ℤ (pos z) ≤ℤ v → v ≡ neg_ℤ (pos n) → n ≤ z
 not_above n z v h e = omega (arith, ints)
 
-pub firsts : (m : Market) (a : Activation) (values : List ℤ) (xs : List (Option Settled)) → IsValid m → AreSpread m a values xs → AreFirsts (length xs) (first_at xs)
+pub firsts : (m : Market) (a : Activation) (values : List ℤ) (xs : List (Option SettledZone)) → IsValid m → AreSpread m a values xs → AreFirsts (length xs) (first_at xs)
 firsts m a values xs v h = record {
   no_later = λ z l.
       let s = h.spread.settled z l in
@@ -142,7 +142,7 @@ firsts m a values xs v h = record {
 
 -- ---- areas
 
-pub numbered_areas : (m : Market) (a : Activation) (values : List ℤ) (xs : List (Option Settled)) (areas : List ℕ) → IsValid m → AreSpread m a values xs → AreNumbered xs areas → AreAreas m a areas
+pub numbered_areas : (m : Market) (a : Activation) (values : List ℤ) (xs : List (Option SettledZone)) (areas : List ℕ) → IsValid m → AreSpread m a values xs → AreNumbered xs areas → AreAreas m a areas
 numbered_areas m a values xs areas v h k =
     let f = firsts m a values xs v h in
     let n = k.numbering in

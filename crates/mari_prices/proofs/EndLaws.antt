@@ -17,7 +17,7 @@ use Rattle.mari_market.specs.Price.{IsPrice, price_at, cap}
 use Rattle.mari_prices.specs.declared.bounds.End.{End}
 use Rattle.mari_prices.specs.declared.bounds.End.TheVariants.{Least, Greatest}
 use Rattle.mari_prices.specs.declared.along.Along.TheVariants.{Rising, Falling}
-use Rattle.mari_prices.specs.declared.spread.Settled.{Settled}
+use Rattle.mari_prices.specs.declared.spread.SettledZone.{SettledZone}
 use Rattle.mari_prices.specs.Along.{LeadsTo}
 use Rattle.mari_prices.specs.Ends.{along_of, IsEnd, ArePriced, ArePricesOf, AreTrails, AreUncontradicted, IsContradicted, Follows, IsTrailTo}
 use Rattle.mari_prices.specs.Spread.{entry_at, value_in, IsFirst, IsAfter, IsSpreading}
@@ -38,10 +38,10 @@ prices_of_orders m v = All-weaker (IsValidOrder m.zones (length m.gates)) (λ (o
 
 -- ---- values are prices
 
-own_price : (end : End) (m : Market) (a : Activation) (bounds : List ℤ) (xs : List (Option Settled)) (z : ℕ) → IsValid m → IsEnd end m a bounds xs → z < m.zones → IsPrice (value_in bounds z)
+own_price : (end : End) (m : Market) (a : Activation) (bounds : List ℤ) (xs : List (Option SettledZone)) (z : ℕ) → IsValid m → IsEnd end m a bounds xs → z < m.zones → IsPrice (value_in bounds z)
 own_price end m a bounds xs z v e l = bound_price end m.orders a.mw z (value_in bounds z) (prices_of_orders m v) (e.tightest z l).bound
 
-pub priced : (end : End) (m : Market) (a : Activation) (bounds : List ℤ) (xs : List (Option Settled)) → IsValid m → IsEnd end m a bounds xs → ArePriced xs
+pub priced : (end : End) (m : Market) (a : Activation) (bounds : List ℤ) (xs : List (Option SettledZone)) → IsValid m → IsEnd end m a bounds xs → ArePriced xs
 priced end m a bounds xs v e = record {
   settled = e.spread.settled;
   priced = λ z s k.
@@ -53,17 +53,17 @@ priced end m a bounds xs v e = record {
       };
 }
 
-pub bounds_priced : (end : End) (m : Market) (a : Activation) (bounds : List ℤ) (xs : List (Option Settled)) → IsValid m → IsEnd end m a bounds xs → All IsPrice bounds
+pub bounds_priced : (end : End) (m : Market) (a : Activation) (bounds : List ℤ) (xs : List (Option SettledZone)) → IsValid m → IsEnd end m a bounds xs → All IsPrice bounds
 bounds_priced end m a bounds xs v e = All-from_get_or IsPrice bounds (pos 0) (λ i h. own_price end m a bounds xs i v e (omega (arith, h, e.bounds_each)))
 
 -- ---- values are extreme
 
-pub least_value : (m : Market) (a : Activation) (bounds : List ℤ) (xs : List (Option Settled)) (ps : List Cents) → IsValid m → IsFeasible m a → IsEnd Least m a bounds xs → KeepsAll m a ps → (z : ℕ) (s : Settled) → entry_at xs z ≡ Some s → s.value ≤ℤ price_at ps z
+pub least_value : (m : Market) (a : Activation) (bounds : List ℤ) (xs : List (Option SettledZone)) (ps : List Cents) → IsValid m → IsFeasible m a → IsEnd Least m a bounds xs → KeepsAll m a ps → (z : ℕ) (s : SettledZone) → entry_at xs z ≡ Some s → s.value ≤ℤ price_at ps z
 least_value m a bounds xs ps v f e k z s h = spread_least (LeadsTo Rising m.borders a.flow) (value_in bounds) (price_at ps) xs e.spread.spreading
     (λ y l. let there : y < m.zones = omega (arith, l, e.one_each) in k.lower y (value_in bounds y) there (lower_from m a y (value_in bounds y) v f (e.tightest y there).bound))
     (λ x y l. let r = rising_from m a x y l in let w = leads_within m a x y v r in k.rises x y w.0 w.1 r) z s h
 
-pub greatest_value : (m : Market) (a : Activation) (bounds : List ℤ) (xs : List (Option Settled)) (ps : List Cents) → IsValid m → IsFeasible m a → IsEnd Greatest m a bounds xs → KeepsAll m a ps → (z : ℕ) (s : Settled) → entry_at xs z ≡ Some s → s.value ≤ℤ neg_ℤ (price_at ps z)
+pub greatest_value : (m : Market) (a : Activation) (bounds : List ℤ) (xs : List (Option SettledZone)) (ps : List Cents) → IsValid m → IsFeasible m a → IsEnd Greatest m a bounds xs → KeepsAll m a ps → (z : ℕ) (s : SettledZone) → entry_at xs z ≡ Some s → s.value ≤ℤ neg_ℤ (price_at ps z)
 greatest_value m a bounds xs ps v f e k z s h = spread_least (LeadsTo Falling m.borders a.flow) (value_in bounds) (λ y. neg_ℤ (price_at ps y)) xs e.spread.spreading
     (λ y l.
     let there : y < m.zones = omega (arith, l, e.one_each) in
@@ -77,9 +77,9 @@ greatest_value m a bounds xs ps v f e k z s h = spread_least (LeadsTo Falling m.
 
 -- ---- where nothing contradicts, both ends are consistent
 
-pub least_keeps : (m : Market) (a : Activation) (bounds uppers : List ℤ) (xs ys : List (Option Settled)) (ps : List Cents) → IsValid m → IsFeasible m a → IsEnd Least m a bounds xs → IsEnd Greatest m a uppers ys → AreUncontradicted (length xs) xs uppers → ArePricesOf Least xs ps → KeepsAll m a ps
+pub least_keeps : (m : Market) (a : Activation) (bounds uppers : List ℤ) (xs ys : List (Option SettledZone)) (ps : List Cents) → IsValid m → IsFeasible m a → IsEnd Least m a bounds xs → IsEnd Greatest m a uppers ys → AreUncontradicted (length xs) xs uppers → ArePricesOf Least xs ps → KeepsAll m a ps
 least_keeps m a bounds uppers xs ys ps v f e g fit p =
-    let entry : (z : ℕ) → z < m.zones → (s : Settled) × (entry_at xs z ≡ Some s) = λ z l. e.spread.settled z (omega (arith, l, e.one_each)) in
+    let entry : (z : ℕ) → z < m.zones → (s : SettledZone) × (entry_at xs z ≡ Some s) = λ z l. e.spread.settled z (omega (arith, l, e.one_each)) in
     record {
       one_each = omega (arith, p.one_each, e.one_each);
       lower = λ z c l b.
@@ -98,9 +98,9 @@ least_keeps m a bounds uppers xs ys ps v f e g fit p =
           omega (arith, ints, e.spread.spreading.rises y z s.0 t.0 s.1 t.1 (rising_spreads m a y z h));
     }
 
-pub greatest_keeps : (m : Market) (a : Activation) (uppers : List ℤ) (ys : List (Option Settled)) (ps qs : List Cents) → IsValid m → IsFeasible m a → IsEnd Greatest m a uppers ys → KeepsAll m a ps → ArePricesOf Greatest ys qs → KeepsAll m a qs
+pub greatest_keeps : (m : Market) (a : Activation) (uppers : List ℤ) (ys : List (Option SettledZone)) (ps qs : List Cents) → IsValid m → IsFeasible m a → IsEnd Greatest m a uppers ys → KeepsAll m a ps → ArePricesOf Greatest ys qs → KeepsAll m a qs
 greatest_keeps m a uppers ys ps qs v f g low p =
-    let entry : (z : ℕ) → z < m.zones → (s : Settled) × (entry_at ys z ≡ Some s) = λ z l. g.spread.settled z (omega (arith, l, g.one_each)) in
+    let entry : (z : ℕ) → z < m.zones → (s : SettledZone) × (entry_at ys z ≡ Some s) = λ z l. g.spread.settled z (omega (arith, l, g.one_each)) in
     record {
       one_each = omega (arith, p.one_each, g.one_each);
       lower = λ z c l b.
@@ -119,7 +119,7 @@ greatest_keeps m a uppers ys ps qs v f g low p =
           omega (arith, ints, g.spread.spreading.rises z y t.0 s.0 t.1 s.1 (falling_spreads m a y z h));
     }
 
-pub are_least : (m : Market) (a : Activation) (bounds : List ℤ) (xs : List (Option Settled)) (ps : List Cents) → IsValid m → IsFeasible m a → IsEnd Least m a bounds xs → KeepsAll m a ps → ArePricesOf Least xs ps → AreLeastPrices m a ps
+pub are_least : (m : Market) (a : Activation) (bounds : List ℤ) (xs : List (Option SettledZone)) (ps : List Cents) → IsValid m → IsFeasible m a → IsEnd Least m a bounds xs → KeepsAll m a ps → ArePricesOf Least xs ps → AreLeastPrices m a ps
 are_least m a bounds xs ps v f e k p = record {
   one_each = k.one_each;
   each = λ z l.
@@ -131,7 +131,7 @@ are_least m a bounds xs ps v f e k p = record {
       };
 }
 
-pub are_greatest : (m : Market) (a : Activation) (uppers : List ℤ) (ys : List (Option Settled)) (ps : List Cents) → IsValid m → IsFeasible m a → IsEnd Greatest m a uppers ys → KeepsAll m a ps → ArePricesOf Greatest ys ps → AreGreatestPrices m a ps
+pub are_greatest : (m : Market) (a : Activation) (uppers : List ℤ) (ys : List (Option SettledZone)) (ps : List Cents) → IsValid m → IsFeasible m a → IsEnd Greatest m a uppers ys → KeepsAll m a ps → ArePricesOf Greatest ys ps → AreGreatestPrices m a ps
 are_greatest m a uppers ys ps v f g k p = record {
   one_each = k.one_each;
   each = λ z l.
@@ -145,14 +145,14 @@ are_greatest m a uppers ys ps v f g k p = record {
 
 -- ---- where one contradicts, no prices are consistent, and the chain shows it
 
-pub contradicted_none : (m : Market) (a : Activation) (bounds uppers : List ℤ) (xs ys : List (Option Settled)) (z : ℕ) (ps : List Cents) → IsValid m → IsFeasible m a → IsEnd Least m a bounds xs → IsEnd Greatest m a uppers ys → IsContradicted xs uppers z → IsConsistent m a ps → ⊥
+pub contradicted_none : (m : Market) (a : Activation) (bounds uppers : List ℤ) (xs ys : List (Option SettledZone)) (z : ℕ) (ps : List Cents) → IsValid m → IsFeasible m a → IsEnd Least m a bounds xs → IsEnd Greatest m a uppers ys → IsContradicted xs uppers z → IsConsistent m a ps → ⊥
 contradicted_none m a bounds uppers xs ys z ps v f e g h c =
     let k = consistent_keeps m a ps c in
     let there : z < m.zones = omega (arith, entry_within xs z h.entry h.settled, e.one_each) in
     let at : price_at ps z ≤ℤ neg_ℤ (value_in uppers z) = k.upper z (neg_ℤ (value_in uppers z)) there (upper_from m a z (value_in uppers z) v f (g.tightest z there).bound) in
     omega (arith, ints, h.above, least_value m a bounds xs ps v f e k z h.entry h.settled)
 
-pub trails : (lead : ℕ → ℕ → Type 0) (own : ℕ → ℤ) (xs : List (Option Settled)) → IsSpreading lead own xs → ((z : ℕ) → z < length xs → (s : Settled) × (entry_at xs z ≡ Some s)) → AreTrails xs
+pub trails : (lead : ℕ → ℕ → Type 0) (own : ℕ → ℤ) (xs : List (Option SettledZone)) → IsSpreading lead own xs → ((z : ℕ) → z < length xs → (s : SettledZone) × (entry_at xs z ≡ Some s)) → AreTrails xs
 trails lead own xs h all = record {
   settled = all;
   before = λ z y s k e. before z y s e (h.source z s k);
@@ -160,31 +160,31 @@ trails lead own xs h all = record {
   short = λ z s k. omega (arith, h.short z s k);
 }
   where
-    before : (z y : ℕ) (s : Settled) → s.previous ≡ Some y → IsFirst own z s ⊎ IsAfter lead xs z s → (t : Settled) × (entry_at xs y ≡ Some t) × (s.depth ≡ t.depth + 1)
+    before : (z y : ℕ) (s : SettledZone) → s.previous ≡ Some y → IsFirst own z s ⊎ IsAfter lead xs z s → (t : SettledZone) × (entry_at xs y ≡ Some t) × (s.depth ≡ t.depth + 1)
     before z y s e (inl f) = let none = f.previous in absurd (cc)
     before z y s e (inr a) = let same : a.before ≡ y = (let k = a.previous in cc) in (a.entry, subst (λ (x : ℕ). entry_at xs x ≡ Some a.entry) same a.settled, a.depth)
 
-    some : (z : ℕ) (s : Settled) → IsFirst own z s ⊎ IsAfter lead xs z s → 1 ≤ s.depth
+    some : (z : ℕ) (s : SettledZone) → IsFirst own z s ⊎ IsAfter lead xs z s → 1 ≤ s.depth
     some z s (inl f) = omega (arith, f.depth)
     some z s (inr a) = omega (arith, a.depth)
 
-after_of : (lead : ℕ → ℕ → Type 0) (own : ℕ → ℤ) (xs : List (Option Settled)) (z y : ℕ) (s : Settled) → s.previous ≡ Some y → IsFirst own z s ⊎ IsAfter lead xs z s → lead y z × ((t : Settled) → entry_at xs y ≡ Some t → s.value ≡ t.value)
+after_of : (lead : ℕ → ℕ → Type 0) (own : ℕ → ℤ) (xs : List (Option SettledZone)) (z y : ℕ) (s : SettledZone) → s.previous ≡ Some y → IsFirst own z s ⊎ IsAfter lead xs z s → lead y z × ((t : SettledZone) → entry_at xs y ≡ Some t → s.value ≡ t.value)
 after_of lead own xs z y s e (inl f) = let none = f.previous in absurd (cc)
 after_of lead own xs z y s e (inr a) =
     let same : a.before ≡ y = (let k = a.previous in cc) in
-    (subst (λ (x : ℕ). lead x z) same a.leads, λ t k. let there : entry_at xs y ≡ Some a.entry = subst (λ (x : ℕ). entry_at xs x ≡ Some a.entry) same a.settled in let one : a.entry ≡ t = cc in a.value ∙ ap (λ (x : Settled). x.value) one)
+    (subst (λ (x : ℕ). lead x z) same a.leads, λ t k. let there : entry_at xs y ≡ Some a.entry = subst (λ (x : ℕ). entry_at xs x ≡ Some a.entry) same a.settled in let one : a.entry ≡ t = cc in a.value ∙ ap (λ (x : SettledZone). x.value) one)
 
 -- along a chain the value stays, and each zone leads to the next
-record Carries (m : Market) (a : Activation) (xs : List (Option Settled)) (z : ℕ) (rest : List ℕ) (s : Settled) : Type 0 where
+record Carries (m : Market) (a : Activation) (xs : List (Option SettledZone)) (z : ℕ) (rest : List ℕ) (s : SettledZone) : Type 0 where
   chain : IsChain m a z rest
   there : All (λ (y : ℕ). y < length xs) (z ∷ rest)
-  value : (t : Settled) → entry_at xs (last_of z rest) ≡ Some t → t.value ≡ s.value
+  value : (t : SettledZone) → entry_at xs (last_of z rest) ≡ Some t → t.value ≡ s.value
 
-carries : (m : Market) (a : Activation) (bounds : List ℤ) (xs : List (Option Settled)) (z : ℕ) (rest : List ℕ) (s : Settled) → IsEnd Least m a bounds xs → Follows xs z rest → entry_at xs z ≡ Some s → Carries m a xs z rest s
+carries : (m : Market) (a : Activation) (bounds : List ℤ) (xs : List (Option SettledZone)) (z : ℕ) (rest : List ℕ) (s : SettledZone) → IsEnd Least m a bounds xs → Follows xs z rest → entry_at xs z ≡ Some s → Carries m a xs z rest s
 carries m a bounds xs z [] s e f k = record {
   chain = tt;
   there = All-cons (λ (y : ℕ). y < length xs) z [] (entry_within xs z s k) (All-nil (λ (y : ℕ). y < length xs));
-  value = λ t l. let one : t ≡ s = cc in ap (λ (x : Settled). x.value) one;
+  value = λ t l. let one : t ≡ s = cc in ap (λ (x : SettledZone). x.value) one;
 }
 carries m a bounds xs z (y ∷ ys) s e f k =
     let b = f.0 in
@@ -201,11 +201,11 @@ pub record ShowsContradiction (m : Market) (a : Activation) (chain : List ℕ) :
   pub short : length chain ≤ m.zones
   pub zones : All (λ (z : ℕ). z < m.zones) chain
 
-first_value : (lead : ℕ → ℕ → Type 0) (own : ℕ → ℤ) (xs : List (Option Settled)) (z : ℕ) (s : Settled) → s.previous ≡ None → IsFirst own z s ⊎ IsAfter lead xs z s → s.value ≡ own z
+first_value : (lead : ℕ → ℕ → Type 0) (own : ℕ → ℤ) (xs : List (Option SettledZone)) (z : ℕ) (s : SettledZone) → s.previous ≡ None → IsFirst own z s ⊎ IsAfter lead xs z s → s.value ≡ own z
 first_value lead own xs z s e (inl f) = f.value
 first_value lead own xs z s e (inr a) = let k = a.previous in absurd (cc)
 
-pub trail_contradicts : (m : Market) (a : Activation) (bounds uppers : List ℤ) (xs ys : List (Option Settled)) (last : ℕ) (chain : List ℕ) → IsValid m → IsFeasible m a → IsEnd Least m a bounds xs → IsEnd Greatest m a uppers ys → IsContradicted xs uppers last → IsTrailTo xs last chain → ShowsContradiction m a chain
+pub trail_contradicts : (m : Market) (a : Activation) (bounds uppers : List ℤ) (xs ys : List (Option SettledZone)) (last : ℕ) (chain : List ℕ) → IsValid m → IsFeasible m a → IsEnd Least m a bounds xs → IsEnd Greatest m a uppers ys → IsContradicted xs uppers last → IsTrailTo xs last chain → ShowsContradiction m a chain
 trail_contradicts m a bounds uppers xs ys last chain v f e g h t =
     let all = carries m a bounds xs t.first t.trail.rest t.entry e t.trail.follows t.settled in
     let first_there : t.first < m.zones = omega (arith, entry_within xs t.first t.entry t.settled, e.one_each) in

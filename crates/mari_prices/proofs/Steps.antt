@@ -2,10 +2,10 @@
 use Rattle.std.proofs.Common.{◌≡◌, ◌⊎◌, ◌+◌, ℕ, ◌<◌, ◌≤◌, ℤ, ◌≤ℤ◌, List, [], ◌∷◌, Option, Some, None, length, get_or, set, zero, suc, arith, refl, sym, ap, ◌∙◌, subst, inl, inr, get_or-set_same, get_or-set_other, length-set, replicate}
 use Rattle.std.proofs.lemmas.Int.{ints}
 use Rattle.std.proofs.lemmas.Bool.{cases_eq}
-use Rattle.mari_prices.specs.declared.spread.Settled.{Settled}
+use Rattle.mari_prices.specs.declared.spread.SettledZone.{SettledZone}
 use Rattle.mari_prices.specs.Spread.{entry_at, IsFree, free_zones, IsFirst, IsAfter, IsSpreading, IsLed, IsStart, IsNext}
 
-pub free_zones-set : (xs : List (Option Settled)) (z : ℕ) (s : Settled) → z < length xs → entry_at xs z ≡ None → free_zones (set xs z (Some s)) + 1 ≡ free_zones xs
+pub free_zones-set : (xs : List (Option SettledZone)) (z : ℕ) (s : SettledZone) → z < length xs → entry_at xs z ≡ None → free_zones (set xs z (Some s)) + 1 ≡ free_zones xs
 free_zones-set [] z s h e = absurd (omega arith)
 free_zones-set (None ∷ xs) zero s h e = refl
 free_zones-set (Some t ∷ xs) zero s h e = absurd (cc)
@@ -13,7 +13,7 @@ free_zones-set (None ∷ xs) (suc z) s h e = ap (λ n. n + 1) (free_zones-set xs
 free_zones-set (Some t ∷ xs) (suc z) s h e = free_zones-set xs z s (omega arith) e
 
 -- an entry after zone z was settled is the new one or an old one
-entry_cases : (xs : List (Option Settled)) (z w : ℕ) (e s : Settled) → z < length xs → entry_at (set xs z (Some e)) w ≡ Some s → ((w ≡ z) × (s ≡ e)) ⊎ (entry_at xs w ≡ Some s)
+entry_cases : (xs : List (Option SettledZone)) (z w : ℕ) (e s : SettledZone) → z < length xs → entry_at (set xs z (Some e)) w ≡ Some s → ((w ≡ z) × (s ≡ e)) ⊎ (entry_at xs w ≡ Some s)
 entry_cases xs z w e s h k = elim (cases_eq w z) [
   | inl same ↦
       let new : get_or (set xs z (Some e)) z None ≡ Some e = get_or-set_same xs z (Some e) None h in
@@ -23,7 +23,7 @@ entry_cases xs z w e s h k = elim (cases_eq w z) [
 ]
 
 -- a zone that is free then was free before
-free_before : (xs : List (Option Settled)) (z u : ℕ) (e : Settled) → z < length xs → IsFree (set xs z (Some e)) u → IsFree xs u
+free_before : (xs : List (Option SettledZone)) (z u : ℕ) (e : SettledZone) → z < length xs → IsFree (set xs z (Some e)) u → IsFree xs u
 free_before xs z u e h f = elim (cases_eq u z) [
   | inl same ↦
       let new : get_or (set xs z (Some e)) z None ≡ Some e = get_or-set_same xs z (Some e) None h in
@@ -33,78 +33,78 @@ free_before xs z u e h f = elim (cases_eq u z) [
 ]
 
 -- an old entry stays
-entry_kept : (xs : List (Option Settled)) (z w : ℕ) (e s : Settled) → entry_at xs z ≡ None → entry_at xs w ≡ Some s → entry_at (set xs z (Some e)) w ≡ Some s
+entry_kept : (xs : List (Option SettledZone)) (z w : ℕ) (e s : SettledZone) → entry_at xs z ≡ None → entry_at xs w ≡ Some s → entry_at (set xs z (Some e)) w ≡ Some s
 entry_kept xs z w e s free k = elim (cases_eq w z) [
   | inl same ↦ let at : entry_at xs z ≡ Some s = subst (λ (x : ℕ). entry_at xs x ≡ Some s) same k in absurd (cc)
   | inr other ↦ get_or-set_other xs z w (Some e) None other ∙ k
 ]
 
-free_zones-le : (xs : List (Option Settled)) → free_zones xs ≤ length xs
+free_zones-le : (xs : List (Option SettledZone)) → free_zones xs ≤ length xs
 free_zones-le [] = omega arith
 free_zones-le (None ∷ xs) = omega (arith, free_zones-le xs)
 free_zones-le (Some t ∷ xs) = omega (arith, free_zones-le xs)
 
 -- what the new entry has to meet
-record Fits (lead : ℕ → ℕ → Type 0) (own : ℕ → ℤ) (xs : List (Option Settled)) (z : ℕ) (e : Settled) : Type 0 where
+record Fits (lead : ℕ → ℕ → Type 0) (own : ℕ → ℤ) (xs : List (Option SettledZone)) (z : ℕ) (e : SettledZone) : Type 0 where
   free : IsFree xs z
   above : own z ≤ℤ e.value
-  risen : (y : ℕ) (s : Settled) → entry_at xs y ≡ Some s → lead y z → s.value ≤ℤ e.value
-  least : (w : ℕ) (s : Settled) → entry_at xs w ≡ Some s → e.value ≤ℤ s.value
-  newest : (y u : ℕ) (s : Settled) → entry_at xs y ≡ Some s → IsFree xs u → lead y u → s.value ≤ℤ e.value
+  risen : (y : ℕ) (s : SettledZone) → entry_at xs y ≡ Some s → lead y z → s.value ≤ℤ e.value
+  least : (w : ℕ) (s : SettledZone) → entry_at xs w ≡ Some s → e.value ≤ℤ s.value
+  newest : (y u : ℕ) (s : SettledZone) → entry_at xs y ≡ Some s → IsFree xs u → lead y u → s.value ≤ℤ e.value
   rest : (u : ℕ) → IsFree xs u → own u ≤ℤ e.value
   source : IsFirst own z e ⊎ IsAfter lead xs z e
   short : e.depth + free_zones xs ≤ length xs + 1
 
-after_kept : (lead : ℕ → ℕ → Type 0) (xs : List (Option Settled)) (z w : ℕ) (e s : Settled) → entry_at xs z ≡ None → IsAfter lead xs w s → IsAfter lead (set xs z (Some e)) w s
+after_kept : (lead : ℕ → ℕ → Type 0) (xs : List (Option SettledZone)) (z w : ℕ) (e s : SettledZone) → entry_at xs z ≡ None → IsAfter lead xs w s → IsAfter lead (set xs z (Some e)) w s
 after_kept lead xs z w e s free a = record { before = a.before; entry = a.entry; settled = entry_kept xs z a.before e a.entry free a.settled; leads = a.leads; previous = a.previous; value = a.value; depth = a.depth }
 
-source_kept : (lead : ℕ → ℕ → Type 0) (own : ℕ → ℤ) (xs : List (Option Settled)) (z w : ℕ) (e s : Settled) → entry_at xs z ≡ None → IsFirst own w s ⊎ IsAfter lead xs w s → IsFirst own w s ⊎ IsAfter lead (set xs z (Some e)) w s
+source_kept : (lead : ℕ → ℕ → Type 0) (own : ℕ → ℤ) (xs : List (Option SettledZone)) (z w : ℕ) (e s : SettledZone) → entry_at xs z ≡ None → IsFirst own w s ⊎ IsAfter lead xs w s → IsFirst own w s ⊎ IsAfter lead (set xs z (Some e)) w s
 source_kept lead own xs z w e s free (inl f) = inl f
 source_kept lead own xs z w e s free (inr a) = inr (after_kept lead xs z w e s free a)
 
-settle : (lead : ℕ → ℕ → Type 0) (own : ℕ → ℤ) (xs : List (Option Settled)) (z : ℕ) (e : Settled) → IsSpreading lead own xs → Fits lead own xs z e → IsSpreading lead own (set xs z (Some e))
+settle : (lead : ℕ → ℕ → Type 0) (own : ℕ → ℤ) (xs : List (Option SettledZone)) (z : ℕ) (e : SettledZone) → IsSpreading lead own xs → Fits lead own xs z e → IsSpreading lead own (set xs z (Some e))
 settle lead own xs z e h f =
     let there : z < length xs = f.free.0 in
-    let values : (w : ℕ) (s : Settled) → entry_at (set xs z (Some e)) w ≡ Some s → e.value ≤ℤ s.value =
-    λ w s k. elim (entry_cases xs z w e s there k) [ inl new ↦ omega (arith, ints, ap (λ (t : Settled). t.value) new.1) | inr old ↦ f.least w s old ] in
+    let values : (w : ℕ) (s : SettledZone) → entry_at (set xs z (Some e)) w ≡ Some s → e.value ≤ℤ s.value =
+    λ w s k. elim (entry_cases xs z w e s there k) [ inl new ↦ omega (arith, ints, ap (λ (t : SettledZone). t.value) new.1) | inr old ↦ f.least w s old ] in
     record {
       above = λ w s k. elim (entry_cases xs z w e s there k) [
-        | inl new ↦ subst (λ (t : Settled). own w ≤ℤ t.value) (sym new.1) (subst (λ (x : ℕ). own x ≤ℤ e.value) (sym new.0) f.above)
+        | inl new ↦ subst (λ (t : SettledZone). own w ≤ℤ t.value) (sym new.1) (subst (λ (x : ℕ). own x ≤ℤ e.value) (sym new.0) f.above)
         | inr old ↦ h.above w s old
       ];
       rises = λ y w s t k l r. elim (entry_cases xs z w e t there l) [
         | inl new ↦ elim (entry_cases xs z y e s there k) [
-          | inl also ↦ omega (arith, ints, ap (λ (t : Settled). t.value) new.1, ap (λ (t : Settled). t.value) also.1)
-          | inr old ↦ subst (λ (t : Settled). s.value ≤ℤ t.value) (sym new.1) (f.risen y s old (subst (lead y) new.0 r))
+          | inl also ↦ omega (arith, ints, ap (λ (t : SettledZone). t.value) new.1, ap (λ (t : SettledZone). t.value) also.1)
+          | inr old ↦ subst (λ (t : SettledZone). s.value ≤ℤ t.value) (sym new.1) (f.risen y s old (subst (lead y) new.0 r))
         ]
         | inr old ↦ elim (entry_cases xs z y e s there k) [
-          | inl new ↦ subst (λ (x : Settled). x.value ≤ℤ t.value) (sym new.1) (f.least w t old)
+          | inl new ↦ subst (λ (x : SettledZone). x.value ≤ℤ t.value) (sym new.1) (f.least w t old)
           | inr older ↦ h.rises y w s t older old r
         ]
       ];
       newest = λ y w u s t k l free r. elim (entry_cases xs z y e s there k) [
-        | inl new ↦ subst (λ (x : Settled). x.value ≤ℤ t.value) (sym new.1) (values w t l)
+        | inl new ↦ subst (λ (x : SettledZone). x.value ≤ℤ t.value) (sym new.1) (values w t l)
         | inr old ↦ elim (entry_cases xs z w e t there l) [
-          | inl new ↦ subst (λ (x : Settled). s.value ≤ℤ x.value) (sym new.1) (f.newest y u s old (free_before xs z u e there free) r)
+          | inl new ↦ subst (λ (x : SettledZone). s.value ≤ℤ x.value) (sym new.1) (f.newest y u s old (free_before xs z u e there free) r)
           | inr older ↦ h.newest y w u s t old older (free_before xs z u e there free) r
         ]
       ];
       rest = λ y u s k free. elim (entry_cases xs z y e s there k) [
-        | inl new ↦ subst (λ (x : Settled). own u ≤ℤ x.value) (sym new.1) (f.rest u (free_before xs z u e there free))
+        | inl new ↦ subst (λ (x : SettledZone). own u ≤ℤ x.value) (sym new.1) (f.rest u (free_before xs z u e there free))
         | inr old ↦ h.rest y u s old (free_before xs z u e there free)
       ];
       source = λ w s k. elim (entry_cases xs z w e s there k) [
-        | inl new ↦ subst (λ (x : Settled). IsFirst own w x ⊎ IsAfter lead (set xs z (Some e)) w x) (sym new.1)
+        | inl new ↦ subst (λ (x : SettledZone). IsFirst own w x ⊎ IsAfter lead (set xs z (Some e)) w x) (sym new.1)
             (subst (λ (y : ℕ). IsFirst own y e ⊎ IsAfter lead (set xs z (Some e)) y e) (sym new.0) (source_kept lead own xs z z e e f.free.1 f.source))
         | inr old ↦ source_kept lead own xs z w e s f.free.1 (h.source w s old)
       ];
       short = λ w s k. elim (entry_cases xs z w e s there k) [
-        | inl new ↦ omega (arith, ap (λ (t : Settled). t.depth) new.1, f.short, free_zones-set xs z e there f.free.1, length-set xs z (Some e))
+        | inl new ↦ omega (arith, ap (λ (t : SettledZone). t.depth) new.1, f.short, free_zones-set xs z e there f.free.1, length-set xs z (Some e))
         | inr old ↦ omega (arith, h.short w s old, free_zones-set xs z e there f.free.1, length-set xs z (Some e))
       ];
     }
 
-led_fits : (lead : ℕ → ℕ → Type 0) (own : ℕ → ℤ) (xs : List (Option Settled)) (z : ℕ) (e : Settled) → IsSpreading lead own xs → IsLed lead xs z e → Fits lead own xs z e
+led_fits : (lead : ℕ → ℕ → Type 0) (own : ℕ → ℤ) (xs : List (Option SettledZone)) (z : ℕ) (e : SettledZone) → IsSpreading lead own xs → IsLed lead xs z e → Fits lead own xs z e
 led_fits lead own xs z e h n =
     let a = n.after in
     record {
@@ -118,7 +118,7 @@ led_fits lead own xs z e h n =
       short = omega (arith, a.depth, h.short a.before a.entry a.settled);
     }
 
-start_fits : (lead : ℕ → ℕ → Type 0) (own : ℕ → ℤ) (xs : List (Option Settled)) (z : ℕ) (e : Settled) → IsSpreading lead own xs → IsStart lead own xs z e → Fits lead own xs z e
+start_fits : (lead : ℕ → ℕ → Type 0) (own : ℕ → ℤ) (xs : List (Option SettledZone)) (z : ℕ) (e : SettledZone) → IsSpreading lead own xs → IsStart lead own xs z e → Fits lead own xs z e
 start_fits lead own xs z e h n = record {
   free = n.greatest.free;
   above = omega (arith, ints, n.first.value);
@@ -131,15 +131,15 @@ start_fits lead own xs z e h n = record {
 }
 
 -- the next zone, settled
-pub settle_next : (lead : ℕ → ℕ → Type 0) (own : ℕ → ℤ) (xs : List (Option Settled)) (z : ℕ) (e : Settled) → IsSpreading lead own xs → IsNext lead own xs z e → IsSpreading lead own (set xs z (Some e))
+pub settle_next : (lead : ℕ → ℕ → Type 0) (own : ℕ → ℤ) (xs : List (Option SettledZone)) (z : ℕ) (e : SettledZone) → IsSpreading lead own xs → IsNext lead own xs z e → IsSpreading lead own (set xs z (Some e))
 settle_next lead own xs z e h (inl n) = settle lead own xs z e h (led_fits lead own xs z e h n)
 settle_next lead own xs z e h (inr n) = settle lead own xs z e h (start_fits lead own xs z e h n)
 
-pub next_free : (lead : ℕ → ℕ → Type 0) (own : ℕ → ℤ) (xs : List (Option Settled)) (z : ℕ) (e : Settled) → IsNext lead own xs z e → IsFree xs z
+pub next_free : (lead : ℕ → ℕ → Type 0) (own : ℕ → ℤ) (xs : List (Option SettledZone)) (z : ℕ) (e : SettledZone) → IsNext lead own xs z e → IsFree xs z
 next_free lead own xs z e (inl n) = n.free
 next_free lead own xs z e (inr n) = n.greatest.free
 
-entry_of_free : (n z : ℕ) (s : Settled) → entry_at (replicate n None) z ≡ Some s → ⊥
+entry_of_free : (n z : ℕ) (s : SettledZone) → entry_at (replicate n None) z ≡ Some s → ⊥
 entry_of_free zero z s k = absurd (cc)
 entry_of_free (suc n) zero s k = absurd (cc)
 entry_of_free (suc n) (suc z) s k = entry_of_free n z s k
@@ -156,9 +156,9 @@ spreading_none lead own n = record {
 }
 
 -- where no zone is free, all are settled
-pub all_settled : (xs : List (Option Settled)) → ((z : ℕ) → IsFree xs z → ⊥) → (z : ℕ) → z < length xs → (s : Settled) × (entry_at xs z ≡ Some s)
+pub all_settled : (xs : List (Option SettledZone)) → ((z : ℕ) → IsFree xs z → ⊥) → (z : ℕ) → z < length xs → (s : SettledZone) × (entry_at xs z ≡ Some s)
 all_settled xs none z h = by_entry (entry_at xs z) refl
   where
-    by_entry : (e : Option Settled) → entry_at xs z ≡ e → (s : Settled) × (entry_at xs z ≡ Some s)
+    by_entry : (e : Option SettledZone) → entry_at xs z ≡ e → (s : SettledZone) × (entry_at xs z ≡ Some s)
     by_entry None k = absurd (none z (h, k))
     by_entry (Some s) k = (s, k)

@@ -9,7 +9,7 @@ use Rattle.mari_prices.specs.declared.along.Along.{Along}
 use Rattle.mari_prices.specs.declared.along.Along.TheVariants.{Rising, Falling}
 use Rattle.mari_prices.specs.declared.bounds.End.{End}
 use Rattle.mari_prices.specs.declared.bounds.End.TheVariants.{Least, Greatest}
-use Rattle.mari_prices.specs.declared.spread.Settled.{Settled}
+use Rattle.mari_prices.specs.declared.spread.SettledZone.{SettledZone}
 use Rattle.mari_prices.specs.Spread.{entry_at, value_in, SpreadsAlong}
 use Rattle.mari_prices.specs.Tightest.{IsTightest, signed}
 
@@ -19,67 +19,67 @@ along_of Least = Rising
 along_of Greatest = Falling
 
 -- the tightest bounds at an end, and what they become as they spread
-pub record IsEnd (end : End) (m : Market) (a : Activation) (bounds : List ℤ) (xs : List (Option Settled)) : Type 0 where
+pub record IsEnd (end : End) (m : Market) (a : Activation) (bounds : List ℤ) (xs : List (Option SettledZone)) : Type 0 where
   pub bounds_each : length bounds ≡ m.zones
   pub one_each : length xs ≡ m.zones
   pub tightest : (z : ℕ) → z < m.zones → IsTightest end m.orders a.mw z (value_in bounds z)
   pub spread : SpreadsAlong (along_of end) m.borders a.flow bounds xs
 
 -- every zone is settled, with a price or one with its sign turned
-pub record ArePriced (xs : List (Option Settled)) : Type 0 where
-  pub settled : (z : ℕ) → z < length xs → (s : Settled) × (entry_at xs z ≡ Some s)
-  pub priced : (z : ℕ) (s : Settled) → entry_at xs z ≡ Some s → IsPrice s.value
+pub record ArePriced (xs : List (Option SettledZone)) : Type 0 where
+  pub settled : (z : ℕ) → z < length xs → (s : SettledZone) × (entry_at xs z ≡ Some s)
+  pub priced : (z : ℕ) (s : SettledZone) → entry_at xs z ≡ Some s → IsPrice s.value
 
 -- each zone's price is its value
-pub record ArePricesOf (end : End) (xs : List (Option Settled)) (ps : List Cents) : Type 0 where
+pub record ArePricesOf (end : End) (xs : List (Option SettledZone)) (ps : List Cents) : Type 0 where
   pub one_each : length ps ≡ length xs
-  pub each : (z : ℕ) (s : Settled) → entry_at xs z ≡ Some s → price_at ps z ≡ signed end s.value
+  pub each : (z : ℕ) (s : SettledZone) → entry_at xs z ≡ Some s → price_at ps z ≡ signed end s.value
 
 -- a zone whose least price is above its upper bound, which stands with its sign turned
-pub record IsContradicted (xs : List (Option Settled)) (uppers : List ℤ) (z : ℕ) : Type 0 where
-  pub entry : Settled
+pub record IsContradicted (xs : List (Option SettledZone)) (uppers : List ℤ) (z : ℕ) : Type 0 where
+  pub entry : SettledZone
   pub settled : entry_at xs z ≡ Some entry
   pub above : neg_ℤ (value_in uppers z) <ℤ entry.value
 
 -- no zone is
-abbrev pub AreUncontradicted : ℕ → List (Option Settled) → List ℤ → Type 0
-AreUncontradicted n xs uppers = (z : ℕ) (s : Settled) → z < n → entry_at xs z ≡ Some s → s.value ≤ℤ neg_ℤ (value_in uppers z)
+abbrev pub AreUncontradicted : ℕ → List (Option SettledZone) → List ℤ → Type 0
+AreUncontradicted n xs uppers = (z : ℕ) (s : SettledZone) → z < n → entry_at xs z ≡ Some s → s.value ≤ℤ neg_ℤ (value_in uppers z)
 
 -- the second zone was settled by the first
-pub record IsBefore (xs : List (Option Settled)) (z y : ℕ) : Type 0 where
-  pub entry : Settled
+pub record IsBefore (xs : List (Option SettledZone)) (z y : ℕ) : Type 0 where
+  pub entry : SettledZone
   pub settled : entry_at xs y ≡ Some entry
   pub previous : entry.previous ≡ Some z
 
 -- each zone was settled by the one before it
-abbrev pub Follows : List (Option Settled) → ℕ → List ℕ → Type 0
+abbrev pub Follows : List (Option SettledZone) → ℕ → List ℕ → Type 0
 Follows xs z [] = Unit {0}
 Follows xs z (y ∷ ys) = IsBefore xs z y × Follows xs y ys
 
 -- a chain of zones from the first to the last, each settled by the one before it
-pub record IsTrail (xs : List (Option Settled)) (last first : ℕ) (chain : List ℕ) : Type 0 where
+pub record IsTrail (xs : List (Option SettledZone)) (last first : ℕ) (chain : List ℕ) : Type 0 where
   pub rest : List ℕ
   pub items : chain ≡ first ∷ rest
   pub follows : Follows xs first rest
   pub ends : last_of first rest ≡ last
 
 -- the first of them by its own value
-pub record IsTrailTo (xs : List (Option Settled)) (last : ℕ) (chain : List ℕ) : Type 0 where
+pub record IsTrailTo (xs : List (Option SettledZone)) (last : ℕ) (chain : List ℕ) : Type 0 where
   pub first : ℕ
   pub trail : IsTrail xs last first chain
-  pub entry : Settled
+  pub entry : SettledZone
   pub settled : entry_at xs first ≡ Some entry
   pub start : entry.previous ≡ None
   pub short : length chain ≤ length xs
 
 -- how many zones the chain to a zone has
-abbrev pub depth_of : Option Settled → ℕ
+abbrev pub depth_of : Option SettledZone → ℕ
 depth_of None = 0
 depth_of (Some s) = s.depth
 
 -- the chain to each zone is one longer than that to the zone before
-pub record AreTrails (xs : List (Option Settled)) : Type 0 where
-  pub settled : (z : ℕ) → z < length xs → (s : Settled) × (entry_at xs z ≡ Some s)
-  pub before : (z y : ℕ) (s : Settled) → entry_at xs z ≡ Some s → s.previous ≡ Some y → (t : Settled) × (entry_at xs y ≡ Some t) × (s.depth ≡ t.depth + 1)
-  pub some : (z : ℕ) (s : Settled) → entry_at xs z ≡ Some s → 1 ≤ s.depth
-  pub short : (z : ℕ) (s : Settled) → entry_at xs z ≡ Some s → s.depth ≤ length xs
+pub record AreTrails (xs : List (Option SettledZone)) : Type 0 where
+  pub settled : (z : ℕ) → z < length xs → (s : SettledZone) × (entry_at xs z ≡ Some s)
+  pub before : (z y : ℕ) (s : SettledZone) → entry_at xs z ≡ Some s → s.previous ≡ Some y → (t : SettledZone) × (entry_at xs y ≡ Some t) × (s.depth ≡ t.depth + 1)
+  pub some : (z : ℕ) (s : SettledZone) → entry_at xs z ≡ Some s → 1 ≤ s.depth
+  pub short : (z : ℕ) (s : SettledZone) → entry_at xs z ≡ Some s → s.depth ≤ length xs

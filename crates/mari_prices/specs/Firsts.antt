@@ -1,7 +1,7 @@
 -- The first zone of each zone's area, and areas numbered by their first zones.
 use Rattle.std.specs.Prelude.{◌≡◌, ℕ, ◌<◌, ◌≤◌, ℤ, pos, neg_ℤ, List, Option, Some, None, length, unsigned_abs}
 use Rattle.mari_market.specs.Area.{area_at}
-use Rattle.mari_prices.specs.declared.spread.Settled.{Settled}
+use Rattle.mari_prices.specs.declared.spread.SettledZone.{SettledZone}
 use Rattle.mari_prices.specs.Spread.{entry_at, value_in}
 
 -- each zone's own value is its number, with the sign turned, so that the first zone has the greatest
@@ -9,11 +9,11 @@ abbrev pub ArePlaces : List ℤ → Type 0
 ArePlaces values = (z : ℕ) → z < length values → value_in values z ≡ neg_ℤ (pos z)
 
 -- the zone whose value this is
-abbrev pub first_in : Option Settled → ℕ
+abbrev pub first_in : Option SettledZone → ℕ
 first_in None = 0
 first_in (Some s) = unsigned_abs s.value
 
-abbrev pub first_at : List (Option Settled) → ℕ → ℕ
+abbrev pub first_at : List (Option SettledZone) → ℕ → ℕ
 first_at xs z = first_in (entry_at xs z)
 
 -- each zone has a first zone, no later than itself, which is its own first zone
@@ -32,7 +32,7 @@ pub record IsNumbering (f a : ℕ → ℕ) (n count : ℕ) : Type 0 where
   pub in_order : (z k : ℕ) → z < n → 1 ≤ k → k ≤ a z → (y : ℕ) × (y ≤ z) × (a y ≡ k)
 
 -- areas are numbered so
-pub record AreNumbered (xs : List (Option Settled)) (areas : List ℕ) : Type 0 where
+pub record AreNumbered (xs : List (Option SettledZone)) (areas : List ℕ) : Type 0 where
   pub one_each : length areas ≡ length xs
   pub count : ℕ
   pub numbering : IsNumbering (first_at xs) (area_at areas) (length xs) count

@@ -8,11 +8,11 @@ ghost use Rattle.mari_market.specs.Price.{IsPrice};
 ghost use Rattle.mari_prices.specs.Ends.{along_of, ArePriced, ArePricesOf, AreTrails, AreUncontradicted, IsContradicted, IsEnd, IsTrailTo};
 ghost use Rattle.mari_prices.specs.Spread.{entry_at};
 ghost use Rattle.mari_prices.specs.Tightest.{signed};
-ghost use Rattle.mari_prices.specs.declared.spread.Settled.{Settled as SettledZone};
+ghost use Rattle.mari_prices.specs.declared.spread.SettledZone.{SettledZone};
 
 use crate::along::Along;
 use crate::bounds::{End, tightest};
-use crate::spread::{Settled, spread};
+use crate::spread::{SettledZone, spread};
 use mari_market::{Activation, Market, Prices};
 use mari_units::{Cents, Items, MOST_ZONES};
 use std::alloc::{AllocError, Global};
@@ -21,7 +21,7 @@ use std::alloc::{AllocError, Global};
 #[derive(Drop)]
 pub(crate) struct Ends {
     pub(crate) bounds: Vec<i64>,
-    pub(crate) settled: Vec<Option<Settled>>,
+    pub(crate) settled: Vec<Option<SettledZone>>,
 }
 
 impl End {
@@ -65,7 +65,7 @@ pub(crate) fn ends_of(
 /// The prices that the values stand for.
 pub(crate) fn prices_of(
     alloc: Global,
-    settled: &[Option<Settled>],
+    settled: &[Option<SettledZone>],
     end: End,
 ) -> Result<Prices, AllocError>
     requires { ArePriced settled.now }
@@ -84,7 +84,7 @@ pub(crate) fn prices_of(
 }
 
 /// Whether a least price is above the upper bound, which stands with its sign turned.
-fn is_above(entry: &Option<Settled>, upper: i64) -> bool
+fn is_above(entry: &Option<SettledZone>, upper: i64) -> bool
     requires upper { IsPrice upper }
     requires value { IfSome entry.now (λ s. IsPrice s.value) }
     ensures none { entry.now ≡ None → result ≡ false }
@@ -97,7 +97,7 @@ fn is_above(entry: &Option<Settled>, upper: i64) -> bool
 }
 
 /// A zone whose least price is above its upper bound.
-pub(crate) fn contradicted(settled: &[Option<Settled>], uppers: &[i64]) -> Option<u32>
+pub(crate) fn contradicted(settled: &[Option<SettledZone>], uppers: &[i64]) -> Option<u32>
     requires lengths { length uppers.now ≡ length settled.now }
     requires few { length settled.now ≤ MOST_ZONES }
     requires priced { ArePriced settled.now }
@@ -113,7 +113,7 @@ pub(crate) fn contradicted(settled: &[Option<Settled>], uppers: &[i64]) -> Optio
 }
 
 /// The zone that settled this one.
-fn previous_of(settled: &[Option<Settled>], zone: u32) -> Option<u32>
+fn previous_of(settled: &[Option<SettledZone>], zone: u32) -> Option<u32>
     requires { zone < length settled.now }
     ensures { (s : SettledZone) → entry_at settled.now zone ≡ Some s → result ≡ s.previous }
 {
@@ -126,7 +126,7 @@ fn previous_of(settled: &[Option<Settled>], zone: u32) -> Option<u32>
 /// The chain of zones along which the last one got its value.
 pub(crate) fn chain_to(
     alloc: Global,
-    settled: &[Option<Settled>],
+    settled: &[Option<SettledZone>],
     last: u32,
 ) -> Result<Vec<u32>, AllocError>
     requires last { last < length settled.now }

@@ -52,16 +52,16 @@ pub fn price_test(
     market: &Market,
     activation: &Activation,
 ) -> Result<Intervals, PriceFault>
-    // What the caller knows of the market and the activation.
+    // A market, and an activation that is feasible in it.
     requires valid { IsValid market.now }
     requires feasible { IsFeasible market.now activation.now }
 
-    // The intervals, and that there are prices.
+    // Where some prices are consistent: the least of each zone, and the greatest.
     ensures some { OnOk result ((ps : List Cents) × IsConsistent market.now activation.now ps) }
     ensures least { IfOk result (λ i. AreLeastPrices market.now activation.now i.least.cents) }
     ensures greatest { IfOk result (λ i. AreGreatestPrices market.now activation.now i.greatest.cents) }
 
-    // The conflict, and that there are none.
+    // Where none are: a chain of at most all zones that shows it.
     ensures none { IfErr result (λ e. OnConflict e (λ _. (ps : List Cents) → IsConsistent market.now activation.now ps → ⊥)) }
     ensures chain { IfErr result (λ e. OnConflict e (IsContradiction market.now activation.now)) }
     ensures short { IfErr result (λ e. OnConflict e (λ chain. length chain ≤ market.now.zones)) }

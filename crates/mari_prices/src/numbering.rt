@@ -7,7 +7,7 @@ ghost use Rattle.mari_market.specs.Optimal.{IsFeasible};
 ghost use Rattle.mari_prices.specs.Firsts.{AreFirsts, AreNumbered, ArePlaces, first_at, first_in};
 
 use crate::along::Along;
-use crate::spread::{Settled, spread};
+use crate::spread::{SettledZone, spread};
 use mari_market::{Activation, Market};
 use mari_units::{MOST_ZONES, Memory};
 use std::alloc::{AllocError, Global};
@@ -25,7 +25,7 @@ fn places(alloc: Global, zones: u32) -> Result<Vec<i64>, AllocError>
 }
 
 /// The first zone of a zone's area.
-fn first_of(entry: &Option<Settled>) -> usize
+fn first_of(entry: &Option<SettledZone>) -> usize
     ensures { result ≡ first_in entry.now }
 {
     match entry {
@@ -35,7 +35,7 @@ fn first_of(entry: &Option<Settled>) -> usize
 }
 
 /// Numbers areas from 1 by their first zones.
-fn number(alloc: Global, settled: &[Option<Settled>]) -> Result<Vec<u32>, AllocError>
+fn number(alloc: Global, settled: &[Option<SettledZone>]) -> Result<Vec<u32>, AllocError>
     requires few { length settled.now ≤ MOST_ZONES }
     requires firsts { AreFirsts (length settled.now) (first_at settled.now) }
     ensures { IfOk result (λ v. AreNumbered settled.now v.items) }

@@ -13,14 +13,14 @@ use std::alloc::{AllocError, Global};
 
 /// What a zone gets: a value, from the zone before it, if another zone led to it, along a chain of so many zones.
 #[derive(Clone, Copy, Debug, Drop, PartialEq, Eq)]
-pub(crate) struct Settled {
+pub(crate) struct SettledZone {
     pub(crate) value: i64,
     pub(crate) previous: Option<u32>,
     pub(crate) depth: u32,
 }
 
 /// What the second zone gets from the first, if that is settled and the second is free.
-fn passed_on(settled: &[Option<Settled>], from: u32, to: u32) -> Option<Settled>
+fn passed_on(settled: &[Option<SettledZone>], from: u32, to: u32) -> Option<SettledZone>
     requires from { from < length settled.now }
     requires to { to < length settled.now }
     requires short { AreShort settled.now }
@@ -30,7 +30,7 @@ fn passed_on(settled: &[Option<Settled>], from: u32, to: u32) -> Option<Settled>
         return None;
     }
     match settled[from as usize] {
-        Some(before) => Some(Settled {
+        Some(before) => Some(SettledZone {
             value: before.value,
             previous: Some(from),
             depth: before.depth + 1,
@@ -40,7 +40,7 @@ fn passed_on(settled: &[Option<Settled>], from: u32, to: u32) -> Option<Settled>
 }
 
 /// The same, if the border leads that way.
-fn led(leads: bool, settled: &[Option<Settled>], from: u32, to: u32) -> Option<Settled>
+fn led(leads: bool, settled: &[Option<SettledZone>], from: u32, to: u32) -> Option<SettledZone>
     requires from { from < length settled.now }
     requires to { to < length settled.now }
     requires short { AreShort settled.now }
@@ -56,11 +56,11 @@ fn led(leads: bool, settled: &[Option<Settled>], from: u32, to: u32) -> Option<S
 
 /// A free zone to which the border leads from a settled one, and what it gets.
 fn led_over(
-    settled: &[Option<Settled>],
+    settled: &[Option<SettledZone>],
     border: &Border,
     flow: i64,
     along: Along,
-) -> Option<(u32, Settled)>
+) -> Option<(u32, SettledZone)>
     requires from { border.now.from < length settled.now }
     requires to { border.now.to < length settled.now }
     requires short { AreShort settled.now }
@@ -88,11 +88,11 @@ fn led_over(
 
 /// A free zone to which some border leads from a settled one, and what it gets.
 fn next_led(
-    settled: &[Option<Settled>],
+    settled: &[Option<SettledZone>],
     borders: &[Border],
     flow: &[i64],
     along: Along,
-) -> Option<(u32, Settled)>
+) -> Option<(u32, SettledZone)>
     requires lengths { length flow.now ≡ length borders.now }
     requires ends { All (λ b. (b.from < length settled.now) × (b.to < length settled.now)) borders.now }
     requires short { AreShort settled.now }
@@ -122,7 +122,7 @@ fn greater(values: &[i64], best: Option<u32>, zone: u32) -> u32
 }
 
 /// The free zone of the greatest value.
-fn greatest_free(settled: &[Option<Settled>], values: &[i64]) -> Option<u32>
+fn greatest_free(settled: &[Option<SettledZone>], values: &[i64]) -> Option<u32>
     requires lengths { length values.now ≡ length settled.now }
     requires few { length settled.now ≤ MOST_ZONES }
     ensures { MatchOption result (NoneFreeBefore (length settled.now) settled.now) (IsGreatestBefore (length settled.now) (value_in values.now) settled.now) }
@@ -138,12 +138,12 @@ fn greatest_free(settled: &[Option<Settled>], values: &[i64]) -> Option<u32>
 
 /// The next zone to settle, and what it gets.
 fn next(
-    settled: &[Option<Settled>],
+    settled: &[Option<SettledZone>],
     values: &[i64],
     borders: &[Border],
     flow: &[i64],
     along: Along,
-) -> Option<(u32, Settled)>
+) -> Option<(u32, SettledZone)>
     // The zones, and the borders between them.
     requires values { length values.now ≡ length settled.now }
     requires lengths { length flow.now ≡ length borders.now }
@@ -163,7 +163,7 @@ fn next(
     match greatest_free(settled, values) {
         Some(zone) => Some((
             zone,
-            Settled {
+            SettledZone {
                 value: values[zone as usize],
                 previous: None,
                 depth: 1,
@@ -182,7 +182,7 @@ pub(crate) fn spread(
     borders: &[Border],
     flow: &[i64],
     along: Along,
-) -> Result<Vec<Option<Settled>>, AllocError>
+) -> Result<Vec<Option<SettledZone>>, AllocError>
     requires few { length values.now ≤ MOST_ZONES }
     requires lengths { length flow.now ≡ length borders.now }
     requires ends { All (λ b. (b.from < length values.now) × (b.to < length values.now)) borders.now }

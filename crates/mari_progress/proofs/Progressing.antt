@@ -23,7 +23,7 @@ use Rattle.mari_settle.specs.Conditions.{LedgersAddUp}
 use Rattle.mari_settle.specs.Lines.{lines_together, map_along, together}
 use Rattle.mari_progress.specs.declared.progress.Progress.{Progress}
 use Rattle.mari_progress.specs.declared.progress.Scheduled.{Scheduled}
-use Rattle.mari_progress.specs.declared.progress.Settled.{Settled}
+use Rattle.mari_progress.specs.declared.progress.SettledRun.{SettledRun}
 use Rattle.mari_progress.specs.Behind.{also_behind, before_of, market_behind, past_of, run_behind}
 use Rattle.mari_progress.specs.Progress.{IsProgress, KeepsPrices}
 use Rattle.mari_progress.specs.Runs.{IsMarketOf, IsNextRun, IsRunOf}
@@ -39,7 +39,7 @@ module _ (books : Books) (blocks : List Block) (made : RunMarket) (e : made ≡ 
   pub priced-behind : {A : Type 0} (f : A → List Cents) (r : Option A) → IfSome r (λ a. ArePrices (market_behind books blocks).market (f a)) → IfSome r (λ a. ArePrices made.market (f a))
   priced-behind f r h = let P : RunMarket → Type 0 = λ m. IfSome r (λ a. ArePrices m.market (f a)) in subst P (sym e) h
 
-  pub settled-behind : (also : Option (List Cents)) → also ≡ also_behind books blocks → (b : FullBlock) (settled : Settled) → IsRunOf books made also b settled → IsRunOf books (market_behind books blocks) (also_behind books blocks) b settled
+  pub settled-behind : (also : Option (List Cents)) → also ≡ also_behind books blocks → (b : FullBlock) (settled : SettledRun) → IsRunOf books made also b settled → IsRunOf books (market_behind books blocks) (also_behind books blocks) b settled
   settled-behind also f b settled h =
       let M : RunMarket → Type 0 = λ m. IsRunOf books m also b settled in
       let A : Option (List Cents) → Type 0 = λ a. IsRunOf books (market_behind books blocks) a b settled in
@@ -73,7 +73,7 @@ module _ (books : Books) (ok : IsAccepted books) (blocks : List Block) (kept : P
           published = progress.published ∙ sym (published-same blocks heading count);
         }
 
-    module _ (b : FullBlock) (settled : Settled) (is : IsNextRun books blocks b settled) where
+    module _ (b : FullBlock) (settled : SettledRun) (is : IsNextRun books blocks b settled) where
       -- what is asked where it is added
       pub record CanAdd : Type 0 where
         pub feasible : IsFeasible settled.made.market settled.activation

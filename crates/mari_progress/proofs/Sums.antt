@@ -20,7 +20,7 @@ use Rattle.mari_settle.specs.Lines.{lines_together, map_along, no_line, nothing,
 use Rattle.mari_settle.specs.declared.ledger.Ledger.{Ledger}
 use Rattle.mari_settle.specs.declared.ledger.OperatorLine.{OperatorLine}
 use Rattle.mari_settle.proofs.Sizes.{ledgers_add_up, lines_within, sum_within, sums_within}
-use Rattle.mari_progress.specs.declared.progress.Settled.{Settled}
+use Rattle.mari_progress.specs.declared.progress.SettledRun.{SettledRun}
 use Rattle.mari_progress.specs.Runs.{IsRunOf, most_of_operator, most_of_provider}
 use Rattle.mari_progress.specs.Behind.{also_behind, market_behind}
 use Rattle.mari_progress.specs.Money.{amount_line, money_line, money_lines_of}
@@ -103,7 +103,7 @@ module _ (books : Books) (blocks : List Block) (sums : Ledger) (so_far : AreTota
         nets = so_far.nets;
       }
 
-  module _ (b : FullBlock) (settled : Settled) (is : IsRunOf books (market_behind books blocks) (also_behind books blocks) b settled) where
+  module _ (b : FullBlock) (settled : SettledRun) (is : IsRunOf books (market_behind books blocks) (also_behind books blocks) b settled) where
     own-amounts : settled.ledger.providers ≡ map (λ provider. money-of (amount_in books blocks (block.Published b) provider)) (range_with_len 0 (length books.bids.providers))
     own-amounts = is.providers
 

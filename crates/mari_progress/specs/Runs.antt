@@ -13,14 +13,14 @@ use Rattle.mari_remain.specs.declared.books.Books.{Books}
 use Rattle.mari_remain.specs.declared.market.RunMarket.{RunMarket}
 use Rattle.mari_settle.specs.Conditions.{HasSmallNumbers, IsWithin, LineIsWithin, NameOrders}
 use Rattle.mari_settle.specs.Ledger.{net_of}
-use Rattle.mari_progress.specs.declared.progress.Settled.{Settled}
+use Rattle.mari_progress.specs.declared.progress.SettledRun.{SettledRun}
 use Rattle.mari_progress.specs.Behind.{also_behind, market_behind, run_behind}
 use Rattle.mari_progress.specs.Money.{HasLedger, amounts_of, money_lines_of}
 use Rattle.mari_progress.specs.Told.{NamesMarket, activation_of, heading_of, prices_of}
 use Rattle.mari_units.specs.declared.limits.TheConstants.{MOST_BID_MW, MOST_BIDS, MOST_DEMANDS}
 
 -- a market of these books: it is valid, over their zones and borders; its first orders are those of bids that are
--- there, of at most 9,999 MW, and the others those of at most 512 demands
+-- there, of at most `MOST_BID_MW` each, and the others those of at most `MOST_DEMANDS` demands
 pub record IsMarketOf (books : Books) (made : RunMarket) : Type 0 where
   pub valid : IsValid made.market
   pub zones : made.market.zones ≡ length books.zones.zones
@@ -56,7 +56,7 @@ most_of_provider = 4 * 10 ^ 15
 
 -- what the block of a run adds to its day: the market, the activation and the prices that it tells, and its ledger,
 -- which is small
-pub record IsRunOf (books : Books) (made : RunMarket) (also : Option (List Cents)) (b : FullBlock) (settled : Settled) : Type 0 where
+pub record IsRunOf (books : Books) (made : RunMarket) (also : Option (List Cents)) (b : FullBlock) (settled : SettledRun) : Type 0 where
   pub market : settled.made ≡ made
   pub activation : settled.activation ≡ activation_of b
   pub prices : settled.prices.cents ≡ prices_of b
@@ -70,6 +70,6 @@ pub record IsRunOf (books : Books) (made : RunMarket) (also : Option (List Cents
   pub nets : int_sum net_of settled.ledger.operators ≡ pos 0
 
 -- a published block of the run behind these blocks, and what it adds
-pub record IsNextRun (books : Books) (before : List Block) (b : FullBlock) (settled : Settled) : Type 0 where
+pub record IsNextRun (books : Books) (before : List Block) (b : FullBlock) (settled : SettledRun) : Type 0 where
   pub sound : IsSoundRun books before b
   pub adds : IsRunOf books (market_behind books before) (also_behind books before) b settled

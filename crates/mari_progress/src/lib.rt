@@ -12,6 +12,6 @@ mod providers;
 mod runs;
 
 pub use ledger::ledger_of;
-pub use progress::{Progress, Scheduled, Settled};
+pub use progress::{Progress, Scheduled, SettledRun};
 pub use providers::providers_of;
 pub use runs::{heading, run_count};

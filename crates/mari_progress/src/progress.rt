@@ -26,7 +26,7 @@ pub struct Scheduled {
 /// What a published block adds to its day: its run's market, the activation in it, the published prices, and the
 /// ledger.
 #[derive(Drop)]
-pub struct Settled {
+pub struct SettledRun {
     pub made: RunMarket,
     pub activation: Activation,
     pub prices: Prices,
@@ -95,7 +95,7 @@ impl Progress {
     }
 
     /// Adds the published block of the run behind the blocks so far.
-    pub fn add(&mut self, books: &Books, run: u32, settled: Settled)
+    pub fn add(&mut self, books: &Books, run: u32, settled: SettledRun)
         requires accepted { IsAccepted books.now }
         requires last { run ≤ length books.now.runs.runs }
         requires next { (blocks : List PrintedBlock) × (block : PrintedRun) × IsProgress books.now blocks self.old × (run ≡ run_behind blocks) × IsNextRun books.now blocks block settled }

@@ -15,8 +15,8 @@ use Rattle.mari_publish.specs.declared.held.Kept.{Kept}
 use Rattle.mari_publish.specs.declared.fault.TextFault.{TextFault}
 use Rattle.mari_publish.specs.declared.fault.TextFault.TheVariants as fault
 use Rattle.mari_publish.specs.declared.reading.Gathered.{Gathered}
-use Rattle.mari_publish.specs.declared.taking.LineFault.{LineFault}
-use Rattle.mari_publish.specs.declared.taking.LineFault.TheVariants as line_fault
+use Rattle.mari_publish.specs.declared.taking.TakeFault.{TakeFault}
+use Rattle.mari_publish.specs.declared.taking.TakeFault.TheVariants as take_fault
 use Rattle.mari_publish.specs.Gathering.{seen, Took, Finishes}
 use Rattle.mari_publish.specs.Lines.{lines_of}
 use Rattle.mari_lines.specs.Ranges.{InRange}
@@ -94,7 +94,7 @@ forward bytes rest here after n p k r x a parts t =
       stands = next a.before p k k.held l (r, x) a.stands t.3;
     }
 
-pub bad_line : (bytes rest here after : List ℕ) (n : ℕ) (p : Publication) (k r : Kept) → Progress bytes rest n p k → Lacks 10 here → rest ≡ here ++ 10 ∷ after → (f : LineFault) → f ≡ line_fault.Form → Took k here r (Err f) → BadLineAt bytes n
+pub bad_line : (bytes rest here after : List ℕ) (n : ℕ) (p : Publication) (k r : Kept) → Progress bytes rest n p k → Lacks 10 here → rest ≡ here ++ 10 ∷ after → (f : TakeFault) → f ≡ take_fault.Formless → Took k here r (Err f) → BadLineAt bytes n
 bad_line bytes rest here after n p k r a whole parts f is took = let t = subst (λ g. Took k here r (Err g)) is took in record {
   before = a.before;
   here = here;
@@ -106,7 +106,7 @@ bad_line bytes rest here after n p k r a whole parts f is took = let t = subst (
   formless = t.0;
 }
 
-pub bad_order : (bytes rest here after : List ℕ) (n : ℕ) (p : Publication) (k r : Kept) → Progress bytes rest n p k → rest ≡ here ++ 10 ∷ after → (f : LineFault) → f ≡ line_fault.Order → Took k here r (Err f) → BadOrderAt bytes n
+pub bad_order : (bytes rest here after : List ℕ) (n : ℕ) (p : Publication) (k r : Kept) → Progress bytes rest n p k → rest ≡ here ++ 10 ∷ after → (f : TakeFault) → f ≡ take_fault.OutOfOrder → Took k here r (Err f) → BadOrderAt bytes n
 bad_order bytes rest here after n p k r a parts f is took = let t = subst (λ g. Took k here r (Err g)) is took in record {
   before = a.before;
   here = t.0;

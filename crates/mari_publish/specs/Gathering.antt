@@ -9,8 +9,8 @@ use Rattle.mari_publish.specs.declared.publication.Part.{Part}
 use Rattle.mari_publish.specs.declared.fault.TextFault.{TextFault}
 use Rattle.mari_publish.specs.declared.fault.TextFault.TheVariants as fault
 use Rattle.mari_publish.specs.declared.reading.Gathered.{Gathered}
-use Rattle.mari_publish.specs.declared.taking.LineFault.{LineFault}
-use Rattle.mari_publish.specs.declared.taking.LineFault.TheVariants as line_fault
+use Rattle.mari_publish.specs.declared.taking.TakeFault.{TakeFault}
+use Rattle.mari_publish.specs.declared.taking.TakeFault.TheVariants as take_fault
 use Rattle.mari_publish.specs.Order.{after}
 use Rattle.mari_lines.specs.Ranges.{InRange}
 use Rattle.mari_lines.specs.Spelling.{spelling}
@@ -19,11 +19,11 @@ abbrev pub seen : Gathered → Publication
 seen g = record { date = unwrap_or g.date []; quarters = g.quarters; budget = g.budget; blocks = g.blocks.items; operators = g.operators; providers = g.providers }
 
 -- a line was taken, with the part that is whole with it; or there was none, and nothing changed
-abbrev pub Took : Kept → List ℕ → Kept → Result (Option Part) LineFault → Type 0
+abbrev pub Took : Kept → List ℕ → Kept → Result (Option Part) TakeFault → Type 0
 Took old here new (Ok x) = (l : Line) × InRange l × (spelling l ≡ here) × (after old old.held l ≡ Some (new, x))
-Took old here new (Err line_fault.Form) = ((l : Line) → InRange l → spelling l ≡ here → ⊥) × (new ≡ old)
-Took old here new (Err line_fault.Order) = (l : Line) × InRange l × (spelling l ≡ here) × (after old old.held l ≡ None) × (new ≡ old)
-Took old here new (Err line_fault.Memory) = new ≡ old
+Took old here new (Err take_fault.Formless) = ((l : Line) → InRange l → spelling l ≡ here → ⊥) × (new ≡ old)
+Took old here new (Err take_fault.OutOfOrder) = (l : Line) × InRange l × (spelling l ≡ here) × (after old old.held l ≡ None) × (new ≡ old)
+Took old here new (Err take_fault.Memory) = new ≡ old
 
 -- the publication, if the text ends where one does
 abbrev pub Finishes : Gathered → Held → List ℕ → ℕ → Result Publication TextFault → Type 0

@@ -23,8 +23,8 @@ use Rattle.mari_publish.specs.declared.publication.Part.{Part}
 use Rattle.mari_publish.specs.declared.publication.Part.TheVariants as part
 use Rattle.mari_publish.specs.declared.held.Counts.{Counts}
 use Rattle.mari_publish.specs.declared.held.Kept.{Kept}
-use Rattle.mari_publish.specs.declared.follow.step.Refused.{Refused}
-use Rattle.mari_publish.specs.declared.follow.step.Refused.TheVariants as refused
+use Rattle.mari_publish.specs.declared.follow.step.FollowFault.{FollowFault}
+use Rattle.mari_publish.specs.declared.follow.step.FollowFault.TheVariants as follow_fault
 use Rattle.mari_publish.specs.Lines.{item_lines, demand_lines, block_lines, lines_of}
 use Rattle.mari_units.specs.declared.limits.TheConstants.{MOST_BIDS, MOST_BORDERS, MOST_RUNS, MOST_ZONES, MOST_QUARTERS}
 
@@ -205,16 +205,16 @@ abbrev pub kept_with : Kept → Held → Kept
 kept_with k h = record { held = h; counts = k.counts }
 
 -- what is held becomes what it should, or stays as it is: the line may not follow, or memory ran out
-abbrev pub Steps : {T : Type 0} → Option Held → Held → Held → Result T Refused → Type 0
+abbrev pub Steps : {T : Type 0} → Option Held → Held → Held → Result T FollowFault → Type 0
 Steps expected old new (Ok done) = expected ≡ Some new
-Steps expected old new (Err refused.Order) = (expected ≡ None) × (new ≡ old)
-Steps expected old new (Err refused.Memory) = new ≡ old
+Steps expected old new (Err follow_fault.OutOfOrder) = (expected ≡ None) × (new ≡ old)
+Steps expected old new (Err follow_fault.Memory) = new ≡ old
 
 -- the same of what is kept, with the part that is whole
-abbrev pub Follows : Option (Kept × Option Part) → Kept → Kept → Result (Option Part) Refused → Type 0
+abbrev pub Follows : Option (Kept × Option Part) → Kept → Kept → Result (Option Part) FollowFault → Type 0
 Follows expected old new (Ok x) = expected ≡ Some (new, x)
-Follows expected old new (Err refused.Order) = (expected ≡ None) × (new ≡ old)
-Follows expected old new (Err refused.Memory) = new ≡ old
+Follows expected old new (Err follow_fault.OutOfOrder) = (expected ≡ None) × (new ≡ old)
+Follows expected old new (Err follow_fault.Memory) = new ≡ old
 
 -- in a block there is room for it among the runs
 abbrev pub HasRoom : Held → Counts → Type 0

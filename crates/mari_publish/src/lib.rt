@@ -1,8 +1,9 @@
 //! The day's text, both ways.
 //!
-//! The crate stands on the units and on the market's certificates. Its promise: a publication whose numbers are in
-//! range has one text, which its parts make, and no other publication has that text; any other bytes have one first
-//! fault. A text that comes in pieces gives the same parts and the same first fault, wherever it is cut.
+//! The crate stands on `mari_lines`, which has one line, on the units and on the market's certificates. Its promise: a
+//! publication whose numbers are in range has one text, which its parts make, and no other publication has that text;
+//! any other bytes have one first fault. A text that comes in pieces gives the same parts and the same first fault,
+//! wherever it is cut.
 #![tactic(auto)]
 
 mod coming;

@@ -5,7 +5,8 @@ use mari_market::TreeItem;
 use mari_units::{Items, Name};
 
 /// What is published of a run: its welfare in quarter-cents, a line for each zone, border and bid, how many MW each
-/// demand runs, the certificate tree in preorder, and what each operator and provider gets.
+/// demand runs, the certificate tree in preorder, and the money lines of each operator and
+/// provider.
 #[derive(Drop)]
 pub struct FullBlock {
     pub heading: Heading,

@@ -4,36 +4,37 @@ ghost use Rattle.std.specs.Prelude.{◌+◌, ◌≤◌};
 ghost use Rattle.mari_publish.specs.Order.{HasRoom};
 ghost use Rattle.mari_publish.specs.Gathering.{Took};
 
-use crate::follow::{Refused, follow};
+use crate::follow::{FollowFault, follow};
 use crate::held::Kept;
 use crate::publication::Part;
-use mari_lines::{Unread, read_line};
+use mari_lines::{FormFault, read_line};
 use mari_units::MOST_RUNS;
 use std::alloc::Global;
 
-/// Why a line is no next line.
+/// Why bytes are not taken as the next line: they have no line's form, the line may not stand here, or there was no
+/// memory.
 #[derive(Clone, Copy)]
-pub enum LineFault {
-    Form,
-    Order,
+pub enum TakeFault {
+    Formless,
+    OutOfOrder,
     Memory,
 }
 
 /// Takes the line that is spelled so, and gives the part that is whole with it. After a fault what is kept is as it
 /// was.
-pub fn take_line(alloc: Global, kept: &mut Kept, here: &[u8]) -> Result<Option<Part>, LineFault>
+pub fn take_line(alloc: Global, kept: &mut Kept, here: &[u8]) -> Result<Option<Part>, TakeFault>
     requires counts { kept.old.counts.published + kept.old.counts.unpublished ≤ MOST_RUNS }
     requires room { HasRoom kept.old.held kept.old.counts }
     ensures { Took kept.old here.now kept.new result }
 {
     let line = match read_line(alloc, here) {
         Ok(line) => line,
-        Err(Unread::Formless) => return Err(LineFault::Form),
-        Err(Unread::Memory) => return Err(LineFault::Memory),
+        Err(FormFault::Formless) => return Err(TakeFault::Formless),
+        Err(FormFault::Memory) => return Err(TakeFault::Memory),
     };
     match follow(alloc, kept, line) {
         Ok(part) => Ok(part),
-        Err(Refused::Order) => Err(LineFault::Order),
-        Err(Refused::Memory) => Err(LineFault::Memory),
+        Err(FollowFault::OutOfOrder) => Err(TakeFault::OutOfOrder),
+        Err(FollowFault::Memory) => Err(TakeFault::Memory),
     }
 }

@@ -1,4 +1,5 @@
-//! Records of a page with their lines, and names in order of appearance.
+//! Records of a page with their lines, names in order of appearance, and the one loop that reads any book, or its first
+//! refusal.
 #![tactic(auto)]
 
 mod books;

@@ -11,7 +11,7 @@ ghost use Rattle.mari_settle.specs.Lines.{amount_at};
 use crate::rents::price_of;
 use mari_bids::{Bid, BidBook};
 use mari_market::{Activation, MOST_ORDERS, worth};
-use mari_units::{Cents, MOST_MW, Quarters};
+use mari_units::{CAP, Cents, MOST_MW, Quarters};
 
 /// The price that a bid is paid at: an upward one at the greater of the run's and the scheduled one, a downward one at
 /// the lesser.
@@ -21,7 +21,7 @@ fn paid_price(bid: &Bid, prices: &[Cents], scheduled: &[Cents]) -> i64
     requires prices { All IsCapped prices.now }
     requires scheduled { All IsCapped scheduled.now }
     ensures value { result ≡ paid_at bid.now.up (price_at prices.now bid.now.zone) (price_at scheduled.now bid.now.zone) }
-    ensures small { unsigned_abs result ≤ 9999900 }
+    ensures small { unsigned_abs result ≤ unsigned_abs CAP }
 {
     let own = price_of(prices, bid.zone);
     let other = price_of(scheduled, bid.zone);

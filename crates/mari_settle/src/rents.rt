@@ -1,6 +1,6 @@
 //! The rents of borders.
 
-ghost use Rattle.std.specs.Prelude.{◌≡◌, ◌≤◌, ◌<◌, ◌-ℤ◌, ◌^◌, ℤ, length, unsigned_abs};
+ghost use Rattle.std.specs.Prelude.{◌≡◌, ◌≤◌, ◌<◌, ◌*◌, ◌-ℤ◌, ◌^◌, ℤ, length, unsigned_abs};
 ghost use Rattle.std.specs.List.{All};
 ghost use Rattle.mari_market.specs.Activation.{IsWithinLimits};
 ghost use Rattle.mari_market.specs.Market.{IsValidBorder};
@@ -9,14 +9,14 @@ ghost use Rattle.mari_settle.specs.Conditions.{HasFlows, IsWithin};
 ghost use Rattle.mari_settle.specs.Ledger.{rent_of as rent_at, rents_of};
 
 use mari_market::{Activation, Border, Market, worth};
-use mari_units::{Cents, Quarters};
+use mari_units::{CAP, Cents, Quarters};
 
 /// A zone's price.
 pub(crate) fn price_of(prices: &[Cents], zone: u32) -> i64
     requires zone { zone < length prices.now }
     requires prices { All IsCapped prices.now }
     ensures value { result ≡ price_at prices.now zone }
-    ensures small { unsigned_abs result ≤ 9999900 }
+    ensures small { unsigned_abs result ≤ unsigned_abs CAP }
 {
     prices[zone as usize].0
 }
@@ -26,7 +26,7 @@ fn gap_of(border: &Border, prices: &[Cents]) -> i64
     requires border { IsValidBorder (length prices.now) border.now }
     requires prices { All IsCapped prices.now }
     ensures value { result ≡ price_at prices.now border.now.to -ℤ price_at prices.now border.now.from }
-    ensures small { unsigned_abs result ≤ 19999800 }
+    ensures small { unsigned_abs result ≤ 2 * unsigned_abs CAP }
 {
     price_of(prices, border.to) - price_of(prices, border.from)
 }

@@ -32,8 +32,8 @@ fn scheduled_or<'a>(prices: &'a [Cents], also: Option<&'a Prices>) -> &'a [Cents
 /// Writes the ledger of a run over whatever stands there.
 ///
 /// The market's first orders are those of the bids with these numbers, one order each; its others are demands. The
-/// activation is feasible and the prices are consistent with it. The congestion rents follow Article 30 of Regulation
-/// (EU) 2017/2195; who gets which half of them is this project's own rule. Where the quarter has scheduled prices, an
+/// activation is feasible and the prices are consistent with it. The rents, and who gets which
+/// half of them, are this project's own rule. Where the quarter has scheduled prices, an
 /// upward bid is paid at the greater of them and the run's, and a downward bid pays the lesser.
 pub fn settle_run(
     zones: &ZoneBook,

@@ -1,5 +1,5 @@
-//! Whole MW, prices, money and names: how the market files write them and how the program prints them; and the list
-//! type that all public structs of the project use.
+//! Whole MW, prices, money and names: how the market files write them and how the program prints them; the limits of
+//! files, markets and searches; and the list type that all public structs of the project use.
 //!
 //! The crate stands on std alone. Its promise: a reader answers exactly the number or the name that a text writes, or
 //! exactly why it writes none, for texts of any length; a printer writes the one printed form.
@@ -18,8 +18,8 @@ pub use appending::{put, put_number};
 pub use faults::{Memory, NameFault, NumberFault, Refusal};
 pub use items::Items;
 pub use limits::{
-    MOST_BID_MW, MOST_BIDS, MOST_BORDERS, MOST_DEMANDS, MOST_FLOW, MOST_GATES, MOST_MW, MOST_NODES,
-    MOST_PAGE, MOST_QUARTERS, MOST_RUNS, MOST_WORKERS, MOST_ZONES,
+    MOST_BID_MW, MOST_BIDS, MOST_BORDERS, MOST_DEMANDS, MOST_FLOW, MOST_GATES, MOST_MW, MOST_NAME,
+    MOST_NODES, MOST_PAGE, MOST_QUARTERS, MOST_RUNS, MOST_WORKERS, MOST_ZONES,
 };
 pub use name::{Name, is_name_text, read_name};
 pub use numbers::{CAP, Cents, Mw, Quarters};

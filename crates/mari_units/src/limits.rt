@@ -1,4 +1,4 @@
-//! The limits of the market files, of a run's market and of its search: this project's profile, each said once.
+//! The limits of the market files, of a run's market and of its search: this project's profile.
 
 /// The most bidding zones of a day.
 pub const MOST_ZONES: usize = 64;
@@ -24,11 +24,16 @@ pub const MOST_DEMANDS: usize = 512;
 /// The greatest quantity of a bid, in MW.
 pub const MOST_BID_MW: u32 = 9_999;
 
-/// The greatest size of a demand, and the greatest limit of a border in a file, in MW.
+/// The greatest size of a demand, hence the greatest quantity of an order of a market, and the greatest limit of a
+/// border in a file, in MW.
 pub const MOST_MW: u32 = 99_999;
 
 /// The greatest limit of a border in a run, in MW: its limit in the file and what flowed the other way before.
+/// It is twice `MOST_MW`, and changes with it.
 pub const MOST_FLOW: u32 = 199_998;
+
+/// The most bytes of a name.
+pub const MOST_NAME: usize = 16;
 
 /// The most bytes of a page.
 pub const MOST_PAGE: usize = 268_435_456;

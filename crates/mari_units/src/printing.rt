@@ -56,34 +56,3 @@ pub fn euros_text(alloc: Global, quarters: Quarters) -> Result<Vec<u8>, Memory>
     text.push(b'0' + (size % 10) as u8)?;
     Ok(text)
 }
-
-#[cfg(test)]
-mod tests {
-    use super::*;
-    use std::test::Fail;
-
-    #[test]
-    fn prices_as_they_are_printed(rt: HostRuntime) -> Result<(), Fail> {
-        for (cents, want) in [(-1000, "-10.00"), (-5, "-0.05"), (0, "0.00")] {
-            let text = cents_text(rt.alloc(), Cents(cents))?;
-            assert_eq!(rt; text.as_slice(), want.as_bytes());
-        }
-        let text = whole_text(rt.alloc(), -7)?;
-        assert_eq!(rt; text.as_slice(), b"-7".as_slice());
-        Ok(())
-    }
-
-    #[test]
-    fn money_as_it_is_printed(rt: HostRuntime) -> Result<(), Fail> {
-        for (quarters, want) in [
-            (200_000, "500.0000"),
-            (-1, "-0.0025"),
-            (-3, "-0.0075"),
-            (0, "0.0000"),
-        ] {
-            let text = euros_text(rt.alloc(), Quarters(quarters))?;
-            assert_eq!(rt; text.as_slice(), want.as_bytes());
-        }
-        Ok(())
-    }
-}

@@ -125,30 +125,3 @@ pub fn read_cents(text: &[u8]) -> Result<Cents, NumberFault>
     let value = size as i64;
     Ok(Cents(if minus { -value } else { value }))
 }
-
-#[cfg(test)]
-mod tests {
-    use super::*;
-
-    #[test]
-    fn numbers_as_files_write_them(rt: HostRuntime) {
-        for (text, want) in [
-            ("50.5", Ok(Cents(5050))),
-            ("-0.05", Ok(Cents(-5))),
-            ("50", Ok(Cents(5000))),
-            ("99999.00", Ok(Cents(9_999_900))),
-            ("99999.01", Err(NumberFault::OutOfRange)),
-            ("99999999999999999999999", Err(NumberFault::OutOfRange)),
-            ("1.234", Err(NumberFault::NotANumber)),
-            ("1.", Err(NumberFault::NotANumber)),
-            ("", Err(NumberFault::NotANumber)),
-            ("+1", Err(NumberFault::NotANumber)),
-        ] {
-            assert_eq!(rt; read_cents(text.as_bytes()), want, "{text}");
-        }
-        assert_eq!(rt; read_mw(b"007", 0, 9999), Ok(Mw(7)));
-        assert_eq!(rt; read_mw(b"-0", 0, 9999), Ok(Mw(0)));
-        assert_eq!(rt; read_mw(b"10000", 0, 9999), Err(NumberFault::OutOfRange));
-        assert_eq!(rt; read_mw(b"1.0", 0, 9999), Err(NumberFault::NotANumber));
-    }
-}

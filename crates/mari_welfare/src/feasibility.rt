@@ -138,15 +138,15 @@ fn is_balanced(zones: u32, orders: &[Order], mw: &[u32], borders: &[Border], flo
     requires few_orders { length orders.now ≤ MOST_ORDERS }
     requires few_borders { length borders.now ≤ MOST_BORDERS }
 
-    // What each order runs, and each border carries.
+    // A quantity for each order, and a flow for each border.
     requires orders { length mw.now ≡ length orders.now }
     requires borders { length flow.now ≡ length borders.now }
 
-    // Each lies where a market may have zones.
+    // Each order, and each border's ends, lie in zones that there may be.
     requires places { All (λ o. o.zone < MOST_ZONES) orders.now }
     requires ends { All (λ b. (b.from < MOST_ZONES) × (b.to < MOST_ZONES)) borders.now }
 
-    // Exactly what the zones' balance asks.
+    // Exactly where each zone puts in what it sends out.
     ensures { IsTrue result ↔ ((z : ℕ) → z < zones → sum_along (put_into z) orders.now mw.now ≡ sum_along (carried_out z) borders.now flow.now) }
 {
     let mut left = net_injections(orders, mw);

@@ -67,8 +67,8 @@ pub record Given : Type 0 where
 abbrev pub given_in : Seen → Given
 given_in seen = record { first = slice_get seen.words 0; second = slice_get seen.words 1; nodes = seen.nodes; workers = seen.workers }
 
--- `clear FOLDER [--nodes N] [--workers K]`, `check FOLDER`, `generate NUMBER`, `migrate FOLDER borders`, `migrate
--- FOLDER limits`
+-- `clear FOLDER [--nodes N] [--workers K]`, `check FOLDER`, `generate NUMBER`, `migrate FOLDER borders` or
+-- `migrate FOLDER limits`
 abbrev pub asked_for : Verb → Given → Option Asked
 asked_for Clears given = do
   word ← given.first

@@ -203,7 +203,7 @@ fn cleared(alloc: Global, market: &Market, budget: u32) -> Result<Cleared, Memor
     }
 }
 
-/// Clears a market by branch and bound on this thread, within a budget of 1 to 50,000 nodes.
+/// Clears a market by branch and bound on this thread, within a budget of 1 to `MOST_NODES` nodes.
 ///
 /// The first activation comes with its welfare in quarter-cents and a certificate tree of at most the budget's items.
 /// Spent comes only where the search tree is larger than the budget, with a part of it that the budget can't extend.

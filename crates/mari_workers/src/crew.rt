@@ -3,7 +3,7 @@
 use mari_market::{Cleared, Clearer, Market};
 use std::alloc::Global;
 
-/// Clears markets by a call that does so, as a closure that calls `search` with a turnstile of the caller's.
+/// Clears markets by its closure, which calls `search` with the caller's turnstile.
 ///
 /// It is a closure, since what a search sends to its threads must be known where the threads' handle is.
 #[derive(Drop)]

@@ -272,7 +272,7 @@ fn named<G: Turnstile, R: Threads + Wait + Sync>(
     )
 }
 
-/// Clears a market by branch and bound in 1 to 16 threads, within a budget of 1 to 50,000 nodes.
+/// Clears a market by branch and bound in 1 to `MOST_WORKERS` threads, within a budget of 1 to `MOST_NODES` nodes.
 ///
 /// Workers take their findings from the turnstile, outside the lock. When all have ended this thread settles what is
 /// left by itself. The answer is as that of `search_alone`; it comes if every worker ends.

@@ -9,7 +9,8 @@ ghost use Rattle.mari_lines.specs.Spelling.{price_text, money_text, zone_text};
 ghost use Rattle.mari_lines.specs.Reading.{Reads, digits_in as digits_of, value_in};
 
 use super::canonical::{is_cents_text, is_money_text, is_whole_text};
-use crate::fault::Unread;
+use crate::fault::FormFault;
+use crate::line::MOST_MONEY;
 use mari_units::{CAP, Cents, MOST_FLOW, MOST_ZONES, Name, NameFault, Quarters, read_name};
 use std::alloc::Global;
 
@@ -41,25 +42,25 @@ fn value_of(text: &[u8], unit: u128) -> i128
 }
 
 /// The whole number from `least` to `greatest` that is printed so.
-fn read_whole(text: &[u8], least: i128, greatest: i128) -> Result<i128, Unread>
+fn read_whole(text: &[u8], least: i128, greatest: i128) -> Result<i128, FormFault>
     requires { (neg_ℤ (pos (2 ^ 63)) ≤ℤ least) × (greatest ≤ℤ pos (2 ^ 63)) }
     ensures { Reads (λ z. (least ≤ℤ z) × (z ≤ℤ greatest)) signed_decimal text.now result }
 {
     let value = value_of(text, 1);
     if value < least {
-        return Err(Unread::Formless);
+        return Err(FormFault::Formless);
     }
     if value > greatest {
-        return Err(Unread::Formless);
+        return Err(FormFault::Formless);
     }
     if !is_whole_text(text, value) {
-        return Err(Unread::Formless);
+        return Err(FormFault::Formless);
     }
     Ok(value)
 }
 
 /// The number from `least` to `greatest` that is printed so.
-pub fn read_number(text: &[u8], least: u32, greatest: u32) -> Result<u32, Unread>
+pub fn read_number(text: &[u8], least: u32, greatest: u32) -> Result<u32, FormFault>
     ensures { Reads (Between least greatest) decimal text.now result }
 {
     let value = read_whole(text, i128::from(least), i128::from(greatest))?;
@@ -67,7 +68,7 @@ pub fn read_number(text: &[u8], least: u32, greatest: u32) -> Result<u32, Unread
 }
 
 /// The welfare that is printed so.
-pub fn read_welfare(text: &[u8]) -> Result<u64, Unread>
+pub fn read_welfare(text: &[u8]) -> Result<u64, FormFault>
     ensures { Reads (λ n. n < 2 ^ 63) decimal text.now result }
 {
     let value = read_whole(text, 0, i128::from(i64::MAX))?;
@@ -75,7 +76,7 @@ pub fn read_welfare(text: &[u8]) -> Result<u64, Unread>
 }
 
 /// The flow that is printed so.
-pub fn read_flow(text: &[u8]) -> Result<i64, Unread>
+pub fn read_flow(text: &[u8]) -> Result<i64, FormFault>
     ensures { Reads (λ z. Within MOST_FLOW z) signed_decimal text.now result }
 {
     let value = read_whole(text, -i128::from(MOST_FLOW), i128::from(MOST_FLOW))?;
@@ -83,52 +84,49 @@ pub fn read_flow(text: &[u8]) -> Result<i64, Unread>
 }
 
 /// The price from -CAP to CAP that is printed so.
-pub fn read_price(text: &[u8]) -> Result<Cents, Unread>
+pub fn read_price(text: &[u8]) -> Result<Cents, FormFault>
     ensures { Reads IsPriceLine price_text text.now result }
 {
     let value = value_of(text, 1);
     if value < -i128::from(CAP) {
-        return Err(Unread::Formless);
+        return Err(FormFault::Formless);
     }
     if value > i128::from(CAP) {
-        return Err(Unread::Formless);
+        return Err(FormFault::Formless);
     }
     let price = Cents(value as i64);
     if !is_cents_text(text, price) {
-        return Err(Unread::Formless);
+        return Err(FormFault::Formless);
     }
     Ok(price)
 }
 
-/// The greatest amount of money, in quarter-cents.
-const MOST_MONEY: i128 = 4_000_000_000_000_000_000;
-
 /// The money that is printed so.
-pub fn read_money(text: &[u8]) -> Result<Quarters, Unread>
+pub fn read_money(text: &[u8]) -> Result<Quarters, FormFault>
     ensures { Reads IsMoney money_text text.now result }
 {
     let value = value_of(text, 25);
-    if value < -MOST_MONEY {
-        return Err(Unread::Formless);
+    if value < -i128::from(MOST_MONEY) {
+        return Err(FormFault::Formless);
     }
-    if value > MOST_MONEY {
-        return Err(Unread::Formless);
+    if value > i128::from(MOST_MONEY) {
+        return Err(FormFault::Formless);
     }
     let money = Quarters(value);
     if !is_money_text(text, money) {
-        return Err(Unread::Formless);
+        return Err(FormFault::Formless);
     }
     Ok(money)
 }
 
 /// The name that is written so.
-pub fn read_name_text(alloc: Global, text: &[u8]) -> Result<Name, Unread>
+pub fn read_name_text(alloc: Global, text: &[u8]) -> Result<Name, FormFault>
     ensures { Reads IsName (λ name. name) text.now result }
 {
     match read_name(alloc, text) {
         Ok(name) => Ok(name),
-        Err(NameFault::NotAName) => Err(Unread::Formless),
-        Err(NameFault::Memory) => Err(Unread::Memory),
+        Err(NameFault::NotAName) => Err(FormFault::Formless),
+        Err(NameFault::Memory) => Err(FormFault::Memory),
     }
 }
 
@@ -151,18 +149,18 @@ fn is_date(text: &[u8]) -> bool
 }
 
 /// The date that is written so.
-pub fn read_date(alloc: Global, text: &[u8]) -> Result<Name, Unread>
+pub fn read_date(alloc: Global, text: &[u8]) -> Result<Name, FormFault>
     ensures { Reads IsDate (λ date. date) text.now result }
 {
     if is_date(text) {
         read_name_text(alloc, text)
     } else {
-        Err(Unread::Formless)
+        Err(FormFault::Formless)
     }
 }
 
 /// The zone that is written so: its number from 0.
-pub fn read_zone_number(text: &[u8]) -> Result<u32, Unread>
+pub fn read_zone_number(text: &[u8]) -> Result<u32, FormFault>
     ensures { Reads IsZone zone_text text.now result }
 {
     let zone = read_number(text, 1, MOST_ZONES as u32)?;

@@ -6,13 +6,13 @@ ghost use Rattle.std.specs.Fmt.{decimal, signed_decimal};
 ghost use Rattle.mari_lines.specs.Ranges.{Between, Within, IsName, IsDate, IsPriceLine, IsMoney};
 ghost use Rattle.mari_lines.specs.Spelling.{price_text, money_text, kind_text, published_text, side_text};
 ghost use Rattle.mari_lines.specs.Reading.{ReadsFirst};
-ghost use Rattle.mari_lines.specs.declared.fault.Unread.TheVariants as unread;
+ghost use Rattle.mari_lines.specs.declared.fault.FormFault.TheVariants as form_fault;
 
 use super::number::{
     read_date, read_flow, read_money, read_name_text, read_number, read_price, read_welfare,
 };
 use super::separator::split_once;
-use crate::fault::Unread;
+use crate::fault::FormFault;
 use mari_market::CutSide;
 use mari_units::{Cents, MOST_FLOW, Name, Quarters};
 use std::alloc::Global;
@@ -66,27 +66,27 @@ impl<'a> Words<'a> {
     }
 
     /// Asks for the end of the line.
-    pub fn end(&self) -> Result<(), Unread>
-        ensures { MatchResult result (λ _. self.now ≡ []) (λ fault. (fault ≡ unread.Formless) × (self.now ≢ [])) }
+    pub fn end(&self) -> Result<(), FormFault>
+        ensures { MatchResult result (λ _. self.now ≡ []) (λ fault. (fault ≡ form_fault.Formless) × (self.now ≢ [])) }
     {
         match self.rest {
             None => Ok(()),
-            Some(_) => Err(Unread::Formless),
+            Some(_) => Err(FormFault::Formless),
         }
     }
 
     /// Takes a word that must be there.
-    fn word(&mut self) -> Result<&'a [u8], Unread>
-        ensures { MatchResult result (λ word. self.old ≡ word.now ∷ self.new) (λ fault. (fault ≡ unread.Formless) × (self.old ≡ [])) }
+    fn word(&mut self) -> Result<&'a [u8], FormFault>
+        ensures { MatchResult result (λ word. self.old ≡ word.now ∷ self.new) (λ fault. (fault ≡ form_fault.Formless) × (self.old ≡ [])) }
     {
         match self.next_word() {
             Some(word) => Ok(word),
-            None => Err(Unread::Formless),
+            None => Err(FormFault::Formless),
         }
     }
 
     /// Takes a name.
-    pub fn name(&mut self, alloc: Global) -> Result<Name, Unread>
+    pub fn name(&mut self, alloc: Global) -> Result<Name, FormFault>
         ensures { ReadsFirst IsName (λ name. name) self.old self.new result }
     {
         let word = self.word()?;
@@ -94,7 +94,7 @@ impl<'a> Words<'a> {
     }
 
     /// Takes a number from `least` to `greatest`.
-    pub fn number(&mut self, least: u32, greatest: u32) -> Result<u32, Unread>
+    pub fn number(&mut self, least: u32, greatest: u32) -> Result<u32, FormFault>
         ensures { ReadsFirst (Between least greatest) decimal self.old self.new result }
     {
         let word = self.word()?;
@@ -102,7 +102,7 @@ impl<'a> Words<'a> {
     }
 
     /// Takes a welfare.
-    pub fn welfare(&mut self) -> Result<u64, Unread>
+    pub fn welfare(&mut self) -> Result<u64, FormFault>
         ensures { ReadsFirst (λ n. n < 2 ^ 63) decimal self.old self.new result }
     {
         let word = self.word()?;
@@ -110,7 +110,7 @@ impl<'a> Words<'a> {
     }
 
     /// Takes a flow.
-    pub fn flow(&mut self) -> Result<i64, Unread>
+    pub fn flow(&mut self) -> Result<i64, FormFault>
         ensures { ReadsFirst (λ z. Within MOST_FLOW z) signed_decimal self.old self.new result }
     {
         let word = self.word()?;
@@ -118,7 +118,7 @@ impl<'a> Words<'a> {
     }
 
     /// Takes a price.
-    pub fn price(&mut self) -> Result<Cents, Unread>
+    pub fn price(&mut self) -> Result<Cents, FormFault>
         ensures { ReadsFirst IsPriceLine price_text self.old self.new result }
     {
         let word = self.word()?;
@@ -126,7 +126,7 @@ impl<'a> Words<'a> {
     }
 
     /// Takes an amount of money.
-    pub fn money(&mut self) -> Result<Quarters, Unread>
+    pub fn money(&mut self) -> Result<Quarters, FormFault>
         ensures { ReadsFirst IsMoney money_text self.old self.new result }
     {
         let word = self.word()?;
@@ -134,7 +134,7 @@ impl<'a> Words<'a> {
     }
 
     /// Takes a date.
-    pub fn date(&mut self, alloc: Global) -> Result<Name, Unread>
+    pub fn date(&mut self, alloc: Global) -> Result<Name, FormFault>
         ensures { ReadsFirst IsDate (λ date. date) self.old self.new result }
     {
         let word = self.word()?;
@@ -142,18 +142,18 @@ impl<'a> Words<'a> {
     }
 
     /// Takes the number of the format, which is 1.
-    pub fn version(&mut self) -> Result<(), Unread>
+    pub fn version(&mut self) -> Result<(), FormFault>
         ensures { ReadsFirst (λ _. ⊤) (λ _. codes "1") self.old self.new result }
     {
         let word = self.word()?;
         if is_same(word, b"1") {
             return Ok(());
         }
-        Err(Unread::Formless)
+        Err(FormFault::Formless)
     }
 
     /// Takes a run's kind: whether it is a direct run.
-    pub fn direct(&mut self) -> Result<bool, Unread>
+    pub fn direct(&mut self) -> Result<bool, FormFault>
         ensures { ReadsFirst (λ _. ⊤) kind_text self.old self.new result }
     {
         let word = self.word()?;
@@ -163,11 +163,11 @@ impl<'a> Words<'a> {
         if is_same(word, b"scheduled") {
             return Ok(false);
         }
-        Err(Unread::Formless)
+        Err(FormFault::Formless)
     }
 
     /// Takes the word that says whether a run is published.
-    pub fn published(&mut self) -> Result<bool, Unread>
+    pub fn published(&mut self) -> Result<bool, FormFault>
         ensures { ReadsFirst (λ _. ⊤) published_text self.old self.new result }
     {
         let word = self.word()?;
@@ -177,11 +177,11 @@ impl<'a> Words<'a> {
         if is_same(word, b"unpublished") {
             return Ok(false);
         }
-        Err(Unread::Formless)
+        Err(FormFault::Formless)
     }
 
     /// Takes the side of a cut.
-    pub fn side(&mut self) -> Result<CutSide, Unread>
+    pub fn side(&mut self) -> Result<CutSide, FormFault>
         ensures { ReadsFirst (λ _. ⊤) side_text self.old self.new result }
     {
         let word = self.word()?;
@@ -191,6 +191,6 @@ impl<'a> Words<'a> {
         if is_same(word, b"in") {
             return Ok(CutSide::In);
         }
-        Err(Unread::Formless)
+        Err(FormFault::Formless)
     }
 }

@@ -17,7 +17,7 @@ pub fn put_field(out: &mut Vec<u8>, piece: &[u8]) -> Result<(), Memory>
 }
 
 /// Appends a space and a number.
-pub fn put_number(alloc: Global, out: &mut Vec<u8>, n: u64) -> Result<(), Memory>
+pub fn put_number_field(alloc: Global, out: &mut Vec<u8>, n: u64) -> Result<(), Memory>
     ensures { OnOk result (out.new.items ≡ out.old.items ++ 32 ∷ decimal n) }
 {
     put_field(out, n.to_string(alloc)?.as_bytes())

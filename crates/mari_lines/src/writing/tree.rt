@@ -6,7 +6,7 @@ ghost use Rattle.std.specs.Fmt.{decimal, signed_decimal};
 ghost use Rattle.mari_lines.specs.Spelling.{spaced, price_text, zone_text, side_text, line_text};
 ghost use Rattle.mari_lines.specs.declared.line.Line.TheVariants as line;
 
-use super::pieces::{put_flow, put_number, put_price};
+use super::pieces::{put_flow, put_number_field, put_price};
 use mari_market::{Cut, CutSide};
 use mari_units::{Cents, Memory, put};
 use std::alloc::Global;
@@ -33,7 +33,7 @@ fn put_mws(alloc: Global, out: &mut Vec<u8>, mws: &[u32]) -> Result<(), Memory>
     ensures { OnOk result (out.new.items ≡ out.old.items ++ spaced (map decimal mws.now)) }
 {
     for mw in mws {
-        put_number(alloc, out, u64::from(*mw))?;
+        put_number_field(alloc, out, u64::from(*mw))?;
     }
     Ok(())
 }
@@ -42,7 +42,7 @@ fn put_zones(alloc: Global, out: &mut Vec<u8>, zones: &[u32]) -> Result<(), Memo
     ensures { OnOk result (out.new.items ≡ out.old.items ++ spaced (map zone_text zones.now)) }
 {
     for zone in zones {
-        put_number(alloc, out, u64::from(*zone) + 1)?;
+        put_number_field(alloc, out, u64::from(*zone) + 1)?;
     }
     Ok(())
 }

@@ -4,7 +4,7 @@ ghost use Rattle.std.specs.Prelude.{◌≡◌, ◌<◌};
 ghost use Rattle.mari_publish.specs.Order.{after, after_ending, full_block as full_block_of, kept_with, Steps, Follows};
 ghost use Rattle.mari_publish.specs.declared.held.Held.TheVariants as held_as;
 
-use super::step::{Refused, go_on, keep, push, refuse};
+use super::step::{FollowFault, go_on, keep, push, refuse};
 use crate::held::{Ending, Held, Kept, Listing};
 use crate::publication::{Block, FullBlock, Part};
 use mari_lines::Line;
@@ -12,28 +12,28 @@ use mari_units::{MOST_BIDS, MOST_RUNS, MOST_ZONES};
 use std::alloc::Global;
 
 /// A line behind a tree.
-fn list_party(alloc: Global, ending: &mut Ending, line: Line) -> Result<(), Refused>
+fn list_party(alloc: Global, ending: &mut Ending, line: Line) -> Result<(), FollowFault>
     ensures { Steps (after_ending ending.old line) (held_as.Ending ending.old) (held_as.Ending ending.new) result }
 {
     match line {
         Line::Operator(operator) => {
             if !ending.providers.as_slice().is_empty() {
-                return Err(Refused::Order);
+                return Err(FollowFault::OutOfOrder);
             }
             if ending.operators.as_slice().len() >= MOST_ZONES {
-                return Err(Refused::Order);
+                return Err(FollowFault::OutOfOrder);
             }
             Ok(push(alloc, &mut ending.operators, operator)?)
         }
         Line::Provider(provider) => {
             if ending.providers.as_slice().len() >= MOST_BIDS {
-                return Err(Refused::Order);
+                return Err(FollowFault::OutOfOrder);
             }
             Ok(push(alloc, &mut ending.providers, provider)?)
         }
         line => {
             drop(line);
-            Err(Refused::Order)
+            Err(FollowFault::OutOfOrder)
         }
     }
 }
@@ -70,7 +70,7 @@ fn full_block(ending: Ending) -> FullBlock
 }
 
 /// The block that ends with this run's number.
-fn close_block(kept: &mut Kept, ending: Ending, run: u32) -> Result<Option<Part>, Refused>
+fn close_block(kept: &mut Kept, ending: Ending, run: u32) -> Result<Option<Part>, FollowFault>
     requires { kept.old.counts.published < MOST_RUNS }
     ensures { Follows (after kept.old (held_as.Ending ending) (Line.End run)) (kept_with kept.old (held_as.Ending ending)) kept.new result }
 {
@@ -88,7 +88,7 @@ pub fn behind_tree(
     kept: &mut Kept,
     ending: Ending,
     line: Line,
-) -> Result<Option<Part>, Refused>
+) -> Result<Option<Part>, FollowFault>
     requires { kept.old.counts.published < MOST_RUNS }
     ensures { Follows (after kept.old (held_as.Ending ending) line) (kept_with kept.old (held_as.Ending ending)) kept.new result }
 {

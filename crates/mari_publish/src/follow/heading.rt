@@ -4,7 +4,7 @@ ghost use Rattle.std.specs.Prelude.{◌≡◌, ◌≤◌, ◌+◌, []};
 ghost use Rattle.mari_publish.specs.Order.{after, starts_block, kept_with, Follows};
 ghost use Rattle.mari_publish.specs.declared.held.Held.TheVariants as held_as;
 
-use super::step::{Refused, empty, go_on, hold, push, refuse, refuse_line};
+use super::step::{FollowFault, empty, go_on, hold, push, refuse, refuse_line};
 use crate::held::{Held, Kept, Listing};
 use crate::publication::{Block, Part};
 use mari_lines::{Heading, Line, MoneyLine};
@@ -12,7 +12,7 @@ use mari_units::MOST_RUNS;
 use std::alloc::Global;
 
 /// The first line.
-pub fn at_start(kept: &mut Kept, line: Line) -> Result<Option<Part>, Refused>
+pub fn at_start(kept: &mut Kept, line: Line) -> Result<Option<Part>, FollowFault>
     ensures { Follows (after kept.old held_as.Start line) (kept_with kept.old held_as.Start) kept.new result }
 {
     match line {
@@ -29,7 +29,7 @@ pub fn at_start(kept: &mut Kept, line: Line) -> Result<Option<Part>, Refused>
 }
 
 /// The heading of a run that is published, behind the head or a block.
-fn open_run(kept: &mut Kept, heading: Heading) -> Result<Option<Part>, Refused>
+fn open_run(kept: &mut Kept, heading: Heading) -> Result<Option<Part>, FollowFault>
     requires { kept.old.counts.published + kept.old.counts.unpublished ≤ MOST_RUNS }
     ensures { Follows (starts_block kept.old (Line.Run heading)) (kept_with kept.old held_as.Between) kept.new result }
 {
@@ -40,7 +40,11 @@ fn open_run(kept: &mut Kept, heading: Heading) -> Result<Option<Part>, Refused>
 }
 
 /// The line of a run that isn't published, behind the head or a block.
-fn tell_unpublished(kept: &mut Kept, heading: Heading, count: u32) -> Result<Option<Part>, Refused>
+fn tell_unpublished(
+    kept: &mut Kept,
+    heading: Heading,
+    count: u32,
+) -> Result<Option<Part>, FollowFault>
     requires { kept.old.counts.published + kept.old.counts.unpublished ≤ MOST_RUNS }
     ensures { Follows (starts_block kept.old (Line.Unpublished heading count)) (kept_with kept.old held_as.Between) kept.new result }
 {
@@ -53,19 +57,27 @@ fn tell_unpublished(kept: &mut Kept, heading: Heading, count: u32) -> Result<Opt
 }
 
 /// The first operator's line of the totals, behind the head or a block.
-fn open_totals(alloc: Global, kept: &mut Kept, operator: MoneyLine) -> Result<Option<Part>, Refused>
+fn open_totals(
+    alloc: Global,
+    kept: &mut Kept,
+    operator: MoneyLine,
+) -> Result<Option<Part>, FollowFault>
     ensures { Follows (starts_block kept.old (Line.TotalOperator operator)) (kept_with kept.old held_as.Between) kept.new result }
 {
     let mut operators = empty(alloc);
     if push(alloc, &mut operators, operator).is_err() {
         hold(kept, Held::Between);
-        return Err(Refused::Memory);
+        return Err(FollowFault::Memory);
     }
     go_on(kept, Held::Totals(operators, empty(alloc)), None)
 }
 
 /// A line behind the head or a block.
-pub fn between_blocks(alloc: Global, kept: &mut Kept, line: Line) -> Result<Option<Part>, Refused>
+pub fn between_blocks(
+    alloc: Global,
+    kept: &mut Kept,
+    line: Line,
+) -> Result<Option<Part>, FollowFault>
     requires { kept.old.counts.published + kept.old.counts.unpublished ≤ MOST_RUNS }
     ensures { Follows (starts_block kept.old line) (kept_with kept.old held_as.Between) kept.new result }
 {
@@ -97,7 +109,7 @@ pub fn behind_heading(
     kept: &mut Kept,
     heading: Heading,
     line: Line,
-) -> Result<Option<Part>, Refused>
+) -> Result<Option<Part>, FollowFault>
     ensures { Follows (after kept.old (held_as.Run heading) line) (kept_with kept.old (held_as.Run heading)) kept.new result }
 {
     match line {

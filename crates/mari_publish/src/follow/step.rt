@@ -11,21 +11,21 @@ use mari_units::{Items, Memory};
 use std::alloc::Global;
 use std::mem;
 
-/// Why a line does not go on.
+/// Why a line was not taken: it may not stand here, or there was no memory.
 #[derive(Clone, Copy)]
-pub enum Refused {
-    Order,
+pub enum FollowFault {
+    OutOfOrder,
     Memory,
 }
 
-impl From<Memory> for Refused {
+impl From<Memory> for FollowFault {
     ghost use Rattle.std.specs.Prelude.{◌≡◌};
-    ghost use Rattle.mari_publish.specs.declared.follow.step.Refused.TheVariants.{Memory as NoMemory};
+    ghost use Rattle.mari_publish.specs.declared.follow.step.FollowFault.TheVariants.{Memory as NoMemory};
 
     ghost from_gives = { λ _ e. e ≡ NoMemory };
 
     fn from(_: Memory) -> Self {
-        Refused::Memory
+        FollowFault::Memory
     }
 }
 
@@ -41,8 +41,8 @@ pub fn push<T: Drop>(alloc: Global, items: &mut Items<T>, item: T) -> Result<(),
 }
 
 /// Whether there was memory for an item, as a step's answer.
-pub fn more(pushed: Result<(), Memory>) -> Result<(), Refused>
-    ensures { MatchResult pushed (λ _. IsOk result) (λ _. result ≡ Err Refused.Memory) }
+pub fn more(pushed: Result<(), Memory>) -> Result<(), FollowFault>
+    ensures { MatchResult pushed (λ _. IsOk result) (λ _. result ≡ Err FollowFault.Memory) }
 {
     Ok(pushed?)
 }
@@ -62,7 +62,11 @@ pub fn hold(kept: &mut Kept, held: Held)
 }
 
 /// What is held now, with the same counts.
-pub fn keep(kept: &mut Kept, held: Held, step: Result<(), Refused>) -> Result<Option<Part>, Refused>
+pub fn keep(
+    kept: &mut Kept,
+    held: Held,
+    step: Result<(), FollowFault>,
+) -> Result<Option<Part>, FollowFault>
     ensures { (expected : Option HeldValue) (old : HeldValue) → Steps expected old held step → Follows (keeps kept.old expected) (kept_with kept.old old) kept.new result }
 {
     hold(kept, held);
@@ -73,34 +77,34 @@ pub fn keep(kept: &mut Kept, held: Held, step: Result<(), Refused>) -> Result<Op
 }
 
 /// A line that may not follow: what was held is held again.
-pub fn refuse(kept: &mut Kept, held: Held) -> Result<Option<Part>, Refused>
+pub fn refuse(kept: &mut Kept, held: Held) -> Result<Option<Part>, FollowFault>
     ensures kept { kept.new ≡ kept_with kept.old held }
-    ensures refused { result ≡ Err Refused.Order }
+    ensures refused { result ≡ Err FollowFault.OutOfOrder }
 {
     hold(kept, held);
-    Err(Refused::Order)
+    Err(FollowFault::OutOfOrder)
 }
 
 /// The same, with the line.
-pub fn refuse_line(kept: &mut Kept, held: Held, line: Line) -> Result<Option<Part>, Refused>
+pub fn refuse_line(kept: &mut Kept, held: Held, line: Line) -> Result<Option<Part>, FollowFault>
     ensures kept { kept.new ≡ kept_with kept.old held }
-    ensures refused { result ≡ Err Refused.Order }
+    ensures refused { result ≡ Err FollowFault.OutOfOrder }
 {
     drop(line);
     refuse(kept, held)
 }
 
 /// A line that may not follow, where what is held is not stored yet.
-pub fn stay(held: Held, line: Line) -> (Held, Result<(), Refused>)
+pub fn stay(held: Held, line: Line) -> (Held, Result<(), FollowFault>)
     ensures held { result.0 ≡ held }
-    ensures refused { result.1 ≡ Err Refused.Order }
+    ensures refused { result.1 ≡ Err FollowFault.OutOfOrder }
 {
     drop(line);
-    (held, Err(Refused::Order))
+    (held, Err(FollowFault::OutOfOrder))
 }
 
 /// A line that may, and the part that is whole with it.
-pub fn go_on(kept: &mut Kept, held: Held, part: Option<Part>) -> Result<Option<Part>, Refused>
+pub fn go_on(kept: &mut Kept, held: Held, part: Option<Part>) -> Result<Option<Part>, FollowFault>
     ensures kept { kept.new ≡ kept_with kept.old held }
     ensures part { result ≡ Ok part }
 {

@@ -3,7 +3,7 @@
 ghost use Rattle.mari_publish.specs.Order.{after, after_totals, kept_with, Steps, Follows};
 ghost use Rattle.mari_publish.specs.declared.held.Held.TheVariants as held_as;
 
-use super::step::{Refused, go_on, keep, more, push, refuse, stay};
+use super::step::{FollowFault, go_on, keep, more, push, refuse, stay};
 use crate::held::{Held, Kept};
 use crate::publication::Part;
 use mari_lines::{AmountLine, Line, MoneyLine};
@@ -16,15 +16,21 @@ fn total_operator(
     operators: Items<MoneyLine>,
     providers: Items<AmountLine>,
     operator: MoneyLine,
-) -> (Held, Result<(), Refused>)
+) -> (Held, Result<(), FollowFault>)
     ensures { Steps (after_totals operators providers (Line.TotalOperator operator)) (held_as.Totals operators providers) result.0 result.1 }
 {
     let mut operators = operators;
     if !providers.as_slice().is_empty() {
-        return (Held::Totals(operators, providers), Err(Refused::Order));
+        return (
+            Held::Totals(operators, providers),
+            Err(FollowFault::OutOfOrder),
+        );
     }
     if operators.as_slice().len() >= MOST_ZONES {
-        return (Held::Totals(operators, providers), Err(Refused::Order));
+        return (
+            Held::Totals(operators, providers),
+            Err(FollowFault::OutOfOrder),
+        );
     }
     let step = more(push(alloc, &mut operators, operator));
     (Held::Totals(operators, providers), step)
@@ -36,12 +42,15 @@ fn total_provider(
     operators: Items<MoneyLine>,
     providers: Items<AmountLine>,
     provider: AmountLine,
-) -> (Held, Result<(), Refused>)
+) -> (Held, Result<(), FollowFault>)
     ensures { Steps (after_totals operators providers (Line.TotalProvider provider)) (held_as.Totals operators providers) result.0 result.1 }
 {
     let mut providers = providers;
     if providers.as_slice().len() >= MOST_BIDS * MOST_QUARTERS as usize {
-        return (Held::Totals(operators, providers), Err(Refused::Order));
+        return (
+            Held::Totals(operators, providers),
+            Err(FollowFault::OutOfOrder),
+        );
     }
     let step = more(push(alloc, &mut providers, provider));
     (Held::Totals(operators, providers), step)
@@ -53,7 +62,7 @@ fn after_total(
     operators: Items<MoneyLine>,
     providers: Items<AmountLine>,
     line: Line,
-) -> (Held, Result<(), Refused>)
+) -> (Held, Result<(), FollowFault>)
     ensures { Steps (after_totals operators providers line) (held_as.Totals operators providers) result.0 result.1 }
 {
     match line {
@@ -70,7 +79,7 @@ fn close_totals(
     providers: Items<AmountLine>,
     published: u32,
     unpublished: u32,
-) -> Result<Option<Part>, Refused>
+) -> Result<Option<Part>, FollowFault>
     ensures { Follows (after kept.old (held_as.Totals operators providers) (Line.Done published unpublished)) (kept_with kept.old (held_as.Totals operators providers)) kept.new result }
 {
     if published != kept.counts.published {
@@ -93,7 +102,7 @@ pub fn in_totals(
     operators: Items<MoneyLine>,
     providers: Items<AmountLine>,
     line: Line,
-) -> Result<Option<Part>, Refused>
+) -> Result<Option<Part>, FollowFault>
     ensures { Follows (after kept.old (held_as.Totals operators providers) line) (kept_with kept.old (held_as.Totals operators providers)) kept.new result }
 {
     match line {

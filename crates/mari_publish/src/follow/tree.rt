@@ -4,7 +4,7 @@ ghost use Rattle.std.specs.Prelude.{◌≡◌, ◌<◌, length, nat_lt, if◌the
 ghost use Rattle.mari_publish.specs.Order.{after, after_growing, with_item, with_pending, conflict_item, kept_with, Steps, Follows};
 ghost use Rattle.mari_publish.specs.declared.held.Held.TheVariants as held_as;
 
-use super::step::{Refused, empty, keep, more, push, stay};
+use super::step::{FollowFault, empty, keep, more, push, stay};
 use crate::held::{Ending, Growing, Held, Kept, Listing, Pending};
 use crate::publication::Part;
 use mari_lines::{Line, MoneyLine};
@@ -13,26 +13,26 @@ use mari_units::{Cents, Items};
 use std::alloc::Global;
 
 /// An item of one line.
-fn add_item(alloc: Global, growing: Growing, item: TreeItem) -> (Held, Result<(), Refused>)
+fn add_item(alloc: Global, growing: Growing, item: TreeItem) -> (Held, Result<(), FollowFault>)
     requires { growing.pending ≡ Pending.Nothing }
     ensures { Steps (if nat_lt (length growing.tree) growing.count then Some (with_item growing item) else None) (held_as.Growing growing) result.0 result.1 }
 {
     let mut growing = growing;
     if growing.tree.as_slice().len() as u64 >= u64::from(growing.count) {
         drop(item);
-        return (Held::Growing(growing), Err(Refused::Order));
+        return (Held::Growing(growing), Err(FollowFault::OutOfOrder));
     }
     let step = more(push(alloc, &mut growing.tree, item));
     (Held::Growing(growing), step)
 }
 
 /// The first of a conflict's lines.
-fn open_conflict(growing: Growing, zones: Items<u32>) -> (Held, Result<(), Refused>)
+fn open_conflict(growing: Growing, zones: Items<u32>) -> (Held, Result<(), FollowFault>)
     requires { growing.pending ≡ Pending.Nothing }
     ensures { Steps (after_growing growing Pending.Nothing (Line.Conflict zones)) (held_as.Growing growing) result.0 result.1 }
 {
     if growing.tree.as_slice().len() as u64 >= u64::from(growing.count) {
-        return (Held::Growing(growing), Err(Refused::Order));
+        return (Held::Growing(growing), Err(FollowFault::OutOfOrder));
     }
     let Growing {
         listing,
@@ -46,16 +46,20 @@ fn open_conflict(growing: Growing, zones: Items<u32>) -> (Held, Result<(), Refus
 }
 
 /// The first operator's line behind a tree.
-fn close_tree(alloc: Global, growing: Growing, operator: MoneyLine) -> (Held, Result<(), Refused>)
+fn close_tree(
+    alloc: Global,
+    growing: Growing,
+    operator: MoneyLine,
+) -> (Held, Result<(), FollowFault>)
     requires { growing.pending ≡ Pending.Nothing }
     ensures { Steps (after_growing growing Pending.Nothing (Line.Operator operator)) (held_as.Growing growing) result.0 result.1 }
 {
     if growing.tree.as_slice().len() as u64 != u64::from(growing.count) {
-        return (Held::Growing(growing), Err(Refused::Order));
+        return (Held::Growing(growing), Err(FollowFault::OutOfOrder));
     }
     let mut operators = empty(alloc);
     if push(alloc, &mut operators, operator).is_err() {
-        return (Held::Growing(growing), Err(Refused::Memory));
+        return (Held::Growing(growing), Err(FollowFault::Memory));
     }
     let Growing {
         listing,
@@ -74,7 +78,7 @@ fn close_tree(alloc: Global, growing: Growing, operator: MoneyLine) -> (Held, Re
 }
 
 /// The first line of an item, or the first operator's line.
-fn at_item(alloc: Global, growing: Growing, line: Line) -> (Held, Result<(), Refused>)
+fn at_item(alloc: Global, growing: Growing, line: Line) -> (Held, Result<(), FollowFault>)
     requires { growing.pending ≡ Pending.Nothing }
     ensures { Steps (after_growing growing Pending.Nothing line) (held_as.Growing growing) result.0 result.1 }
 {
@@ -131,7 +135,7 @@ fn close_conflict(
     prices: Items<Cents>,
     flows: Items<i64>,
     mws: Items<u32>,
-) -> (Held, Result<(), Refused>)
+) -> (Held, Result<(), FollowFault>)
     requires { growing.pending ≡ Pending.Nothing }
     ensures { Steps (Some (with_item growing (conflict_item zones prices flows mws))) (with_pending growing (Pending.Flows zones prices flows)) result.0 result.1 }
 {
@@ -146,7 +150,7 @@ fn close_conflict(
     if !has_room {
         let pending = Pending::Flows(zones, prices, flows);
         let held = tree_with(listing, count, Items::of(tree), pending);
-        return (held, Err(Refused::Memory));
+        return (held, Err(FollowFault::Memory));
     }
     tree.push_reserved(conflict_of(zones, prices, flows, mws));
     let held = tree_with(listing, count, Items::of(tree), Pending::Nothing);
@@ -154,7 +158,7 @@ fn close_conflict(
 }
 
 /// A line of a block's tree.
-fn after_grown(alloc: Global, growing: Growing, line: Line) -> (Held, Result<(), Refused>)
+fn after_grown(alloc: Global, growing: Growing, line: Line) -> (Held, Result<(), FollowFault>)
     ensures { Steps (after_growing growing growing.pending line) (held_as.Growing growing) result.0 result.1 }
 {
     let Growing {
@@ -217,7 +221,7 @@ pub fn in_tree(
     kept: &mut Kept,
     growing: Growing,
     line: Line,
-) -> Result<Option<Part>, Refused>
+) -> Result<Option<Part>, FollowFault>
     ensures { Follows (after kept.old (held_as.Growing growing) line) (kept_with kept.old (held_as.Growing growing)) kept.new result }
 {
     let (held, step) = after_grown(alloc, growing, line);

@@ -6,8 +6,8 @@ use Rattle.mari_lines.specs.Spelling.{spelling}
 use Rattle.mari_publish.specs.declared.coming.Ahead.{Ahead}
 use Rattle.mari_publish.specs.declared.coming.Coming.{Coming}
 use Rattle.mari_publish.specs.declared.held.Kept.{Kept}
-use Rattle.mari_publish.specs.declared.taking.LineFault.{LineFault}
-use Rattle.mari_publish.specs.declared.taking.LineFault.TheVariants as line_fault
+use Rattle.mari_publish.specs.declared.taking.TakeFault.{TakeFault}
+use Rattle.mari_publish.specs.declared.taking.TakeFault.TheVariants as take_fault
 use Rattle.mari_publish.specs.Gathering.{Took}
 use Rattle.mari_publish.specs.Handling.{IsFormless}
 use Rattle.mari_publish.specs.Order.{after}
@@ -39,13 +39,13 @@ returns-in-Ok-clause-handles c =
     }
 
 -- a line that was not taken: what is wrong with it, and what is kept is as it was
-formless : (k r : Kept) (here : List ℕ) (f : LineFault) → f ≡ line_fault.Form → Took k here r (Err f) → IsFormless here × (r ≡ k)
+formless : (k r : Kept) (here : List ℕ) (f : TakeFault) → f ≡ take_fault.Formless → Took k here r (Err f) → IsFormless here × (r ≡ k)
 formless k r here f is t = subst (λ g. Took k here r (Err g)) is t
 
-misplaced : (k r : Kept) (here : List ℕ) (f : LineFault) → f ≡ line_fault.Order → Took k here r (Err f) → (l : Line) × InRange l × (spelling l ≡ here) × (after k k.held l ≡ None) × (r ≡ k)
+misplaced : (k r : Kept) (here : List ℕ) (f : TakeFault) → f ≡ take_fault.OutOfOrder → Took k here r (Err f) → (l : Line) × InRange l × (spelling l ≡ here) × (after k k.held l ≡ None) × (r ≡ k)
 misplaced k r here f is t = subst (λ g. Took k here r (Err g)) is t
 
-untaken : (k r : Kept) (here : List ℕ) (f : LineFault) → f ≡ line_fault.Memory → Took k here r (Err f) → r ≡ k
+untaken : (k r : Kept) (here : List ℕ) (f : TakeFault) → f ≡ take_fault.Memory → Took k here r (Err f) → r ≡ k
 untaken k r here f is t = subst (λ g. Took k here r (Err g)) is t
 
 same_come : (c : Coming) (r : Kept) → r ≡ c.kept → come_of (record { kept = r; lines = c.lines; ahead = c.ahead; bytes = c.bytes; handled = c.handled }) ≡ come_of c

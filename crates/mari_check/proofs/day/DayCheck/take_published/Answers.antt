@@ -2,7 +2,7 @@ use Rattle.std.proofs.Common.{◌≡◌, ℕ, List, arith, refl, subst}
 use Rattle.mari_publish.specs.declared.publication.Block.{Block}
 use Rattle.mari_publish.specs.declared.publication.FullBlock.{FullBlock}
 use Rattle.mari_remain.specs.declared.books.Books.{Books}
-use Rattle.mari_progress.specs.declared.progress.Settled.{Settled}
+use Rattle.mari_progress.specs.declared.progress.SettledRun.{SettledRun}
 use Rattle.mari_progress.specs.Runs.{IsNextRun}
 use Rattle.mari_check.specs.Checked.{IsTested}
 use Rattle.mari_check.specs.declared.day.Tested.{Tested}
@@ -15,7 +15,7 @@ use Rattle.mari_check.proofs.day.DayCheck.take_published.Goals as goal
 tested-as : (books : Books) (budget : ℕ) (blocks : List Block) (b : FullBlock) (t u : Tested) → t ≡ u → IsTested books budget blocks b t → IsTested books budget blocks b u
 tested-as books budget blocks b t u e h = subst (IsTested books budget blocks b) e h
 
-next-run : (books : Books) (budget : ℕ) (blocks : List Block) (b : FullBlock) (settled : Settled) → IsTested books budget blocks b (Sound settled) → IsNextRun books blocks b settled
+next-run : (books : Books) (budget : ℕ) (blocks : List Block) (b : FullBlock) (settled : SettledRun) → IsTested books budget blocks b (Sound settled) → IsNextRun books blocks b settled
 next-run books budget blocks b settled sound = record { sound = sound-run books budget blocks b sound.0; adds = sound.1 }
 
 pub next_run-run-requires : goal.next_run-run-requires

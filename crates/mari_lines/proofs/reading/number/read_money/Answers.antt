@@ -6,14 +6,14 @@ use Rattle.mari_units.specs.Numbers.{printed_euros}
 use Rattle.mari_lines.proofs.Numbers.{money_is, size_of_within, not_below_least, not_above_greatest}
 use Rattle.mari_lines.proofs.reading.number.read_money.Goals as goal
 
-pub returns-then-value : goal.returns-then-value
-returns-then-value c = λ z r e.
+pub returns-then-value-from : goal.returns-then-value-from
+returns-then-value-from c = λ z r e.
     let small : unsigned_abs z.0 < 2 ^ 64 = omega arith in
     let below : c.value_of-value.result <ℤ neg_ℤ (pos 4000000000000000000) = grind (arith, ints) in
     not_below_least _ _ z.0 (c.value_of-value.ensures ∙ money_is z.0 c.args.text.now small e) below (size_of_within z.0 4000000000000000000 r).0
 
-pub returns-then-value-gt-MOST_MONEY : goal.returns-then-value-gt-MOST_MONEY
-returns-then-value-gt-MOST_MONEY c = λ z r e.
+pub returns-then-value-from-2 : goal.returns-then-value-from-2
+returns-then-value-from-2 c = λ z r e.
     let small : unsigned_abs z.0 < 2 ^ 64 = omega arith in
     let above : pos 4000000000000000000 <ℤ c.value_of-value.result = grind (arith, ints) in
     not_above_greatest _ _ z.0 (c.value_of-value.ensures ∙ money_is z.0 c.args.text.now small e) above (size_of_within z.0 4000000000000000000 r).1

@@ -5,11 +5,11 @@ use Rattle.mari_publish.specs.declared.held.Ending.{Ending}
 use Rattle.mari_publish.specs.declared.held.Held.TheVariants as held
 use Rattle.mari_publish.specs.declared.publication.Part.{Part}
 use Rattle.mari_publish.specs.declared.held.Kept.{Kept}
-use Rattle.mari_publish.specs.declared.follow.step.Refused.{Refused}
+use Rattle.mari_publish.specs.declared.follow.step.FollowFault.{FollowFault}
 use Rattle.mari_publish.specs.Order.{after, after_ending, keeps, kept_with, Follows}
 use Rattle.mari_publish.proofs.follow.ending.behind_tree.Goals as goal
 
-ends : (k new : Kept) (e : Ending) (l : Line) (r : Result (Option Part) Refused) → ((x : ℕ) → l ≡ line.End x → ⊥)
+ends : (k new : Kept) (e : Ending) (l : Line) (r : Result (Option Part) FollowFault) → ((x : ℕ) → l ≡ line.End x → ⊥)
     → Follows (keeps k (after_ending e l)) (kept_with k (held.Ending e)) new r → Follows (after k (held.Ending e) l) (kept_with k (held.Ending e)) new r
 ends k new e (line.End n) r h f = absurd (h n refl)
 ends k new e _ r h f = f

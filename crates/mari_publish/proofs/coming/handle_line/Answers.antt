@@ -51,16 +51,16 @@ untaken k r here f is t = subst (λ g. Took k here r (Err g)) is t
 same_come : (c : Coming) (r : Kept) → r ≡ c.kept → come_of (record { kept = r; lines = c.lines; ahead = c.ahead; bytes = c.bytes; handled = c.handled }) ≡ come_of c
 same_come c r e = ap (λ (k : Kept). come_of (record { kept = k; lines = c.lines; ahead = c.ahead; bytes = c.bytes; handled = c.handled })) e
 
-pub returns-in-Err-Form-clause-handles : goal.returns-in-Err-Form-clause-handles
-returns-in-Err-Form-clause-handles c =
+pub returns-in-Err-Formless-clause-handles : goal.returns-in-Err-Formless-clause-handles
+returns-in-Err-Formless-clause-handles c =
     let is = from_place c.args.coming.now.bytes.items c.deref.result.now c.args.coming.now.handled _ c.deref.ensures.value c.in-Some.ensures.1 in
-    let t = formless c.args.coming.now.kept c.take_line.new.kept c.in-Some.here.now c.in-Err-Form.field-0 c.in-Err-Form.field-0-is c.in-Err-Form.ensures in
+    let t = formless c.args.coming.now.kept c.take_line.new.kept c.in-Some.here.now c.in-Err-Formless.field-0 c.in-Err-Formless.field-0-is c.in-Err-Formless.ensures in
     (inr (c.in-Some.here.now, c.in-Some._after.now, record { all = c.in-Kept.is; is = is; whole = c.in-Some.ensures.0 }, t.0), refl, same_come c.args.coming.now c.take_line.new.kept t.1)
 
-pub returns-in-Err-Order-clause-handles : goal.returns-in-Err-Order-clause-handles
-returns-in-Err-Order-clause-handles c =
+pub returns-in-Err-OutOfOrder-clause-handles : goal.returns-in-Err-OutOfOrder-clause-handles
+returns-in-Err-OutOfOrder-clause-handles c =
     let is = from_place c.args.coming.now.bytes.items c.deref.result.now c.args.coming.now.handled _ c.deref.ensures.value c.in-Some.ensures.1 in
-    let t = misplaced c.args.coming.now.kept c.take_line.new.kept c.in-Some.here.now c.in-Err-Order.field-0 c.in-Err-Order.field-0-is c.in-Err-Order.ensures in (
+    let t = misplaced c.args.coming.now.kept c.take_line.new.kept c.in-Some.here.now c.in-Err-OutOfOrder.field-0 c.in-Err-OutOfOrder.field-0-is c.in-Err-OutOfOrder.ensures in (
       record {
         here = c.in-Some.here.now;
         behind = c.in-Some._after.now;

@@ -21,13 +21,13 @@ take_line-requires-clause-room c = has_room c.args.bytes.now c.loop-here.rest.no
 pub overflow_add-number : goal.overflow_add-number
 overflow_add-number c = let small = number_fits c.args.bytes.now c.loop-here.rest.now c.loop-here.number (seen c.loop-here.gathered) c.loop-here.kept c.loop-here.invariant in omega (arith, small)
 
-pub returns-in-Err-Form : goal.returns-in-Err-Form
-returns-in-Err-Form c = bad_line c.args.bytes.now c.loop-here.rest.now c.in-Some.here.now c.in-Some.after.now c.loop-here.number (seen c.loop-here.gathered) c.loop-here.kept c.take_line.new.kept
-    c.loop-here.invariant c.in-Some.ensures.0 c.in-Some.ensures.1 _ c.in-Err-Form.field-0-is c.in-Err-Form.ensures
+pub returns-in-Err-Formless : goal.returns-in-Err-Formless
+returns-in-Err-Formless c = bad_line c.args.bytes.now c.loop-here.rest.now c.in-Some.here.now c.in-Some.after.now c.loop-here.number (seen c.loop-here.gathered) c.loop-here.kept c.take_line.new.kept
+    c.loop-here.invariant c.in-Some.ensures.0 c.in-Some.ensures.1 _ c.in-Err-Formless.field-0-is c.in-Err-Formless.ensures
 
-pub returns-in-Err-Order : goal.returns-in-Err-Order
-returns-in-Err-Order c = bad_order c.args.bytes.now c.loop-here.rest.now c.in-Some.here.now c.in-Some.after.now c.loop-here.number (seen c.loop-here.gathered) c.loop-here.kept c.take_line.new.kept
-    c.loop-here.invariant c.in-Some.ensures.1 _ c.in-Err-Order.field-0-is c.in-Err-Order.ensures
+pub returns-in-Err-OutOfOrder : goal.returns-in-Err-OutOfOrder
+returns-in-Err-OutOfOrder c = bad_order c.args.bytes.now c.loop-here.rest.now c.in-Some.here.now c.in-Some.after.now c.loop-here.number (seen c.loop-here.gathered) c.loop-here.kept c.take_line.new.kept
+    c.loop-here.invariant c.in-Some.ensures.1 _ c.in-Err-OutOfOrder.field-0-is c.in-Err-OutOfOrder.ensures
 
 pub loop-here-smaller : goal.loop-here-smaller
 loop-here-smaller c = shorter c.loop-here.rest.now c.in-Some.here.now c.in-Some.after.now c.in-Some.ensures.1

@@ -1,92 +1,136 @@
-//! An indivisible bid that is larger than the demand, and a bid that its own price would reject.
+//! Certificates and trees of an indivisible bid that is larger than the demand, of a bid that its own price would
+//! reject, and of two equal bids.
 
-use mari_gates::prefix_feasible;
-use mari_market::{
-    Activation, Conflict, Cut, CutSide, GateInfo, Leaf, Market, Order, Prefix, Prices, Side,
-    TreeItem,
+use crate::small::{
+    DOWN, MarketRow, OVERSIZED, PARADOX, UP, activation_of, market_of, prefix, prices_of,
 };
+use mari_gates::prefix_feasible;
+use mari_market::{Conflict, Cut, CutSide, Leaf, Market, Prefix, Prices, TreeItem};
 use mari_proofs::{TreeVerdict, check_leaf, check_tree, dual_value};
 use mari_units::{Cents, Items, Quarters};
-use std::alloc::Global;
+use std::alloc::{AllocError, Global};
 use std::test::Fail;
 
-const CLOSED: Prefix = Prefix {
-    length: 1,
-    bits: [0, 0, 0, 0, 0, 0, 0, 0],
-};
+/// A certificate: a potential of the one zone; a cut of it; or the chain of a conflict at the price 10.00, which the
+/// indivisible bid and 30 MW of the other make.
+enum LeafRow {
+    Bound(i64),
+    Cut(CutSide),
+    Conflict(&'static [u32]),
+}
 
-const OPEN: Prefix = Prefix {
-    length: 1,
-    bits: [1, 0, 0, 0, 0, 0, 0, 0],
-};
+/// A market, the word of its one gate, a certificate and a cutoff; and whether it holds.
+struct Case {
+    name: &'static str,
+    market: MarketRow,
+    open: bool,
+    leaf: LeafRow,
+    cutoff: i128,
+    holds: bool,
+}
 
-fn order(side: Side, price: i64, least: u32, greatest: u32, gate: Option<u32>) -> Order {
-    Order {
-        zone: 0,
-        side,
-        price: Cents(price),
-        least,
-        greatest,
-        gate,
+const CASES: &[Case] = &[
+    Case {
+        name: "an oversized bid is cut",
+        market: OVERSIZED,
+        open: true,
+        leaf: LeafRow::Cut(CutSide::Out),
+        cutoff: 0,
+        holds: true,
+    },
+    Case {
+        name: "a closed bid is not cut",
+        market: OVERSIZED,
+        open: false,
+        leaf: LeafRow::Cut(CutSide::Out),
+        cutoff: 0,
+        holds: false,
+    },
+    Case {
+        name: "an oversized bid is not cut for too little",
+        market: OVERSIZED,
+        open: true,
+        leaf: LeafRow::Cut(CutSide::In),
+        cutoff: 0,
+        holds: false,
+    },
+    Case {
+        name: "a potential bounds at its dual value",
+        market: OVERSIZED,
+        open: false,
+        leaf: LeafRow::Bound(5000),
+        cutoff: 299_847_000,
+        holds: true,
+    },
+    Case {
+        name: "a potential doesn't bound below its dual value",
+        market: OVERSIZED,
+        open: false,
+        leaf: LeafRow::Bound(5000),
+        cutoff: 299_846_999,
+        holds: false,
+    },
+    Case {
+        name: "a potential past the cap bounds nothing",
+        market: OVERSIZED,
+        open: false,
+        leaf: LeafRow::Bound(9_999_901),
+        cutoff: 999_999_999_999,
+        holds: false,
+    },
+    Case {
+        name: "a rejected paradox bid has a conflict",
+        market: PARADOX,
+        open: true,
+        leaf: LeafRow::Conflict(&[0]),
+        cutoff: 0,
+        holds: true,
+    },
+    Case {
+        name: "a closed paradox bid has none",
+        market: PARADOX,
+        open: false,
+        leaf: LeafRow::Conflict(&[0]),
+        cutoff: 0,
+        holds: false,
+    },
+    Case {
+        name: "a conflict has a chain",
+        market: PARADOX,
+        open: true,
+        leaf: LeafRow::Conflict(&[]),
+        cutoff: 0,
+        holds: false,
+    },
+];
+
+fn conflict_of(alloc: Global, chain: &[u32]) -> Result<Conflict, AllocError> {
+    let chain = chain.to_vec(alloc)?;
+    let potentials = prices_of(alloc, &[1000])?;
+    let activation = activation_of(alloc, &[30, 20, 50], &[])?;
+    Ok(Conflict {
+        chain: Items::of(chain),
+        potentials,
+        activation,
+    })
+}
+
+fn cut_of(alloc: Global, side: CutSide) -> Result<Cut, AllocError> {
+    let zones = Items::of([0].to_vec(alloc)?);
+    Ok(Cut { side, zones })
+}
+
+fn leaf_of(alloc: Global, row: &LeafRow) -> Result<Leaf, AllocError> {
+    match row {
+        LeafRow::Bound(cents) => Ok(Leaf::Bound(prices_of(alloc, &[*cents])?)),
+        LeafRow::Cut(side) => Ok(Leaf::Cut(cut_of(alloc, *side)?)),
+        LeafRow::Conflict(chain) => Ok(Leaf::Conflict(conflict_of(alloc, chain)?)),
     }
 }
 
-/// One zone with one gate.
-fn one_zone(alloc: Global, orders: Vec<Order>) -> Result<Market, Fail> {
-    let gate = GateInfo {
-        group: None,
-        parent: None,
-    };
-    Ok(Market {
-        zones: 1,
-        borders: Items::of(Vec::new(alloc)),
-        orders: Items::of(orders),
-        gates: Items::of(vec![in alloc; gate]?),
-        reference: Cents(4000),
-    })
-}
-
-/// An indivisible bid of 40 MW at 30.00, a bid of 100 MW at 50.00, and a demand of 30 MW.
-fn oversized_bid(alloc: Global) -> Result<Market, Fail> {
-    let indivisible = order(Side::Inject, 3000, 40, 40, Some(0));
-    let plain = order(Side::Inject, 5000, 0, 100, None);
-    let demand = order(Side::Withdraw, 9_999_900, 0, 30, None);
-    one_zone(alloc, vec![in alloc; indivisible, plain, demand]?)
-}
-
-/// A bid of 40 MW at 10.00, an indivisible bid of 20 MW at 20.00, and a demand of 50 MW.
-fn paradox_bid(alloc: Global) -> Result<Market, Fail> {
-    let plain = order(Side::Inject, 1000, 0, 40, None);
-    let indivisible = order(Side::Inject, 2000, 20, 20, Some(0));
-    let demand = order(Side::Withdraw, 9_999_900, 0, 50, None);
-    one_zone(alloc, vec![in alloc; plain, indivisible, demand]?)
-}
-
-fn prices(alloc: Global, cents: i64) -> Result<Prices, Fail> {
-    Ok(Prices {
-        cents: Items::of(vec![in alloc; Cents(cents)]?),
-    })
-}
-
-fn bound(alloc: Global, cents: i64) -> Result<Leaf, Fail> {
-    Ok(Leaf::Bound(prices(alloc, cents)?))
-}
-
-fn cut(alloc: Global, side: CutSide) -> Result<Leaf, Fail> {
-    let zones = Items::of(vec![in alloc; 0]?);
-    Ok(Leaf::Cut(Cut { side, zones }))
-}
-
-/// The indivisible bid and 30 MW of the other, which make the price 10.00.
-fn conflict(alloc: Global, chain: Vec<u32>) -> Result<Leaf, Fail> {
-    Ok(Leaf::Conflict(Conflict {
-        chain: Items::of(chain),
-        potentials: prices(alloc, 1000)?,
-        activation: Activation {
-            mw: Items::of(vec![in alloc; 30, 20, 50]?),
-            flow: Items::of(Vec::new(alloc)),
-        },
-    }))
+/// The prefix that decides one gate.
+fn one_gate(open: bool) -> Prefix {
+    prefix(1, if open { 1 } else { 0 })
 }
 
 /// Whether a certificate holds, where the prefix is feasible.
@@ -98,83 +142,22 @@ fn holds(market: &Market, prefix: Prefix, leaf: &Leaf, cutoff: i128) -> Option<b
     }
 }
 
-/// The verdict on a tree for the gate word of this many gates with these bits, where the market and the word are
-/// valid.
-fn verdict_for(
-    market: &Market,
-    tree: &[TreeItem],
-    cutoff: i128,
-    word: Prefix,
-) -> Option<TreeVerdict> {
-    if market.valid()
-        && prefix_feasible(market, &word)
-        && word.length as usize == market.gates.as_slice().len()
-    {
-        Some(check_tree(market, tree, Quarters(cutoff), &word))
-    } else {
-        None
+/// Whether the certificate of a case holds.
+fn holds_in(alloc: Global, case: &Case) -> Result<Option<bool>, Fail> {
+    let leaf = leaf_of(alloc, &case.leaf)?;
+    let market = market_of(alloc, &case.market)?;
+    let holds = holds(&market, one_gate(case.open), &leaf, case.cutoff);
+    drop(market);
+    drop(leaf);
+    Ok(holds)
+}
+
+#[test]
+fn certificates_that_hold_or_not(rt: HostRuntime) -> Result<(), Fail> {
+    for case in CASES {
+        let holds = holds_in(rt.alloc(), case)?;
+        assert_eq!(rt; holds, Some(case.holds), "{}", case.name);
     }
-}
-
-/// The verdict on a tree for the word that closes the one gate.
-fn verdict(market: &Market, tree: &[TreeItem], cutoff: i128) -> Option<TreeVerdict> {
-    verdict_for(market, tree, cutoff, CLOSED)
-}
-
-#[test]
-fn an_oversized_bid_is_cut(rt: HostRuntime) -> Result<(), Fail> {
-    let market = oversized_bid(rt.alloc())?;
-    let too_much = cut(rt.alloc(), CutSide::Out)?;
-    assert_eq!(rt; holds(&market, OPEN, &too_much, 0), Some(true));
-    assert_eq!(rt; holds(&market, CLOSED, &too_much, 0), Some(false));
-    let too_little = cut(rt.alloc(), CutSide::In)?;
-    assert_eq!(rt; holds(&market, OPEN, &too_little, 0), Some(false));
-    Ok(())
-}
-
-#[test]
-fn potentials_bound_at_their_dual_value(rt: HostRuntime) -> Result<(), Fail> {
-    let market = oversized_bid(rt.alloc())?;
-    let at_50 = bound(rt.alloc(), 5000)?;
-    assert_eq!(rt; holds(&market, CLOSED, &at_50, 299_847_000), Some(true));
-    assert_eq!(rt; holds(&market, CLOSED, &at_50, 299_846_999), Some(false));
-    let past_the_cap = bound(rt.alloc(), 9_999_901)?;
-    assert_eq!(rt;
-        holds(&market, CLOSED, &past_the_cap, 999_999_999_999),
-        Some(false)
-    );
-    Ok(())
-}
-
-#[test]
-fn an_oversized_bid_has_a_tree_of_three(rt: HostRuntime) -> Result<(), Fail> {
-    let alloc = rt.alloc();
-    let market = oversized_bid(alloc)?;
-    let tree = vec![in alloc;
-        TreeItem::Branch,
-        TreeItem::Leaf(bound(alloc, 5000)?),
-        TreeItem::Leaf(cut(alloc, CutSide::Out)?),
-    ]?;
-    assert_eq!(rt;
-        verdict(&market, &tree, 299_847_000),
-        Some(TreeVerdict::Holds)
-    );
-    assert_eq!(rt;
-        verdict(&market, &tree, 299_846_999),
-        Some(TreeVerdict::BadLeaf(1))
-    );
-    Ok(())
-}
-
-#[test]
-fn a_rejected_paradox_bid_has_a_conflict(rt: HostRuntime) -> Result<(), Fail> {
-    let alloc = rt.alloc();
-    let market = paradox_bid(alloc)?;
-    let one_zone = conflict(alloc, vec![in alloc; 0]?)?;
-    assert_eq!(rt; holds(&market, OPEN, &one_zone, 0), Some(true));
-    assert_eq!(rt; holds(&market, CLOSED, &one_zone, 0), Some(false));
-    let no_chain = conflict(alloc, Vec::new(alloc))?;
-    assert_eq!(rt; holds(&market, OPEN, &no_chain, 0), Some(false));
     Ok(())
 }
 
@@ -193,82 +176,169 @@ fn value(market: &Market, prefix: Prefix, potentials: &Prices) -> Option<i128> {
 
 #[test]
 fn a_rejected_paradox_bid_leaves_its_dual_value(rt: HostRuntime) -> Result<(), Fail> {
-    let market = paradox_bid(rt.alloc())?;
-    let cap = prices(rt.alloc(), 9_999_900)?;
-    assert_eq!(rt; value(&market, CLOSED, &cap), Some(399_956_000));
+    let cap = prices_of(rt.alloc(), &[9_999_900])?;
+    let market = market_of(rt.alloc(), &PARADOX)?;
+    let value = value(&market, one_gate(false), &cap);
+    drop(market);
+    drop(cap);
+    assert_eq!(rt; value, Some(399_956_000));
     Ok(())
 }
 
-#[test]
-fn a_tree_that_ends_too_early(rt: HostRuntime) -> Result<(), Fail> {
-    let alloc = rt.alloc();
-    let market = paradox_bid(alloc)?;
-    let whole = vec![in alloc;
-        TreeItem::Branch,
-        TreeItem::Leaf(bound(alloc, 9_999_900)?),
-        TreeItem::Leaf(conflict(alloc, vec![in alloc; 0]?)?),
-    ]?;
-    assert_eq!(rt;
-        verdict(&market, &whole, 399_956_000),
-        Some(TreeVerdict::Holds)
-    );
-    assert_eq!(rt;
-        verdict(&market, &whole[..2], 399_956_000),
-        Some(TreeVerdict::BadShape(2))
-    );
-    Ok(())
+/// Two indivisible bids that are equal, for a demand that one of them meets.
+const TWO_EQUAL: MarketRow = MarketRow {
+    limits: &[],
+    orders: &[
+        (0, UP, 30, 30, 3000, Some(0)),
+        (0, UP, 30, 30, 3000, Some(1)),
+        (0, UP, 0, 100, 5000, None),
+        (0, DOWN, 0, 30, 9_999_900, None),
+    ],
+    gates: &[(None, None), (None, None)],
+};
+
+/// A market, a tree of certificates and branches, a cutoff, the word of so many gates that has these bits, and the
+/// verdict on the tree for that word.
+struct TreeCase {
+    name: &'static str,
+    market: MarketRow,
+    tree: &'static [Option<LeafRow>],
+    cutoff: i128,
+    gates: u32,
+    bits: u64,
+    verdict: TreeVerdict,
 }
 
-#[test]
-fn a_tree_with_an_item_left_over(rt: HostRuntime) -> Result<(), Fail> {
-    let alloc = rt.alloc();
-    let market = paradox_bid(alloc)?;
-    let two = vec![in alloc; TreeItem::Leaf(bound(alloc, 9_999_900)?), TreeItem::Branch]?;
-    assert_eq!(rt;
-        verdict(&market, &two, 499_999_999_999),
-        Some(TreeVerdict::BadShape(1))
-    );
-    Ok(())
-}
+/// A closed bid that the price 50.00 bounds, and an open one that is cut.
+const OVERSIZED_TREE: &[Option<LeafRow>] = &[
+    None,
+    Some(LeafRow::Bound(5000)),
+    Some(LeafRow::Cut(CutSide::Out)),
+];
 
-/// The word of two gates with these bits.
-fn of_two(bits: u64) -> Prefix {
-    Prefix {
-        length: 2,
-        bits: [bits, 0, 0, 0, 0, 0, 0, 0],
+/// A bound for each word of two gates but the one with both open.
+const TWO_EQUAL_TREE: &[Option<LeafRow>] = &[
+    None,
+    None,
+    Some(LeafRow::Bound(5000)),
+    Some(LeafRow::Bound(3000)),
+    Some(LeafRow::Bound(3000)),
+];
+
+const TREE_CASES: &[TreeCase] = &[
+    TreeCase {
+        name: "an oversized bid has a tree of three",
+        market: OVERSIZED,
+        tree: OVERSIZED_TREE,
+        cutoff: 299_847_000,
+        gates: 1,
+        bits: 0,
+        verdict: TreeVerdict::Holds,
+    },
+    TreeCase {
+        name: "a bound above the cutoff",
+        market: OVERSIZED,
+        tree: OVERSIZED_TREE,
+        cutoff: 299_846_999,
+        gates: 1,
+        bits: 0,
+        verdict: TreeVerdict::BadLeaf(1),
+    },
+    TreeCase {
+        name: "a bound and a conflict",
+        market: PARADOX,
+        tree: &[
+            None,
+            Some(LeafRow::Bound(9_999_900)),
+            Some(LeafRow::Conflict(&[0])),
+        ],
+        cutoff: 399_956_000,
+        gates: 1,
+        bits: 0,
+        verdict: TreeVerdict::Holds,
+    },
+    TreeCase {
+        name: "a tree that ends too early",
+        market: PARADOX,
+        tree: &[None, Some(LeafRow::Bound(9_999_900))],
+        cutoff: 399_956_000,
+        gates: 1,
+        bits: 0,
+        verdict: TreeVerdict::BadShape(2),
+    },
+    TreeCase {
+        name: "a tree with an item left over",
+        market: PARADOX,
+        tree: &[Some(LeafRow::Bound(9_999_900)), None],
+        cutoff: 499_999_999_999,
+        gates: 1,
+        bits: 0,
+        verdict: TreeVerdict::BadShape(1),
+    },
+    TreeCase {
+        name: "of two equal bids the later is the first",
+        market: TWO_EQUAL,
+        tree: TWO_EQUAL_TREE,
+        cutoff: 299_907_000,
+        gates: 2,
+        bits: 2,
+        verdict: TreeVerdict::Holds,
+    },
+    TreeCase {
+        name: "of two equal bids the earlier is not the first",
+        market: TWO_EQUAL,
+        tree: TWO_EQUAL_TREE,
+        cutoff: 299_907_000,
+        gates: 2,
+        bits: 1,
+        verdict: TreeVerdict::BadLeaf(3),
+    },
+];
+
+fn item_of(alloc: Global, row: &Option<LeafRow>) -> Result<TreeItem, AllocError> {
+    match row {
+        Some(leaf) => Ok(TreeItem::Leaf(leaf_of(alloc, leaf)?)),
+        None => Ok(TreeItem::Branch),
     }
 }
 
+/// The tree of these rows, where `None` is a branch.
+fn tree_of(alloc: Global, rows: &[Option<LeafRow>]) -> Result<Vec<TreeItem>, AllocError> {
+    let mut tree = Vec::new(alloc);
+    for row in rows {
+        tree.push(item_of(alloc, row)?)?;
+    }
+    Ok(tree)
+}
+
+/// The verdict on a tree for a word, where the market and the word are valid.
+fn verdict(market: &Market, tree: &[TreeItem], cutoff: i128, word: Prefix) -> Option<TreeVerdict> {
+    if market.valid()
+        && prefix_feasible(market, &word)
+        && word.length as usize == market.gates.as_slice().len()
+    {
+        Some(check_tree(market, tree, Quarters(cutoff), &word))
+    } else {
+        None
+    }
+}
+
+/// The verdict on the tree of a case.
+fn verdict_in(alloc: Global, case: &TreeCase) -> Result<Option<TreeVerdict>, Fail> {
+    let market = market_of(alloc, &case.market)?;
+    let tree = tree_of(alloc, case.tree)?;
+    let word = prefix(case.gates, case.bits);
+    let verdict = verdict(&market, &tree, case.cutoff, word);
+    drop(tree);
+    drop(market);
+    Ok(verdict)
+}
+
 #[test]
-fn of_two_equal_bids_the_later_is_the_first(rt: HostRuntime) -> Result<(), Fail> {
-    let alloc = rt.alloc();
-    let orders = vec![in alloc;
-        order(Side::Inject, 3000, 30, 30, Some(0)),
-        order(Side::Inject, 3000, 30, 30, Some(1)),
-        order(Side::Inject, 5000, 0, 100, None),
-        order(Side::Withdraw, 9_999_900, 0, 30, None),
-    ]?;
-    let free = GateInfo {
-        group: None,
-        parent: None,
-    };
-    let market = Market {
-        zones: 1,
-        borders: Items::of(Vec::new(alloc)),
-        orders: Items::of(orders),
-        gates: Items::of(vec![in alloc; free, free]?),
-        reference: Cents(4000),
-    };
-    let tree = vec![in alloc;
-        TreeItem::Branch,
-        TreeItem::Branch,
-        TreeItem::Leaf(bound(alloc, 5000)?),
-        TreeItem::Leaf(bound(alloc, 3000)?),
-        TreeItem::Leaf(bound(alloc, 3000)?),
-    ]?;
-    let first = verdict_for(&market, &tree, 299_907_000, of_two(2));
-    assert_eq!(rt; first, Some(TreeVerdict::Holds));
-    let other = verdict_for(&market, &tree, 299_907_000, of_two(1));
-    assert_eq!(rt; other, Some(TreeVerdict::BadLeaf(3)));
+fn verdicts_on_trees(rt: HostRuntime) -> Result<(), Fail> {
+    for case in TREE_CASES {
+        let verdict = verdict_in(rt.alloc(), case)?;
+        assert_eq!(rt; verdict, Some(case.verdict), "{}", case.name);
+    }
     Ok(())
 }

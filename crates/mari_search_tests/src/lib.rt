@@ -19,6 +19,8 @@ mod node;
 #[cfg(test)]
 mod prices;
 #[cfg(test)]
+mod small;
+#[cfg(test)]
 mod solvers;
 #[cfg(test)]
 mod welfare;

@@ -4,12 +4,13 @@
 ghost use Rattle.std.specs.Prelude.{◌≡◌, take, IfOk, [], ◌∷◌};
 ghost use Rattle.mari_search_tests.specs.Example.{oversized, first, at_root, at_closed, at_open, all_events, taken_twice};
 
+use crate::small::{Few, few};
 use mari_core::{Event, FinishFault, ReplayFault, Search, StepFault, replay};
 use mari_market::{
-    Activation, Attained, Cut, CutSide, Finding, GateInfo, Leaf, Market, Order, PartItem, Prices,
-    Relaxed, Side, TreeItem,
+    Activation, Attained, Clearing, Cut, CutSide, Finding, GateInfo, Leaf, Market, Order, PartItem,
+    Prefix, Prices, Relaxed, Side, TreeItem,
 };
-use mari_units::{Cents, Items};
+use mari_units::{Cents, Items, Memory};
 use std::alloc::Global;
 use std::test::Fail;
 
@@ -193,7 +194,10 @@ fn refusal(alloc: Global, market: &Market) -> Result<Option<ReplayFault>, Fail>
 {
     let events = events_that_take_twice(alloc)?;
     let first = best(alloc)?;
-    Ok(replay(alloc, market, 2, first, 3, events).err())
+    match replay(alloc, market, 2, first, 3, events) {
+        Ok(_search) => Ok(None),
+        Err(fault) => Ok(Some(fault)),
+    }
 }
 
 /// Whether the tree has the one bound at 50.00 and the one cut.
@@ -212,85 +216,185 @@ fn is_published_tree(tree: &[TreeItem]) -> bool {
     }
 }
 
+/// The welfare, what each order runs, and whether the tree is the published one.
+type Told = (u64, Few, bool);
+
+fn told(clearing: &Clearing) -> Told {
+    let mw = few(clearing.activation.mw.as_slice());
+    let is_tree = is_published_tree(clearing.tree.as_slice());
+    (clearing.welfare, mw, is_tree)
+}
+
+/// What is told of the clearing after all events.
+fn finished(alloc: Global, market: &Market) -> Result<Told, Fail>
+    requires { market.now ≡ oversized }
+{
+    let search = search_after(alloc, market, 7)?;
+    let clearing = search.finish(alloc)?;
+    let told = told(&clearing);
+    drop(clearing);
+    Ok(told)
+}
+
+/// The first four items of a part of the search tree.
+type Part = [Option<PartItem>; 4];
+
+fn item_at(part: &[PartItem], place: usize) -> Option<PartItem> {
+    match part.get(place) {
+        Some(item) => Some(*item),
+        None => None,
+    }
+}
+
+fn first_items(part: Result<Vec<PartItem>, Memory>) -> Part {
+    match part {
+        Ok(part) => [
+            item_at(&part, 0),
+            item_at(&part, 1),
+            item_at(&part, 2),
+            item_at(&part, 3),
+        ],
+        Err(_memory) => [None; 4],
+    }
+}
+
+/// The part of the tree after all events but the last, and why there is no clearing then.
+fn unfinished(alloc: Global, market: &Market) -> Result<(Part, Option<FinishFault>), Fail>
+    requires { market.now ≡ oversized }
+{
+    let search = search_after(alloc, market, 6)?;
+    let part = first_items(search.part(alloc));
+    match search.finish(alloc) {
+        Ok(_clearing) => Ok((part, None)),
+        Err(fault) => Ok((part, Some(fault))),
+    }
+}
+
 #[test]
 fn two_actors_close_the_tree(rt: HostRuntime) -> Result<(), Fail> {
-    let alloc = rt.alloc();
-    let market = market(alloc)?;
-    let search = search_after(alloc, &market, 7)?;
-    let clearing = search.finish(alloc)?;
-    assert_eq!(rt; clearing.welfare, 299_847_000);
-    assert_eq!(rt; clearing.activation.mw.as_slice(), [0, 30, 30].as_slice());
-    assert!(rt; is_published_tree(clearing.tree.as_slice()));
+    let market = market(rt.alloc())?;
+    let finished = finished(rt.alloc(), &market);
+    drop(market);
+    let want = (299_847_000, few(&[0, 30, 30]), true);
+    assert_eq!(rt; finished?, want);
     Ok(())
 }
 
 #[test]
 fn a_leaf_that_is_not_closed_is_named(rt: HostRuntime) -> Result<(), Fail> {
-    let alloc = rt.alloc();
-    let market = market(alloc)?;
-    let search = search_after(alloc, &market, 6)?;
-    let part = search.part(alloc)?;
-    assert_eq!(rt;
-        part.as_slice(),
-        [PartItem::Branch, PartItem::Closed, PartItem::Pending].as_slice()
-    );
-    assert_eq!(rt; search.finish(alloc).err(), Some(FinishFault::NotClosed(2)));
+    let market = market(rt.alloc())?;
+    let unfinished = unfinished(rt.alloc(), &market);
+    drop(market);
+    let part = [
+        Some(PartItem::Branch),
+        Some(PartItem::Closed),
+        Some(PartItem::Pending),
+        None,
+    ];
+    assert_eq!(rt; unfinished?, (part, Some(FinishFault::NotClosed(2))));
     Ok(())
 }
 
 #[test]
 fn a_node_is_not_taken_twice(rt: HostRuntime) -> Result<(), Fail> {
-    let alloc = rt.alloc();
-    let market = market(alloc)?;
+    let market = market(rt.alloc())?;
+    let refusal = refusal(rt.alloc(), &market);
+    drop(market);
     let fault = StepFault::NotUntaken;
-    assert_eq!(rt;
-        refusal(alloc, &market)?,
-        Some(ReplayFault { place: 4, fault })
-    );
+    assert_eq!(rt; refusal?, Some(ReplayFault { place: 4, fault }));
     Ok(())
+}
+
+/// Whether a search within two nodes is full, which node waits, and the part of its tree.
+fn full(alloc: Global, market: &Market) -> Result<(bool, Option<u32>, Part), Fail>
+    requires { market.now ≡ oversized }
+{
+    let search = small_search(alloc, market)?;
+    let part = first_items(search.part(alloc));
+    let told = (search.is_full(), search.untaken(), part);
+    drop(search);
+    Ok(told)
 }
 
 #[test]
 fn children_that_do_not_fit_the_budget_are_not_made(rt: HostRuntime) -> Result<(), Fail> {
-    let alloc = rt.alloc();
-    let market = market(alloc)?;
-    let search = small_search(alloc, &market)?;
-    assert!(rt; search.is_full());
-    assert_eq!(rt; search.untaken(), Some(0));
-    let part = search.part(alloc)?;
-    assert_eq!(rt; part.as_slice(), [PartItem::Pending].as_slice());
+    let market = market(rt.alloc())?;
+    let full = full(rt.alloc(), &market);
+    drop(market);
+    let part = [Some(PartItem::Pending), None, None, None];
+    assert_eq!(rt; full?, (true, Some(0), part));
     Ok(())
 }
 
-#[test]
-fn steps_are_refused_in_order(rt: HostRuntime) -> Result<(), Fail> {
-    let alloc = rt.alloc();
-    let market = market(alloc)?;
-    let mut search = new_search(alloc, &market)?;
-    let take = search.step(Event::Take { actor: 2, node: 1 });
-    assert_eq!(rt; take, Err(StepFault::NoActor));
-    let take = search.step(Event::Take { actor: 1, node: 1 });
-    assert_eq!(rt; take, Err(StepFault::NoNode));
-    let give_back = search.step(Event::GiveBack { actor: 1, node: 0 });
-    assert_eq!(rt; give_back, Err(StepFault::NotTaken));
-    assert_eq!(rt; search.step(Event::Take { actor: 1, node: 0 }), Ok(()));
-    assert_eq!(rt; search.untaken(), None);
-    let give_back = search.step(Event::GiveBack { actor: 0, node: 0 });
-    assert_eq!(rt; give_back, Err(StepFault::NotTaken));
-    assert_eq!(rt; search.step(Event::GiveBack { actor: 1, node: 0 }), Ok(()));
-    assert_eq!(rt; search.untaken(), Some(0));
-    Ok(())
+/// How many gates a prefix decides, if it is there.
+fn length_of(prefix: Option<Prefix>) -> Option<u32> {
+    match prefix {
+        Some(prefix) => Some(prefix.length),
+        None => None,
+    }
+}
+
+/// How many gates nodes 0 and 1 decide, what actors 1 and 2 saw, and whether the search is full.
+type Start = ([Option<u32>; 2], [Option<u64>; 2], bool);
+
+fn start_of<'m>(search: &Search<'m>) -> Start {
+    let lengths = [
+        length_of(search.prefix_of(0)),
+        length_of(search.prefix_of(1)),
+    ];
+    let seen = [search.seen(1), search.seen(2)];
+    (lengths, seen, search.is_full())
+}
+
+/// What steps give: two by an actor or of a node that isn't there, and one that gives back what isn't taken; one that
+/// takes the root, and which node waits then; and two that give it back, and which node waits then.
+type Steps = (
+    [Result<(), StepFault>; 4],
+    Option<u32>,
+    [Result<(), StepFault>; 2],
+    Option<u32>,
+);
+
+fn steps<'m>(search: &mut Search<'m>) -> Steps {
+    let takes = [
+        search.step(Event::Take { actor: 2, node: 1 }),
+        search.step(Event::Take { actor: 1, node: 1 }),
+        search.step(Event::GiveBack { actor: 1, node: 0 }),
+        search.step(Event::Take { actor: 1, node: 0 }),
+    ];
+    let taken = search.untaken();
+    let returns = [
+        search.step(Event::GiveBack { actor: 0, node: 0 }),
+        search.step(Event::GiveBack { actor: 1, node: 0 }),
+    ];
+    (takes, taken, returns, search.untaken())
+}
+
+/// What a new search tells, and what steps give then.
+fn begun(alloc: Global, market: &Market) -> Result<(Start, Steps), Fail>
+    requires { market.now ≡ oversized }
+{
+    let mut search = new_search(alloc, market)?;
+    let start = start_of(&search);
+    let steps = steps(&mut search);
+    drop(search);
+    Ok((start, steps))
 }
 
 #[test]
-fn a_new_search_tells_its_root_and_what_was_seen(rt: HostRuntime) -> Result<(), Fail> {
-    let alloc = rt.alloc();
-    let market = market(alloc)?;
-    let search = new_search(alloc, &market)?;
-    let root = search.prefix_of(0).ok_or("no root")?;
-    assert_eq!(rt; root.length, 0);
-    assert_eq!(rt; search.prefix_of(1), None);
-    assert_eq!(rt; [search.seen(1), search.seen(2)], [Some(299_847_000), None]);
-    assert!(rt; !search.is_full());
+fn a_new_search_refuses_steps_in_order(rt: HostRuntime) -> Result<(), Fail> {
+    let market = market(rt.alloc())?;
+    let begun = begun(rt.alloc(), &market);
+    drop(market);
+    let (start, steps) = begun?;
+    assert_eq!(rt; start, ([Some(0), None], [Some(299_847_000), None], false));
+    let takes = [
+        Err(StepFault::NoActor),
+        Err(StepFault::NoNode),
+        Err(StepFault::NotTaken),
+        Ok(()),
+    ];
+    let returns = [Err(StepFault::NotTaken), Ok(())];
+    assert_eq!(rt; steps, (takes, None, returns, Some(0)));
     Ok(())
 }

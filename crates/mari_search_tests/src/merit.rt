@@ -4,33 +4,58 @@ ghost use Rattle.std.specs.Prelude.{◌≡◌, ◌≤◌, ◌↔◌, [], IsTrue,
 ghost use Rattle.std.specs.List.{AllZip};
 ghost use Rattle.mari_merit.specs.Ladder.{AreBounds};
 
-use mari_market::{Bounds, Market, Order, Side};
-use mari_merit::{Step, clear_plain, ladder_of};
-use mari_units::{Cents, Items};
-use std::alloc::Global;
-use std::process::Abort;
+use crate::small::{DOWN, DOWNWARD, ELASTIC, Few, MarketRow, UP, few, market_of};
+use mari_market::{Bounds, Clearing, Market, Side};
+use mari_merit::{Ladder, clear_plain, ladder_of};
+use mari_units::Items;
+use std::alloc::{AllocError, Global};
 use std::test::Fail;
 
-fn order(side: Side, price: i64, greatest: u32) -> Order {
-    Order {
-        zone: 0,
-        side,
-        price: Cents(price),
-        least: 0,
-        greatest,
-        gate: None,
-    }
+/// A market, and what clears it: what each order runs, and the welfare in quarter-cents.
+struct Case {
+    name: &'static str,
+    market: MarketRow,
+    mw: &'static [u32],
+    welfare: u64,
 }
 
-fn market(alloc: Global, orders: &[Order]) -> Result<Market, Fail> {
-    Ok(Market {
-        zones: 1,
-        borders: Items::of(Vec::new(alloc)),
-        orders: Items::of(orders.to_vec(alloc)?),
-        gates: Items::of(Vec::new(alloc)),
-        reference: Cents(4000),
-    })
-}
+const CASES: &[Case] = &[
+    Case {
+        name: "one bid and one demand",
+        market: MarketRow {
+            limits: &[],
+            orders: &[
+                (0, UP, 0, 100, 5000, None),
+                (0, DOWN, 0, 60, 9_999_900, None),
+            ],
+            gates: &[],
+        },
+        mw: &[60, 60],
+        welfare: 599_694_000,
+    },
+    Case {
+        name: "nothing traded",
+        market: MarketRow {
+            limits: &[],
+            orders: &[],
+            gates: &[],
+        },
+        mw: &[],
+        welfare: 0,
+    },
+    Case {
+        name: "elastic demand",
+        market: ELASTIC,
+        mw: &[50, 20, 30],
+        welfare: 19_000,
+    },
+    Case {
+        name: "downward bid",
+        market: DOWNWARD,
+        mw: &[30, 30],
+        welfare: 300_027_000,
+    },
+];
 
 /// Whether there is one zone, and neither a border nor a gate.
 fn is_lone(market: &Market) -> bool
@@ -39,55 +64,40 @@ fn is_lone(market: &Market) -> bool
     market.zones == 1 && market.borders.as_slice().is_empty() && market.gates.as_slice().is_empty()
 }
 
-/// Clears a market, and compares what each order runs and the welfare in quarter-cents.
-fn compare(
-    rt: &impl Abort,
-    alloc: Global,
-    orders: &[Order],
-    mw: &[u32],
-    welfare: u64,
-) -> Result<(), Fail> {
-    let market = market(alloc, orders)?;
-    assert!(rt; market.valid());
-    assert!(rt; is_lone(&market));
-    let clearing = clear_plain(alloc, &market)?;
-    assert_eq!(rt; clearing.activation.mw.as_slice(), mw);
-    assert_eq!(rt; clearing.welfare, welfare);
-    assert_eq!(rt; clearing.tree.as_slice().len(), 1);
+/// What each order runs, the welfare, and how many items the tree has.
+type Told = (Few, u64, usize);
+
+fn told(clearing: &Clearing) -> Told {
+    let mw = few(clearing.activation.mw.as_slice());
+    (mw, clearing.welfare, clearing.tree.as_slice().len())
+}
+
+/// What is told of the clearing of a market.
+fn cleared(alloc: Global, market: &Market) -> Result<Told, Fail> {
+    if !(market.valid() && is_lone(market)) {
+        return Err("the market is valid, with one zone and no gate".into());
+    }
+    let clearing = clear_plain(alloc, market)?;
+    let told = told(&clearing);
+    drop(clearing);
+    Ok(told)
+}
+
+/// What is told of a case.
+fn told_in(alloc: Global, case: &Case) -> Result<Told, Fail> {
+    let market = market_of(alloc, &case.market)?;
+    let told = cleared(alloc, &market);
+    drop(market);
+    told
+}
+
+#[test]
+fn plain_markets(rt: HostRuntime) -> Result<(), Fail> {
+    for case in CASES {
+        let want = (few(case.mw), case.welfare, 1);
+        assert_eq!(rt; told_in(rt.alloc(), case)?, want, "{}", case.name);
+    }
     Ok(())
-}
-
-#[test]
-fn one_bid_and_one_demand(rt: HostRuntime) -> Result<(), Fail> {
-    let orders = [
-        order(Side::Inject, 5000, 100),
-        order(Side::Withdraw, 9_999_900, 60),
-    ];
-    compare(&rt, rt.alloc(), &orders, &[60, 60], 599_694_000)
-}
-
-#[test]
-fn nothing_traded(rt: HostRuntime) -> Result<(), Fail> {
-    compare(&rt, rt.alloc(), &[], &[], 0)
-}
-
-#[test]
-fn elastic_demand(rt: HostRuntime) -> Result<(), Fail> {
-    let orders = [
-        order(Side::Inject, 4000, 50),
-        order(Side::Withdraw, 4200, 20),
-        order(Side::Withdraw, 4500, 30),
-    ];
-    compare(&rt, rt.alloc(), &orders, &[50, 20, 30], 19_000)
-}
-
-#[test]
-fn downward_bid(rt: HostRuntime) -> Result<(), Fail> {
-    let orders = [
-        order(Side::Withdraw, 1000, 100),
-        order(Side::Inject, -9_999_900, 30),
-    ];
-    compare(&rt, rt.alloc(), &orders, &[30, 30], 300_027_000)
 }
 
 fn are_in_order(least: &[u32], greatest: &[u32]) -> bool
@@ -112,51 +122,88 @@ fn are_bounds(market: &Market, bounds: &Bounds) -> bool
         && are_in_order(least, greatest)
 }
 
-/// Makes a ladder of zone 0 within these bounds, and compares the order, price and room of each step.
-fn compare_ladder(
-    rt: &impl Abort,
+/// Six orders of one zone.
+const SIX_ORDERS: MarketRow = MarketRow {
+    limits: &[],
+    orders: &[
+        (0, UP, 0, 30, 6000, None),
+        (0, DOWN, 0, 40, 2500, None),
+        (0, UP, 0, 100, 2000, None),
+        (0, UP, 0, 10, 6000, None),
+        (0, DOWN, 0, 80, 9_999_900, None),
+        (0, UP, 0, 20, -500, None),
+    ],
+    gates: &[],
+};
+
+/// What each of them may run.
+fn bounds(alloc: Global) -> Result<Bounds, AllocError> {
+    let least = [0, 15, 0, 10, 0, 5].to_vec(alloc)?;
+    let greatest = [30, 40, 100, 10, 80, 20].to_vec(alloc)?;
+    Ok(Bounds {
+        least: Items::of(least),
+        greatest: Items::of(greatest),
+    })
+}
+
+/// The order, the price and the room of a step.
+type StepRow = (u32, i64, u32);
+
+/// The step at a place, if there is one.
+fn step_at(ladder: &Ladder, place: usize) -> Option<StepRow> {
+    match ladder.steps.as_slice().get(place) {
+        Some(step) => Some((step.order, step.price.0, step.room)),
+        None => None,
+    }
+}
+
+/// The first four steps of the ladder of one side.
+fn steps(
     alloc: Global,
-    orders: &[Order],
-    least: &[u32],
+    market: &Market,
+    bounds: &Bounds,
     side: Side,
-    steps: &[(u32, i64, u32)],
-) -> Result<(), Fail> {
-    let market = market(alloc, orders)?;
-    let greatest = |order: &Order| order.greatest;
-    let bounds = Bounds {
-        least: Items::of(least.to_vec(alloc)?),
-        greatest: Items::of(orders.iter().map(greatest).collect(alloc)?),
-    };
-    assert!(rt; market.valid());
-    assert!(rt; are_bounds(&market, &bounds));
-    assert!(rt; market.zones > 0);
-    let ladder = ladder_of(alloc, &market, &bounds, 0, side)?;
-    let step = |step: &Step| (step.order, step.price.0, step.room);
-    let found: Vec<(u32, i64, u32)> = ladder.steps.as_slice().iter().map(step).collect(alloc)?;
-    assert_eq!(rt; found.as_slice(), steps);
-    Ok(())
+) -> Result<[Option<StepRow>; 4], Fail> {
+    if !(market.valid() && market.zones > 0 && are_bounds(market, bounds)) {
+        return Err("the market is valid, and has these bounds".into());
+    }
+    let ladder = ladder_of(alloc, market, bounds, 0, side)?;
+    let steps = [
+        step_at(&ladder, 0),
+        step_at(&ladder, 1),
+        step_at(&ladder, 2),
+        step_at(&ladder, 3),
+    ];
+    drop(ladder);
+    Ok(steps)
+}
+
+/// The steps of the ladders of both sides.
+fn ladders(
+    alloc: Global,
+    market: &Market,
+    bounds: &Bounds,
+) -> Result<[[Option<StepRow>; 4]; 2], Fail> {
+    Ok([
+        steps(alloc, market, bounds, UP)?,
+        steps(alloc, market, bounds, DOWN)?,
+    ])
 }
 
 #[test]
 fn a_ladder_has_one_side_in_merit_order(rt: HostRuntime) -> Result<(), Fail> {
-    let orders = [
-        order(Side::Inject, 6000, 30),
-        order(Side::Withdraw, 2500, 40),
-        order(Side::Inject, 2000, 100),
-        order(Side::Inject, 6000, 10),
-        order(Side::Withdraw, 9_999_900, 80),
-        order(Side::Inject, -500, 20),
+    let market = market_of(rt.alloc(), &SIX_ORDERS)?;
+    let bounds = bounds(rt.alloc())?;
+    let ladders = ladders(rt.alloc(), &market, &bounds);
+    drop(bounds);
+    drop(market);
+    let injections = [
+        Some((5, -500, 15)),
+        Some((2, 2000, 100)),
+        Some((0, 6000, 30)),
+        None,
     ];
-    let least = [0, 15, 0, 10, 0, 5];
-    let injections = [(5, -500, 15), (2, 2000, 100), (0, 6000, 30)];
-    compare_ladder(&rt, rt.alloc(), &orders, &least, Side::Inject, &injections)?;
-    let withdrawals = [(4, 9_999_900, 80), (1, 2500, 25)];
-    compare_ladder(
-        &rt,
-        rt.alloc(),
-        &orders,
-        &least,
-        Side::Withdraw,
-        &withdrawals,
-    )
+    let withdrawals = [Some((4, 9_999_900, 80)), Some((1, 2500, 25)), None, None];
+    assert_eq!(rt; ladders?, [injections, withdrawals]);
+    Ok(())
 }

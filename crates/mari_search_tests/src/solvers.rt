@@ -1,212 +1,162 @@
 //! Relaxed optima of small markets by both solvers, and a cut where there is none.
 
+use crate::small::{
+    CONGESTED, DOWN, Few, MarketRow, OVERSIZED, PARADOX, UP, few, market_of, prefix,
+};
 use mari_flow::{SolveFault, Solved, solve};
 use mari_gates::prefix_feasible;
-use mari_market::{Activation, Border, Cut, CutSide, GateInfo, Market, Order, Prefix, Side};
+use mari_market::{Cut, CutSide, Market, Prefix};
 use mari_paths::solve_from;
-use mari_units::{Cents, Items};
+use mari_units::Cents;
 use std::alloc::Global;
 use std::test::Fail;
 
-/// The prefix of so many gates that has this word of bits.
-fn prefix(length: u32, bits: u64) -> Prefix {
-    Prefix {
-        length,
-        bits: [bits, 0, 0, 0, 0, 0, 0, 0],
+/// What a solver finds.
+type Found = Result<Solved, SolveFault>;
+
+/// What is told of it: the welfare of the optimum, or the side of a cut of zone 0 alone.
+type Told = Result<u64, Option<CutSide>>;
+
+/// A market, the prefix of so many gates that has this word of bits, and what each solver tells there.
+struct Case {
+    name: &'static str,
+    market: MarketRow,
+    length: u32,
+    bits: u64,
+    told: Told,
+}
+
+const CASES: &[Case] = &[
+    Case {
+        name: "an oversized bid, open, is a cut",
+        market: OVERSIZED,
+        length: 1,
+        bits: 1,
+        told: Err(Some(CutSide::Out)),
+    },
+    Case {
+        name: "an oversized bid, closed",
+        market: OVERSIZED,
+        length: 1,
+        bits: 0,
+        told: Ok(299_847_000),
+    },
+    Case {
+        name: "an oversized bid, undecided",
+        market: OVERSIZED,
+        length: 0,
+        bits: 0,
+        told: Ok(299_907_000),
+    },
+    Case {
+        name: "a paradox bid, open",
+        market: PARADOX,
+        length: 1,
+        bits: 1,
+        told: Ok(499_925_000),
+    },
+    Case {
+        name: "a paradox bid, closed",
+        market: PARADOX,
+        length: 1,
+        bits: 0,
+        told: Ok(399_956_000),
+    },
+    Case {
+        name: "a relaxed value below 0 is stated as 0",
+        market: MarketRow {
+            limits: &[],
+            orders: &[(0, UP, 10, 10, 3000, Some(0)), (0, DOWN, 0, 10, 1000, None)],
+            gates: &[(None, None)],
+        },
+        length: 1,
+        bits: 1,
+        told: Ok(0),
+    },
+];
+
+/// The side of a cut, where it is of zone 0 alone.
+fn side_of(cut: &Cut) -> Option<CutSide> {
+    match cut.zones.as_slice() {
+        [0] => Some(cut.side),
+        _ => None,
     }
 }
 
-fn injection(zone: u32, price: i64, greatest: u32) -> Order {
-    Order {
-        zone,
-        side: Side::Inject,
-        price: Cents(price),
-        least: 0,
-        greatest,
-        gate: None,
+fn told(found: Found) -> Told {
+    match found {
+        Ok(solved) => Ok(solved.welfare),
+        Err(SolveFault::Cut(cut)) => Err(side_of(&cut)),
+        Err(SolveFault::Memory) => Err(None),
     }
 }
 
-/// A demand that pays any price.
-fn demand(zone: u32, greatest: u32) -> Order {
-    Order {
-        zone,
-        side: Side::Withdraw,
-        price: Cents(9_999_900),
-        least: 0,
-        greatest,
-        gate: None,
-    }
-}
-
-/// A bid of exactly this quantity, of gate 0.
-fn indivisible(price: i64, quantity: u32) -> Order {
-    Order {
-        zone: 0,
-        side: Side::Inject,
-        price: Cents(price),
-        least: quantity,
-        greatest: quantity,
-        gate: Some(0),
-    }
-}
-
-/// Cheap energy in the first of two zones, and more demand in the second than the border carries.
-fn two_zones_congested(alloc: Global) -> Result<Market, Fail> {
-    let border = Border {
-        from: 0,
-        to: 1,
-        limit: 50,
-        back: 50,
-    };
-    let orders = vec![in alloc;
-        injection(0, 2000, 100),
-        injection(1, 6000, 100),
-        demand(1, 80),
-    ]?;
-    Ok(Market {
-        zones: 2,
-        borders: Items::of(vec![in alloc; border]?),
-        orders: Items::of(orders),
-        gates: Items::of(Vec::new(alloc)),
-        reference: Cents(4000),
-    })
-}
-
-/// One zone with an indivisible bid and other orders.
-fn with_an_indivisible_bid(alloc: Global, orders: Vec<Order>) -> Result<Market, Fail> {
-    let gate = GateInfo {
-        group: None,
-        parent: None,
-    };
-    Ok(Market {
-        zones: 1,
-        borders: Items::of(Vec::new(alloc)),
-        orders: Items::of(orders),
-        gates: Items::of(vec![in alloc; gate]?),
-        reference: Cents(4000),
-    })
-}
-
-/// A cheap bid of 40 MW that doesn't fit a demand of 30 MW.
-fn oversized_indivisible_bid(alloc: Global) -> Result<Market, Fail> {
-    let orders = vec![in alloc;
-        indivisible(3000, 40),
-        injection(0, 5000, 100),
-        demand(0, 30),
-    ]?;
-    with_an_indivisible_bid(alloc, orders)
-}
-
-/// A bid of up to 40 MW and an indivisible one of 20 MW, which is dearer, for a demand of 50 MW.
-fn paradox_bid(alloc: Global) -> Result<Market, Fail> {
-    let orders = vec![in alloc;
-        injection(0, 1000, 40),
-        indivisible(2000, 20),
-        demand(0, 50),
-    ]?;
-    with_an_indivisible_bid(alloc, orders)
-}
-
-/// What the plain and the fast solver find at a prefix.
-fn solved(alloc: Global, market: &Market, prefix: Prefix) -> Result<[Found; 2], Fail> {
+/// What is told of what the plain and the fast solver find at a prefix.
+fn told_by_both(alloc: Global, market: &Market, prefix: Prefix) -> Result<[Told; 2], Fail> {
     if !(market.valid() && prefix_feasible(market, &prefix)) {
         return Err("the market is valid, and the prefix is feasible in it".into());
     }
     Ok([
-        solve(alloc, market, &prefix),
-        solve_from(alloc, market, &prefix, None),
+        told(solve(alloc, market, &prefix)),
+        told(solve_from(alloc, market, &prefix, None)),
     ])
 }
 
-type Found = Result<Solved, SolveFault>;
-
-/// The welfare that each solver states, where there is an optimum.
-fn stated(alloc: Global, market: &Market, prefix: Prefix) -> Result<[Option<u64>; 2], Fail> {
-    let [plain, fast] = solved(alloc, market, prefix)?;
-    Ok([welfare_of(plain), welfare_of(fast)])
+/// What is told of a case.
+fn told_in(alloc: Global, case: &Case) -> Result<[Told; 2], Fail> {
+    let market = market_of(alloc, &case.market)?;
+    let told = told_by_both(alloc, &market, prefix(case.length, case.bits));
+    drop(market);
+    told
 }
 
-fn welfare_of(found: Found) -> Option<u64> {
-    found.ok().map(|solved| solved.welfare)
-}
-
-/// The cut, where there is no optimum.
-fn cut_of(found: Found) -> Option<Cut> {
-    match found {
-        Err(SolveFault::Cut(cut)) => Some(cut),
-        Err(SolveFault::Memory) => None,
-        Ok(_solved) => None,
+#[test]
+fn welfare_or_a_cut(rt: HostRuntime) -> Result<(), Fail> {
+    for case in CASES {
+        assert_eq!(rt; told_in(rt.alloc(), case)?, [case.told; 2], "{}", case.name);
     }
+    Ok(())
+}
+
+/// The welfare, what the orders run, what flows over the one border, and the potentials of the two zones.
+type Optimum = Option<(u64, Few, i64, [i64; 2])>;
+
+fn optimum(found: Found) -> Optimum {
+    match found {
+        Ok(solved) => optimum_in(&solved),
+        Err(_fault) => None,
+    }
+}
+
+fn optimum_in(solved: &Solved) -> Optimum {
+    let flow = solved.activation.flow.as_slice();
+    let mw = few(solved.activation.mw.as_slice());
+    match (flow, solved.potentials.cents.as_slice()) {
+        ([flow], [Cents(first), Cents(second)]) => {
+            Some((solved.welfare, mw, *flow, [*first, *second]))
+        }
+        _ => None,
+    }
+}
+
+/// The optima that the plain and the fast solver find where no gate is decided.
+fn optima(alloc: Global, market: &Market) -> Result<[Optimum; 2], Fail> {
+    let root = prefix(0, 0);
+    if !(market.valid() && prefix_feasible(market, &root)) {
+        return Err("the market is valid, and the prefix is feasible in it".into());
+    }
+    Ok([
+        optimum(solve(alloc, market, &root)),
+        optimum(solve_from(alloc, market, &root, None)),
+    ])
 }
 
 #[test]
 fn relaxed_optimum_of_two_zones(rt: HostRuntime) -> Result<(), Fail> {
-    let alloc = rt.alloc();
-    let market = two_zones_congested(alloc)?;
-    for found in solved(alloc, &market, prefix(0, 0))? {
-        let solved = found.ok().ok_or("an optimum is there")?;
-        assert_eq!(rt; solved.welfare, 799_712_000);
-        assert_eq!(rt; solved.activation.mw.as_slice(), [50, 30, 80].as_slice());
-        assert_eq!(rt; solved.activation.flow.as_slice(), [50].as_slice());
-        assert_eq!(rt;
-            solved.potentials.cents.as_slice(),
-            [Cents(2000), Cents(6000)].as_slice()
-        );
-    }
-    Ok(())
-}
-
-#[test]
-fn oversized_bid_open_is_a_cut(rt: HostRuntime) -> Result<(), Fail> {
-    let alloc = rt.alloc();
-    let market = oversized_indivisible_bid(alloc)?;
-    for found in solved(alloc, &market, prefix(1, 1))? {
-        let cut = cut_of(found).ok_or("no activation runs the bid")?;
-        assert_eq!(rt; cut.side, CutSide::Out);
-        assert_eq!(rt; cut.zones.as_slice(), [0].as_slice());
-    }
-    Ok(())
-}
-
-#[test]
-fn oversized_bid_closed_or_undecided(rt: HostRuntime) -> Result<(), Fail> {
-    let alloc = rt.alloc();
-    let market = oversized_indivisible_bid(alloc)?;
-    assert_eq!(rt;
-        stated(alloc, &market, prefix(1, 0))?,
-        [Some(299_847_000); 2]
-    );
-    assert_eq!(rt;
-        stated(alloc, &market, prefix(0, 0))?,
-        [Some(299_907_000); 2]
-    );
-    Ok(())
-}
-
-#[test]
-fn paradox_bid_open_or_closed(rt: HostRuntime) -> Result<(), Fail> {
-    let alloc = rt.alloc();
-    let market = paradox_bid(alloc)?;
-    assert_eq!(rt;
-        stated(alloc, &market, prefix(1, 1))?,
-        [Some(499_925_000); 2]
-    );
-    assert_eq!(rt;
-        stated(alloc, &market, prefix(1, 0))?,
-        [Some(399_956_000); 2]
-    );
-    Ok(())
-}
-
-#[test]
-fn relaxed_value_below_0_is_stated_as_0(rt: HostRuntime) -> Result<(), Fail> {
-    let alloc = rt.alloc();
-    let cheap = Order {
-        price: Cents(1000),
-        ..demand(0, 10)
-    };
-    let market = with_an_indivisible_bid(alloc, vec![in alloc; indivisible(3000, 10), cheap]?)?;
-    assert_eq!(rt; stated(alloc, &market, prefix(1, 1))?, [Some(0); 2]);
+    let market = market_of(rt.alloc(), &CONGESTED)?;
+    let found = optima(rt.alloc(), &market);
+    drop(market);
+    let want = Some((799_712_000, few(&[50, 30, 80]), 50, [2000, 6000]));
+    assert_eq!(rt; found?, [want; 2]);
     Ok(())
 }

@@ -1,9 +1,55 @@
 //! Texts that come in pieces.
 
-use crate::texts::TWO_ZONES;
+use crate::texts::{DONE_ONE, TWO_ZONES, made};
 use mari_publish::{Block, Part, TextFault, TextReader};
 use std::alloc::Global;
 use std::test::Fail;
+
+/// The parts of a text, the most bytes of a piece of it, the marks of the parts that come of it, whether the reader
+/// waits for more at the end, and what it tells of the text.
+struct Case {
+    name: &'static str,
+    parts: &'static [(&'static str, u32)],
+    most: usize,
+    marks: &'static [u64],
+    waits: bool,
+    want: Result<(), TextFault>,
+}
+
+const CASES: &[Case] = &[
+    Case {
+        name: "a text in single bytes",
+        parts: &[(TWO_ZONES, 1), (DONE_ONE, 1)],
+        most: 1,
+        marks: &[96, 799_712_000, 2],
+        waits: true,
+        want: Ok(()),
+    },
+    Case {
+        name: "the same text in one piece",
+        parts: &[(TWO_ZONES, 1), (DONE_ONE, 1)],
+        most: 65_536,
+        marks: &[96, 799_712_000, 2],
+        waits: true,
+        want: Ok(()),
+    },
+    Case {
+        name: "a line of 40,000 digits that ends",
+        parts: &[(TWO_ZONES, 1), ("7", 40_000), ("\n", 1), (DONE_ONE, 1)],
+        most: 1_000,
+        marks: &[96, 799_712_000],
+        waits: false,
+        want: Err(TextFault::BadLine(21)),
+    },
+    Case {
+        name: "a line of 40,000 digits with no end",
+        parts: &[(TWO_ZONES, 1), ("7", 40_000)],
+        most: 1_000,
+        marks: &[96, 799_712_000],
+        waits: true,
+        want: Err(TextFault::Truncated(21)),
+    },
+];
 
 /// A number that tells what kind of part it is, and what is in it.
 fn mark_of(part: &Part) -> u64 {
@@ -15,6 +61,18 @@ fn mark_of(part: &Part) -> u64 {
     }
 }
 
+/// The mark of the next part that is there.
+fn next_mark(alloc: Global, reader: &mut TextReader) -> Result<Option<u64>, TextFault> {
+    match reader.next(alloc)? {
+        Some(part) => {
+            let mark = mark_of(&part);
+            drop(part);
+            Ok(Some(mark))
+        }
+        None => Ok(None),
+    }
+}
+
 /// Adds the marks of the parts that are there, up to four, and tells the fault behind them, if there is one.
 fn add_marks(
     alloc: Global,
@@ -22,8 +80,8 @@ fn add_marks(
     marks: &mut Vec<u64>,
 ) -> Result<Option<TextFault>, Fail> {
     for _ in 0..4 {
-        match reader.next(alloc) {
-            Ok(Some(part)) => marks.push(mark_of(&part))?,
+        match next_mark(alloc, reader) {
+            Ok(Some(mark)) => marks.push(mark)?,
             Ok(None) => return Ok(None),
             Err(fault) => return Ok(Some(fault)),
         }
@@ -31,88 +89,82 @@ fn add_marks(
     Ok(None)
 }
 
-/// Gives a reader a text in pieces of so many bytes: the marks of the parts that come, and the fault behind them.
+/// Gives a reader a text in pieces of so many bytes, adds the marks of the parts that come, and tells the fault behind
+/// them.
 fn feed(
     alloc: Global,
     reader: &mut TextReader,
     text: &[u8],
     most: usize,
-) -> Result<(Vec<u64>, Option<TextFault>), Fail> {
-    let mut marks = Vec::new(alloc);
-    let mut rest = text;
-    for _ in 0..text.len() {
-        let (piece, behind) = rest.split_at(most.min(rest.len()));
+    marks: &mut Vec<u64>,
+) -> Result<Option<TextFault>, Fail> {
+    for piece in text.chunks(most.max(1)) {
         reader.push(piece)?;
-        let fault = add_marks(alloc, reader, &mut marks)?;
+        let fault = add_marks(alloc, reader, marks)?;
         if fault.is_some() {
-            return Ok((marks, fault));
+            return Ok(fault);
         }
-        rest = behind;
     }
-    Ok((marks, None))
+    Ok(None)
 }
 
-/// The fault at the end of the text of a reader, if there is one.
-fn fault_at_end(reader: TextReader) -> Result<Option<TextFault>, Fail> {
-    if !reader.waits() {
-        return Err(Fail::from("there may be further parts"));
+/// Adds the marks of a text in pieces of so many bytes, and tells whether the reader waits for more at its end, and
+/// what the text is then, or the fault before.
+fn outcome(
+    alloc: Global,
+    text: &[u8],
+    most: usize,
+    marks: &mut Vec<u64>,
+) -> Result<(bool, Result<(), TextFault>), Fail> {
+    let mut reader = TextReader::start(alloc);
+    let fed = feed(alloc, &mut reader, text, most, marks);
+    let waits = reader.waits();
+    let end = if waits {
+        reader.end()
+    } else {
+        drop(reader);
+        Ok(())
+    };
+    match fed? {
+        Some(fault) => Ok((waits, Err(fault))),
+        None => Ok((waits, end)),
     }
-    Ok(reader.end().err())
 }
 
 #[test]
 fn a_text_gives_the_same_parts_in_pieces_of_any_length(rt: HostRuntime) -> Result<(), Fail> {
     let alloc = rt.alloc();
-    for most in [1, 65_536] {
-        let mut reader = TextReader::start(alloc);
-        let (marks, fault) = feed(alloc, &mut reader, TWO_ZONES.as_bytes(), most)?;
-        assert_eq!(rt; marks.as_slice(), [96, 799_712_000, 2].as_slice());
-        assert_eq!(rt; fault, None);
-        assert_eq!(rt; fault_at_end(reader)?, None);
+    for case in CASES {
+        let text = made(alloc, case.parts)?;
+        let mut marks = Vec::new(alloc);
+        let told = outcome(alloc, text.as_bytes(), case.most, &mut marks);
+        drop(text);
+        assert_eq!(rt; told?, (case.waits, case.want), "{}", case.name);
+        assert_eq!(rt; marks.as_slice(), case.marks, "{}", case.name);
     }
     Ok(())
 }
 
-/// The text of two zones with 40,000 digits in place of its last line, and bytes behind them.
-fn with_long_line(alloc: Global, behind: &[u8]) -> Result<Vec<u8>, Fail> {
-    let before = TWO_ZONES.len() - "done 1 0\n".len();
-    let mut text = TWO_ZONES.as_bytes()[..before].to_vec(alloc)?;
-    text.extend_from_slice(vec![in alloc; b'7'; 40_000]?.as_slice())?;
-    text.extend_from_slice(behind)?;
-    Ok(text)
-}
-
-#[test]
-fn a_line_of_40000_digits_is_a_bad_line_once_it_ends(rt: HostRuntime) -> Result<(), Fail> {
-    let alloc = rt.alloc();
-    let text = with_long_line(alloc, b"\ndone 1 0\n")?;
-    let mut reader = TextReader::start(alloc);
-    let (marks, fault) = feed(alloc, &mut reader, text.as_slice(), 1_000)?;
-    assert_eq!(rt; marks.as_slice(), [96, 799_712_000].as_slice());
-    assert_eq!(rt; fault, Some(TextFault::BadLine(21)));
-    Ok(())
-}
-
-#[test]
-fn a_line_of_40000_digits_with_no_end_is_truncated(rt: HostRuntime) -> Result<(), Fail> {
-    let alloc = rt.alloc();
-    let text = with_long_line(alloc, b"")?;
-    let mut reader = TextReader::start(alloc);
-    let (marks, fault) = feed(alloc, &mut reader, text.as_slice(), 1_000)?;
-    assert_eq!(rt; marks.as_slice(), [96, 799_712_000].as_slice());
-    assert_eq!(rt; fault, None);
-    assert_eq!(rt; fault_at_end(reader)?, Some(TextFault::Truncated(21)));
-    Ok(())
+/// What comes of a text with a fault, and again, and again once there is more of it.
+fn three_answers(
+    alloc: Global,
+    reader: &mut TextReader,
+) -> Result<[Result<Option<u64>, TextFault>; 3], Fail> {
+    reader.push(b"mari 1 2025-03-12 96 10000\nwelfare 0\nwelfare x\n")?;
+    let head = next_mark(alloc, reader);
+    let fault = next_mark(alloc, reader);
+    reader.push(b"done 0 0\n")?;
+    let again = next_mark(alloc, reader);
+    Ok([head, fault, again])
 }
 
 #[test]
 fn a_fault_comes_again(rt: HostRuntime) -> Result<(), Fail> {
     let alloc = rt.alloc();
     let mut reader = TextReader::start(alloc);
-    reader.push(b"mari 1 2025-03-12 96 10000\nwelfare 0\nwelfare x\n")?;
-    assert!(rt; matches!(reader.next(alloc), Ok(Some(Part::Head { .. }))));
-    assert!(rt; matches!(reader.next(alloc), Err(TextFault::BadOrder(2))));
-    reader.push(b"done 0 0\n")?;
-    assert!(rt; matches!(reader.next(alloc), Err(TextFault::BadOrder(2))));
+    let answers = three_answers(alloc, &mut reader);
+    drop(reader);
+    let fault = Err(TextFault::BadOrder(2));
+    assert_eq!(rt; answers?, [Ok(Some(96)), fault, fault]);
     Ok(())
 }

@@ -3,7 +3,7 @@
 use std::alloc::Global;
 use std::test::Fail;
 
-/// The day of two zones with a border that is full.
+/// The day of two zones with a border that is full, up to its last line.
 pub(crate) const TWO_ZONES: &str = "mari 1 2025-03-12 96 10000
 run 1 1 scheduled published
 welfare 799712000
@@ -24,14 +24,29 @@ total-operator TA -250.0000 250.0000 -500.0000
 total-operator TB 750.0000 250.0000 500.0000
 total-provider P1 250.0000
 total-provider P2 450.0000
-done 1 0
 ";
 
-/// The text that these parts make.
-pub(crate) fn joined(alloc: Global, parts: &[&str]) -> Result<String, Fail> {
+/// The last line of that day.
+pub(crate) const DONE_ONE: &str = "done 1 0\n";
+
+/// Appends a text so many times, each with its number from 1 in place of `#`.
+fn append(alloc: Global, text: &mut String, part: &str, times: u32) -> Result<(), Fail> {
+    for time in 1..=times {
+        match part.split_once("#") {
+            Some((before, after)) => {
+                text.push_str(&format!(in alloc; "{before}{time}{after}")?)?;
+            }
+            None => text.push_str(part)?,
+        }
+    }
+    Ok(())
+}
+
+/// The text that these parts make, each so many times with its number from 1 in place of `#`.
+pub(crate) fn made(alloc: Global, parts: &[(&str, u32)]) -> Result<String, Fail> {
     let mut text = String::new(alloc);
-    for part in parts {
-        text.push_str(part)?;
+    for (part, times) in parts {
+        append(alloc, &mut text, part, *times)?;
     }
     Ok(text)
 }

@@ -19,7 +19,7 @@ mod two_leaves;
 use crate::run_program;
 use mari_io::{FaultPlan, MemoryShelf, MemorySink, Name64, Page};
 use mari_units::Items;
-use mari_workers::FreeTurnstile;
+use mari_workers::{FreeTurnstile, Turnstile};
 use std::alloc::Global;
 use std::process::Abort;
 use std::sync::Wait;
@@ -40,7 +40,7 @@ const DEMANDS: &str = "run,zone,mw,price\n";
 
 const ONE_DEMAND: &str = "run,zone,mw,price\n1,Z,60,\n";
 
-/// The pages of a folder that differ from test to test.
+/// The pages of folder F that differ from case to case. The publication is in parts.
 #[derive(Clone, Copy)]
 struct Folder<'a> {
     zones: &'a str,
@@ -50,6 +50,7 @@ struct Folder<'a> {
     runs: &'a str,
     demands: &'a str,
     limits: Option<&'a str>,
+    publication: Option<&'a [&'a str]>,
 }
 
 /// A folder of one zone, without a border or a link, and with one run.
@@ -61,6 +62,7 @@ const ONE_ZONE: Folder<'static> = Folder {
     runs: "run,quarter,kind,reference\n1,1,scheduled,40.00\n",
     demands: ONE_DEMAND,
     limits: None,
+    publication: None,
 };
 
 /// A folder of two zones, joined by a border of 50 MW.
@@ -72,10 +74,11 @@ const TWO_ZONES: Folder<'static> = Folder {
     ..ONE_ZONE
 };
 
-/// The head, the block and the totals of the day that the two zones print.
-const TWO_ZONES_PARTS: [&str; 3] = [
-    "mari 1 2025-03-12 96 10000\n",
-    "\
+/// The head of the day that the two zones print.
+const HEAD: &str = "mari 1 2025-03-12 96 10000\n";
+
+/// Its block.
+const BLOCK: &str = "\
 run 1 1 scheduled published
 welfare 799712000
 zone A 20.00 20.00 20.00 1
@@ -91,25 +94,121 @@ operator TB 750.0000 250.0000 500.0000
 provider P1 250.0000
 provider P2 450.0000
 end 1
-",
-    "\
+";
+
+/// Its totals.
+const TOTALS: &str = "\
 total-operator TA -250.0000 250.0000 -500.0000
 total-operator TB 750.0000 250.0000 500.0000
 total-provider P1 250.0000
 total-provider P2 450.0000
 done 1 0
-",
-];
+";
 
-/// The day that the two zones print.
-fn two_zones_day(alloc: Global) -> Result<String, Fail> {
-    let mut day = String::new(alloc);
-    for part in TWO_ZONES_PARTS {
-        day.push_str(part)?;
-    }
-    Ok(day)
+/// The day that the two zones print, in its parts.
+const TWO_ZONES_DAY: &[&str] = &[HEAD, BLOCK, TOTALS];
+
+/// What is wanted of a printed text: that it is these parts, that it stands so before and behind a certificate, or that
+/// it has each of these lines.
+#[derive(Clone, Copy)]
+enum Printed<'a> {
+    Whole(&'a [&'a str]),
+    Around(&'a str, &'a str),
+    Lines(&'a [&'a str]),
 }
 
+impl Printed<'_> {
+    /// Whether a text is as it is wanted.
+    fn is(&self, text: &str) -> bool {
+        match self {
+            Printed::Whole(parts) => is_joined(text, parts),
+            Printed::Around(before, after) => text.starts_with(*before) && text.ends_with(*after),
+            Printed::Lines(lines) => has_each(text, lines),
+        }
+    }
+}
+
+/// Whether a text is these parts, one behind the other.
+fn is_joined(text: &str, parts: &[&str]) -> bool {
+    let mut rest = text;
+    for part in parts {
+        let Some(behind) = rest.strip_prefix(*part) else {
+            return false;
+        };
+        rest = behind;
+    }
+    rest.is_empty()
+}
+
+/// Whether a text has each of these lines.
+fn has_each(text: &str, lines: &[&str]) -> bool {
+    for part in lines {
+        if !text.contains(*part) {
+            return false;
+        }
+    }
+    true
+}
+
+/// Calls of the program, all answered alike: their words, the folder that they find, the numbers of the calls on the
+/// shelf that fail, whether it gives one byte at a time, their exit code, and what they print. The name says what they
+/// show.
+#[derive(Clone, Copy)]
+struct Case {
+    name: &'static str,
+    calls: &'static [&'static [&'static str]],
+    folder: Folder<'static>,
+    faults: &'static [u32],
+    by_bytes: bool,
+    code: u8,
+    printed: Printed<'static>,
+}
+
+/// How many bytes a sink has room for.
+const ROOM: u32 = 1_000_000;
+
+/// A folder that is cleared.
+const CLEARS: Case = Case {
+    name: "",
+    calls: &[&["clear", "F"]],
+    folder: ONE_ZONE,
+    faults: &[],
+    by_bytes: false,
+    code: 0,
+    printed: Printed::Whole(&[]),
+};
+
+/// A folder that 1, 2 and 4 workers clear alike.
+const CLEARS_ALIKE: Case = Case {
+    calls: &[
+        &["clear", "F", "--workers", "1"],
+        &["clear", "F", "--workers", "2"],
+        &["clear", "F", "--workers", "4"],
+    ],
+    ..CLEARS
+};
+
+/// A folder that 1, 2 and 4 workers don't clear wholly within one node.
+const CLEARS_A_PART: Case = Case {
+    calls: &[
+        &["clear", "F", "--nodes", "1", "--workers", "1"],
+        &["clear", "F", "--nodes", "1", "--workers", "2"],
+        &["clear", "F", "--nodes", "1", "--workers", "4"],
+    ],
+    code: 1,
+    ..CLEARS
+};
+
+/// The bytes of texts, one behind the other.
+fn joined(alloc: Global, parts: &[&str]) -> Result<Vec<u8>, Fail> {
+    let mut bytes = Vec::new(alloc);
+    for part in parts {
+        bytes.extend_from_slice(part.as_bytes())?;
+    }
+    Ok(bytes)
+}
+
+/// A page of this name.
 fn page(alloc: Global, name: &str, bytes: Vec<u8>) -> Result<Page, Fail> {
     if name.is_empty() || name.len() > 64 {
         return Err(Fail::from("a page's name has 1 to 64 bytes"));
@@ -120,41 +219,60 @@ fn page(alloc: Global, name: &str, bytes: Vec<u8>) -> Result<Page, Fail> {
     })
 }
 
-fn text_page(alloc: Global, name: &str, text: &str) -> Result<Page, Fail> {
-    page(alloc, name, text.as_bytes().to_vec(alloc)?)
-}
-
 /// The pages of folder F.
 fn pages(alloc: Global, folder: Folder<'_>) -> Result<Vec<Page>, Fail> {
     let mut pages = Vec::new(alloc);
-    for (name, text) in [
-        ("F/day.csv", DAY),
-        ("F/zones.csv", folder.zones),
-        ("F/borders.csv", folder.borders),
-        ("F/bids.csv", folder.bids),
-        ("F/links.csv", folder.links),
-        ("F/runs.csv", folder.runs),
-        ("F/demands.csv", folder.demands),
+    for (name, text) in &[
+        ("F/day.csv", Some(DAY)),
+        ("F/zones.csv", Some(folder.zones)),
+        ("F/borders.csv", Some(folder.borders)),
+        ("F/bids.csv", Some(folder.bids)),
+        ("F/links.csv", Some(folder.links)),
+        ("F/runs.csv", Some(folder.runs)),
+        ("F/demands.csv", Some(folder.demands)),
+        ("F/limits.csv", folder.limits),
     ] {
-        pages.push(text_page(alloc, name, text)?)?;
+        if let Some(text) = text {
+            let bytes = joined(alloc, &[*text])?;
+            pages.push(page(alloc, name, bytes)?)?;
+        }
     }
-    if let Some(limits) = folder.limits {
-        pages.push(text_page(alloc, "F/limits.csv", limits)?)?;
+    if let Some(parts) = folder.publication {
+        let bytes = joined(alloc, parts)?;
+        pages.push(page(alloc, "F/publication.txt", bytes)?)?;
     }
     Ok(pages)
 }
 
+/// A plan by which the calls of these numbers fail.
 fn plan(alloc: Global, calls: &[u32]) -> Result<FaultPlan, Fail> {
     Ok(FaultPlan {
         calls: Items::of(calls.to_vec(alloc)?),
     })
 }
 
-/// A shelf with folder F. The fetches of these numbers fail.
-fn shelf(alloc: Global, folder: Folder<'_>, faults: &[u32]) -> Result<MemoryShelf, Fail> {
-    Ok(MemoryShelf::new(pages(alloc, folder)?, plan(alloc, faults)?))
+/// A shelf with folder F, of which the calls of these numbers fail. It may give one byte at a time.
+fn shelf(
+    alloc: Global,
+    folder: Folder<'_>,
+    faults: &[u32],
+    by_bytes: bool,
+) -> Result<MemoryShelf, Fail> {
+    let plan = plan(alloc, faults)?;
+    let pages = pages(alloc, folder)?;
+    if by_bytes {
+        return Ok(MemoryShelf::with_piece(pages, plan, 1));
+    }
+    Ok(MemoryShelf::new(pages, plan))
 }
 
+/// A sink that takes so many bytes in a call, with room for so many, in which the writes of these numbers fail.
+fn sink(alloc: Global, most: u32, room: u32, faults: &[u32]) -> Result<MemorySink, Fail> {
+    let plan = plan(alloc, faults)?;
+    Ok(MemorySink::new(alloc, most, room, plan)?)
+}
+
+/// The words of a call.
 fn words(alloc: Global, texts: &[&str]) -> Result<Vec<String>, Fail> {
     let mut words = Vec::new(alloc);
     for text in texts {
@@ -163,119 +281,53 @@ fn words(alloc: Global, texts: &[&str]) -> Result<Vec<String>, Fail> {
     Ok(words)
 }
 
-/// The numbers of workers by which folders with gated bids are cleared.
-const WORKERS: [&str; 3] = ["1", "2", "4"];
-
-/// Runs the program on these words and this shelf, and compares its exit code and what it printed.
-fn compare(
+/// Runs the program on these words, this shelf and this sink. It answers the exit code.
+fn run<G: Turnstile>(
     rt: &(impl Abort + Threads + Wait + Sync),
     alloc: Global,
     texts: &[&str],
     mut shelf: MemoryShelf,
-    code: u8,
-    printed: &str,
-) -> Result<(), Fail> {
-    let mut sink = MemorySink::new(alloc, 10, 10_000, plan(alloc, &[])?)?;
+    sink: &mut MemorySink,
+    turnstile: &G,
+) -> Result<u8, Fail> {
     let words = words(alloc, texts)?;
-    let status = run_program(rt, alloc, &words, &mut shelf, &mut sink, &FreeTurnstile);
-    assert_eq!(rt; sink.bytes(), printed.as_bytes());
-    assert_eq!(rt; status.code(), code);
-    Ok(())
+    let status = run_program(rt, alloc, &words, &mut shelf, sink, turnstile);
+    Ok(status.code())
 }
 
-/// Clears folder F, and compares the exit code and what is printed.
-fn clears(
+/// Runs the program on these words, this shelf and this sink, and compares its exit code and what it printed.
+fn compare(
     rt: &(impl Abort + Threads + Wait + Sync),
     alloc: Global,
-    folder: Folder<'_>,
-    code: u8,
-    printed: &str,
+    name: &str,
+    texts: &[&str],
+    shelf: MemoryShelf,
+    mut sink: MemorySink,
+    want: (u8, Printed<'_>),
 ) -> Result<(), Fail> {
-    let shelf = shelf(alloc, folder, &[])?;
-    compare(rt, alloc, &["clear", "F"], shelf, code, printed)
-}
-
-/// Clears folder F by 1, 2 and 4 workers, and compares the exit code and what is printed.
-fn clears_alike(
-    rt: &(impl Abort + Threads + Wait + Sync),
-    alloc: Global,
-    folder: Folder<'_>,
-    code: u8,
-    printed: &str,
-) -> Result<(), Fail> {
-    for workers in WORKERS {
-        let shelf = shelf(alloc, folder, &[])?;
-        let words = ["clear", "F", "--workers", workers];
-        compare(rt, alloc, &words, shelf, code, printed)?;
-    }
-    Ok(())
-}
-
-/// Clears folder F within a number of nodes by 1, 2 and 4 workers, and compares the exit code and what is printed.
-fn clears_within(
-    rt: &(impl Abort + Threads + Wait + Sync),
-    alloc: Global,
-    folder: Folder<'_>,
-    nodes: &str,
-    code: u8,
-    printed: &str,
-) -> Result<(), Fail> {
-    for workers in WORKERS {
-        let shelf = shelf(alloc, folder, &[])?;
-        let words = ["clear", "F", "--nodes", nodes, "--workers", workers];
-        compare(rt, alloc, &words, shelf, code, printed)?;
-    }
-    Ok(())
-}
-
-/// Clears folder F by 1, 2 and 4 workers, and compares the day that is printed with what stands before and behind its
-/// certificate.
-fn prints_around(
-    rt: &(impl Abort + Threads + Wait + Sync),
-    alloc: Global,
-    folder: Folder<'_>,
-    before: &str,
-    after: &str,
-) -> Result<(), Fail> {
-    for workers in WORKERS {
-        let mut shelf = shelf(alloc, folder, &[])?;
-        let mut sink = MemorySink::new(alloc, 100, 10_000, plan(alloc, &[])?)?;
-        let words = words(alloc, &["clear", "F", "--workers", workers])?;
-        let status = run_program(rt, alloc, &words, &mut shelf, &mut sink, &FreeTurnstile);
-        assert_eq!(rt; status.code(), 0);
-        assert!(rt; sink.bytes().starts_with(before.as_bytes()));
-        assert!(rt; sink.bytes().ends_with(after.as_bytes()));
-    }
-    Ok(())
-}
-
-/// Clears folder F, and looks for lines in the day that is printed.
-fn prints(
-    rt: &(impl Abort + Threads + Wait + Sync),
-    alloc: Global,
-    folder: Folder<'_>,
-    lines: &str,
-) -> Result<(), Fail> {
-    let mut shelf = shelf(alloc, folder, &[])?;
-    let mut sink = MemorySink::new(alloc, 1_000, 1_000_000, plan(alloc, &[])?)?;
-    let words = words(alloc, &["clear", "F"])?;
-    let status = run_program(rt, alloc, &words, &mut shelf, &mut sink, &FreeTurnstile);
-    assert_eq!(rt; status.code(), 0);
-    let text = sink.bytes();
-    let count = lines.len();
+    let code = run(rt, alloc, texts, shelf, &mut sink, &FreeTurnstile)?;
+    let text = str::from_utf8(sink.bytes())?;
+    let agrees = code == want.0 && want.1.is(text);
     assert!(rt;
-        text.windows(count.max(1))
-            .any(|part| part == lines.as_bytes())
+        agrees,
+        "{name}: {texts:?} answers {code} and prints {text}"
     );
     Ok(())
 }
 
-/// A folder that is refused by this line.
-fn refuses(
+/// Makes each call of these cases, and compares its exit code and what it printed.
+fn agree(
     rt: &(impl Abort + Threads + Wait + Sync),
     alloc: Global,
-    folder: Folder<'_>,
-    line: &str,
+    cases: &[Case],
 ) -> Result<(), Fail> {
-    clears(rt, alloc, folder, 3, line)
+    for case in cases {
+        for texts in case.calls {
+            let shelf = shelf(alloc, case.folder, case.faults, case.by_bytes)?;
+            let sink = sink(alloc, 10, ROOM, &[])?;
+            let want = (case.code, case.printed);
+            compare(rt, alloc, case.name, texts, shelf, sink, want)?;
+        }
+    }
+    Ok(())
 }

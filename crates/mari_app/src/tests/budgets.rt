@@ -1,36 +1,55 @@
 //! Budgets of nodes that hold a search, and budgets that don't.
 
+use super::Printed::Whole;
 use super::gated_bids::OVERSIZED;
-use super::{Folder, ONE_ZONE, clears_alike, clears_within};
+use super::{CLEARS, CLEARS_A_PART, CLEARS_ALIKE, Case, Folder, ONE_ZONE, agree};
 use std::test::Fail;
 
-#[test]
-fn a_budget_of_one_node_leaves_the_run_unpublished(rt: HostRuntime) -> Result<(), Fail> {
-    let printed = "\
+const CASES: &[Case] = &[
+    Case {
+        name: "a budget of one node leaves the run unpublished",
+        folder: OVERSIZED,
+        printed: Whole(&[
+            "\
 mari 1 2025-03-12 96 1
 run 1 1 scheduled unpublished 1
 total-operator T 0.0000 0.0000 0.0000
 total-provider P 0.0000
 done 0 1
-";
-    clears_within(&rt, rt.alloc(), OVERSIZED, "1", 1, printed)
-}
-
-#[test]
-fn a_budget_of_two_nodes_leaves_the_run_unpublished(rt: HostRuntime) -> Result<(), Fail> {
-    let printed = "\
+",
+        ]),
+        ..CLEARS_A_PART
+    },
+    Case {
+        name: "a budget of two nodes leaves the run unpublished",
+        folder: OVERSIZED,
+        calls: &[
+            &["clear", "F", "--nodes", "2", "--workers", "1"],
+            &["clear", "F", "--nodes", "2", "--workers", "2"],
+            &["clear", "F", "--nodes", "2", "--workers", "4"],
+        ],
+        code: 1,
+        printed: Whole(&[
+            "\
 mari 1 2025-03-12 96 2
 run 1 1 scheduled unpublished 1
 total-operator T 0.0000 0.0000 0.0000
 total-provider P 0.0000
 done 0 1
-";
-    clears_within(&rt, rt.alloc(), OVERSIZED, "2", 1, printed)
-}
-
-#[test]
-fn a_budget_of_three_nodes_publishes_the_run(rt: HostRuntime) -> Result<(), Fail> {
-    let printed = "\
+",
+        ]),
+        ..CLEARS
+    },
+    Case {
+        name: "a budget of three nodes publishes the run",
+        folder: OVERSIZED,
+        calls: &[
+            &["clear", "F", "--nodes", "3", "--workers", "1"],
+            &["clear", "F", "--nodes", "3", "--workers", "2"],
+            &["clear", "F", "--nodes", "3", "--workers", "4"],
+        ],
+        printed: Whole(&[
+            "\
 mari 1 2025-03-12 96 3
 run 1 1 scheduled published
 welfare 299847000
@@ -48,19 +67,20 @@ end 1
 total-operator T 0.0000 0.0000 0.0000
 total-provider P 375.0000
 done 1 0
-";
-    clears_within(&rt, rt.alloc(), OVERSIZED, "3", 0, printed)
-}
-
-// Each leaf with a gate closed is early for the word that opens all of them, so each gate is decided.
-#[test]
-fn twelve_indivisible_bids_run_within_the_default_budget(rt: HostRuntime) -> Result<(), Fail> {
-    let folder = Folder {
-        bids: "id,provider,zone,quarter,direction,price,least,greatest,kind\ni1,P,Z,1,up,30.00,1,1,both\ni2,P,Z,1,up,30.00,1,1,both\ni3,P,Z,1,up,30.00,1,1,both\ni4,P,Z,1,up,30.00,1,1,both\ni5,P,Z,1,up,30.00,1,1,both\ni6,P,Z,1,up,30.00,1,1,both\ni7,P,Z,1,up,30.00,1,1,both\ni8,P,Z,1,up,30.00,1,1,both\ni9,P,Z,1,up,30.00,1,1,both\ni10,P,Z,1,up,30.00,1,1,both\ni11,P,Z,1,up,30.00,1,1,both\ni12,P,Z,1,up,30.00,1,1,both\np1,P,Z,1,up,50.00,0,100,both\n",
-        demands: "run,zone,mw,price\n1,Z,30,\n",
-        ..ONE_ZONE
-    };
-    let printed = "\
+",
+        ]),
+        ..CLEARS
+    },
+    // Each leaf with a gate closed is early for the word that opens all of them, so each gate is decided.
+    Case {
+        name: "twelve indivisible bids run within the default budget",
+        folder: Folder {
+            bids: "id,provider,zone,quarter,direction,price,least,greatest,kind\ni1,P,Z,1,up,30.00,1,1,both\ni2,P,Z,1,up,30.00,1,1,both\ni3,P,Z,1,up,30.00,1,1,both\ni4,P,Z,1,up,30.00,1,1,both\ni5,P,Z,1,up,30.00,1,1,both\ni6,P,Z,1,up,30.00,1,1,both\ni7,P,Z,1,up,30.00,1,1,both\ni8,P,Z,1,up,30.00,1,1,both\ni9,P,Z,1,up,30.00,1,1,both\ni10,P,Z,1,up,30.00,1,1,both\ni11,P,Z,1,up,30.00,1,1,both\ni12,P,Z,1,up,30.00,1,1,both\np1,P,Z,1,up,50.00,0,100,both\n",
+            demands: "run,zone,mw,price\n1,Z,30,\n",
+            ..ONE_ZONE
+        },
+        printed: Whole(&[
+            "\
 mari 1 2025-03-12 96 10000
 run 1 1 scheduled published
 welfare 299871000
@@ -111,6 +131,13 @@ end 1
 total-operator T 0.0000 0.0000 0.0000
 total-provider P 375.0000
 done 1 0
-";
-    clears_alike(&rt, rt.alloc(), folder, 0, printed)
+",
+        ]),
+        ..CLEARS_ALIKE
+    },
+];
+
+#[test]
+fn searches_within_a_budget(rt: HostRuntime) -> Result<(), Fail> {
+    agree(&rt, rt.alloc(), CASES)
 }

@@ -1,80 +1,31 @@
 //! Publications that are checked: as they were printed, cut off, in pieces, and where they can't be had.
 
+use super::Printed::Whole;
 use super::days::{LINKED_DAY, LINKED_DAY_TEXT};
 use super::gated_bids::OVERSIZED;
 use super::{
-    Folder, ONE_ZONE, TWO_ZONES, TWO_ZONES_PARTS, compare, page, pages, plan, shelf, two_zones_day,
+    BLOCK, CLEARS, Case, Folder, HEAD, ONE_ZONE, TWO_ZONES, TWO_ZONES_DAY, agree, compare, shelf,
+    sink,
 };
-use mari_io::{MemoryShelf, Page};
+use mari_io::MemoryShelf;
 use std::alloc::Global;
 use std::process::Abort;
 use std::sync::Wait;
 use std::test::Fail;
 use std::thread::Threads;
 
-/// The pages of folder F and its publication.
-fn published(alloc: Global, folder: Folder<'_>, text: &[u8]) -> Result<Vec<Page>, Fail> {
-    let mut pages = pages(alloc, folder)?;
-    pages.push(page(alloc, "F/publication.txt", text.to_vec(alloc)?)?)?;
-    Ok(pages)
-}
+/// The two zones with the day that they print.
+const PUBLISHED: Folder<'static> = Folder {
+    publication: Some(TWO_ZONES_DAY),
+    ..TWO_ZONES
+};
 
-/// Checks folder F with this publication, and compares the exit code and what is printed.
-pub(super) fn checks(
-    rt: &(impl Abort + Threads + Wait + Sync),
-    alloc: Global,
-    folder: Folder<'_>,
-    text: &[u8],
-    code: u8,
-    printed: &str,
-) -> Result<(), Fail> {
-    let pages = published(alloc, folder, text)?;
-    let shelf = MemoryShelf::new(pages, plan(alloc, &[])?);
-    compare(rt, alloc, &["check", "F"], shelf, code, printed)
-}
-
-/// The same for the two zones, where the shelf gives one byte at a time.
-pub(super) fn checks_by_bytes(
-    rt: &(impl Abort + Threads + Wait + Sync),
-    alloc: Global,
-    text: &[u8],
-    code: u8,
-    printed: &str,
-) -> Result<(), Fail> {
-    let pages = published(alloc, TWO_ZONES, text)?;
-    let shelf = MemoryShelf::with_piece(pages, plan(alloc, &[])?, 1);
-    compare(rt, alloc, &["check", "F"], shelf, code, printed)
-}
-
-#[test]
-fn a_day_as_it_was_printed_is_valid(rt: HostRuntime) -> Result<(), Fail> {
-    let alloc = rt.alloc();
-    let day = two_zones_day(alloc)?;
-    checks(&rt, alloc, TWO_ZONES, day.as_bytes(), 0, "valid 1 0\n")?;
-    checks_by_bytes(&rt, alloc, day.as_bytes(), 0, "valid 1 0\n")
-}
-
-#[test]
-fn days_of_linked_quarters_and_of_no_runs(rt: HostRuntime) -> Result<(), Fail> {
-    let alloc = rt.alloc();
-    let linked = LINKED_DAY_TEXT.as_bytes();
-    checks(&rt, alloc, LINKED_DAY, linked, 0, "valid 4 0\n")?;
-    let folder = Folder {
-        runs: "run,quarter,kind,reference\n",
-        demands: "run,zone,mw,price\n",
-        ..ONE_ZONE
-    };
-    let text =
-        b"mari 1 2025-03-12 96 10000\ntotal-operator T 0.0000 0.0000 0.0000\ntotal-provider P 0.0000\ndone 0 0\n".as_slice();
-    checks(&rt, alloc, folder, text, 0, "valid 0 0\n")
-}
-
-#[test]
-fn a_run_that_its_budget_left_unpublished(rt: HostRuntime) -> Result<(), Fail> {
-    let text =
-        b"mari 1 2025-03-12 96 1\nrun 1 1 scheduled unpublished 1\ntotal-operator T 0.0000 0.0000 0.0000\ntotal-provider P 0.0000\ndone 0 1\n".as_slice();
-    checks(&rt, rt.alloc(), OVERSIZED, text, 0, "valid 0 1\n")
-}
+/// The same where it is checked.
+const CHECKS: Case = Case {
+    calls: &[&["check", "F"]],
+    folder: PUBLISHED,
+    ..CLEARS
+};
 
 /// A direct run behind the two zones' run, whose limits are its own, less the flow before it.
 const SECOND_RUN: &str = "\
@@ -100,32 +51,120 @@ total-provider P2 600.0000
 done 2 0
 ";
 
-#[test]
-fn a_day_whose_limits_are_stated_for_each_run(rt: HostRuntime) -> Result<(), Fail> {
-    let alloc = rt.alloc();
+const CASES: &[Case] = &[
+    Case {
+        name: "a day as it was printed",
+        printed: Whole(&["valid 1 0\n"]),
+        ..CHECKS
+    },
+    Case {
+        name: "a day as it was printed, by single bytes",
+        by_bytes: true,
+        printed: Whole(&["valid 1 0\n"]),
+        ..CHECKS
+    },
+    Case {
+        name: "a day of linked quarters",
+        folder: Folder {
+            publication: Some(&[LINKED_DAY_TEXT]),
+            ..LINKED_DAY
+        },
+        printed: Whole(&["valid 4 0\n"]),
+        ..CHECKS
+    },
+    Case {
+        name: "a day of no runs",
+        folder: Folder {
+            runs: "run,quarter,kind,reference\n",
+            demands: "run,zone,mw,price\n",
+            publication: Some(&[
+                "mari 1 2025-03-12 96 10000\ntotal-operator T 0.0000 0.0000 0.0000\ntotal-provider P 0.0000\ndone 0 0\n",
+            ]),
+            ..ONE_ZONE
+        },
+        printed: Whole(&["valid 0 0\n"]),
+        ..CHECKS
+    },
+    Case {
+        name: "a run that its budget left unpublished",
+        folder: Folder {
+            publication: Some(&[
+                "mari 1 2025-03-12 96 1\nrun 1 1 scheduled unpublished 1\ntotal-operator T 0.0000 0.0000 0.0000\ntotal-provider P 0.0000\ndone 0 1\n",
+            ]),
+            ..OVERSIZED
+        },
+        printed: Whole(&["valid 0 1\n"]),
+        ..CHECKS
+    },
+    Case {
+        name: "a day whose limits are stated for each run",
+        folder: Folder {
+            borders: "from,to\nA,B\n",
+            limits: Some("run,from,to,limit,back\n1,A,B,50,50\n2,A,B,30,50\n"),
+            runs: "run,quarter,kind,reference\n1,1,scheduled,40.00\n2,1,direct,40.00\n",
+            demands: "run,zone,mw,price\n1,B,80,\n2,B,10,\n",
+            publication: Some(&[HEAD, BLOCK, SECOND_RUN]),
+            ..TWO_ZONES
+        },
+        printed: Whole(&["valid 2 0\n"]),
+        ..CHECKS
+    },
+    Case {
+        name: "a publication that is missing",
+        folder: TWO_ZONES,
+        code: 8,
+        printed: Whole(&["missing publication.txt\n"]),
+        ..CHECKS
+    },
+];
+
+/// Checks the folder of a shelf, and compares the exit code and what is printed.
+fn checks(
+    rt: &(impl Abort + Threads + Wait + Sync),
+    alloc: Global,
+    shelf: MemoryShelf,
+    code: u8,
+    printed: &str,
+) -> Result<(), Fail> {
+    let sink = sink(alloc, 10, 10_000, &[])?;
+    let want = (code, Whole(&[printed]));
+    compare(
+        rt,
+        alloc,
+        "a publication",
+        &["check", "F"],
+        shelf,
+        sink,
+        want,
+    )
+}
+
+/// Checks folder F with this publication, and compares the exit code and what is printed.
+pub(super) fn checks_text(
+    rt: &(impl Abort + Threads + Wait + Sync),
+    alloc: Global,
+    folder: Folder<'_>,
+    parts: &[&str],
+    by_bytes: bool,
+    code: u8,
+    printed: &str,
+) -> Result<(), Fail> {
     let folder = Folder {
-        borders: "from,to\nA,B\n",
-        limits: Some("run,from,to,limit,back\n1,A,B,50,50\n2,A,B,30,50\n"),
-        runs: "run,quarter,kind,reference\n1,1,scheduled,40.00\n2,1,direct,40.00\n",
-        demands: "run,zone,mw,price\n1,B,80,\n2,B,10,\n",
-        ..TWO_ZONES
+        publication: Some(parts),
+        ..folder
     };
-    let [head, block, _] = TWO_ZONES_PARTS;
-    let text = format!(in alloc; "{head}{block}{SECOND_RUN}")?;
-    checks(&rt, alloc, folder, text.as_bytes(), 0, "valid 2 0\n")
+    let shelf = shelf(alloc, folder, &[], by_bytes)?;
+    checks(rt, alloc, shelf, code, printed)
 }
 
 #[test]
-fn a_publication_that_is_missing(rt: HostRuntime) -> Result<(), Fail> {
-    let alloc = rt.alloc();
-    let held = shelf(alloc, TWO_ZONES, &[])?;
-    let printed = "missing publication.txt\n";
-    compare(&rt, alloc, &["check", "F"], held, 8, printed)
+fn publications_as_they_were_printed(rt: HostRuntime) -> Result<(), Fail> {
+    agree(&rt, rt.alloc(), CASES)
 }
 
 /// The calls on the shelf, each with the line that it gives where it fails: the market files are fetched, and the
 /// publication is opened and read to its end.
-const CALLS: [(u32, &str); 10] = [
+const CALLS: &[(u32, &str)] = &[
     (1, "readfault day.csv\n"),
     (2, "readfault zones.csv\n"),
     (3, "readfault borders.csv\n"),
@@ -141,13 +180,22 @@ const CALLS: [(u32, &str); 10] = [
 #[test]
 fn each_call_on_the_shelf_that_fails(rt: HostRuntime) -> Result<(), Fail> {
     let alloc = rt.alloc();
-    let day = two_zones_day(alloc)?;
     for (call, printed) in CALLS {
-        let pages = published(alloc, TWO_ZONES, day.as_bytes())?;
-        let shelf = MemoryShelf::new(pages, plan(alloc, &[call])?);
-        compare(&rt, alloc, &["check", "F"], shelf, 4, printed)?;
+        let shelf = shelf(alloc, PUBLISHED, &[*call], false)?;
+        checks(&rt, alloc, shelf, 4, printed)?;
     }
     Ok(())
+}
+
+/// Checks the two zones' day up to a byte, which lacks this line and those behind it.
+fn checks_start(
+    rt: &(impl Abort + Threads + Wait + Sync),
+    alloc: Global,
+    start: &str,
+    line: u32,
+) -> Result<(), Fail> {
+    let printed = format!(in alloc; "refused publication.txt {line} 13 Truncated\n")?;
+    checks_text(rt, alloc, TWO_ZONES, &[start], false, 3, &printed)
 }
 
 #[test]
@@ -155,14 +203,15 @@ fn a_text_cut_off_at_any_byte_is_refused_at_the_line_that_is_missing(
     rt: HostRuntime,
 ) -> Result<(), Fail> {
     let alloc = rt.alloc();
-    let day = two_zones_day(alloc)?;
-    let text = day.as_bytes();
+    let mut start = String::new(alloc);
     let mut line = 1u32;
-    for (count, byte) in text.iter().enumerate() {
-        let printed = format!(in alloc; "refused publication.txt {line} 13 Truncated\n")?;
-        checks(&rt, alloc, TWO_ZONES, &text[..count], 3, &printed)?;
-        if *byte == b'\n' {
-            line = line.saturating_add(1);
+    for part in TWO_ZONES_DAY {
+        for letter in part.chars() {
+            checks_start(&rt, alloc, &start, line)?;
+            start.push(letter)?;
+            if letter == '\n' {
+                line = line.saturating_add(1);
+            }
         }
     }
     Ok(())

@@ -3,7 +3,8 @@
 //! Where the market leaves a bound's price open, or which node closes the tree, the text is compared around the
 //! certificate.
 
-use super::{DEMANDS, Folder, ONE_ZONE, clears_alike, prints, prints_around};
+use super::Printed::{Around, Lines, Whole};
+use super::{CLEARS, CLEARS_ALIKE, Case, DEMANDS, Folder, ONE_ZONE, agree};
 use std::test::Fail;
 
 /// A bid of 40 MW or none, for which a demand of 30 MW is too small.
@@ -21,9 +22,12 @@ const FAMILY: Folder<'static> = Folder {
     ..ONE_ZONE
 };
 
-#[test]
-fn an_oversized_bid_is_rejected_by_a_cut(rt: HostRuntime) -> Result<(), Fail> {
-    let printed = "\
+const CASES: &[Case] = &[
+    Case {
+        name: "an oversized bid is rejected by a cut",
+        folder: OVERSIZED,
+        printed: Whole(&[
+            "\
 mari 1 2025-03-12 96 10000
 run 1 1 scheduled published
 welfare 299847000
@@ -41,18 +45,19 @@ end 1
 total-operator T 0.0000 0.0000 0.0000
 total-provider P 375.0000
 done 1 0
-";
-    clears_alike(&rt, rt.alloc(), OVERSIZED, 0, printed)
-}
-
-#[test]
-fn a_paradox_bid_is_rejected_by_a_conflict(rt: HostRuntime) -> Result<(), Fail> {
-    let folder = Folder {
-        bids: "id,provider,zone,quarter,direction,price,least,greatest,kind\np1,P,Z,1,up,10.00,0,40,both\ni1,P,Z,1,up,20.00,20,20,both\n",
-        demands: "run,zone,mw,price\n1,Z,50,\n",
-        ..ONE_ZONE
-    };
-    let printed = "\
+",
+        ]),
+        ..CLEARS_ALIKE
+    },
+    Case {
+        name: "a paradox bid is rejected by a conflict",
+        folder: Folder {
+            bids: "id,provider,zone,quarter,direction,price,least,greatest,kind\np1,P,Z,1,up,10.00,0,40,both\ni1,P,Z,1,up,20.00,20,20,both\n",
+            demands: "run,zone,mw,price\n1,Z,50,\n",
+            ..ONE_ZONE
+        },
+        printed: Whole(&[
+            "\
 mari 1 2025-03-12 96 10000
 run 1 1 scheduled published
 welfare 399956000
@@ -73,20 +78,21 @@ end 1
 total-operator T 0.0000 0.0000 0.0000
 total-provider P 999990.0000
 done 1 0
-";
-    clears_alike(&rt, rt.alloc(), folder, 0, printed)
-}
-
-// Every potential from 50.00 to 99999.00 has the dual value 499825000 where i1's gate is open, so that bound isn't
-// compared.
-#[test]
-fn the_price_is_at_the_end_of_its_interval(rt: HostRuntime) -> Result<(), Fail> {
-    let folder = Folder {
-        bids: "id,provider,zone,quarter,direction,price,least,greatest,kind\np1,P,Z,1,up,10.00,0,20,both\ni1,P,Z,1,up,50.00,30,30,both\n",
-        demands: "run,zone,mw,price\n1,Z,50,\n",
-        ..ONE_ZONE
-    };
-    let before = "\
+",
+        ]),
+        ..CLEARS_ALIKE
+    },
+    // Every potential from 50.00 to 99999.00 has the dual value 499825000 where i1's gate is open, so that bound isn't
+    // compared.
+    Case {
+        name: "the price is at the end of its interval",
+        folder: Folder {
+            bids: "id,provider,zone,quarter,direction,price,least,greatest,kind\np1,P,Z,1,up,10.00,0,20,both\ni1,P,Z,1,up,50.00,30,30,both\n",
+            demands: "run,zone,mw,price\n1,Z,50,\n",
+            ..ONE_ZONE
+        },
+        printed: Around(
+            "\
 mari 1 2025-03-12 96 10000
 run 1 1 scheduled published
 welfare 499825000
@@ -97,27 +103,28 @@ demand 1 50
 tree 3
 branch
 bound 99999.00
-bound ";
-    let after = "
+bound ",
+            "
 operator T 0.0000 0.0000 0.0000
 provider P 625.0000
 end 1
 total-operator T 0.0000 0.0000 0.0000
 total-provider P 625.0000
 done 1 0
-";
-    prints_around(&rt, rt.alloc(), folder, before, after)
-}
-
-#[test]
-fn one_bid_of_a_group_runs(rt: HostRuntime) -> Result<(), Fail> {
-    let folder = Folder {
-        bids: "id,provider,zone,quarter,direction,price,least,greatest,kind\ng1,P,Z,1,up,10.00,0,10,both\ng2,P,Z,1,up,20.00,0,20,both\ng3,P,Z,1,up,30.00,0,30,both\np1,P,Z,1,up,50.00,0,100,both\n",
-        links: "kind,first,second\ngroup,g,g1\ngroup,g,g2\ngroup,g,g3\n",
-        demands: "run,zone,mw,price\n1,Z,25,\n",
-        ..ONE_ZONE
-    };
-    let printed = "\
+",
+        ),
+        ..CLEARS_ALIKE
+    },
+    Case {
+        name: "one bid of a group runs",
+        folder: Folder {
+            bids: "id,provider,zone,quarter,direction,price,least,greatest,kind\ng1,P,Z,1,up,10.00,0,10,both\ng2,P,Z,1,up,20.00,0,20,both\ng3,P,Z,1,up,30.00,0,30,both\np1,P,Z,1,up,50.00,0,100,both\n",
+            links: "kind,first,second\ngroup,g,g1\ngroup,g,g2\ngroup,g,g3\n",
+            demands: "run,zone,mw,price\n1,Z,25,\n",
+            ..ONE_ZONE
+        },
+        printed: Whole(&[
+            "\
 mari 1 2025-03-12 96 10000
 run 1 1 scheduled published
 welfare 249932500
@@ -139,13 +146,15 @@ end 1
 total-operator T 0.0000 0.0000 0.0000
 total-provider P 312.5000
 done 1 0
-";
-    clears_alike(&rt, rt.alloc(), folder, 0, printed)
-}
-
-#[test]
-fn a_parent_at_a_loss_stays_out_with_its_child(rt: HostRuntime) -> Result<(), Fail> {
-    let printed = "\
+",
+        ]),
+        ..CLEARS_ALIKE
+    },
+    Case {
+        name: "a parent at a loss stays out with its child",
+        folder: FAMILY,
+        printed: Whole(&[
+            "\
 mari 1 2025-03-12 96 10000
 run 1 1 scheduled published
 welfare 399796000
@@ -172,19 +181,20 @@ end 1
 total-operator T 0.0000 0.0000 0.0000
 total-provider P 500.0000
 done 1 0
-";
-    clears_alike(&rt, rt.alloc(), FAMILY, 0, printed)
-}
-
-// At the empty prefix the parent and p1 cost the same, so whether the tree ends there depends on which of them is
-// chosen.
-#[test]
-fn a_parent_in_the_money_runs_with_its_child(rt: HostRuntime) -> Result<(), Fail> {
-    let folder = Folder {
-        bids: "id,provider,zone,quarter,direction,price,least,greatest,kind\npa,P,Z,1,up,60.00,10,10,both\nch,P,Z,1,up,10.00,0,20,both\np1,P,Z,1,up,60.00,0,100,both\n",
-        ..FAMILY
-    };
-    let before = "\
+",
+        ]),
+        ..CLEARS_ALIKE
+    },
+    // At the empty prefix the parent and p1 cost the same, so whether the tree ends there depends on which of them is
+    // chosen.
+    Case {
+        name: "a parent in the money runs with its child",
+        folder: Folder {
+            bids: "id,provider,zone,quarter,direction,price,least,greatest,kind\npa,P,Z,1,up,60.00,10,10,both\nch,P,Z,1,up,10.00,0,20,both\np1,P,Z,1,up,60.00,0,100,both\n",
+            ..FAMILY
+        },
+        printed: Around(
+            "\
 mari 1 2025-03-12 96 10000
 run 1 1 scheduled published
 welfare 399856000
@@ -193,27 +203,28 @@ bid pa 10
 bid ch 20
 bid p1 10
 demand 1 40
-tree ";
-    let after = "
+tree ",
+            "
 operator T 0.0000 0.0000 0.0000
 provider P 600.0000
 end 1
 total-operator T 0.0000 0.0000 0.0000
 total-provider P 600.0000
 done 1 0
-";
-    prints_around(&rt, rt.alloc(), folder, before, after)
-}
-
-// With several workers the tree may have 5 or 7 items, since it isn't told which of the two bids is found first.
-#[test]
-fn of_two_equal_bids_the_later_runs(rt: HostRuntime) -> Result<(), Fail> {
-    let folder = Folder {
-        bids: "id,provider,zone,quarter,direction,price,least,greatest,kind\ni1,P,Z,1,up,30.00,30,30,both\ni2,P,Z,1,up,30.00,30,30,both\np1,P,Z,1,up,50.00,0,100,both\n",
-        demands: "run,zone,mw,price\n1,Z,30,\n",
-        ..ONE_ZONE
-    };
-    let before = "\
+",
+        ),
+        ..CLEARS_ALIKE
+    },
+    // With several workers the tree may have 5 or 7 items, since it isn't told which of the two bids is found first.
+    Case {
+        name: "of two equal bids the later runs",
+        folder: Folder {
+            bids: "id,provider,zone,quarter,direction,price,least,greatest,kind\ni1,P,Z,1,up,30.00,30,30,both\ni2,P,Z,1,up,30.00,30,30,both\np1,P,Z,1,up,50.00,0,100,both\n",
+            demands: "run,zone,mw,price\n1,Z,30,\n",
+            ..ONE_ZONE
+        },
+        printed: Around(
+            "\
 mari 1 2025-03-12 96 10000
 run 1 1 scheduled published
 welfare 299907000
@@ -222,25 +233,26 @@ bid i1 0
 bid i2 30
 bid p1 0
 demand 1 30
-tree ";
-    let after = "
+tree ",
+            "
 operator T 0.0000 0.0000 0.0000
 provider P 300.0000
 end 1
 total-operator T 0.0000 0.0000 0.0000
 total-provider P 300.0000
 done 1 0
-";
-    prints_around(&rt, rt.alloc(), folder, before, after)
-}
-
-#[test]
-fn a_bid_alone_in_a_group_is_cleared_whole(rt: HostRuntime) -> Result<(), Fail> {
-    let folder = Folder {
-        links: "kind,first,second\ngroup,g1,u1\n",
-        ..ONE_ZONE
-    };
-    let printed = "\
+",
+        ),
+        ..CLEARS_ALIKE
+    },
+    Case {
+        name: "a bid alone in a group is cleared whole",
+        folder: Folder {
+            links: "kind,first,second\ngroup,g1,u1\n",
+            ..ONE_ZONE
+        },
+        printed: Whole(&[
+            "\
 mari 1 2025-03-12 96 10000
 run 1 1 scheduled published
 welfare 599694000
@@ -257,20 +269,21 @@ end 1
 total-operator T 0.0000 0.0000 0.0000
 total-provider P 750.0000
 done 1 0
-";
-    clears_alike(&rt, rt.alloc(), folder, 0, printed)
-}
-
-// The conflict runs 1 MW of u1, which states no least: its open gate runs that at least.
-#[test]
-fn a_bid_alone_in_a_group_runs_at_least_1(rt: HostRuntime) -> Result<(), Fail> {
-    let folder = Folder {
-        bids: "id,provider,zone,quarter,direction,price,least,greatest,kind\nu1,P,Z,1,up,20.00,0,100,both\ni1,P,Z,1,up,5.00,40,40,both\np1,P,Z,1,up,10.00,0,100,both\n",
-        links: "kind,first,second\ngroup,g1,u1\n",
-        demands: "run,zone,mw,price\n1,Z,30,\n",
-        ..ONE_ZONE
-    };
-    let lines = "\
+",
+        ]),
+        ..CLEARS_ALIKE
+    },
+    // The conflict runs 1 MW of u1, which states no least: its open gate runs that at least.
+    Case {
+        name: "a bid alone in a group runs at least 1",
+        folder: Folder {
+            bids: "id,provider,zone,quarter,direction,price,least,greatest,kind\nu1,P,Z,1,up,20.00,0,100,both\ni1,P,Z,1,up,5.00,40,40,both\np1,P,Z,1,up,10.00,0,100,both\n",
+            links: "kind,first,second\ngroup,g1,u1\n",
+            demands: "run,zone,mw,price\n1,Z,30,\n",
+            ..ONE_ZONE
+        },
+        printed: Lines(&[
+            "\
 welfare 299967000
 zone Z 10.00 10.00 10.00 1
 bid u1 0
@@ -290,23 +303,34 @@ mws 1 0 29 30
 cut out 1
 operator T 0.0000 0.0000 0.0000
 provider P 75.0000
-";
-    prints(&rt, rt.alloc(), folder, lines)
-}
+",
+        ]),
+        ..CLEARS
+    },
+    // A plain bid that doesn't run bounds the price at 50.00 from above; one whose gate is closed doesn't, as the next
+    // case shows.
+    Case {
+        name: "a plain bid that does not run bounds the price",
+        folder: Folder {
+            demands: DEMANDS,
+            ..ONE_ZONE
+        },
+        printed: Lines(&["zone Z 40.00 -99999.00 50.00 1\nbid u1 0\ntree 1\n"]),
+        ..CLEARS
+    },
+    Case {
+        name: "a closed gate bounds no price",
+        folder: Folder {
+            demands: DEMANDS,
+            links: "kind,first,second\ngroup,g1,u1\n",
+            ..ONE_ZONE
+        },
+        printed: Lines(&["zone Z 40.00 -99999.00 99999.00 1\nbid u1 0\ntree 1\n"]),
+        ..CLEARS
+    },
+];
 
-// A plain bid that doesn't run bounds the price at 50.00 from above; one whose gate is closed doesn't.
 #[test]
-fn a_closed_gate_bounds_no_price(rt: HostRuntime) -> Result<(), Fail> {
-    let plain = Folder {
-        demands: DEMANDS,
-        ..ONE_ZONE
-    };
-    let lines = "zone Z 40.00 -99999.00 50.00 1\nbid u1 0\ntree 1\n";
-    prints(&rt, rt.alloc(), plain, lines)?;
-    let gated = Folder {
-        links: "kind,first,second\ngroup,g1,u1\n",
-        ..plain
-    };
-    let lines = "zone Z 40.00 -99999.00 99999.00 1\nbid u1 0\ntree 1\n";
-    prints(&rt, rt.alloc(), gated, lines)
+fn days_with_gated_bids(rt: HostRuntime) -> Result<(), Fail> {
+    agree(&rt, rt.alloc(), CASES)
 }

@@ -1,6 +1,7 @@
 //! Generated days and their summaries.
 
-use super::{ONE_ZONE, compare, shelf};
+use super::Printed::Whole;
+use super::{CLEARS, Case, agree};
 use std::test::Fail;
 
 /// The summary of the day of number 1. Its welfares were found by models of the same markets on other solvers.
@@ -36,7 +37,12 @@ sum 22978715643
 // Each call on the shelf would fail, since a generated day reads no folder.
 #[test]
 fn the_day_of_number_1(rt: HostRuntime) -> Result<(), Fail> {
-    let alloc = rt.alloc();
-    let held = shelf(alloc, ONE_ZONE, &[1])?;
-    compare(&rt, alloc, &["generate", "1"], held, 0, SUMMARY)
+    let case = Case {
+        name: "the day of number 1",
+        calls: &[&["generate", "1"]],
+        faults: &[1],
+        printed: Whole(&[SUMMARY]),
+        ..CLEARS
+    };
+    agree(&rt, rt.alloc(), &[case])
 }

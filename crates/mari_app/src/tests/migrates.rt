@@ -1,43 +1,47 @@
 //! Folders whose files are printed in the form that states limits for each run.
 
+use super::Printed::Whole;
 use super::limits::STATED;
-use super::{Folder, TWO_ZONES, compare, shelf};
-use std::alloc::Global;
-use std::process::Abort;
-use std::sync::Wait;
+use super::{CLEARS, Case, Folder, TWO_ZONES, agree};
 use std::test::Fail;
-use std::thread::Threads;
 
-/// Asks for a file of folder F in its new form, and compares the exit code and what is printed.
-fn migrates(
-    rt: &(impl Abort + Threads + Wait + Sync),
-    alloc: Global,
-    folder: Folder<'_>,
-    file: &str,
-    code: u8,
-    printed: &str,
-) -> Result<(), Fail> {
-    let shelf = shelf(alloc, folder, &[])?;
-    compare(rt, alloc, &["migrate", "F", file], shelf, code, printed)
-}
+const CASES: &[Case] = &[
+    Case {
+        name: "borders of two zones",
+        calls: &[&["migrate", "F", "borders"]],
+        folder: TWO_ZONES,
+        printed: Whole(&["from,to\nA,B\n"]),
+        ..CLEARS
+    },
+    Case {
+        name: "limits of two zones",
+        calls: &[&["migrate", "F", "limits"]],
+        folder: TWO_ZONES,
+        printed: Whole(&["run,from,to,limit,back\n1,A,B,50,50\n"]),
+        ..CLEARS
+    },
+    Case {
+        name: "a folder that states its limits for each run",
+        calls: &[&["migrate", "F", "borders"], &["migrate", "F", "limits"]],
+        folder: STATED,
+        code: 3,
+        printed: Whole(&["refused borders.csv 1 17 AlreadyTwo\n"]),
+        ..CLEARS
+    },
+    Case {
+        name: "a folder whose limits are missing",
+        calls: &[&["migrate", "F", "limits"]],
+        folder: Folder {
+            limits: None,
+            ..STATED
+        },
+        code: 8,
+        printed: Whole(&["missing limits.csv\n"]),
+        ..CLEARS
+    },
+];
 
 #[test]
-fn borders_and_limits_of_two_zones(rt: HostRuntime) -> Result<(), Fail> {
-    let alloc = rt.alloc();
-    migrates(&rt, alloc, TWO_ZONES, "borders", 0, "from,to\nA,B\n")?;
-    let limits = "run,from,to,limit,back\n1,A,B,50,50\n";
-    migrates(&rt, alloc, TWO_ZONES, "limits", 0, limits)
-}
-
-#[test]
-fn a_folder_that_states_its_limits_for_each_run(rt: HostRuntime) -> Result<(), Fail> {
-    let alloc = rt.alloc();
-    let printed = "refused borders.csv 1 17 AlreadyTwo\n";
-    migrates(&rt, alloc, STATED, "borders", 3, printed)?;
-    migrates(&rt, alloc, STATED, "limits", 3, printed)?;
-    let folder = Folder {
-        limits: None,
-        ..STATED
-    };
-    migrates(&rt, alloc, folder, "limits", 8, "missing limits.csv\n")
+fn files_in_their_new_form(rt: HostRuntime) -> Result<(), Fail> {
+    agree(&rt, rt.alloc(), CASES)
 }

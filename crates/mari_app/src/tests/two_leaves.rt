@@ -1,9 +1,8 @@
 //! Two workers at the two leaves of a search, each held until the other has come.
 
+use super::Printed::Whole;
 use super::pair::Pair;
-use super::{Folder, ONE_ZONE, plan, shelf, words};
-use crate::run_program;
-use mari_io::MemorySink;
+use super::{Folder, ONE_ZONE, run, shelf, sink};
 use std::sync::atomic::Ordering;
 use std::test::Fail;
 
@@ -45,19 +44,19 @@ done 1 0
 #[test]
 fn two_workers_come_to_two_leaves(rt: HostRuntime) -> Result<(), Fail> {
     let alloc = rt.alloc();
-    let mut shelf = shelf(alloc, TWO_LEAVES, &[])?;
-    let mut sink = MemorySink::new(alloc, 100, 10_000, plan(alloc, &[])?)?;
-    let words = words(alloc, &["clear", "F", "--workers", "2"])?;
+    let shelf = shelf(alloc, TWO_LEAVES, &[], false)?;
+    let mut sink = sink(alloc, 100, 10_000, &[])?;
+    let words = ["clear", "F", "--workers", "2"];
     let pair = Pair::new();
-    let status = run_program(&rt, alloc, &words, &mut shelf, &mut sink, &pair);
-    assert_eq!(rt; status.code(), 0);
-    let mut texts = Vec::new(alloc);
-    for leaves in LEAVES {
-        texts.push(format!(in alloc; "{BEFORE}{leaves}{AFTER}")?)?;
-    }
-    assert!(rt; texts.iter().any(|text| text.as_bytes() == sink.bytes()));
-    assert!(rt; !pair.ran_out.load(Ordering::SeqCst));
-    assert_eq!(rt; pair.at_the_root.load(Ordering::SeqCst), 1);
-    assert_eq!(rt; pair.at_leaves.load(Ordering::SeqCst), 2);
+    let code = run(&rt, alloc, &words, shelf, &mut sink, &pair)?;
+    let text = str::from_utf8(sink.bytes())?;
+    let [first, second] = LEAVES;
+    let one_of = Whole(&[BEFORE, first, AFTER]).is(text)
+        || Whole(&[BEFORE, second, AFTER]).is(text);
+    let ran_out = pair.ran_out.load(Ordering::SeqCst);
+    let at_the_root = pair.at_the_root.load(Ordering::SeqCst);
+    let at_leaves = pair.at_leaves.load(Ordering::SeqCst);
+    let answers = (code, one_of, ran_out, at_the_root, at_leaves);
+    assert_eq!(rt; answers, (0, true, false, 1, 2));
     Ok(())
 }

@@ -1,5 +1,6 @@
 //! Markets that are valid and such that are not, and a clearer that is called twice.
 
+ghost use Rattle.std.specs.Prelude.{◌≤◌};
 ghost use Rattle.mari_market.specs.Clearing.{Clears};
 ghost use Rattle.mari_market.specs.Market.{IsValid};
 

@@ -4,51 +4,67 @@ ghost use Rattle.std.specs.Prelude.{◌≤◌};
 ghost use Rattle.mari_market.specs.Clearing.{Clears};
 ghost use Rattle.mari_market.specs.Market.{IsValid};
 
-use mari_market::{Cleared, Clearer, GateInfo, Market, Order, Side};
+use crate::small::{MarketRow, UP, market_of};
+use mari_market::{Cleared, Clearer, Market};
 use mari_units::{Cents, Items};
 use std::alloc::Global;
 use std::test::Fail;
 
-/// One zone, and one order that runs from its least to 40 MW.
-fn market(alloc: Global, least: u32, gate: Option<u32>) -> Result<Market, Fail> {
-    let order = Order {
-        zone: 0,
-        side: Side::Inject,
-        price: Cents(3000),
-        least,
-        greatest: 40,
-        gate,
-    };
-    let info = GateInfo {
-        group: None,
-        parent: None,
-    };
-    Ok(Market {
-        zones: 1,
-        borders: Items::of(Vec::new(alloc)),
-        orders: Items::of(vec![in alloc; order]?),
-        gates: Items::of(if gate.is_some() {
-            vec![in alloc; info]?
-        } else {
-            Vec::new(alloc)
-        }),
-        reference: Cents(4000),
-    })
+/// Markets that are valid: a plain order has no least, a gated one has.
+const VALID: &[MarketRow] = &[
+    MarketRow {
+        limits: &[],
+        orders: &[(0, UP, 0, 40, 3000, None)],
+        gates: &[],
+    },
+    MarketRow {
+        limits: &[],
+        orders: &[(0, UP, 40, 40, 3000, Some(0))],
+        gates: &[(None, None)],
+    },
+];
+
+/// Markets that aren't: a plain order with a least; a gated one without, with one above its greatest, and of a gate that
+/// isn't there.
+const NOT_VALID: &[MarketRow] = &[
+    MarketRow {
+        limits: &[],
+        orders: &[(0, UP, 1, 40, 3000, None)],
+        gates: &[],
+    },
+    MarketRow {
+        limits: &[],
+        orders: &[(0, UP, 0, 40, 3000, Some(0))],
+        gates: &[(None, None)],
+    },
+    MarketRow {
+        limits: &[],
+        orders: &[(0, UP, 41, 40, 3000, Some(0))],
+        gates: &[(None, None)],
+    },
+    MarketRow {
+        limits: &[],
+        orders: &[(0, UP, 40, 40, 3000, Some(1))],
+        gates: &[(None, None)],
+    },
+];
+
+/// How many of these markets are valid.
+fn count_valid(alloc: Global, rows: &[MarketRow]) -> Result<usize, Fail> {
+    let mut count = 0usize;
+    for row in rows {
+        let market = market_of(alloc, row)?;
+        if market.valid() {
+            count = count.saturating_add(1);
+        }
+    }
+    Ok(count)
 }
 
 #[test]
 fn a_gated_order_has_a_least_and_a_plain_one_has_none(rt: HostRuntime) -> Result<(), Fail> {
-    for (least, gate, valid) in [
-        (0, None, true),
-        (1, None, false),
-        (40, Some(0), true),
-        (0, Some(0), false),
-        (41, Some(0), false),
-        (40, Some(1), false),
-    ] {
-        let market = market(rt.alloc(), least, gate)?;
-        assert_eq!(rt; market.valid(), valid, "{least}");
-    }
+    assert_eq!(rt; count_valid(rt.alloc(), VALID)?, VALID.len());
+    assert_eq!(rt; count_valid(rt.alloc(), NOT_VALID)?, 0);
     Ok(())
 }
 

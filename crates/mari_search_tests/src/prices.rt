@@ -162,8 +162,8 @@ const CASES: &[Case] = &[
     },
 ];
 
-/// What is told of both zones, and of the chain.
-type Told = ([Option<Zone>; 2], Few);
+/// What is told of both zones, how many have an area, and the chain.
+type Told = ([Option<Zone>; 2], usize, Few);
 
 /// What is told of a zone, where it has an interval and an area.
 fn zone_in(intervals: &Intervals, areas: &[u32], zone: usize) -> Option<Zone> {
@@ -183,9 +183,9 @@ fn told(tested: Result<Intervals, PriceFault>, areas: &[u32]) -> Result<Told, Fa
     match tested {
         Ok(intervals) => {
             let zones = [zone_in(&intervals, areas, 0), zone_in(&intervals, areas, 1)];
-            Ok((zones, few(&[])))
+            Ok((zones, areas.len(), few(&[])))
         }
-        Err(PriceFault::Conflict(chain)) => Ok(([None; 2], few(chain.as_slice()))),
+        Err(PriceFault::Conflict(chain)) => { Ok(([None; 2], areas.len(), few(chain.as_slice()))) }
         Err(PriceFault::Memory) => Err("memory".into()),
     }
 }
@@ -214,7 +214,8 @@ fn told_in(alloc: Global, case: &Case) -> Result<Told, Fail> {
 #[test]
 fn prices_areas_and_chains(rt: HostRuntime) -> Result<(), Fail> {
     for case in CASES {
-        let want = (case.zones, few(case.chain));
+        let count = if case.market.limits.is_empty() { 1 } else { 2 };
+        let want = (case.zones, count, few(case.chain));
         assert_eq!(rt; told_in(rt.alloc(), case)?, want, "{}", case.name);
     }
     Ok(())

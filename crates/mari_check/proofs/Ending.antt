@@ -22,9 +22,12 @@ use Rattle.mari_check.specs.declared.fault.Fault.TheVariants as fault
 use Rattle.mari_progress.specs.Behind.{run_behind}
 use Rattle.mari_progress.specs.Progress.{AreTotals}
 use Rattle.mari_progress.specs.Runs.{most_of_operator}
+use Rattle.mari_check.specs.declared.verdict.Verdict.{Verdict}
+use Rattle.mari_check.specs.declared.verdict.Verdict.TheVariants.{Invalid, Valid}
 use Rattle.mari_check.specs.Checked.{FindsHead, IsChecked}
-use Rattle.mari_check.specs.Day.{AreFree, FillsBudget, HasHead, HasTotals, IsFirstFault, IsFreeIn, IsNextHeading, IsValidPublication}
+use Rattle.mari_check.specs.Day.{AreFree, FillsBudget, HasHead, HasTotals, IsFirstFault, IsFreeIn, IsHeadFault, IsNextHeading, IsValidPublication}
 use Rattle.mari_check.specs.Faults.{FindsNumber, IsLeast, NoneBelow}
+use Rattle.mari_check.specs.Verdicts.{BlockTells, HeadTells, IsVerdict}
 use Rattle.mari_progress.specs.Money.{amount_line, money_lines_of}
 use Rattle.mari_progress.specs.Told.{heading_of}
 use Rattle.mari_progress.specs.Totals.{operator_totals, provider_totals}
@@ -122,13 +125,22 @@ take-more {X} (y ∷ ys) (suc i) x l at =
     subst (λ (n : ℕ). take (suc i) (y ∷ ys) ++ x ∷ [] ≡ take n (y ∷ ys)) k (ap (λ zs. y ∷ zs) (take-more ys i x (omega (arith, l)) at))
 
 -- the first line
-pub head-fault : (books : Books) (p : Publication) (found : Option ℕ) (number : ℕ) → found ≡ Some number → FindsHead (HasHead books p) found → IsFirstFault books p 0 number
+pub head-fault : (books : Books) (p : Publication) (found : Option ℕ) (number : ℕ) → found ≡ Some number → FindsHead (HasHead books p) found → IsHeadFault books p 0 number
 head-fault books p None number e f = cc e
-head-fault books p (Some n) number e f = let same : n ≡ number = cc e in inl (record { differs = f.0; run_is = refl; number_is = sym same ∙ f.1 })
+head-fault books p (Some n) number e f = let same : n ≡ number = cc e in record { differs = f.0; run_is = refl; number_is = sym same ∙ f.1 }
 
 pub head-right : (books : Books) (p : Publication) (found : Option ℕ) → found ≡ None → FindsHead (HasHead books p) found → HasHead books p
 head-right books p None e f = f
 head-right books p (Some n) e f = absurd (cc e)
+
+pub head-told : (books : Books) (p : Publication) (found : Option Verdict) (v : Verdict) → found ≡ Some v → HeadTells books p found → IsVerdict books p v
+head-told books p None v e h = cc e
+head-told books p (Some (Valid published unpublished)) v e h = absurd h
+head-told books p (Some (Invalid run number)) v e h = let same : Invalid run number ≡ v = cc e in subst (IsVerdict books p) same (inl h)
+
+pub head-clear : (books : Books) (p : Publication) (found : Option Verdict) → found ≡ None → HeadTells books p found → HasHead books p
+head-clear books p None e h = h
+head-clear books p (Some v) e h = absurd (cc e)
 
 module _ (books : Books) (p : Publication) (head : HasHead books p) (kept : DayCheck) (budget : p.budget ≡ kept.budget) where
   free-of : (blocks : List Block) → AreFree books kept.budget blocks → AreFree books p.budget blocks
@@ -136,7 +148,7 @@ module _ (books : Books) (p : Publication) (head : HasHead books p) (kept : DayC
 
   -- a block has a fault
   pub block-fault : (blocks : List Block) → p.blocks ≡ blocks → (i : ℕ) (x : Block) → i < length blocks → x ≡ get_or blocks i x → IsChecked books (take i blocks) kept → (run number : ℕ)
-      → run ≡ kept.progress.published + kept.unpublished + 1 → FindsNumber (IsFreeIn books kept.budget (take i blocks) x) (Some number) → IsFirstFault books p run number
+      → run ≡ run_behind (take i blocks) → FindsNumber (IsFreeIn books kept.budget (take i blocks) x) (Some number) → IsFirstFault books p run number
   block-fault blocks same i x l at checked run number is found =
       let there : slice_get blocks i ≡ Some x = slice_get-get_or blocks i x l ∙ ap Some (sym at) in
       let F : ℕ → Type 0 = λ n. IsLeast (IsFreeIn books n (take i blocks) x) found.0 in
@@ -150,9 +162,17 @@ module _ (books : Books) (p : Publication) (head : HasHead books p) (kept : DayC
         before = subst A (sym same) (free-of (take i blocks) checked.free);
         least = found.0;
         is_least = subst L (sym same) (subst F (sym budget) found.1);
-        run_is = omega (arith, is, checked.progress.published, checked.unpublished, both-kinds (take i blocks), length-take-le i blocks (omega (arith, l)));
+        run_is = omega (arith, is, length-take-le i blocks (omega (arith, l)));
         number_is = found.2;
       }))
+
+  pub block-told : (blocks : List Block) → p.blocks ≡ blocks → (i : ℕ) (x : Block) → i < length blocks → x ≡ get_or blocks i x → IsChecked books (take i blocks) kept
+      → (found : Option Verdict) → BlockTells books kept.budget (take i blocks) x found → (v : Verdict) → found ≡ Some v → IsVerdict books p v
+  block-told blocks same i x l at checked None tells v e = cc e
+  block-told blocks same i x l at checked (Some (Valid published unpublished)) tells v e = absurd tells
+  block-told blocks same i x l at checked (Some (Invalid run number)) tells v e =
+      let is : Invalid run number ≡ v = cc e in
+      subst (IsVerdict books p) is (block-fault blocks same i x l at checked run number tells.0 tells.1)
 
   module _ (checked : IsChecked books p.blocks kept) where
     pub is-missing : (run number : ℕ) → kept.progress.published + kept.unpublished < length books.runs.runs → run ≡ kept.progress.published + kept.unpublished + 1 → number ≡ 1 → IsFirstFault books p run number

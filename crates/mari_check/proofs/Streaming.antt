@@ -1,6 +1,6 @@
 -- The parts of a publication, one behind the other, and what they settle.
 use Rattle.std.proofs.Common.{◌≡◌, ◌∙◌, ◌+◌, ◌<◌, ◌≤◌, ◌-◌, ℕ, true, false, List, [], ◌∷◌, ◌++◌, map, length, take, get_or, Option, Some, None, refl, sym, ap, subst, arith, append_assoc, length-append}
-use Rattle.std.specs.Prelude.{is_some, ⊤}
+use Rattle.std.specs.Prelude.{is_some, Result as Res, Ok, Err, IfOk, ⊤}
 use Rattle.std.proofs.Math.Seq.{take-append_seam}
 use Rattle.std.proofs.lemmas.List.{append-nil, length-map, map_push}
 use Rattle.mari_publish.specs.declared.held.Held.{Held}
@@ -19,13 +19,11 @@ use Rattle.mari_lines.specs.declared.line.Line.{Line}
 use Rattle.mari_remain.specs.declared.books.Books.{Books}
 use Rattle.mari_check.specs.declared.day.DayCheck.{DayCheck}
 use Rattle.mari_check.specs.declared.verdict.Verdict.{Verdict}
-use Rattle.mari_check.specs.declared.verdict.Verdict.TheVariants.{Invalid}
-use Rattle.mari_check.specs.Checked.{FindsHead, IsChecked}
-use Rattle.mari_check.specs.Day.{HasHead, IsFreeIn}
-use Rattle.mari_check.specs.Faults.{FindsNumber}
+use Rattle.mari_check.specs.Checked.{IsChecked}
+use Rattle.mari_check.specs.Day.{HasHead}
 use Rattle.mari_check.specs.Streams.{Comes, HasNoFault, IsFound, IsOpen, IsSettled}
-use Rattle.mari_check.specs.Verdicts.{IsVerdict}
-use Rattle.mari_check.proofs.Ending.{block-fault, head-fault, head-right}
+use Rattle.mari_check.specs.Verdicts.{BlockTells, HeadTells, IsVerdict}
+use Rattle.mari_check.proofs.Ending.{block-told, head-clear, head-told}
 
 -- ---- which part comes
 
@@ -149,22 +147,29 @@ pub first-checked : (books : Books) (parts : List Part) (day : DayCheck) (x : Pa
 first-checked books parts day x date quarters budget is o c = subst (λ (ps : List Part). IsOpen books ps day) (first books parts day date quarters budget o (subst (Comes parts) is c)) o
 
 module _ (books : Books) (parts : List Part) (old : DayCheck) (fine : IsOpen books parts old) (x : Part) (c : Comes parts x) (date : List ℕ) (quarters budget : ℕ) (is : x ≡ part.Head date quarters budget)
-    (found : Option ℕ) (finds : (p : Publication) → p.date ≡ date → p.quarters ≡ quarters → FindsHead (HasHead books p) found) where
+    (found : Option Verdict) (tells : (p : Publication) → p.date ≡ date → p.quarters ≡ quarters → HeadTells books p found) where
   alone : parts ++ x ∷ [] ≡ part.Head date quarters budget ∷ []
   alone = ap (λ (ps : List Part). ps ++ x ∷ []) (first books parts old date quarters budget fine (subst (Comes parts) is c)) ∙ ap (λ (y : Part). y ∷ []) is
 
-  pub head-settles : (number : ℕ) → found ≡ Some number → IsSettled books (parts ++ x ∷ []) (Invalid 0 number)
-  head-settles number e = λ p more same.
+  head-settles : (v : Verdict) → found ≡ Some v → IsSettled books (parts ++ x ∷ []) v
+  head-settles v e = λ p more same.
       let s = starts p date quarters budget more (same ∙ ap (λ (ps : List Part). ps ++ more) alone) in
-      head-fault books p found number e (finds p s.date_is s.quarters_is)
+      head-told books p found v e (tells p s.date_is s.quarters_is)
 
-  pub head-opens : (new : DayCheck) → found ≡ None → IsChecked books [] new → new.budget ≡ budget → IsOpen books (parts ++ x ∷ []) new
+  head-opens : (new : DayCheck) → found ≡ None → IsChecked books [] new → new.budget ≡ budget → IsOpen books (parts ++ x ∷ []) new
   head-opens new e checked b =
       let p = c.whole in
       let s = starts p date quarters budget c.more (c.are ∙ sym (append_assoc parts (x ∷ []) c.more) ∙ ap (λ (ps : List Part). ps ++ c.more) alone) in
-      let right = head-right books p found e (finds p s.date_is s.quarters_is) in
+      let right = head-clear books p found e (tells p s.date_is s.quarters_is) in
       let now : HasNoFault books date quarters budget [] new = record { date_is = sym s.date_is ∙ right.date; quarters_is = sym s.quarters_is ∙ right.quarters; budget_is = sym b; blocks = []; are = refl; checked = checked } in
       subst (λ (ps : List Part). IsOpen books ps new) (sym alone) now
+
+  pub head-found : (new : DayCheck) → IsChecked books [] new → new.budget ≡ budget → IsFound books (parts ++ x ∷ []) new found
+  head-found new checked b = by found refl
+    where
+      by : (f : Option Verdict) → found ≡ f → IsFound books (parts ++ x ∷ []) new f
+      by None e = head-opens new e checked b
+      by (Some v) e = head-settles v e
 
 -- a block and the totals come behind a head
 abbrev pub IsLater : Part → Type 0
@@ -221,9 +226,8 @@ module _ (books : Books) (parts : List Part) (old : DayCheck) (x : Part) (w : Wa
         stands = behind p.blocks p.operators p.providers w.clear.blocks x more (s.rest_is ∙ ap (λ (ps : List Part). ps ++ x ∷ more) w.clear.are);
       }
 
-  pub block-settles : (b : Block) → x ≡ part.Block b → (run number : ℕ) → run ≡ old.progress.published + old.unpublished + 1 → FindsNumber (IsFreeIn books old.budget w.clear.blocks b) (Some number)
-      → IsSettled books (parts ++ x ∷ []) (Invalid run number)
-  block-settles b is run number run_is found = λ p more e.
+  block-settles : (b : Block) → x ≡ part.Block b → (v : Verdict) → BlockTells books old.budget w.clear.blocks b (Some v) → IsSettled books (parts ++ x ∷ []) v
+  block-settles b is v tells = λ p more e.
       let spot = placed p more e in
       let own : Behind p.blocks p.operators p.providers w.clear.blocks (part.Block b) = subst (Behind p.blocks p.operators p.providers w.clear.blocks) is spot.stands in
       let before = w.clear.blocks in
@@ -231,14 +235,14 @@ module _ (books : Books) (parts : List Part) (old : DayCheck) (x : Part) (w : Wa
       let front : take (length before) all ≡ before = take-append_seam before (b ∷ own.0) in
       let longer = length-append before (b ∷ own.0) in
       let C : List Block → Type 0 = λ bs. IsChecked books bs old in
-      let F : List Block → Type 0 = λ bs. FindsNumber (IsFreeIn books old.budget bs b) (Some number) in
-      block-fault books p spot.head old spot.budget all own.1 (length before) b (omega (arith, longer)) (here before b own.0) (subst C (sym front) w.clear.checked) run number run_is (subst F (sym front) found)
+      let T : List Block → Type 0 = λ bs. BlockTells books old.budget bs b (Some v) in
+      block-told books p spot.head old spot.budget all own.1 (length before) b (omega (arith, longer)) (here before b own.0) (subst C (sym front) w.clear.checked) (Some v) (subst T (sym front) tells) v refl
     where
       here : (before : List Block) (b : Block) (others : List Block) → b ≡ get_or (before ++ b ∷ others) (length before) b
       here [] b others = refl
       here (a ∷ before) b others = here before b others
 
-  pub block-opens : (b : Block) → x ≡ part.Block b → (new : DayCheck) → IsChecked books (w.clear.blocks ++ b ∷ []) new → new.budget ≡ old.budget → IsOpen books (parts ++ x ∷ []) new
+  block-opens : (b : Block) → x ≡ part.Block b → (new : DayCheck) → IsChecked books (w.clear.blocks ++ b ∷ []) new → new.budget ≡ old.budget → IsOpen books (parts ++ x ∷ []) new
   block-opens b is new checked budget =
       let longer : parts ++ x ∷ [] ≡ part.Head w.date w.quarters w.budget ∷ (w.rest ++ x ∷ []) = ap (λ (ps : List Part). ps ++ x ∷ []) w.is in
       let now : HasNoFault books w.date w.quarters w.budget (w.rest ++ x ∷ []) new = record {
@@ -250,6 +254,12 @@ module _ (books : Books) (parts : List Part) (old : DayCheck) (x : Part) (w : Wa
         checked = checked;
       } in
       subst (λ (ps : List Part). IsOpen books ps new) (sym longer) now
+
+  pub block-found : {E : Type 0} (b : Block) → x ≡ part.Block b → (new : DayCheck) (r : Res (Option Verdict) E) → IfOk r (BlockTells books old.budget w.clear.blocks b)
+      → (r ≡ Ok None → IsChecked books (w.clear.blocks ++ b ∷ []) new) → new.budget ≡ old.budget → IfOk r (IsFound books (parts ++ x ∷ []) new)
+  block-found b is new (Ok None) tells stands budget = block-opens b is new (stands refl) budget
+  block-found b is new (Ok (Some v)) tells stands budget = block-settles b is v tells
+  block-found b is new (Err why) tells stands budget = tt
 
   pub totals-settle : (os : List MoneyLine) (ps : List AmountLine) → x ≡ part.Totals os ps → (v : Verdict)
       → ((p : Publication) → HasHead books p → p.budget ≡ old.budget → IsChecked books p.blocks old → p.operators ≡ os → p.providers ≡ ps → IsVerdict books p v) → IsSettled books (parts ++ x ∷ []) v

@@ -58,17 +58,8 @@ impl DayCheck {
                 date,
                 quarters,
                 budget,
-            } => match self.head(books, date, *quarters, *budget) {
-                Some(fault) => Ok(Some(Verdict::Invalid { run: 0, fault })),
-                None => Ok(None),
-            },
-            Part::Block(block) => {
-                let run = self.next_run();
-                match self.block(alloc, books, block)? {
-                    Some(fault) => Ok(Some(Verdict::Invalid { run, fault })),
-                    None => Ok(None),
-                }
-            }
+            } => Ok(self.head_verdict(books, date, *quarters, *budget)),
+            Part::Block(block) => self.block_verdict(alloc, books, block),
             Part::Totals {
                 operators,
                 providers,

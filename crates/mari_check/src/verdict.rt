@@ -1,12 +1,12 @@
 //! The verdict on a whole publication.
 
-ghost use Rattle.std.specs.Prelude.{◌≡◌, [], List, None, IfOk, IfSome, IsTrue, ◌↔◌};
+ghost use Rattle.std.specs.Prelude.{◌≡◌, ◌++◌, ◌∷◌, [], List, None, Ok, IfOk, IfSome, IsTrue, ◌↔◌};
 ghost use Rattle.mari_publish.specs.declared.publication.Block.{Block as PrintedBlock};
 ghost use Rattle.mari_publish.specs.declared.publication.Publication.{Publication as ThePublication};
 ghost use Rattle.mari_remain.specs.Accepted.{IsAccepted};
 ghost use Rattle.mari_check.specs.Checked.{IsChecked};
 ghost use Rattle.mari_check.specs.Day.{HasHead, HasTotals};
-ghost use Rattle.mari_check.specs.Verdicts.{IsVerdict};
+ghost use Rattle.mari_check.specs.Verdicts.{BlockTells, HeadTells, IsVerdict};
 
 use crate::day::DayCheck;
 use crate::fault::Fault;
@@ -14,7 +14,7 @@ use crate::ledger::{are_money_lines, are_total_lines};
 use mari_progress::run_count;
 use mari_publish::{AmountLine, Block, MoneyLine, Publication};
 use mari_remain::Books;
-use mari_units::Memory;
+use mari_units::{Memory, Name};
 use std::alloc::Global;
 
 /// A publication is valid, with so many published runs and so many that aren't; or the first run that has a fault, and
@@ -75,6 +75,45 @@ impl DayCheck {
         }
     }
 
+    /// The verdict where the first line isn't that of the books. It is taken once, before any block.
+    pub(crate) fn head_verdict(
+        &mut self,
+        books: &Books,
+        date: &Name,
+        quarters: u32,
+        budget: u32,
+    ) -> Option<Verdict>
+        requires { IsChecked books.now [] self.old }
+        ensures tells { (p : ThePublication) → p.date ≡ date.now → p.quarters ≡ quarters → HeadTells books.now p result }
+        ensures stands { IsChecked books.now [] self.new }
+        ensures budget { self.new.budget ≡ budget }
+    {
+        match self.head(books, date, quarters, budget) {
+            Some(fault) => Some(Verdict::Invalid { run: 0, fault }),
+            None => None,
+        }
+    }
+
+    /// The verdict where the block behind those so far has a fault. No fault was found before.
+    pub(crate) fn block_verdict(
+        &mut self,
+        alloc: Global,
+        books: &Books,
+        block: &Block,
+    ) -> Result<Option<Verdict>, Memory>
+        requires accepted { IsAccepted books.now }
+        requires stands { (blocks : List PrintedBlock) × IsChecked books.now blocks self.old }
+        ensures tells { (blocks : List PrintedBlock) → IsChecked books.now blocks self.old → IfOk result (BlockTells books.now self.old.budget blocks block.now) }
+        ensures stands { (blocks : List PrintedBlock) → IsChecked books.now blocks self.old → result ≡ Ok None → IsChecked books.now (blocks ++ block.now ∷ []) self.new }
+        ensures budget { self.new.budget ≡ self.old.budget }
+    {
+        let run = self.next_run();
+        match self.block(alloc, books, block)? {
+            Some(fault) => Ok(Some(Verdict::Invalid { run, fault })),
+            None => Ok(None),
+        }
+    }
+
     /// The first fault of these blocks, behind none.
     fn all_blocks(
         &mut self,
@@ -89,10 +128,8 @@ impl DayCheck {
         ensures budget { self.new.budget ≡ self.old.budget }
     {
         for block in blocks {
-            let run = self.next_run();
-            match self.block(alloc, books, block)? {
-                Some(fault) => return Ok(Some(Verdict::Invalid { run, fault })),
-                None => {}
+            if let Some(verdict) = self.block_verdict(alloc, books, block)? {
+                return Ok(Some(verdict));
             }
         }
         Ok(None)
@@ -106,14 +143,14 @@ pub fn check_day(alloc: Global, books: &Books, publication: &Publication) -> Res
     ensures { IfOk result (IsVerdict books.now publication.now) }
 {
     let mut day = DayCheck::start(alloc, books)?;
-    let head = day.head(
+    let head = day.head_verdict(
         books,
         &publication.date,
         publication.quarters,
         publication.budget,
     );
-    if let Some(fault) = head {
-        return Ok(Verdict::Invalid { run: 0, fault });
+    if let Some(verdict) = head {
+        return Ok(verdict);
     }
     match day.all_blocks(alloc, books, publication.blocks.as_slice())? {
         Some(verdict) => Ok(verdict),

@@ -1,6 +1,6 @@
 -- Faults, one after the other.
 use Rattle.std.proofs.Common.{◌≡◌, ◌==◌, ◌+◌, ◌≤◌, ℕ, Bool, true, false, if◌then◌else◌, Option, Some, None, arith, refl, sym, ap, ◌∙◌, subst}
-use Rattle.std.proofs.lemmas.Bool.{both_ways, cases_lt}
+use Rattle.std.proofs.lemmas.Bool.{cases_lt}
 use Rattle.std.proofs.Common.{inl, inr}
 use Rattle.mari_check.specs.declared.fault.Fault.{Fault}
 use Rattle.mari_check.specs.declared.fault.Fault.TheVariants as fault
@@ -92,18 +92,11 @@ pub found-none : (free_of : Fault → Type 0) (n : ℕ) (found : Option Fault) �
 found-none free_of n None e h = h
 found-none free_of n (Some g) e h = absurd (cc e)
 
--- the last test of a block
-pub last-fails : (free_of : Fault → Type 0) (held : Bool) → NoneBelow free_of 11 → (free_of fault.Ledger → held ≡ true) → held ≡ false → IsLeast free_of fault.Ledger
-last-fails free_of held none test wrong = least-is free_of fault.Ledger none (λ h. both_ways held wrong (test h))
-
+-- behind the last test of a block
 pub last-passes : (free_of : Fault → Type 0) → NoneBelow free_of 11 → free_of fault.Ledger → free_of fault.Totals → (any : Fault) → free_of any
 last-passes free_of none ledger totals = none-is free_of (none-more free_of fault.Totals 12 refl (none-more free_of fault.Ledger 11 refl none ledger) totals)
 
--- what is told, where it is told or isn't
-pub finds-some : (free_of : Fault → Type 0) (found : Option Fault) (f : Fault) → found ≡ Some f → Finds free_of found → IsLeast free_of f
-finds-some free_of None f e h = absurd (cc e)
-finds-some free_of (Some g) f e h = let same : g ≡ f = cc e in subst (IsLeast free_of) same h
-
+-- what is told where none is
 pub finds-none : (free_of : Fault → Type 0) (found : Option Fault) → found ≡ None → Finds free_of found → (any : Fault) → free_of any
 finds-none free_of None e h = h
 finds-none free_of (Some g) e h = absurd (cc e)

@@ -9,6 +9,7 @@ pub mod Zips
 pub mod Naming
 pub mod Intervals
 pub mod Providers
+pub mod Examining
 pub mod Made
 pub mod Showing
 pub mod Keeping

@@ -1,4 +1,5 @@
 pub mod Faults
+pub mod Examined
 pub mod Lines
 pub mod Spread
 pub mod Ends

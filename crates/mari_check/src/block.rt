@@ -7,7 +7,8 @@ ghost use Rattle.mari_market.specs.Market.{IsValid};
 ghost use Rattle.mari_market.specs.Optimal.{IsConsistent, IsFeasible};
 ghost use Rattle.mari_market.specs.Price.{ArePrices};
 ghost use Rattle.mari_remain.specs.Accepted.{IsAccepted};
-ghost use Rattle.mari_check.specs.Faults.{Finds, FindsNumber, FindsUpTo, IsFreeOf, IsShaped, NoneBelow};
+ghost use Rattle.mari_check.specs.Examined.{IsExamined};
+ghost use Rattle.mari_check.specs.Faults.{FindsNumber, FindsUpTo, IsFreeOf, IsShaped, NoneBelow};
 ghost use Rattle.mari_remain.specs.declared.books.Books.{Books as TheBooks};
 ghost use Rattle.mari_remain.specs.declared.market.RunMarket.{RunMarket as TheRunMarket};
 ghost use Rattle.mari_market.specs.Tree.{TreeHoldsFor};
@@ -17,7 +18,7 @@ ghost use Rattle.mari_progress.specs.Told.{activation_of as activation_told, pri
 
 use crate::areas::are_areas;
 use crate::fault::Fault;
-use crate::ledger::has_ledger;
+use crate::ledger::told_ledger;
 use crate::names::names_market;
 use crate::pricing::{has_intervals, has_published_prices};
 use crate::told::{activation_of, areas_of, prices_of};
@@ -28,9 +29,22 @@ use mari_progress::heading;
 use mari_proofs::{TreeVerdict, check_tree};
 use mari_publish::FullBlock;
 use mari_remain::{Books, RunMarket};
+use mari_settle::Ledger;
 use mari_units::{Memory, Quarters};
 use mari_welfare::{is_consistent, is_feasible, welfare};
 use std::alloc::Global;
+
+/// The least fault of a published block; or, where it has none, the activation and the prices that it tells, and the
+/// ledger of its run.
+#[derive(Drop)]
+pub enum Examined {
+    Faulty(Fault),
+    Sound {
+        activation: Activation,
+        prices: Prices,
+        ledger: Ledger,
+    },
+}
 
 /// A fault of the heading or of the names.
 fn naming_fault(books: &Books, run: u32, made: &RunMarket, block: &FullBlock) -> Option<Fault>
@@ -65,8 +79,10 @@ fn trading_fault(
     requires valid { IsValid market.now }
     requires activation { activation.now ≡ activation_told block.now }
     requires prices { prices.now.cents ≡ prices_told block.now }
-    ensures { (books : TheBooks) (run : ℕ) (made : TheRunMarket) (also : Option (List TheCents)) (budget : Option ℕ) → made.market ≡ market.now
+    ensures finds { (books : TheBooks) (run : ℕ) (made : TheRunMarket) (also : Option (List TheCents)) (budget : Option ℕ) → made.market ≡ market.now
         → NoneBelow (IsFreeOf books run made also budget block.now) 3 → FindsUpTo (IsFreeOf books run made also budget block.now) 6 result }
+    ensures feasible { result ≡ None → IsFeasible market.now activation.now }
+    ensures consistent { result ≡ None → IsConsistent market.now activation.now prices.now.cents }
 {
     if !is_feasible(market, activation) {
         return Some(Fault::Infeasible);
@@ -153,8 +169,32 @@ fn tree_fault(
     None
 }
 
-/// The least fault of a published block of a run with this market, whose quarter has these scheduled prices, or none.
-pub(crate) fn fault_in(
+/// A fault of the activation, of its welfare, of the prices, intervals and areas, or of the tree.
+fn market_fault(
+    alloc: Global,
+    market: &Market,
+    block: &FullBlock,
+    activation: &Activation,
+    prices: &Prices,
+    budget: Option<u32>,
+) -> Result<Option<Fault>, Memory>
+    requires valid { IsValid market.now }
+    requires activation { activation.now ≡ activation_told block.now }
+    requires prices { prices.now.cents ≡ prices_told block.now }
+    ensures { (books : TheBooks) (run : ℕ) (made : TheRunMarket) (also : Option (List TheCents)) → made.market ≡ market.now
+        → NoneBelow (IsFreeOf books run made also budget block.now) 3 → IfOk result (FindsUpTo (IsFreeOf books run made also budget block.now) 11) }
+{
+    if let Some(fault) = trading_fault(market, block, activation, prices) {
+        return Ok(Some(fault));
+    }
+    if let Some(fault) = pricing_fault(alloc, market, block, activation)? {
+        return Ok(Some(fault));
+    }
+    Ok(tree_fault(market, block, activation, budget))
+}
+
+/// What is found of a published block of a run with this market, whose quarter has these scheduled prices, or none.
+pub(crate) fn examine(
     alloc: Global,
     books: &Books,
     run: u32,
@@ -162,32 +202,35 @@ pub(crate) fn fault_in(
     block: &FullBlock,
     also: Option<&Prices>,
     budget: Option<u32>,
-) -> Result<Option<Fault>, Memory>
+) -> Result<Examined, Memory>
     requires accepted { IsAccepted books.now }
     requires run { 1 ≤ run }
     requires made { IsMarketOf books.now made.now }
     requires also { IfSome also (λ scheduled. ArePrices made.now.market scheduled.now.cents) }
-    ensures { IfOk result (Finds (IsFreeOf books.now run made.now (option_map (λ scheduled. scheduled.now.cents) also.entry) budget block.now)) }
+    ensures { IfOk result (IsExamined books.now run made.now (option_map (λ scheduled. scheduled.now.cents) also.entry) budget block.now) }
 {
     if let Some(fault) = naming_fault(books, run, made, block) {
-        return Ok(Some(fault));
+        return Ok(Examined::Faulty(fault));
     }
-    let market = &made.market;
     let activation = activation_of(alloc, block)?;
     let prices = prices_of(alloc, block)?;
-    if let Some(fault) = trading_fault(market, block, &activation, &prices) {
-        return Ok(Some(fault));
+    if let Some(fault) = market_fault(alloc, &made.market, block, &activation, &prices, budget)? {
+        drop(prices);
+        drop(activation);
+        return Ok(Examined::Faulty(fault));
     }
-    if let Some(fault) = pricing_fault(alloc, market, block, &activation)? {
-        return Ok(Some(fault));
+    match told_ledger(alloc, books, made, block, &prices, &activation, also)? {
+        Some(ledger) => Ok(Examined::Sound {
+            activation,
+            prices,
+            ledger,
+        }),
+        None => {
+            drop(prices);
+            drop(activation);
+            Ok(Examined::Faulty(Fault::Ledger))
+        }
     }
-    if let Some(fault) = tree_fault(market, block, &activation, budget) {
-        return Ok(Some(fault));
-    }
-    if !has_ledger(alloc, books, made, block, &prices, &activation, also)? {
-        return Ok(Some(Fault::Ledger));
-    }
-    Ok(None)
 }
 
 /// The number of the least fault of a published block, or none exactly where it has none: of its heading, its lines,
@@ -209,9 +252,17 @@ pub fn check_run(
     requires also { IfSome also (λ scheduled. ArePrices made.now.market scheduled.now.cents) }
     ensures { IfOk result (FindsNumber (IsFreeOf books.now run made.now (option_map (λ scheduled. scheduled.now.cents) also.entry) None block.now)) }
 {
-    let found = fault_in(alloc, books, run, made, block, also, None)?;
-    match found {
-        Some(fault) => Ok(Some(fault.number())),
-        None => Ok(None),
+    match examine(alloc, books, run, made, block, also, None)? {
+        Examined::Faulty(fault) => Ok(Some(fault.number())),
+        Examined::Sound {
+            activation,
+            prices,
+            ledger,
+        } => {
+            drop(ledger);
+            drop(prices);
+            drop(activation);
+            Ok(None)
+        }
     }
 }

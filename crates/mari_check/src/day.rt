@@ -1,27 +1,20 @@
 //! The check of a day, block by block.
 
-ghost use Rattle.std.specs.Prelude.{◌≡◌, ◌≤◌, ◌+◌, ◌++◌, ◌∷◌, [], List, None, Ok, IfOk, IfSome, IsTrue, ◌↔◌, length, option_map};
-ghost use Rattle.mari_market.specs.Optimal.{IsConsistent, IsFeasible};
-ghost use Rattle.mari_market.specs.Price.{ArePrices};
+ghost use Rattle.std.specs.Prelude.{◌≡◌, ◌≤◌, ◌+◌, ◌++◌, ◌∷◌, [], List, None, Ok, IfOk, IsTrue, ◌↔◌, length};
 ghost use Rattle.mari_remain.specs.Accepted.{IsAccepted};
 ghost use Rattle.mari_progress.specs.Behind.{run_behind};
-ghost use Rattle.mari_progress.specs.Money.{HasLedger};
 ghost use Rattle.mari_progress.specs.Progress.{published_block};
-ghost use Rattle.mari_progress.specs.Runs.{IsMarketOf, IsRunOf};
-ghost use Rattle.mari_progress.specs.Told.{activation_of as activation_told, prices_of as prices_told};
 ghost use Rattle.mari_check.specs.Checked.{FindsHead, IsChecked, IsTested, unpublished_block};
 ghost use Rattle.mari_check.specs.Day.{FillsBudget, HasHead, IsFreeIn, IsNextHeading};
 ghost use Rattle.mari_check.specs.Faults.{Finds, FindsNumber};
 ghost use Rattle.mari_publish.specs.declared.publication.Publication.{Publication as ThePublication};
 ghost use Rattle.mari_publish.specs.declared.publication.Block.{Block as PrintedBlock};
 
-use crate::block::fault_in;
+use crate::block::{Examined, examine};
 use crate::fault::Fault;
-use crate::told::{activation_of, prices_of};
-use mari_market::Prices;
-use mari_progress::{Progress, SettledRun, heading, ledger_of, run_count};
+use mari_progress::{Progress, SettledRun, heading, run_count};
 use mari_publish::{Block, FullBlock, Heading};
-use mari_remain::{Books, RunMarket};
+use mari_remain::Books;
 use mari_units::{MOST_RUNS, Memory, Name};
 use std::alloc::Global;
 
@@ -39,39 +32,6 @@ pub struct DayCheck {
     pub budget: u32,
     pub progress: Progress,
     pub unpublished: u32,
-}
-
-/// What a published block adds, which tells a feasible activation and consistent prices of its run's market, and its
-/// ledger.
-fn settled_of(
-    alloc: Global,
-    books: &Books,
-    made: RunMarket,
-    block: &FullBlock,
-    also: Option<&Prices>,
-) -> Result<SettledRun, Memory>
-    // The run's market, as the folder's books give it.
-    requires accepted { IsAccepted books.now }
-    requires made { IsMarketOf books.now made }
-
-    // What the block tells of it was tested, beside the scheduled prices if there are any.
-    requires feasible { IsFeasible made.market (activation_told block.now) }
-    requires consistent { IsConsistent made.market (activation_told block.now) (prices_told block.now) }
-    requires ledger { HasLedger books.now made (option_map (λ scheduled. scheduled.now.cents) also) block.now }
-    requires also { IfSome also (λ scheduled. ArePrices made.market scheduled.now.cents) }
-
-    // What the day keeps of it.
-    ensures { IfOk result (IsRunOf books.now made (option_map (λ scheduled. scheduled.now.cents) also.entry) block.now) }
-{
-    let activation = activation_of(alloc, block)?;
-    let prices = prices_of(alloc, block)?;
-    let ledger = ledger_of(alloc, books, &made, &prices, &activation, also)?;
-    Ok(SettledRun {
-        made,
-        activation,
-        prices,
-        ledger,
-    })
 }
 
 impl DayCheck {
@@ -127,12 +87,18 @@ impl DayCheck {
         let made = self.progress.market_of(alloc, books, run)?;
         let also = self.progress.also(books, run);
         let budget = Some(self.budget);
-        match fault_in(alloc, books, run, &made, block, also, budget)? {
-            Some(fault) => Ok(Tested::Faulty(fault)),
-            None => {
-                let settled = settled_of(alloc, books, made, block, also)?;
-                Ok(Tested::Sound(settled))
-            }
+        match examine(alloc, books, run, &made, block, also, budget)? {
+            Examined::Faulty(fault) => Ok(Tested::Faulty(fault)),
+            Examined::Sound {
+                activation,
+                prices,
+                ledger,
+            } => Ok(Tested::Sound(SettledRun {
+                made,
+                activation,
+                prices,
+                ledger,
+            })),
         }
     }
 

@@ -7,8 +7,9 @@ ghost use Rattle.mari_market.specs.Price.{ArePrices};
 ghost use Rattle.mari_remain.specs.Accepted.{IsAccepted};
 ghost use Rattle.mari_settle.specs.Conditions.{HasSmallNumbers, LineIsWithin};
 ghost use Rattle.mari_settle.specs.Ledger.{net_of as net_in};
+ghost use Rattle.mari_check.specs.Examined.{IsToldLedger};
 ghost use Rattle.mari_check.specs.Lines.{TellsLedger, TellsRent};
-ghost use Rattle.mari_progress.specs.Money.{HasLedger, amount_line, money_line, money_lines_of};
+ghost use Rattle.mari_progress.specs.Money.{amount_line, money_line, money_lines_of};
 ghost use Rattle.mari_progress.specs.Runs.{IsMarketOf};
 ghost use Rattle.mari_progress.specs.Told.{activation_of as activation_told, name_at, prices_of as prices_told};
 ghost use Rattle.mari_lines.specs.declared.line.AmountLine.{AmountLine as TheAmountLine};
@@ -133,8 +134,8 @@ pub(crate) fn are_total_lines(lines: &[AmountLine], names: &NameIndex, amounts: 
     true
 }
 
-/// Whether the block tells the ledger of its run.
-pub(crate) fn has_ledger(
+/// The ledger of the block's run, where the block tells it.
+pub(crate) fn told_ledger(
     alloc: Global,
     books: &Books,
     made: &RunMarket,
@@ -142,7 +143,7 @@ pub(crate) fn has_ledger(
     prices: &Prices,
     activation: &Activation,
     also: Option<&Prices>,
-) -> Result<bool, Memory>
+) -> Result<Option<Ledger>, Memory>
     // The run's market, as the folder's books give it.
     requires accepted { IsAccepted books.now }
     requires made { IsMarketOf books.now made.now }
@@ -155,11 +156,17 @@ pub(crate) fn has_ledger(
     requires also { IfSome also (λ scheduled. ArePrices made.now.market scheduled.now.cents) }
 
     // No other ledger passes.
-    ensures { IfOk result (λ is. IsTrue is ↔ HasLedger books.now made.now (option_map (λ scheduled. scheduled.now.cents) also.entry) block.now) }
+    ensures { IfOk result (IsToldLedger books.now made.now (option_map (λ scheduled. scheduled.now.cents) also.entry) block.now activation.now prices.now) }
 {
     let ledger = ledger_of(alloc, books, made, prices, activation, also)?;
     let places = providers_of(alloc, books.bids.bids.as_slice(), made.bids.as_slice())?;
-    Ok(tells_ledger(books, block, &ledger, &places))
+    let tells = tells_ledger(books, block, &ledger, &places);
+    drop(places);
+    if !tells {
+        drop(ledger);
+        return Ok(None);
+    }
+    Ok(Some(ledger))
 }
 
 /// Whether the block tells this ledger, and of the providers those at these places.

@@ -7,7 +7,7 @@ use Rattle.mari_publish.specs.Texts.{block_text_of, total_text_of}
 use Rattle.mari_remain.specs.declared.books.Books.{Books}
 use Rattle.mari_progress.specs.declared.progress.Progress.{Progress}
 use Rattle.mari_day.specs.declared.step.Stop.{Stop}
-use Rattle.mari_day.specs.declared.step.Stop.TheVariants.{Sink, NoMemory}
+use Rattle.mari_day.specs.declared.step.Stop.TheVariants.{Sink, Memory as NoMemory}
 use Rattle.mari_day.specs.Day.{part_text, then_took, IsDay, WrotePart, WrotePrefix}
 use Rattle.mari_day.specs.Published.{IsBlock}
 use Rattle.mari_day.specs.Progress.{IsDayProgress}

@@ -26,17 +26,17 @@ use std::alloc::Global;
 #[derive(Clone, Copy, Debug, PartialEq, Eq)]
 pub enum Stop {
     Sink,
-    NoMemory,
+    Memory,
 }
 
 impl From<Memory> for Stop {
     ghost use Rattle.std.specs.Prelude.{◌≡◌};
-    ghost use Rattle.mari_day.specs.declared.step.Stop.TheVariants.{NoMemory};
+    ghost use Rattle.mari_day.specs.declared.step.Stop.TheVariants.{Memory as NoMemory};
 
     ghost from_gives = { λ _ e. e ≡ NoMemory };
 
     fn from(_: Memory) -> Self {
-        Stop::NoMemory
+        Stop::Memory
     }
 }
 

@@ -27,7 +27,7 @@ use Rattle.mari_words.specs.Asked.Asked.{Clear, Check, Migrate}
 use Rattle.mari_words.specs.declared.command.FilePart.{FilePart}
 use Rattle.mari_app.specs.declared.outcome.Job.{Job}
 use Rattle.mari_app.specs.declared.outcome.Outcome.{Outcome}
-use Rattle.mari_app.specs.declared.outcome.Outcome.TheVariants.{NoCommand, Day, Text, Invalid, NoPage, Refused, NoMemory}
+use Rattle.mari_app.specs.declared.outcome.Outcome.TheVariants.{NoCommand, Day, Text, Invalid, NoPage, Refused, Memory as NoMemory}
 use Rattle.mari_app.specs.declared.status.Status.{Status}
 use Rattle.mari_app.specs.declared.status.Status.TheVariants as status
 use Rattle.mari_app.specs.Commands.{IsClearable, IsMigratable, IsReadable, LacksPage, ReadsFolder, RefusesFiles, RefusesText, already_two, publication_path, text_refusal}

@@ -23,7 +23,7 @@ use Rattle.mari_words.specs.Asked.{Asked}
 use Rattle.mari_words.specs.Asked.Asked.{Clear, Check}
 use Rattle.mari_app.specs.declared.outcome.Job.{Job}
 use Rattle.mari_app.specs.declared.outcome.Outcome.{Outcome}
-use Rattle.mari_app.specs.declared.outcome.Outcome.TheVariants.{NoCommand, Day, Text, Invalid, NoPage, Refused, NoMemory}
+use Rattle.mari_app.specs.declared.outcome.Outcome.TheVariants.{NoCommand, Day, Text, Invalid, NoPage, Refused, Memory as NoMemory}
 use Rattle.mari_app.specs.declared.status.Status.{Status}
 use Rattle.mari_app.specs.declared.status.Status.TheVariants as status
 use Rattle.mari_app.specs.Commands.{HasPublication, IsInvalid, IsReadable, IsRefused, LacksPage, Prints, ReadsFolder, publication_path}

@@ -1,5 +1,5 @@
 -- A finding with other potentials, or with another conflict, is a finding too.
-use Rattle.std.proofs.Common.{◌≡◌, ◌∙◌, ℤ, pos, Bool, List, Option, Some, None, length, sym, ap, subst}
+use Rattle.std.proofs.Common.{◌≡◌, ◌∙◌, ℤ, pos, Bool, List, Option, Some, None, sym, ap, subst}
 use Rattle.std.specs.Prelude.{MatchOption, IfNone}
 use Rattle.std.specs.Int.{int_max}
 use Rattle.mari_market.specs.declared.market.Market.{Market}

@@ -133,4 +133,4 @@ migrated-reportable books part (outcome.Text text) is = tt
 migrated-reportable books part (outcome.Invalid run fault) is = tt
 migrated-reportable books part (outcome.NoPage file why) is = absurd is
 migrated-reportable books part (outcome.Refused refusal) is = rw is.1 already-reportable
-migrated-reportable books part outcome.NoMemory is = tt
+migrated-reportable books part outcome.Memory is = tt

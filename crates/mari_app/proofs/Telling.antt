@@ -19,7 +19,7 @@ use Rattle.mari_words.specs.Asked.{Asked}
 use Rattle.mari_words.specs.Asked.Asked.{Check, Generate, Migrate}
 use Rattle.mari_words.specs.declared.command.FilePart.{FilePart}
 use Rattle.mari_app.specs.declared.outcome.Outcome.{Outcome}
-use Rattle.mari_app.specs.declared.outcome.Outcome.TheVariants.{NoCommand, Day, Text, Invalid, NoPage, Refused, NoMemory}
+use Rattle.mari_app.specs.declared.outcome.Outcome.TheVariants.{NoCommand, Day, Text, Invalid, NoPage, Refused, Memory as NoMemory}
 use Rattle.mari_app.specs.Commands.{ReadsFolder}
 use Rattle.mari_app.specs.Outcome.{CheckTells, IsMigrated, IsOfWords, IsSummarised, IsToldVerdict, Says, no_books, text_outcome}
 use Rattle.mari_app.specs.Outcome.Says.{OfRefusal, OfGap, Fails, Starves}

@@ -1,7 +1,6 @@
 -- What the words and the pages decide: which folder is read, what is refused, which page can't be had, and what is
 -- printed.
-use Rattle.std.specs.Prelude.{ℕ, ◌≡◌, ◌≢◌, ◌≤◌, List, ◌∷◌, ◌++◌, length, Option, Some, None, option_and_then}
-use lib.Chars.{codes}
+use Rattle.std.specs.Prelude.{ℕ, ◌≡◌, ◌≢◌, ◌≤◌, List, length, Option, Some, None, option_and_then}
 use Rattle.mari_units.specs.declared.faults.Refusal.{Refusal}
 use Rattle.mari_io.specs.Outside.{Pages, page_of}
 use Rattle.mari_io.specs.declared.shelf.TheConstants.{MOST_GIVEN}
@@ -14,7 +13,7 @@ use Rattle.mari_remain.specs.declared.books.Books.{Books}
 use Rattle.mari_remain.specs.Migrated.{borders_page, limits_page}
 use Rattle.mari_day.specs.declared.files.File.TheVariants as file
 use Rattle.mari_day.specs.declared.files.TheConstants.{PUBLICATION}
-use Rattle.mari_day.specs.Files.{Gap, file_named, number_of}
+use Rattle.mari_day.specs.Files.{Gap, file_named, number_of, path_in}
 use Rattle.mari_day.specs.Files.Gap.{NotHeld, OverLimit}
 use Rattle.mari_day.specs.Reading.{HasBooks, HasGap, HasRefusal}
 use Rattle.mari_check.specs.Day.{IsFirstFault, IsValidPublication}
@@ -42,7 +41,7 @@ ReadsFolder asked folder = option_and_then folder_of asked ≡ Some folder
 
 -- the name of a folder's publication
 abbrev pub publication_path : List ℕ → List ℕ
-publication_path folder = folder ++ 47 ∷ file_named PUBLICATION
+publication_path folder = path_in folder (file_named PUBLICATION)
 
 -- the folder's publication is checked: its market files give these books, and it is this page
 pub record HasPublication (asked : Option Asked) (pages : Pages) (books : Books) (page : List ℕ) : Type 0 where

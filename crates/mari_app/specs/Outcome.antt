@@ -33,7 +33,7 @@ use Rattle.mari_market.specs.Clearing.{IsBudget}
 use Rattle.mari_units.specs.declared.limits.TheConstants.{MOST_WORKERS}
 use Rattle.mari_app.specs.declared.outcome.Job.{Job}
 use Rattle.mari_app.specs.declared.outcome.Outcome.{Outcome}
-use Rattle.mari_app.specs.declared.outcome.Outcome.TheVariants.{NoCommand, Day, Text, Invalid, NoPage, Refused, NoMemory}
+use Rattle.mari_app.specs.declared.outcome.Outcome.TheVariants.{NoCommand, Day, Text, Invalid, NoPage, Refused, Memory as NoMemory}
 use Rattle.mari_app.specs.declared.status.Status.{Status}
 use Rattle.mari_app.specs.declared.status.Status.TheVariants as status
 use Rattle.mari_words.specs.declared.command.FilePart.{FilePart}

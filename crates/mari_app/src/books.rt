@@ -22,7 +22,7 @@ fn no_books(fault: BooksFault) -> Outcome
     match fault {
         BooksFault::Fetch(file, why) => Outcome::NoPage(file, why),
         BooksFault::Refused(refusal) => Outcome::Refused(refusal),
-        BooksFault::Memory => Outcome::NoMemory,
+        BooksFault::Memory => Outcome::Memory,
     }
 }
 

@@ -1,6 +1,6 @@
 //! `check FOLDER`: whether a folder's publication is valid for its books.
 
-ghost use Rattle.std.specs.Prelude.{◌≡◌, Some, IfOk, string_bytes};
+ghost use Rattle.std.specs.Prelude.{◌≡◌, Some};
 ghost use Rattle.mari_io.specs.Outside.{Counts, Pages, page_of};
 ghost use Rattle.mari_io.specs.declared.shelf.Fetch.TheVariants as fetch;
 ghost use Rattle.mari_remain.specs.Accepted.{IsAccepted};
@@ -14,23 +14,13 @@ use crate::checks::TextCheck;
 use crate::outcome::Outcome;
 use crate::writing::pair_line;
 use mari_check::{StreamFault, Verdict, check_stream};
-use mari_day::{PUBLICATION, file_name};
+use mari_day::{PUBLICATION, file_name, path_in};
 use mari_io::Shelf;
 use mari_publish::TextFault;
 use mari_remain::Books;
 use mari_rows::FileCheck;
 use mari_units::{Memory, Refusal};
 use std::alloc::Global;
-
-/// The name of a folder's publication.
-fn publication_path(alloc: Global, folder: &str) -> Result<String, Memory>
-    ensures { IfOk result (λ path. string_bytes path ≡ path_of folder.now) }
-{
-    let mut path = String::from_str(alloc, folder)?;
-    path.push_str("/")?;
-    path.push_str(file_name(PUBLICATION))?;
-    Ok(path)
-}
 
 /// The refusal of the publication's text at a line, by a check.
 fn refused_text(line: u32, check: TextCheck) -> Outcome
@@ -51,7 +41,7 @@ fn text_outcome(fault: TextFault) -> Outcome
         TextFault::BadLine(line) => refused_text(line, TextCheck::BadLine),
         TextFault::BadOrder(line) => refused_text(line, TextCheck::BadOrder),
         TextFault::Truncated(line) => refused_text(line, TextCheck::Truncated),
-        TextFault::Memory => Outcome::NoMemory,
+        TextFault::Memory => Outcome::Memory,
     }
 }
 
@@ -65,7 +55,7 @@ fn verdict_outcome(alloc: Global, verdict: Verdict) -> Outcome
             unpublished,
         } => match pair_line(alloc, b"valid ", published, unpublished) {
             Ok(line) => Outcome::Text(line),
-            Err(Memory) => Outcome::NoMemory,
+            Err(Memory) => Outcome::Memory,
         },
         Verdict::Invalid { run, fault } => Outcome::Invalid { run, fault },
     }
@@ -89,14 +79,14 @@ fn checked_books<S: Shelf>(alloc: Global, shelf: &mut S, books: &Books, folder: 
     ensures missing { Counts (IsNoPage fetch.Missing result) (S.misses shelf.old) (S.misses shelf.new) }
     ensures too_long { Counts (IsNoPage fetch.TooLong result) (S.overs shelf.old) (S.overs shelf.new) }
 {
-    let Ok(path) = publication_path(alloc, folder) else {
-        return Outcome::NoMemory;
+    let Ok(path) = path_in(alloc, folder, file_name(PUBLICATION)) else {
+        return Outcome::Memory;
     };
     match check_stream(alloc, books, shelf, &path) {
         Ok(verdict) => verdict_outcome(alloc, verdict),
         Err(StreamFault::Fetch(why)) => Outcome::NoPage(PUBLICATION, why),
         Err(StreamFault::Text(fault)) => text_outcome(fault),
-        Err(StreamFault::Memory) => Outcome::NoMemory,
+        Err(StreamFault::Memory) => Outcome::Memory,
     }
 }
 

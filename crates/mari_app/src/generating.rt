@@ -100,6 +100,6 @@ pub fn generated<G: Turnstile, R: Threads + Wait + Sync>(
 {
     match summary(rt, alloc, number, turnstile) {
         Ok(text) => Outcome::Text(text),
-        Err(Memory) => Outcome::NoMemory,
+        Err(Memory) => Outcome::Memory,
     }
 }

@@ -52,7 +52,7 @@ fn migrated_books(alloc: Global, books: &Books, part: FilePart) -> Outcome
     }
     match page_of(alloc, books, part) {
         Ok(text) => Outcome::Text(text),
-        Err(Memory) => Outcome::NoMemory,
+        Err(Memory) => Outcome::Memory,
     }
 }
 

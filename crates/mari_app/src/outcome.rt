@@ -24,5 +24,5 @@ pub enum Outcome {
     Invalid { run: u32, fault: u8 },
     NoPage(u8, Fetch),
     Refused(Refusal),
-    NoMemory,
+    Memory,
 }

@@ -61,7 +61,7 @@ fn outcome_of<S: Shelf, G: Turnstile, R: Threads + Wait + Sync>(
         Ok(Command::Generate { number }) => generated(rt, alloc, number, turnstile),
         Ok(Command::Migrate { folder, part }) => migrated(alloc, shelf, &folder, part),
         Err(WordsFault::Usage) => Outcome::NoCommand,
-        Err(WordsFault::Memory) => Outcome::NoMemory,
+        Err(WordsFault::Memory) => Outcome::Memory,
     }
 }
 

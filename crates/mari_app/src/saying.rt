@@ -93,6 +93,6 @@ pub fn report<K: Sink>(alloc: Global, sink: &mut K, outcome: &Outcome) -> Status
         Outcome::Invalid { run, fault } => say_invalid(alloc, sink, *run, *fault),
         Outcome::NoPage(file, why) => say_no_page(alloc, sink, *file, *why),
         Outcome::Refused(refusal) => say_refused(alloc, sink, *refusal),
-        Outcome::NoMemory => Status::Memory,
+        Outcome::Memory => Status::Memory,
     }
 }

@@ -6,7 +6,6 @@ ghost use Rattle.mari_market.specs.Optimal.{IsConsistent, IsFeasible};
 ghost use Rattle.mari_market.specs.Price.{ArePrices};
 ghost use Rattle.mari_remain.specs.Accepted.{IsAccepted};
 ghost use Rattle.mari_settle.specs.Conditions.{HasSmallNumbers, LineIsWithin};
-ghost use Rattle.mari_settle.specs.Ledger.{net_of as net_in};
 ghost use Rattle.mari_check.specs.Examined.{IsToldLedger};
 ghost use Rattle.mari_check.specs.Lines.{TellsLedger, TellsRent};
 ghost use Rattle.mari_progress.specs.Money.{amount_line, money_line, money_lines_of};
@@ -46,14 +45,6 @@ fn are_rents(lines: &[BorderLine], rents: &[Quarters]) -> bool
     true
 }
 
-/// An operator's payment less its rent.
-fn net_of(own: OperatorLine) -> Quarters
-    requires { LineIsWithin (10 ^ 30) own }
-    ensures { result.0 ≡ net_in own }
-{
-    Quarters(own.payment.0 - own.rent.0)
-}
-
 /// Whether a line tells the name at a place, and an operator's payment, rent and net.
 fn is_money_line(line: &MoneyLine, names: &NameIndex, place: u32, own: OperatorLine) -> bool
     requires { LineIsWithin (10 ^ 30) own }
@@ -66,7 +57,7 @@ fn is_money_line(line: &MoneyLine, names: &NameIndex, place: u32, own: OperatorL
         payment: line.payment,
         rent: line.rent,
     };
-    told == own && line.net == net_of(own)
+    told == own && line.net == own.net()
 }
 
 /// Whether these are the lines of all operators.

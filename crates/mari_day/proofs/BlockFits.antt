@@ -64,6 +64,9 @@ net l small = grind (arith, ints, small.payment, small.rent)
 pub halves : (lines : List OperatorLine) → All IsSmallLine lines → All IsHalf lines
 halves lines small = All-weaker IsSmallLine IsHalf (λ l s. record { payment = omega (arith, s.payment); rent = omega (arith, s.rent) }) lines small
 
+pub have-nets : (lines : List OperatorLine) → All IsHalf lines → All (LineIsWithin (10 ^ 30)) lines
+have-nets lines within = All-weaker IsHalf (LineIsWithin (10 ^ 30)) (λ l s. record { payment = omega (arith, s.payment); rent = omega (arith, s.rent) }) lines within
+
 -- the lines of operators, from their names and small numbers
 pub lines-fit : (names : List (List ℕ)) (lines : List OperatorLine) → All IsName names → All IsHalf lines → All IsMoneyLine (map_along money_line names lines)
 lines-fit [] lines n s = All-nil IsMoneyLine

@@ -4,7 +4,7 @@ use Rattle.mari_io.specs.Outside.{Pages, counted, counted_by}
 use Rattle.mari_day.specs.declared.files.File.{File}
 use Rattle.mari_day.specs.declared.files.File.TheVariants.{Day}
 use Rattle.mari_day.specs.declared.pages.PagesFault.{PagesFault}
-use Rattle.mari_day.specs.declared.pages.PagesFault.TheVariants.{Of, NoMemory}
+use Rattle.mari_day.specs.declared.pages.PagesFault.TheVariants.{Fetch as OfFetch, Memory as NoMemory}
 use Rattle.mari_day.specs.Fetching.{FetchedOne, FetchedUpTo, IsFaultOf, SomeFetched}
 use Rattle.mari_day.specs.Files.{files, place_of, page_in, gap_of, first_gap, ArePages, Gap}
 
@@ -27,7 +27,7 @@ one_more n before mid now e f = rw add-one (f ∙ ap counted e)
 pub at_fault : (n before mid now : ℕ) (fault : PagesFault) → mid ≡ counted_by n before → n < 7 → FetchedOne mid now fault → IsFaultOf (slice_index_or files n Day) fault → FetchedUpTo 7 before now fault
 at_fault n before mid now NoMemory e l (inl same) is = record { count = n; within = omega (arith, l); fetched = same ∙ e }
 at_fault n before mid now NoMemory e l (inr one) is = record { count = n + 1; within = omega (arith, l); fetched = one_more n before mid now e one }
-at_fault n before mid now (Of file why) e l one is =
+at_fault n before mid now (OfFetch file why) e l one is =
     let placed : place_of file ≡ n = ap place_of is ∙ place_is n l in
     one_more n before mid now e one ∙ ap (λ (k : ℕ). counted_by (k + 1) before) (sym placed)
 

@@ -6,7 +6,7 @@ use Rattle.mari_day.specs.declared.files.File.{File}
 use Rattle.mari_day.specs.declared.files.File.TheVariants.{Borders, Limits}
 use Rattle.mari_io.specs.declared.shelf.Fetch.TheVariants as fetch
 use Rattle.mari_day.specs.declared.pages.PagesFault.{PagesFault}
-use Rattle.mari_day.specs.declared.pages.PagesFault.TheVariants.{Of, NoMemory}
+use Rattle.mari_day.specs.declared.pages.PagesFault.TheVariants.{Fetch as OfFetch, Memory as NoMemory}
 use Rattle.std.specs.Prelude.{IfErr, IfOk, Result, Ok, Err}
 use Rattle.mari_day.specs.Fetching.{FetchedOne, FetchedUpTo, FetchesFolder, FetchingTells, HasFiles, IsFaultOf, SomeFetched}
 use Rattle.mari_day.specs.Files.{files, files_in, files_of, first_gap, gap_of, gap_or, page_in, page_of, place_of, version_by, ArePages, FileGap, Gap}
@@ -38,13 +38,13 @@ files-there (Some told) folder =
 -- up to a fault among the first seven files no more were fetched than the folder has
 pub up-to : (count before now : ℕ) (fault : PagesFault) → 7 ≤ count → FetchedUpTo 7 before now fault → FetchedUpTo count before now fault
 up-to count before now NoMemory l some = record { count = some.count; within = omega (arith, l, some.within); fetched = some.fetched }
-up-to count before now (Of file why) l fetched = fetched
+up-to count before now (OfFetch file why) l fetched = fetched
 
 -- the fetch of limits.csv gave no page
 pub at_limits : (before mid now : ℕ) (fault : PagesFault) → mid ≡ counted_by 7 before → FetchedOne mid now fault → IsFaultOf Limits fault → FetchedUpTo 8 before now fault
 at_limits before mid now NoMemory e (inl same) is = record { count = 7; within = omega arith; fetched = same ∙ e }
 at_limits before mid now NoMemory e (inr one) is = record { count = 8; within = omega arith; fetched = one_more 7 before mid now e one }
-at_limits before mid now (Of file why) e one is =
+at_limits before mid now (OfFetch file why) e one is =
     let placed : place_of file ≡ 7 = ap place_of is in
     one_more 7 before mid now e one ∙ ap (λ (k : ℕ). counted_by (k + 1) before) (sym placed)
 
@@ -69,10 +69,10 @@ module _ (pages : Pages) (folder : List ℕ) where
 
   pub seven-lack : (fault : PagesFault) → FetchingTells pages folder files (Err fault) → FetchingTells pages folder (files_in pages folder) (Err fault)
   seven-lack NoMemory tells = tt
-  seven-lack (Of file fetch.Failed) tells = tt
-  seven-lack (Of file fetch.Missing) tells = among-seven (version_by (page_in pages folder Borders)) _ tells
-  seven-lack (Of file fetch.TooLong) tells = among-seven (version_by (page_in pages folder Borders)) _ tells
-  seven-lack (Of file fetch.Memory) tells = tt
+  seven-lack (OfFetch file fetch.Failed) tells = tt
+  seven-lack (OfFetch file fetch.Missing) tells = among-seven (version_by (page_in pages folder Borders)) _ tells
+  seven-lack (OfFetch file fetch.TooLong) tells = among-seven (version_by (page_in pages folder Borders)) _ tells
+  seven-lack (OfFetch file fetch.Memory) tells = tt
 
   module _ (seven : List (List ℕ)) (many : length seven ≡ 7) (are : ArePages pages folder files seven) where
     version-there : (texts : List (List ℕ)) → length texts ≡ 7 → map (page_in pages folder) files ≡ map Some texts

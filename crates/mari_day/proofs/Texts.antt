@@ -18,7 +18,7 @@ use Rattle.mari_publish.proofs.Parts.{text_of_blocks}
 use Rattle.mari_remain.specs.declared.books.Books.{Books}
 use Rattle.mari_day.specs.Day.{IsDayPart, part_text, then_took, WroteWholeDay, WrotePart, WrotePrefix}
 use Rattle.mari_day.specs.Stepped.{BrokeOff, Closes, IsDayOf, Stepped, Stopped, WroteBlock, WroteFirst}
-use Rattle.mari_day.specs.declared.step.Stop.TheVariants.{Sink, NoMemory}
+use Rattle.mari_day.specs.declared.step.Stop.TheVariants.{Sink, Memory as NoMemory}
 use Rattle.mari_progress.specs.declared.progress.Progress.{Progress}
 use Rattle.mari_day.specs.declared.step.Stop.{Stop}
 use Rattle.mari_progress.proofs.Counts.{both-kinds}

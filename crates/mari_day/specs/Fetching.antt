@@ -5,7 +5,7 @@ use Rattle.mari_io.specs.declared.shelf.Fetch.TheVariants.{Failed, Missing, TooL
 use Rattle.mari_io.specs.Outside.{Pages, counted, counted_by}
 use Rattle.mari_day.specs.declared.files.File.{File}
 use Rattle.mari_day.specs.declared.pages.PagesFault.{PagesFault}
-use Rattle.mari_day.specs.declared.pages.PagesFault.TheVariants.{Of, NoMemory}
+use Rattle.mari_day.specs.declared.pages.PagesFault.TheVariants.{Fetch as OfFetch, Memory as NoMemory}
 use Rattle.mari_day.specs.Files.{files_in, place_of, gap_of, first_gap, ArePages}
 use Rattle.mari_day.specs.Files.Gap.{NotHeld, OverLimit}
 
@@ -13,12 +13,12 @@ use Rattle.mari_day.specs.Files.Gap.{NotHeld, OverLimit}
 abbrev pub IsFault : {T : Type 0} → Fetch → Result T PagesFault → Type 0
 IsFault fetch (Ok x) = ⊥
 IsFault fetch (Err NoMemory) = ⊥
-IsFault fetch (Err (Of file f)) = f ≡ fetch
+IsFault fetch (Err (OfFetch file f)) = f ≡ fetch
 
 -- a page that can't be had is of this file
 abbrev pub IsFaultOf : File → PagesFault → Type 0
 IsFaultOf file NoMemory = ⊤
-IsFaultOf file (Of f why) = f ≡ file
+IsFaultOf file (OfFetch f why) = f ≡ file
 
 abbrev pub IsOfFile : {T : Type 0} → File → Result T PagesFault → Type 0
 IsOfFile file (Ok x) = ⊤
@@ -27,7 +27,7 @@ IsOfFile file (Err fault) = IsFaultOf file fault
 -- how many fetches the page of one file takes: one, and without memory one at most
 abbrev pub FetchedOne : (before now : ℕ) → PagesFault → Type 0
 FetchedOne before now NoMemory = (now ≡ before) ⊎ (now ≡ counted before)
-FetchedOne before now (Of file why) = now ≡ counted before
+FetchedOne before now (OfFetch file why) = now ≡ counted before
 
 abbrev pub FetchesPage : {T : Type 0} → (before now : ℕ) → Result T PagesFault → Type 0
 FetchesPage before now (Ok x) = now ≡ counted before
@@ -43,7 +43,7 @@ pub record SomeFetched (most before now : ℕ) : Type 0 where
 -- each before it
 abbrev pub FetchedUpTo : (count before now : ℕ) → PagesFault → Type 0
 FetchedUpTo count before now NoMemory = SomeFetched count before now
-FetchedUpTo count before now (Of file why) = now ≡ counted_by (place_of file + 1) before
+FetchedUpTo count before now (OfFetch file why) = now ≡ counted_by (place_of file + 1) before
 
 abbrev pub FetchesPages : (count before now : ℕ) → Result (List (List ℕ)) PagesFault → Type 0
 FetchesPages count before now (Ok texts) = (length texts ≡ count) × (now ≡ counted_by count before)
@@ -64,17 +64,17 @@ pub record FetchesFolder (pages : Option Pages) (folder : List ℕ) (before now 
 abbrev pub PageTells : File → Option (List ℕ) → Result (List ℕ) PagesFault → Type 0
 PageTells file page (Ok bytes) = (page ≡ Some bytes) × (gap_of page ≡ None)
 PageTells file page (Err NoMemory) = ⊤
-PageTells file page (Err (Of f Failed)) = f ≡ file
-PageTells file page (Err (Of f Missing)) = (f ≡ file) × (gap_of page ≡ Some NotHeld)
-PageTells file page (Err (Of f TooLong)) = (f ≡ file) × (gap_of page ≡ Some OverLimit)
-PageTells file page (Err (Of f Memory)) = f ≡ file
+PageTells file page (Err (OfFetch f Failed)) = f ≡ file
+PageTells file page (Err (OfFetch f Missing)) = (f ≡ file) × (gap_of page ≡ Some NotHeld)
+PageTells file page (Err (OfFetch f TooLong)) = (f ≡ file) × (gap_of page ≡ Some OverLimit)
+PageTells file page (Err (OfFetch f Memory)) = f ≡ file
 
 -- what fetching these files says of the pages, where they are told: all of them, or the first that isn't held or is too
 -- long
 abbrev pub FetchingTells : Pages → List ℕ → List File → Result (List (List ℕ)) PagesFault → Type 0
 FetchingTells pages folder fs (Ok texts) = ArePages pages folder fs texts
 FetchingTells pages folder fs (Err NoMemory) = ⊤
-FetchingTells pages folder fs (Err (Of file Failed)) = ⊤
-FetchingTells pages folder fs (Err (Of file Missing)) = first_gap pages folder fs ≡ Some (record { file = file; gap = NotHeld })
-FetchingTells pages folder fs (Err (Of file TooLong)) = first_gap pages folder fs ≡ Some (record { file = file; gap = OverLimit })
-FetchingTells pages folder fs (Err (Of file Memory)) = ⊤
+FetchingTells pages folder fs (Err (OfFetch file Failed)) = ⊤
+FetchingTells pages folder fs (Err (OfFetch file Missing)) = first_gap pages folder fs ≡ Some (record { file = file; gap = NotHeld })
+FetchingTells pages folder fs (Err (OfFetch file TooLong)) = first_gap pages folder fs ≡ Some (record { file = file; gap = OverLimit })
+FetchingTells pages folder fs (Err (OfFetch file Memory)) = ⊤

@@ -1,5 +1,5 @@
 -- The market files of a folder, and which of them are missing or too long.
-use Rattle.std.specs.Prelude.{◌-◌, slice_index_or, ℕ, nat_lt, ◌==◌, ◌≡◌, ◌≢◌, ◌≤◌, List, [], ◌∷◌, ◌++◌, length, map, Option, Some, None, if◌then◌else◌}
+use Rattle.std.specs.Prelude.{slice_index_or, ℕ, nat_lt, ◌==◌, ◌≡◌, ◌≢◌, ◌≤◌, List, [], ◌∷◌, ◌++◌, length, map, Option, Some, None, if◌then◌else◌}
 use lib.Chars.{codes}
 use Rattle.mari_units.specs.declared.limits.TheConstants.{MOST_PAGE}
 use Rattle.mari_io.specs.Outside.{Pages, page_of as page_named}
@@ -85,9 +85,13 @@ file_named number = name_or_publication (file_with number)
 abbrev pub page_of : List (List ℕ) → File → List ℕ
 page_of pages file = slice_index_or pages (place_of file) []
 
--- the path of a file
+-- the path in a folder of the file of this name
+abbrev pub path_in : (folder name : List ℕ) → List ℕ
+path_in folder name = folder ++ 47 ∷ name
+
+-- the path of a market file
 abbrev pub path_of : List ℕ → File → List ℕ
-path_of folder file = folder ++ 47 ∷ name_of file
+path_of folder file = path_in folder (name_of file)
 
 -- the page of a folder's file
 abbrev pub page_in : Pages → List ℕ → File → Option (List ℕ)

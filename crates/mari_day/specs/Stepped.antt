@@ -7,10 +7,16 @@ use Rattle.mari_publish.specs.Texts.{block_text_of, total_text_of}
 use Rattle.mari_remain.specs.declared.books.Books.{Books}
 use Rattle.mari_progress.specs.declared.progress.Progress.{Progress}
 use Rattle.mari_day.specs.declared.step.Stop.{Stop}
-use Rattle.mari_day.specs.declared.step.Stop.TheVariants.{Sink, NoMemory}
+use Rattle.mari_day.specs.declared.step.Stop.TheVariants.{Sink, Memory as NoMemory}
 use Rattle.mari_day.specs.Day.{part_text, then_took, IsDay, WrotePart, WrotePrefix}
 use Rattle.mari_day.specs.Published.{IsBlock}
 use Rattle.mari_day.specs.Progress.{IsDayProgress}
+
+-- the text was written, or a first part of it, or there was no memory for it and nothing was
+abbrev pub Writes : (text : List ℕ) → (before after : Option (List ℕ)) → Result (Unit {0}) Stop → Type 0
+Writes text before after (Ok done) = after ≡ then_took before text
+Writes text before after (Err Sink) = (count : ℕ) × (after ≡ then_took before (take count text))
+Writes text before after (Err NoMemory) = after ≡ before
 
 -- the block of the run behind these blocks was written, and what is kept stands for one block more
 pub record WroteBlock (books : Books) (budget : ℕ) (blocks : List Block) (kept : Progress) (before after : Option (List ℕ)) : Type 0 where

@@ -196,6 +196,6 @@ pub fn run_day<C: Clearer, K: Sink>(
             unpublished: run_count(books) - published,
         },
         Err(Stop::Sink) => DayEnd::WriteFault,
-        Err(Stop::NoMemory) => DayEnd::Memory,
+        Err(Stop::Memory) => DayEnd::Memory,
     }
 }

@@ -1,7 +1,10 @@
 //! The market files of a folder.
 
-ghost use Rattle.std.specs.Prelude.{◌≡◌, ◌≤◌, ◌<◌};
-ghost use Rattle.mari_day.specs.Files.{IsFileNumber, IsNamed, file_named, file_with, name_of, number_of, place_of};
+ghost use Rattle.std.specs.Prelude.{◌≡◌, ◌≤◌, ◌<◌, IfOk, string_bytes};
+ghost use Rattle.mari_day.specs.Files.{IsFileNumber, IsNamed, file_named, file_with, name_of, number_of, path_in as path_to, place_of};
+
+use mari_units::Memory;
+use std::alloc::Global;
 
 /// A market file, in the order in which the files are fetched and read.
 #[derive(Clone, Copy, Debug, PartialEq, Eq)]
@@ -91,6 +94,14 @@ impl File {
             _ => None,
         }
     }
+}
+
+/// The path in a folder of the file of this name.
+pub fn path_in(alloc: Global, folder: &str, name: &str) -> Result<String, Memory>
+    ensures { IfOk result (λ path. string_bytes path ≡ path_to folder.now name.now) }
+{
+    let path = format!(in alloc; "{folder}/{name}")?;
+    Ok(path)
 }
 
 /// The name of the file of a number, from 1: of a market file, or of the publication.

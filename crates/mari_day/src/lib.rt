@@ -18,7 +18,7 @@ mod writing;
 
 pub use calendar_page::DateCheck;
 pub use day::{DayEnd, run_day};
-pub use files::{File, PUBLICATION, file_name};
+pub use files::{File, PUBLICATION, file_name, path_in};
 pub use laws::days_keep;
 pub use reading::{BooksFault, read_books};
 pub use text::{PrintedDay, day_of};

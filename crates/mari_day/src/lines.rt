@@ -150,7 +150,7 @@ pub fn money_lines(
     requires few { length operators.now ≤ MOST_ZONES }
     requires names { All (λ name. is_name name ≡ true) operators.now }
     requires one_each { length lines.now ≡ length operators.now }
-    requires small { All (LineIsWithin (2 * 10 ^ 18)) lines.now }
+    requires small { All (LineIsWithin (10 ^ 30)) lines.now }
     ensures { IfOk result (λ money. money.items ≡ money_lines_of operators.now lines.now) }
 {
     let mut money = Vec::new(alloc);
@@ -160,7 +160,7 @@ pub fn money_lines(
             name,
             payment: line.payment,
             rent: line.rent,
-            net: Quarters(line.payment.0 - line.rent.0),
+            net: line.net(),
         })?;
     }
     Ok(money)

@@ -9,7 +9,7 @@ ghost use Rattle.mari_zones.specs.Borders.{version_in};
 ghost use Rattle.mari_day.specs.Files.{files, files_in, page_in, page_of, place_of};
 ghost use Rattle.mari_day.specs.Fetching.{IsFault, IsOfFile, FetchesFolder, FetchesPage, FetchesPages, FetchingTells, PageTells};
 
-use crate::files::{FILES, File};
+use crate::files::{FILES, File, path_in};
 use mari_io::{Fetch, Shelf};
 use mari_units::{Items, Memory};
 use mari_zones::version_of;
@@ -19,8 +19,8 @@ use std::marker::Model;
 /// Why the pages aren't there: the fetch of a file gave none, or there was no memory.
 #[derive(Clone, Copy, Debug, PartialEq, Eq)]
 pub enum PagesFault {
-    Of(File, Fetch),
-    NoMemory,
+    Fetch(File, Fetch),
+    Memory,
 }
 
 /// The pages of a folder's files, limits.csv among them exactly where the borders are of version 2. Contracts see the
@@ -93,15 +93,14 @@ fn fetch_page<S: Shelf>(
     ensures missing { Counts (IsFault fetch.Missing result) (S.misses shelf.old) (S.misses shelf.new) }
     ensures too_long { Counts (IsFault fetch.TooLong result) (S.overs shelf.old) (S.overs shelf.new) }
 {
-    let name = file.name();
-    let Ok(path) = format!(in alloc; "{folder}/{name}") else {
-        return Err(PagesFault::NoMemory);
+    let Ok(path) = path_in(alloc, folder, file.name()) else {
+        return Err(PagesFault::Memory);
     };
     let mut bytes = Vec::new(alloc);
     match shelf.fetch(path.as_str(), &mut bytes) {
         Ok(()) => Ok(Items::of(bytes)),
-        Err(Fetch::Memory) => Err(PagesFault::NoMemory),
-        Err(fault) => Err(PagesFault::Of(file, fault)),
+        Err(Fetch::Memory) => Err(PagesFault::Memory),
+        Err(fault) => Err(PagesFault::Fetch(file, fault)),
     }
 }
 
@@ -131,7 +130,7 @@ fn fetch_seven<S: Shelf>(
         match fetch_page(alloc, shelf, folder, file) {
             Ok(page) => match pages.push(page) {
                 Ok(()) => {}
-                Err(_) => return Err(PagesFault::NoMemory),
+                Err(_) => return Err(PagesFault::Memory),
             },
             Err(fault) => return Err(fault),
         }
@@ -154,14 +153,14 @@ fn with_limits(seven: Items<Items<u8>>, limits: Items<u8>) -> Result<Folder, Pag
     requires small { All (λ (page : List ℕ). length page ≤ MOST_PAGE) seven }
     requires small_too { length limits ≤ MOST_PAGE }
     ensures folder { IfOk result (λ folder. folder ≡ seven ++ limits ∷ []) }
-    ensures memory { IfErr result (λ fault. fault ≡ PagesFault.NoMemory) }
+    ensures memory { IfErr result (λ fault. fault ≡ PagesFault.Memory) }
 {
     let mut pages = seven.into_vec();
     match pages.push(limits) {
         Ok(()) => Ok(Folder {
             pages: Items::of(pages),
         }),
-        Err(_) => Err(PagesFault::NoMemory),
+        Err(_) => Err(PagesFault::Memory),
     }
 }
 
@@ -196,6 +195,6 @@ pub fn fetch_pages<S: Shelf>(
             Err(fault) => Err(fault),
         },
         Ok(_) => Ok(Folder { pages: seven }),
-        Err(_) => Err(PagesFault::NoMemory),
+        Err(_) => Err(PagesFault::Memory),
     }
 }

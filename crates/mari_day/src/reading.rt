@@ -232,7 +232,7 @@ pub fn read_books<S: Shelf>(alloc: Global, shelf: &mut S, folder: &str) -> Resul
 {
     match fetch_pages(alloc, shelf, folder) {
         Ok(pages) => books_of(alloc, &pages),
-        Err(PagesFault::NoMemory) => Err(BooksFault::Memory),
-        Err(PagesFault::Of(file, why)) => Err(BooksFault::Fetch(file.number(), why)),
+        Err(PagesFault::Memory) => Err(BooksFault::Memory),
+        Err(PagesFault::Fetch(file, why)) => Err(BooksFault::Fetch(file.number(), why)),
     }
 }

@@ -3,13 +3,14 @@
 ghost use Rattle.std.specs.Prelude.{◌≡◌, ◌≤◌, ℕ, List, IfErr, IfOk, IsErr, OnErr, OnOk, Err, length, take};
 ghost use Rattle.mari_io.specs.Outside.{Counts};
 ghost use Rattle.mari_publish.specs.Ranges.{BlockFits};
+ghost use Rattle.mari_publish.specs.Texts.{block_text_of};
 ghost use Rattle.mari_publish.specs.declared.publication.Block.{Block as PrintedBlock};
 ghost use Rattle.mari_remain.specs.Accepted.{IsAccepted};
 ghost use Rattle.mari_progress.specs.Behind.{run_behind};
 ghost use Rattle.mari_day.specs.Dated.{IsDated};
 ghost use Rattle.mari_day.specs.Day.{then_took};
 ghost use Rattle.mari_day.specs.Progress.{IsDayProgress, IsRunDone};
-ghost use Rattle.mari_day.specs.Stepped.{Stepped};
+ghost use Rattle.mari_day.specs.Stepped.{Stepped, Writes};
 ghost use Rattle.mari_market.specs.Clearing.{IsBudget};
 
 use crate::block::published_run;
@@ -26,17 +27,17 @@ use std::alloc::Global;
 #[derive(Clone, Copy, Debug, PartialEq, Eq)]
 pub enum Stop {
     Sink,
-    NoMemory,
+    Memory,
 }
 
 impl From<Memory> for Stop {
     ghost use Rattle.std.specs.Prelude.{◌≡◌};
-    ghost use Rattle.mari_day.specs.declared.step.Stop.TheVariants.{NoMemory};
+    ghost use Rattle.mari_day.specs.declared.step.Stop.TheVariants.{Memory as NoMemory};
 
     ghost from_gives = { λ _ e. e ≡ NoMemory };
 
     fn from(_: Memory) -> Self {
-        Stop::NoMemory
+        Stop::Memory
     }
 }
 
@@ -107,6 +108,18 @@ pub fn write_text<K: Sink>(sink: &mut K, text: &[u8]) -> Result<(), Stop>
     }
 }
 
+/// Writes a block.
+fn write_block<K: Sink>(alloc: Global, sink: &mut K, block: &Block) -> Result<(), Stop>
+    requires { BlockFits block.now }
+    ensures written { Writes (block_text_of block.now) (K.taken sink.old) (K.taken sink.new) result }
+    ensures cause { Counts (result ≡ Err Stop.Sink) (K.faults sink.old) (K.faults sink.new) }
+{
+    let text = block_text(alloc, block)?;
+    let written = write_text(sink, &text);
+    drop(text);
+    written
+}
+
 /// Clears a run, writes its block, and adds it to what the day keeps.
 pub fn step<C: Clearer, K: Sink>(
     alloc: Global,
@@ -135,15 +148,15 @@ pub fn step<C: Clearer, K: Sink>(
     // The clearer may clear on.
     ensures ready { C.ready clearer.new }
 {
-    let done = run_done(alloc, books, run, budget, progress, clearer)?;
-    let text = block_text(alloc, &done.block)?;
-    write_text(sink, &text)?;
-    let RunDone { settled, .. } = done;
-    match settled {
-        Some(settled) => {
-            progress.add(books, run, settled);
-            Ok(())
-        }
-        None => Ok(()),
+    let RunDone { block, settled } = run_done(alloc, books, run, budget, progress, clearer)?;
+    let written = write_block(alloc, sink, &block);
+    drop(block);
+    if let Err(stop) = written {
+        drop(settled);
+        return Err(stop);
     }
+    if let Some(settled) = settled {
+        progress.add(books, run, settled);
+    }
+    Ok(())
 }

@@ -1,6 +1,6 @@
 -- What lines state of the limits of each border in each run.
-use Rattle.std.proofs.Common.{◌≡◌, ◌≢◌, ◌∙◌, ◌+◌, ◌-◌, ◌*◌, ◌/◌, ◌%◌, ◌==◌, ◌<◌, ◌≤◌, ◌⊎◌, ℕ, zero, suc, Bool, true, false, List, [], ◌∷◌, ◌++◌, Option, Some, None, Result, Ok, Err, IfOk, get_or, length, map, if◌then◌else◌, arith, refl, ap, sym, inl, inr}
-use Rattle.std.specs.Prelude.{◌&&◌, is_some, nat_lt, option_map, position, unwrap_or}
+use Rattle.std.proofs.Common.{◌≡◌, ◌≢◌, ◌∙◌, ◌+◌, ◌-◌, ◌*◌, ◌/◌, ◌%◌, ◌==◌, ◌<◌, ◌≤◌, ◌⊎◌, ℕ, zero, suc, Bool, true, false, List, [], ◌∷◌, ◌++◌, Option, Some, None, Result, Ok, Err, IfOk, get_or, length, map, arith, refl, ap, sym, inl, inr}
+use Rattle.std.specs.Prelude.{is_some, nat_lt, option_map, position, unwrap_or}
 use Rattle.std.specs.List.{find, list_any, range_with_len}
 use Rattle.std.specs.Option.{option_and_then, option_or}
 use Rattle.std.proofs.Math.ListN.{set}
@@ -24,7 +24,7 @@ use Rattle.mari_zones.specs.declared.borders.BorderEnds.{BorderEnds}
 use Rattle.mari_zones.specs.declared.zones.ZoneBook.{ZoneBook}
 use Rattle.mari_demands.specs.Demands.{run_at}
 use Rattle.mari_demands.specs.LimitPairs.{IsLimitTable, limits_in, limits_there, no_limits, table_of}
-use Rattle.mari_demands.specs.Limits.{border_at, border_in, is_of, leads, limit_grammar, limit_table, limits_at, limits_of, name_checks, place_in, stated}
+use Rattle.mari_demands.specs.Limits.{border_at, is_of, leads, limit_grammar, limit_table, limits_at, name_checks, place_in, stated}
 use Rattle.mari_demands.specs.declared.limits.Limits.{Limits}
 use Rattle.mari_demands.proofs.LimitTables.{place-within}
 

@@ -1,5 +1,5 @@
 -- The book of limits.
-use Rattle.std.specs.Prelude.{ℕ, ◌+◌, ◌-◌, ◌*◌, Bool, List, [], ◌∷◌, ◌++◌, Option, Some, not, ◌&&◌, ◌==◌, length, map, codes, position, is_some, unwrap_or, option_map}
+use Rattle.std.specs.Prelude.{ℕ, ◌+◌, ◌-◌, ◌*◌, Bool, List, [], ◌∷◌, ◌++◌, Option, not, ◌&&◌, ◌==◌, length, map, codes, position, is_some, unwrap_or, option_map}
 use Rattle.std.specs.List.{find, list_any, range_with_len}
 use Rattle.std.specs.Option.{option_and_then}
 use Rattle.mari_units.specs.Numbers.{whole_of}

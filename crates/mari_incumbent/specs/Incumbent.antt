@@ -1,5 +1,5 @@
 -- Which incumbent it is, and what contracts see of a seat.
-use Rattle.std.specs.Prelude.{◌≡◌, ℕ, ◌≤◌}
+use Rattle.std.specs.Prelude.{ℕ}
 use Rattle.atomic_table.specs.Seated.{TableId}
 
 -- an incumbent of its own, with the number that it starts at and the parts that its seats have in all

@@ -6,6 +6,7 @@ pub mod NotRead
 pub mod Splits
 pub mod Gathered
 pub mod Graphic
+pub mod Keywords
 pub mod FirstWords
 pub mod LineWords
 pub mod SameLine

@@ -1,7 +1,7 @@
 -- Groups, their first members and one more member.
 use Rattle.std.proofs.Common.{◌≡◌, ◌∙◌, ◌<◌, ◌≤◌, Bor, IfOk, OnOk, Result, Ok, Err, ℕ, Bool, true, false, List, [], ◌∷◌, ◌++◌, Option, Some, None, get_or, length, map, fold, refl, sym, ap, if◌then◌else◌, slice_get, position}
 use Rattle.std.specs.Prelude.{◌||◌, is_some, unwrap_or, option_map, MatchOption}
-use Rattle.std.specs.List.{All, find, list_any, HoldsAt}
+use Rattle.std.specs.List.{All, find, HoldsAt}
 use Rattle.std.specs.Option.{option_copied, option_or}
 use Rattle.std.specs.Str.{bytes_eq}
 use Rattle.std.proofs.lemmas.List.{get_or_default}
@@ -11,7 +11,7 @@ use Rattle.std.proofs.lemmas.List.Quantifiers.{position-Some}
 use Rattle.std.proofs.lemmas.Option.{slice_get-get_or, slice_get-map, slice_get_past}
 use Rattle.std.proofs.lemmas.Slice.Eq.{bytes_eq-Decides}
 use Rattle.mari_rows.specs.Names.{is_among, with_name}
-use Rattle.mari_rows.proofs.FindLemmas.{find-some, kept-none, map-some}
+use Rattle.mari_rows.proofs.FindLemmas.{find-some, map-some}
 use Rattle.mari_rows.proofs.NameLemmas.{bytes_eq-same, list_any-map}
 use Rattle.mari_rows.proofs.PlaceLemmas.{among-push}
 use Rattle.mari_bids.specs.declared.bids.BidBook.{BidBook}

@@ -1,5 +1,5 @@
 -- What fills the need at a marginal price is a clearing.
-use Rattle.std.proofs.Common.{◌≡◌, ℕ, zero, suc, ◌+◌, ◌-◌, ◌<◌, ◌≤◌, Bool, ℤ, pos, neg_ℤ, ◌+ℤ◌, ◌-ℤ◌, ◌≤ℤ◌, List, [], ◌∷◌, Option, Some, None, length, map, arith, refl, ap, subst, sym, ◌∙◌, MatchOption}
+use Rattle.std.proofs.Common.{◌≡◌, ℕ, ◌-◌, ◌<◌, ◌≤◌, Bool, ℤ, pos, List, [], ◌∷◌, Option, Some, None, length, map, arith, refl, ap, subst, sym, MatchOption}
 use Rattle.std.proofs.lemmas.Int.{ints}
 use Rattle.std.proofs.lemmas.List.Elements.{All-cons, All-nil}
 use Rattle.std.specs.List.{All, AllZip}
@@ -11,7 +11,6 @@ use Rattle.mari_market.specs.declared.market.Border.{Border}
 use Rattle.mari_market.specs.declared.market.GateInfo.{GateInfo}
 use Rattle.mari_market.specs.declared.market.Market.{Market}
 use Rattle.mari_market.specs.declared.activation.Activation.{Activation}
-use Rattle.mari_market.specs.declared.clearing.Clearing.{Clearing}
 use Rattle.mari_market.specs.declared.certificate.TreeItem.{TreeItem}
 use Rattle.mari_market.specs.Activation.{welfare_of, is_open, IsBalanced, IsWithinLimits, carried_out}
 use Rattle.mari_market.specs.Bounds.{IsWithin, GateState, span_in, own_bounds}
@@ -31,7 +30,7 @@ use Rattle.mari_market.proofs.Search.{optimal_by_tree}
 use Rattle.mari_market.proofs.Ties.{first_without_gates, tree_holds_without_gates}
 use Rattle.mari_market.proofs.Sums.{AllZip-both}
 use Rattle.mari_market.proofs.Tight.{tight_is_equal}
-use Rattle.mari_merit.specs.Merit.{rung_of, room_below, room_at, withdrawn_in, quantities_at, bound_tree, IsMarginal, IsFilled}
+use Rattle.mari_merit.specs.Merit.{rung_of, room_below, withdrawn_in, quantities_at, bound_tree, IsMarginal, IsFilled}
 use Rattle.mari_merit.proofs.Filling.{IsPlain, Fills, fills, put_in_all}
 
 -- a market of one zone without borders and gates

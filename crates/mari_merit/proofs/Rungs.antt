@@ -1,5 +1,5 @@
 -- Where the merit order has met the need.
-use Rattle.std.proofs.Common.{◌⊎◌, inl, inr, w64, to_z, of_z, to_z-of_z, ◌≡◌, ℕ, zero, suc, ◌+◌, ◌-◌, ◌<◌, ◌≤◌, if◌then◌else◌, Bool, true, false, ℤ, ◌≤ℤ◌, ◌<ℤ◌, List, [], ◌∷◌, length, map, take, slice_index_or, arith, refl, sum_by, int_lt}
+use Rattle.std.proofs.Common.{◌⊎◌, inl, inr, w64, to_z, of_z, to_z-of_z, ◌≡◌, ℕ, zero, suc, ◌+◌, ◌<◌, ◌≤◌, ℤ, ◌≤ℤ◌, List, [], ◌∷◌, length, map, take, slice_index_or, arith, refl, sum_by}
 use Rattle.std.proofs.lemmas.Int.{ints}
 use Rattle.std.proofs.lemmas.List.Sums.{sum_by-cons}
 use Rattle.std.proofs.lemmas.List.Sorted.{sum_by-IsPermutation}

@@ -1,6 +1,6 @@
 -- The merit order of one zone: all orders, the cheapest first, in which each meets a part of the need. The need is what
 -- the withdrawals take at most; an injection meets it by running, a withdrawal by standing back.
-use Rattle.std.specs.Prelude.{◌≡◌, ◌≤◌, ◌-◌, ◌+◌, ◌<◌, if◌then◌else◌, Bool, ℕ, ℤ, ◌≤ℤ◌, int_lt, min, List, [], ◌∷◌, length, map, slice_index_or, sum_by}
+use Rattle.std.specs.Prelude.{◌≡◌, ◌≤◌, ◌-◌, ◌+◌, ◌<◌, if◌then◌else◌, ℕ, ℤ, ◌≤ℤ◌, int_lt, min, List, [], ◌∷◌, length, map, slice_index_or, sum_by}
 use Rattle.mari_market.specs.declared.market.Side.{Side}
 use Rattle.mari_market.specs.declared.market.Side.TheVariants.{Inject, Withdraw}
 use Rattle.mari_market.specs.declared.market.Order.{Order}

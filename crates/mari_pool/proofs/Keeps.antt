@@ -1,15 +1,15 @@
 -- What always holds of a pool is kept by an entry, and where seats meet.
 use Rattle.std.proofs.Common.{◌≡◌, Bool, true, false, ℕ, ◌+◌, ◌*◌, ◌-◌, ◌<◌, ◌≤◌, max, pos, List, [], ◌∷◌, ◌++◌, length, Some, arith, refl, sym, ap, subst, ◌∙◌, length-append, zero, suc, replicate, get_or}
-use Rattle.std.specs.Prelude.{slice_get, IfSome, ◌≤ℤ◌}
+use Rattle.std.specs.Prelude.{slice_get, IfSome}
 use Rattle.std.proofs.lemmas.Int.{ints}
 use Rattle.std.proofs.lemmas.List.{length-replicate}
-use Rattle.std.proofs.lemmas.Option.{slice_get_within, slice_get-get_or, get_or_from_slice_get}
+use Rattle.std.proofs.lemmas.Option.{slice_get-get_or, get_or_from_slice_get}
 use Rattle.mari_market.specs.declared.market.Market.{Market}
 use Rattle.mari_market.specs.declared.finding.Finding.{Finding}
 use Rattle.mari_core.specs.declared.node.NodeState.TheVariants.{Untaken, Taken, Closed}
 use Rattle.mari_core.specs.declared.journal.JournalEntry.{JournalEntry}
 use Rattle.mari_core.specs.Nodes.{TreeNode, new_node, words_of, state_at}
-use Rattle.mari_core.specs.Growth.{Grown, Entry, seed, grown, settling, in_journal, IsAllowed, IsCutoff, IsGrowth, IsEntryCutAt, LeadsTo, closing_leaf, MaySettle}
+use Rattle.mari_core.specs.Growth.{Grown, Entry, seed, grown, settling, in_journal, IsAllowed, IsCutoff, IsGrowth, IsEntryCutAt, closing_leaf, MaySettle}
 use Rattle.mari_core.specs.Growth.Entry.{Take, Close, Branch, Full, GiveBack}
 use Rattle.mari_core.specs.declared.journal.JournalEntry.TheVariants as journal
 use Rattle.mari_pool.specs.declared.ticket.Settled.TheVariants as settled
@@ -21,8 +21,8 @@ use Rattle.mari_core.proofs.Journals.{grown_budget, leads_on, leads_above, leads
 use Rattle.mari_core.proofs.Seeds.{seed_by}
 use Rattle.mari_market.specs.Market.{IsValid}
 use Rattle.mari_market.specs.Relaxation.{IsClosedWelfare}
-use Rattle.mari_incumbent.specs.Incumbent.{IncumbentId, Standing, standing}
-use Rattle.mari_pool.specs.Pooled.{Pooled, IsPool, unreturned, owed, entered, keys_after, meeting, settled_with, answer_of}
+use Rattle.mari_incumbent.specs.Incumbent.{IncumbentId, Standing}
+use Rattle.mari_pool.specs.Pooled.{Pooled, IsPool, unreturned, owed, keys_after, meeting, settled_with, answer_of}
 use Rattle.mari_pool.specs.Queued.{first_key, child_key}
 use Rattle.mari_pool.proofs.Queues.{made}
 use Rattle.mari_pool.proofs.Rooms.{IsPaid, entry_paid, settling_paid, unreturned_all, owed_more}

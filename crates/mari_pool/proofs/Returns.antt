@@ -1,12 +1,12 @@
 -- How every taken node is put back, one after the other.
-use Rattle.std.proofs.Common.{◌≡◌, ℕ, zero, suc, ◌+◌, ◌*◌, ◌<◌, ◌≤◌, List, [], ◌∷◌, ◌++◌, length, map, drop, Option, Some, None, arith, refl, sym, ap, subst, ◌∙◌, append_assoc, append-nil}
+use Rattle.std.proofs.Common.{◌≡◌, ℕ, zero, suc, ◌+◌, ◌<◌, ◌≤◌, List, [], ◌∷◌, ◌++◌, length, map, drop, Option, Some, None, arith, refl, sym, ap, subst, ◌∙◌, append_assoc, append-nil}
 use Rattle.std.specs.Prelude.{slice_get}
 use Rattle.std.proofs.Math.ListN.{drop_of_length-le}
 use Rattle.mari_core.specs.declared.node.NodeState.{NodeState}
 use Rattle.mari_core.specs.declared.node.NodeState.TheVariants.{Untaken, Taken, Branched, Closed}
 use Rattle.mari_core.specs.declared.journal.JournalEntry.{JournalEntry}
 use Rattle.mari_core.specs.Nodes.{TreeNode, in_state, changed, state_at}
-use Rattle.mari_core.specs.Growth.{Grown, Entry, grown_by, in_journal, with_state}
+use Rattle.mari_core.specs.Growth.{Entry, grown_by, in_journal, with_state}
 use Rattle.mari_core.specs.Growth.Entry.{GiveBack}
 use Rattle.mari_core.proofs.Changes.{IsAt, node_at, state_of_node}
 use Rattle.mari_pool.specs.Pooled.{Pooled, entered, entered_by, returning, returns_of, left_at}

@@ -1,15 +1,15 @@
 -- The room of the journal: each entry takes one of those that may still come.
-use Rattle.std.proofs.Common.{◌≡◌, Bool, true, false, ℕ, zero, suc, ◌+◌, ◌-◌, ◌*◌, ◌<◌, ◌≤◌, if◌then◌else◌, List, [], ◌∷◌, ◌++◌, length, map, Option, Some, None, arith, refl, sym, ap, subst, ◌∙◌, length-append, set, replicate}
+use Rattle.std.proofs.Common.{◌≡◌, Bool, true, false, ℕ, zero, suc, ◌+◌, ◌-◌, ◌*◌, ◌≤◌, if◌then◌else◌, List, [], ◌∷◌, ◌++◌, length, map, Option, Some, None, arith, refl, ap, length-append, set, replicate}
 use Rattle.std.proofs.lemmas.List.{length-map}
 use Rattle.std.specs.Prelude.{slice_get, nat_le}
 use Rattle.mari_market.specs.declared.certificate.Leaf.{Leaf}
 use Rattle.mari_core.specs.declared.node.NodeState.{NodeState}
 use Rattle.mari_core.specs.declared.node.NodeState.TheVariants.{Untaken, Taken, Branched, Closed}
-use Rattle.mari_core.specs.Nodes.{TreeNode, new_node, in_state, changed, state_at, branch_of}
+use Rattle.mari_core.specs.Nodes.{TreeNode, new_node, state_at, branch_of}
 use Rattle.mari_core.specs.Growth.{Grown, Entry, grown, with_state, children_at, settling_by, IsAllowed}
 use Rattle.mari_core.specs.Growth.Entry.{Take, Close, Branch, Full, GiveBack}
 use Rattle.mari_core.proofs.Changes.{length-with_state}
-use Rattle.mari_pool.specs.Pooled.{owed_in, owed_among, unreturned, owed, taken_in, taken_among}
+use Rattle.mari_pool.specs.Pooled.{owed_in, owed_among, unreturned, taken_in, taken_among}
 
 -- ---- one node in another state
 

@@ -1,8 +1,7 @@
 -- What contracts see of a pool, what always holds of it, and what its calls change.
-use Rattle.std.specs.Prelude.{◌≡◌, ℕ, zero, suc, ◌+◌, ◌-◌, ◌*◌, ◌<◌, ◌≤◌, max, pos, Bool, true, false, if◌then◌else◌, List, [], ◌∷◌, ◌++◌, length, map, drop, replicate, Option, Some, None, slice_get, slice_set, ⊤}
+use Rattle.std.specs.Prelude.{◌≡◌, ℕ, ◌+◌, ◌-◌, ◌*◌, ◌≤◌, max, pos, Bool, true, false, if◌then◌else◌, List, [], ◌∷◌, ◌++◌, length, map, drop, replicate, Some, slice_get, slice_set}
 use Rattle.mari_market.specs.declared.market.Market.{Market}
 use Rattle.mari_market.specs.declared.finding.Finding.{Finding}
-use Rattle.mari_market.specs.Market.{IsValid}
 use Rattle.mari_market.specs.Relaxation.{IsClosedWelfare}
 use Rattle.mari_core.specs.declared.node.NodeState.{NodeState}
 use Rattle.mari_core.specs.declared.node.NodeState.TheVariants.{Untaken, Taken, Branched, Closed}

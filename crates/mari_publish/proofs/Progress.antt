@@ -17,7 +17,7 @@ use Rattle.mari_publish.specs.declared.fault.TextFault.TheVariants as fault
 use Rattle.mari_publish.specs.declared.reading.Gathered.{Gathered}
 use Rattle.mari_publish.specs.declared.taking.TakeFault.{TakeFault}
 use Rattle.mari_publish.specs.declared.taking.TakeFault.TheVariants as take_fault
-use Rattle.mari_publish.specs.Gathering.{seen, Took, Finishes}
+use Rattle.mari_publish.specs.Gathering.{seen, text_fault, Took, Finishes}
 use Rattle.mari_publish.specs.Lines.{lines_of}
 use Rattle.mari_lines.specs.Ranges.{InRange}
 use Rattle.mari_lines.specs.Reading.{Lacks}
@@ -94,8 +94,8 @@ forward bytes rest here after n p k r x a parts t =
       stands = next a.before p k k.held l (r, x) a.stands t.3;
     }
 
-pub bad_line : (bytes rest here after : List ℕ) (n : ℕ) (p : Publication) (k r : Kept) → Progress bytes rest n p k → Lacks 10 here → rest ≡ here ++ 10 ∷ after → (f : TakeFault) → f ≡ take_fault.Formless → Took k here r (Err f) → BadLineAt bytes n
-bad_line bytes rest here after n p k r a whole parts f is took = let t = subst (λ g. Took k here r (Err g)) is took in record {
+bad_line : (bytes rest here after : List ℕ) (n : ℕ) (p : Publication) (k r : Kept) → Progress bytes rest n p k → Lacks 10 here → rest ≡ here ++ 10 ∷ after → Took k here r (Err take_fault.Formless) → BadLineAt bytes n
+bad_line bytes rest here after n p k r a whole parts took = record {
   before = a.before;
   here = here;
   after = after;
@@ -103,20 +103,26 @@ bad_line bytes rest here after n p k r a whole parts f is took = let t = subst (
   whole = whole;
   begins = begins a.before p k k.held a.stands a.fit;
   number = a.number_is;
-  formless = t.0;
+  formless = took.0;
 }
 
-pub bad_order : (bytes rest here after : List ℕ) (n : ℕ) (p : Publication) (k r : Kept) → Progress bytes rest n p k → rest ≡ here ++ 10 ∷ after → (f : TakeFault) → f ≡ take_fault.OutOfOrder → Took k here r (Err f) → BadOrderAt bytes n
-bad_order bytes rest here after n p k r a parts f is took = let t = subst (λ g. Took k here r (Err g)) is took in record {
+bad_order : (bytes rest here after : List ℕ) (n : ℕ) (p : Publication) (k r : Kept) → Progress bytes rest n p k → rest ≡ here ++ 10 ∷ after → Took k here r (Err take_fault.OutOfOrder) → BadOrderAt bytes n
+bad_order bytes rest here after n p k r a parts took = record {
   before = a.before;
-  here = t.0;
+  here = took.0;
   after = after;
-  parts = a.parts ∙ ap (λ (xs : List ℕ). text_of_lines a.before ++ xs) (parts ∙ ap (λ (xs : List ℕ). xs ++ 10 ∷ after) (sym t.2) ∙ sym (append_assoc (spelling t.0) (10 ∷ []) after));
+  parts = a.parts ∙ ap (λ (xs : List ℕ). text_of_lines a.before ++ xs) (parts ∙ ap (λ (xs : List ℕ). xs ++ 10 ∷ after) (sym took.2) ∙ sym (append_assoc (spelling took.0) (10 ∷ []) after));
   begins = begins a.before p k k.held a.stands a.fit;
   number = a.number_is;
-  in_range = t.1;
-  misplaced = not_begun a.before p k t.0 a.came t.3;
+  in_range = took.1;
+  misplaced = not_begun a.before p k took.0 a.came took.3;
 }
+
+-- a line that wasn't taken
+pub refused : (bytes rest here after : List ℕ) (n : ℕ) (p : Publication) (k r : Kept) → Progress bytes rest n p k → Lacks 10 here → rest ≡ here ++ 10 ∷ after → (f : TakeFault) → Took k here r (Err f) → IsOutcome bytes (Err (text_fault n f))
+refused bytes rest here after n p k r a whole parts take_fault.Formless took = bad_line bytes rest here after n p k r a whole parts took
+refused bytes rest here after n p k r a whole parts take_fault.OutOfOrder took = bad_order bytes rest here after n p k r a parts took
+refused bytes rest here after n p k r a whole parts take_fault.Memory took = tt
 
 -- where the text ends
 pub whole_text : (bytes rest : List ℕ) (n : ℕ) (p q : Publication) (k : Kept) → Progress bytes rest n p k → k.held ≡ held.Done → rest ≡ [] → q ≡ p → IsText bytes q

@@ -25,6 +25,12 @@ Took old here new (Err take_fault.Formless) = ((l : Line) → InRange l → spel
 Took old here new (Err take_fault.OutOfOrder) = (l : Line) × InRange l × (spelling l ≡ here) × (after old old.held l ≡ None) × (new ≡ old)
 Took old here new (Err take_fault.Memory) = new ≡ old
 
+-- the fault of a text in whose line of this number a line's fault is
+abbrev pub text_fault : (line : ℕ) → TakeFault → TextFault
+text_fault line take_fault.Formless = fault.BadLine line
+text_fault line take_fault.OutOfOrder = fault.BadOrder line
+text_fault line take_fault.Memory = fault.Memory
+
 -- the publication, if the text ends where one does
 abbrev pub Finishes : Gathered → Held → List ℕ → ℕ → Result Publication TextFault → Type 0
 Finishes g h rest n (Ok p) = (h ≡ held.Done) × (rest ≡ []) × (p ≡ seen g)

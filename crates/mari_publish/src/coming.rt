@@ -9,7 +9,7 @@ ghost use Rattle.mari_publish.specs.Handling.{Handles};
 use crate::fault::TextFault;
 use crate::held::{Held, Kept};
 use crate::publication::Part;
-use crate::taking::{TakeFault, take_line};
+use crate::taking::take_line;
 use mari_lines::{MOST_LINE, split_once};
 use mari_units::{MOST_RUNS, Memory};
 use std::alloc::Global;
@@ -69,9 +69,7 @@ fn handle_line(alloc: Global, coming: &mut Coming) -> Result<Step, TextFault>
             coming.lines += 1;
             Ok(Step::Line(part))
         }
-        Err(TakeFault::Formless) => Err(TextFault::BadLine(coming.lines + 1)),
-        Err(TakeFault::OutOfOrder) => Err(TextFault::BadOrder(coming.lines + 1)),
-        Err(TakeFault::Memory) => Err(TextFault::Memory),
+        Err(fault) => Err(fault.at(coming.lines + 1)),
     }
 }
 

@@ -9,7 +9,7 @@ ghost use Rattle.mari_publish.specs.declared.publication.Publication.{Publicatio
 use crate::fault::TextFault;
 use crate::held::{Held, Kept};
 use crate::publication::{Block, Part, Publication};
-use crate::taking::{TakeFault, take_line};
+use crate::taking::take_line;
 use mari_lines::{AmountLine, MoneyLine, split_once};
 use mari_units::{Items, Memory, Name};
 use std::alloc::Global;
@@ -123,9 +123,7 @@ fn read_lines(
     while let Some((here, after)) = split_once(b'\n', rest) {
         let part = match take_line(alloc, kept, here) {
             Ok(part) => part,
-            Err(TakeFault::Formless) => return Err(TextFault::BadLine(number)),
-            Err(TakeFault::OutOfOrder) => return Err(TextFault::BadOrder(number)),
-            Err(TakeFault::Memory) => return Err(TextFault::Memory),
+            Err(fault) => return Err(fault.at(number)),
         };
         if gather(alloc, gathered, part).is_err() {
             return Err(TextFault::Memory);

@@ -4,6 +4,7 @@ ghost use Rattle.std.specs.Prelude.{◌+◌, ◌≤◌};
 ghost use Rattle.mari_publish.specs.Order.{HasRoom};
 ghost use Rattle.mari_publish.specs.Gathering.{Took};
 
+use crate::fault::TextFault;
 use crate::follow::{FollowFault, follow};
 use crate::held::Kept;
 use crate::publication::Part;
@@ -18,6 +19,22 @@ pub enum TakeFault {
     Formless,
     OutOfOrder,
     Memory,
+}
+
+impl TakeFault {
+    ghost use Rattle.std.specs.Prelude.{◌≡◌};
+    ghost use Rattle.mari_publish.specs.Gathering.{text_fault};
+
+    /// The fault of a text in whose line of this number it is.
+    pub fn at(self, line: u32) -> TextFault
+        ensures { result ≡ text_fault line self }
+    {
+        match self {
+            TakeFault::Formless => TextFault::BadLine(line),
+            TakeFault::OutOfOrder => TextFault::BadOrder(line),
+            TakeFault::Memory => TextFault::Memory,
+        }
+    }
 }
 
 /// Takes the line that is spelled so, and gives the part that is whole with it. After a fault what is kept is as it

@@ -1,9 +1,8 @@
 -- How large payments and rents of a run are: each flow touches two zones, so each border counts once.
-use Rattle.std.proofs.Common.{◌≡◌, ◌==◌, if◌then◌else◌, ℕ, zero, suc, ◌+◌, ◌*◌, ◌<◌, ◌≤◌, ◌^◌, ℤ, pos, Bool, true, false, ◌+ℤ◌, ◌-ℤ◌, ◌*ℤ◌, List, [], ◌∷◌, length, arith, refl, sym, ap, ◌∙◌}
+use Rattle.std.proofs.Common.{◌≡◌, ◌==◌, if◌then◌else◌, ℕ, ◌*◌, ◌<◌, ◌≤◌, ◌^◌, ℤ, pos, Bool, true, false, ◌+ℤ◌, ◌-ℤ◌, ◌*ℤ◌, List, [], ◌∷◌, length, arith, refl, sym, ap, ◌∙◌}
 use Rattle.std.specs.Prelude.{unsigned_abs}
 use Rattle.std.specs.List.{All, AllZip, range_with_len}
-use Rattle.std.proofs.Math.Nat.{mul-le-mul}
-use Rattle.std.proofs.lemmas.Int.{ints, unsigned_abs-mul}
+use Rattle.std.proofs.lemmas.Int.{ints}
 use Rattle.std.proofs.lemmas.List.Elements.{All-head, All-map, All-tail}
 use Rattle.mari_units.specs.declared.numbers.Cents.{Cents}
 use Rattle.mari_zones.specs.declared.zones.ZoneBook.{ZoneBook}
@@ -13,9 +12,9 @@ use Rattle.mari_market.specs.declared.activation.Activation.{Activation}
 use Rattle.mari_market.specs.Activation.{IsWithinLimits}
 use Rattle.mari_market.specs.Market.{IsValid, IsValidBorder}
 use Rattle.mari_market.specs.Price.{IsCapped, ArePrices, price_at}
-use Rattle.mari_market.specs.Sums.{int_sum, sum_along}
+use Rattle.mari_market.specs.Sums.{sum_along}
 use Rattle.mari_market.proofs.Ints.{sub-mul_z}
-use Rattle.mari_market.proofs.Sums.{AllZip-both, spread, sum_below, sum_below--, sum_below-place, sum_below-same}
+use Rattle.mari_market.proofs.Sums.{spread, sum_below--, sum_below-place, sum_below-same}
 use Rattle.std.specs.Prelude.{int_le, slice_get, take, Option, Some, None}
 use Rattle.std.proofs.Common.{get_or, inl, inr}
 use Rattle.std.proofs.lemmas.Bool.{cases_lt}

@@ -11,12 +11,25 @@ use std::alloc::Global;
 /// What an operator pays for the energy that its zones take in, and its part of the rents of its borders, in
 /// quarter-cents.
 ///
-/// The payment is negative where the operator is paid, as for energy that its zones give out. Its net is the payment
-/// less the rent.
+/// The payment is negative where the operator is paid, as for energy that its zones give out.
 #[derive(Clone, Copy, Debug, PartialEq, Eq)]
 pub struct OperatorLine {
     pub payment: Quarters,
     pub rent: Quarters,
+}
+
+impl OperatorLine {
+    ghost use Rattle.std.specs.Prelude.{◌^◌};
+    ghost use Rattle.mari_settle.specs.Conditions.{LineIsWithin};
+    ghost use Rattle.mari_settle.specs.Ledger.{net_of};
+
+    /// The payment less the rent, in quarter-cents.
+    pub fn net(self) -> Quarters
+        requires { LineIsWithin (10 ^ 30) self }
+        ensures { result.0 ≡ net_of self }
+    {
+        Quarters(self.payment.0 - self.rent.0)
+    }
 }
 
 /// The ledger of a run, or of several: a line for each operator, an amount for each provider and a rent for each

@@ -1,7 +1,8 @@
 -- The program's command line as `clap` has it; which words are a command, `Words` says without it.
-use Rattle.std.specs.Prelude.{Some, true}
+use Rattle.std.specs.Prelude.{◌≡◌, Some, true}
 use lib.Chars.{codes}
-use Rattle.clap.specs.Words.{App, Rule, Text, new_app, new_rule, with_rule, with_subcommand}
+use Rattle.clap.specs.Words.{AddsSubcommand, App, Rule, Text, app_of, new_app, new_rule, with_rule, with_subcommand}
+use Rattle.clap.specs.declared.builder.command.Command.{Command}
 use Rattle.clap.specs.declared.builder.ArgAction.TheVariants.{Set}
 
 -- a word that has to be there, which belongs to no option
@@ -20,6 +21,10 @@ clear_line = with_rule (with_rule (one_word (codes "clear")) (option_rule (codes
 
 abbrev pub migrate_line : App
 migrate_line = with_rule (one_word (codes "migrate")) (required_word (codes "second"))
+
+-- a command of this line, which whatever it is added to has as its subcommand
+abbrev pub IsSubcommand : App → Command → Type 0
+IsSubcommand line command = (old new : Command) → AddsSubcommand old command new → app_of new ≡ with_subcommand (app_of old) line.top
 
 abbrev pub bare_line : App
 bare_line = record (new_app (codes "mari")) {

@@ -2,7 +2,7 @@
 
 ghost use Rattle.std.specs.Prelude.{◌≡◌, IfOk, false};
 ghost use Rattle.clap.specs.Words.{app_of, rule_of};
-ghost use Rattle.mari_words.specs.Line.{line, option_rule, required_word};
+ghost use Rattle.mari_words.specs.Line.{IsSubcommand, bare_line, clear_line, line, migrate_line, one_word, option_rule, required_word};
 
 use clap::{Arg, ArgAction, Command as Parser};
 use mari_units::Memory;
@@ -24,29 +24,55 @@ fn option<'a>(alloc: Global, name: &'a str) -> Arg<'a>
     Arg::new(alloc, name).long(name).action(ArgAction::Set)
 }
 
-/// The program's command line.
-pub fn parser<'a>(alloc: Global) -> Result<Parser<'a>, Memory>
-    ensures { IfOk result (λ parser. app_of parser ≡ line) }
+/// A subcommand with one word behind it.
+fn with_word<'a>(alloc: Global, name: &'a str) -> Result<Parser<'a>, Memory>
+    ensures { IfOk result (IsSubcommand (one_word name.entry.now)) }
 {
-    let clear = Parser::new(alloc, "clear")
+    let command = Parser::new(alloc, name).arg(word(alloc, "first"))?;
+    Ok(command)
+}
+
+/// `clear`: its folder and its options.
+fn clear<'a>(alloc: Global) -> Result<Parser<'a>, Memory>
+    ensures { IfOk result (IsSubcommand clear_line) }
+{
+    let command = Parser::new(alloc, "clear")
         .arg(word(alloc, "first"))?
         .arg(option(alloc, "nodes"))?
         .arg(option(alloc, "workers"))?;
-    let check = Parser::new(alloc, "check").arg(word(alloc, "first"))?;
-    let generate = Parser::new(alloc, "generate").arg(word(alloc, "first"))?;
-    let migrate = Parser::new(alloc, "migrate")
+    Ok(command)
+}
+
+/// `migrate`: its folder and the page that is printed.
+fn migrate<'a>(alloc: Global) -> Result<Parser<'a>, Memory>
+    ensures { IfOk result (IsSubcommand migrate_line) }
+{
+    let command = Parser::new(alloc, "migrate")
         .arg(word(alloc, "first"))?
         .arg(word(alloc, "second"))?;
-    let mari = Parser::new(alloc, "mari")
+    Ok(command)
+}
+
+/// The program's command line before its subcommands.
+fn bare<'a>(alloc: Global) -> Parser<'a>
+    ensures { app_of result ≡ bare_line }
+{
+    Parser::new(alloc, "mari")
         .no_binary_name(true)
         .disable_help_flag(true)
         .disable_help_subcommand(true)
         .disable_version_flag(true)
-        .subcommand_required(true);
-    Ok(
-        mari.subcommand(clear)?
-            .subcommand(check)?
-            .subcommand(generate)?
-            .subcommand(migrate)?,
-    )
+        .subcommand_required(true)
+}
+
+/// The program's command line.
+pub fn parser<'a>(alloc: Global) -> Result<Parser<'a>, Memory>
+    ensures { IfOk result (λ parser. app_of parser ≡ line) }
+{
+    let mari = bare(alloc)
+        .subcommand(clear(alloc)?)?
+        .subcommand(with_word(alloc, "check")?)?
+        .subcommand(with_word(alloc, "generate")?)?
+        .subcommand(migrate(alloc)?)?;
+    Ok(mari)
 }

@@ -199,6 +199,100 @@ fn published<'m, N: SearchName>(
     })
 }
 
+/// Lets all workers run over a pool, and gathers what they found.
+fn run_workers<'m, N: SearchName + Send + Sync, G: Turnstile, R: Threads + Wait + Sync>(
+    rt: &R,
+    alloc: Global,
+    market: &Market,
+    workers: u32,
+    pool: &Mutex<Pool<'m, N>>,
+    incumbent: &Incumbent,
+    mine: &mut Worked,
+    turnstile: &G,
+) -> Result<(), Memory>
+    // The search is the one of the name.
+    requires market { (market.now ≡ N.market) × IsValid market.now }
+    requires workers { workers ≡ N.workers }
+    requires incumbent { incumbent.now ≡ N.incumbent }
+
+    // A part of this seat for each worker, and one more.
+    requires mine { Holds N.market N.incumbent mine.old }
+    requires parts { workers < mine.old.seat.parts }
+
+    // What this thread has then, with all parts back.
+    ensures mine { OnOk result (Holds N.market N.incumbent mine.new) }
+    ensures parts { OnOk result (mine.new.seat.parts ≡ mine.old.seat.parts) }
+{
+    let jobs = jobs_of(alloc, incumbent, &mut mine.seat, workers)?;
+    let bell = Condvar::new();
+    let worked = run_all::<N, G, R>(rt, alloc, market, pool, &bell, incumbent, jobs, turnstile)?;
+    gather(market, incumbent, mine, worked);
+    Ok(())
+}
+
+/// Starts a pool with its part of the seat, lets the workers run over it, and settles what they left. Beside the pool
+/// it tells whether no leaf of it is open; else a node could not branch within the budget.
+fn run<'m, N: SearchName + Send + Sync, G: Turnstile, R: Threads + Wait + Sync>(
+    rt: &R,
+    alloc: Global,
+    market: &'m Market,
+    workers: u32,
+    budget: u32,
+    pooled: Seat,
+    incumbent: &Incumbent,
+    mine: &mut Worked,
+    turnstile: &G,
+) -> Result<(Pool<'m, N>, bool), Memory>
+    // The search is the one of the name, and can be one.
+    requires market { (market.now ≡ N.market) × IsValid market.now }
+    requires numbers { (workers ≡ N.workers) × (budget ≡ N.budget) }
+    requires workers { (1 ≤ workers) × (workers ≤ MOST_WORKERS) }
+    requires budget { IsBudget budget }
+
+    // The pool's part of the seat, and the others, in this one.
+    requires incumbent { incumbent.now ≡ N.incumbent }
+    requires pooled { IsFresh N.incumbent pooled }
+    requires closed { IsClosedWelfare market.now (pos N.incumbent.first) }
+    requires mine { Holds N.market N.incumbent mine.old }
+    requires parts { workers < mine.old.seat.parts }
+
+    // What this thread has then, with all parts back but the pool's.
+    ensures mine { OnOk result (Holds N.market N.incumbent mine.new) }
+    ensures parts { OnOk result (mine.new.seat.parts ≡ mine.old.seat.parts) }
+
+    // What is told of the pool.
+    ensures idle { IfOk result (λ ran. ran.1 ≡ true → IsIdle ran.0 ran.0 0) }
+    ensures spent { IfOk result (λ ran. ran.1 ≡ false → ran.0.tree.full ≡ true) }
+{
+    let pool = Mutex::new(Pool::<N>::start(alloc, market, budget, workers, pooled)?);
+    let ran = run_workers(
+        rt, alloc, market, workers, &pool, incumbent, mine, turnstile,
+    );
+    let mut pool = pool.into_inner();
+    let settled = match ran {
+        Ok(()) => settle_rest(rt, alloc, market, workers, &mut pool, incumbent, mine),
+        Err(Memory) => Err(Memory),
+    };
+    match settled {
+        Ok(closed) => Ok((pool, closed)),
+        Err(Memory) => {
+            drop(pool);
+            Err(Memory)
+        }
+    }
+}
+
+/// The part of the search tree of a pool in which a node could not branch within the budget.
+fn spent<'m, N: SearchName>(alloc: Global, pool: Pool<'m, N>) -> Result<Cleared, Memory>
+    requires { pool.tree.full ≡ true }
+    ensures { IfOk result (Clears N.market N.budget) }
+{
+    let part = pool.part(alloc);
+    drop(pool);
+    let items = Items::of(part?);
+    Ok(Cleared::Spent(Spent { items }))
+}
+
 /// Clears a market from the best activation with every gate closed, by a search of this name, and refines what is
 /// found.
 ///
@@ -232,22 +326,25 @@ fn searched<N: SearchName + Send + Sync, G: Turnstile, R: Threads + Wait + Sync>
     // The law of whatever clears.
     ensures { IfOk result (Clears market.now budget) }
 {
+    let incumbent = CachePadded::new(incumbent);
     let mut mine = Worked { seat, best: None };
     let pooled = incumbent.split(&mut mine.seat);
-    let pool = Mutex::new(Pool::<N>::start(alloc, market, budget, workers, pooled)?);
-    let bell = Condvar::new();
-    let jobs = jobs_of(alloc, &incumbent, &mut mine.seat, workers)?;
-    let padded = CachePadded::new(incumbent);
-    let worked = run_all::<N, G, R>(rt, alloc, market, &pool, &bell, &padded, jobs, turnstile)?;
-    let incumbent = padded.into_inner();
-    gather(market, &incumbent, &mut mine, worked);
-    let mut pool = pool.into_inner();
-    if settle_rest(rt, alloc, market, workers, &mut pool, &incumbent, &mut mine)? {
-        let found = published(alloc, pool, incumbent, mine, first)?;
-        return Ok(refine(alloc, market, found, budget));
-    }
-    let items = Items::of(pool.part(alloc)?);
-    Ok(Cleared::Spent(Spent { items }))
+    let ran = run::<N, G, R>(
+        rt, alloc, market, workers, budget, pooled, &incumbent, &mut mine, turnstile,
+    );
+    let incumbent = incumbent.into_inner();
+    let ended = match ran {
+        Ok((pool, true)) => {
+            let found = published(alloc, pool, incumbent, mine, first)?;
+            return Ok(refine(alloc, market, found, budget));
+        }
+        Ok((pool, false)) => spent(alloc, pool),
+        Err(Memory) => Err(Memory),
+    };
+    drop(incumbent);
+    drop(mine);
+    drop(first);
+    ended
 }
 
 /// Names the search, and starts its incumbent at the closed welfare, with a part for each worker, the pool and this

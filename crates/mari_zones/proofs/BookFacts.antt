@@ -1,19 +1,19 @@
 -- What holds of every book of zones or borders that is read.
-use Rattle.std.proofs.Common.{◌≡◌, ◌≢◌, ◌∙◌, ◌≤◌, ◌<◌, ◌==◌, ℕ, Bool, Some, if◌then◌else◌, true, false, List, [], ◌∷◌, ◌++◌, None, Ok, Err, Result, IfOk, map, length, length-append, get_or, sym, arith}
-use Rattle.std.specs.Prelude.{◌&&◌, nat_le, is_some, unwrap_or}
+use Rattle.std.proofs.Common.{◌≡◌, ◌≢◌, ◌∙◌, ◌≤◌, ◌<◌, ◌==◌, ℕ, Bool, Some, if◌then◌else◌, true, false, List, [], ◌∷◌, ◌++◌, None, Ok, Err, Result, IfOk, map, length, length-append, sym, arith}
+use Rattle.std.specs.Prelude.{is_some, unwrap_or}
 use Rattle.std.specs.List.{All, AllPairs}
 use Rattle.std.specs.Str.{bytes_eq}
-use Rattle.std.proofs.lemmas.Bool.Decides.{nat_tests, eqb_tells}
+use Rattle.std.proofs.lemmas.Bool.Decides.{nat_tests}
 use Rattle.std.proofs.lemmas.List.{length-map, map-append}
 use Rattle.std.proofs.lemmas.List.Elements.{All-map, All-nil, All-push}
 use Rattle.mari_units.specs.Names.{is_name}
-use Rattle.mari_rows.specs.Books.{GivesBook, book_in, book_of_rows, first_failing}
+use Rattle.mari_rows.specs.Books.{GivesBook, book_in, first_failing}
 use Rattle.mari_rows.specs.Fields.{number_in}
 use Rattle.mari_rows.specs.Names.{place_in}
 use Rattle.mari_rows.specs.Rows.{field_of}
 use Rattle.mari_rows.specs.declared.faults.BookFault.{BookFault}
 use Rattle.mari_rows.specs.declared.rows.Row.{Row}
-use Rattle.mari_rows.proofs.BookLemmas.{book-page, book-rows}
+use Rattle.mari_rows.proofs.BookLemmas.{book-page}
 use Rattle.mari_rows.proofs.BookFacts.{all-distinct, all-passed, along-lines, both-parts, distinct-more, found-below, not-false, number-bounds, places-below}
 use Rattle.mari_rows.proofs.PlaceLemmas.{length-distinct}
 use Rattle.mari_zones.specs.Zones.{IsZoneBook, operator_of, operators_of, zone_book, zone_checks, zone_file_checks, zone_grammar, zone_of, zones_of}

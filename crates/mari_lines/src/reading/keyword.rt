@@ -6,32 +6,70 @@ ghost use Rattle.mari_lines.specs.declared.line.Keyword.{Keyword as KeywordValue
 
 use crate::line::Keyword;
 
+/// All keywords, in the order in which their lines first come.
+const KEYWORDS: [Keyword; 21] = [
+    Keyword::Mari,
+    Keyword::Run,
+    Keyword::Welfare,
+    Keyword::Zone,
+    Keyword::Border,
+    Keyword::Bid,
+    Keyword::Demand,
+    Keyword::Tree,
+    Keyword::Branch,
+    Keyword::Bound,
+    Keyword::Cut,
+    Keyword::Conflict,
+    Keyword::At,
+    Keyword::Flows,
+    Keyword::Mws,
+    Keyword::Operator,
+    Keyword::Provider,
+    Keyword::End,
+    Keyword::TotalOperator,
+    Keyword::TotalProvider,
+    Keyword::Done,
+];
+
+impl Keyword {
+    /// How it is written.
+    fn text(self) -> &'static [u8]
+        ensures { result.now ≡ keyword_text self }
+    {
+        match self {
+            Keyword::Mari => b"mari",
+            Keyword::Run => b"run",
+            Keyword::Welfare => b"welfare",
+            Keyword::Zone => b"zone",
+            Keyword::Border => b"border",
+            Keyword::Bid => b"bid",
+            Keyword::Demand => b"demand",
+            Keyword::Tree => b"tree",
+            Keyword::Branch => b"branch",
+            Keyword::Bound => b"bound",
+            Keyword::Cut => b"cut",
+            Keyword::Conflict => b"conflict",
+            Keyword::At => b"at",
+            Keyword::Flows => b"flows",
+            Keyword::Mws => b"mws",
+            Keyword::Operator => b"operator",
+            Keyword::Provider => b"provider",
+            Keyword::End => b"end",
+            Keyword::TotalOperator => b"total-operator",
+            Keyword::TotalProvider => b"total-provider",
+            Keyword::Done => b"done",
+        }
+    }
+}
+
 /// The keyword that is written so.
 pub fn keyword_of(text: &[u8]) -> Option<Keyword>
     ensures { MatchOption result ((keyword : KeywordValue) → keyword_text keyword ≡ text.now → ⊥) (λ keyword. keyword_text keyword ≡ text.now) }
 {
-    match text {
-        b"mari" => Some(Keyword::Mari),
-        b"run" => Some(Keyword::Run),
-        b"welfare" => Some(Keyword::Welfare),
-        b"zone" => Some(Keyword::Zone),
-        b"border" => Some(Keyword::Border),
-        b"bid" => Some(Keyword::Bid),
-        b"demand" => Some(Keyword::Demand),
-        b"tree" => Some(Keyword::Tree),
-        b"branch" => Some(Keyword::Branch),
-        b"bound" => Some(Keyword::Bound),
-        b"cut" => Some(Keyword::Cut),
-        b"conflict" => Some(Keyword::Conflict),
-        b"at" => Some(Keyword::At),
-        b"flows" => Some(Keyword::Flows),
-        b"mws" => Some(Keyword::Mws),
-        b"operator" => Some(Keyword::Operator),
-        b"provider" => Some(Keyword::Provider),
-        b"end" => Some(Keyword::End),
-        b"total-operator" => Some(Keyword::TotalOperator),
-        b"total-provider" => Some(Keyword::TotalProvider),
-        b"done" => Some(Keyword::Done),
-        _ => None,
+    for keyword in KEYWORDS {
+        if keyword.text() == text {
+            return Some(keyword);
+        }
     }
+    None
 }

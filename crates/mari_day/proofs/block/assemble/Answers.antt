@@ -1,5 +1,5 @@
 use Rattle.std.proofs.Common.{◌∙◌, refl}
-use Rattle.mari_day.proofs.BlockFits.{halves}
+use Rattle.mari_day.proofs.BlockFits.{halves, have-nets}
 use Rattle.mari_progress.proofs.Listing.{providers-there}
 use Rattle.mari_day.proofs.block.assemble.Goals as goal
 
@@ -10,7 +10,7 @@ pub money_lines-requires-clause-few : goal.money_lines-requires-clause-few
 money_lines-requires-clause-few c = c.requires.accepted.zones.few_operators
 
 pub money_lines-requires-clause-small : goal.money_lines-requires-clause-small
-money_lines-requires-clause-small c = rw c.as_slice-2.ensures (halves c.args.priced.now.ledger.operators c.requires.shapes.small.operators)
+money_lines-requires-clause-small c = rw c.as_slice-2.ensures (have-nets _ (halves c.args.priced.now.ledger.operators c.requires.shapes.small.operators))
 
 pub provider_lines-requires-clause-there : goal.provider_lines-requires-clause-there
 provider_lines-requires-clause-there c = providers-there c.args.books.now.bids.bids _ _ (λ k d l. (c.requires.accepted.bids.bids k d l).provider) c.requires.there

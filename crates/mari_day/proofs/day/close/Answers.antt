@@ -1,6 +1,7 @@
 use Rattle.std.proofs.Common.{◌∙◌, arith}
 use Rattle.mari_progress.proofs.Counts.{both-kinds}
 use Rattle.mari_progress.proofs.Sums.{one-each-provider}
+use Rattle.mari_day.proofs.BlockFits.{have-nets}
 use Rattle.mari_day.proofs.Days.{day-of-blocks, is-day, operators-fit, providers-fit, sums-halves}
 use Rattle.mari_day.proofs.Texts.{closes-by, closing-text}
 use Rattle.mari_day.proofs.day.close.Goals as goal
@@ -11,7 +12,7 @@ money_lines-requires-clause-few g c = c.requires.accepted.zones.few_operators
 pub money_lines-requires-clause-small : goal.money_lines-requires-clause-small
 money_lines-requires-clause-small g c =
     let s = c.requires.stands in
-    rw c.as_slice.ensures (sums-halves c.args.books.now c.requires.accepted c.requires.dated s.1 c.args.progress.now.totals s.2.kept.totals (omega (arith, s.3, c.requires.accepted.runs.few)))
+    rw c.as_slice.ensures (have-nets _ (sums-halves c.args.books.now c.requires.accepted c.requires.dated s.1 c.args.progress.now.totals s.2.kept.totals (omega (arith, s.3, c.requires.accepted.runs.few))))
 
 pub total_lines-requires-clause-one_each : goal.total_lines-requires-clause-one_each
 total_lines-requires-clause-one_each g c =

@@ -1,7 +1,6 @@
-use Rattle.std.proofs.Common.{◌≡◌, ◌≤◌, List, arith, ap, length, map}
+use Rattle.std.proofs.Common.{◌≤◌, arith, ap, length}
 use Rattle.std.proofs.lemmas.List.Sorted.{sum_by-IsPermutation}
 use Rattle.std.proofs.lemmas.List.{length-map}
-use Rattle.std.specs.List.Sorted.{IsPermutation}
 use Rattle.mari_market.specs.Price.{IsPrice}
 use Rattle.mari_merit.specs.declared.marginal.Rung.{Rung}
 use Rattle.mari_merit.specs.Merit.{rung_of}

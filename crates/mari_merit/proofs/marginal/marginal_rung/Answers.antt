@@ -1,5 +1,4 @@
-use Rattle.std.proofs.Common.{◌≤◌, pos, arith}
-use Rattle.mari_market.specs.Price.{IsPrice}
+use Rattle.std.proofs.Common.{pos, arith}
 use Rattle.mari_merit.specs.declared.marginal.Rung.{Rung}
 use Rattle.mari_merit.proofs.Rungs.{at_rung, not_beyond, as_read}
 use Rattle.mari_merit.proofs.marginal.marginal_rung.Goals as goal

@@ -1,5 +1,4 @@
-use Rattle.std.proofs.Common.{◌≡◌, ◌≤◌, ◌*◌, take, sum_by}
-use Rattle.mari_market.specs.declared.market.Order.{Order}
+use Rattle.std.proofs.Common.{◌≡◌, ◌≤◌, ◌*◌, take}
 use Rattle.mari_merit.specs.Merit.{withdrawn_in}
 use Rattle.mari_merit.proofs.marginal.withdrawn.Given as goal
 

@@ -3,7 +3,6 @@ use Rattle.std.proofs.lemmas.Int.{ints}
 use Rattle.std.proofs.lemmas.List.{length_push}
 use Rattle.mari_market.specs.declared.market.Order.{Order}
 use Rattle.mari_market.specs.Activation.{order_gain}
-use Rattle.mari_market.specs.Sums.{sum_along}
 use Rattle.mari_network.specs.Slots.{amount_at}
 use Rattle.mari_network.specs.Orders.{no_order, CanPut, ArePuts}
 use Rattle.mari_network.proofs.Lists.{at_take}

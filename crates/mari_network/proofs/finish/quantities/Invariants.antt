@@ -1,4 +1,4 @@
-use Rattle.std.proofs.Common.{◌≡◌, ◌*◌, ◌≤◌, length, take}
+use Rattle.std.proofs.Common.{◌≡◌, ◌*◌, length, take}
 use Rattle.std.specs.Prelude.{pos, neg_ℤ, ◌≤ℤ◌}
 use Rattle.mari_market.specs.Activation.{order_gain}
 use Rattle.mari_market.specs.Sums.{sum_along}

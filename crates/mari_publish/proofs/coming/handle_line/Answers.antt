@@ -1,16 +1,12 @@
-use Rattle.std.proofs.Common.{◌≡◌, List, ℕ, None, Err, inl, inr, drop, refl, sym, ap, subst}
-use Rattle.mari_lines.specs.declared.line.Line.{Line}
-use Rattle.mari_lines.specs.Ranges.{InRange}
+use Rattle.std.proofs.Common.{◌≡◌, ◌+◌, List, ℕ, Err, inl, inr, drop, refl, sym, ap, subst}
 use Rattle.mari_lines.specs.Reading.{Lacks}
-use Rattle.mari_lines.specs.Spelling.{spelling}
 use Rattle.mari_publish.specs.declared.coming.Ahead.{Ahead}
 use Rattle.mari_publish.specs.declared.coming.Coming.{Coming}
 use Rattle.mari_publish.specs.declared.held.Kept.{Kept}
 use Rattle.mari_publish.specs.declared.taking.TakeFault.{TakeFault}
 use Rattle.mari_publish.specs.declared.taking.TakeFault.TheVariants as take_fault
-use Rattle.mari_publish.specs.Gathering.{Took}
-use Rattle.mari_publish.specs.Handling.{IsFormless}
-use Rattle.mari_publish.specs.Order.{after}
+use Rattle.mari_publish.specs.Gathering.{Took, text_fault}
+use Rattle.mari_publish.specs.Handling.{BeginsWith, Handles}
 use Rattle.mari_publish.specs.Pieces.{NoLineIn, come_of}
 use Rattle.mari_publish.proofs.Pieces.{too_long}
 use Rattle.mari_publish.proofs.MoreText.{drop_line, from_place}
@@ -38,45 +34,21 @@ returns-in-Ok-clause-handles c =
       left = drop_line c.args.coming.now.bytes.items c.in-Some.here.now c.in-Some._after.now c.args.coming.now.handled is;
     }
 
--- a line that was not taken: what is wrong with it, and what is kept is as it was
-formless : (k r : Kept) (here : List ℕ) (f : TakeFault) → f ≡ take_fault.Formless → Took k here r (Err f) → IsFormless here × (r ≡ k)
-formless k r here f is t = subst (λ g. Took k here r (Err g)) is t
-
-misplaced : (k r : Kept) (here : List ℕ) (f : TakeFault) → f ≡ take_fault.OutOfOrder → Took k here r (Err f) → (l : Line) × InRange l × (spelling l ≡ here) × (after k k.held l ≡ None) × (r ≡ k)
-misplaced k r here f is t = subst (λ g. Took k here r (Err g)) is t
-
-untaken : (k r : Kept) (here : List ℕ) (f : TakeFault) → f ≡ take_fault.Memory → Took k here r (Err f) → r ≡ k
-untaken k r here f is t = subst (λ g. Took k here r (Err g)) is t
-
 same_come : (c : Coming) (r : Kept) → r ≡ c.kept → come_of (record { kept = r; lines = c.lines; ahead = c.ahead; bytes = c.bytes; handled = c.handled }) ≡ come_of c
 same_come c r e = ap (λ (k : Kept). come_of (record { kept = k; lines = c.lines; ahead = c.ahead; bytes = c.bytes; handled = c.handled })) e
 
-pub returns-in-Err-Formless-clause-handles : goal.returns-in-Err-Formless-clause-handles
-returns-in-Err-Formless-clause-handles c =
-    let is = from_place c.args.coming.now.bytes.items c.deref.result.now c.args.coming.now.handled _ c.deref.ensures.value c.in-Some.ensures.1 in
-    let t = formless c.args.coming.now.kept c.take_line.new.kept c.in-Some.here.now c.in-Err-Formless.field-0 c.in-Err-Formless.field-0-is c.in-Err-Formless.ensures in
-    (inr (c.in-Some.here.now, c.in-Some._after.now, record { all = c.in-Kept.is; is = is; whole = c.in-Some.ensures.0 }, t.0), refl, same_come c.args.coming.now c.take_line.new.kept t.1)
+-- a line that was not taken: what is wrong with it, and what is kept is as it was
+refused : (c : Coming) (r : Kept) (here behind : List ℕ) (f : TakeFault) → BeginsWith (come_of c) here behind → Took c.kept here r (Err f)
+    → Handles (come_of c) (come_of (record { kept = r; lines = c.lines; ahead = c.ahead; bytes = c.bytes; handled = c.handled })) (Err (text_fault (c.lines + 1) f))
+refused c r here behind take_fault.Formless begins t = (inr (here, behind, begins, t.0), refl, same_come c r t.1)
+refused c r here behind take_fault.OutOfOrder begins t =
+    (record { here = here; behind = behind; begins = begins; line = t.0; in_range = t.1; spelled = t.2; misplaced = t.3 }, refl, same_come c r t.4)
+refused c r here behind take_fault.Memory begins t = same_come c r t
 
-pub returns-in-Err-OutOfOrder-clause-handles : goal.returns-in-Err-OutOfOrder-clause-handles
-returns-in-Err-OutOfOrder-clause-handles c =
+pub returns-in-Err-clause-handles : goal.returns-in-Err-clause-handles
+returns-in-Err-clause-handles c =
     let is = from_place c.args.coming.now.bytes.items c.deref.result.now c.args.coming.now.handled _ c.deref.ensures.value c.in-Some.ensures.1 in
-    let t = misplaced c.args.coming.now.kept c.take_line.new.kept c.in-Some.here.now c.in-Err-OutOfOrder.field-0 c.in-Err-OutOfOrder.field-0-is c.in-Err-OutOfOrder.ensures in (
-      record {
-        here = c.in-Some.here.now;
-        behind = c.in-Some._after.now;
-        begins = record { all = c.in-Kept.is; is = is; whole = c.in-Some.ensures.0 };
-        line = t.0;
-        in_range = t.1;
-        spelled = t.2;
-        misplaced = t.3;
-      },
-      refl,
-      same_come c.args.coming.now c.take_line.new.kept t.4,
-    )
-
-pub returns-in-Err-Memory-clause-handles : goal.returns-in-Err-Memory-clause-handles
-returns-in-Err-Memory-clause-handles c =
-    same_come c.args.coming.now c.take_line.new.kept (untaken c.args.coming.now.kept c.take_line.new.kept c.in-Some.here.now c.in-Err-Memory.field-0 c.in-Err-Memory.field-0-is c.in-Err-Memory.ensures)
+    rw c.at.ensures (refused c.args.coming.now c.take_line.new.kept c.in-Some.here.now c.in-Some._after.now c.in-Err.fault (record { all = c.in-Kept.is; is = is; whole = c.in-Some.ensures.0 }) c.in-Err.ensures)
 
 pub returns-in-Ended-clause-handles : goal.returns-in-Ended-clause-handles
 returns-in-Ended-clause-handles c = (inl c.in-Ended.is, refl, refl)

@@ -2,7 +2,7 @@ use Rattle.std.proofs.Common.{◌≡◌, ◌+◌, false, Result, Ok, Err, sym, s
 use Rattle.std.specs.Prelude.{OnOk}
 use Rattle.std.specs.Result.{is_err}
 use Rattle.mari_publish.specs.Gathering.{seen}
-use Rattle.mari_publish.proofs.Progress.{Progress, progress_of_nothing, number_fits, counts_fit, has_room, bad_line, bad_order, shorter, forward, finished}
+use Rattle.mari_publish.proofs.Progress.{Progress, progress_of_nothing, number_fits, counts_fit, has_room, refused, shorter, forward, finished}
 use Rattle.mari_publish.proofs.reading.read_lines.Goals as goal
 
 taken : {X E : Type 0} (r : Result X E) (P : Type 0) → is_err r ≡ false → OnOk r P → P
@@ -21,13 +21,9 @@ take_line-requires-clause-room c = has_room c.args.bytes.now c.loop-here.rest.no
 pub overflow_add-number : goal.overflow_add-number
 overflow_add-number c = let small = number_fits c.args.bytes.now c.loop-here.rest.now c.loop-here.number (seen c.loop-here.gathered) c.loop-here.kept c.loop-here.invariant in omega (arith, small)
 
-pub returns-in-Err-Formless : goal.returns-in-Err-Formless
-returns-in-Err-Formless c = bad_line c.args.bytes.now c.loop-here.rest.now c.in-Some.here.now c.in-Some.after.now c.loop-here.number (seen c.loop-here.gathered) c.loop-here.kept c.take_line.new.kept
-    c.loop-here.invariant c.in-Some.ensures.0 c.in-Some.ensures.1 _ c.in-Err-Formless.field-0-is c.in-Err-Formless.ensures
-
-pub returns-in-Err-OutOfOrder : goal.returns-in-Err-OutOfOrder
-returns-in-Err-OutOfOrder c = bad_order c.args.bytes.now c.loop-here.rest.now c.in-Some.here.now c.in-Some.after.now c.loop-here.number (seen c.loop-here.gathered) c.loop-here.kept c.take_line.new.kept
-    c.loop-here.invariant c.in-Some.ensures.1 _ c.in-Err-OutOfOrder.field-0-is c.in-Err-OutOfOrder.ensures
+pub returns-in-Err : goal.returns-in-Err
+returns-in-Err c = rw c.at.ensures (refused c.args.bytes.now c.loop-here.rest.now c.in-Some.here.now c.in-Some.after.now c.loop-here.number (seen c.loop-here.gathered) c.loop-here.kept c.take_line.new.kept
+    c.loop-here.invariant c.in-Some.ensures.0 c.in-Some.ensures.1 c.in-Err.fault c.in-Err.ensures)
 
 pub loop-here-smaller : goal.loop-here-smaller
 loop-here-smaller c = shorter c.loop-here.rest.now c.in-Some.here.now c.in-Some.after.now c.in-Some.ensures.1

@@ -1,8 +1,8 @@
-use Rattle.std.proofs.Common.{◌≡◌, ◌∙◌, ◌<◌, Option, Some, None, true, false, get_or, length, refl, sym, ap, arith, rules}
+use Rattle.std.proofs.Common.{◌≡◌, ◌∙◌, Option, Some, None, true, false, length, refl, sym, ap, arith, rules}
 use Rattle.std.specs.Prelude.{is_some, unwrap_or}
 use Rattle.std.proofs.lemmas.List.{get_or_read_under, length-set}
 use Rattle.mari_rows.proofs.BookLemmas.{first_failing-append}
-use Rattle.mari_demands.specs.Limits.{limits_at, limits_of, name_checks, pair_checks, place_in}
+use Rattle.mari_demands.specs.Limits.{limits_at, limits_of, name_checks, pair_checks}
 use Rattle.mari_demands.specs.LimitPairs.{no_limits}
 use Rattle.mari_demands.specs.declared.limits.Limits.{Limits}
 use Rattle.mari_demands.proofs.LimitLemmas.{kept-again, keeps-more, named, place-below}

@@ -1,4 +1,4 @@
-use Rattle.std.proofs.Common.{rules, ◌≡◌, ℕ, ap, sym, ◌∙◌, arith}
+use Rattle.std.proofs.Common.{ap, sym, ◌∙◌, arith}
 use Rattle.mari_incumbent.specs.Incumbent.{IncumbentId, Standing}
 use Rattle.mari_incumbent.proofs.Keeps.{closes}
 use Rattle.mari_incumbent.proofs.incumbent.Incumbent.close.Goals as goal

@@ -1,18 +1,15 @@
-use Rattle.std.proofs.Common.{◌≡◌, ℕ, ◌+◌, ◌-◌, ◌*◌, ◌<◌, ◌≤◌, false, true, Some, List, [], ◌∷◌, ◌++◌, Bool, length, set, length-set, arith, refl, sym, ap, subst, ◌∙◌}
-use Rattle.std.specs.Prelude.{vec_capacity, slice_get, slice_set}
+use Rattle.std.proofs.Common.{◌≡◌, false, true, Some, [], ◌∷◌, ◌++◌, set, length-set, arith, refl, sym, ap, subst, ◌∙◌}
+use Rattle.std.specs.Prelude.{vec_capacity, slice_get}
 use Rattle.mari_market.specs.Prefix.{word_of}
-use Rattle.mari_core.specs.declared.journal.JournalEntry.{JournalEntry}
-use Rattle.mari_core.specs.declared.node.NodeState.TheVariants.{Untaken, Taken}
-use Rattle.mari_core.specs.Nodes.{state_at}
-use Rattle.mari_core.specs.Growth.{Grown, Entry, grown, in_journal, IsAllowed}
-use Rattle.mari_core.specs.Growth.Entry.{Take, GiveBack}
+use Rattle.mari_core.specs.declared.node.NodeState.TheVariants.{Untaken}
+use Rattle.mari_core.specs.Growth.{Grown, grown, in_journal, IsAllowed}
+use Rattle.mari_core.specs.Growth.Entry.{GiveBack}
 use Rattle.mari_core.proofs.Changes.{length-with_state}
-use Rattle.mari_core.proofs.Entries.{within_nodes}
-use Rattle.mari_pool.specs.Queued.{Queued, IsQueueOf}
+use Rattle.mari_pool.specs.Queued.{IsQueueOf}
 use Rattle.mari_pool.proofs.Queues.{back_room, queue_back}
-use Rattle.mari_pool.specs.Pooled.{Pooled, IsTakenAt, unreturned, owed, taken_among}
-use Rattle.mari_pool.proofs.Rooms.{taken_after, taken_few, unreturned_set}
-use Rattle.mari_pool.proofs.Keeps.{pool_of, pool_same, has_room, entry_keeps, entry_keeps_by, back_owed, not_returned, not_again}
+use Rattle.mari_pool.specs.Pooled.{Pooled, IsTakenAt, unreturned, taken_among}
+use Rattle.mari_pool.proofs.Rooms.{taken_after, unreturned_set}
+use Rattle.mari_pool.proofs.Keeps.{pool_of, pool_same, has_room, entry_keeps, not_returned, not_again}
 use Rattle.mari_pool.proofs.pool.Pool.give_back.Goals as goal
 
 pub push_reserved-requires : goal.push_reserved-requires

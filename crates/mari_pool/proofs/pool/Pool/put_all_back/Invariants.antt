@@ -1,4 +1,4 @@
-use Rattle.std.proofs.Common.{◌≡◌, ℕ, ◌+◌, ◌*◌, ◌≤◌, length}
+use Rattle.std.proofs.Common.{◌≡◌, ◌+◌, ◌*◌, ◌≤◌, length}
 use Rattle.mari_pool.specs.Pooled.{owed, taken_among, left_at}
 use Rattle.mari_pool.proofs.pool.Pool.put_all_back.Given as goal
 

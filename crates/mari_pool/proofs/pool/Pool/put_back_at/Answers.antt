@@ -1,10 +1,9 @@
-use Rattle.std.proofs.Common.{◌≡◌, ℕ, ◌+◌, ◌*◌, ◌≤◌, ◌∷◌, [], Some, length, length-append, arith, ap, sym, subst, ◌∙◌}
-use Rattle.mari_core.specs.declared.node.NodeState.TheVariants.{Untaken, Taken}
-use Rattle.mari_core.specs.Nodes.{state_at}
+use Rattle.std.proofs.Common.{◌+◌, ◌∷◌, [], length, length-append, arith, ap, ◌∙◌}
+use Rattle.mari_core.specs.declared.node.NodeState.TheVariants.{Untaken}
 use Rattle.mari_core.specs.Growth.{in_journal}
 use Rattle.mari_core.specs.Growth.Entry.{GiveBack}
 use Rattle.mari_core.proofs.Changes.{length-with_state}
-use Rattle.mari_pool.specs.Pooled.{Pooled, owed, taken_among, left_at}
+use Rattle.mari_pool.specs.Pooled.{Pooled, left_at}
 use Rattle.mari_pool.proofs.Rooms.{taken_after}
 use Rattle.mari_pool.proofs.Keeps.{back_owed}
 use Rattle.mari_pool.proofs.Returns.{left_taken, left_other}

@@ -1,14 +1,13 @@
-use Rattle.std.proofs.Common.{◌≡◌, ℕ, ◌+◌, ◌-◌, ◌<◌, ◌≤◌, max, Some, List, [], ◌∷◌, ◌++◌, Bool, length, arith, refl, sym, ap, subst, ◌∙◌}
+use Rattle.std.proofs.Common.{◌≡◌, ℕ, ◌≤◌, max, [], ◌∷◌, ◌++◌, length, arith, sym, ap, subst, ◌∙◌}
 use Rattle.std.specs.Prelude.{vec_capacity}
 use Rattle.mari_market.specs.Prefix.{word_of}
 use Rattle.mari_core.specs.declared.journal.JournalEntry.{JournalEntry}
-use Rattle.mari_core.specs.Growth.{Grown, Entry, settling, closing_leaf, grown, in_journal, IsAllowed}
-use Rattle.mari_incumbent.specs.Incumbent.{IncumbentId, Standing, standing}
-use Rattle.mari_pool.specs.declared.ticket.Settled.{Settled}
+use Rattle.mari_core.specs.Growth.{Grown, settling, closing_leaf, grown, in_journal, IsAllowed}
+use Rattle.mari_incumbent.specs.Incumbent.{IncumbentId, standing}
 use Rattle.mari_pool.specs.declared.ticket.Settled.TheVariants as settled
 use Rattle.mari_core.proofs.Journals.{grown_budget}
 use Rattle.mari_pool.specs.Pooled.{Pooled, IsTakenAt, keys_after, settled_with, unreturned, taken_among, answer_of}
-use Rattle.mari_pool.specs.Queued.{Queued, child_key, CanFollow, Follows, IsQueueOf}
+use Rattle.mari_pool.specs.Queued.{child_key, CanFollow, Follows, IsQueueOf}
 use Rattle.mari_pool.proofs.Queues.{IsFollowed, can_follow, follows_kept}
 use Rattle.mari_pool.proofs.Rooms.{settling_paid, settling_comes, taken_after}
 use Rattle.mari_pool.proofs.Keeps.{pool_of, pool_parts, pool_same, has_room, may_settle, settle_keeps, answer_close, answer_branch, answer_full}

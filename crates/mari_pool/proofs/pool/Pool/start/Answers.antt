@@ -1,10 +1,8 @@
-use Rattle.std.proofs.Common.{◌≡◌, ℕ, ◌+◌, ◌-◌, ◌*◌, ◌≤◌, false, Bool, List, [], ◌∷◌, length, replicate, arith, refl, sym, ap, subst, ◌∙◌}
+use Rattle.std.proofs.Common.{arith, sym, ap, subst, ◌∙◌}
 use Rattle.std.specs.Prelude.{vec_capacity}
 use Rattle.std.proofs.lemmas.Grind.{common_steps}
-use Rattle.mari_core.specs.declared.journal.JournalEntry.{JournalEntry}
-use Rattle.mari_core.specs.Growth.{Grown, seed}
-use Rattle.mari_core.proofs.Journals.{leads_nowhere}
-use Rattle.mari_pool.proofs.Keeps.{pool_of, start_keeps}
+use Rattle.mari_core.specs.Growth.{Grown}
+use Rattle.mari_pool.proofs.Keeps.{start_keeps}
 use Rattle.mari_pool.specs.Pooled.{taken_among}
 use Rattle.mari_pool.specs.Queued.{IsQueueOf}
 use Rattle.mari_pool.proofs.Queues.{queue_start}

@@ -1,19 +1,18 @@
-use Rattle.std.proofs.Common.{◌≡◌, ℕ, ◌+◌, ◌-◌, ◌*◌, ◌<◌, ◌≤◌, false, true, None, Some, List, [], ◌∷◌, ◌++◌, Bool, length, set, length-set, arith, refl, sym, ap, subst, ◌∙◌}
-use Rattle.std.specs.Prelude.{vec_capacity, slice_get, slice_set}
+use Rattle.std.proofs.Common.{◌≡◌, ℕ, false, None, Some, [], ◌∷◌, ◌++◌, length, set, length-set, arith, refl, sym, ap, subst, ◌∙◌}
+use Rattle.std.specs.Prelude.{vec_capacity, slice_get}
 use Rattle.mari_market.specs.declared.prefix.Prefix.{Prefix}
 use Rattle.mari_market.specs.Prefix.{word_of}
-use Rattle.mari_core.specs.declared.journal.JournalEntry.{JournalEntry}
 use Rattle.mari_core.specs.declared.node.NodeState.TheVariants.{Untaken, Taken}
 use Rattle.mari_core.specs.Nodes.{words_of, state_at}
-use Rattle.mari_core.specs.Growth.{Grown, Entry, grown, in_journal, take_refused, IsAllowed}
-use Rattle.mari_core.specs.Growth.Entry.{Take, GiveBack}
+use Rattle.mari_core.specs.Growth.{Grown, grown, in_journal, take_refused, IsAllowed}
+use Rattle.mari_core.specs.Growth.Entry.{Take}
 use Rattle.mari_core.proofs.Changes.{length-with_state}
 use Rattle.mari_core.proofs.Entries.{within_nodes}
 use Rattle.mari_pool.specs.Queued.{Queued, IsQueueOf, IsFirstWaiting}
-use Rattle.mari_pool.proofs.Queues.{first_waits, first_of_all, has_word, none_waits, queue_taken}
+use Rattle.mari_pool.proofs.Queues.{first_waits, first_of_all, has_word, queue_taken}
 use Rattle.mari_pool.specs.Pooled.{Pooled, IsPool, taking, unreturned, taken_among}
 use Rattle.mari_pool.specs.Taking.{IsTaken}
-use Rattle.mari_pool.proofs.Rooms.{taken_after, taken_few, unreturned_set}
+use Rattle.mari_pool.proofs.Rooms.{taken_after, taken_few}
 use Rattle.mari_pool.proofs.Keeps.{pool_of, pool_parts, pool_same, has_room, entry_keeps}
 use Rattle.mari_pool.proofs.pool.Pool.take.Goals as goal
 

@@ -1,4 +1,4 @@
-use Rattle.std.proofs.Common.{◌≡◌, ◌<◌, ℕ, ◌∷◌, [], List, length, length-append, map, heap_items, All, arith, refl, sym, ap, subst}
+use Rattle.std.proofs.Common.{◌<◌, ℕ, ◌∷◌, [], List, length, length-append, map, heap_items, All, arith, refl, sym, ap, subst}
 use Rattle.mari_pool.specs.Queued.{Queued, number_in, IsKeyed, IsMore}
 use Rattle.mari_pool.proofs.Orders.{keyed_more}
 use Rattle.mari_pool.proofs.Queues.{more_by_back}

@@ -1,4 +1,4 @@
-use Rattle.std.proofs.Common.{◌≡◌, ◌<◌, ℕ, ◌∷◌, List, length, map, heap_items, IsPermutation, Some, arith, refl, sym, ap, subst, ◌∙◌}
+use Rattle.std.proofs.Common.{◌<◌, ℕ, ◌∷◌, length, map, heap_items, IsPermutation, Some, arith, refl, sym, ap, subst, ◌∙◌}
 use Rattle.std.proofs.lemmas.List.Sorted.{IsPermutation-map}
 use Rattle.std.proofs.lemmas.Option.{slice_get-get_or}
 use Rattle.mari_pool.specs.Queued.{Queued, Waiting, number_in, IsBack, IsKeyed}

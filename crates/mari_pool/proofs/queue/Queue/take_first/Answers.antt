@@ -1,4 +1,4 @@
-use Rattle.std.proofs.Common.{◌≡◌, ℕ, ◌∷◌, List, map, heap_items, All, IsPermutation, arith, refl, subst}
+use Rattle.std.proofs.Common.{◌∷◌, map, heap_items, All, IsPermutation, arith, refl, subst}
 use Rattle.std.proofs.lemmas.List.Sorted.{IsPermutation-map}
 use Rattle.mari_pool.specs.Queued.{Queued, Waiting, number_in, IsAhead, IsFirst}
 use Rattle.mari_pool.proofs.Orders.{first_ahead, keyed_left}

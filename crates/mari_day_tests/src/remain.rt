@@ -304,8 +304,8 @@ fn market_behind(
     requires stands { StandsFor books.now [] remaining.old }
 {
     let count = books.runs.runs.as_slice().len();
-    if done.len() >= count {
-        return Err("there is a run behind these".into());
+    if count == 0 {
+        return Err("there is a run".into());
     }
     let mut run = 1u32;
     for at_run in done {

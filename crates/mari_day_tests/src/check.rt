@@ -109,6 +109,9 @@ const OF_FREE: &[Row] = &[
     ),
 ];
 
+/// Days and lines in the place of their own.
+const DAYS: &[(Day, &[Row])] = &[(FULL, OF_FULL), (FREE, OF_FREE)];
+
 /// The text of a day, with this line at this place.
 fn text_with(alloc: Global, day: &Day, place: usize, line: &[u8]) -> Result<Vec<u8>, Fail> {
     let mut text = Vec::new(alloc);
@@ -219,7 +222,7 @@ fn verdict_of(fault: Option<(u32, u8)>) -> Verdict {
 
 #[test]
 fn a_day_as_printed_is_valid_and_an_altered_line_is_a_fault(rt: HostRuntime) -> Result<(), Fail> {
-    for (day, rows) in &[(FULL, OF_FULL), (FREE, OF_FREE)] {
+    for (day, rows) in DAYS {
         for row in *rows {
             let verdict = verdict_of(row.3);
             let want = (row.2, verdict, Ok(verdict));

@@ -105,81 +105,83 @@ fn told_of(
 }
 
 /// A page in the place of a folder's own, and the file, the line and the number of the refusal.
-type Refused = (Change, (u8, u32, u8));
+type Refused = (File, &'static [u8], (u8, u32, u8));
 
 /// A date, the rule of its clock, and what the day has no quarter for.
 const OF_ONE_ZONE: &[Refused] = &[
-    ((File::Day, b"date\n2025-03-12\n"), (1, 1, 1)),
+    (File::Day, b"date\n2025-03-12\n", (1, 1, 1)),
     (
-        (File::Day, b"date,rule\n2025-03-12,UTC0\n2025-03-13\n"),
+        File::Day,
+        b"date,rule\n2025-03-12,UTC0\n2025-03-13\n",
         (1, 3, 2),
     ),
-    ((File::Day, b"date,rule\n2025-03-12,\xff\n"), (1, 2, 3)),
-    ((File::Day, b"date,rule\n\n"), (1, 1, 15)),
+    (File::Day, b"date,rule\n2025-03-12,\xff\n", (1, 2, 3)),
+    (File::Day, b"date,rule\n\n", (1, 1, 15)),
     (
-        (File::Day, b"date,rule\nsoon,UTC0\n\n2025-03-12,UTC0\n"),
+        File::Day,
+        b"date,rule\nsoon,UTC0\n\n2025-03-12,UTC0\n",
         (1, 3, 15),
     ),
-    ((File::Day, b"date,rule\n2025-02-29,none\n"), (1, 2, 11)),
-    ((File::Day, b"date,rule\n9999-12-31,none\n"), (1, 2, 12)),
-    ((File::Day, b"date,rule\n9999-12-31,UTC0\n"), (1, 2, 14)),
+    (File::Day, b"date,rule\n2025-02-29,none\n", (1, 2, 11)),
+    (File::Day, b"date,rule\n9999-12-31,none\n", (1, 2, 12)),
+    (File::Day, b"date,rule\n9999-12-31,UTC0\n", (1, 2, 14)),
     (
-        (
-            File::Day,
-            b"date,rule\n2025-03-30,\"AAA-1BBB-1:10,M3.5.0,M10.5.0/3\"\n",
-        ),
+        File::Day,
+        b"date,rule\n2025-03-30,\"AAA-1BBB-1:10,M3.5.0,M10.5.0/3\"\n",
         (1, 2, 13),
     ),
-    ((File::Bids, BID_97), (4, 2, 14)),
-    ((File::Bids, BID_101), (4, 2, 14)),
+    (File::Bids, BID_97, (4, 2, 14)),
+    (File::Bids, BID_101, (4, 2, 14)),
     (
-        (
-            File::Runs,
-            b"run,quarter,kind,reference\n1,97,direct,40.00\n",
-        ),
+        File::Runs,
+        b"run,quarter,kind,reference\n1,97,direct,40.00\n",
         (6, 2, 13),
     ),
 ];
 
 /// Quarters that a short day doesn't have.
 const OF_SPRING: &[Refused] = &[
-    ((File::Bids, BID_93), (4, 2, 14)),
-    ((File::Bids, BID_97), (4, 2, 14)),
-    ((File::Bids, BID_101), (4, 2, 14)),
+    (File::Bids, BID_93, (4, 2, 14)),
+    (File::Bids, BID_97, (4, 2, 14)),
+    (File::Bids, BID_101, (4, 2, 14)),
 ];
 
 /// Limits for each run.
 const OF_LIMITS: &[Refused] = &[
-    ((File::Limits, b"run,from,to,limit\n"), (9, 1, 1)),
+    (File::Limits, b"run,from,to,limit\n", (9, 1, 1)),
     (
-        (File::Limits, b"run,from,to,limit,back\n1,A,B,1\n"),
+        File::Limits,
+        b"run,from,to,limit,back\n1,A,B,1\n",
         (9, 2, 2),
     ),
     (
-        (File::Limits, b"run,from,to,limit,back\n1,A,B,1,\xff\n"),
+        File::Limits,
+        b"run,from,to,limit,back\n1,A,B,1,\xff\n",
         (9, 2, 3),
     ),
     (
-        (File::Limits, b"run,from,to,limit,back\n3,B,A,x,1\n"),
+        File::Limits,
+        b"run,from,to,limit,back\n3,B,A,x,1\n",
         (9, 2, 11),
     ),
     (
-        (File::Limits, b"run,from,to,limit,back\n3,B,A,1,1\n"),
+        File::Limits,
+        b"run,from,to,limit,back\n3,B,A,1,1\n",
         (9, 2, 12),
     ),
     (
-        (File::Limits, b"run,from,to,limit,back\n2,B,A,1,1\n"),
+        File::Limits,
+        b"run,from,to,limit,back\n2,B,A,1,1\n",
         (9, 2, 13),
     ),
     (
-        (
-            File::Limits,
-            b"run,from,to,limit,back\n2,A,B,1,1\n2,B,Z,1,1\n2,A,B,1,-1\n",
-        ),
+        File::Limits,
+        b"run,from,to,limit,back\n2,A,B,1,1\n2,B,Z,1,1\n2,A,B,1,-1\n",
         (9, 4, 14),
     ),
     (
-        (File::Limits, b"run,from,to,limit,back\n2,A,B,1,100000\n"),
+        File::Limits,
+        b"run,from,to,limit,back\n2,A,B,1,100000\n",
         (9, 2, 15),
     ),
 ];
@@ -188,11 +190,11 @@ const OF_LIMITS: &[Refused] = &[
 const REFUSALS: &[(Pages, &[Refused])] = &[
     (ONE_ZONE, OF_ONE_ZONE),
     (SPRING, OF_SPRING),
-    (AUTUMN, &[((File::Bids, BID_101), (4, 2, 14))]),
+    (AUTUMN, &[(File::Bids, BID_101, (4, 2, 14))]),
     (LIMITS_PER_RUN, OF_LIMITS),
     (
         EMPTY_LIMITS,
-        &[((File::Demands, b"run,zone,mw,price\n3,Z,70,\n"), (7, 2, 12))],
+        &[(File::Demands, b"run,zone,mw,price\n3,Z,70,\n", (7, 2, 12))],
     ),
 ];
 
@@ -203,8 +205,8 @@ fn refused((file, line, number): (u8, u32, u8)) -> Told {
 #[test]
 fn a_folder_is_refused_at_its_first_bad_line(rt: HostRuntime) -> Result<(), Fail> {
     for (folder, refusals) in REFUSALS {
-        for (change, refusal) in *refusals {
-            let told = told_of(rt.alloc(), folder, &[*change], &[])?;
+        for (file, page, refusal) in *refusals {
+            let told = told_of(rt.alloc(), folder, &[(*file, *page)], &[])?;
             assert_eq!(rt; told, refused(*refusal));
         }
     }
@@ -318,7 +320,8 @@ fn day(alloc: Global, folder: &Pages, text: &str) -> Result<(DayEnd, bool), Fail
 
 /// A second run whose quarter has a gated bid, which this clearer doesn't clear.
 const GATED_BEHIND: Pages = Pages {
-    bids: b"id,provider,zone,quarter,direction,price,least,greatest,kind\nu1,P,Z,1,up,50.00,0,100,both\nu2,P,Z,2,up,50.00,5,100,both\n",
+    bids: b"id,provider,zone,quarter,direction,price,least,greatest,kind\n\
+        u1,P,Z,1,up,50.00,0,100,both\nu2,P,Z,2,up,50.00,5,100,both\n",
     runs: b"run,quarter,kind,reference\n1,1,scheduled,40.00\n2,2,scheduled,40.00\n",
     ..SPRING
 };
@@ -366,15 +369,23 @@ provider P 875.0000
 end 1
 ";
 
+/// Folders, the texts that are written of their days, and how they end.
+const DAYS: &[(Pages, &str, DayEnd)] = &[
+    (
+        ONE_ZONE,
+        DIRECT_BEHIND_SCHEDULED,
+        DayEnd::Done {
+            published: 2,
+            unpublished: 0,
+        },
+    ),
+    (GATED_BEHIND, FIRST_BLOCK, DayEnd::Memory),
+];
+
 #[test]
 fn a_day_is_written_whole_or_up_to_want_of_memory(rt: HostRuntime) -> Result<(), Fail> {
-    let whole = DayEnd::Done {
-        published: 2,
-        unpublished: 0,
-    };
-    let both = day(rt.alloc(), &ONE_ZONE, DIRECT_BEHIND_SCHEDULED)?;
-    assert_eq!(rt; both, (whole, true));
-    let first = day(rt.alloc(), &GATED_BEHIND, FIRST_BLOCK)?;
-    assert_eq!(rt; first, (DayEnd::Memory, true));
+    for (folder, text, end) in DAYS {
+        assert_eq!(rt; day(rt.alloc(), folder, text)?, (*end, true), "{text}");
+    }
     Ok(())
 }

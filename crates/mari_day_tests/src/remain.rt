@@ -1,6 +1,6 @@
 //! Markets of runs behind others, from the pages of a folder of two zones.
 
-ghost use Rattle.std.specs.Prelude.{◌≡◌, ◌≤◌, ◌+◌, ◌×◌, IfOk, List, OnOk, length};
+ghost use Rattle.std.specs.Prelude.{◌≡◌, ◌≤◌, ◌+◌, [], List, OnOk, length};
 ghost use Rattle.mari_remain.specs.Accepted.{IsAccepted};
 ghost use Rattle.mari_remain.specs.Blocks.{PastBlock};
 ghost use Rattle.mari_remain.specs.FirstBlocks.{StandsFor};
@@ -26,7 +26,8 @@ const THREE_RUNS: Pages = Pages {
 /// Two bids of a group, a child of the first, and a plain bid.
 const GATED: Pages = Pages {
     bids: b"id,provider,zone,quarter,direction,price,least,greatest,kind\n\
-        i1,P,A,1,up,30.00,40,40,both\ni2,P,A,1,up,35.00,40,40,both\ni3,P,A,1,up,30.00,0,10,both\nu1,P,A,1,up,50.00,0,100,both\n",
+        i1,P,A,1,up,30.00,40,40,both\ni2,P,A,1,up,35.00,40,40,both\ni3,P,A,1,up,30.00,0,10,both\n\
+        u1,P,A,1,up,50.00,0,100,both\n",
     links: b"kind,first,second\ngroup,g,i1\ngroup,g,i2\nchild,i3,i1\n",
     demands: b"run,zone,mw,price\n1,A,40,\n",
     ..THREE_RUNS
@@ -39,7 +40,8 @@ const LINKED: Pages = Pages {
         y,P,A,1,up,10.00,0,10,both\nw,P,A,2,up,10.00,0,10,both\nx,P,A,3,up,20.00,0,10,both\n\
         z,P,A,3,up,15.00,0,10,both\nv,P,A,3,up,50.00,0,100,both\n",
     links: b"kind,first,second\ntechnical,w,y\nneeds,x,y\nbars,z,y\n",
-    runs: b"run,quarter,kind,reference\n1,1,scheduled,40.00\n2,1,direct,40.00\n3,2,scheduled,40.00\n4,3,scheduled,40.00\n",
+    runs: b"run,quarter,kind,reference\n1,1,scheduled,40.00\n2,1,direct,40.00\n\
+        3,2,scheduled,40.00\n4,3,scheduled,40.00\n",
     demands: b"run,zone,mw,price\n1,A,5,\n2,A,5,\n",
     ..THREE_RUNS
 };
@@ -271,7 +273,27 @@ fn publish(
     Ok(())
 }
 
-/// Takes what the run did that comes next. A run that is unpublished leaves everything as it is.
+/// Publishes the run that comes next, with the MW of its orders and the flow over the border.
+fn publish_mw(
+    alloc: Global,
+    books: &Books,
+    remaining: &mut Remaining,
+    run: u32,
+    mw: &[u32],
+    flow: i64,
+) -> Result<(), Fail>
+    requires accepted { IsAccepted books.now }
+    requires there { run ≤ length books.now.runs.runs }
+    requires stands { (blocks : List PastBlock) × StandsFor books.now blocks remaining.old × (run ≡ length blocks + 1) }
+    ensures { OnOk result ((blocks : List PastBlock) × StandsFor books.now blocks remaining.new × (run + 1 ≡ length blocks + 1)) }
+{
+    let activation = activation_of(alloc, mw, flow)?;
+    let published = publish(alloc, books, remaining, run, &activation);
+    drop(activation);
+    published
+}
+
+/// Takes what the run did that comes next. One that is unpublished leaves everything as it is.
 fn take(
     alloc: Global,
     books: &Books,
@@ -284,13 +306,10 @@ fn take(
     requires stands { (blocks : List PastBlock) × StandsFor books.now blocks remaining.old × (run ≡ length blocks + 1) }
     ensures { OnOk result ((blocks : List PastBlock) × StandsFor books.now blocks remaining.new × (run + 1 ≡ length blocks + 1)) }
 {
-    let Some((mw, flow)) = done else {
-        return Ok(());
-    };
-    let activation = activation_of(alloc, mw, flow)?;
-    let taken = publish(alloc, books, remaining, run, &activation);
-    drop(activation);
-    taken
+    match done {
+        Some((mw, flow)) => publish_mw(alloc, books, remaining, run, mw, flow),
+        None => Ok(()),
+    }
 }
 
 /// The market of the run behind those that did so.
@@ -397,11 +416,20 @@ fn has_limits(alloc: Global, folder: &Pages, limits: &str) -> Result<[bool; 2], 
     told
 }
 
+/// Folders of one border, and the pages of their limits.
+const LIMITS: &[(Pages, &str)] = &[
+    (ONE_RUN, "run,from,to,limit,back\n1,A,B,50,50\n"),
+    (
+        STATED,
+        "run,from,to,limit,back\n1,A,B,50,50\n2,A,B,30,50\n3,A,B,0,0\n",
+    ),
+];
+
 #[test]
 fn pages_of_limits_for_each_run(rt: HostRuntime) -> Result<(), Fail> {
-    let one = "run,from,to,limit,back\n1,A,B,50,50\n";
-    assert_eq!(rt; has_limits(rt.alloc(), &ONE_RUN, one)?, [true, true]);
-    let three = "run,from,to,limit,back\n1,A,B,50,50\n2,A,B,30,50\n3,A,B,0,0\n";
-    assert_eq!(rt; has_limits(rt.alloc(), &STATED, three)?, [true, true]);
+    for (folder, limits) in LIMITS {
+        let told = has_limits(rt.alloc(), folder, limits)?;
+        assert_eq!(rt; told, [true, true], "{limits}");
+    }
     Ok(())
 }

@@ -49,14 +49,14 @@ struct Run {
 }
 
 /// A border of 50 MW that 80 MW of demand fill: 40.00 for each of 50 MW.
-const CONGESTED: Run = Run {
+const CONGESTED: &Run = &Run {
     folder: TWO_ZONES,
     mw: &[50, 30, 80],
     flow: &[50],
     cents: &[2000, 6000],
 };
 
-const ODD: Run = Run {
+const ODD: &Run = &Run {
     folder: A_CENT_APART,
     mw: &[1, 4, 5],
     flow: &[1],
@@ -74,7 +74,7 @@ struct Lines {
 }
 
 /// Runs and their ledgers.
-const RUNS: &[(&str, Run, Lines)] = &[
+const RUNS: &[(&str, &Run, Lines)] = &[
     (
         "two zones congested",
         CONGESTED,
@@ -95,7 +95,7 @@ const RUNS: &[(&str, Run, Lines)] = &[
     ),
     (
         "one operator at both ends gets the whole rent",
-        Run {
+        &Run {
             folder: ONE_OPERATOR,
             mw: &[1, 4, 5],
             flow: &[1],
@@ -109,7 +109,7 @@ const RUNS: &[(&str, Run, Lines)] = &[
     ),
     (
         "a downward bid costs its provider",
-        Run {
+        &Run {
             folder: DOWNWARD,
             mw: &[50, 20, 30],
             flow: &[],
@@ -304,7 +304,7 @@ const SUMS: Lines = Lines {
 
 #[test]
 fn ledgers_of_two_runs_add_up(rt: HostRuntime) -> Result<(), Fail> {
-    let told = told_of_both(rt.alloc(), &CONGESTED, &ODD)?;
+    let told = told_of_both(rt.alloc(), CONGESTED, ODD)?;
     assert_eq!(rt; told, wanted(&SUMS));
     Ok(())
 }

@@ -323,9 +323,6 @@ fn market_behind(
     requires stands { StandsFor books.now [] remaining.old }
 {
     let count = books.runs.runs.as_slice().len();
-    if count == 0 {
-        return Err("there is a run".into());
-    }
     let mut run = 1u32;
     for at_run in done {
         if run as usize >= count {
@@ -333,6 +330,9 @@ fn market_behind(
         }
         take(alloc, books, remaining, run, *at_run)?;
         run += 1;
+    }
+    if run as usize > count {
+        return Err("there is a run".into());
     }
     Ok(remaining.market_of(alloc, books, run)?)
 }

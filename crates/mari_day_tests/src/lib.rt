@@ -11,9 +11,9 @@ mod check;
 #[cfg(test)]
 mod day;
 #[cfg(test)]
-mod generated;
+mod folder;
 #[cfg(test)]
-mod progress;
+mod generated;
 #[cfg(test)]
 mod remain;
 #[cfg(test)]

@@ -1,381 +1,435 @@
 //! Markets of runs behind others, from the pages of a folder of two zones.
 
-ghost use Rattle.std.specs.Prelude.{◌≡◌, ◌≤◌, ◌+◌, IfOk, IfSome, List, length};
-ghost use Rattle.mari_demands.specs.LimitPairs.{IsLimitTable};
+ghost use Rattle.std.specs.Prelude.{◌≡◌, ◌≤◌, ◌+◌, [], List, OnOk, length};
 ghost use Rattle.mari_remain.specs.Accepted.{IsAccepted};
 ghost use Rattle.mari_remain.specs.Blocks.{PastBlock};
 ghost use Rattle.mari_remain.specs.FirstBlocks.{StandsFor};
 
-use mari_bids::BidBook;
-use mari_demands::{DemandBook, LimitBook, RunBook};
-use mari_links::LinkBook;
-use mari_market::{Activation, GateInfo};
+use crate::folder::{Pages, TWO_ZONES, books};
+use mari_market::Activation;
 use mari_remain::{Books, Remaining, RunMarket, borders_text, limits_text};
-use mari_units::{Items, read_name};
+use mari_units::Items;
 use mari_welfare::is_feasible;
-use mari_zones::{BorderBook, ZoneBook};
 use std::alloc::Global;
 use std::test::Fail;
 
-/// The pages of a folder; limits are there where those of borders are stated for each run.
-#[derive(Clone, Copy)]
-struct Pages {
-    borders: &'static [u8],
-    bids: &'static [u8],
-    links: &'static [u8],
-    runs: &'static [u8],
-    demands: &'static [u8],
-    limits: Option<&'static [u8]>,
-}
-
 /// A border of 50 MW there and 20 back; a scheduled run and a direct one of a quarter, and a direct one of the next.
-const TWO_ZONES: Pages = Pages {
+const THREE_RUNS: Pages = Pages {
     borders: b"from,to,limit,back\nA,B,50,20\n",
     bids: b"id,provider,zone,quarter,direction,price,least,greatest,kind\n\
-a1,P1,A,1,up,20.00,0,100,both\nb1,P2,B,1,up,60.00,0,100,both\nb2,P2,B,2,up,60.00,0,9,both\n",
-    links: b"kind,first,second\n",
+        a1,P1,A,1,up,20.00,0,100,both\nb1,P2,B,1,up,60.00,0,100,both\nb2,P2,B,2,up,60.00,0,9,both\n",
     runs: b"run,quarter,kind,reference\n1,1,scheduled,40.00\n2,1,direct,40.00\n3,2,direct,40.00\n",
     demands: b"run,zone,mw,price\n1,B,80,\n2,B,10,\n",
-    limits: None,
+    ..TWO_ZONES
 };
 
-/// A page, where it is short.
-fn short(page: &[u8]) -> Result<&[u8], Fail>
-    ensures same { IfOk result (λ short. short.now ≡ page.now) }
-    ensures short { IfOk result (λ short. length short.now ≤ 1000) }
-{
-    if page.len() > 1000 {
-        return Err("a long page".into());
-    }
-    Ok(page)
-}
-
-/// The book of limits, where there is a page.
-fn limits_of(
-    alloc: Global,
-    page: Option<&[u8]>,
-    zones: &ZoneBook,
-    borders: &BorderBook,
-    runs: &RunBook,
-) -> Result<Option<LimitBook>, Fail>
-    requires borders { length borders.now.borders ≤ 256 }
-    requires runs { length runs.now.runs ≤ 1000 }
-    ensures { IfOk result (λ limits. IfSome limits (IsLimitTable (length runs.now.runs) (length borders.now.borders))) }
-{
-    match page {
-        None => Ok(None),
-        Some(page) => Ok(Some(LimitBook::read(alloc, short(page)?, zones, borders, runs)?)),
-    }
-}
-
-fn books_of(alloc: Global, pages: Pages) -> Result<Books, Fail>
-    ensures { IfOk result IsAccepted }
-{
-    let zones = ZoneBook::read(alloc, b"zone,operator\nA,TA\nB,TB\n")?;
-    let borders = BorderBook::read(alloc, short(pages.borders)?, &zones)?;
-    let bids = BidBook::read(alloc, short(pages.bids)?, &zones, 96)?;
-    let links = LinkBook::read(alloc, short(pages.links)?, &bids)?;
-    let runs = RunBook::read(alloc, short(pages.runs)?, 96)?;
-    let demands = DemandBook::read(alloc, short(pages.demands)?, &runs, &zones)?;
-    let limits = limits_of(alloc, pages.limits, &zones, &borders, &runs)?;
-    Ok(Books {
-        date: read_name(alloc, b"2025-03-12")?,
-        quarters: 96,
-        zones,
-        borders,
-        bids,
-        links,
-        runs,
-        demands,
-        limits,
-    })
-}
-
-/// A day up to a run that comes next.
-#[derive(Drop)]
-struct Day {
-    books: Books,
-    remaining: Remaining,
-    run: u32,
-}
-
-impl Day {
-    fn begin(alloc: Global, pages: Pages) -> Result<Day, Fail>
-        ensures accepted { IfOk result (λ day. IsAccepted day.books) }
-        ensures there { IfOk result (λ day. day.run ≤ length day.books.runs.runs) }
-        ensures stands { IfOk result (λ day. (blocks : List PastBlock) × StandsFor day.books blocks day.remaining × (day.run ≡ length blocks + 1)) }
-    {
-        let books = books_of(alloc, pages)?;
-        let remaining = Remaining::start(alloc, &books)?;
-        if books.runs.runs.as_slice().is_empty() {
-            return Err("no run".into());
-        }
-        Ok(Day {
-            books,
-            remaining,
-            run: 1,
-        })
-    }
-
-    /// The market of the run that comes next.
-    fn market(&self, alloc: Global) -> Result<RunMarket, Fail>
-        requires accepted { IsAccepted self.now.books }
-        requires there { self.now.run ≤ length self.now.books.runs.runs }
-        requires stands { (blocks : List PastBlock) × StandsFor self.now.books blocks self.now.remaining × (self.now.run ≡ length blocks + 1) }
-    {
-        Ok(self.remaining.market_of(alloc, &self.books, self.run)?)
-    }
-
-    /// Publishes the run with an activation.
-    fn publish(self, alloc: Global, mw: &[u32], flow: i64) -> Result<Day, Fail>
-        requires accepted { IsAccepted self.books }
-        requires there { self.run ≤ length self.books.runs.runs }
-        requires stands { (blocks : List PastBlock) × StandsFor self.books blocks self.remaining × (self.run ≡ length blocks + 1) }
-        ensures accepted { IfOk result (λ day. IsAccepted day.books) }
-        ensures there { IfOk result (λ day. day.run ≤ length day.books.runs.runs) }
-        ensures stands { IfOk result (λ day. (blocks : List PastBlock) × StandsFor day.books blocks day.remaining × (day.run ≡ length blocks + 1)) }
-    {
-        let Day {
-            books,
-            mut remaining,
-            run,
-        } = self;
-        if run as usize >= books.runs.runs.as_slice().len() {
-            return Err("no further run".into());
-        }
-        let made = remaining.market_of(alloc, &books, run)?;
-        let activation = Activation {
-            mw: Items::of(mw.to_vec(alloc)?),
-            flow: Items::of(vec![in alloc; flow]?),
-        };
-        if !is_feasible(&made.market, &activation) {
-            return Err("an activation that isn't feasible".into());
-        }
-        remaining.after(&books, run, &made, &activation);
-        Ok(Day {
-            books,
-            remaining,
-            run: run + 1,
-        })
-    }
-
-    /// Leaves the run unpublished.
-    fn leave(self) -> Result<Day, Fail>
-        requires accepted { IsAccepted self.books }
-        requires there { self.run ≤ length self.books.runs.runs }
-        requires stands { (blocks : List PastBlock) × StandsFor self.books blocks self.remaining × (self.run ≡ length blocks + 1) }
-        ensures accepted { IfOk result (λ day. IsAccepted day.books) }
-        ensures there { IfOk result (λ day. day.run ≤ length day.books.runs.runs) }
-        ensures stands { IfOk result (λ day. (blocks : List PastBlock) × StandsFor day.books blocks day.remaining × (day.run ≡ length blocks + 1)) }
-    {
-        let Day {
-            books,
-            remaining,
-            run,
-        } = self;
-        if run as usize >= books.runs.runs.as_slice().len() {
-            return Err("no further run".into());
-        }
-        Ok(Day {
-            books,
-            remaining,
-            run: run + 1,
-        })
-    }
-
-    /// The day behind the run.
-    fn with(self, alloc: Global, done: Done<'_>) -> Result<Day, Fail>
-        requires accepted { IsAccepted self.books }
-        requires there { self.run ≤ length self.books.runs.runs }
-        requires stands { (blocks : List PastBlock) × StandsFor self.books blocks self.remaining × (self.run ≡ length blocks + 1) }
-        ensures accepted { IfOk result (λ day. IsAccepted day.books) }
-        ensures there { IfOk result (λ day. day.run ≤ length day.books.runs.runs) }
-        ensures stands { IfOk result (λ day. (blocks : List PastBlock) × StandsFor day.books blocks day.remaining × (day.run ≡ length blocks + 1)) }
-    {
-        match done {
-            Some((mw, flow)) => self.publish(alloc, mw, flow),
-            None => self.leave(),
-        }
-    }
-}
-
-/// What a run did: the MW of its orders and the flow over the border, or nothing where it is unpublished.
-type Done<'a> = Option<(&'a [u32], i64)>;
-
-/// The day behind these runs.
-fn day_behind(alloc: Global, pages: Pages, done: &[Done<'_>]) -> Result<Day, Fail>
-    ensures accepted { IfOk result (λ day. IsAccepted day.books) }
-    ensures there { IfOk result (λ day. day.run ≤ length day.books.runs.runs) }
-    ensures stands { IfOk result (λ day. (blocks : List PastBlock) × StandsFor day.books blocks day.remaining × (day.run ≡ length blocks + 1)) }
-{
-    let mut day = Day::begin(alloc, pages)?;
-    for run in done {
-        day = day.with(alloc, *run)?;
-    }
-    Ok(day)
-}
-
-/// What a run finds: the number of each bid and what it offers, the limits of the borders, how many demands there
-/// are, and the last gate.
-#[derive(Debug, Drop)]
-struct Findings {
-    offers: Vec<(u32, u32)>,
-    limits: Vec<(u32, u32)>,
-    demands: u32,
-    last: Option<GateInfo>,
-}
-
-fn offers(alloc: Global, made: &RunMarket) -> Result<Vec<(u32, u32)>, Fail> {
-    let mut offers = Vec::new(alloc);
-    for (number, order) in made
-        .bids
-        .as_slice()
-        .iter()
-        .zip(made.market.orders.as_slice())
-    {
-        offers.push((*number, order.greatest))?;
-    }
-    Ok(offers)
-}
-
-fn limits(alloc: Global, made: &RunMarket) -> Result<Vec<(u32, u32)>, Fail> {
-    let mut limits = Vec::new(alloc);
-    for border in made.market.borders.as_slice() {
-        limits.push((border.limit, border.back))?;
-    }
-    Ok(limits)
-}
-
-fn findings_of(alloc: Global, made: &RunMarket) -> Result<Findings, Fail> {
-    Ok(Findings {
-        offers: offers(alloc, made)?,
-        limits: limits(alloc, made)?,
-        demands: made.demands,
-        last: made.market.gates.as_slice().last().copied(),
-    })
-}
-
-/// What the run behind these finds.
-fn findings_behind(alloc: Global, pages: Pages, done: &[Done<'_>]) -> Result<Findings, Fail> {
-    let day = day_behind(alloc, pages, done)?;
-    let made = day.market(alloc)?;
-    findings_of(alloc, &made)
-}
-
-const CONGESTED: Done<'static> = Some((&[50, 30, 80], 50));
-
-#[test]
-fn a_direct_run_has_what_a_scheduled_one_left(rt: HostRuntime) -> Result<(), Fail> {
-    let second = findings_behind(rt.alloc(), TWO_ZONES, &[CONGESTED])?;
-    assert_eq!(rt; second.offers.as_slice(), [(0, 50), (1, 70)].as_slice());
-    assert_eq!(rt; second.limits.as_slice(), [(0, 70)].as_slice());
-    assert_eq!(rt; second.demands, 1);
-    let third = findings_behind(rt.alloc(), TWO_ZONES, &[CONGESTED, None])?;
-    assert_eq!(rt; third.offers.as_slice(), [(2, 9)].as_slice());
-    assert_eq!(rt; third.limits.as_slice(), [(50, 20)].as_slice());
-    assert_eq!(rt; third.demands, 0);
-    Ok(())
-}
-
-// Two bids of a group, a child of the first, and a plain bid.
+/// Two bids of a group, a child of the first, and a plain bid.
 const GATED: Pages = Pages {
     bids: b"id,provider,zone,quarter,direction,price,least,greatest,kind\n\
-i1,P,A,1,up,30.00,40,40,both\ni2,P,A,1,up,35.00,40,40,both\ni3,P,A,1,up,30.00,0,10,both\nu1,P,A,1,up,50.00,0,100,both\n",
+        i1,P,A,1,up,30.00,40,40,both\ni2,P,A,1,up,35.00,40,40,both\ni3,P,A,1,up,30.00,0,10,both\n\
+        u1,P,A,1,up,50.00,0,100,both\n",
     links: b"kind,first,second\ngroup,g,i1\ngroup,g,i2\nchild,i3,i1\n",
     demands: b"run,zone,mw,price\n1,A,40,\n",
-    ..TWO_ZONES
+    ..THREE_RUNS
 };
 
-#[test]
-fn a_gated_bid_is_offered_whole_and_not_again(rt: HostRuntime) -> Result<(), Fail> {
-    let all = [(0, 40), (1, 40), (2, 10), (3, 60)];
-    for (mw, want, parent) in [
-        ([0, 0, 0, 40, 40], all.as_slice(), Some(0)),
-        ([40, 0, 0, 0, 40], [(2, 10), (3, 100)].as_slice(), None),
-    ] {
-        let second = findings_behind(rt.alloc(), GATED, &[Some((mw.as_slice(), 0))])?;
-        assert_eq!(rt; second.offers.as_slice(), want);
-        let child = GateInfo {
-            group: None,
-            parent,
-        };
-        assert_eq!(rt; second.last, Some(child));
-    }
-    Ok(())
-}
-
-// A bid of the first quarter, one of the second that a direct run of it keeps out, and in the third one that needs
-// it, one that it bars, and a plain one.
+/// A bid of the first quarter, one of the second that a direct run of it keeps out, and in the third one that needs
+/// it, one that it bars, and a plain one.
 const LINKED: Pages = Pages {
     bids: b"id,provider,zone,quarter,direction,price,least,greatest,kind\n\
-y,P,A,1,up,10.00,0,10,both\nw,P,A,2,up,10.00,0,10,both\nx,P,A,3,up,20.00,0,10,both\n\
-z,P,A,3,up,15.00,0,10,both\nv,P,A,3,up,50.00,0,100,both\n",
+        y,P,A,1,up,10.00,0,10,both\nw,P,A,2,up,10.00,0,10,both\nx,P,A,3,up,20.00,0,10,both\n\
+        z,P,A,3,up,15.00,0,10,both\nv,P,A,3,up,50.00,0,100,both\n",
     links: b"kind,first,second\ntechnical,w,y\nneeds,x,y\nbars,z,y\n",
-    runs: b"run,quarter,kind,reference\n1,1,scheduled,40.00\n2,1,direct,40.00\n3,2,scheduled,40.00\n4,3,scheduled,40.00\n",
+    runs: b"run,quarter,kind,reference\n1,1,scheduled,40.00\n2,1,direct,40.00\n\
+        3,2,scheduled,40.00\n4,3,scheduled,40.00\n",
     demands: b"run,zone,mw,price\n1,A,5,\n2,A,5,\n",
-    ..TWO_ZONES
+    ..THREE_RUNS
 };
 
-#[test]
-fn links_to_earlier_quarters(rt: HostRuntime) -> Result<(), Fail> {
-    let needed = [(2, 10), (4, 100)];
-    let barred = [(3, 10), (4, 100)];
-    for (scheduled, direct, second, third) in [
-        (5, 0, [(1, 10)].as_slice(), needed.as_slice()),
-        (0, 5, [].as_slice(), needed.as_slice()),
-        (0, 0, [(1, 10)].as_slice(), barred.as_slice()),
-    ] {
-        let mws = [[scheduled, scheduled], [direct, direct]];
-        let done = [
-            Some((mws[0].as_slice(), 0)),
-            Some((mws[1].as_slice(), 0)),
-            None,
-        ];
-        let seen = findings_behind(rt.alloc(), LINKED, &done[..2])?;
-        assert_eq!(rt; seen.offers.as_slice(), second);
-        let seen = findings_behind(rt.alloc(), LINKED, &done)?;
-        assert_eq!(rt; seen.offers.as_slice(), third);
-    }
-    Ok(())
-}
-
-// Limits that are stated for the first two runs.
+/// Limits that are stated for the first two runs.
 const STATED: Pages = Pages {
     borders: b"from,to\nA,B\n",
     limits: Some(b"run,from,to,limit,back\n2,A,B,30,50\n1,A,B,50,50\n"),
-    ..TWO_ZONES
+    ..THREE_RUNS
 };
 
+/// What a run did: the MW of its orders and the flow over the border, or nothing where it is unpublished.
+type Done = Option<(&'static [u32], i64)>;
+
+const CONGESTED: Done = Some((&[50, 30, 80], 50));
+
+/// The number of a bid, and what it offers.
+type Offer = (u32, u32);
+
+/// What a folder's first runs did; and what the next run finds: its offers, the limits of the border, how many demands
+/// there are, and the group and the parent of the last gate.
+struct Case {
+    name: &'static str,
+    done: &'static [Done],
+    offers: &'static [Offer],
+    limits: (u32, u32),
+    demands: u32,
+    last: Option<(Option<u32>, Option<u32>)>,
+}
+
+/// Cases of three runs.
+const OF_THREE_RUNS: &[Case] = &[
+    Case {
+        name: "a direct run has what a scheduled one left",
+        done: &[CONGESTED],
+        offers: &[(0, 50), (1, 70)],
+        limits: (0, 70),
+        demands: 1,
+        last: None,
+    },
+    Case {
+        name: "another quarter has everything",
+        done: &[CONGESTED, None],
+        offers: &[(2, 9)],
+        limits: (50, 20),
+        demands: 0,
+        last: None,
+    },
+];
+
+/// Cases of gated bids.
+const OF_GATED: &[Case] = &[
+    Case {
+        name: "gated bids are offered whole",
+        done: &[Some((&[0, 0, 0, 40, 40], 0))],
+        offers: &[(0, 40), (1, 40), (2, 10), (3, 60)],
+        limits: (50, 20),
+        demands: 0,
+        last: Some((None, Some(0))),
+    },
+    Case {
+        name: "a gated bid isn't offered again, nor one of its group",
+        done: &[Some((&[40, 0, 0, 0, 40], 0))],
+        offers: &[(2, 10), (3, 100)],
+        limits: (50, 20),
+        demands: 0,
+        last: Some((None, None)),
+    },
+];
+
+/// Cases of bids with links to an earlier quarter.
+const OF_LINKED: &[Case] = &[
+    Case {
+        name: "a scheduled run of the quarter before keeps no bid out",
+        done: &[Some((&[5, 5], 0)), Some((&[0, 0], 0))],
+        offers: &[(1, 10)],
+        limits: (50, 20),
+        demands: 0,
+        last: None,
+    },
+    Case {
+        name: "a bid that is needed, by a scheduled run",
+        done: &[Some((&[5, 5], 0)), Some((&[0, 0], 0)), None],
+        offers: &[(2, 10), (4, 100)],
+        limits: (50, 20),
+        demands: 0,
+        last: None,
+    },
+    Case {
+        name: "a direct run of the quarter before keeps a bid out",
+        done: &[Some((&[0, 0], 0)), Some((&[5, 5], 0))],
+        offers: &[],
+        limits: (50, 20),
+        demands: 0,
+        last: None,
+    },
+    Case {
+        name: "a bid that is needed, by a direct run",
+        done: &[Some((&[0, 0], 0)), Some((&[5, 5], 0)), None],
+        offers: &[(2, 10), (4, 100)],
+        limits: (50, 20),
+        demands: 0,
+        last: None,
+    },
+    Case {
+        name: "no run of the quarter before",
+        done: &[Some((&[0, 0], 0)), Some((&[0, 0], 0))],
+        offers: &[(1, 10)],
+        limits: (50, 20),
+        demands: 0,
+        last: None,
+    },
+    Case {
+        name: "a bid that isn't barred",
+        done: &[Some((&[0, 0], 0)), Some((&[0, 0], 0)), None],
+        offers: &[(3, 10), (4, 100)],
+        limits: (50, 20),
+        demands: 0,
+        last: None,
+    },
+];
+
+/// Cases of stated limits.
+const OF_STATED: &[Case] = &[
+    Case {
+        name: "limits stated for the first run",
+        done: &[],
+        offers: &[(0, 100), (1, 100)],
+        limits: (50, 50),
+        demands: 1,
+        last: None,
+    },
+    Case {
+        name: "limits stated for the second run",
+        done: &[CONGESTED],
+        offers: &[(0, 50), (1, 70)],
+        limits: (0, 100),
+        demands: 1,
+        last: None,
+    },
+    Case {
+        name: "no limits stated for a run",
+        done: &[CONGESTED, None],
+        offers: &[(2, 9)],
+        limits: (0, 0),
+        demands: 0,
+        last: None,
+    },
+];
+
+/// Folders and their cases.
+const FOLDERS: &[(Pages, &[Case])] = &[
+    (THREE_RUNS, OF_THREE_RUNS),
+    (GATED, OF_GATED),
+    (LINKED, OF_LINKED),
+    (STATED, OF_STATED),
+];
+
+/// How many offers there are and the first four, the limits of the only border, how many demands there are, and the
+/// last gate.
+type Told = (
+    usize,
+    [Option<Offer>; 4],
+    Option<(u32, u32)>,
+    u32,
+    Option<(Option<u32>, Option<u32>)>,
+);
+
+/// The offer at a place, if there is one.
+fn offer_at(made: &RunMarket, place: usize) -> Option<Offer> {
+    let number = made.bids.as_slice().get(place)?;
+    let order = made.market.orders.as_slice().get(place)?;
+    Some((*number, order.greatest))
+}
+
+/// The limits of the border, where it is the only one.
+fn limits(made: &RunMarket) -> Option<(u32, u32)> {
+    match made.market.borders.as_slice() {
+        [border] => Some((border.limit, border.back)),
+        _ => None,
+    }
+}
+
+/// The group and the parent of the last gate, if there is one.
+fn last(made: &RunMarket) -> Option<(Option<u32>, Option<u32>)> {
+    let gate = made.market.gates.as_slice().last()?;
+    Some((gate.group, gate.parent))
+}
+
+/// What is told of a run's market.
+fn told(made: &RunMarket) -> Told {
+    let first = [
+        offer_at(made, 0),
+        offer_at(made, 1),
+        offer_at(made, 2),
+        offer_at(made, 3),
+    ];
+    let count = made.bids.as_slice().len();
+    (count, first, limits(made), made.demands, last(made))
+}
+
+/// The activation that runs and carries so much.
+fn activation_of(alloc: Global, mw: &[u32], flow: i64) -> Result<Activation, Fail> {
+    let mw = mw.to_vec(alloc)?;
+    Ok(Activation {
+        mw: Items::of(mw),
+        flow: Items::of(vec![in alloc; flow]?),
+    })
+}
+
+/// Publishes the run that comes next, with an activation.
+fn publish(
+    alloc: Global,
+    books: &Books,
+    remaining: &mut Remaining,
+    run: u32,
+    activation: &Activation,
+) -> Result<(), Fail>
+    requires accepted { IsAccepted books.now }
+    requires there { run ≤ length books.now.runs.runs }
+    requires stands { (blocks : List PastBlock) × StandsFor books.now blocks remaining.old × (run ≡ length blocks + 1) }
+    ensures { OnOk result ((blocks : List PastBlock) × StandsFor books.now blocks remaining.new × (run + 1 ≡ length blocks + 1)) }
+{
+    let made = remaining.market_of(alloc, books, run)?;
+    if !is_feasible(&made.market, activation) {
+        return Err("the activation is feasible".into());
+    }
+    remaining.after(books, run, &made, activation);
+    Ok(())
+}
+
+/// Publishes the run that comes next, with the MW of its orders and the flow over the border.
+fn publish_mw(
+    alloc: Global,
+    books: &Books,
+    remaining: &mut Remaining,
+    run: u32,
+    mw: &[u32],
+    flow: i64,
+) -> Result<(), Fail>
+    requires accepted { IsAccepted books.now }
+    requires there { run ≤ length books.now.runs.runs }
+    requires stands { (blocks : List PastBlock) × StandsFor books.now blocks remaining.old × (run ≡ length blocks + 1) }
+    ensures { OnOk result ((blocks : List PastBlock) × StandsFor books.now blocks remaining.new × (run + 1 ≡ length blocks + 1)) }
+{
+    let activation = activation_of(alloc, mw, flow)?;
+    let published = publish(alloc, books, remaining, run, &activation);
+    drop(activation);
+    published
+}
+
+/// Takes what the run did that comes next. One that is unpublished leaves everything as it is.
+fn take(
+    alloc: Global,
+    books: &Books,
+    remaining: &mut Remaining,
+    run: u32,
+    done: Done,
+) -> Result<(), Fail>
+    requires accepted { IsAccepted books.now }
+    requires there { run ≤ length books.now.runs.runs }
+    requires stands { (blocks : List PastBlock) × StandsFor books.now blocks remaining.old × (run ≡ length blocks + 1) }
+    ensures { OnOk result ((blocks : List PastBlock) × StandsFor books.now blocks remaining.new × (run + 1 ≡ length blocks + 1)) }
+{
+    match done {
+        Some((mw, flow)) => publish_mw(alloc, books, remaining, run, mw, flow),
+        None => Ok(()),
+    }
+}
+
+/// The market of the run behind those that did so.
+fn market_behind(
+    alloc: Global,
+    books: &Books,
+    remaining: &mut Remaining,
+    done: &[Done],
+) -> Result<RunMarket, Fail>
+    requires accepted { IsAccepted books.now }
+    requires stands { StandsFor books.now [] remaining.old }
+{
+    let count = books.runs.runs.as_slice().len();
+    let mut run = 1u32;
+    for at_run in done {
+        if run as usize >= count {
+            return Err("there is a run behind these".into());
+        }
+        take(alloc, books, remaining, run, *at_run)?;
+        run += 1;
+    }
+    if run as usize > count {
+        return Err("there is a run".into());
+    }
+    Ok(remaining.market_of(alloc, books, run)?)
+}
+
+/// What is told of the market of the run behind those that did so.
+fn told_behind(alloc: Global, books: &Books, done: &[Done]) -> Result<Told, Fail>
+    requires { IsAccepted books.now }
+{
+    let mut remaining = Remaining::start(alloc, books)?;
+    let made = market_behind(alloc, books, &mut remaining, done);
+    drop(remaining);
+    let made = made?;
+    let told = told(&made);
+    drop(made);
+    Ok(told)
+}
+
+/// What is told of a case.
+fn told_in(alloc: Global, folder: &Pages, case: &Case) -> Result<Told, Fail> {
+    let books = books(alloc, folder)?;
+    let told = told_behind(alloc, &books, case.done);
+    drop(books);
+    told
+}
+
+/// What is wanted of it.
+fn wanted(case: &Case) -> Told {
+    let offers = case.offers;
+    let first = [
+        offers.get(0).copied(),
+        offers.get(1).copied(),
+        offers.get(2).copied(),
+        offers.get(3).copied(),
+    ];
+    (
+        offers.len(),
+        first,
+        Some(case.limits),
+        case.demands,
+        case.last,
+    )
+}
+
 #[test]
-fn limits_stated_for_a_run(rt: HostRuntime) -> Result<(), Fail> {
-    let done = [CONGESTED, None];
-    for (runs, want) in [(0, (50, 50)), (1, (0, 100)), (2, (0, 0))] {
-        let seen = findings_behind(rt.alloc(), STATED, &done[..runs])?;
-        assert_eq!(rt; seen.limits.as_slice(), [want].as_slice());
+fn a_run_has_what_those_before_it_left(rt: HostRuntime) -> Result<(), Fail> {
+    for (folder, cases) in FOLDERS {
+        for case in *cases {
+            let told = told_in(rt.alloc(), folder, case)?;
+            assert_eq!(rt; told, wanted(case), "{}", case.name);
+        }
     }
     Ok(())
 }
 
+/// A folder with one run and a border with the same limit there and back.
+const ONE_RUN: Pages = Pages {
+    borders: b"from,to,limit,back\nA,B,50,050\n",
+    runs: b"run,quarter,kind,reference\n1,1,scheduled,40.00\n",
+    demands: b"run,zone,mw,price\n1,B,80,\n",
+    ..THREE_RUNS
+};
+
+/// Whether the pages that state limits for each run are these.
+fn are_pages(alloc: Global, books: &Books, borders: &str, limits: &str) -> Result<[bool; 2], Fail>
+    requires { IsAccepted books.now }
+{
+    let text = borders_text(alloc, books)?;
+    let is_borders = text.as_slice() == borders.as_bytes();
+    drop(text);
+    let text = limits_text(alloc, books)?;
+    let is_limits = text.as_slice() == limits.as_bytes();
+    drop(text);
+    Ok([is_borders, is_limits])
+}
+
+/// Whether those of a folder of one border are these limits.
+fn has_limits(alloc: Global, folder: &Pages, limits: &str) -> Result<[bool; 2], Fail> {
+    let books = books(alloc, folder)?;
+    let told = are_pages(alloc, &books, "from,to\nA,B\n", limits);
+    drop(books);
+    told
+}
+
+/// Folders of one border, and the pages of their limits.
+const LIMITS: &[(Pages, &str)] = &[
+    (ONE_RUN, "run,from,to,limit,back\n1,A,B,50,50\n"),
+    (
+        STATED,
+        "run,from,to,limit,back\n1,A,B,50,50\n2,A,B,30,50\n3,A,B,0,0\n",
+    ),
+];
+
 #[test]
 fn pages_of_limits_for_each_run(rt: HostRuntime) -> Result<(), Fail> {
-    let alloc = rt.alloc();
-    let one = Pages {
-        borders: b"from,to,limit,back\nA,B,50,050\n",
-        runs: b"run,quarter,kind,reference\n1,1,scheduled,40.00\n",
-        demands: b"run,zone,mw,price\n1,B,80,\n",
-        ..TWO_ZONES
-    };
-    for (pages, want) in [
-        (one, b"run,from,to,limit,back\n1,A,B,50,50\n".as_slice()),
-        (
-            STATED,
-            b"run,from,to,limit,back\n1,A,B,50,50\n2,A,B,30,50\n3,A,B,0,0\n".as_slice(),
-        ),
-    ] {
-        let books = books_of(alloc, pages)?;
-        let borders = borders_text(alloc, &books)?;
-        assert_eq!(rt; borders.as_slice(), b"from,to\nA,B\n".as_slice());
-        assert_eq!(rt; limits_text(alloc, &books)?.as_slice(), want);
+    for (folder, limits) in LIMITS {
+        let told = has_limits(rt.alloc(), folder, limits)?;
+        assert_eq!(rt; told, [true, true], "{limits}");
     }
     Ok(())
 }

@@ -1,51 +1,274 @@
-//! Ledgers of small runs: what borders earn, and what operators and providers get.
+//! Ledgers of small runs: what borders earn, and what operators and providers get; and the providers of bids.
 
-ghost use Rattle.std.specs.Prelude.{◌≡◌, ◌↔◌, ◌≤◌, ◌^◌, IfOk, length, take, slice_get, IsTrue, IsSomeAnd};
-ghost use Rattle.std.specs.List.{AllZip};
-ghost use Rattle.mari_settle.specs.Conditions.{HasOperators, HasProviders, IsOrderOf, LedgerIsWithin, NameOrders};
+ghost use Rattle.std.specs.Prelude.{◌^◌, IfOk};
+ghost use Rattle.mari_remain.specs.Accepted.{IsAccepted};
+ghost use Rattle.mari_settle.specs.Conditions.{LedgerIsWithin};
 
-use mari_bids::{Bid, BidBook};
-use mari_market::{Activation, Border, Market, Order, Prices, Side};
-use mari_settle::{Ledger, OperatorLine, settle_run};
-use mari_units::{Cents, Items, Quarters};
+use crate::folder::{ONE_ZONE, Pages, TWO_ZONES, books};
+use mari_bids::Bid;
+use mari_market::{Activation, Prices};
+use mari_progress::{Progress, heading, ledger_of, providers_of, run_count};
+use mari_publish::Heading;
+use mari_remain::Books;
+use mari_settle::Ledger;
+use mari_units::{Cents, Items};
 use mari_welfare::{is_consistent, is_feasible};
-use mari_zones::{BorderBook, ZoneBook};
 use std::alloc::Global;
 use std::test::Fail;
 
-/// The books of a day of 96 quarters.
-#[derive(Drop)]
-struct Books {
-    zones: ZoneBook,
-    borders: BorderBook,
-    bids: BidBook,
-    ghost operators_there: { HasOperators zones },
-    ghost providers_there: { HasProviders bids },
+/// A border of 1 MW whose zones are a cent apart.
+const A_CENT_APART: Pages = Pages {
+    borders: b"from,to,limit,back\nA,B,1,0\n",
+    bids: b"id,provider,zone,quarter,direction,price,least,greatest,kind\n\
+        a1,P1,A,1,up,20.00,0,100,both\nb1,P2,B,1,up,20.01,0,100,both\n",
+    demands: b"run,zone,mw,price\n1,B,5,\n",
+    ..TWO_ZONES
+};
+
+/// The same with one operator at both ends.
+const ONE_OPERATOR: Pages = Pages {
+    zones: b"zone,operator\nA,T\nB,T\n",
+    ..A_CENT_APART
+};
+
+/// A downward bid and a demand that has a price.
+const DOWNWARD: Pages = Pages {
+    bids: b"id,provider,zone,quarter,direction,price,least,greatest,kind\n\
+        u1,P,Z,1,up,40.00,0,50,both\nd1,P,Z,1,down,42.00,0,20,both\n",
+    runs: b"run,quarter,kind,reference\n1,1,scheduled,40.00\n",
+    demands: b"run,zone,mw,price\n1,Z,30,45.00\n",
+    ..ONE_ZONE
+};
+
+/// A folder, what its run's orders run, what flows over its borders, and the prices.
+struct Run {
+    folder: Pages,
+    mw: &'static [u32],
+    flow: &'static [i64],
+    cents: &'static [i64],
 }
 
-fn is_order_of(bids: &[Bid], number: u32, order: &Order) -> bool
-    ensures { IsTrue result ↔ IsSomeAnd (slice_get bids.now number) (IsOrderOf order.now) }
-{
-    match bids.get(number as usize) {
-        Some(bid) if bid.up => order.zone == bid.zone && order.side == Side::Inject,
-        Some(bid) => order.zone == bid.zone && order.side == Side::Withdraw,
-        None => false,
-    }
+/// A border of 50 MW that 80 MW of demand fill: 40.00 for each of 50 MW.
+const CONGESTED: &Run = &Run {
+    folder: TWO_ZONES,
+    mw: &[50, 30, 80],
+    flow: &[50],
+    cents: &[2000, 6000],
+};
+
+const ODD: &Run = &Run {
+    folder: A_CENT_APART,
+    mw: &[1, 4, 5],
+    flow: &[1],
+    cents: &[2000, 2001],
+};
+
+/// What an operator pays, and its rent.
+type Line = (i128, i128);
+
+/// A ledger: a line for each operator, an amount for each provider, and a rent for each border.
+struct Lines {
+    operators: &'static [Line],
+    providers: &'static [i128],
+    rents: &'static [i128],
 }
 
-/// Whether the numbers name the bids of the first orders.
-fn name_orders(bids: &[Bid], numbers: &[u32], orders: &[Order]) -> bool
-    ensures { IsTrue result → NameOrders bids.now numbers.now orders.now }
+/// Runs and their ledgers.
+const RUNS: &[(&str, &Run, Lines)] = &[
+    (
+        "two zones congested",
+        CONGESTED,
+        Lines {
+            operators: &[(-100_000, 100_000), (300_000, 100_000)],
+            providers: &[100_000, 180_000],
+            rents: &[200_000],
+        },
+    ),
+    (
+        "an odd quarter-cent goes to the first zone's operator",
+        ODD,
+        Lines {
+            operators: &[(-2000, 1), (2001, 0)],
+            providers: &[2000, 8004],
+            rents: &[1],
+        },
+    ),
+    (
+        "one operator at both ends gets the whole rent",
+        &Run {
+            folder: ONE_OPERATOR,
+            mw: &[1, 4, 5],
+            flow: &[1],
+            cents: &[2000, 2001],
+        },
+        Lines {
+            operators: &[(1, 1)],
+            providers: &[2000, 8004],
+            rents: &[1],
+        },
+    ),
+    (
+        "a downward bid costs its provider",
+        &Run {
+            folder: DOWNWARD,
+            mw: &[50, 20, 30],
+            flow: &[],
+            cents: &[4000],
+        },
+        Lines {
+            operators: &[(0, 0)],
+            providers: &[120_000],
+            rents: &[],
+        },
+    ),
+];
+
+/// How many lines of each kind a ledger has, and the first of them.
+type Told = (
+    [usize; 3],
+    [Option<Line>; 2],
+    [Option<i128>; 2],
+    Option<i128>,
+);
+
+/// The line of the operator of a number, if there is one.
+fn line_at(ledger: &Ledger, number: usize) -> Option<Line> {
+    let line = ledger.operators.as_slice().get(number)?;
+    Some((line.payment.0, line.rent.0))
+}
+
+/// The amount of the provider of a number, if there is one.
+fn amount_at(ledger: &Ledger, number: usize) -> Option<i128> {
+    let amount = ledger.providers.as_slice().get(number)?;
+    Some(amount.0)
+}
+
+/// The rent of the first border, if there is one.
+fn first_rent(ledger: &Ledger) -> Option<i128> {
+    let rent = ledger.rents.as_slice().first()?;
+    Some(rent.0)
+}
+
+/// What is told of a ledger.
+fn told(ledger: &Ledger) -> Told {
+    let counts = [
+        ledger.operators.as_slice().len(),
+        ledger.providers.as_slice().len(),
+        ledger.rents.as_slice().len(),
+    ];
+    let operators = [line_at(ledger, 0), line_at(ledger, 1)];
+    let providers = [amount_at(ledger, 0), amount_at(ledger, 1)];
+    (counts, operators, providers, first_rent(ledger))
+}
+
+/// What is wanted of it.
+fn wanted(lines: &Lines) -> Told {
+    let Lines {
+        operators,
+        providers,
+        rents,
+    } = lines;
+    (
+        [operators.len(), providers.len(), rents.len()],
+        [operators.get(0).copied(), operators.get(1).copied()],
+        [providers.get(0).copied(), providers.get(1).copied()],
+        rents.first().copied(),
+    )
+}
+
+/// The activation of a run.
+fn activation_of(alloc: Global, run: &Run) -> Result<Activation, Fail> {
+    let mw = run.mw.to_vec(alloc)?;
+    Ok(Activation {
+        mw: Items::of(mw),
+        flow: Items::of(run.flow.to_vec(alloc)?),
+    })
+}
+
+/// The prices of a run.
+fn prices_of(alloc: Global, run: &Run) -> Result<Prices, Fail> {
+    let cents = run.cents.iter().map(|price| Cents(*price)).collect(alloc)?;
+    Ok(Prices {
+        cents: Items::of(cents),
+    })
+}
+
+/// The ledger of the first run with this activation, where it is feasible and the prices are consistent with it.
+fn settled(
+    alloc: Global,
+    books: &Books,
+    activation: &Activation,
+    prices: &Prices,
+) -> Result<Ledger, Fail>
+    requires { IsAccepted books.now }
+    ensures { IfOk result (LedgerIsWithin (10 ^ 17)) }
 {
-    if numbers.len() > orders.len() {
-        return false;
+    if run_count(books) == 0 {
+        return Err("there is a run".into());
     }
-    for (i, number) in numbers.iter().enumerate() {
-        if !is_order_of(bids, *number, &orders[i]) {
-            return false;
-        }
+    let progress = Progress::start(alloc, books)?;
+    let made = progress.market_of(alloc, books, 1)?;
+    if !is_feasible(&made.market, activation) || !is_consistent(&made.market, activation, prices) {
+        return Err("the activation is feasible, and the prices are consistent".into());
     }
-    true
+    let ledger = ledger_of(
+        alloc,
+        books,
+        &made,
+        prices,
+        activation,
+        progress.also(books, 1),
+    );
+    drop(made);
+    drop(progress);
+    Ok(ledger?)
+}
+
+/// The ledger of a run of these books, which is a scheduled one of the first quarter.
+fn ledger_by(alloc: Global, books: &Books, run: &Run) -> Result<Ledger, Fail>
+    requires { IsAccepted books.now }
+    ensures { IfOk result (LedgerIsWithin (10 ^ 17)) }
+{
+    let first = Heading {
+        run: 1,
+        quarter: 1,
+        direct: false,
+    };
+    if heading(books, 1) != first {
+        return Err("the first run is a scheduled one of the first quarter".into());
+    }
+    let activation = activation_of(alloc, run)?;
+    let prices = prices_of(alloc, run)?;
+    let ledger = settled(alloc, books, &activation, &prices);
+    drop(prices);
+    drop(activation);
+    ledger
+}
+
+/// The ledger of a run.
+fn ledger_in(alloc: Global, run: &Run) -> Result<Ledger, Fail>
+    ensures { IfOk result (LedgerIsWithin (10 ^ 17)) }
+{
+    let books = books(alloc, &run.folder)?;
+    let ledger = ledger_by(alloc, &books, run);
+    drop(books);
+    ledger
+}
+
+/// What is told of the ledger of a run.
+fn told_in(alloc: Global, run: &Run) -> Result<Told, Fail> {
+    let ledger = ledger_in(alloc, run)?;
+    let told = told(&ledger);
+    drop(ledger);
+    Ok(told)
+}
+
+#[test]
+fn a_run_pays_operators_providers_and_borders(rt: HostRuntime) -> Result<(), Fail> {
+    for (name, run, lines) in RUNS {
+        assert_eq!(rt; told_in(rt.alloc(), run)?, wanted(lines), "{name}");
+    }
+    Ok(())
 }
 
 /// Adds a ledger to another of the same lengths.
@@ -61,219 +284,49 @@ fn add_up(sum: &mut Ledger, other: &Ledger)
     }
 }
 
-/// The ledger of a run, where it may be settled.
-fn ledger_of(
-    alloc: Global,
-    books: &Books,
-    market: &Market,
-    numbers: &[u32],
-    activation: &Activation,
-    prices: &Prices,
-) -> Result<Ledger, Fail>
-    ensures { IfOk result (LedgerIsWithin (10 ^ 17)) }
-{
-    let mut ledger = Ledger::start(alloc, &books.zones, &books.borders, &books.bids)?;
-    if market.valid()
-        && market.zones == books.zones.zones.len()
-        && market.borders.as_slice().len() == books.borders.borders.as_slice().len()
-        && is_feasible(market, activation)
-        && is_consistent(market, activation, prices)
-        && name_orders(
-            books.bids.bids.as_slice(),
-            numbers,
-            market.orders.as_slice(),
-        )
-    {
-        settle_run(
-            &books.zones,
-            &books.bids,
-            market,
-            numbers,
-            prices,
-            activation,
-            &mut ledger,
-            None,
-        );
-        Ok(ledger)
-    } else {
-        Err("no run to be settled".into())
-    }
+/// What is told of the sum of the ledgers of two runs.
+fn told_of_both(alloc: Global, run: &Run, other: &Run) -> Result<Told, Fail> {
+    let other = ledger_in(alloc, other)?;
+    let mut sum = ledger_in(alloc, run)?;
+    add_up(&mut sum, &other);
+    drop(other);
+    let told = told(&sum);
+    drop(sum);
+    Ok(told)
 }
 
-const UP: Side = Side::Inject;
-
-const DOWN: Side = Side::Withdraw;
-
-// Orders by zone, side, greatest and price; all are plain.
-type OrderRow = (u32, Side, u32, i64);
-
-/// A market of so many zones, with a border from the first to the second where there are two.
-fn market(
-    alloc: Global,
-    zones: u32,
-    limits: (u32, u32),
-    orders: &[OrderRow],
-) -> Result<Market, Fail> {
-    let orders = orders.iter().map(|row| Order {
-        zone: row.0,
-        side: row.1,
-        price: Cents(row.3),
-        least: 0,
-        greatest: row.2,
-        gate: None,
-    });
-    let border = Border {
-        from: 0,
-        to: 1,
-        limit: limits.0,
-        back: limits.1,
-    };
-    let mut borders = Vec::new(alloc);
-    if zones > 1 {
-        borders.push(border)?;
-    }
-    Ok(Market {
-        zones,
-        borders: Items::of(borders),
-        orders: Items::of(orders.collect(alloc)?),
-        gates: Items::of(Vec::new(alloc)),
-        reference: Cents(4000),
-    })
-}
-
-fn read_books(alloc: Global, zones: &[u8], borders: &[u8], bids: &[u8]) -> Result<Books, Fail>
-    requires zones { length zones.now ≤ 1000 }
-    requires borders { length borders.now ≤ 1000 }
-    requires bids { length bids.now ≤ 1000 }
-{
-    let zones = ZoneBook::read(alloc, zones)?;
-    let borders = BorderBook::read(alloc, borders, &zones)?;
-    let bids = BidBook::read(alloc, bids, &zones, 96)?;
-    Ok(Books {
-        zones,
-        borders,
-        bids,
-    })
-}
-
-fn activation(alloc: Global, mw: &[u32], flow: &[i64]) -> Result<Activation, Fail> {
-    Ok(Activation {
-        mw: Items::of(mw.to_vec(alloc)?),
-        flow: Items::of(flow.to_vec(alloc)?),
-    })
-}
-
-fn prices(alloc: Global, cents: &[i64]) -> Result<Prices, Fail> {
-    Ok(Prices {
-        cents: Items::of(cents.iter().map(|c| Cents(*c)).collect(alloc)?),
-    })
-}
-
-/// An operator's line.
-fn line(payment: i128, rent: i128) -> OperatorLine {
-    OperatorLine {
-        payment: Quarters(payment),
-        rent: Quarters(rent),
-    }
-}
-
-// Two upward bids; what they ask for is the market's, since a ledger doesn't read it.
-const BIDS: &[u8] = b"id,provider,zone,quarter,direction,price,least,greatest,kind\n\
-a1,P1,A,1,up,20.00,0,100,both\nb1,P2,B,1,up,60.00,0,100,both\n";
-
-/// A run of the two bids and one demand in B, with prices as the bids have them.
-fn two_zones(
-    alloc: Global,
-    zones: &[u8],
-    limits: (u32, u32),
-    cents: (i64, i64),
-    mw: [u32; 3],
-    flow: i64,
-) -> Result<Ledger, Fail>
-    requires { length zones.now ≤ 1000 }
-    ensures { IfOk result (LedgerIsWithin (10 ^ 17)) }
-{
-    let books = read_books(alloc, zones, b"from,to,limit,back\nA,B,50,50\n", BIDS)?;
-    let orders = [
-        (0, UP, 100, cents.0),
-        (1, UP, 100, cents.1),
-        (1, DOWN, mw[2], 9_999_900),
-    ];
-    let market = market(alloc, 2, limits, &orders)?;
-    let activation = activation(alloc, &mw, &[flow])?;
-    let prices = prices(alloc, &[cents.0, cents.1])?;
-    ledger_of(alloc, &books, &market, &[0, 1], &activation, &prices)
-}
-
-const TWO_OPERATORS: &[u8] = b"zone,operator\nA,TA\nB,TB\n";
-
-/// A border of 50 MW that 80 MW of demand fill: 40.00 for each of 50 MW.
-fn congested(alloc: Global) -> Result<Ledger, Fail>
-    ensures { IfOk result (LedgerIsWithin (10 ^ 17)) }
-{
-    let mw = [50, 30, 80];
-    two_zones(alloc, TWO_OPERATORS, (50, 50), (2000, 6000), mw, 50)
-}
-
-/// A border of 1 MW whose zones are a cent apart.
-fn a_cent_apart(alloc: Global, zones: &[u8]) -> Result<Ledger, Fail>
-    requires { length zones.now ≤ 1000 }
-    ensures { IfOk result (LedgerIsWithin (10 ^ 17)) }
-{
-    two_zones(alloc, zones, (1, 0), (2000, 2001), [1, 4, 5], 1)
-}
-
-#[test]
-fn two_zones_congested(rt: HostRuntime) -> Result<(), Fail> {
-    let ledger = congested(rt.alloc())?;
-    let operators = [line(-100_000, 100_000), line(300_000, 100_000)];
-    assert_eq!(rt; ledger.operators.as_slice(), operators.as_slice());
-    let providers = [Quarters(100_000), Quarters(180_000)];
-    assert_eq!(rt; ledger.providers.as_slice(), providers.as_slice());
-    assert_eq!(rt; ledger.rents.as_slice(), [Quarters(200_000)].as_slice());
-    Ok(())
-}
-
-#[test]
-fn an_odd_quarter_cent_goes_to_the_first_zones_operator(rt: HostRuntime) -> Result<(), Fail> {
-    let ledger = a_cent_apart(rt.alloc(), TWO_OPERATORS)?;
-    let operators = [line(-2000, 1), line(2001, 0)];
-    assert_eq!(rt; ledger.operators.as_slice(), operators.as_slice());
-    Ok(())
-}
-
-#[test]
-fn one_operator_at_both_ends_gets_the_whole_rent(rt: HostRuntime) -> Result<(), Fail> {
-    let ledger = a_cent_apart(rt.alloc(), b"zone,operator\nA,T\nB,T\n")?;
-    assert_eq!(rt; ledger.operators.as_slice(), [line(1, 1)].as_slice());
-    Ok(())
-}
-
-#[test]
-fn a_downward_bid_costs_its_provider(rt: HostRuntime) -> Result<(), Fail> {
-    let alloc = rt.alloc();
-    let bids = b"id,provider,zone,quarter,direction,price,least,greatest,kind\n\
-        u1,P,Z,1,up,40.00,0,50,both\nd1,P,Z,1,down,42.00,0,20,both\n";
-    let no_borders = b"from,to,limit,back\n";
-    let books = read_books(alloc, b"zone,operator\nZ,T\n", no_borders, bids)?;
-    let orders = [(0, UP, 50, 4000), (0, DOWN, 20, 4200), (0, DOWN, 30, 4500)];
-    let market = market(alloc, 1, (0, 0), &orders)?;
-    let activation = activation(alloc, &[50, 20, 30], &[])?;
-    let prices = prices(alloc, &[4000])?;
-    let ledger = ledger_of(alloc, &books, &market, &[0, 1], &activation, &prices)?;
-    assert_eq!(rt; ledger.providers.as_slice(), [Quarters(120_000)].as_slice());
-    Ok(())
-}
+/// The sums of the ledgers of a congested run and of one with an odd quarter-cent.
+const SUMS: Lines = Lines {
+    operators: &[(-102_000, 100_001), (302_001, 100_000)],
+    providers: &[102_000, 188_004],
+    rents: &[200_001],
+};
 
 #[test]
 fn ledgers_of_two_runs_add_up(rt: HostRuntime) -> Result<(), Fail> {
-    let mut day = congested(rt.alloc())?;
-    let run = a_cent_apart(rt.alloc(), TWO_OPERATORS)?;
-    add_up(&mut day, &run);
-    let operators = [line(-102_000, 100_001), line(302_001, 100_000)];
-    assert_eq!(rt; day.operators.as_slice(), operators.as_slice());
-    let providers = [Quarters(102_000), Quarters(188_004)];
-    assert_eq!(rt; day.providers.as_slice(), providers.as_slice());
-    assert_eq!(rt; day.rents.as_slice(), [Quarters(200_001)].as_slice());
+    let told = told_of_both(rt.alloc(), CONGESTED, ODD)?;
+    assert_eq!(rt; told, wanted(&SUMS));
+    Ok(())
+}
+
+/// A bid of a provider.
+fn bid_of(provider: u32) -> Bid {
+    Bid {
+        provider,
+        zone: 0,
+        quarter: 1,
+        up: true,
+        price: Cents(0),
+        least: 0,
+        greatest: 1,
+        both: true,
+    }
+}
+
+#[test]
+fn providers_stand_by_their_first_bids(rt: HostRuntime) -> Result<(), Fail> {
+    let bids = [bid_of(3), bid_of(1), bid_of(3), bid_of(2)];
+    let providers = providers_of(rt.alloc(), &bids, &[2, 1, 3, 0])?;
+    assert_eq!(rt; providers.as_slice(), [3, 1, 2].as_slice());
     Ok(())
 }

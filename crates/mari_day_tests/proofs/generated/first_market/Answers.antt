@@ -1,5 +1,0 @@
-use Rattle.std.proofs.Common.{[], refl}
-use Rattle.mari_day_tests.proofs.generated.first_market.Goals as goal
-
-pub market_of-requires-clause-stands : goal.market_of-requires-clause-stands
-market_of-requires-clause-stands c = ([], c.in_ok-remaining.ensures, refl)

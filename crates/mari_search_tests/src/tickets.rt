@@ -37,7 +37,7 @@ enum Play {
 #[derive(Clone, Copy, Debug, PartialEq, Eq)]
 enum Told {
     /// The steps, and the next node.
-    Settle([Step; 3], Option<u32>),
+    Settle(Step, Step, Step, Option<u32>),
     SettleReclaimed(Step),
     GiveReclaimed(bool),
     GiveTwice(Given),
@@ -83,11 +83,9 @@ const CASES: &[Case] = &[
         workers: 1,
         play: Play::Settle,
         told: Told::Settle(
-            [
-                (0, 299_877_000, Settled::Branched),
-                (1, 299_857_000, Settled::Branched),
-                (2, 299_877_000, Settled::Branched),
-            ],
+            (0, 299_877_000, Settled::Branched),
+            (1, 299_857_000, Settled::Branched),
+            (2, 299_877_000, Settled::Branched),
             Some(5),
         ),
     },
@@ -188,7 +186,7 @@ fn three_settled<'m, N: SearchName>(
     let root = settled(alloc, market, pool, incumbent, seat)?;
     let closed = settled(alloc, market, pool, incumbent, seat)?;
     let opened = settled(alloc, market, pool, incumbent, seat)?;
-    Ok(Told::Settle([root, closed, opened], next(pool)))
+    Ok(Told::Settle(root, closed, opened, next(pool)))
 }
 
 /// The first worker's ticket for a node that is reclaimed, while the second worker is idle.

@@ -1,5 +1,5 @@
 //! Tests of what clears a market: markets themselves, gates, welfare, certificates, the merit order, both solvers of a
-//! network, prices, a node, and the machine of a search.
+//! network, prices, a node, the machine of a search, the pool, and searches on one thread and by several workers.
 //!
 //! They call what is public alone, so they stand apart from what they test, which then is proved once.
 #![tactic(auto)]
@@ -19,8 +19,18 @@ mod node;
 #[cfg(test)]
 mod prices;
 #[cfg(test)]
+mod random;
+#[cfg(test)]
+mod rounding;
+#[cfg(test)]
+mod searches;
+#[cfg(test)]
 mod small;
 #[cfg(test)]
 mod solvers;
+#[cfg(test)]
+mod tickets;
+#[cfg(test)]
+mod ties;
 #[cfg(test)]
 mod welfare;

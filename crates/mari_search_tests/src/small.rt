@@ -136,6 +136,20 @@ pub(crate) fn prefix(length: u32, bits: u64) -> Prefix {
     }
 }
 
+/// The bits of the gates whose orders run.
+pub(crate) fn opened(orders: &[Order], mw: &[u32]) -> u64 {
+    let mut bits = 0;
+    for (order, mw) in orders.iter().zip(mw) {
+        if let Some(gate) = order.gate
+            && *mw > 0
+            && gate < 64
+        {
+            bits |= 1 << gate;
+        }
+    }
+    bits
+}
+
 /// The length of a list, and its first four items, with 0 where there are fewer.
 pub(crate) type Few = (usize, [u32; 4]);
 

@@ -10,10 +10,6 @@ mod crew;
 mod first;
 mod refining;
 mod rounding;
-#[cfg(test)]
-mod tests;
-#[cfg(test)]
-mod ties_tests;
 mod together;
 mod turnstile;
 mod worker;

@@ -2,16 +2,18 @@
 
 ghost use Rattle.std.specs.Prelude.{◌<◌, ◌≤◌};
 
-use super::crews::crew_cleared;
-use super::{published_mw, searched, welfare_of};
-use crate::Turnstile;
+use crate::searches::{alone, by_crew};
+use crate::small::opened;
 use mari_market::{Activation, Border, Cleared, Finding, GateInfo, Market, Order, Prefix, Side};
 use mari_node::examine_from;
 use mari_units::{Cents, Items, Memory};
-use std::alloc::Global;
+use mari_workers::Turnstile;
+use std::alloc::{AllocError, Global};
+use std::sync::Wait;
 use std::sync::atomic::{AtomicU64, Ordering};
 use std::test::Fail;
 use std::thread;
+use std::thread::Threads;
 
 /// Numbers that follow from a seed: each is the one before, shifted and added to itself bit by bit three times.
 #[derive(Drop)]
@@ -76,8 +78,20 @@ impl Dice {
         }
     }
 
+    /// A border between a zone and the one before it.
+    fn border(&mut self, zone: u32) -> Border
+        requires { 1 ≤ zone }
+    {
+        Border {
+            from: zone - 1,
+            to: zone,
+            limit: self.below(30),
+            back: self.below(30),
+        }
+    }
+
     /// A market of 1 to 3 zones in a row and 2 to 6 gates.
-    fn market(&mut self, alloc: Global) -> Result<Market, Fail> {
+    fn market(&mut self, alloc: Global) -> Result<Market, AllocError> {
         let zones = 1 + self.below(3);
         let mut orders = Vec::new(alloc);
         let mut gates = Vec::new(alloc);
@@ -91,12 +105,7 @@ impl Dice {
             orders.push(self.plain(zone, Side::Inject, price))?;
             orders.push(self.plain(zone, Side::Withdraw, Cents(9_999_900)))?;
             if zone > 0 {
-                borders.push(Border {
-                    from: zone - 1,
-                    to: zone,
-                    limit: self.below(30),
-                    back: self.below(30),
-                })?;
+                borders.push(self.border(zone))?;
             }
         }
         Ok(Market {
@@ -132,20 +141,71 @@ impl Turnstile for Yielding {
     }
 }
 
-/// Which of the gated bids run.
-fn running(alloc: Global, market: &Market, cleared: &Cleared) -> Result<Vec<bool>, Fail> {
-    let mut running = Vec::new(alloc);
-    for (order, mw) in market.orders.as_slice().iter().zip(published_mw(cleared)) {
-        if order.gate.is_some() {
-            running.push(*mw > 0)?;
+/// The welfare that is published, and the bits of the gates whose orders run.
+type Told = Option<(u64, u64)>;
+
+fn told(market: &Market, cleared: &Cleared) -> Told {
+    match cleared {
+        Cleared::Published(clearing) => {
+            let opened = opened(market.orders.as_slice(), clearing.activation.mw.as_slice());
+            Some((clearing.welfare, opened))
         }
+        Cleared::Spent(_) | Cleared::Memory => None,
     }
-    Ok(running)
+}
+
+fn told_once(market: &Market, cleared: Cleared) -> Told {
+    let told = told(market, &cleared);
+    drop(cleared);
+    told
+}
+
+/// What is told of so many workers.
+fn told_by<R: Threads + Wait + Sync>(
+    rt: &R,
+    alloc: Global,
+    market: &Market,
+    workers: u32,
+    yielding: &Yielding,
+) -> Result<Told, Fail>
+    requires { (1 ≤ workers) × (workers ≤ 16) }
+{
+    let cleared = by_crew(rt, alloc, market, workers, 10_000, yielding)?;
+    Ok(told_once(market, cleared))
+}
+
+/// What is told of one thread, and of 1, 2, 4 and 16 workers.
+fn told_of<R: Threads + Wait + Sync>(
+    rt: &R,
+    alloc: Global,
+    market: &Market,
+    yielding: &Yielding,
+) -> Result<(Told, [Told; 4]), Fail> {
+    let by_one = told_once(market, alone(alloc, market, 10_000)?);
+    let by_crews = [
+        told_by(rt, alloc, market, 1, yielding)?,
+        told_by(rt, alloc, market, 2, yielding)?,
+        told_by(rt, alloc, market, 4, yielding)?,
+        told_by(rt, alloc, market, 16, yielding)?,
+    ];
+    Ok((by_one, by_crews))
+}
+
+/// The same of the next market.
+fn told_of_next<R: Threads + Wait + Sync>(
+    rt: &R,
+    alloc: Global,
+    dice: &mut Dice,
+    yielding: &Yielding,
+) -> Result<(Told, [Told; 4]), Fail> {
+    let market = dice.market(alloc)?;
+    let told = told_of(rt, alloc, &market, yielding);
+    drop(market);
+    told
 }
 
 #[test]
 fn random_markets_come_to_what_one_thread_finds(rt: HostRuntime) -> Result<(), Fail> {
-    let alloc = rt.alloc();
     let mut dice = Dice {
         state: 0x2025_0312_0000_0096,
     };
@@ -153,15 +213,9 @@ fn random_markets_come_to_what_one_thread_finds(rt: HostRuntime) -> Result<(), F
         count: AtomicU64::new(0),
     };
     for _ in 0..200 {
-        let market = dice.market(alloc)?;
-        let alone = searched(alloc, &market, 10_000)?;
-        assert!(rt; welfare_of(&alone).is_some());
-        let word = running(alloc, &market, &alone)?;
-        for workers in [1, 2, 4, 16] {
-            let cleared = crew_cleared(&rt, alloc, &market, workers, 10_000, &yielding)?;
-            assert_eq!(rt; welfare_of(&cleared), welfare_of(&alone));
-            assert_eq!(rt; running(alloc, &market, &cleared)?, word);
-        }
+        let (by_one, by_crews) = told_of_next(&rt, rt.alloc(), &mut dice, &yielding)?;
+        assert!(rt; by_one.is_some());
+        assert_eq!(rt; by_crews, [by_one; 4]);
     }
     Ok(())
 }

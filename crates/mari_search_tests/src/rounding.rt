@@ -1,0 +1,144 @@
+//! What a relaxed optimum comes to by rounding, as a worker offers it.
+
+ghost use Rattle.std.specs.Prelude.{◌≡◌, pos};
+ghost use Rattle.mari_market.specs.Market.{IsValid};
+ghost use Rattle.mari_market.specs.Relaxation.{IsClosedWelfare};
+ghost use Rattle.mari_workers.specs.Worked.{IsFresh};
+
+use crate::small::{DOWN, MarketRow, UP, activation_of, market_of, opened};
+use mari_incumbent::{Incumbent, Seat};
+use mari_market::{Activation, Attained, Finding, Market, Prefix};
+use mari_node::examine_from;
+use mari_pool::{Pool, SearchName, Took};
+use mari_units::Memory;
+use mari_workers::{Turnstile, first_of, work};
+use std::alloc::Global;
+use std::marker::Brand;
+use std::sync::{Condvar, Mutex, Wait};
+use std::test::Fail;
+
+/// Six bids, of which the second to the fourth are of one group, the fifth stands below the second and the sixth below
+/// the third; a dearer bid, and a demand that is too large for the bids that may run together.
+const SIX_GATES: MarketRow = MarketRow {
+    limits: &[],
+    orders: &[
+        (0, UP, 10, 20, 3000, Some(0)),
+        (0, UP, 6, 20, 3000, Some(1)),
+        (0, UP, 6, 20, 3000, Some(2)),
+        (0, UP, 8, 20, 3000, Some(3)),
+        (0, UP, 1, 20, 3000, Some(4)),
+        (0, UP, 1, 20, 3000, Some(5)),
+        (0, UP, 0, 100, 5000, None),
+        (0, DOWN, 0, 100, 9_999_900, None),
+    ],
+    gates: &[
+        (None, None),
+        (Some(7), None),
+        (Some(7), None),
+        (Some(7), None),
+        (None, Some(1)),
+        (None, Some(2)),
+    ],
+};
+
+/// What the six bids run in the optimum that is rounded: the second less than its least, and each other one its least
+/// or more.
+const RUNS: &[u32] = &[10, 5, 6, 8, 9, 1];
+
+/// Leaves that optimum where the root is examined, and finds no memory for any other node.
+#[derive(Clone, Copy, Debug)]
+struct RootAlone;
+
+impl Turnstile for RootAlone {
+    fn through(
+        &self,
+        alloc: Global,
+        _worker: u32,
+        market: &Market,
+        prefix: &Prefix,
+        start: &mut Option<Activation>,
+    ) -> Result<Finding, Memory> {
+        if prefix.length > 0 {
+            return Err(Memory);
+        }
+        let runs = activation_of(alloc, RUNS, &[])?;
+        let found = examine_from(alloc, market, prefix, start);
+        *start = Some(runs);
+        found
+    }
+}
+
+/// The bits of the gates whose orders run in what was offered, and its welfare, if anything was offered; and the node
+/// that was given back, if it waits.
+type Told = (Option<(u64, u64)>, Option<u32>);
+
+/// What is told of what was offered.
+fn offered(market: &Market, best: &Option<Attained>) -> Option<(u64, u64)> {
+    match best {
+        Some(best) => {
+            let opened = opened(market.orders.as_slice(), best.activation.mw.as_slice());
+            Some((opened, best.welfare))
+        }
+        None => None,
+    }
+}
+
+/// The number of the next node, if one waits.
+fn next<'m, N: SearchName>(mut pool: Pool<'m, N>) -> Option<u32> {
+    match pool.take(0) {
+        Took::Took(ticket) => Some(ticket.node),
+        _ => None,
+    }
+}
+
+/// What is told of a worker that settles the root alone.
+fn worked<'m, N: SearchName, R: Wait>(
+    rt: &R,
+    alloc: Global,
+    market: &'m Market,
+    incumbent: &Incumbent,
+    pooled: Seat,
+    seat: Seat,
+) -> Result<Told, Fail>
+    requires name { (market.now ≡ N.market) × (N.budget ≡ 3) × (N.workers ≡ 1) × (incumbent.now ≡ N.incumbent) }
+    requires market { IsValid market.now }
+    requires closed { IsClosedWelfare market.now (pos N.incumbent.first) }
+    requires pooled { IsFresh N.incumbent pooled }
+    requires seat { IsFresh N.incumbent seat }
+{
+    let pool = Mutex::new(Pool::<N>::start(alloc, market, 3, 1, pooled)?);
+    let bell = Condvar::new();
+    let worked = work(
+        rt, alloc, market, 0, &pool, &bell, incumbent, seat, &RootAlone,
+    );
+    let offered = offered(market, &worked.best);
+    drop(worked);
+    Ok((offered, next(pool.into_inner())))
+}
+
+/// What is told of that in a market.
+fn rounded_in<R: Wait>(rt: &R, alloc: Global, market: &Market) -> Result<Told, Fail> {
+    if !market.valid() {
+        return Err("the market is valid".into());
+    }
+    let first = first_of(alloc, market)?;
+    let (incumbent, mut seat) = Incumbent::start(alloc, first.welfare, 2)?;
+    let pooled = incumbent.split(&mut seat);
+    worked::<Brand, R>(rt, alloc, market, &incumbent, pooled, seat)
+}
+
+/// What is told of the six bids.
+fn rounded<R: Wait>(rt: &R, alloc: Global) -> Result<Told, Fail> {
+    let market = market_of(alloc, &SIX_GATES)?;
+    let told = rounded_in(rt, alloc, &market);
+    drop(market);
+    told
+}
+
+#[test]
+fn what_runs_its_least_is_opened_as_far_as_it_may_be(rt: HostRuntime) -> Result<(), Fail> {
+    let (offered, next) = rounded(&rt, rt.alloc())?;
+    assert_eq!(rt; offered, Some((0b10_0101, 999_610_000)));
+    assert_eq!(rt; next, Some(1));
+    Ok(())
+}

@@ -19,6 +19,7 @@ const DAYS: &[(&str, &str, Result<u32, CalendarFault>)] = &[
     ("", CET, Err(CalendarFault::BadDate)),
     ("+025-03-12", CET, Err(CalendarFault::BadDate)),
     ("2025-02-29", "no rule", Err(CalendarFault::BadDate)),
+    // leap days that are dates
     ("0000-02-29", "UTC0", Ok(96)),
     ("2024-02-29", "no rule", Err(CalendarFault::BadZoneText)),
     // the end of the calendar

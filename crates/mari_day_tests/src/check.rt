@@ -98,7 +98,7 @@ const OF_FULL: &[Row] = &[
     (19, "total-provider P2 450.0025", None, Some((1, 12))),
 ];
 
-/// Prices between the bounds of the free one, of which the nearest to the reference is the right one.
+/// Prices between the bounds of the day with free prices, of which the nearest to the reference is the right one.
 const OF_FREE: &[Row] = &[
     (3, "zone Z 40.00 -99999.00 99999.00 1", None, None),
     (

@@ -43,7 +43,7 @@ const NO_LIMITS: Pages = Pages {
     ..LIMITS_PER_RUN
 };
 
-/// Bids of one quarter.
+/// A bid of the last quarter of a day of 92, and one of the quarter behind it.
 const BID_92: &[u8] =
     b"id,provider,zone,quarter,direction,price,least,greatest,kind\nu1,P,Z,92,up,50.00,0,100,both\n";
 
@@ -107,7 +107,7 @@ fn told_of(
 /// A page in the place of a folder's own, and the file, the line and the number of the refusal.
 type Refused = (File, &'static [u8], (u8, u32, u8));
 
-/// A date, the rule of its clock, and what the day has no quarter for.
+/// Refused dates and rules of a clock, and what the day has no quarter for.
 const OF_ONE_ZONE: &[Refused] = &[
     (File::Day, b"date\n2025-03-12\n", (1, 1, 1)),
     (

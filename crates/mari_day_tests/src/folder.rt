@@ -36,7 +36,7 @@ pub(crate) const ONE_ZONE: Pages = Pages {
     limits: None,
 };
 
-/// The first of two zones with cheap energy, a run with a demand in the second, and a border that it fills.
+/// Two zones with cheap energy in the first, a run with a demand in the second, and a border that it fills.
 pub(crate) const TWO_ZONES: Pages = Pages {
     zones: b"zone,operator\nA,TA\nB,TB\n",
     borders: b"from,to,limit,back\nA,B,50,50\n",

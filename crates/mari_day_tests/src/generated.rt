@@ -114,7 +114,7 @@ fn welfares(
     Ok((welfare, fast))
 }
 
-/// Those welfares, where the last starts are one that is too short, and one that runs too much.
+/// Those welfares, where the last two starts are too short, and run too much.
 fn told(alloc: Global, market: &Market) -> Result<(u64, [Option<u64>; 4]), Fail>
     requires { IsValid market.now }
 {

@@ -147,7 +147,7 @@ const OF_LINKED: &[Case] = &[
         last: None,
     },
     Case {
-        name: "no run of the quarter before",
+        name: "a bid that is needed, which ran in no run of the quarter before",
         done: &[Some((&[0, 0], 0)), Some((&[0, 0], 0))],
         offers: &[(1, 10)],
         limits: (50, 20),

@@ -135,6 +135,7 @@ fn rounded<R: Wait>(rt: &R, alloc: Global) -> Result<Told, Fail> {
     told
 }
 
+// 100 MW of demand at 99,999.00, less 60 MW of the three bids at 30.00 and 40 MW at 50.00, is the welfare.
 #[test]
 fn what_runs_its_least_is_opened_as_far_as_it_may_be(rt: HostRuntime) -> Result<(), Fail> {
     let (offered, next) = rounded(&rt, rt.alloc())?;

@@ -44,7 +44,7 @@ enum Told {
 }
 
 /// Which tickets were given back, how many nodes are in hands then, why there is no tree, how many nodes there are, and
-/// what is so of the one.
+/// the item of the one in the part of the search tree.
 #[derive(Clone, Copy, Debug, PartialEq, Eq)]
 struct Given {
     given: [bool; 2],

@@ -45,7 +45,7 @@ const TWO_OF_THREE: &[OrderRow] = &[
     (0, DOWN, 0, 20, 9_999_900, None),
 ];
 
-/// Four equal blocks.
+/// The gates of four equal blocks.
 const FOUR: &[GateRow] = &[FREE, FREE, FREE, FREE];
 
 /// A market, a budget that is enough, and the bits of the first gate word.

@@ -13,7 +13,8 @@ use Rattle.mari_market.specs.Sums.{AnyZip}
 use Rattle.mari_market.proofs.Sums.{AnyZip_cases, AnyZip_kept, AnyZip_new}
 use Rattle.mari_check.specs.declared.ends.End.{End}
 use Rattle.mari_check.specs.declared.ends.End.TheVariants.{Greatest, Least}
-use Rattle.mari_check.specs.Ends.{IsBoundBy, IsHeight, IsRaised, IsTightest, IsTightestOf, SetsAt, SetsAtEnd, own_standing}
+use Rattle.mari_check.specs.Ends.{IsBoundBy, IsHeight, IsRaised, IsTightest, IsTightestOf, SetsAt, SetsAtEnd}
+use Rattle.mari_market.specs.Consistent.{own_standing}
 use Rattle.mari_check.specs.Spread.{AreSmall, most_value}
 
 -- a price has one height

@@ -24,9 +24,11 @@ use Rattle.mari_market.proofs.Conflicts.{leads_sound, lower_kept, price_in_cap, 
 use Rattle.mari_market.proofs.Sums.{AllZip-both, AllZip-with}
 use Rattle.mari_check.specs.declared.ends.End.{End}
 use Rattle.mari_check.specs.declared.ends.End.TheVariants.{Greatest, Least}
-use Rattle.mari_check.specs.declared.spread.Along.TheVariants.{Falling, Rising}
-use Rattle.mari_check.specs.Ends.{AreEndPrices, ArePricesOf, IsBoundBy, IsTightest, SetsAt, along_of, own_standing}
-use Rattle.mari_check.specs.Spread.{HasSource, IsSpread, LeadsOver, LeadsTo, Reaches}
+use Rattle.mari_market.specs.declared.along.Along.TheVariants.{Falling, Rising}
+use Rattle.mari_check.specs.Ends.{AreEndPrices, ArePricesOf, IsBoundBy, IsTightest, SetsAt, along_of}
+use Rattle.mari_market.specs.Consistent.{own_standing}
+use Rattle.mari_check.specs.Spread.{HasSource, IsSpread, Reaches}
+use Rattle.mari_market.specs.Along.{LeadsOver, LeadsTo}
 use Rattle.mari_check.specs.Spread.Reaches.{further, itself}
 use Rattle.mari_check.proofs.Agree.{KeepsAll, keeps-consistent, zip-widen}
 

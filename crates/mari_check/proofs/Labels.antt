@@ -7,9 +7,10 @@ use Rattle.mari_market.specs.declared.market.Border.{Border}
 use Rattle.mari_market.specs.declared.market.Market.{Market}
 use Rattle.mari_market.specs.Area.{AreAreas, InOneArea, Joins, JoinsBy}
 use Rattle.mari_market.specs.Area.InOneArea.{further, itself}
-use Rattle.mari_check.specs.declared.spread.Along.TheVariants.{Joined}
+use Rattle.mari_market.specs.declared.along.Along.TheVariants.{Joined}
 use Rattle.mari_check.specs.Areas.{AgreeAt, AreNumbered}
-use Rattle.mari_check.specs.Spread.{IsSpread, LeadsOver, LeadsTo, Reaches}
+use Rattle.mari_check.specs.Spread.{IsSpread, Reaches}
+use Rattle.mari_market.specs.Along.{LeadsOver, LeadsTo}
 use Rattle.mari_check.specs.Spread.Reaches.{further as leads-on, itself as starts}
 use Rattle.mari_check.proofs.Agree.{zip-widen}
 

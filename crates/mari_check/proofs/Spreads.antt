@@ -6,8 +6,9 @@ use Rattle.std.proofs.lemmas.List.Elements.{All-cons, All-from_get_or, All-head,
 use Rattle.mari_market.specs.declared.market.Border.{Border}
 use Rattle.mari_market.proofs.Sums.{AnyZip-at, AnyZip-meets}
 use Rattle.mari_welfare.proofs.Lists.{AllZip_more}
-use Rattle.mari_check.specs.declared.spread.Along.{Along}
-use Rattle.mari_check.specs.Spread.{AreSmall, HasSource, IsClosed, IsClosedOver, IsRaiseIf, IsSpread, LeadsBack, LeadsOn, LeadsOver, LeadsTo, Reaches, Spreads, most_value, room_of}
+use Rattle.mari_market.specs.declared.along.Along.{Along}
+use Rattle.mari_check.specs.Spread.{AreSmall, HasSource, IsClosed, IsClosedOver, IsRaiseIf, IsSpread, Reaches, Spreads, most_value, room_of}
+use Rattle.mari_market.specs.Along.{LeadsBack, LeadsOn, LeadsOver, LeadsTo}
 use Rattle.mari_check.specs.Spread.Reaches.{further, itself}
 use Rattle.mari_check.specs.Spread.Spreads.{raised, unchanged}
 

@@ -1,19 +1,19 @@
 -- The ends of all zones' intervals of consistent prices, counted by their heights.
-use Rattle.std.specs.Prelude.{◌≡◌, ◌⊎◌, ◌<◌, ◌≤◌, ℕ, nat_lt, ℤ, pos, ◌+ℤ◌, ◌-ℤ◌, List, Option, length, slice_index}
+use Rattle.std.specs.Prelude.{◌≡◌, ◌⊎◌, ◌<◌, ◌≤◌, ℕ, ℤ, pos, ◌+ℤ◌, ◌-ℤ◌, List, length, slice_index}
 use Rattle.mari_units.specs.declared.numbers.Cents.{Cents}
 use Rattle.mari_market.specs.declared.activation.Activation.{Activation}
 use Rattle.mari_market.specs.declared.market.Market.{Market}
 use Rattle.mari_market.specs.declared.market.Order.{Order}
 use Rattle.mari_market.specs.declared.market.Side.{Side}
 use Rattle.mari_market.specs.declared.price_rules.Standing.{Standing}
-use Rattle.mari_market.specs.Consistent.{SetsLower, SetsUpper, standing_of}
+use Rattle.mari_market.specs.Consistent.{SetsLower, SetsUpper, own_standing}
 use Rattle.mari_market.specs.Interval.{AreGreatestPrices, AreLeastPrices}
 use Rattle.mari_market.specs.Price.{cap, price_at}
 use Rattle.mari_market.specs.Sums.{AnyZip}
 use Rattle.mari_check.specs.declared.ends.End.{End}
 use Rattle.mari_check.specs.declared.ends.End.TheVariants.{Greatest, Least}
-use Rattle.mari_check.specs.declared.spread.Along.{Along}
-use Rattle.mari_check.specs.declared.spread.Along.TheVariants.{Falling, Rising}
+use Rattle.mari_market.specs.declared.along.Along.{Along}
+use Rattle.mari_market.specs.declared.along.Along.TheVariants.{Falling, Rising}
 
 -- how far a price lies above the least price that there may be, or at the greatest end below the greatest
 abbrev pub IsHeight : End → ℤ → ℕ → Type 0
@@ -28,10 +28,6 @@ along_of Greatest = Falling
 abbrev pub SetsAtEnd : End → Standing → Side → (greatest q : ℕ) → Type 0
 SetsAtEnd Least s side greatest q = SetsLower s side greatest q
 SetsAtEnd Greatest s side greatest q = SetsUpper s side greatest q
-
--- an order of a gate is of an open one where it runs
-abbrev pub own_standing : Option ℕ → ℕ → Standing
-own_standing gate q = standing_of (λ _. nat_lt 0 q) gate
 
 -- the order is of zone z and sets a bound of this height
 pub record SetsAt (end : End) (z n : ℕ) (o : Order) (q : ℕ) : Type 0 where

@@ -1,31 +1,9 @@
 -- Values that spread from zone to zone: each zone gets the greatest value of the zones that lead to it.
-use Rattle.std.specs.Prelude.{◌≡◌, ◌⊎◌, ◌+◌, ◌-◌, ◌<◌, ◌≤◌, ℕ, ℤ, Bool, true, false, List, [], ◌∷◌, length, set, slice_index}
+use Rattle.std.specs.Prelude.{◌≡◌, ◌+◌, ◌-◌, ◌<◌, ◌≤◌, ℕ, ℤ, Bool, true, false, List, [], ◌∷◌, length, set, slice_index}
 use Rattle.std.specs.List.{All, AllZip}
 use Rattle.mari_market.specs.declared.market.Border.{Border}
-use Rattle.mari_market.specs.Area.{IsUncongested}
-use Rattle.mari_market.specs.Consistent.{HasRoomBack, HasRoomOn}
-use Rattle.mari_market.specs.Sums.{AnyZip}
-use Rattle.mari_check.specs.declared.spread.Along.{Along}
-use Rattle.mari_check.specs.declared.spread.Along.TheVariants.{Falling, Joined, Rising}
-
--- whether a border leads from its first zone to its second, and from its second to its first
-abbrev pub LeadsOn : Along → Border → ℤ → Type 0
-LeadsOn Rising b f = HasRoomBack b f
-LeadsOn Falling b f = HasRoomOn b f
-LeadsOn Joined b f = IsUncongested b f
-
-abbrev pub LeadsBack : Along → Border → ℤ → Type 0
-LeadsBack Rising b f = HasRoomOn b f
-LeadsBack Falling b f = HasRoomBack b f
-LeadsBack Joined b f = IsUncongested b f
-
--- a border leads from zone y to zone z
-abbrev pub LeadsOver : Along → ℕ → ℕ → Border → ℤ → Type 0
-LeadsOver along y z b f = ((b.from ≡ y) × (b.to ≡ z) × LeadsOn along b f) ⊎ ((b.to ≡ y) × (b.from ≡ z) × LeadsBack along b f)
-
--- some border does
-abbrev pub LeadsTo : Along → List Border → List ℤ → ℕ → ℕ → Type 0
-LeadsTo along bs fs y z = AnyZip (LeadsOver along y z) bs fs
+use Rattle.mari_market.specs.Along.{LeadsOver}
+use Rattle.mari_market.specs.declared.along.Along.{Along}
 
 -- both zones of a border are among so many
 abbrev pub IsAmong : ℕ → Border → Type 0

@@ -7,8 +7,8 @@ ghost use Rattle.mari_market.specs.Market.{IsValid};
 ghost use Rattle.mari_market.specs.Optimal.{IsFeasible};
 ghost use Rattle.mari_check.specs.Areas.{AgreeAt, AreAlike, AreNumbered, HasBefore, IsNumbered};
 
-use crate::spread::{Along, spread};
-use mari_market::{Activation, Market};
+use crate::spread::spread;
+use mari_market::{Activation, Along, Market};
 use mari_units::{MOST_ZONES, Memory};
 use std::alloc::Global;
 

@@ -6,24 +6,14 @@ ghost use Rattle.mari_market.specs.Market.{IsValid};
 ghost use Rattle.mari_market.specs.Optimal.{IsConsistent, IsFeasible};
 ghost use Rattle.mari_market.specs.Price.{IsPrice};
 ghost use Rattle.mari_units.specs.declared.numbers.Cents.{Cents as TheCents};
-ghost use Rattle.mari_check.specs.Ends.{AreEndPrices, ArePricesOf, IsHeight, IsRaised, IsTightest, SetsAtEnd, along_of, own_standing as own_standing_of};
+ghost use Rattle.mari_check.specs.Ends.{AreEndPrices, ArePricesOf, IsHeight, IsRaised, IsTightest, SetsAtEnd, along_of};
+ghost use Rattle.mari_market.specs.Consistent.{own_standing};
 ghost use Rattle.mari_check.specs.Spread.{AreSmall, most_value};
 
-use crate::spread::{Along, spread};
-use mari_market::{Activation, Market, Order, Standing};
+use crate::spread::spread;
+use mari_market::{Activation, Along, Market, Order};
 use mari_units::{CAP, Cents, Memory};
 use std::alloc::Global;
-
-/// The standing of an order of a feasible activation, where an order of a gate runs exactly where its gate is open.
-fn own_standing(order: &Order, mw: u32) -> Standing
-    ensures { result ≡ own_standing_of order.now.gate mw }
-{
-    match order.gate {
-        None => Standing::Plain,
-        Some(_) if mw > 0 => Standing::InOpen,
-        Some(_) => Standing::InClosed,
-    }
-}
 
 /// An end of each zone's interval. Prices are counted by their height: how far they lie above the least price that
 /// there may be, or, at the greatest end, below the greatest. So upper bounds are handled as lower bounds are.
@@ -68,9 +58,9 @@ impl End {
 
     /// Whether an order bounds its zone's price at this end.
     fn is_set_by(self, order: &Order, mw: u32) -> bool
-        ensures { IsTrue result ↔ SetsAtEnd self (own_standing_of order.now.gate mw) order.now.side order.now.greatest mw }
+        ensures { IsTrue result ↔ SetsAtEnd self (own_standing order.now.gate mw) order.now.side order.now.greatest mw }
     {
-        let standing = own_standing(order, mw);
+        let standing = order.own_standing(mw);
         match self {
             End::Least => order.sets_lower(standing, mw),
             End::Greatest => order.sets_upper(standing, mw),

@@ -2,49 +2,10 @@
 
 ghost use Rattle.std.specs.Prelude.{◌≡◌, ◌<◌, ◌≤◌, IsTrue, ◌↔◌, true, false, length};
 ghost use Rattle.std.specs.List.{All};
-ghost use Rattle.mari_market.specs.Area.{IsUncongested};
-ghost use Rattle.mari_check.specs.Spread.{IsAmong, AreSmall, IsClosed, IsClosedOver, IsRaise, IsRaiseIf, IsSpread, LeadsBack, LeadsOn, LeadsOver, LeadsTo, Spreads, room_of};
+ghost use Rattle.mari_check.specs.Spread.{IsAmong, AreSmall, IsClosed, IsClosedOver, IsRaise, IsRaiseIf, IsSpread, Spreads, room_of};
+ghost use Rattle.mari_market.specs.Along.{LeadsOver, LeadsTo};
 
-use mari_market::Border;
-
-/// Lower bounds of prices go where prices are at least as high, upper bounds where they are at least as low, and the
-/// labels of areas over uncongested borders.
-#[derive(Clone, Copy, Debug, Drop, PartialEq, Eq)]
-pub(crate) enum Along {
-    Rising,
-    Falling,
-    Joined,
-}
-
-fn is_uncongested(border: &Border, flow: i64) -> bool
-    ensures { IsTrue result ↔ IsUncongested border.now flow }
-{
-    border.has_room_back(flow) && border.has_room_on(flow)
-}
-
-impl Along {
-    /// Whether the border leads from its first zone to its second.
-    fn leads_on(self, border: &Border, flow: i64) -> bool
-        ensures { IsTrue result ↔ LeadsOn self border.now flow }
-    {
-        match self {
-            Along::Rising => border.has_room_back(flow),
-            Along::Falling => border.has_room_on(flow),
-            Along::Joined => is_uncongested(border, flow),
-        }
-    }
-
-    /// Whether it leads from its second zone to its first.
-    fn leads_back(self, border: &Border, flow: i64) -> bool
-        ensures { IsTrue result ↔ LeadsBack self border.now flow }
-    {
-        match self {
-            Along::Rising => border.has_room_on(flow),
-            Along::Falling => border.has_room_back(flow),
-            Along::Joined => is_uncongested(border, flow),
-        }
-    }
-}
+use mari_market::{Along, Border};
 
 /// Raises the second zone's value to that of the first, and tells whether it was below.
 fn raise(values: &mut [u64], from: u32, to: u32) -> bool

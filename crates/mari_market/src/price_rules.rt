@@ -1,8 +1,8 @@
 //! What orders and borders ask of prices: which order bounds its zone's price, and over which border a price leads on.
 
-ghost use Rattle.std.specs.Prelude.{IsTrue, ◌↔◌};
+ghost use Rattle.std.specs.Prelude.{◌≡◌, IsTrue, ◌↔◌};
 ghost use Rattle.std.specs.List.{All};
-ghost use Rattle.mari_market.specs.Consistent.{HasRoomBack, HasRoomOn, LeadsBy, SetsLower, SetsUpper};
+ghost use Rattle.mari_market.specs.Consistent.{HasRoomBack, HasRoomOn, LeadsBy, SetsLower, SetsUpper, own_standing};
 ghost use Rattle.mari_market.specs.Price.{ArePrices, IsPrice};
 
 use crate::market::{Border, Market, Order, Side};
@@ -17,6 +17,17 @@ pub enum Standing {
 }
 
 impl Order {
+    /// The standing of an order of a feasible activation, where an order of a gate runs exactly where its gate is open.
+    pub fn own_standing(&self, mw: u32) -> Standing
+        ensures { result ≡ own_standing self.now.gate mw }
+    {
+        match self.gate {
+            None => Standing::Plain,
+            Some(_) if mw > 0 => Standing::InOpen,
+            Some(_) => Standing::InClosed,
+        }
+    }
+
     /// Whether the order's price is a lower bound of its zone's price, where it runs so many MW.
     ///
     /// An injection that runs doesn't lose, also an indivisible one, and a withdrawal that could run more would not

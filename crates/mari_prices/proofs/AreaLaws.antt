@@ -8,9 +8,9 @@ use Rattle.mari_market.specs.declared.activation.Activation.{Activation}
 use Rattle.mari_market.specs.Area.{JoinsBy, Joins, InOneArea, AreAreas, area_at}
 use Rattle.mari_market.specs.Area.InOneArea.{itself, further}
 use Rattle.mari_market.specs.Market.{IsValid, IsValidBorder}
-use Rattle.mari_prices.specs.declared.along.Along.TheVariants.{Joined}
+use Rattle.mari_market.specs.declared.along.Along.TheVariants.{Joined}
 use Rattle.mari_prices.specs.declared.spread.SettledZone.{SettledZone}
-use Rattle.mari_prices.specs.Along.{LeadsOver, LeadsTo}
+use Rattle.mari_market.specs.Along.{LeadsOver, LeadsTo}
 use Rattle.mari_prices.specs.Firsts.{ArePlaces, first_in, first_at, AreFirsts, AreNumbered}
 use Rattle.mari_prices.specs.Spread.{entry_at, value_in, IsFirst, IsAfter, SpreadsAlong}
 use Rattle.mari_prices.proofs.Extremes.{entry_within}

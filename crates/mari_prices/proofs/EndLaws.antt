@@ -16,9 +16,9 @@ use Rattle.mari_market.specs.Optimal.{IsFeasible, IsConsistent}
 use Rattle.mari_market.specs.Price.{IsPrice, price_at, cap}
 use Rattle.mari_prices.specs.declared.bounds.End.{End}
 use Rattle.mari_prices.specs.declared.bounds.End.TheVariants.{Least, Greatest}
-use Rattle.mari_prices.specs.declared.along.Along.TheVariants.{Rising, Falling}
+use Rattle.mari_market.specs.declared.along.Along.TheVariants.{Rising, Falling}
 use Rattle.mari_prices.specs.declared.spread.SettledZone.{SettledZone}
-use Rattle.mari_prices.specs.Along.{LeadsTo}
+use Rattle.mari_market.specs.Along.{LeadsTo}
 use Rattle.mari_prices.specs.Ends.{along_of, IsEnd, ArePriced, ArePricesOf, AreTrails, AreUncontradicted, IsContradicted, Follows, IsTrailTo}
 use Rattle.mari_prices.specs.Spread.{entry_at, value_in, IsFirst, IsAfter, IsSpreading}
 use Rattle.mari_prices.proofs.Agree.{KeepsAll, keeps_consistent, consistent_keeps}

@@ -22,9 +22,10 @@ use Rattle.mari_market.specs.Sums.{AnyZip}
 use Rattle.mari_market.proofs.Sums.{AllZip-with, AllZip-both}
 use Rattle.mari_prices.specs.declared.bounds.End.{End}
 use Rattle.mari_prices.specs.declared.bounds.End.TheVariants.{Least, Greatest}
-use Rattle.mari_prices.specs.declared.along.Along.TheVariants.{Rising, Falling}
-use Rattle.mari_prices.specs.Along.{LeadsOver, LeadsTo}
-use Rattle.mari_prices.specs.Tightest.{signed, own_standing, SetsAt, IsBoundBy}
+use Rattle.mari_market.specs.declared.along.Along.TheVariants.{Rising, Falling}
+use Rattle.mari_market.specs.Along.{LeadsOver, LeadsTo}
+use Rattle.mari_prices.specs.Tightest.{signed, SetsAt, IsBoundBy}
+use Rattle.mari_market.specs.Consistent.{own_standing}
 
 pub AnyZip-with : {X Y : Type 0} (P Q R : X → Y → Type 0) → ((x : X) (y : Y) → P x y → Q x y → R x y) → (xs : List X) (ys : List Y) → AllZip P xs ys → AnyZip Q xs ys → AnyZip R xs ys
 AnyZip-with P Q R h [] ys a e = absurd e

@@ -9,7 +9,8 @@ use Rattle.mari_market.specs.Price.{cap}
 use Rattle.mari_market.specs.Sums.{AnyZip}
 use Rattle.mari_prices.specs.declared.bounds.End.{End}
 use Rattle.mari_prices.specs.Spread.{value_in}
-use Rattle.mari_prices.specs.Tightest.{SetsAt, SetsAtEnd, IsBoundBy, IsTightest, IsRaised, own_standing, signed}
+use Rattle.mari_prices.specs.Tightest.{SetsAt, SetsAtEnd, IsBoundBy, IsTightest, IsRaised, signed}
+use Rattle.mari_market.specs.Consistent.{own_standing}
 use Rattle.mari_market.proofs.Sums.{AnyZip_cases, AnyZip_kept, AnyZip_new}
 
 -- no order yet

@@ -5,8 +5,8 @@ use Rattle.mari_market.specs.declared.market.Market.{Market}
 use Rattle.mari_market.specs.declared.activation.Activation.{Activation}
 use Rattle.mari_market.specs.Conflict.{last_of}
 use Rattle.mari_market.specs.Price.{IsPrice, price_at}
-use Rattle.mari_prices.specs.declared.along.Along.{Along}
-use Rattle.mari_prices.specs.declared.along.Along.TheVariants.{Rising, Falling}
+use Rattle.mari_market.specs.declared.along.Along.{Along}
+use Rattle.mari_market.specs.declared.along.Along.TheVariants.{Rising, Falling}
 use Rattle.mari_prices.specs.declared.bounds.End.{End}
 use Rattle.mari_prices.specs.declared.bounds.End.TheVariants.{Least, Greatest}
 use Rattle.mari_prices.specs.declared.spread.SettledZone.{SettledZone}

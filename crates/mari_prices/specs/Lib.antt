@@ -1,4 +1,3 @@
-pub mod Along
 pub mod Spread
 pub mod Tightest
 pub mod Ends

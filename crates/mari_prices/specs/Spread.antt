@@ -2,9 +2,9 @@
 use Rattle.std.specs.Prelude.{◌≡◌, ◌⊎◌, ◌+◌, ℕ, ◌<◌, ◌≤◌, ℤ, pos, ◌≤ℤ◌, List, [], ◌∷◌, Option, Some, None, length, slice_index_or}
 use Rattle.mari_units.specs.declared.limits.TheConstants.{MOST_ZONES}
 use Rattle.mari_market.specs.declared.market.Border.{Border}
-use Rattle.mari_prices.specs.declared.along.Along.{Along}
+use Rattle.mari_market.specs.declared.along.Along.{Along}
 use Rattle.mari_prices.specs.declared.spread.SettledZone.{SettledZone}
-use Rattle.mari_prices.specs.Along.{LeadsOver, LeadsTo}
+use Rattle.mari_market.specs.Along.{LeadsOver, LeadsTo}
 
 -- what is known of a zone
 abbrev pub entry_at : List (Option SettledZone) → ℕ → Option SettledZone

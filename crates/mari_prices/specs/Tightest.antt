@@ -1,9 +1,9 @@
 -- The tightest bound of each zone's price, at the lower end of its interval or, with signs turned, at the upper end.
-use Rattle.std.specs.Prelude.{◌≡◌, ◌⊎◌, ℕ, nat_lt, ℤ, neg_ℤ, ◌≤ℤ◌, List, Option}
+use Rattle.std.specs.Prelude.{◌≡◌, ◌⊎◌, ℕ, ℤ, neg_ℤ, ◌≤ℤ◌, List}
 use Rattle.mari_market.specs.declared.market.Side.{Side}
 use Rattle.mari_market.specs.declared.market.Order.{Order}
 use Rattle.mari_market.specs.declared.price_rules.Standing.{Standing}
-use Rattle.mari_market.specs.Consistent.{standing_of, SetsLower, SetsUpper}
+use Rattle.mari_market.specs.Consistent.{SetsLower, SetsUpper, own_standing}
 use Rattle.mari_market.specs.Price.{cap}
 use Rattle.mari_market.specs.Sums.{AnyZip}
 use Rattle.mari_prices.specs.declared.bounds.End.{End}
@@ -17,10 +17,6 @@ signed Greatest c = neg_ℤ c
 abbrev pub SetsAtEnd : End → Standing → Side → ℕ → ℕ → Type 0
 SetsAtEnd Least s side greatest q = SetsLower s side greatest q
 SetsAtEnd Greatest s side greatest q = SetsUpper s side greatest q
-
--- an order of a gate is of an open one where it runs
-abbrev pub own_standing : Option ℕ → ℕ → Standing
-own_standing gate q = standing_of (λ _. nat_lt 0 q) gate
 
 -- the order is of zone z and sets the bound c
 pub record SetsAt (end : End) (z : ℕ) (c : ℤ) (o : Order) (q : ℕ) : Type 0 where

@@ -4,22 +4,12 @@ ghost use Rattle.std.specs.Prelude.{◌≡◌, ◌<◌, ◌≤◌, ℕ, length, 
 ghost use Rattle.std.specs.List.{All};
 ghost use Rattle.mari_market.specs.Price.{IsPrice};
 ghost use Rattle.mari_prices.specs.Spread.{value_in};
-ghost use Rattle.mari_prices.specs.Tightest.{IsRaised, IsTightest, SetsAtEnd, own_standing, signed};
+ghost use Rattle.mari_prices.specs.Tightest.{IsRaised, IsTightest, SetsAtEnd, signed};
+ghost use Rattle.mari_market.specs.Consistent.{own_standing};
 
-use mari_market::{Order, Standing};
+use mari_market::Order;
 use mari_units::{CAP, Cents};
 use std::alloc::{AllocError, Global};
-
-/// The standing of an order of a feasible activation, where an order of a gate runs exactly where its gate is open.
-fn own_standing(order: &Order, mw: u32) -> Standing
-    ensures { result ≡ own_standing order.now.gate mw }
-{
-    match order.gate {
-        None => Standing::Plain,
-        Some(_) if mw > 0 => Standing::InOpen,
-        Some(_) => Standing::InClosed,
-    }
-}
 
 /// The end of a zone's interval of prices. At the greatest end all values are prices with their signs turned, so that
 /// lower bounds and upper bounds are handled alike.
@@ -45,7 +35,7 @@ impl End {
     fn is_set_by(self, order: &Order, mw: u32) -> bool
         ensures { IsTrue result ↔ SetsAtEnd self (own_standing order.now.gate mw) order.now.side order.now.greatest mw }
     {
-        let standing = own_standing(order, mw);
+        let standing = order.own_standing(mw);
         match self {
             End::Least => order.sets_lower(standing, mw),
             End::Greatest => order.sets_upper(standing, mw),

@@ -10,10 +10,9 @@ ghost use Rattle.mari_prices.specs.Spread.{entry_at};
 ghost use Rattle.mari_prices.specs.Tightest.{signed};
 ghost use Rattle.mari_prices.specs.declared.spread.SettledZone.{SettledZone};
 
-use crate::along::Along;
 use crate::bounds::{End, tightest};
 use crate::spread::{SettledZone, spread};
-use mari_market::{Activation, Market, Prices};
+use mari_market::{Activation, Along, Market, Prices};
 use mari_units::{Cents, Items, MOST_ZONES};
 use std::alloc::{AllocError, Global};
 

@@ -2,7 +2,6 @@
 //! nearest to the reference.
 #![tactic(auto)]
 
-mod along;
 mod bounds;
 mod ends;
 mod intervals;

@@ -6,9 +6,8 @@ ghost use Rattle.mari_market.specs.Market.{IsValid};
 ghost use Rattle.mari_market.specs.Optimal.{IsFeasible};
 ghost use Rattle.mari_prices.specs.Firsts.{AreFirsts, AreNumbered, ArePlaces, first_at, first_in};
 
-use crate::along::Along;
 use crate::spread::{SettledZone, spread};
-use mari_market::{Activation, Market};
+use mari_market::{Activation, Along, Market};
 use mari_units::{MOST_ZONES, Memory};
 use std::alloc::{AllocError, Global};
 

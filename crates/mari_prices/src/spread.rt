@@ -3,11 +3,10 @@
 ghost use Rattle.std.specs.Prelude.{◌≡◌, ◌⊎◌, ◌≤◌, ◌<◌, ◌≤ℤ◌, true, length, Some, IfOk, MatchOption, IfSome};
 ghost use Rattle.std.specs.Option.{IfNone};
 ghost use Rattle.std.specs.List.{All};
-ghost use Rattle.mari_prices.specs.Along.{LeadsTo};
+ghost use Rattle.mari_market.specs.Along.{LeadsTo};
 ghost use Rattle.mari_prices.specs.Spread.{AreShort, IsGreatestBefore, IsLed, IsLedOver, IsNext, IsNotPassed, IsPassed, NoneFreeBefore, NoneLed, NoneOver, SpreadsAlong, value_in};
 
-use crate::along::Along;
-use mari_market::Border;
+use mari_market::{Along, Border};
 use mari_units::MOST_ZONES;
 use std::alloc::{AllocError, Global};
 

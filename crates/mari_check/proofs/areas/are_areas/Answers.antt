@@ -7,8 +7,9 @@ use Rattle.std.proofs.lemmas.List.Elements.{All-from_get_or, All-weaker}
 use Rattle.std.proofs.lemmas.Slice.Zip.{AllZip-long}
 use Rattle.mari_market.specs.declared.market.Border.{Border}
 use Rattle.mari_market.specs.Market.{IsValidBorder}
-use Rattle.mari_check.specs.Spread.{IsAmong, IsSpread, LeadsTo, most_value}
-use Rattle.mari_check.specs.declared.spread.Along.TheVariants.{Joined}
+use Rattle.mari_check.specs.Spread.{IsAmong, IsSpread, most_value}
+use Rattle.mari_market.specs.Along.{LeadsTo}
+use Rattle.mari_market.specs.declared.along.Along.TheVariants.{Joined}
 use Rattle.mari_check.proofs.Labels.{areas-by-labels, labels-by-areas, numbered-areas, place-at}
 use Rattle.mari_check.proofs.areas.are_areas.Goals as goal
 

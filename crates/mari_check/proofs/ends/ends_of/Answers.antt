@@ -1,8 +1,9 @@
 use Rattle.std.proofs.Common.{◌≡◌, sym, subst, List, ℕ}
 use Rattle.std.proofs.lemmas.Slice.Zip.{AllZip-long}
 use Rattle.mari_check.specs.Ends.{ArePricesOf, along_of}
-use Rattle.mari_check.specs.Spread.{AreSmall, IsSpread, LeadsTo}
-use Rattle.mari_check.specs.declared.spread.Along.{Along}
+use Rattle.mari_check.specs.Spread.{AreSmall, IsSpread}
+use Rattle.mari_market.specs.Along.{LeadsTo}
+use Rattle.mari_market.specs.declared.along.Along.{Along}
 use Rattle.mari_check.proofs.Bounds.{tight_small}
 use Rattle.mari_check.proofs.EndPrices.{end-prices}
 use Rattle.mari_check.proofs.Spreads.{spread-small}

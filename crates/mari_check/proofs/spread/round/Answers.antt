@@ -1,6 +1,6 @@
 use Rattle.std.proofs.Common.{FitsSigned, arith, get_or, pos, refl, rules, to_z-of_z, w64}
 use Rattle.mari_market.specs.declared.market.Border.{Border}
-use Rattle.mari_check.specs.Spread.{LeadsTo}
+use Rattle.mari_market.specs.Along.{LeadsTo}
 use Rattle.mari_check.specs.Spread.Spreads.{unchanged}
 use Rattle.mari_check.proofs.Spreads.{going-more, small-spreads}
 use Rattle.mari_check.proofs.spread.round.Goals as goal

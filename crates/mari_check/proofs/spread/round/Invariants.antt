@@ -1,6 +1,7 @@
 use Rattle.std.proofs.Common.{◌≡◌, ◌<◌, true, false, take}
 use Rattle.std.specs.List.{AllZip}
-use Rattle.mari_check.specs.Spread.{IsClosedOver, LeadsTo, Spreads, room_of}
+use Rattle.mari_check.specs.Spread.{IsClosedOver, Spreads, room_of}
+use Rattle.mari_market.specs.Along.{LeadsTo}
 use Rattle.mari_check.proofs.spread.round.Given as goal
 
 -- the values so far, and where none was raised, no border so far leads to a lesser value

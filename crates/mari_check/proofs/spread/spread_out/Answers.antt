@@ -1,4 +1,4 @@
-use Rattle.mari_check.specs.Spread.{LeadsTo}
+use Rattle.mari_market.specs.Along.{LeadsTo}
 use Rattle.mari_check.specs.Spread.Spreads.{unchanged}
 use Rattle.mari_check.proofs.Spreads.{is-spread, small-spreads, spreads-on}
 use Rattle.mari_check.proofs.spread.spread_out.Goals as goal

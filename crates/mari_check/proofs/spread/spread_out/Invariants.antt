@@ -1,4 +1,5 @@
-use Rattle.mari_check.specs.Spread.{LeadsTo, Spreads, room_of}
+use Rattle.mari_check.specs.Spread.{Spreads, room_of}
+use Rattle.mari_market.specs.Along.{LeadsTo}
 use Rattle.mari_check.proofs.spread.spread_out.Given as goal
 
 abbrev pub invariant-rounds : goal.invariant-rounds

@@ -3,9 +3,9 @@ use Rattle.std.specs.List.{All}
 use Rattle.mari_market.specs.Conflict.{IsContradiction}
 use Rattle.mari_market.specs.Price.{IsPrice}
 use Rattle.mari_prices.specs.declared.bounds.End.TheVariants.{Least, Greatest}
-use Rattle.mari_prices.specs.declared.along.Along.TheVariants.{Rising}
+use Rattle.mari_market.specs.declared.along.Along.TheVariants.{Rising}
 use Rattle.mari_prices.specs.declared.spread.SettledZone.{SettledZone}
-use Rattle.mari_prices.specs.Along.{LeadsTo}
+use Rattle.mari_market.specs.Along.{LeadsTo}
 use Rattle.mari_prices.specs.Ends.{IsEnd, ArePriced, ArePricesOf, AreTrails, AreUncontradicted, IsContradicted, IsTrailTo}
 use Rattle.mari_prices.specs.Spread.{value_in}
 use Rattle.mari_prices.proofs.Agree.{keeps_consistent}

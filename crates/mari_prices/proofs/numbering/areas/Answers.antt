@@ -3,7 +3,7 @@ use Rattle.std.proofs.lemmas.Slice.Zip.{AllZip-long}
 use Rattle.mari_market.specs.declared.market.Border.{Border}
 use Rattle.mari_market.specs.declared.market.Market.{Market}
 use Rattle.mari_market.specs.declared.activation.Activation.{Activation}
-use Rattle.mari_prices.specs.declared.along.Along.TheVariants.{Joined}
+use Rattle.mari_market.specs.declared.along.Along.TheVariants.{Joined}
 use Rattle.mari_prices.specs.declared.spread.SettledZone.{SettledZone}
 use Rattle.mari_prices.specs.Firsts.{AreFirsts, AreNumbered, ArePlaces, first_at}
 use Rattle.mari_prices.specs.Spread.{SpreadsAlong}

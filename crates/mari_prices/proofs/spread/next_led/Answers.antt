@@ -1,7 +1,7 @@
 use Rattle.std.proofs.Common.{arith, ℤ, pos, get_or, to_z-of_z, to_z, of_z, FitsSigned, w64, rules, ◌≡◌, subst}
 use Rattle.mari_market.specs.declared.market.Border.{Border}
 use Rattle.mari_market.proofs.Sums.{AnyZip-meets, AnyZip-at}
-use Rattle.mari_prices.specs.Along.{LeadsOver}
+use Rattle.mari_market.specs.Along.{LeadsOver}
 use Rattle.mari_prices.specs.Spread.{NoneOver, IsLedOver}
 use Rattle.mari_welfare.proofs.Lists.{AllZip_more}
 use Rattle.mari_prices.proofs.Lists.{AllZip_all}

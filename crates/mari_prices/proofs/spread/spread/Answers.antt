@@ -1,6 +1,6 @@
 use Rattle.std.proofs.Common.{arith, length, List, Option, length-set, Some, subst}
 use Rattle.mari_prices.specs.declared.spread.SettledZone.{SettledZone}
-use Rattle.mari_prices.specs.Along.{LeadsTo}
+use Rattle.mari_market.specs.Along.{LeadsTo}
 use Rattle.mari_prices.specs.Spread.{IsNext, value_in, IsFree, NoneFreeBefore}
 use Rattle.mari_prices.proofs.Steps.{settle_next, next_free, free_zones-set, all_settled}
 use Rattle.mari_prices.proofs.spread.spread.Goals as goal

@@ -1,5 +1,5 @@
 use Rattle.std.proofs.Common.{◌≡◌, length}
-use Rattle.mari_prices.specs.Along.{LeadsTo}
+use Rattle.mari_market.specs.Along.{LeadsTo}
 use Rattle.mari_prices.specs.Spread.{IsSpreading, value_in, free_zones}
 use Rattle.mari_prices.proofs.spread.spread.Given as goal
 

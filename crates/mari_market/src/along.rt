@@ -2,14 +2,14 @@
 
 ghost use Rattle.std.specs.Prelude.{IsTrue, ◌↔◌};
 ghost use Rattle.mari_market.specs.Area.{IsUncongested};
-ghost use Rattle.mari_prices.specs.Along.{LeadsBack, LeadsOn};
+ghost use Rattle.mari_market.specs.Along.{LeadsBack, LeadsOn};
 
-use mari_market::Border;
+use crate::market::Border;
 
 /// Lower bounds spread to where prices are at least as high, upper bounds to where they are at least as low, and an
 /// area over its uncongested borders.
 #[derive(Clone, Copy, Debug, Drop, PartialEq, Eq)]
-pub(crate) enum Along {
+pub enum Along {
     Rising,
     Falling,
     Joined,
@@ -23,7 +23,7 @@ fn is_uncongested(border: &Border, flow: i64) -> bool
 
 impl Along {
     /// Whether the border leads from its first zone to its second.
-    pub(crate) fn leads_on(self, border: &Border, flow: i64) -> bool
+    pub fn leads_on(self, border: &Border, flow: i64) -> bool
         ensures { IsTrue result ↔ LeadsOn self border.now flow }
     {
         match self {
@@ -34,7 +34,7 @@ impl Along {
     }
 
     /// Whether the border leads from its second zone to its first.
-    pub(crate) fn leads_back(self, border: &Border, flow: i64) -> bool
+    pub fn leads_back(self, border: &Border, flow: i64) -> bool
         ensures { IsTrue result ↔ LeadsBack self border.now flow }
     {
         match self {

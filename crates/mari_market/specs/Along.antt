@@ -4,8 +4,8 @@ use Rattle.mari_market.specs.declared.market.Border.{Border}
 use Rattle.mari_market.specs.Area.{IsUncongested}
 use Rattle.mari_market.specs.Consistent.{HasRoomOn, HasRoomBack}
 use Rattle.mari_market.specs.Sums.{AnyZip}
-use Rattle.mari_prices.specs.declared.along.Along.{Along}
-use Rattle.mari_prices.specs.declared.along.Along.TheVariants.{Rising, Falling, Joined}
+use Rattle.mari_market.specs.declared.along.Along.{Along}
+use Rattle.mari_market.specs.declared.along.Along.TheVariants.{Rising, Falling, Joined}
 
 -- whether the border leads from its first zone to its second: lower bounds go where prices are at least as high, upper
 -- bounds where they are at least as low, and areas over uncongested borders

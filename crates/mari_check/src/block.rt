@@ -236,9 +236,9 @@ pub(crate) fn examine(
 /// The number of the least fault of a published block, or none exactly where it has none: of its heading, its lines,
 /// its activation, its welfare, its prices, intervals and areas, its tree and its ledger.
 ///
-/// The market is the one that is made of this run behind the blocks before. A direct run whose quarter has a published
-/// scheduled block is checked with the prices of that block; for any other run there are none. The number of the
-/// tree's items isn't tested here.
+/// The caller gives the market, which is that of this run behind any blocks of the first runs, and the scheduled
+/// prices, which may be any prices of that market or none. The check of a publication takes both from the blocks
+/// before the run's. The number of the tree's items isn't tested here.
 pub fn check_run(
     alloc: Global,
     books: &Books,

@@ -19,7 +19,8 @@ use std::alloc::Global;
 
 /// A publication is valid, with so many published runs and so many that aren't; or the first run that has a fault, and
 /// the number of its least one. Run 0 is told where the first line isn't that of the books, the first run without a
-/// block where one is missing, and the last run where the totals are other sums.
+/// block where one is missing, the number behind the last run where there is a block too many, and the last run, or 0
+/// where there is none, where the totals are other sums.
 #[derive(Clone, Copy, Debug, Drop, PartialEq, Eq)]
 pub enum Verdict {
     Valid { published: u32, unpublished: u32 },

@@ -44,7 +44,7 @@ pub record WroteFirst (books : Books) (budget count : ℕ) (kept : Progress) (be
   pub counted : length blocks ≡ count
   pub taken : after ≡ then_took before (part_text books budget blocks)
 
--- what was written of a day that ended before its totals
+-- what was written of a day whose writing stopped before its end
 abbrev pub Stopped : Books → (budget : ℕ) → (before after : Option (List ℕ)) → Stop → Type 0
 Stopped books budget before after Sink = WrotePrefix books budget before after
 Stopped books budget before after NoMemory = (after ≡ before) ⊎ WrotePart books budget before after

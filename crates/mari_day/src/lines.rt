@@ -141,7 +141,7 @@ pub fn demand_mws(alloc: Global, mw: &[u32], bids: usize) -> Result<Vec<u32>, Me
     Ok(mw.iter().skip(bids).copied().collect(alloc)?)
 }
 
-/// A line for each operator, by the lines of the run's ledger.
+/// A line for each operator, by the lines of a ledger.
 pub fn money_lines(
     alloc: Global,
     operators: &NameIndex,
@@ -166,7 +166,7 @@ pub fn money_lines(
     Ok(money)
 }
 
-/// A line for each of these providers, by the amounts of the run's ledger.
+/// A line for each of these providers, by the amounts of a ledger.
 pub fn amount_lines(
     alloc: Global,
     providers: &NameIndex,

@@ -214,7 +214,8 @@ fn books_of(alloc: Global, folder: &Folder) -> Result<Books, BooksFault>
 pub fn read_books<S: Shelf>(alloc: Global, shelf: &mut S, folder: &str) -> Result<Books, BooksFault>
     ensures same { S.pages shelf.new ≡ S.pages shelf.old }
 
-    // As many fetches are counted as the folder has files, up to the first whose page can't be had.
+    // As many fetches are counted as the folder has files, up to the first whose page can't be had; after want of
+    // memory at most so many.
     ensures fetched { FetchesFiles (S.pages shelf.old) folder.now (S.fetches shelf.old) (S.fetches shelf.new) result }
 
     // What was read.

@@ -23,7 +23,7 @@ use mari_remain::Books;
 use mari_units::Memory;
 use std::alloc::Global;
 
-/// Why a day ends before its totals: a write failed, or there was no memory.
+/// Why the writing of a day stops before its end: a write failed, or there was no memory.
 #[derive(Clone, Copy, Debug, PartialEq, Eq)]
 pub enum Stop {
     Sink,

@@ -1,8 +1,9 @@
 //! Clearing a market by branch and bound.
 //!
-//! It stands on the findings of `mari_node` and on the search machine of `mari_core`. `search_alone` carries the
-//! promise: the first activation with a certificate tree within the budget, or a part of the search tree that the
-//! budget can't extend.
+//! It stands on the findings of `mari_node`, on the search machine of `mari_core`, on the queue and the pool of
+//! `mari_pool`, and on the incumbent of `mari_incumbent`. `search_alone`, on one thread, and `search`, by several
+//! workers and if each of them ends, carry the promise: the first activation with a certificate tree within the
+//! budget, or a part of the search tree that the budget can't extend.
 #![tactic(auto)]
 
 mod alone;

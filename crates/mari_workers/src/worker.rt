@@ -27,7 +27,7 @@ pub struct Worked {
     pub best: Option<Attained>,
 }
 
-/// Offers an activation, and keeps a copy where it is better than all that was offered by this seat.
+/// Offers an activation and keeps a copy of it, where it is better than all that this seat has offered.
 fn offer(
     market: &Market,
     incumbent: &Incumbent,

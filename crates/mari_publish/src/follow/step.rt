@@ -53,8 +53,8 @@ pub fn empty<T>(alloc: Global) -> Items<T>
     Items::of(Vec::new(alloc))
 }
 
-/// Holds this from now on, with the same counts. No other function stores what is held, so that the letting go of what
-/// stood there is proved once.
+/// Holds this from now on, with the same counts. No other function stores what is held but `follow`, which takes out
+/// what stood there, so that the letting go of it is proved once.
 pub fn hold(kept: &mut Kept, held: Held)
     ensures { kept.new ≡ kept_with kept.old held }
 {

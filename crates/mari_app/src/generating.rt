@@ -1,6 +1,6 @@
 //! `generate NUMBER`: a generated day, cleared in memory, and its summary.
 
-ghost use Rattle.std.specs.Prelude.{◌≡◌, ◌<◌, ◌≤◌, ◌^◌, IfOk, Some};
+ghost use Rattle.std.specs.Prelude.{◌≡◌, ◌≤◌, IfOk, Some};
 ghost use lib.Chars.{codes};
 ghost use Rattle.mari_io.specs.declared.shelf.Fetch.TheVariants as fetch;
 ghost use Rattle.mari_market.specs.Clearing.{Clears, IsBudget};
@@ -23,7 +23,7 @@ use mari_market::{Cleared, Market};
 use mari_publish::read_text;
 use mari_remain::Books;
 use mari_scenario::scenario_pages;
-use mari_units::{Items, Memory};
+use mari_units::{Items, LAST_NUMBER, Memory};
 use mari_words::{USUAL_NODES, USUAL_WORKERS};
 use mari_workers::{Crew, Turnstile, search};
 use std::alloc::Global;
@@ -32,7 +32,7 @@ use std::thread::Threads;
 
 /// The books of a generated day. Its pages are held and accepted, so that only want of memory stands in the way.
 fn generated_books(alloc: Global, number: u32) -> Result<Books, Memory>
-    requires { number < 2 ^ 31 }
+    requires { number ≤ LAST_NUMBER }
     ensures pages { IfOk result (λ books. AreAccepted (scenario_at number)) }
     ensures gives { IfOk result (HasBooks (scenario_at number) (codes "s")) }
     ensures accepted { IfOk result IsAccepted }
@@ -77,7 +77,7 @@ fn summary<G: Turnstile, R: Threads + Wait + Sync>(
     number: u32,
     turnstile: &G,
 ) -> Result<Vec<u8>, Memory>
-    requires { number < 2 ^ 31 }
+    requires { number ≤ LAST_NUMBER }
     ensures { IfOk result (λ text. IsGenerated number text.items) }
 {
     let books = generated_books(alloc, number)?;
@@ -95,7 +95,7 @@ pub fn generated<G: Turnstile, R: Threads + Wait + Sync>(
     number: u32,
     turnstile: &G,
 ) -> Outcome
-    requires { number < 2 ^ 31 }
+    requires { number ≤ LAST_NUMBER }
     ensures { IsSummarised number result }
 {
     match summary(rt, alloc, number, turnstile) {

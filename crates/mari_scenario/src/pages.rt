@@ -1,6 +1,6 @@
 //! The pages of a number.
 
-ghost use Rattle.std.specs.Prelude.{◌≡◌, ◌++◌, ◌≤◌, ◌<◌, ◌^◌, IfOk, OnOk, codes, length};
+ghost use Rattle.std.specs.Prelude.{◌≡◌, ◌++◌, ◌≤◌, IfOk, OnOk, codes, length};
 ghost use Rattle.std.specs.List.{All};
 ghost use Rattle.mari_io.specs.Memory.{pages_of};
 ghost use Rattle.mari_scenario.specs.Accepted.{AreAccepted, IsShort};
@@ -11,7 +11,7 @@ use crate::lines::{
     put_bid_line, put_border_line, put_demand_line, put_link_lines, put_run_line, put_zone_line,
 };
 use mari_io::{Name64, Page};
-use mari_units::{Items, Memory};
+use mari_units::{Items, LAST_NUMBER, Memory};
 use std::alloc::Global;
 
 /// A text that begins with these bytes.
@@ -143,7 +143,7 @@ fn drawn_pages(alloc: Global, number: u32) -> Result<Vec<Page>, Memory>
 /// The day is 12 March 2025 in UTC, of 96 quarter hours. It has eight zones, ten borders, 960 bids, 24 runs and 192
 /// demands; the number alone decides what is drawn.
 pub fn scenario_pages(alloc: Global, number: u32) -> Result<Vec<Page>, Memory>
-    requires { number < 2 ^ 31 }
+    requires { number ≤ LAST_NUMBER }
     ensures pages { IfOk result (λ pages. pages_of pages.items ≡ scenario_at number) }
     ensures short { IfOk result (λ pages. All IsShort (pages_of pages.items)) }
     ensures accepted { IfOk result (λ pages. AreAccepted (pages_of pages.items)) }

@@ -18,8 +18,8 @@ pub use appending::{put, put_number};
 pub use faults::{Memory, NameFault, NumberFault, Refusal};
 pub use items::Items;
 pub use limits::{
-    MOST_BID_MW, MOST_BIDS, MOST_BORDERS, MOST_DEMANDS, MOST_FLOW, MOST_GATES, MOST_MW, MOST_NAME,
-    MOST_NODES, MOST_PAGE, MOST_QUARTERS, MOST_RUNS, MOST_WORKERS, MOST_ZONES,
+    LAST_NUMBER, MOST_BID_MW, MOST_BIDS, MOST_BORDERS, MOST_DEMANDS, MOST_FLOW, MOST_GATES,
+    MOST_MW, MOST_NAME, MOST_NODES, MOST_PAGE, MOST_QUARTERS, MOST_RUNS, MOST_WORKERS, MOST_ZONES,
 };
 pub use name::{Name, is_name_text, read_name};
 pub use numbers::{CAP, Cents, Mw, Quarters};

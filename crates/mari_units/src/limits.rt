@@ -1,4 +1,5 @@
-//! The limits of the market files, of a run's market and of its search: this project's profile.
+//! The limits of the market files, of a run's market and of its search, and of the numbers of generated days: this
+//! project's profile.
 
 /// The most bidding zones of a day.
 pub const MOST_ZONES: usize = 64;
@@ -43,3 +44,6 @@ pub const MOST_NODES: u32 = 50_000;
 
 /// The most workers that search a run at once, one thread each.
 pub const MOST_WORKERS: u32 = 16;
+
+/// The last number of a generated day.
+pub const LAST_NUMBER: u32 = 2_147_483_647;

@@ -8,8 +8,8 @@ use Rattle.mari_words.specs.declared.command.FilePart.{FilePart}
 use Rattle.mari_words.specs.declared.command.FilePart.TheVariants.{Borders, Limits}
 use Rattle.mari_words.specs.declared.command.WordsFault.{WordsFault}
 use Rattle.mari_words.specs.declared.command.WordsFault.TheVariants.{Usage, Memory}
-use Rattle.mari_units.specs.declared.limits.TheConstants.{MOST_NODES, MOST_WORKERS}
-use Rattle.mari_words.specs.declared.command.TheConstants.{LAST_NUMBER, USUAL_NODES, USUAL_WORKERS}
+use Rattle.mari_units.specs.declared.limits.TheConstants.{LAST_NUMBER, MOST_NODES, MOST_WORKERS}
+use Rattle.mari_words.specs.declared.command.TheConstants.{USUAL_NODES, USUAL_WORKERS}
 use Rattle.mari_words.specs.Asked.{Asked, asked}
 use Rattle.mari_words.specs.Asked.Asked.{Clear, Check, Generate, Migrate}
 use Rattle.mari_words.specs.Seen.{Form, Seen, Text, nothing, seen_from, whole}

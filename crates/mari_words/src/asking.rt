@@ -8,9 +8,9 @@ ghost use Rattle.mari_words.specs.Words.{asked_for, folder_in, number_in, number
 ghost use Rattle.mari_words.specs.Words.Verb.{Clears, Checks, Generates, Migrates};
 ghost use Rattle.mari_words.specs.Given.{asked_by, given_of};
 
-use crate::command::{FilePart, LAST_NUMBER, USUAL_NODES, USUAL_WORKERS};
+use crate::command::{FilePart, USUAL_NODES, USUAL_WORKERS};
 use clap::ArgMatches;
-use mari_units::{MOST_NODES, MOST_WORKERS, read_mw};
+use mari_units::{LAST_NUMBER, MOST_NODES, MOST_WORKERS, read_mw};
 
 /// What words ask for.
 #[derive(Clone, Copy, Debug)]

@@ -19,9 +19,6 @@ pub const USUAL_NODES: u32 = 10_000;
 /// How many workers search a run where the words don't say.
 pub const USUAL_WORKERS: u32 = 2;
 
-/// The last number of a generated day.
-pub const LAST_NUMBER: u32 = 2_147_483_647;
-
 /// The file of a folder whose new form is asked for.
 #[derive(Clone, Copy, Debug, PartialEq, Eq)]
 pub enum FilePart {

@@ -8,6 +8,5 @@ mod asking;
 mod command;
 mod parser;
 
-pub use command::{
-    Command, FilePart, LAST_NUMBER, USUAL_NODES, USUAL_WORKERS, WordsFault, read_words,
-};
+pub use command::{Command, FilePart, USUAL_NODES, USUAL_WORKERS, WordsFault, read_words};
+pub use mari_units::LAST_NUMBER;

@@ -1,7 +1,6 @@
 //! Reading a line.
 
-ghost use Rattle.std.specs.Prelude.{◌≡◌, ◌↔◌, ◌∷◌, [], IsTrue};
-ghost use Rattle.mari_market.specs.Cut.{IsRising};
+ghost use Rattle.std.specs.Prelude.{◌≡◌, ◌∷◌, []};
 ghost use Rattle.mari_lines.specs.Ranges.{InRange, IsMoneyLine, IsAmountLine};
 ghost use Rattle.mari_lines.specs.Spelling.{fields, money_fields, amount_fields, spelling, keyword_of as keyword_of_line};
 ghost use Rattle.mari_lines.specs.Reading.{Reads};
@@ -18,7 +17,7 @@ use crate::fault::FormFault;
 use crate::line::{AmountLine, BidLine, BorderLine, Heading, Keyword, Line, MoneyLine, ZoneLine};
 use keyword::keyword_of;
 use lists::{read_flows, read_mws, read_prices, read_zones};
-use mari_market::Cut;
+use mari_market::{Cut, are_rising};
 use mari_units::{MOST_DEMANDS, MOST_MW, MOST_NODES, MOST_QUARTERS, MOST_RUNS, MOST_ZONES, Name};
 pub use separator::split_once;
 use std::alloc::Global;
@@ -156,27 +155,13 @@ fn read_provider(alloc: Global, words: &mut Words<'_>) -> Result<AmountLine, For
     Ok(AmountLine { name, amount })
 }
 
-/// Whether zone numbers are below `MOST_ZONES` and rise strictly.
-fn are_rising(zones: &[u32]) -> bool
-    ensures { IsTrue result ↔ IsRising 0 MOST_ZONES zones.now }
-{
-    let mut least = 0;
-    for zone in zones {
-        if *zone < least || *zone >= MOST_ZONES as u32 {
-            return false;
-        }
-        least = *zone + 1;
-    }
-    true
-}
-
 /// A cut's side and its zones.
 fn read_cut(alloc: Global, words: &mut Words<'_>) -> Result<Cut, FormFault>
     ensures { Reads (λ x. InRange (line.Cut x)) (λ x. fields (line.Cut x)) words.old result }
 {
     let side = words.side()?;
     let zones = read_zones(alloc, words)?;
-    if !are_rising(zones.as_slice()) {
+    if !are_rising(zones.as_slice(), MOST_ZONES as u32) {
         return Err(FormFault::Formless);
     }
     Ok(Cut { side, zones })

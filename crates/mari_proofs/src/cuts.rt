@@ -3,7 +3,7 @@
 ghost use Rattle.std.specs.Prelude.{◌≡◌, ◌↔◌, ℕ, ℤ, pos, ◌+ℤ◌, ◌≤ℤ◌, neg_ℤ, ◌≤◌, ◌<◌, length, IsTrue, IfSome};
 ghost use Rattle.std.specs.List.{All};
 ghost use Rattle.mari_market.specs.Bounds.{span_in};
-ghost use Rattle.mari_market.specs.Cut.{is_in, IsRising, IsCut, CannotBalance};
+ghost use Rattle.mari_market.specs.Cut.{is_in, IsCut, CannotBalance};
 ghost use Rattle.mari_market.specs.Market.{IsValid, IsValidOrder, IsValidBorder};
 ghost use Rattle.mari_market.specs.Prefix.{bounds_at, IsFeasiblePrefix};
 ghost use Rattle.mari_market.specs.Sums.{int_sum};
@@ -11,22 +11,8 @@ ghost use Rattle.mari_gates.specs.GateTable.{state_in};
 ghost use Rattle.mari_proofs.specs.NetInjections.{net_put, put_of, carried_of, Exceeds};
 
 use mari_gates::{GateStates, states_at};
-use mari_market::{Border, Cut, CutSide, MOST_ORDERS, Market, Order, Prefix, Side};
+use mari_market::{Border, Cut, CutSide, MOST_ORDERS, Market, Order, Prefix, Side, are_rising};
 use mari_units::{MOST_BORDERS, MOST_GATES, MOST_MW, MOST_ZONES};
-
-/// Whether zone numbers rise strictly and are all there.
-fn are_rising(zones: &[u32], count: u32) -> bool
-    ensures { IsTrue result ↔ IsRising 0 count zones.now }
-{
-    let mut least = 0;
-    for zone in zones {
-        if *zone < least || *zone >= count {
-            return false;
-        }
-        least = *zone + 1;
-    }
-    true
-}
 
 /// Whether the zone is one of the set.
 fn is_in(zones: &[u32], zone: u32) -> bool

@@ -24,7 +24,7 @@ use Rattle.mari_core.specs.Growth.Entry.{Take, Close, Branch, Full, GiveBack}
 use Rattle.mari_core.specs.Machine.{Machine, started, new_actor, seeing, offering, by_actor, greatest, seen_by, after, IsProper, KeepsFacts, IsActor, IsBest, best_or, best_of}
 use Rattle.mari_market.specs.declared.clearing.Clearing.{Clearing}
 use Rattle.mari_market.specs.Activation.{welfare_of}
-use Rattle.mari_market.specs.Clearing.{IsOptimalClearing}
+use Rattle.mari_market.specs.Clearing.{IsBudget, IsOptimalClearing}
 use Rattle.mari_market.specs.Optimal.{IsAdmissible}
 use Rattle.mari_market.specs.Tree.{TreeHolds}
 use Rattle.mari_market.proofs.Search.{optimal_by_tree}
@@ -203,7 +203,7 @@ length_replicated : (n : ℕ) (a : Actor) → length (replicate n a) ≡ n
 length_replicated zero a = refl
 length_replicated (suc n) a = ap suc (length_replicated n a)
 
-pub start_keeps : (m : Market) (n budget : ℕ) (first : Attained) → IsValid m → 1 ≤ n → IsAttained m first → IsClosedWelfare m (pos first.welfare) → (1 ≤ budget) × (budget ≤ 50000) → KeepsFacts (started m n first budget)
+pub start_keeps : (m : Market) (n budget : ℕ) (first : Attained) → IsValid m → 1 ≤ n → IsAttained m first → IsClosedWelfare m (pos first.welfare) → IsBudget budget → KeepsFacts (started m n first budget)
 start_keeps m n budget first v l a c b = record {
   tree = seed_grows m budget v b;
   cutoffs = All-cons (λ (x : TreeNode). IsCutAt first.welfare x.state) (new_node []) [] tt (All-nil (λ (x : TreeNode). IsCutAt first.welfare x.state));

@@ -6,6 +6,7 @@ use Rattle.std.proofs.lemmas.Bool.Decides.{nat_tests}
 use Rattle.std.proofs.lemmas.List.{get_or-take, length-map, length-take-le}
 use Rattle.std.proofs.lemmas.List.Elements.{All-cons, All-nil}
 use Rattle.mari_market.specs.declared.market.Market.{Market}
+use Rattle.mari_market.specs.Clearing.{IsBudget}
 use Rattle.mari_market.specs.Market.{IsValid}
 use Rattle.mari_market.specs.Prefix.{children}
 use Rattle.mari_market.specs.SearchTree.{IsNode, AreNodes, IsLarger}
@@ -28,7 +29,7 @@ one_counted zero = refl
 one_counted (suc z) = grind (arith, nat_tests)
 
 -- the empty word alone is a growth
-pub seed_grows : (m : Market) (budget : ℕ) → IsValid m → (1 ≤ budget) × (budget ≤ 50000) → IsGrowth (seed m budget)
+pub seed_grows : (m : Market) (budget : ℕ) → IsValid m → IsBudget budget → IsGrowth (seed m budget)
 seed_grows m budget v b = record {
   valid = v;
   budget_is = b;
@@ -50,7 +51,7 @@ pub seed_waits : IsNext (new_node [] ∷ []) 0
 seed_waits = record { within = omega arith; none_before = λ y l. absurd (omega arith); waits = λ l. refl }
 
 -- the growth of one node, however its word is written
-pub seed_by : (m : Market) (budget : ℕ) (word : List Bool) → word ≡ [] → IsValid m → (1 ≤ budget) × (budget ≤ 50000) → IsGrowth (record { market = m; budget = budget; nodes = new_node word ∷ []; full = false }) × IsNext (new_node word ∷ []) 0
+pub seed_by : (m : Market) (budget : ℕ) (word : List Bool) → word ≡ [] → IsValid m → IsBudget budget → IsGrowth (record { market = m; budget = budget; nodes = new_node word ∷ []; full = false }) × IsNext (new_node word ∷ []) 0
 seed_by m budget word e v b = subst (λ (w : List Bool). IsGrowth (record { market = m; budget = budget; nodes = new_node w ∷ []; full = false }) × IsNext (new_node w ∷ []) 0) (sym e) (seed_grows m budget v b, seed_waits)
 
 -- ---- a search tree that is larger than the budget

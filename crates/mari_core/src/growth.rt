@@ -77,8 +77,9 @@ fn set_state(nodes: &mut Vec<Node>, node: u32, state: NodeState)
     at.set_state(state);
 }
 
-/// The certificate by which a finding closes its node at a cutoff, if it does.
-fn closing_leaf(finding: Finding, cutoff: u64) -> Option<Leaf>
+/// The certificate by which a finding closes its node at a cutoff, if it does: the cut of a finding that is empty, its
+/// conflict, or its potentials where their bound is at most the cutoff.
+pub fn closing_leaf(finding: Finding, cutoff: u64) -> Option<Leaf>
     ensures { result ≡ closing_leaf cutoff finding }
 {
     match finding {

@@ -15,7 +15,7 @@ mod preorder;
 mod search;
 
 pub use event::{Event, FinishFault, ReplayFault, StepFault};
-pub use growth::Growth;
+pub use growth::{Growth, closing_leaf};
 pub use history::replay;
 pub use journal::JournalEntry;
 pub use laws::facts_are_kept;

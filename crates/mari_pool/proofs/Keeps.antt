@@ -147,7 +147,7 @@ answer_full g (GiveBack k x) a b c e = absurd (cc)
 
 -- ---- the start
 
-pub start_keeps : (m n : Market) (b budget w workers : ℕ) (incumbent : IncumbentId) (t : Grown) (ks : List ℕ) (j : List JournalEntry) (room : ℕ) (turns : List ℕ) (returned : List Bool) (seat : Standing) → m ≡ n → b ≡ budget → w ≡ workers → IsValid m → (1 ≤ b) × (b ≤ 50000) → seat.incumbent ≡ incumbent → seat.parts ≡ 1 → seat.offered ≡ incumbent.first → IsClosedWelfare m (pos incumbent.first) → t ≡ seed m b → ks ≡ first_key ∷ [] → j ≡ [] → 2 * b + 2 * w + 2 ≤ room → turns ≡ replicate b 0 → returned ≡ replicate (w + 1) false → IsPool n budget workers incumbent (pool_of t ks j room turns returned seat)
+pub start_keeps : (m n : Market) (b budget w workers : ℕ) (incumbent : IncumbentId) (t : Grown) (ks : List ℕ) (j : List JournalEntry) (room : ℕ) (turns : List ℕ) (returned : List Bool) (seat : Standing) → m ≡ n → b ≡ budget → w ≡ workers → IsValid m → IsBudget b → seat.incumbent ≡ incumbent → seat.parts ≡ 1 → seat.offered ≡ incumbent.first → IsClosedWelfare m (pos incumbent.first) → t ≡ seed m b → ks ≡ first_key ∷ [] → j ≡ [] → 2 * b + 2 * w + 2 ≤ room → turns ≡ replicate b 0 → returned ≡ replicate (w + 1) false → IsPool n budget workers incumbent (pool_of t ks j room turns returned seat)
 start_keeps m n b budget w workers incumbent t ks j room turns returned seat em eb ew valid few sw sp so closed et ek ej er eturns ereturned =
     subst (λ (k : Market). IsPool k budget workers incumbent (pool_of t ks j room turns returned seat)) em (rw (et, ek, ej, eturns, ereturned) (record {
       market_is = refl;

@@ -6,7 +6,7 @@ ghost use Rattle.mari_core.specs.Growth.{settling, IsGrowth, MaySettle};
 ghost use Rattle.mari_core.specs.Growth.Entry.{GiveBack};
 ghost use Rattle.mari_core.specs.Nodes.{new_node, state_at};
 ghost use Rattle.mari_core.specs.Preorder.{IsPart, IsTree, shape_of};
-ghost use Rattle.mari_market.specs.Clearing.{IsSpent, ArePartsOfSearch, IsBudget};
+ghost use Rattle.mari_market.specs.Clearing.{IsSpent, ArePartsOfSearch, IsBudget, IsWorkerCount};
 ghost use Rattle.mari_market.specs.Market.{IsValid};
 ghost use Rattle.mari_market.specs.Prefix.{word_of};
 ghost use Rattle.mari_market.specs.Relaxation.{IsClosedWelfare};
@@ -21,7 +21,7 @@ use crate::ticket::{Settled, Ticket, Took};
 use mari_core::{FinishFault, Growth, JournalEntry};
 use mari_incumbent::{Incumbent, Seat};
 use mari_market::{Finding, Market, PartItem, TreeItem};
-use mari_units::{MOST_WORKERS, Memory};
+use mari_units::Memory;
 use std::alloc::Global;
 use std::marker::{Model, PhantomData};
 
@@ -77,7 +77,7 @@ impl<'m, N: SearchName> Pool<'m, N> {
         requires name { (market.now ≡ N.market) × (budget ≡ N.budget) × (workers ≡ N.workers) }
         requires market { IsValid market.now }
         requires budget { IsBudget budget }
-        requires workers { (1 ≤ workers) × (workers ≤ MOST_WORKERS) }
+        requires workers { IsWorkerCount workers }
 
         // The pool's own seat, by which nothing was offered.
         requires seat { (seat.incumbent ≡ N.incumbent) × (seat.parts ≡ 1) × (seat.offered ≡ N.incumbent.first) }

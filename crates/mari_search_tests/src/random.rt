@@ -1,6 +1,7 @@
 //! Random small markets, cleared by one worker and by several.
 
 ghost use Rattle.std.specs.Prelude.{◌<◌, ◌≤◌};
+ghost use Rattle.mari_market.specs.Clearing.{IsWorkerCount};
 
 use crate::searches::{alone, by_crew};
 use crate::small::opened;
@@ -168,7 +169,7 @@ fn told_by<R: Threads + Wait + Sync>(
     workers: u32,
     yielding: &Yielding,
 ) -> Result<Told, Fail>
-    requires { (1 ≤ workers) × (workers ≤ 16) }
+    requires { IsWorkerCount workers }
 {
     let cleared = by_crew(rt, alloc, market, workers, 10_000, yielding)?;
     Ok(told_once(market, cleared))

@@ -1,7 +1,7 @@
 //! What searches of small markets come to, on one thread and by several workers.
 
-ghost use Rattle.std.specs.Prelude.{◌≡◌, ◌≤◌};
-ghost use Rattle.mari_market.specs.Clearing.{Clears};
+ghost use Rattle.std.specs.Prelude.{◌≡◌};
+ghost use Rattle.mari_market.specs.Clearing.{Clears, IsBudget, IsWorkerCount};
 ghost use Rattle.mari_market.specs.Market.{IsValid};
 
 use crate::small::{DOWN, Few, MarketRow, OVERSIZED, PARADOX, UP, few, market_of};
@@ -128,11 +128,11 @@ pub(crate) fn by_crew<G: Turnstile, R: Threads + Wait + Sync>(
     budget: u32,
     turnstile: &G,
 ) -> Result<Cleared, Fail>
-    requires { (1 ≤ workers) × (workers ≤ 16) }
+    requires { IsWorkerCount workers }
 {
     let mut crew = Crew {
         run: |alloc: Global, market: &Market, budget: u32| -> Cleared
-            requires { IsValid market.now × (1 ≤ budget) × (budget ≤ 50000) × (1 ≤ workers) × (workers ≤ 16) }
+            requires { IsValid market.now × IsBudget budget × IsWorkerCount workers }
             ensures { Clears market.entry.now budget result }
         { search(rt, alloc, market, workers, budget, turnstile) },
     };

@@ -1,7 +1,7 @@
 //! Which node the pool gives next, tickets for nodes that are given back, and tickets that are stale.
 
 ghost use Rattle.std.specs.Prelude.{◌≡◌, ◌≤◌, pos};
-ghost use Rattle.mari_market.specs.Clearing.{IsBudget};
+ghost use Rattle.mari_market.specs.Clearing.{IsBudget, IsWorkerCount};
 ghost use Rattle.mari_market.specs.Market.{IsValid};
 ghost use Rattle.mari_market.specs.Relaxation.{IsClosedWelfare};
 ghost use Rattle.mari_workers.specs.Worked.{IsFresh};
@@ -285,7 +285,7 @@ fn told_of<'m, N: SearchName>(
     requires name { (market.now ≡ N.market) × (case.now.budget ≡ N.budget) × (case.now.workers ≡ N.workers) × (incumbent.now ≡ N.incumbent) }
     requires market { IsValid market.now }
     requires budget { IsBudget case.now.budget }
-    requires workers { (1 ≤ case.now.workers) × (case.now.workers ≤ 16) }
+    requires workers { IsWorkerCount case.now.workers }
     requires closed { IsClosedWelfare market.now (pos N.incumbent.first) }
     requires seat { IsFresh N.incumbent seat }
     requires mine { mine.incumbent ≡ N.incumbent }

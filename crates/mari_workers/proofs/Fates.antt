@@ -1,5 +1,5 @@
 -- What becomes of an early leaf by what is found at its word.
-use Rattle.std.proofs.Common.{◌≡◌, Bool, true, false, ℕ, ◌+◌, ◌<◌, ◌≤◌, nat_le, if◌then◌else◌, ℤ, pos, ◌-ℤ◌, List, length, Option, Some, None, arith, refl, subst}
+use Rattle.std.proofs.Common.{◌≡◌, ◌∙◌, Bool, true, false, ℕ, ◌+◌, ◌<◌, ◌≤◌, nat_le, if◌then◌else◌, ℤ, pos, ◌-ℤ◌, List, length, Option, Some, None, arith, refl, ap, subst}
 use Rattle.std.specs.Prelude.{IfSome, IsSomeAnd, MatchOption}
 use Rattle.std.proofs.lemmas.Int.{ints, clamps}
 use Rattle.mari_market.specs.declared.certificate.Conflict.{Conflict as ConflictRecord}
@@ -17,7 +17,7 @@ use Rattle.mari_market.specs.Tree.{IsEarly, LeafHolds, LeafHoldsFor}
 use Rattle.mari_market.proofs.Search.{leaf_rises}
 use Rattle.mari_core.specs.Growth.{closing_leaf, closing_relaxed}
 use Rattle.mari_core.proofs.Settling.{closing_leaf_holds, gt_by_test, must_branch, MustBranch}
-use Rattle.mari_workers.specs.Alone.{best_in}
+use Rattle.mari_workers.specs.Alone.{best_in, without_best}
 use Rattle.mari_workers.specs.declared.refining.Aim.{Aim}
 use Rattle.mari_workers.specs.Refine.{fate_by, replaced, unbounded, IsAim, IsEarlier, IsFate, IsToBranch}
 
@@ -103,3 +103,18 @@ found_fate m aim most word leaf f full k e h early is within decided free = by_c
     by_closing : (o : Option LeafRecord) → closing_leaf most f ≡ o → IsFate m aim.welfare (word_of aim.word) word (replaced o (best_in f) leaf full)
     by_closing (Some other) same = low_stays m aim.welfare most (word_of aim.word) word other e (closing_leaf_holds m word most f other is within same)
     by_closing None same = by_full full refl same
+
+-- by which certificate a finding closes doesn't rest on its activation
+closing_without_best : (cutoff : ℕ) (f : Finding) → closing_leaf cutoff (without_best f) ≡ closing_leaf cutoff f
+closing_without_best cutoff (Empty cut) = refl
+closing_without_best cutoff (Relaxed r) = by_conflict r.conflict
+  where
+    by_conflict : (o : Option ConflictRecord) → closing_relaxed cutoff (record r { best = None }) o ≡ closing_relaxed cutoff r o
+    by_conflict (Some conflict) = refl
+    by_conflict None = refl
+
+-- so the activation may be taken out before the certificate is sought
+pub fate_apart : (f rest : Finding) (o : Option LeafRecord) (best : Option Attained) (leaf : LeafRecord) (most : ℕ) (full : Bool) → rest ≡ without_best f → best ≡ best_in f → o ≡ closing_leaf most rest → replaced o best leaf full ≡ fate_by f leaf most full
+fate_apart f rest o best leaf most full apart is closing =
+    ap (λ (p : Option LeafRecord). replaced p best leaf full) (closing ∙ ap (closing_leaf most) apart ∙ closing_without_best most f)
+    ∙ ap (λ (b : Option Attained). replaced (closing_leaf most f) b leaf full) is

@@ -1,7 +1,7 @@
 -- The ends of a walk that refines: a clearing of the first activation, or a part of the search tree that the budget
 -- can't extend.
-use Rattle.std.proofs.Common.{◌≡◌, inl, inr, Bool, ℕ, suc, ◌+◌, ◌<◌, ◌≤◌, ℤ, pos, ◌≤ℤ◌, List, [], ◌∷◌, ◌++◌, length, map, reverse, Some, None, arith, refl, sym, ap, subst, ◌∙◌, length-append}
-use Rattle.std.specs.Prelude.{Contains}
+use Rattle.std.proofs.Common.{◌≡◌, inl, inr, Bool, ℕ, suc, ◌+◌, ◌<◌, ◌≤◌, ℤ, pos, ◌≤ℤ◌, List, [], ◌∷◌, ◌++◌, length, map, reverse, Result, Ok, Err, Some, None, arith, refl, sym, ap, subst, ◌∙◌, length-append}
+use Rattle.std.specs.Prelude.{Contains, IfOk}
 use Rattle.std.proofs.lemmas.Int.{ints}
 use Rattle.std.proofs.lemmas.List.{length-reverse, length-map}
 use Rattle.mari_market.specs.declared.activation.Activation.{Activation}
@@ -32,7 +32,10 @@ use Rattle.mari_core.proofs.Seeds.{larger_by}
 use Rattle.mari_proofs.specs.Places.{LeavesWords}
 use Rattle.mari_proofs.proofs.TreeWalk.{none_left}
 use Rattle.mari_workers.specs.declared.refining.Aim.{Aim}
-use Rattle.mari_workers.specs.Refine.{ClosesAtClosed, IsCrowdedAt, IsFoundAt, IsNewLeaf, IsOldLeaf, IsWalk, MayRefine}
+use Rattle.mari_workers.specs.declared.refining.Turn.{Turn}
+use Rattle.mari_workers.specs.declared.refining.Turn.TheVariants.{On, Full, Yield}
+use Rattle.mari_workers.specs.declared.refining.Walk.{Walk}
+use Rattle.mari_workers.specs.Refine.{ended, ClosesAtClosed, IsCrowdedAt, IsFoundAt, IsLastTurn, IsNewLeaf, IsOldLeaf, IsWalk, MayRefine}
 use Rattle.mari_workers.proofs.TreeWalks.{behind_is_late, leaves_map, parts_join, search_parts, waiting_late}
 
 -- ---- an activation is the first
@@ -128,6 +131,18 @@ crowded_spends m aim x done left whole items v h e f =
         more = omega (arith, count, h.more);
       };
     }
+
+-- ---- the end of a walk
+
+-- whatever the last turn is, what the walk comes to clears the market
+pub last_clears : (m : Market) (aim : Aim) (walk : Walk) (last : Turn) (a : Activation) → IsValid m → IsAdmissible m a → welfare_of m a ≡ pos aim.welfare → gate_word_of m a ≡ word_of aim.word → IsLastTurn m aim walk last → Clears m aim.budget (ended walk last a aim.welfare)
+last_clears m aim walk On a v adm e g h = ended_clears m aim a walk.done.items walk.left.items v adm e g h
+last_clears m aim walk Full a v adm e g h = crowded_spends m aim h.0 walk.done.items walk.left.items (walk.done.items ++ reverse walk.left.items) (map shape_of (walk.done.items ++ reverse walk.left.items)) v h.1 refl refl
+last_clears m aim walk (Yield b) a v adm e g h = found_clears m aim h.0 b walk.done.items walk.left.items (walk.done.items ++ reverse walk.left.items) v h.1 refl
+
+pub clears_as : {X : Type 0} (m : Market) (budget : ℕ) (r : Result Cleared X) (told : Cleared) → IfOk r (λ cleared. cleared ≡ told) → Clears m budget told → IfOk r (Clears m budget)
+clears_as m budget (Ok cleared) told is h = subst (Clears m budget) (sym is) h
+clears_as m budget (Err fault) told is h = tt
 
 -- ---- at the closed welfare
 

@@ -1,5 +1,5 @@
 -- What a visit keeps, and what is so in the end.
-use Rattle.std.proofs.Common.{pos, ◌≡◌, ◌∙◌, inl, inr, if◌then◌else◌, Bool, true, false, ℕ, ◌+◌, ◌-◌, ◌*◌, ◌<◌, ◌≤◌, max, List, [], ◌∷◌, append-nil, length, map, get_or, is_some, true≢false, Result, Option, Some, None, arith, refl, sym, ap, subst}
+use Rattle.std.proofs.Common.{◌≡◌, ◌∙◌, inl, inr, if◌then◌else◌, Bool, true, false, ℕ, ◌+◌, ◌-◌, ◌*◌, ◌<◌, ◌≤◌, max, List, [], ◌∷◌, append-nil, length, map, get_or, is_some, true≢false, Result, Option, Some, None, arith, refl, sym, ap, subst}
 use Rattle.std.specs.Prelude.{nat_le, nat_lt, slice_get, IfSome, IsSomeAnd, MatchOption, OnOk}
 use Rattle.std.specs.Option.{option_map}
 use Rattle.std.proofs.lemmas.Bool.{cases_eq, cases_lt}
@@ -15,11 +15,10 @@ use Rattle.mari_market.specs.declared.finding.Finding.TheVariants.{Empty, Relaxe
 use Rattle.mari_market.specs.declared.finding.Relaxed.{Relaxed as RelaxedRecord}
 use Rattle.mari_market.specs.declared.market.Market.{Market}
 use Rattle.mari_market.specs.declared.prefix.Prefix.{Prefix}
-use Rattle.mari_market.specs.declared.clearing.PartItem.{PartItem}
 use Rattle.mari_market.specs.declared.clearing.Clearing.{Clearing}
 use Rattle.mari_market.specs.Activation.{gate_word_of}
-use Rattle.mari_market.specs.Clearing.{ArePartsOfSearch, IsOptimalClearing, IsSpent}
-use Rattle.mari_market.specs.Relaxation.{all_closed, IsClosedWelfare}
+use Rattle.mari_market.specs.Clearing.{ArePartsOfSearch, IsOptimalClearing}
+use Rattle.mari_market.specs.Relaxation.{all_closed}
 use Rattle.mari_market.specs.Conflict.{IsConflict}
 use Rattle.mari_market.specs.Prefix.{word_of}
 use Rattle.mari_market.specs.Finding.{IsAttained, IsFinding, IsRefuted, IsRelaxedFinding, IsSettled}
@@ -31,7 +30,7 @@ use Rattle.mari_core.specs.Growth.{Entry, Grown, MaySettle, IsReached, children_
 use Rattle.mari_core.specs.Growth.Entry.{Take, Close, Branch, Full, GiveBack}
 use Rattle.mari_core.specs.Machine.{Machine, after, by_actor, greatest, offering, refusal, seen_by, IsProper, KeepsFacts}
 use Rattle.mari_core.specs.Nodes.{TreeNode, branch_of, in_state, new_node, state_at, words_of}
-use Rattle.mari_core.specs.Preorder.{shape_of, IsFirstOpen}
+use Rattle.mari_core.specs.Preorder.{shape_of}
 use Rattle.mari_core.proofs.Changes.{IsAt, length-with_state, node_at, state_same}
 use Rattle.mari_core.proofs.Lists.{changed_same}
 use Rattle.mari_core.proofs.Machines.{actor_there, by_actor_there}
@@ -40,9 +39,8 @@ use Rattle.mari_pool.specs.Queued.{Queued, no_nodes, first_key, waits_in, IsFirs
 use Rattle.mari_pool.proofs.Keeps.{grown_longer}
 use Rattle.mari_pool.proofs.Queues.{first_waits, length_waiting, made, none_waits, queue_done, queue_more, queue_start, queue_taken, state_same_as, untaken_few}
 use Rattle.mari_pool.proofs.Rooms.{branch_untaken, taken-append, taken_new, taken_state}
-use Rattle.mari_workers.specs.Alone.{after_offer, best_in, IsAtNode, IsUnderWay, IsVisited}
+use Rattle.mari_workers.specs.Alone.{after_offer, best_in, IsAtNode, IsDone, IsUnderWay, IsVisited}
 use Rattle.mari_workers.specs.Refine.{MayRefine}
-use Rattle.mari_workers.proofs.Rest.{all_done}
 
 -- ---- the tree
 
@@ -127,7 +125,7 @@ first_stays : (s : Machine) (x : ℕ) (finding : Finding) (o : Option Attained) 
 first_stays s x finding None = refl
 first_stays s x finding (Some best) = refl
 
-visit_same : (m : Market) (old new : Machine) (x : ℕ) (word : List Bool) (key : ℕ) → IsVisited m old new x word key → (new.tree.market ≡ old.tree.market) × (new.tree.budget ≡ old.tree.budget)
+pub visit_same : (m : Market) (old new : Machine) (x : ℕ) (word : List Bool) (key : ℕ) → IsVisited m old new x word key → (new.tree.market ≡ old.tree.market) × (new.tree.budget ≡ old.tree.budget)
 visit_same m old new x word key v =
     let t = visited_tree m old new x word key v in
     let same = same_by_entry (grown old.tree (Take 0 x)) (settling_by (grown old.tree (Take 0 x)) 0 x t.cutoff t.leaf) in
@@ -271,9 +269,14 @@ settle_allowed m old t x word finding u e f is facts =
 
 -- ---- the end
 
--- where the queue is empty, there is no first leaf that isn't closed
-pub none_open : (m : Market) (s : Machine) (q r : Queued) (x : ℕ) → IsUnderWay m s q → IsIdleQueue q r → IsFirstOpen s.tree.nodes x → ⊥
-none_open m s q r x u idle h = all_done s.tree.nodes x h (none_waits s.tree.nodes q u.queue idle.0) u.none_taken
+-- where the queue is empty, no node waits and none is taken
+pub done_by : (m : Market) (s : Machine) (q r : Queued) → IsUnderWay m s q → IsIdleQueue q r → IsDone s
+done_by m s q r u idle = record {
+  facts = u.facts;
+  none_waits = none_waits s.tree.nodes q u.queue idle.0;
+  none_taken = u.none_taken;
+  from_closed = subst (λ (k : Market). gate_word_of k s.first.activation ≡ all_closed k) (sym u.market) u.from_closed;
+}
 
 -- the node that comes first has a word
 pub has_word : (m : Market) (s : Machine) (q r : Queued) (x : ℕ) → IsUnderWay m s q → IsFirst q r x → slice_get (words_of s.tree.nodes) x ≡ None → ⊥
@@ -294,6 +297,10 @@ still_next m budget old new x word key q r s h f v facts not_full more = record 
   under_way = visit_keeps m old new x word key q r s h.under_way f v facts not_full more;
   budget_is = (visit_same m old new x word key v).1 ∙ h.budget_is;
 }
+
+-- a mark that is read as off isn't on
+pub not_marked : {read mark : Bool} → read ≡ mark → read ≡ false → mark ≡ true → ⊥
+not_marked is off on = absurd (true≢false (sym on ∙ sym is ∙ off))
 
 -- how far the search may still go
 abbrev pub still_left : ℕ → Machine → Queued → ℕ
@@ -350,14 +357,6 @@ node_past nodes n None e none = elim (cases_lt n (length nodes)) [
   | inr l ↦ l
 ]
 
--- a part of the search tree that the budget can't extend, told of the market and the budget
-pub spent_of : (m : Market) (budget : ℕ) (old new : Machine) (x : ℕ) (word : List Bool) (key : ℕ) (q : Queued) (items told : List PartItem) → IsStill m budget old q → IsVisited m old new x word key → IsSpent new.tree.market new.tree.budget (record { items = items }) → told ≡ items → IsSpent m budget (record { items = told })
-spent_of m budget old new x word key q items told h v spent is =
-    let same = visit_same m old new x word key v in
-    subst (λ (ts : List PartItem). IsSpent m budget (record { items = ts })) (sym is)
-    (subst (λ (b : ℕ). IsSpent m b (record { items = items })) (same.1 ∙ h.budget_is)
-    (subst (λ (k : Market). IsSpent k new.tree.budget (record { items = items })) (same.0 ∙ h.under_way.market) spent))
-
 -- ---- the start
 
 pub start_under_way : (m : Market) (s : Machine) (q : Queued) (budget : ℕ) → s.tree ≡ seed m budget → KeepsFacts s → gate_word_of m s.first.activation ≡ all_closed m → IsMore first_key 1 (no_nodes budget) q → IsUnderWay m s q
@@ -379,14 +378,14 @@ above_first w [] = omega arith
 above_first w (a ∷ others) = omega (arith, above_first w others)
 
 -- what a search comes to may be refined
-pub may_refine : (m : Market) (budget : ℕ) (s : Machine) (q : Queued) (c : Clearing) → IsStill m budget s q → IsOptimalClearing s.tree.market s.tree.budget c → c.welfare ≡ s.incumbent → (s.incumbent ≡ s.first.welfare → c.activation ≡ s.first.activation) → ArePartsOfSearch s.tree.market ([] ∷ []) (map shape_of c.tree) → MayRefine m budget c
-may_refine m budget s q c h clearing w first parts = record {
-  clearing = subst (λ (b : ℕ). IsOptimalClearing m b c) h.budget_is (subst (λ (k : Market). IsOptimalClearing k s.tree.budget c) h.under_way.market clearing);
-  nodes = subst (λ (k : Market). ArePartsOfSearch k ([] ∷ []) (map shape_of c.tree)) h.under_way.market parts;
+pub may_refine : (s : Machine) (c : Clearing) → IsDone s → IsOptimalClearing s.tree.market s.tree.budget c → c.welfare ≡ s.incumbent → (s.incumbent ≡ s.first.welfare → c.activation ≡ s.first.activation) → ArePartsOfSearch s.tree.market ([] ∷ []) (map shape_of c.tree) → MayRefine s.tree.market s.tree.budget c
+may_refine s c done clearing w first parts = record {
+  clearing = clearing;
+  nodes = parts;
   closed = s.first.welfare;
-  is_closed = subst (λ (k : Market). IsClosedWelfare k (pos s.first.welfare)) h.under_way.market h.under_way.facts.closed;
+  is_closed = done.facts.closed;
   above = elim (cases_eq s.incumbent s.first.welfare) [
-    | inl e ↦ inl (ap (gate_word_of m) (first e) ∙ h.under_way.from_closed)
-    | inr other ↦ inr (omega (arith, other, w, h.under_way.facts.incumbent_is, above_first s.first.welfare s.actors))
+    | inl e ↦ inl (ap (gate_word_of s.tree.market) (first e) ∙ done.from_closed)
+    | inr other ↦ inr (omega (arith, other, w, done.facts.incumbent_is, above_first s.first.welfare s.actors))
   ];
 }

@@ -9,6 +9,7 @@ use Rattle.mari_market.specs.Finding.{IsFinding}
 use Rattle.mari_market.specs.Relaxation.{all_closed}
 use Rattle.mari_core.specs.declared.event.Event.TheVariants.{Offer, Take, Settle}
 use Rattle.mari_core.specs.declared.node.NodeState.TheVariants.{Untaken}
+use Rattle.mari_core.specs.Growth.{NoneWaits}
 use Rattle.mari_core.specs.Machine.{Machine, after, KeepsFacts}
 use Rattle.mari_core.specs.Nodes.{state_at}
 use Rattle.mari_pool.specs.Pooled.{taken_among}
@@ -24,6 +25,13 @@ pub record IsUnderWay (m : Market) (s : Machine) (q : Queued) : Type 0 where
   pub none_taken : taken_among s.tree.nodes ≡ 0
   pub from_closed : gate_word_of m s.first.activation ≡ all_closed m
 
+-- a search in which no node waits and none is taken; it began with an activation that opens no gate
+pub record IsDone (s : Machine) : Type 0 where
+  pub facts : KeepsFacts s
+  pub none_waits : NoneWaits s.tree.nodes
+  pub none_taken : taken_among s.tree.nodes ≡ 0
+  pub from_closed : gate_word_of s.tree.market s.first.activation ≡ all_closed s.tree.market
+
 -- a search of the market in which this node waits
 pub record IsAtNode (m : Market) (s : Machine) (x : ℕ) : Type 0 where
   pub market : s.tree.market ≡ m
@@ -34,6 +42,11 @@ pub record IsAtNode (m : Market) (s : Machine) (x : ℕ) : Type 0 where
 abbrev pub best_in : Finding → Option Attained
 best_in (Empty cut) = None
 best_in (Relaxed r) = r.best
+
+-- the finding without that activation
+abbrev pub without_best : Finding → Finding
+without_best (Empty cut) = Empty cut
+without_best (Relaxed r) = Relaxed (record r { best = None })
 
 -- the search after the one actor's offer, if there is one
 abbrev pub after_offer : Machine → Option Attained → Machine

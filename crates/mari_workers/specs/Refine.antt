@@ -1,5 +1,5 @@
 -- How an optimal clearing becomes the first one: leaf by leaf, in preorder.
-use Rattle.std.specs.Prelude.{◌≡◌, ◌⊎◌, ◌≤◌, ◌<◌, ◌+◌, Bool, ℕ, ℤ, pos, ◌≤ℤ◌, List, [], ◌∷◌, length, map, reverse, Option, Some, None, IfSome, ⊤, true, false}
+use Rattle.std.specs.Prelude.{◌≡◌, ◌⊎◌, ◌≤◌, ◌<◌, ◌+◌, ◌++◌, Bool, ℕ, ℤ, pos, ◌≤ℤ◌, List, [], ◌∷◌, length, map, reverse, Option, Some, None, IfSome, ⊤, true, false}
 use Rattle.mari_market.specs.declared.activation.Activation.{Activation}
 use Rattle.mari_market.specs.declared.certificate.Leaf.{Leaf as LeafRecord}
 use Rattle.mari_market.specs.declared.certificate.TreeItem.{TreeItem}
@@ -150,3 +150,16 @@ abbrev pub IsTurn : Market → Aim → Prefix → ℕ → Walk → Turn → Type
 IsTurn m aim x count walk On = IsWalk m aim walk.done.items walk.left.items walk.next × (length walk.done.items ≡ count + 1)
 IsTurn m aim x count walk Full = IsCrowdedAt m aim x walk.done.items walk.left.items
 IsTurn m aim x count walk (Yield a) = IsFoundAt m aim x walk.done.items walk.left.items a
+
+-- what the last turn of a walk comes to: no prefix is left, or the budget is spent, or an earlier activation is found
+abbrev pub IsLastTurn : Market → Aim → Walk → Turn → Type 0
+IsLastTurn m aim walk On = IsWalk m aim walk.done.items walk.left.items None
+IsLastTurn m aim walk Full = (x : Prefix) × IsCrowdedAt m aim x walk.done.items walk.left.items
+IsLastTurn m aim walk (Yield a) = (x : Prefix) × IsFoundAt m aim x walk.done.items walk.left.items a
+
+-- what a walk from an activation of the welfare comes to by its last turn: that activation with the items that are
+-- done, or the shapes of all items, or the earlier activation with all items
+abbrev pub ended : Walk → Turn → Activation → ℕ → Cleared
+ended walk On a w = Published (record { activation = a; welfare = w; tree = walk.done.items })
+ended walk Full a w = Spent (record { items = map shape_of (walk.done.items ++ reverse walk.left.items) })
+ended walk (Yield earlier) a w = Published (record { activation = earlier; welfare = w; tree = walk.done.items ++ reverse walk.left.items })

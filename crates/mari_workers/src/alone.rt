@@ -1,6 +1,6 @@
 //! The search of one actor.
 
-ghost use Rattle.std.specs.Prelude.{◌≡◌, ◌-◌, ◌≤◌, None, Some, length, slice_get, IfOk, IfSome, OnOk};
+ghost use Rattle.std.specs.Prelude.{◌≡◌, ◌-◌, ◌≤◌, true, false, None, Some, length, slice_get, IfOk, IfSome, OnOk};
 ghost use Rattle.std.specs.Option.{option_copied};
 ghost use Rattle.mari_core.specs.Machine.{after, refusal, IsProper, KeepsFacts};
 ghost use Rattle.mari_core.specs.Nodes.{words_of};
@@ -9,7 +9,7 @@ ghost use Rattle.mari_market.specs.Finding.{IsAttained};
 ghost use Rattle.mari_market.specs.Market.{IsValid};
 ghost use Rattle.mari_market.specs.Prefix.{word_of, IsFeasiblePrefix};
 ghost use Rattle.mari_pool.specs.Queued.{IsMore};
-ghost use Rattle.mari_workers.specs.Alone.{best_in, after_offer, IsAtNode, IsUnderWay, IsVisited};
+ghost use Rattle.mari_workers.specs.Alone.{best_in, after_offer, IsAtNode, IsDone, IsUnderWay, IsVisited};
 ghost use Rattle.mari_workers.specs.Refine.{IsSearched};
 
 use crate::first::first_of;
@@ -151,12 +151,65 @@ fn admit(search: &Search<'_>, queue: &mut Queue, key: u64)
     }
 }
 
-/// Visits the nodes of a search, always the one whose parent has the greatest bound, until none waits or one can't
-/// branch within the budget.
+/// Visits the nodes of a search, always the one whose parent has the greatest bound. It tells whether none waits any
+/// more; else one could not branch within the budget.
 ///
-/// Of equal bounds the node that was made first is the next. Where the root branches, its optimum is rounded. Where
-/// none waits any more there is an optimal clearing, which may be refined.
+/// Of equal bounds the node that was made first is the next. Where the root branches, its optimum is rounded.
 fn visit_all(
+    alloc: Global,
+    market: &Market,
+    search: &mut Search<'_>,
+    queue: &mut Queue,
+    start: &mut Option<Activation>,
+) -> Result<bool, Memory>
+    requires { IsUnderWay market.now search.old queue.old }
+    ensures closed { IfOk result (λ closed. closed ≡ true → IsDone search.new) }
+    ensures spent { IfOk result (λ closed. closed ≡ false → search.new.tree.full ≡ true) }
+    ensures market { OnOk result (search.new.tree.market ≡ market.now) }
+    ensures budget { OnOk result (search.new.tree.budget ≡ search.old.tree.budget) }
+{
+    while let Some(node) = queue.take_first() {
+        let Some(prefix) = search.prefix_of(node) else {
+            unreachable!()
+        };
+        let key = visit(alloc, market, search, node, &prefix, start)?;
+        if search.is_full() {
+            return Ok(false);
+        }
+        admit(search, queue, key);
+        if node == ROOT && queue.len() > 1 {
+            offer_rounded(alloc, market, search, start)?;
+        }
+    }
+    Ok(true)
+}
+
+/// The optimal clearing of a search whose nodes are all branched or closed. It may be refined.
+fn published(alloc: Global, search: Search<'_>) -> Result<Cleared, Memory>
+    requires { IsDone search }
+    ensures { IfOk result (IsSearched search.entry.tree.market search.entry.tree.budget) }
+{
+    match search.finish(alloc) {
+        Ok(clearing) => Ok(Cleared::Published(clearing)),
+        Err(FinishFault::Memory) => Err(Memory),
+        Err(FinishFault::NotClosed(_)) => unreachable!(),
+    }
+}
+
+/// The part of the search tree of a search in which a node could not branch within the budget.
+fn part_of(alloc: Global, search: Search<'_>) -> Result<Cleared, Memory>
+    requires { search.tree.full ≡ true }
+    ensures { IfOk result (IsSearched search.entry.tree.market search.entry.tree.budget) }
+{
+    let part = search.part(alloc);
+    drop(search);
+    let items = Items::of(part?);
+    Ok(Cleared::Spent(Spent { items }))
+}
+
+/// Visits the nodes of a search, and ends it: where none waits any more there is an optimal clearing, which may be
+/// refined, and else a part of the search tree.
+fn searched(
     alloc: Global,
     market: &Market,
     mut search: Search<'_>,
@@ -166,24 +219,16 @@ fn visit_all(
     requires { IsUnderWay market.now search queue }
     ensures { IfOk result (IsSearched market.now search.entry.tree.budget) }
 {
-    while let Some(node) = queue.take_first() {
-        let Some(prefix) = search.prefix_of(node) else {
-            unreachable!()
-        };
-        let key = visit(alloc, market, &mut search, node, &prefix, &mut start)?;
-        if search.is_full() {
-            let items = Items::of(search.part(alloc)?);
-            return Ok(Cleared::Spent(Spent { items }));
+    let visited = visit_all(alloc, market, &mut search, &mut queue, &mut start);
+    drop(queue);
+    drop(start);
+    match visited {
+        Ok(true) => published(alloc, search),
+        Ok(false) => part_of(alloc, search),
+        Err(Memory) => {
+            drop(search);
+            Err(Memory)
         }
-        admit(&search, &mut queue, key);
-        if node == ROOT && queue.len() > 1 {
-            offer_rounded(alloc, market, &mut search, &mut start)?;
-        }
-    }
-    match search.finish(alloc) {
-        Ok(clearing) => Ok(Cleared::Published(clearing)),
-        Err(FinishFault::Memory) => Err(Memory),
-        Err(FinishFault::NotClosed(_)) => unreachable!(),
     }
 }
 
@@ -197,7 +242,7 @@ fn cleared(alloc: Global, market: &Market, budget: u32) -> Result<Cleared, Memor
     let start = Some(first.activation.clone()?);
     let search = Search::start(alloc, market, ACTOR + 1, first, budget)?;
     let queue = Queue::start(alloc, budget)?;
-    match visit_all(alloc, market, search, queue, start)? {
+    match searched(alloc, market, search, queue, start)? {
         Cleared::Published(found) => Ok(refine(alloc, market, found, budget)),
         spent => Ok(spent),
     }

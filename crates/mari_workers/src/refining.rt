@@ -7,12 +7,14 @@ ghost use Rattle.mari_market.specs.Clearing.{Clears, IsBudget};
 ghost use Rattle.mari_market.specs.Market.{IsValid};
 ghost use Rattle.mari_market.specs.Prefix.{word_of, IsFeasiblePrefix};
 ghost use Rattle.mari_market.specs.Tree.{LeafHolds};
-ghost use Rattle.mari_workers.specs.Refine.{fate_by, unbounded, ClosesAtClosed, IsAim, IsAtLeaf, IsFate, IsToBranch, IsTurn, IsWalk, MayRefine};
+ghost use Rattle.mari_workers.specs.Alone.{best_in, without_best};
+ghost use Rattle.mari_workers.specs.Refine.{ended, fate_by, unbounded, ClosesAtClosed, IsAim, IsAtLeaf, IsFate, IsLastTurn, IsToBranch, IsTurn, IsWalk, MayRefine};
 
+use mari_core::closing_leaf;
 use mari_gates::{child_of, comes_before, empty_prefix, gate_word, may_branch_up, next_after};
 use mari_market::{
-    Activation, Attained, Cleared, Clearing, Finding, Leaf, Market, PartItem, Prefix, Relaxed,
-    Spent, TreeItem,
+    Activation, Attained, Cleared, Clearing, Finding, Leaf, Market, PartItem, Prefix, Spent,
+    TreeItem,
 };
 use mari_node::examine_from;
 use mari_proofs::check_leaf;
@@ -63,25 +65,25 @@ fn unbounded(best: Option<Attained>, leaf: Leaf, full: bool) -> Fate
     }
 }
 
-/// What becomes of a leaf by what is found at its prefix, where a certificate is to hold at this number.
-fn fate_by(finding: Finding, leaf: Leaf, most: u64, full: bool) -> Fate
-    ensures { result ≡ fate_by finding leaf most full }
+/// Takes the activation out of a finding, if it has one.
+fn take_best(finding: &mut Finding) -> Option<Attained>
+    ensures best { result ≡ best_in finding.old }
+    ensures rest { finding.new ≡ without_best finding.old }
 {
     match finding {
-        Finding::Empty(cut) => Fate::Stays(Leaf::Cut(cut)),
-        Finding::Relaxed(relaxed) => {
-            let Relaxed {
-                potentials,
-                bound,
-                conflict,
-                best,
-            } = relaxed;
-            match conflict {
-                Some(conflict) => Fate::Stays(Leaf::Conflict(conflict)),
-                None if bound <= most => Fate::Stays(Leaf::Bound(potentials)),
-                None => unbounded(best, leaf, full),
-            }
-        }
+        Finding::Relaxed(relaxed) => relaxed.best.take(),
+        Finding::Empty(_) => None,
+    }
+}
+
+/// What becomes of a leaf by what is found at its prefix, where a certificate is to hold at this number.
+fn fate_by(mut finding: Finding, leaf: Leaf, most: u64, full: bool) -> Fate
+    ensures { result ≡ fate_by finding leaf most full }
+{
+    let best = take_best(&mut finding);
+    match closing_leaf(finding, most) {
+        Some(other) => Fate::Stays(other),
+        None => unbounded(best, leaf, full),
     }
 }
 
@@ -282,6 +284,68 @@ fn shapes_of(alloc: Global, tree: &[TreeItem]) -> Result<Vec<PartItem>, Memory>
     Ok(items)
 }
 
+/// Takes turns until one stops the walk or no prefix is left, and tells what the last of them came to.
+fn walked(alloc: Global, market: &Market, aim: &Aim, walk: &mut Walk) -> Result<Turn, Memory>
+    requires market { IsValid market.now }
+    requires aim { IsAim market.now aim.now }
+    requires walk { IsWalk market.now aim.now walk.old.done.items walk.old.left.items walk.old.next }
+    ensures { IfOk result (IsLastTurn market.now aim.now walk.new) }
+{
+    while let Some(prefix) = walk.next {
+        match walk.advance(alloc, market, &prefix, aim)? {
+            Turn::On => {}
+            Turn::Full => return Ok(Turn::Full),
+            Turn::Yield(activation) => return Ok(Turn::Yield(activation)),
+        }
+    }
+    Ok(Turn::On)
+}
+
+/// What a walk from an activation of the welfare comes to by its last turn. The activation is published where no prefix
+/// is left, and one that was found is in its place.
+fn ended(
+    alloc: Global,
+    walk: Walk,
+    last: Turn,
+    activation: Activation,
+    welfare: u64,
+) -> Result<Cleared, Memory>
+    ensures { IfOk result (λ cleared. cleared ≡ ended walk last activation welfare) }
+{
+    match last {
+        Turn::On => {
+            let Walk { done, .. } = walk;
+            Ok(Cleared::Published(Clearing {
+                activation,
+                welfare,
+                tree: Items::of(done),
+            }))
+        }
+        Turn::Full => {
+            drop(activation);
+            let whole = walk.whole()?;
+            let shapes = shapes_of(alloc, &whole);
+            drop(whole);
+            let items = Items::of(shapes?);
+            Ok(Cleared::Spent(Spent { items }))
+        }
+        Turn::Yield(earlier) => {
+            drop(activation);
+            match walk.whole() {
+                Ok(whole) => Ok(Cleared::Published(Clearing {
+                    activation: earlier,
+                    welfare,
+                    tree: Items::of(whole),
+                })),
+                Err(Memory) => {
+                    drop(earlier);
+                    Err(Memory)
+                }
+            }
+        }
+    }
+}
+
 /// The first activation, from an optimal one.
 fn refined(alloc: Global, market: &Market, found: Clearing, budget: u32) -> Result<Cleared, Memory>
     requires market { IsValid market.now }
@@ -300,30 +364,14 @@ fn refined(alloc: Global, market: &Market, found: Clearing, budget: u32) -> Resu
         budget,
     };
     let mut walk = Walk::start(alloc, tree);
-    while let Some(prefix) = walk.next {
-        match walk.advance(alloc, market, &prefix, &aim)? {
-            Turn::On => {}
-            Turn::Full => {
-                let whole = walk.whole()?;
-                let items = Items::of(shapes_of(alloc, &whole)?);
-                return Ok(Cleared::Spent(Spent { items }));
-            }
-            Turn::Yield(activation) => {
-                let tree = Items::of(walk.whole()?);
-                return Ok(Cleared::Published(Clearing {
-                    activation,
-                    welfare,
-                    tree,
-                }));
-            }
+    match walked(alloc, market, &aim, &mut walk) {
+        Ok(last) => ended(alloc, walk, last, activation, welfare),
+        Err(Memory) => {
+            drop(walk);
+            drop(activation);
+            Err(Memory)
         }
     }
-    let Walk { done, .. } = walk;
-    Ok(Cleared::Published(Clearing {
-        activation,
-        welfare,
-        tree: Items::of(done),
-    }))
 }
 
 /// The clearing of the first activation, from that of an optimal one whose tree has only nodes of the search tree.

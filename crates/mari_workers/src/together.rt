@@ -4,13 +4,13 @@ ghost use Rattle.std.specs.Prelude.{◌≡◌, ℕ, ◌+◌, ◌-◌, ◌<◌, �
 ghost use Rattle.mari_core.specs.Machine.{IsBest};
 ghost use Rattle.mari_incumbent.specs.Incumbent.{standing};
 ghost use Rattle.mari_market.specs.Activation.{gate_word_of};
-ghost use Rattle.mari_market.specs.Clearing.{Clears, IsBudget};
+ghost use Rattle.mari_market.specs.Clearing.{Clears, IsBudget, IsWorkerCount};
 ghost use Rattle.mari_market.specs.Finding.{IsAttained};
 ghost use Rattle.mari_market.specs.Market.{IsValid};
 ghost use Rattle.mari_market.specs.Relaxation.{all_closed, IsClosedWelfare};
 ghost use Rattle.mari_pool.specs.Taking.{IsIdle};
 ghost use Rattle.mari_workers.specs.Refine.{MayRefine};
-ghost use Rattle.mari_workers.specs.Together.{IsJob};
+ghost use Rattle.mari_workers.specs.Together.{IsSeated};
 ghost use Rattle.mari_workers.specs.Worked.{Holds, IsFresh, IsWorked};
 
 use crate::first::first_of;
@@ -21,41 +21,41 @@ use crossbeam_utils::CachePadded;
 use mari_incumbent::{Incumbent, Seat};
 use mari_market::{Attained, Cleared, Clearing, Market, Spent};
 use mari_pool::{Pool, PoolFault, SearchName, Took};
-use mari_units::{Items, MOST_WORKERS, Memory};
+use mari_units::{Items, Memory};
 use std::alloc::{AllocError, Global};
 use std::marker::Brand;
 use std::sync::{Condvar, Mutex, Wait};
 use std::thread;
 use std::thread::Threads;
 
-/// What a worker starts with.
+/// A worker, by its number, and its seat.
 #[derive(Drop)]
-pub(crate) struct Job {
+pub(crate) struct Seated {
     worker: u32,
     seat: Seat,
 }
 
 /// A seat of one part for each worker.
-fn jobs_of(
+fn seated_of(
     alloc: Global,
     incumbent: &Incumbent,
     mine: &mut Seat,
     workers: u32,
-) -> Result<Vec<Job>, AllocError>
+) -> Result<Vec<Seated>, AllocError>
     requires { (mine.old.incumbent ≡ incumbent.now) × (workers < mine.old.parts) }
     ensures len { IfOk result (λ v. vec_len v ≡ workers) }
-    ensures jobs { IfOk result (λ v. (i : ℕ) (d : _) → i < workers → IsJob incumbent.now workers (slice_index_or v.items i d)) }
+    ensures seated { IfOk result (λ v. (i : ℕ) (d : _) → i < workers → IsSeated incumbent.now workers (slice_index_or v.items i d)) }
     ensures mine { IfOk result (λ _. mine.new ≡ standing incumbent.now mine.old.seen mine.old.offered (mine.old.parts - workers)) }
 {
-    let mut jobs = Vec::with_capacity(alloc, workers as usize)?;
+    let mut seated = Vec::with_capacity(alloc, workers as usize)?;
     for worker in 0..workers {
         let seat = incumbent.split(mine);
-        jobs.push(Job { worker, seat })?;
+        seated.push(Seated { worker, seat })?;
     }
-    Ok(jobs)
+    Ok(seated)
 }
 
-/// Runs each job in a thread of its own, or on this thread where none can be made for it. All have ended then.
+/// Runs each worker in a thread of its own, or on this thread where none can be made for it. All have ended then.
 fn run_all<'m, N: SearchName + Send + Sync, G: Turnstile, R: Threads + Wait + Sync>(
     rt: &R,
     alloc: Global,
@@ -63,25 +63,25 @@ fn run_all<'m, N: SearchName + Send + Sync, G: Turnstile, R: Threads + Wait + Sy
     pool: &Mutex<Pool<'m, N>>,
     bell: &Condvar,
     incumbent: &Incumbent,
-    jobs: Vec<Job>,
+    seated: Vec<Seated>,
     turnstile: &G,
 ) -> Result<Vec<Worked>, AllocError>
     requires market { (market.now ≡ N.market) × IsValid market.now }
     requires incumbent { incumbent.now ≡ N.incumbent }
-    requires jobs { (i : ℕ) (d : _) → i < vec_len jobs → IsJob N.incumbent N.workers (slice_index_or jobs.items i d) }
-    ensures len { IfOk result (λ v. vec_len v ≡ vec_len jobs) }
+    requires seated { (i : ℕ) (d : _) → i < vec_len seated → IsSeated N.incumbent N.workers (slice_index_or seated.items i d) }
+    ensures len { IfOk result (λ v. vec_len v ≡ vec_len seated) }
     ensures each { IfOk result (λ v. (i : ℕ) (d : _) → i < vec_len v → IsWorked N.market N.incumbent (slice_index_or v.items i d)) }
 {
-    let each = |job: Job| -> Worked
-        requires { (market.now ≡ N.market) × IsValid market.now × (incumbent.now ≡ N.incumbent) × IsJob N.incumbent N.workers job }
+    let each = |one: Seated| -> Worked
+        requires { (market.now ≡ N.market) × IsValid market.now × (incumbent.now ≡ N.incumbent) × IsSeated N.incumbent N.workers one }
         ensures { IsWorked N.market N.incumbent result }
     {
-        let Job { worker, seat } = job;
+        let Seated { worker, seat } = one;
         work(
             rt, alloc, market, worker, pool, bell, incumbent, seat, turnstile,
         )
     };
-    thread::map_vec(rt, jobs, &each)
+    thread::map_vec(rt, seated, &each)
 }
 
 /// Joins a worker's seat, and keeps the better best.
@@ -185,7 +185,13 @@ fn published<'m, N: SearchName>(
 {
     let tree = match pool.finish(alloc) {
         Ok(tree) => tree,
-        Err(PoolFault::Memory) => return Err(Memory),
+        Err(PoolFault::Memory) => {
+            drop(pool);
+            drop(incumbent);
+            drop(mine);
+            drop(first);
+            return Err(Memory);
+        }
         Err(PoolFault::NotClosed(_)) => unreachable!(),
     };
     let Worked { mut seat, best } = mine;
@@ -223,9 +229,9 @@ fn run_workers<'m, N: SearchName + Send + Sync, G: Turnstile, R: Threads + Wait 
     ensures mine { OnOk result (Holds N.market N.incumbent mine.new) }
     ensures parts { OnOk result (mine.new.seat.parts ≡ mine.old.seat.parts) }
 {
-    let jobs = jobs_of(alloc, incumbent, &mut mine.seat, workers)?;
+    let seated = seated_of(alloc, incumbent, &mut mine.seat, workers)?;
     let bell = Condvar::new();
-    let worked = run_all::<N, G, R>(rt, alloc, market, pool, &bell, incumbent, jobs, turnstile)?;
+    let worked = run_all::<N, G, R>(rt, alloc, market, pool, &bell, incumbent, seated, turnstile)?;
     gather(market, incumbent, mine, worked);
     Ok(())
 }
@@ -246,7 +252,7 @@ fn run<'m, N: SearchName + Send + Sync, G: Turnstile, R: Threads + Wait + Sync>(
     // The search is the one of the name, and can be one.
     requires market { (market.now ≡ N.market) × IsValid market.now }
     requires numbers { (workers ≡ N.workers) × (budget ≡ N.budget) }
-    requires workers { (1 ≤ workers) × (workers ≤ MOST_WORKERS) }
+    requires workers { IsWorkerCount workers }
     requires budget { IsBudget budget }
 
     // The pool's part of the seat, and the others, in this one.
@@ -311,7 +317,7 @@ fn searched<N: SearchName + Send + Sync, G: Turnstile, R: Threads + Wait + Sync>
     // The search is the one of the name, and can be one.
     requires market { (market.now ≡ N.market) × IsValid market.now }
     requires numbers { (workers ≡ N.workers) × (budget ≡ N.budget) }
-    requires workers { (1 ≤ workers) × (workers ≤ MOST_WORKERS) }
+    requires workers { IsWorkerCount workers }
     requires budget { IsBudget budget }
 
     // A part of the seat for each worker, and two more.
@@ -358,7 +364,7 @@ fn named<G: Turnstile, R: Threads + Wait + Sync>(
     turnstile: &G,
 ) -> Result<Cleared, Memory>
     requires market { IsValid market.now }
-    requires workers { (1 ≤ workers) × (workers ≤ MOST_WORKERS) }
+    requires workers { IsWorkerCount workers }
     requires budget { IsBudget budget }
     ensures { IfOk result (Clears market.now budget) }
 {
@@ -382,7 +388,7 @@ pub fn search<G: Turnstile, R: Threads + Wait + Sync>(
     turnstile: &G,
 ) -> Cleared
     requires market { IsValid market.now }
-    requires workers { (1 ≤ workers) × (workers ≤ MOST_WORKERS) }
+    requires workers { IsWorkerCount workers }
     requires budget { IsBudget budget }
     ensures { Clears market.now budget result }
 {

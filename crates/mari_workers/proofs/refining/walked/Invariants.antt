@@ -1,6 +1,6 @@
 use Rattle.std.proofs.Common.{◌-◌, length}
 use Rattle.mari_workers.specs.Refine.{IsWalk}
-use Rattle.mari_workers.proofs.refining.refined.Given as goal
+use Rattle.mari_workers.proofs.refining.walked.Given as goal
 
 abbrev pub invariant-loop-walk : goal.invariant-loop-walk
 invariant-loop-walk l = IsWalk l.market l.aim l.walk.done.items l.walk.left.items l.walk.next

@@ -9,5 +9,5 @@ mod limits;
 mod runs;
 
 pub use demands::{Demand, DemandBook, DemandCheck};
-pub use limits::{LimitBook, LimitCheck, Limits};
+pub use limits::{LIMIT_COLUMNS, LimitBook, LimitCheck, Limits};
 pub use runs::{Run, RunBook, RunCheck};

@@ -14,7 +14,8 @@ use mari_zones::{BorderBook, ZoneBook};
 use std::alloc::{AllocError, Global};
 use std::marker::Model;
 
-const COLUMNS: &str = "run,from,to,limit,back";
+/// The columns of limits.csv.
+pub const LIMIT_COLUMNS: &str = "run,from,to,limit,back";
 
 /// A check of limits.csv.
 #[derive(Clone, Copy, Debug, PartialEq, Eq)]
@@ -92,7 +93,7 @@ impl LimitBook {
     {
         let count = runs.runs.as_slice().len() as u32;
         let none = LimitsSoFar::new(alloc, zones, borders, count)?;
-        read_book(alloc, limits, COLUMNS, none)
+        read_book(alloc, limits, LIMIT_COLUMNS, none)
     }
 
     /// The limits of a border, which counts from 0, in a run, which counts from 1: there and back, in MW.

@@ -2,12 +2,13 @@
 use Rattle.std.proofs.Common.{◌≡◌, ◌∙◌, ℕ, Bool, true, false, List, [], ◌∷◌, ◌++◌, refl, sym, ap, length, arith, ◌≢◌, ◌<◌, zero, suc, get_or, true≢false, Result, Ok, Err, IfOk, OnErr}
 use Rattle.std.proofs.lemmas.List.{length-append, length-map, map-append}
 use Rattle.std.proofs.lemmas.List.Quantifiers.{all_pairs_push}
+use Rattle.std.proofs.lemmas.List.Sums.{position_or_len_is}
 use Rattle.std.proofs.lemmas.Slice.Eq.{bytes_eq-Decides}
 use Rattle.std.specs.Prelude.{map, position, ◌||◌}
-use Rattle.std.specs.List.{list_any, position_or_len}
+use Rattle.std.specs.List.{list_any, position_or_len, AllPairs}
 use Rattle.std.specs.Str.{bytes_eq}
 use Rattle.indexmap.specs.IndexSet.{insert_key}
-use Rattle.mari_rows.specs.Names.{is_among, AreNames}
+use Rattle.mari_rows.specs.Names.{is_among, name_at, place_in, AreNames}
 
 module _ {X Y : Type 0} (f : X → Y) (test : Y → Bool) where
   pub list_any-map : (xs : List X) → list_any test (map f xs) ≡ list_any (λ x. test (f x)) xs
@@ -23,6 +24,21 @@ module _ {X Y : Type 0} (f : X → Y) (test : Y → Bool) where
 
 pub bytes_eq-same : (name : List ℕ) → bytes_eq name name ≡ true
 bytes_eq-same name = (bytes_eq-Decides name name).1 refl
+
+-- where two names differ, the test tells
+names-differ : (a b : List ℕ) → a ≢ b → bytes_eq a b ≡ false
+names-differ a b apart = by (bytes_eq a b) refl
+  where
+    by : (t : Bool) → bytes_eq a b ≡ t → bytes_eq a b ≡ false
+    by false e = e
+    by true e = absurd (apart ((bytes_eq-Decides a b).0 e))
+
+-- a name's place, among names of which no two are the same
+pub place-of-name : (names : List (List ℕ)) → AllPairs (λ a b. a ≢ b) names → (i : ℕ) → i < length names → place_in names (name_at names i) ≡ i
+place-of-name names apart i l =
+    position_or_len_is (bytes_eq (name_at names i)) names i [] (omega (arith, l))
+    (λ k before. names-differ (name_at names i) (get_or names k []) (λ same. apart k i [] before l (sym same)))
+    (λ there. bytes_eq-same (name_at names i))
 
 pub ruleset name_lemmas = (list_any-map, position-map, length-map, map-append)
 

@@ -1,5 +1,5 @@
 -- Lists of names.
-use Rattle.std.specs.Prelude.{◌≢◌, ◌<◌, ◌^◌, ℕ, Bool, List, [], ◌∷◌, ◌++◌, length, fold, if◌then◌else◌}
+use Rattle.std.specs.Prelude.{◌≢◌, ◌<◌, ◌^◌, ℕ, Bool, List, [], ◌∷◌, ◌++◌, length, fold, slice_index_or, if◌then◌else◌}
 use Rattle.std.specs.List.{list_any, position_or_len, AllPairs}
 use Rattle.std.specs.Str.{bytes_eq}
 
@@ -18,6 +18,10 @@ distinct names = fold with_name [] names
 -- the place of a name, and the length where it is not there
 abbrev pub place_in : List (List ℕ) → List ℕ → ℕ
 place_in names name = position_or_len (bytes_eq name) names
+
+-- the name at a place, or nothing where there is none
+abbrev pub name_at : List (List ℕ) → ℕ → List ℕ
+name_at names place = slice_index_or names place []
 
 -- so few that a place fits 32 bits, and no two of them are equal
 pub record AreNames (names : List (List ℕ)) : Type 0 where

@@ -16,8 +16,8 @@ use std::alloc::Global;
 
 const COLUMNS: &str = "from,to,limit,back";
 
-/// The columns of version 2, where limits are stated for each run.
-const BARE_COLUMNS: &str = "from,to";
+/// The columns of borders.csv in version 2, where limits are stated for each run.
+pub const BARE_COLUMNS: &str = "from,to";
 
 /// A check of borders.csv.
 #[derive(Clone, Copy, Debug, PartialEq, Eq)]

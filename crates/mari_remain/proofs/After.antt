@@ -16,7 +16,7 @@ use Rattle.std.proofs.lemmas.Option.{slice_get_within}
 use Rattle.mari_remain.specs.declared.books.Books.{Books}
 use Rattle.mari_remain.specs.Accepted.{IsAccepted}
 use Rattle.mari_remain.specs.Blocks.{PastBlock, flow_in, flow_of, is_activated, mw_beside, mw_in, mw_of, of_direct_runs, of_quarter}
-use Rattle.mari_remain.specs.FirstBlocks.{AreFirstBlocks, IsKeptAfter, IsNextBlock, IsPastRun, Kept, StandsFor, block_of}
+use Rattle.mari_remain.specs.FirstBlocks.{AreFirstBlocks, IsKeptAfter, IsNextBlock, IsPastRun, Tally, StandsFor, block_of}
 use Rattle.mari_remain.proofs.History.{bounded, flow-more, own-blocks}
 use Rattle.mari_remain.proofs.Standing.{flow-before, kept-direct, kept-mw, last-more}
 use Rattle.mari_remain.specs.Lists.{bid_at, bids_of_quarter, run_at}
@@ -62,7 +62,7 @@ module _ (books : Books) (ok : IsAccepted books) (blocks : List PastBlock) (b : 
       by true = ap (nat_lt 0) (sum_by_push (mw_in i) (of_direct_runs blocks) b) ∙ grind (arith, nat_tests)
       by false = ap (λ bs. is_activated bs i) (append-nil (of_direct_runs blocks)) ∙ grind (arith, nat_tests)
 
-  module _ (kept after : Kept) (stands : StandsFor books blocks kept) where
+  module _ (kept after : Tally) (stands : StandsFor books blocks kept) where
     -- a published block that is added
     pub after-stands : is_some b.published ≡ true → IsKeptAfter b kept after → StandsFor books (blocks ++ b ∷ []) after
     after-stands published is = record {
@@ -105,7 +105,7 @@ module _ (books : Books) (ok : IsAccepted books) (blocks : List PastBlock) (b : 
         none-flows false v = omega (arith, ints)
 
 -- what is asked where a block is added
-pub record CanAdd (books : Books) (kept : Kept) (quarter : ℕ) (bids : List ℕ) (a : Activation) : Type 0 where
+pub record CanAdd (books : Books) (kept : Tally) (quarter : ℕ) (bids : List ℕ) (a : Activation) : Type 0 where
   pub mws : length kept.mw ≡ length books.bids.bids
   pub marks : length kept.direct ≡ length books.bids.bids
   pub there : All (λ i. i < length books.bids.bids) bids
@@ -114,7 +114,7 @@ pub record CanAdd (books : Books) (kept : Kept) (quarter : ℕ) (bids : List ℕ
   pub flows : length a.flow ≡ length kept.flow
   pub flow : (k : ℕ) → unsigned_abs ((if option_map_or (λ last. last == quarter) kept.quarter false then get_or kept.flow k (pos 0) else pos 0) +ℤ get_or a.flow k (pos 0)) ≤ 99999
 
-module _ (books : Books) (ok : IsAccepted books) (blocks : List PastBlock) (kept : Kept) (run : ℕ) (made : RunMarket) (a : Activation)
+module _ (books : Books) (ok : IsAccepted books) (blocks : List PastBlock) (kept : Tally) (run : ℕ) (made : RunMarket) (a : Activation)
     (stands : StandsFor books blocks kept) (is_next : run ≡ length blocks + 1) (last : run ≤ length books.runs.runs) (made_is : made ≡ run_market_of books blocks run) (feasible : IsFeasible made.market a) where
   is_past : IsPastRun books blocks run (record { bids = made.bids; activation = a })
   is_past = record {

@@ -9,7 +9,7 @@ use Rattle.mari_demands.specs.Demands.{IsDemand}
 use Rattle.mari_demands.specs.declared.demands.Demand.{Demand}
 use Rattle.mari_remain.specs.Accepted.{IsAccepted}
 use Rattle.mari_remain.specs.declared.books.Books.{Books}
-use Rattle.mari_remain.specs.FirstBlocks.{Kept, StandsFor}
+use Rattle.mari_remain.specs.FirstBlocks.{Tally, StandsFor}
 use Rattle.mari_remain.specs.Lists.{bids_of_quarter, numbers_of_run, places_from, places_of}
 use Rattle.mari_remain.proofs.Counts.{at-most-each}
 
@@ -30,7 +30,7 @@ same-all x a zero = refl
 same-all x a (suc n) = ap (λ xs. x ∷ xs) (same-all x (a + 1) n)
 
 -- nothing taken
-pub nothing : (books : Books) (kept : Kept) → kept.mw ≡ replicate (length books.bids.bids) 0 → kept.direct ≡ replicate (length books.bids.bids) false → kept.quarter ≡ None
+pub nothing : (books : Books) (kept : Tally) → kept.mw ≡ replicate (length books.bids.bids) 0 → kept.direct ≡ replicate (length books.bids.bids) false → kept.quarter ≡ None
     → kept.flow ≡ replicate (length books.borders.borders) (pos 0) → kept.of_quarter ≡ map (bids_of_quarter books.bids.bids) (range_with_len 0 (books.quarters + 1))
     → kept.of_run ≡ map (numbers_of_run books.demands.demands) (range_with_len 0 (length books.runs.runs + 1)) → StandsFor books [] kept
 nothing books kept mw direct quarter flow index numbers = record {

@@ -23,7 +23,7 @@ use Rattle.mari_remain.specs.declared.books.Books.{Books}
 use Rattle.mari_remain.specs.Accepted.{IsAccepted}
 use Rattle.mari_remain.specs.Available.{Taken, is_available, is_available_up, is_used, may_run, parent_allows, share_group}
 use Rattle.mari_remain.specs.Choice.{rivals_in}
-use Rattle.mari_remain.specs.FirstBlocks.{Kept, taken_in}
+use Rattle.mari_remain.specs.FirstBlocks.{Tally, taken_in}
 use Rattle.mari_remain.specs.Lists.{bid_at, bids_of_quarter, demand_at, group_at, numbers_of_run, parent_at}
 use Rattle.mari_remain.specs.RunMarket.{demands_of_run}
 use Rattle.mari_remain.proofs.Places.{places-filter, places-items, places-rise, places-within}
@@ -62,7 +62,7 @@ rival true a mw (Some g) (Some h) = grind arith
 rival false a mw (Some g) (Some h) = grind arith
 
 -- no rival among the activated bids of the quarter that are in a group is no rival at all
-pub free : (books : Books) (kept : Kept) (quarter i : ℕ) → IsAccepted books
+pub free : (books : Books) (kept : Tally) (quarter i : ℕ) → IsAccepted books
     → list_any (λ j. not (j == i) && share_group books.links.links i j) (filter (rivals_in books kept) (bids_of_quarter books.bids.bids quarter))
     ≡ list_any (λ j. not (j == i) && (share_group books.links.links i j && is_used (taken_in books kept quarter) j)) (range_with_len 0 (length books.links.links))
 free books kept quarter i ok =
@@ -77,7 +77,7 @@ free books kept quarter i ok =
     ∙ ap (λ n. list_any (λ j. not (j == i) && (share_group books.links.links i j && is_used (taken_in books kept quarter) j)) (range_with_len 0 n)) (sym all)
 
 -- the MW that is kept of a bid of the quarter is what was taken of it in the quarter
-pub own-mw : (books : Books) (kept : Kept) (quarter i : ℕ) → (bid_at books.bids.bids i).quarter ≡ quarter → (taken_in books kept quarter).mw i ≡ get_or kept.mw i 0
+pub own-mw : (books : Books) (kept : Tally) (quarter i : ℕ) → (bid_at books.bids.bids i).quarter ≡ quarter → (taken_in books kept quarter).mw i ≡ get_or kept.mw i 0
 own-mw books kept quarter i e = rw (eq-eqb (bid_at books.bids.bids i).quarter quarter e) refl
 
 -- the quarter of a number, in either word
@@ -120,7 +120,7 @@ and-true : (b : Bool) → (b && true) ≡ b
 and-true true = refl
 and-true false = refl
 
-module _ (books : Books) (kept : Kept) (run : Run) (ok : IsAccepted books) where
+module _ (books : Books) (kept : Tally) (run : Run) (ok : IsAccepted books) where
   abbrev taken : Taken
   taken = taken_in books kept run.quarter
 
@@ -198,11 +198,11 @@ own-numbers books quarter =
     λ k d l. record { there = omega (arith, (within k d l).below); own = eqb-true _ _ (passes k d l) }
 
 -- what the index has for a quarter of the day
-pub record HasQuarter (books : Books) (kept : Kept) (quarter : ℕ) : Type 0 where
+pub record HasQuarter (books : Books) (kept : Tally) (quarter : ℕ) : Type 0 where
   pub there : quarter < length kept.of_quarter
   pub bids : get_or kept.of_quarter quarter [] ≡ bids_of_quarter books.bids.bids quarter
 
-pub has-quarter : (books : Books) (kept : Kept) (quarter : ℕ) → kept.of_quarter ≡ map (bids_of_quarter books.bids.bids) (range_with_len 0 (books.quarters + 1)) → quarter ≤ books.quarters → HasQuarter books kept quarter
+pub has-quarter : (books : Books) (kept : Tally) (quarter : ℕ) → kept.of_quarter ≡ map (bids_of_quarter books.bids.bids) (range_with_len 0 (books.quarters + 1)) → quarter ≤ books.quarters → HasQuarter books kept quarter
 has-quarter books kept quarter index l =
     let long : length kept.of_quarter ≡ books.quarters + 1 = ap length index ∙ length-map-range_with_len (bids_of_quarter books.bids.bids) 0 (books.quarters + 1) in
     record {
@@ -211,11 +211,11 @@ has-quarter books kept quarter index l =
     }
 
 -- what the index has for a run of the day
-pub record HasRun (books : Books) (kept : Kept) (run : ℕ) : Type 0 where
+pub record HasRun (books : Books) (kept : Tally) (run : ℕ) : Type 0 where
   pub there : run < length kept.of_run
   pub demands : get_or kept.of_run run [] ≡ numbers_of_run books.demands.demands run
 
-pub has-run : (books : Books) (kept : Kept) (run : ℕ) → kept.of_run ≡ map (numbers_of_run books.demands.demands) (range_with_len 0 (length books.runs.runs + 1)) → run ≤ length books.runs.runs → HasRun books kept run
+pub has-run : (books : Books) (kept : Tally) (run : ℕ) → kept.of_run ≡ map (numbers_of_run books.demands.demands) (range_with_len 0 (length books.runs.runs + 1)) → run ≤ length books.runs.runs → HasRun books kept run
 has-run books kept run index l =
     let runs : ℕ = length books.runs.runs in
     let long : length kept.of_run ≡ runs + 1 = ap length index ∙ length-map-range_with_len (numbers_of_run books.demands.demands) 0 (runs + 1) in

@@ -1,29 +1,28 @@
 -- The printed page of borders is read as these borders without their limits.
-use Rattle.std.proofs.Common.{◌≡◌, ◌≢◌, ◌∙◌, ◌<◌, ◌+◌, ◌==◌, ◌&&◌, ◌||◌, ℕ, zero, suc, Bool, true, false, List, [], ◌∷◌, ◌++◌, Option, Some, None, Result, Ok, Err, All, AllPairs, length, map, refl, sym, ap, arith, is_some, not, nat_le, nat_lt, position, slice_index_or, bytes_eq, option_map, length-append}
+use Rattle.std.proofs.Common.{◌≡◌, ◌∙◌, ◌<◌, ◌+◌, ◌==◌, ◌&&◌, ◌||◌, ℕ, zero, suc, Bool, true, false, List, [], ◌∷◌, ◌++◌, Option, Some, None, Result, Ok, Err, All, length, map, refl, sym, ap, arith, is_some, not, nat_le, nat_lt, position, option_map, length-append}
 use Rattle.std.specs.List.{list_all, list_any, position_or_len}
 use Rattle.std.specs.Option.{option_or}
 use Rattle.std.proofs.lemmas.Bool.{eq-eqb, eqb-true, lt-ltb, ltb-true, ne_eqb}
 use Rattle.std.proofs.lemmas.Bool.Decides.{nat_tests}
-use Rattle.std.proofs.lemmas.List.{length-map, map-append}
+use Rattle.std.proofs.lemmas.List.{get_or_past, length-map, map-append}
 use Rattle.std.proofs.lemmas.List.Elements.{All-head, All-tail}
-use Rattle.std.proofs.lemmas.Option.{slice_get_past, unwrap_or-slice_get}
-use Rattle.std.proofs.lemmas.Slice.Eq.{bytes_eq-Decides}
 use Rattle.csv.specs.Reading.{strip_bom}
 use Rattle.mari_rows.specs.Books.{Grammar, book_in, book_of_read, first_failing, first_refusal, line_refusal}
 use Rattle.mari_rows.specs.First.{first_fault, first_fault_behind}
+use Rattle.mari_rows.specs.Names.{name_at}
 use Rattle.mari_rows.specs.Rows.{columns_of, rows_from, rows_in}
 use Rattle.mari_rows.specs.declared.faults.BookFault.TheVariants as refused
 use Rattle.mari_rows.specs.declared.faults.RowFault.{RowFault}
 use Rattle.mari_rows.specs.declared.rows.Row.{Row}
 use Rattle.mari_rows.proofs.BookFacts.{all-passed}
 use Rattle.mari_rows.proofs.FirstLemmas.{value-no-fault}
-use Rattle.mari_rows.proofs.NameLemmas.{bytes_eq-same, list_any-map}
+use Rattle.mari_rows.proofs.NameLemmas.{list_any-map, place-of-name}
 use Rattle.mari_zones.specs.Borders.{IsBorder, bare_columns, border_checks, border_grammar, border_of, borders_in, is_between_same, version_in, zone_named}
 use Rattle.mari_zones.specs.Zones.{IsZoneBook}
 use Rattle.mari_zones.specs.declared.borders.BorderBook.{BorderBook}
 use Rattle.mari_zones.specs.declared.borders.BorderEnds.{BorderEnds}
 use Rattle.mari_zones.specs.declared.zones.ZoneBook.{ZoneBook}
-use Rattle.mari_remain.specs.Migrated.{border_record, page_of, zone_at}
+use Rattle.mari_remain.specs.Migrated.{border_record, page_of}
 use Rattle.mari_remain.proofs.PrintedFields.{name-plain}
 use Rattle.mari_remain.proofs.ReadBack.{AreColumns, book-read, five-pass, is_plain_field, is_plain_record, itself, page-rows, records-read, row-passes}
 
@@ -42,39 +41,16 @@ position-behind test xs ys y none here =
     let within : length xs < length (xs ++ y ∷ ys) = grind (arith, length-append) in
     rw (first-position test xs ys y none here, lt-ltb (length xs) (length (xs ++ y ∷ ys)) within) refl
 
--- a name of names that differ is found at its place
-module _ (name : List ℕ) where
-  other : (a : List ℕ) → name ≢ a → bytes_eq name a ≡ false
-  other a differ = by (bytes_eq name a) refl
-    where
-      by : (b : Bool) → bytes_eq name a ≡ b → b ≡ false
-      by true e = absurd (differ ((bytes_eq-Decides name a).0 e))
-      by false e = refl
-
-named-place : (names : List (List ℕ)) → AllPairs (λ a b. a ≢ b) names → (i : ℕ) → i < length names → position_or_len (bytes_eq (slice_index_or names i [])) names ≡ i
-named-place [] distinct i within = absurd (omega (arith, within))
-named-place (n ∷ ns) distinct zero within = rw (bytes_eq-same n) refl
-named-place (n ∷ ns) distinct (suc i) within =
-    let later = slice_index_or ns i [] in
-    let apart : later ≢ n = λ same. distinct 0 (suc i) [] (omega arith) within (sym same) in
-    let rest = named-place ns (λ j k d below last. distinct (suc j) (suc k) d (omega (arith, below)) (omega (arith, last))) i (omega (arith, within)) in
-    rw (other later n apart, rest) (omega arith)
-
-pub zone-there : (zones : ZoneBook) (i : ℕ) → zone_at zones i ≡ slice_index_or zones.zones i []
-zone-there zones i = unwrap_or-slice_get zones.zones i []
-
-pub zone-found : (zones : ZoneBook) → IsZoneBook zones → (i : ℕ) → i < length zones.zones → zone_named zones (zone_at zones i) ≡ Some i
-zone-found zones is i within = rw (zone-there zones i, named-place zones.zones is.distinct i within, lt-ltb i (length zones.zones) within) refl
+pub zone-found : (zones : ZoneBook) → IsZoneBook zones → (i : ℕ) → i < length zones.zones → zone_named zones (name_at zones.zones i) ≡ Some i
+zone-found zones is i within = rw (place-of-name zones.zones is.distinct i within, lt-ltb i (length zones.zones) within) refl
 
 -- the name of a zone stands without quotes, and so does nothing in its place
-pub zone-plain : (zones : ZoneBook) → IsZoneBook zones → (i : ℕ) → is_plain_field (zone_at zones i) ≡ true
+pub zone-plain : (zones : ZoneBook) → IsZoneBook zones → (i : ℕ) → is_plain_field (name_at zones.zones i) ≡ true
 zone-plain zones is i = by (nat_lt i (length zones.zones)) refl
   where
-    by : (b : Bool) → nat_lt i (length zones.zones) ≡ b → is_plain_field (zone_at zones i) ≡ true
-    by true e =
-        let within = ltb-true i (length zones.zones) e in
-        rw (zone-there zones i) (name-plain (slice_index_or zones.zones i []) (is.zones i [] within))
-    by false e = rw (slice_get_past zones.zones i (grind (arith, nat_tests))) refl
+    by : (b : Bool) → nat_lt i (length zones.zones) ≡ b → is_plain_field (name_at zones.zones i) ≡ true
+    by true e = name-plain (name_at zones.zones i) (is.zones i [] (ltb-true i (length zones.zones) e))
+    by false e = rw (get_or_past zones.zones i [] (grind (arith, nat_tests))) refl
 
 -- a border without its limits
 abbrev pub bare : BorderEnds → BorderEnds
@@ -112,7 +88,7 @@ module _ (zones : ZoneBook) (is : IsZoneBook zones) where
       let room : nat_le 256 (length earlier) ≡ false = grind (arith, nat_tests) in
       let apart : (x.from == x.to) ≡ false = ne_eqb x.from x.to ok.apart in
       let fresh : list_any (is_between_same (bare x)) (map bare before) ≡ false = list_any-map bare (is_between_same (bare x)) before ∙ new in
-      let found : (is_some (zone_named zones (zone_at zones x.from)) && is_some (zone_named zones (zone_at zones x.to))) ≡ true =
+      let found : (is_some (zone_named zones (name_at zones.zones x.from)) && is_some (zone_named zones (name_at zones.zones x.to))) ≡ true =
       rw (zone-found zones is x.from ok.from, zone-found zones is x.to ok.to) refl in
       let ends : border_of zones 2 row ≡ bare x = line-read line x ok in
       let repeated : list_any (is_between_same (border_of zones 2 row)) (map (border_of zones 2) earlier) ≡ false =

@@ -1,11 +1,10 @@
 -- The printed pages are no longer than a page may be.
-use Rattle.std.proofs.Common.{◌≡◌, ◌≤◌, ◌<◌, ◌+◌, ◌*◌, ◌&&◌, ℕ, zero, suc, Bool, true, false, List, [], ◌∷◌, length, map, refl, arith, flat_map, nat_le, nat_lt, decimal, length-append, slice_index_or}
+use Rattle.std.proofs.Common.{◌≡◌, ◌≤◌, ◌<◌, ◌+◌, ◌*◌, ◌&&◌, ℕ, zero, suc, Bool, true, false, List, [], ◌∷◌, length, map, refl, arith, flat_map, nat_le, nat_lt, decimal, length-append}
 use Rattle.std.specs.List.{list_all, range_with_len}
 use Rattle.std.proofs.lemmas.Bool.{leb-true, ltb-true}
 use Rattle.std.proofs.lemmas.Bool.Decides.{nat_tests}
 use Rattle.std.proofs.lemmas.Fmt.{length-decimal-le}
 use Rattle.std.proofs.lemmas.Grind.{flat_map-append}
-use Rattle.std.proofs.lemmas.Option.{slice_get_past}
 use Rattle.mari_units.specs.Names.{is_name, is_name_byte}
 use Rattle.mari_rows.proofs.BookFacts.{both-parts}
 use Rattle.mari_zones.specs.Borders.{bare_columns}
@@ -15,9 +14,8 @@ use Rattle.mari_zones.specs.declared.zones.ZoneBook.{ZoneBook}
 use Rattle.mari_demands.specs.Limits.{limit_columns}
 use Rattle.mari_remain.specs.declared.books.Books.{Books}
 use Rattle.mari_remain.specs.Accepted.{IsAccepted}
-use Rattle.mari_remain.specs.Migrated.{border_record, borders_page, limit_record, limits_page, line_of, run_records, zone_at}
+use Rattle.mari_remain.specs.Migrated.{border_record, borders_page, limit_record, limits_page, line_of, run_records}
 use Rattle.mari_remain.specs.RunMarket.{ends_at, limits_at}
-use Rattle.mari_remain.proofs.MigratedBorders.{zone-there}
 use Rattle.mari_remain.proofs.Validity.{in_range}
 
 short-name : (name : List ℕ) → is_name name ≡ true → length name ≤ 16
@@ -25,12 +23,12 @@ short-name name e =
     let parts = both-parts (nat_le 1 (length name) && nat_le (length name) 16) (list_all is_name_byte name) e in
     leb-true (length name) 16 ((both-parts (nat_le 1 (length name)) (nat_le (length name) 16) parts.0).1)
 
-short-zone : (zones : ZoneBook) → IsZoneBook zones → (i : ℕ) → length (zone_at zones i) ≤ 16
+short-zone : (zones : ZoneBook) → IsZoneBook zones → (i : ℕ) → length (name_at zones.zones i) ≤ 16
 short-zone zones is i = by (nat_lt i (length zones.zones)) refl
   where
-    by : (b : Bool) → nat_lt i (length zones.zones) ≡ b → length (zone_at zones i) ≤ 16
-    by true e = rw (zone-there zones i) (short-name (slice_index_or zones.zones i []) (is.zones i [] (ltb-true i (length zones.zones) e)))
-    by false e = rw (slice_get_past zones.zones i (grind (arith, nat_tests))) (omega arith)
+    by : (b : Bool) → nat_lt i (length zones.zones) ≡ b → length (name_at zones.zones i) ≤ 16
+    by true e = short-name (name_at zones.zones i) (is.zones i [] (ltb-true i (length zones.zones) e))
+    by false e = rw (get_or_past zones.zones i [] (grind (arith, nat_tests))) (omega arith)
 
 -- the length of a line of two fields, and of five
 two-fields : (a b : List ℕ) → length (line_of (a ∷ b ∷ [])) ≡ length a + length b + 2
@@ -44,7 +42,7 @@ short-lines zones is [] = omega arith
 short-lines zones is (x ∷ xs) =
     let line = line_of (border_record zones x) in
     let rest = flat_map line_of (map (border_record zones) xs) in
-    let here : length line ≤ 34 = omega (arith, two-fields (zone_at zones x.from) (zone_at zones x.to), short-zone zones is x.from, short-zone zones is x.to) in
+    let here : length line ≤ 34 = omega (arith, two-fields (name_at zones.zones x.from) (name_at zones.zones x.to), short-zone zones is x.from, short-zone zones is x.to) in
     rw (length-append line rest) (omega (arith, here, short-lines zones is xs))
 
 -- so many lines of at most 51 bytes
@@ -65,7 +63,7 @@ module _ (books : Books) (ok : IsAccepted books) where
       let small = in_range books books.limits run border ok.limits (ok.borders.borders border _ within) in
       omega (
         arith,
-        five-fields (decimal run) (zone_at books.zones ends.from) (zone_at books.zones ends.to) (decimal limits.limit) (decimal limits.back),
+        five-fields (decimal run) (name_at books.zones.zones ends.from) (name_at books.zones.zones ends.to) (decimal limits.limit) (decimal limits.back),
         short-zone books.zones ok.zones ends.from,
         short-zone books.zones ok.zones ends.to,
         length-decimal-le 4 run (omega arith) (omega (arith, last)) (omega (arith, last)),

@@ -15,7 +15,7 @@ use Rattle.mari_remain.specs.declared.books.Books.{Books}
 use Rattle.mari_remain.specs.Accepted.{IsAccepted}
 use Rattle.mari_remain.specs.Available.{taken_by}
 use Rattle.mari_remain.specs.Blocks.{PastBlock, PastRun, flow_in, flow_of, is_activated, mw_in, mw_of, of_direct_runs, of_quarter}
-use Rattle.mari_remain.specs.FirstBlocks.{AreFirstBlocks, IsNextBlock, Kept, StandsFor, last_quarter, taken_in}
+use Rattle.mari_remain.specs.FirstBlocks.{AreFirstBlocks, IsNextBlock, Tally, StandsFor, last_quarter, taken_in}
 use Rattle.mari_remain.specs.Lists.{bid_at, run_at}
 use Rattle.mari_remain.proofs.History.{IsOwnBlock, bounded, by_blocks, mw-none, own-blocks}
 
@@ -102,7 +102,7 @@ module _ (books : Books) (ok : IsAccepted books) where
       by true e more here = rw (here e, more) refl
       by false e more here = more
 
-  module _ (blocks : List PastBlock) (kept : Kept) (stands : StandsFor books blocks kept) where
+  module _ (blocks : List PastBlock) (kept : Tally) (stands : StandsFor books blocks kept) where
     pub kept-mw : (i : ℕ) → get_or kept.mw i 0 ≡ mw_of blocks i
     kept-mw i = elim (cases_lt i (length books.bids.bids)) [
       | inl l ↦ ap (λ (ms : List ℕ). get_or ms i 0) stands.mw ∙ get_or-map-range_with_len (mw_of blocks) 0 (length books.bids.bids) i i 0 l (zero-add i)

@@ -51,15 +51,18 @@ share_group links i j = option_map_or (λ g. option_map_or (λ h. h == g) (group
 abbrev pub has_free_group : List BidLinks → Taken → ℕ → Bool
 has_free_group links taken i = not (list_any (λ j. not (j == i) && (share_group links i j && is_used taken j)) (range_with_len 0 (length links)))
 
--- each bid that it needs was activated, none that bars it was, and no technical one was in a direct run
-abbrev pub keeps_links : Taken → BidLinks → Bool
-keeps_links taken l = list_all taken.activated l.needs && (not (list_any taken.activated l.bars) && not (list_any taken.by_direct_run l.technical))
+-- the links of a bid let it run: each bid that it needs was activated, none that bars it was, and no technical one was
+-- in a direct run
+abbrev pub keeps_links : (activated by_direct_run : ℕ → Bool) → BidLinks → Bool
+keeps_links activated by_direct_run l =
+    list_all activated l.needs
+    && (not (list_any activated l.bars) && not (list_any by_direct_run l.technical))
 
 -- all of this: nothing but its parent can keep the bid from the run
 abbrev pub may_run : Books → Taken → Run → ℕ → Bool
 may_run books taken run i =
     is_for run (bid_at books.bids.bids i)
-    && (is_left books taken i && (has_free_group books.links.links taken i && option_map_or (keeps_links taken) (slice_get books.links.links i) true))
+    && (is_left books taken i && (has_free_group books.links.links taken i && option_map_or (keeps_links taken.activated taken.by_direct_run) (slice_get books.links.links i) true))
 
 -- a parent, if it has one, was activated in the quarter, or is available
 abbrev pub parent_allows : (is_available : ℕ → Bool) → Taken → Option ℕ → Bool

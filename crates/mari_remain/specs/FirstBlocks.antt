@@ -43,7 +43,7 @@ last_quarter blocks = fold (λ before (b : PastBlock). if is_some b.published th
 
 -- what is kept of the blocks: the MW of each bid, whether a direct run activated it, the quarter of the last published
 -- block, and the sum of each border's flows in that quarter
-pub record Kept : Type 0 where
+pub record Tally : Type 0 where
   pub mw : List ℕ
   pub direct : List Bool
   pub quarter : Option ℕ
@@ -55,7 +55,7 @@ pub record Kept : Type 0 where
 
 -- what is kept stands for a list of blocks: they are those of the first runs, and the MW, the marks, the quarter and
 -- the flows are theirs
-pub record StandsFor (books : Books) (blocks : List PastBlock) (kept : Kept) : Type 0 where
+pub record StandsFor (books : Books) (blocks : List PastBlock) (kept : Tally) : Type 0 where
   pub first : AreFirstBlocks books blocks
   pub mw : kept.mw ≡ map (mw_of blocks) (range_with_len 0 (length books.bids.bids))
   pub direct : kept.direct ≡ map (is_activated (of_direct_runs blocks)) (range_with_len 0 (length books.bids.bids))
@@ -65,7 +65,7 @@ pub record StandsFor (books : Books) (blocks : List PastBlock) (kept : Kept) : T
   pub of_run : kept.of_run ≡ map (numbers_of_run books.demands.demands) (range_with_len 0 (length books.runs.runs + 1))
 
 -- what is taken, as it is read off what is kept, for a run of a quarter
-abbrev pub taken_in : Books → Kept → (quarter : ℕ) → Taken
+abbrev pub taken_in : Books → Tally → (quarter : ℕ) → Taken
 taken_in books kept quarter = record {
   mw = λ i. if (bid_at books.bids.bids i).quarter == quarter then get_or kept.mw i 0 else 0;
   activated = λ i. nat_lt 0 (get_or kept.mw i 0);
@@ -75,7 +75,7 @@ taken_in books kept quarter = record {
 
 -- what is kept behind one more published block: its MW and marks are added, its quarter is the last, and its flows are
 -- added to those of its quarter
-pub record IsKeptAfter (b : PastBlock) (kept after : Kept) : Type 0 where
+pub record IsKeptAfter (b : PastBlock) (kept after : Tally) : Type 0 where
   pub mws : length after.mw ≡ length kept.mw
   pub mw : (i : ℕ) → get_or after.mw i 0 ≡ get_or kept.mw i 0 + mw_in i b
   pub marks : length after.direct ≡ length kept.direct

@@ -1,8 +1,9 @@
 -- The pages that state a folder's limits for each run, and the books that they make.
-use Rattle.std.specs.Prelude.{◌≡◌, ℕ, List, [], ◌∷◌, ◌++◌, Some, Ok, length, map, slice_get, unwrap_or}
+use Rattle.std.specs.Prelude.{◌≡◌, ℕ, List, [], ◌∷◌, ◌++◌, Some, Ok, length, map}
 use Rattle.std.specs.Fmt.{decimal}
 use Rattle.std.specs.List.{flat_map, join_with_byte, range_with_len}
 use Rattle.mari_rows.specs.Books.{book_in}
+use Rattle.mari_rows.specs.Names.{name_at}
 use Rattle.mari_zones.specs.Borders.{bare_columns, borders_in, version_in}
 use Rattle.mari_zones.specs.declared.borders.BorderBook.{BorderBook}
 use Rattle.mari_zones.specs.declared.borders.BorderEnds.{BorderEnds}
@@ -20,17 +21,13 @@ line_of fields = join_with_byte 44 fields ++ 10 ∷ []
 abbrev pub page_of : List ℕ → List (List (List ℕ)) → List ℕ
 page_of columns records = columns ++ 10 ∷ flat_map line_of records
 
--- the name of a zone
-abbrev pub zone_at : ZoneBook → ℕ → List ℕ
-zone_at zones i = unwrap_or (slice_get zones.zones i) []
-
 -- the record of a border: its two zones
 abbrev pub border_record : ZoneBook → BorderEnds → List (List ℕ)
-border_record zones ends = zone_at zones ends.from ∷ zone_at zones ends.to ∷ []
+border_record zones ends = name_at zones.zones ends.from ∷ name_at zones.zones ends.to ∷ []
 
 -- the record of a border's limits in a run
 abbrev pub limit_record : ZoneBook → (run : ℕ) → BorderEnds → Limits → List (List ℕ)
-limit_record zones run ends limits = decimal run ∷ zone_at zones ends.from ∷ zone_at zones ends.to ∷ decimal limits.limit ∷ decimal limits.back ∷ []
+limit_record zones run ends limits = decimal run ∷ name_at zones.zones ends.from ∷ name_at zones.zones ends.to ∷ decimal limits.limit ∷ decimal limits.back ∷ []
 
 module _ (books : Books) where
   -- the page of borders: each border without its limits

@@ -15,7 +15,7 @@ use Rattle.mari_market.specs.declared.market.GateInfo.{GateInfo}
 use Rattle.mari_market.specs.declared.market.Market.{Market}
 use Rattle.mari_market.specs.declared.market.Order.{Order}
 use Rattle.mari_market.specs.declared.market.Side.{Side}
-use Rattle.mari_market.specs.declared.market.Side.TheVariants.{Inject, Withdraw}
+use Rattle.mari_market.specs.Sides.{side_of}
 use Rattle.mari_remain.specs.declared.books.Books.{Books}
 use Rattle.mari_remain.specs.declared.market.RunMarket.{RunMarket}
 use Rattle.mari_remain.specs.Available.{Taken, is_available, taken_by}
@@ -37,13 +37,9 @@ abbrev pub greatest_of : Option ℕ → (offer taken : ℕ) → ℕ
 greatest_of None offer taken = offer - taken
 greatest_of (Some gate) offer taken = offer
 
--- an upward bid is an injection, a downward one a withdrawal
-abbrev pub bid_side : Bool → Side
-bid_side up = if up then Inject else Withdraw
-
 -- the order of a bid of which earlier blocks took so much
 abbrev pub bid_order : Bid → Option ℕ → ℕ → Order
-bid_order b gate taken = record { zone = b.zone; side = bid_side b.up; price = b.price; least = least_of gate b.least; greatest = greatest_of gate b.greatest taken; gate = gate }
+bid_order b gate taken = record { zone = b.zone; side = side_of b.up; price = b.price; least = least_of gate b.least; greatest = greatest_of gate b.greatest taken; gate = gate }
 
 -- a demand that states no price is met at any: it takes at the cap, or gives at its negative
 abbrev pub inelastic_price : ℤ → Cents
@@ -51,7 +47,7 @@ inelastic_price mw = if int_lt mw (pos 0) then record { 0 = neg_ℤ CAP } else r
 
 -- a demand below 0 is an injection of the same size, and any other a withdrawal
 abbrev pub demand_side : ℤ → Side
-demand_side mw = if int_lt mw (pos 0) then Inject else Withdraw
+demand_side mw = side_of (int_lt mw (pos 0))
 
 abbrev pub demand_order : Demand → Order
 demand_order d = record { zone = d.zone; side = demand_side d.mw; price = unwrap_or d.price (inelastic_price d.mw); least = 0; greatest = unsigned_abs d.mw; gate = None }

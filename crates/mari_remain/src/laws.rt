@@ -7,7 +7,7 @@ ghost use Rattle.mari_zones.specs.declared.borders.BorderBook.{BorderBook};
 ghost use Rattle.mari_demands.specs.declared.limits.Limits.{Limits};
 ghost use Rattle.mari_remain.specs.Accepted.{IsAccepted};
 ghost use Rattle.mari_remain.specs.Blocks.{PastBlock, mw_in, mw_of};
-ghost use Rattle.mari_remain.specs.FirstBlocks.{AreFirstBlocks, IsKeptAfter, IsNextBlock, Kept, StandsFor};
+ghost use Rattle.mari_remain.specs.FirstBlocks.{AreFirstBlocks, IsKeptAfter, IsNextBlock, Tally, StandsFor};
 ghost use Rattle.mari_remain.specs.Lists.{bid_at};
 ghost use Rattle.mari_remain.specs.Migrated.{AreRead, borders_page, limits_page, with_limits};
 ghost use Rattle.mari_remain.specs.RunMarket.{limits_at, run_market_of};
@@ -29,9 +29,9 @@ pub fn offers_are_kept(books: &Books)
 /// blocks so far then stands for one more.
 pub fn stands_after(books: &Books)
     requires { IsAccepted books.now }
-    ensures published { (blocks : List PastBlock) (next : PastBlock) (kept after : Kept) → StandsFor books.now blocks kept → IsNextBlock books.now blocks next
+    ensures published { (blocks : List PastBlock) (next : PastBlock) (kept after : Tally) → StandsFor books.now blocks kept → IsNextBlock books.now blocks next
         → is_some next.published ≡ true → IsKeptAfter next kept after → StandsFor books.now (blocks ++ next ∷ []) after }
-    ensures unpublished { (blocks : List PastBlock) (next : PastBlock) (kept : Kept) → StandsFor books.now blocks kept → IsNextBlock books.now blocks next
+    ensures unpublished { (blocks : List PastBlock) (next : PastBlock) (kept : Tally) → StandsFor books.now blocks kept → IsNextBlock books.now blocks next
         → next.published ≡ None → StandsFor books.now (blocks ++ next ∷ []) kept }
 {
     let _books = books;

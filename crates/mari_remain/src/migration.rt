@@ -1,22 +1,31 @@
 //! The pages that state a folder's limits for each run. That they are read, and change no market, is the law
 //! `migration_keeps_markets`.
 
-ghost use Rattle.std.specs.Prelude.{◌≡◌, ◌≤◌, ◌∷◌, ◌++◌, IfOk, OnOk, length, map};
+ghost use Rattle.std.specs.Prelude.{◌≡◌, ◌≤◌, [], ◌∷◌, ◌++◌, IfOk, OnOk, length, map};
 ghost use Rattle.std.specs.Fmt.{decimal};
 ghost use Rattle.std.specs.List.{flat_map, range_with_len};
+ghost use Rattle.mari_rows.specs.Names.{name_at};
 ghost use Rattle.mari_remain.specs.Accepted.{IsAccepted};
-ghost use Rattle.mari_remain.specs.Migrated.{border_record, borders_page, limit_record, limits_page, line_of, run_records, zone_at};
+ghost use Rattle.mari_remain.specs.Migrated.{border_record, borders_page, limit_record, limits_page, line_of, run_records};
 
 use crate::books::Books;
 use crate::market::limits_of;
-use mari_demands::Limits;
+use mari_demands::{LIMIT_COLUMNS, Limits};
 use mari_units::{Memory, put, put_number};
-use mari_zones::{BorderEnds, ZoneBook};
+use mari_zones::{BARE_COLUMNS, BorderEnds, ZoneBook};
 use std::alloc::Global;
+
+/// Appends the names of a page's columns, as its first line.
+fn put_columns(text: &mut Vec<u8>, columns: &str) -> Result<(), Memory>
+    ensures { OnOk result (text.new.items ≡ text.old.items ++ columns.now ++ 10 ∷ []) }
+{
+    put(text, columns.as_bytes())?;
+    put(text, b"\n")
+}
 
 /// Appends the name of a zone.
 fn put_zone(text: &mut Vec<u8>, zones: &ZoneBook, zone: u32) -> Result<(), Memory>
-    ensures { OnOk result (text.new.items ≡ text.old.items ++ zone_at zones.now zone) }
+    ensures { OnOk result (text.new.items ≡ text.old.items ++ name_at zones.now.zones zone) }
 {
     let name = zones.zones.name_at(zone).unwrap_or(b"");
     put(text, name)
@@ -24,7 +33,7 @@ fn put_zone(text: &mut Vec<u8>, zones: &ZoneBook, zone: u32) -> Result<(), Memor
 
 /// Appends the names of a border's zones, with a comma between.
 fn put_ends(text: &mut Vec<u8>, zones: &ZoneBook, ends: BorderEnds) -> Result<(), Memory>
-    ensures { OnOk result (text.new.items ≡ text.old.items ++ zone_at zones.now ends.from ++ 44 ∷ zone_at zones.now ends.to) }
+    ensures { OnOk result (text.new.items ≡ text.old.items ++ name_at zones.now.zones ends.from ++ 44 ∷ name_at zones.now.zones ends.to) }
 {
     put_zone(text, zones, ends.from)?;
     put(text, b",")?;
@@ -108,7 +117,7 @@ pub fn borders_text(alloc: Global, books: &Books) -> Result<Vec<u8>, Memory>
     ensures { IfOk result (λ text. text.items ≡ borders_page books.now) }
 {
     let mut text = Vec::new(alloc);
-    put(&mut text, b"from,to\n")?;
+    put_columns(&mut text, BARE_COLUMNS)?;
     put_borders(&mut text, &books.zones, books.borders.borders.as_slice())?;
     Ok(text)
 }
@@ -121,7 +130,7 @@ pub fn limits_text(alloc: Global, books: &Books) -> Result<Vec<u8>, Memory>
     ensures { IfOk result (λ text. text.items ≡ limits_page books.now) }
 {
     let mut text = Vec::new(alloc);
-    put(&mut text, b"run,from,to,limit,back\n")?;
+    put_columns(&mut text, LIMIT_COLUMNS)?;
     put_runs(alloc, &mut text, books)?;
     Ok(text)
 }

@@ -31,9 +31,9 @@ pub struct Remaining {
 }
 
 impl Model for Remaining {
-    ghost use Rattle.mari_remain.specs.FirstBlocks.{Kept};
+    ghost use Rattle.mari_remain.specs.FirstBlocks.{Tally};
 
-    ghost Value = { Kept };
+    ghost Value = { Tally };
 
     ghost view = { λ r. record { mw = r.mw.items; direct = r.direct.items; quarter = r.quarter; flow = r.flow.items; of_quarter = r.of_quarter.items; of_run = r.of_run.items } };
 }

@@ -1,18 +1,17 @@
 -- What the calls of the ledger ask of what they are given, and how large its numbers are.
-use Rattle.std.specs.Prelude.{◌≡◌, ℕ, ◌<◌, ◌≤◌, ◌^◌, ◌+ℤ◌, if◌then◌else◌, List, length, take, slice_get, unsigned_abs, IsSomeAnd}
+use Rattle.std.specs.Prelude.{◌≡◌, ℕ, ◌<◌, ◌≤◌, ◌^◌, ◌+ℤ◌, List, length, take, slice_get, unsigned_abs, IsSomeAnd}
 use Rattle.std.specs.List.{All, AllZip}
 use Rattle.mari_units.specs.declared.numbers.Quarters.{Quarters}
 use Rattle.mari_zones.specs.declared.zones.ZoneBook.{ZoneBook}
 use Rattle.mari_bids.specs.declared.bids.Bid.{Bid}
 use Rattle.mari_bids.specs.declared.bids.BidBook.{BidBook}
-use Rattle.mari_market.specs.declared.market.Side.{Side}
-use Rattle.mari_market.specs.declared.market.Side.TheVariants.{Inject, Withdraw}
 use Rattle.mari_market.specs.declared.market.Order.{Order}
 use Rattle.mari_market.specs.declared.market.Market.{Market}
 use Rattle.mari_market.specs.declared.activation.Activation.{Activation}
 use Rattle.mari_market.specs.Activation.{IsWithinLimits}
 use Rattle.mari_market.specs.Market.{IsValid}
 use Rattle.mari_market.specs.Price.{ArePrices}
+use Rattle.mari_market.specs.Sides.{side_of}
 use Rattle.mari_units.specs.declared.numbers.Cents.{Cents}
 use Rattle.mari_settle.specs.declared.ledger.OperatorLine.{OperatorLine}
 use Rattle.mari_settle.specs.declared.ledger.Ledger.{Ledger}
@@ -47,14 +46,10 @@ pub record Settles (zones : ZoneBook) (m : Market) (a : Activation) (ps : List C
   pub prices : ArePrices m ps
   pub flows : HasFlows m a
 
--- a bid's side: an upward bid injects
-abbrev pub side_of : Bid → Side
-side_of bid = if bid.up then Inject else Withdraw
-
--- the order has the bid's zone and side
+-- the order has the bid's zone, and the side of its direction
 pub record IsOrderOf (order : Order) (bid : Bid) : Type 0 where
   pub zone : order.zone ≡ bid.zone
-  pub side : order.side ≡ side_of bid
+  pub side : order.side ≡ side_of bid.up
 
 -- the numbers name bids that are there, those of the first orders
 abbrev pub NameOrders : List Bid → List ℕ → List Order → Type 0

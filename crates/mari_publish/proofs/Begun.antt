@@ -27,7 +27,8 @@ use Rattle.mari_publish.specs.declared.held.Kept.{Kept}
 use Rattle.mari_publish.specs.Faults.{Begins}
 use Rattle.mari_lines.specs.Ranges.{InRange, IsPriceLine, IsMoneyLine, Listed}
 use Rattle.mari_publish.specs.Ranges.{HasText}
-use Rattle.mari_publish.specs.Order.{kept_with, one_published, with_item, conflict_item, after_listing, after_growing, full_block, after, grown, front_lines}
+use Rattle.mari_publish.specs.Lines.{front_lines}
+use Rattle.mari_publish.specs.Order.{kept_with, one_published, with_item, conflict_item, after_listing, after_growing, full_block, after, grown}
 use Rattle.mari_publish.proofs.Counts.{counted}
 use Rattle.mari_lines.proofs.Gathered.{cons_all}
 use Rattle.mari_publish.proofs.Fits.{Fit, has_text}

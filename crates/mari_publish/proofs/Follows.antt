@@ -1,6 +1,7 @@
 -- The lines of a publication may follow one another, and give that publication.
 use Rattle.std.proofs.Common.{◌≡◌, ◌≤◌, ◌<◌, ℕ, ◌+◌, Bool, true, cond, ◌&&◌, List, [], ◌∷◌, ◌++◌, map, length, Option, Some, None, refl, sym, ap, ◌∙◌, append_assoc, length-append, arith, eqb}
 use Rattle.std.specs.List.{flat_map, AllByRecursion}
+use Rattle.std.specs.Prelude.{option_and_then}
 use Rattle.std.proofs.lemmas.Bool.{lt-ltb, eq-eqb}
 use Rattle.std.proofs.lemmas.List.{append-nil}
 use Rattle.mari_market.specs.declared.certificate.Leaf.TheVariants as leaves
@@ -31,7 +32,7 @@ use Rattle.mari_publish.specs.Lines.{item_lines, demand_lines, market_lines, tre
 use Rattle.mari_lines.specs.Ranges.{Between}
 use Rattle.mari_publish.specs.Ranges.{HasText}
 use Rattle.mari_publish.specs.Faults.{Begins}
-use Rattle.mari_publish.specs.Order.{kept_with, after_listing, after_ending, after_totals, keeps, after, grown, nothing_read, nothing_kept, and_then, after_all}
+use Rattle.mari_publish.specs.Order.{kept_with, after_listing, after_ending, after_totals, keeps, after, grown, nothing_read, nothing_kept, after_all}
 use Rattle.mari_publish.proofs.Fits.{blocks_within}
 use Rattle.mari_publish.proofs.Steps.{some}
 use Rattle.mari_publish.proofs.Whole.{Stands, ones, others, IsWithinLimits}
@@ -44,15 +45,15 @@ at m n h = record { held = h; counts = record { published = m; unpublished = n }
 
 step : (p : Publication) (k : Kept) (l : Line) (ls : List Line) (x : Kept × Option Part) → after k k.held l ≡ Some x
     → after_all p k (l ∷ ls) ≡ after_all (grown p x.1) x.0 ls
-step p k l ls x e = ap (λ o. and_then o (λ y. after_all (grown p y.1) y.0 ls)) e
+step p k l ls x e = ap (option_and_then (λ (y : Kept × Option Part). after_all (grown p y.1) y.0 ls)) e
 
 through : (p : Publication) (xs ys : List Line) (o : Option (Kept × Option Part))
-    → ((q : Publication) (k : Kept) → after_all q k (xs ++ ys) ≡ and_then (after_all q k xs) (λ s. after_all s.0 s.1 ys))
-    → and_then o (λ y. after_all (grown p y.1) y.0 (xs ++ ys)) ≡ and_then (and_then o (λ y. after_all (grown p y.1) y.0 xs)) (λ s. after_all s.0 s.1 ys)
+    → ((q : Publication) (k : Kept) → after_all q k (xs ++ ys) ≡ option_and_then (λ (s : Publication × Kept). after_all s.0 s.1 ys) (after_all q k xs))
+    → option_and_then (λ (y : Kept × Option Part). after_all (grown p y.1) y.0 (xs ++ ys)) o ≡ option_and_then (λ (s : Publication × Kept). after_all s.0 s.1 ys) (option_and_then (λ (y : Kept × Option Part). after_all (grown p y.1) y.0 xs) o)
 through p xs ys None h = refl
 through p xs ys (Some y) h = h (grown p y.1) y.0
 
-pub in_parts : (p : Publication) (k : Kept) (xs ys : List Line) → after_all p k (xs ++ ys) ≡ and_then (after_all p k xs) (λ s. after_all s.0 s.1 ys)
+pub in_parts : (p : Publication) (k : Kept) (xs ys : List Line) → after_all p k (xs ++ ys) ≡ option_and_then (λ (s : Publication × Kept). after_all s.0 s.1 ys) (after_all p k xs)
 in_parts p k [] ys = refl
 in_parts p k (x ∷ xs) ys = through p xs ys (after k k.held x) (λ q r. in_parts q r xs ys)
 
@@ -325,10 +326,10 @@ abbrev pub Came : List Line → Publication → Kept → Type 0
 Came ls p k = after_all nothing_read nothing_kept ls ≡ Some (p, k)
 
 pub came_more : (ls : List Line) (p : Publication) (k : Kept) (l : Line) (x : Kept × Option Part) → Came ls p k → after k k.held l ≡ Some x → Came (ls ++ l ∷ []) (grown p x.1) x.0
-came_more ls p k l x r e = in_parts nothing_read nothing_kept ls (l ∷ []) ∙ ap (λ (o : So). and_then o (λ s. after_all s.0 s.1 (l ∷ []))) r ∙ step p k l [] x e
+came_more ls p k l x r e = in_parts nothing_read nothing_kept ls (l ∷ []) ∙ ap (option_and_then (λ (s : Publication × Kept). after_all s.0 s.1 (l ∷ []))) r ∙ step p k l [] x e
 
 came_none : (ls : List Line) (p : Publication) (k : Kept) (l : Line) (more : List Line) → Came ls p k → after k k.held l ≡ None → after_all nothing_read nothing_kept (ls ++ l ∷ more) ≡ None
-came_none ls p k l more r e = in_parts nothing_read nothing_kept ls (l ∷ more) ∙ ap (λ (o : So). and_then o (λ s. after_all s.0 s.1 (l ∷ more))) r ∙ ap (λ o. and_then o (λ x. after_all (grown p x.1) x.0 more)) e
+came_none ls p k l more r e = in_parts nothing_read nothing_kept ls (l ∷ more) ∙ ap (option_and_then (λ (s : Publication × Kept). after_all s.0 s.1 (l ∷ more))) r ∙ ap (option_and_then (λ (y : Kept × Option Part). after_all (grown p y.1) y.0 more)) e
 
 -- a line that may not follow begins no publication
 pub not_begun : (ls : List Line) (p : Publication) (k : Kept) (l : Line) → Came ls p k → after k k.held l ≡ None → Begins (ls ++ l ∷ []) → ⊥

@@ -16,7 +16,7 @@ use Rattle.mari_lines.specs.Spelling.{line_text}
 use Rattle.mari_publish.specs.Texts.{text_of_lines}
 use Rattle.mari_publish.specs.Order.{nothing_kept}
 use Rattle.mari_publish.specs.Faults.{IsText, BadLineAt, BadOrderAt, TruncatedAt}
-use Rattle.mari_publish.specs.Pieces.{Gives, parts_so_far, ComeState, IsAhead, StandsFor, NoLineIn, HasNoLine, IsWhole, HasPart, IsEnd}
+use Rattle.mari_publish.specs.Pieces.{Gives, parts_so_far, ComeState, IsAhead, ComesFrom, NoLineIn, HasNoLine, IsWhole, HasPart, IsEnd}
 use Rattle.mari_lines.proofs.Printed.{and_parts}
 use Rattle.mari_publish.proofs.Follows.{and_true}
 use Rattle.mari_publish.proofs.Progress.{whole_text, truncated}
@@ -25,12 +25,12 @@ use Rattle.mari_publish.proofs.PartsGiven.{gives_nothing}
 use Rattle.mari_publish.proofs.Pieces.{progress, lacks_line}
 
 -- a reader of which nothing has come
-pub stands_for_nothing : (kept : Kept) (bytes : List ℕ) → kept ≡ nothing_kept → bytes ≡ [] → StandsFor (record { kept = kept; lines = 0; ahead = mark.Kept; unread = bytes }) [] []
+pub stands_for_nothing : (kept : Kept) (bytes : List ℕ) → kept ≡ nothing_kept → bytes ≡ [] → ComesFrom (record { kept = kept; lines = 0; ahead = mark.Kept; unread = bytes }) [] []
 stands_for_nothing kept bytes k e = record { lines = []; rest = []; is = refl; in_range = tt; gives = subst (λ k. Gives [] [] k) (sym k) gives_nothing; number = refl; ahead = sym e }
 
 -- a reader with other bytes ahead
 pub ahead_more : (kept : Kept) (lines : ℕ) (a b : Ahead) (u v : List ℕ) (piece : List ℕ) → ((rest : List ℕ) → IsAhead a u rest → IsAhead b v (rest ++ piece)) → (text : List ℕ) (parts : List Part)
-    → StandsFor (record { kept = kept; lines = lines; ahead = a; unread = u }) text parts → StandsFor (record { kept = kept; lines = lines; ahead = b; unread = v }) (text ++ piece) parts
+    → ComesFrom (record { kept = kept; lines = lines; ahead = a; unread = u }) text parts → ComesFrom (record { kept = kept; lines = lines; ahead = b; unread = v }) (text ++ piece) parts
 ahead_more kept lines a b u v piece more text parts s = record {
   lines = s.lines;
   rest = s.rest ++ piece;
@@ -112,7 +112,7 @@ part_stays text piece parts x h = record {
 nothing_ahead : (a : Ahead) (unread rest : List ℕ) → a ≡ mark.Kept → unread ≡ [] → IsAhead a unread rest → rest ≡ []
 nothing_ahead a unread rest all none h = let is : rest ≡ unread = subst (λ b. IsAhead b unread rest) all h in is ∙ none
 
-pub whole_end : {T : Type 0} (done : T) (r : ComeState) (text : List ℕ) (parts : List Part) → StandsFor r text parts → IsWhole r → IsEnd text parts (Ok done)
+pub whole_end : {T : Type 0} (done : T) (r : ComeState) (text : List ℕ) (parts : List Part) → ComesFrom r text parts → IsWhole r → IsEnd text parts (Ok done)
 whole_end done r text parts s w =
     let p = s.gives.so_far in
     let empty = nothing_ahead r.ahead r.unread s.rest w.all w.none s.ahead in
@@ -123,7 +123,7 @@ at_end mark.Kept unread rest none h e = (refl, sym h ∙ e)
 at_end mark.TooLong unread rest none h e = let long = h.1 in let len = ap length e in absurd (omega (arith, long, len))
 at_end mark.Ended unread rest none h e = absurd none
 
-pub cut_off : (r : ComeState) (text : List ℕ) (parts : List Part) → StandsFor r text parts → HasNoLine r → (IsWhole r → ⊥) → TruncatedAt text (r.lines + 1)
+pub cut_off : (r : ComeState) (text : List ℕ) (parts : List Part) → ComesFrom r text parts → HasNoLine r → (IsWhole r → ⊥) → TruncatedAt text (r.lines + 1)
 cut_off r text parts s none unfinished =
     truncated text s.rest (r.lines + 1) s.gives.so_far r.kept (progress r text parts s) (lacks_line r text parts s none)
     (λ done empty. let h = at_end r.ahead r.unread s.rest none s.ahead empty in absurd (unfinished (record { all = h.0; none = h.1; done = done })))

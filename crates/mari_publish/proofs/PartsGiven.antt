@@ -1,5 +1,6 @@
 -- The parts that lines give, one after the other.
 use Rattle.std.proofs.Common.{◌≡◌, ◌+◌, Bool, cond, ◌&&◌, List, [], ◌∷◌, ◌++◌, length, Option, Some, None, refl, sym, ap, subst, ◌∙◌, append_assoc, length-append, arith, ltb, eqb}
+use Rattle.std.specs.Prelude.{option_and_then}
 use Rattle.std.proofs.lemmas.List.{append-nil, map_push}
 use Rattle.mari_publish.specs.declared.publication.Part.{Part}
 use Rattle.mari_publish.specs.declared.publication.Part.TheVariants as part
@@ -18,7 +19,7 @@ use Rattle.mari_publish.specs.declared.held.Pending.TheVariants.{Nothing, Zones,
 use Rattle.mari_publish.specs.declared.held.Held.{Held}
 use Rattle.mari_publish.specs.declared.held.Held.TheVariants as held
 use Rattle.mari_publish.specs.declared.held.Kept.{Kept}
-use Rattle.mari_publish.specs.Order.{kept_with, one_published, one_unpublished, keeps, starts_block, after_listing, after_growing, after_ending, after_totals, full_block, after, grown, nothing_read, nothing_kept, and_then, after_all}
+use Rattle.mari_publish.specs.Order.{kept_with, one_published, one_unpublished, keeps, starts_block, after_listing, after_growing, after_ending, after_totals, full_block, after, grown, nothing_read, nothing_kept, after_all}
 use Rattle.mari_publish.specs.Pieces.{front_parts, parts_so_far, with_part, Gives}
 use Rattle.mari_publish.proofs.Steps.{some_if, some_is}
 use Rattle.mari_publish.proofs.Whole.{Stands, next}
@@ -102,7 +103,7 @@ step_parts p k _ _ x e = absurd cc
 -- lines that may follow one another are those of what has come
 on_stands : (done : List Line) (p : Publication) (k : Kept) (l : Line) (ls : List Line) (q : Publication) (r : Kept) (o : Option (Kept × Option Part)) → Stands done p k k.held → after k k.held l ≡ o
     → ((x : Kept × Option Part) → Stands (done ++ l ∷ []) (grown p x.1) x.0 x.0.held → after_all (grown p x.1) x.0 ls ≡ Some (q, r) → Stands ((done ++ l ∷ []) ++ ls) q r r.held)
-    → and_then o (λ x. after_all (grown p x.1) x.0 ls) ≡ Some (q, r) → Stands (done ++ l ∷ ls) q r r.held
+    → option_and_then (λ (x : Kept × Option Part). after_all (grown p x.1) x.0 ls) o ≡ Some (q, r) → Stands (done ++ l ∷ ls) q r r.held
 on_stands done p k l ls q r None s is more e = absurd cc
 on_stands done p k l ls q r (Some x) s is more e = subst (λ z. Stands z q r r.held) (append_assoc done (l ∷ []) ls) (more x (next done p k k.held l x s is) e)
 
@@ -139,7 +140,7 @@ joined P Q (Some x) m = (x ∷ m.0, m.1 ∙ append_assoc P (x ∷ []) m.0)
 
 on_parts : (p : Publication) (k : Kept) (l : Line) (ls : List Line) (q : Publication) (r : Kept) (o : Option (Kept × Option Part)) → after k k.held l ≡ o
     → ((x : Kept × Option Part) → after_all (grown p x.1) x.0 ls ≡ Some (q, r) → More (parts_so_far (grown p x.1) x.0.held) (parts_so_far q r.held))
-    → and_then o (λ x. after_all (grown p x.1) x.0 ls) ≡ Some (q, r) → More (parts_so_far p k.held) (parts_so_far q r.held)
+    → option_and_then (λ (x : Kept × Option Part). after_all (grown p x.1) x.0 ls) o ≡ Some (q, r) → More (parts_so_far p k.held) (parts_so_far q r.held)
 on_parts p k l ls q r None is more e = absurd cc
 on_parts p k l ls q r (Some x) is more e = joined (parts_so_far p k.held) (parts_so_far q r.held) x.1 (subst (λ (P : List Part). More P (parts_so_far q r.held)) (step_parts p k k.held l x is) (more x e))
 
@@ -152,7 +153,7 @@ more_parts (l ∷ ls) p k q r e = on_parts p k l ls q r (after k k.held l) refl 
 pub longer_parts : (A B C : List Line) (P Q : List Part) (k r : Kept) → Gives A P k → Gives B Q r → B ≡ A ++ C → (xs : List Part) × (Q ≡ P ++ xs)
 longer_parts A B C P Q k r g h is =
     let e : after_all nothing_read nothing_kept (A ++ C) ≡ Some (h.so_far, r) = ap (λ (ls : List Line). after_all nothing_read nothing_kept ls) (sym is) ∙ h.follow in
-    let apart = sym (in_parts nothing_read nothing_kept A C ∙ ap (λ (o : Option (Publication × Kept)). and_then o (λ s. after_all s.0 s.1 C)) g.follow) ∙ e in
+    let apart = sym (in_parts nothing_read nothing_kept A C ∙ ap (option_and_then (λ (s : Publication × Kept). after_all s.0 s.1 C)) g.follow) ∙ e in
     let m = more_parts C g.so_far k h.so_far r apart in
     (m.0, h.given ∙ m.1 ∙ ap (λ (ps : List Part). ps ++ m.0) (sym g.given))
 

@@ -16,9 +16,9 @@ use Rattle.mari_lines.specs.Reading.{Lacks}
 use Rattle.mari_lines.specs.Spelling.{spelling, line_text}
 use Rattle.mari_publish.specs.Texts.{text_of_lines}
 use Rattle.mari_publish.specs.Order.{HasRoom}
-use Rattle.mari_publish.specs.Faults.{Begins, BadLineAt, BadOrderAt}
-use Rattle.mari_publish.specs.Pieces.{Gives, ComeState, IsAhead, StandsFor, IsCome, NoLineIn, HasNoLine, HasPart, NoPart, NoFault, IsNext, with_part, SameAnswer}
-use Rattle.mari_publish.specs.Handling.{IsTaken, IsFormless, HasBadLine, HasBadOrder, Handles}
+use Rattle.mari_publish.specs.Faults.{Begins, BadLineAt, BadOrderAt, IsFormless}
+use Rattle.mari_publish.specs.Pieces.{Gives, ComeState, IsAhead, ComesFrom, IsCome, NoLineIn, HasNoLine, HasPart, NoPart, NoFault, IsNext, with_part, SameAnswer}
+use Rattle.mari_publish.specs.Handling.{IsTaken, HasBadLine, HasBadOrder, Handles}
 use Rattle.mari_publish.proofs.Whole.{all_back, all_push}
 use Rattle.mari_publish.proofs.Begun.{begins}
 use Rattle.mari_publish.proofs.Fits.{Fit}
@@ -29,7 +29,7 @@ use Rattle.mari_lines.proofs.Lengths.{line_short}
 use Rattle.mari_publish.proofs.PartsGiven.{stands_of, next_gives, longer_parts, not_longer, same_last}
 
 -- what a reader stands for is progress in the text
-pub progress : (r : ComeState) (text : List ℕ) (parts : List Part) (s : StandsFor r text parts) → Progress text s.rest (r.lines + 1) s.gives.so_far r.kept
+pub progress : (r : ComeState) (text : List ℕ) (parts : List Part) (s : ComesFrom r text parts) → Progress text s.rest (r.lines + 1) s.gives.so_far r.kept
 progress r text parts s = record {
   before = s.lines;
   parts = s.is;
@@ -110,20 +110,20 @@ no_line_in mark.Kept unread rest e none = subst (λ (w : List ℕ). Lacks 10 w) 
 no_line_in mark.TooLong unread rest e none = e.0
 no_line_in mark.Ended unread rest e none = absurd none
 
-pub lacks_line : (r : ComeState) (text : List ℕ) (parts : List Part) (s : StandsFor r text parts) → HasNoLine r → Lacks 10 s.rest
+pub lacks_line : (r : ComeState) (text : List ℕ) (parts : List Part) (s : ComesFrom r text parts) → HasNoLine r → Lacks 10 s.rest
 lacks_line r text parts s none = no_line_in r.ahead r.unread s.rest s.ahead none
 
-begun : (r : ComeState) (text : List ℕ) (parts : List Part) (s : StandsFor r text parts) → Begins s.lines
+begun : (r : ComeState) (text : List ℕ) (parts : List Part) (s : ComesFrom r text parts) → Begins s.lines
 begun r text parts s = begins s.lines s.gives.so_far r.kept r.kept.held (stands_of s.lines s.gives.so_far r.kept s.gives.follow) s.in_range
 
-stop_here : (r : ComeState) (text : List ℕ) (parts : List Part) (s : StandsFor r text parts) → Lacks 10 s.rest → Stop text s.lines s.rest
+stop_here : (r : ComeState) (text : List ℕ) (parts : List Part) (s : ComesFrom r text parts) → Lacks 10 s.rest → Stop text s.lines s.rest
 stop_here r text parts s lacks = record {
   parts = s.is;
   begins = begun r text parts s;
   stops = λ c C Y i b e. no_cut (spelling c) (text_of_lines C ++ Y) (subst (λ (w : List ℕ). Lacks 10 w) (e ∙ first_text c C Y) lacks);
 }
 
-pub nothing_next : (r : ComeState) (text : List ℕ) (parts : List Part) → StandsFor r text parts → HasNoLine r → NoPart text parts × NoFault text
+pub nothing_next : (r : ComeState) (text : List ℕ) (parts : List Part) → ComesFrom r text parts → HasNoLine r → NoPart text parts × NoFault text
 nothing_next r text parts s none =
     let lacks = lacks_line r text parts s none in
     let stop = stop_here r text parts s lacks in (
@@ -144,7 +144,7 @@ ended_there a unread rest e h = subst (λ b. IsAhead b unread rest) e h
 pub too_long : (here : List ℕ) → MOST_LINE < length here → IsFormless here
 too_long here long = λ l i e. let short = line_short l i in let same = ap length e in absurd (omega (arith, short, same, long))
 
-formless_next : (r : ComeState) (text : List ℕ) (parts : List Part) (s : StandsFor r text parts) (here behind : List ℕ) → s.rest ≡ here ++ 10 ∷ behind → Lacks 10 here → IsFormless here
+formless_next : (r : ComeState) (text : List ℕ) (parts : List Part) (s : ComesFrom r text parts) (here behind : List ℕ) → s.rest ≡ here ++ 10 ∷ behind → Lacks 10 here → IsFormless here
     → BadLineAt text (r.lines + 1) × NoPart text parts
 formless_next r text parts s here behind is whole none =
     let a : BadLineAt text (r.lines + 1) = record {
@@ -159,12 +159,12 @@ formless_next r text parts s here behind is whole none =
     } in
     (a, no_part text s.lines (here ++ 10 ∷ behind) parts r.kept (line_stop text (r.lines + 1) a) s.gives s.in_range)
 
-bad_next : (r : ComeState) (text : List ℕ) (parts : List Part) → StandsFor r text parts → HasBadLine r → BadLineAt text (r.lines + 1) × NoPart text parts
+bad_next : (r : ComeState) (text : List ℕ) (parts : List Part) → ComesFrom r text parts → HasBadLine r → BadLineAt text (r.lines + 1) × NoPart text parts
 bad_next r text parts s (inl ended) = let h = ended_there r.ahead r.unread s.rest ended s.ahead in formless_next r text parts s h.0 h.1 h.2 h.3 (too_long h.0 h.4)
 bad_next r text parts s (inr h) = formless_next r text parts s h.0 h.1 (all_there r.ahead r.unread s.rest h.2.all s.ahead ∙ h.2.is) h.2.whole h.3
 
 -- a line that may not follow
-misplaced_next : (r : ComeState) (text : List ℕ) (parts : List Part) → StandsFor r text parts → HasBadOrder r → BadOrderAt text (r.lines + 1) × NoPart text parts
+misplaced_next : (r : ComeState) (text : List ℕ) (parts : List Part) → ComesFrom r text parts → HasBadOrder r → BadOrderAt text (r.lines + 1) × NoPart text parts
 misplaced_next r text parts s b =
     let is = all_there r.ahead r.unread s.rest b.begins.all s.ahead ∙ b.begins.is in
     let a : BadOrderAt text (r.lines + 1) = record {
@@ -180,13 +180,13 @@ misplaced_next r text parts s b =
     (a, no_part text s.lines (line_text b.line ++ b.behind) parts r.kept (order_stop text (r.lines + 1) a) s.gives s.in_range)
 
 -- a fault is the next answer, and the reader stands for what it stood for
-pub fault_next : (old new : ComeState) (e : TextFault) → Handles old new (Err e) → (text : List ℕ) (parts : List Part) → StandsFor old text parts → IsNext text parts (Err e) × StandsFor new text parts
+pub fault_next : (old new : ComeState) (e : TextFault) → Handles old new (Err e) → (text : List ℕ) (parts : List Part) → ComesFrom old text parts → IsNext text parts (Err e) × ComesFrom new text parts
 fault_next old new (fault.BadLine n) h text parts s =
-    (subst (λ i. BadLineAt text i × NoPart text parts) (sym h.1) (bad_next old text parts s h.0), subst (λ r. StandsFor r text parts) (sym h.2) s)
+    (subst (λ i. BadLineAt text i × NoPart text parts) (sym h.1) (bad_next old text parts s h.0), subst (λ r. ComesFrom r text parts) (sym h.2) s)
 fault_next old new (fault.BadOrder n) h text parts s =
-    (subst (λ i. BadOrderAt text i × NoPart text parts) (sym h.1) (misplaced_next old text parts s h.0), subst (λ r. StandsFor r text parts) (sym h.2) s)
+    (subst (λ i. BadOrderAt text i × NoPart text parts) (sym h.1) (misplaced_next old text parts s h.0), subst (λ r. ComesFrom r text parts) (sym h.2) s)
 fault_next old new (fault.Truncated n) h text parts s = absurd h
-fault_next old new fault.Memory h text parts s = (tt, subst (λ r. StandsFor r text parts) (sym h) s)
+fault_next old new fault.Memory h text parts s = (tt, subst (λ r. ComesFrom r text parts) (sym h) s)
 
 -- what a step tells
 pub line_step : (old new : ComeState) (a : Step) (x : Option Part) → a ≡ step.Line x → Handles old new (Ok a) → IsTaken old new x
@@ -196,7 +196,7 @@ pub nothing_step : (old new : ComeState) (a : Step) → a ≡ step.Nothing → H
 nothing_step old new a e h = let both : HasNoLine old × (new ≡ old) = subst (λ b. Handles old new (Ok b)) e h in both.0
 
 -- a line was taken
-pub taken : (old new : ComeState) (x : Option Part) → IsTaken old new x → (text : List ℕ) (parts : List Part) → StandsFor old text parts → StandsFor new text (with_part parts x)
+pub taken : (old new : ComeState) (x : Option Part) → IsTaken old new x → (text : List ℕ) (parts : List Part) → ComesFrom old text parts → ComesFrom new text (with_part parts x)
 taken old new x t text parts s =
     let is = all_there old.ahead old.unread s.rest t.begins.all s.ahead ∙ t.begins.is in
     record {
@@ -209,7 +209,7 @@ taken old new x t text parts s =
       ahead = subst (λ a. IsAhead a new.unread t.behind) (sym t.all) (sym t.left);
     }
 
-pub taken_part : (old new : ComeState) (x : Part) → IsTaken old new (Some x) → (text : List ℕ) (parts : List Part) → StandsFor old text parts → HasPart text parts x
+pub taken_part : (old new : ComeState) (x : Part) → IsTaken old new (Some x) → (text : List ℕ) (parts : List Part) → ComesFrom old text parts → HasPart text parts x
 taken_part old new x t text parts s =
     let m = taken old new (Some x) t text parts s in
     record { lines = m.lines; after = m.rest; is = m.is; in_range = m.in_range; kept = new.kept; gives = m.gives }

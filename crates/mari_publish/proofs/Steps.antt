@@ -23,9 +23,9 @@ use Rattle.mari_publish.specs.declared.held.Growing.{Growing}
 use Rattle.mari_publish.specs.declared.held.Ending.{Ending}
 use Rattle.mari_publish.specs.declared.held.Held.{Held}
 use Rattle.mari_publish.specs.declared.held.Held.TheVariants as held
-use Rattle.mari_publish.specs.Lines.{item_lines, demand_lines}
+use Rattle.mari_publish.specs.Lines.{item_lines, demand_lines, front_lines}
 use Rattle.mari_lines.specs.Ranges.{Between}
-use Rattle.mari_publish.specs.Order.{pending_lines, listing_lines, growing_lines, ending_part, held_lines, is_nothing, empty, with_item, with_pending, conflict_item, after_listing, after_growing, after_ending, after_totals, front_lines, lines_so_far}
+use Rattle.mari_publish.specs.Order.{pending_lines, listing_lines, growing_lines, ending_part, held_lines, is_nothing, empty, with_item, with_pending, conflict_item, after_listing, after_growing, after_ending, after_totals, lines_so_far}
 
 pub some_if : {A : Type 0} (b : Bool) (x y : A) → cond b (Some x) None ≡ Some y → (b ≡ true) × (x ≡ y)
 some_if true x y e = (refl, cc)

@@ -20,6 +20,10 @@ pub record IsText (text : List ℕ) (p : Publication) : Type 0 where
   pub has : HasText p
   pub is : text ≡ text_of p
 
+-- the line has no form
+abbrev pub IsFormless : List ℕ → Type 0
+IsFormless here = (l : Line) → InRange l → spelling l ≡ here → ⊥
+
 -- behind lines that begin a publication comes a line of no form
 pub record BadLineAt (text : List ℕ) (n : ℕ) : Type 0 where
   pub before : List Line
@@ -29,7 +33,7 @@ pub record BadLineAt (text : List ℕ) (n : ℕ) : Type 0 where
   pub whole : Lacks 10 here
   pub begins : Begins before
   pub number : n ≡ length before + 1
-  pub formless : (l : Line) → InRange l → spelling l ≡ here → ⊥
+  pub formless : IsFormless here
 
 -- behind lines that begin a publication comes one that no publication has there
 pub record BadOrderAt (text : List ℕ) (n : ℕ) : Type 0 where

@@ -11,6 +11,7 @@ use Rattle.mari_publish.specs.declared.fault.TextFault.TheVariants as fault
 use Rattle.mari_publish.specs.declared.reading.Gathered.{Gathered}
 use Rattle.mari_publish.specs.declared.taking.TakeFault.{TakeFault}
 use Rattle.mari_publish.specs.declared.taking.TakeFault.TheVariants as take_fault
+use Rattle.mari_publish.specs.Faults.{IsFormless}
 use Rattle.mari_publish.specs.Order.{after}
 use Rattle.mari_lines.specs.Ranges.{InRange}
 use Rattle.mari_lines.specs.Spelling.{spelling}
@@ -21,7 +22,7 @@ seen g = record { date = unwrap_or g.date []; quarters = g.quarters; budget = g.
 -- a line was taken, with the part that is whole with it; or there was none, and nothing changed
 abbrev pub Took : Kept → List ℕ → Kept → Result (Option Part) TakeFault → Type 0
 Took old here new (Ok x) = (l : Line) × InRange l × (spelling l ≡ here) × (after old old.held l ≡ Some (new, x))
-Took old here new (Err take_fault.Formless) = ((l : Line) → InRange l → spelling l ≡ here → ⊥) × (new ≡ old)
+Took old here new (Err take_fault.Formless) = IsFormless here × (new ≡ old)
 Took old here new (Err take_fault.OutOfOrder) = (l : Line) × InRange l × (spelling l ≡ here) × (after old old.held l ≡ None) × (new ≡ old)
 Took old here new (Err take_fault.Memory) = new ≡ old
 

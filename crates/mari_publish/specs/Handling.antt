@@ -10,6 +10,7 @@ use Rattle.mari_publish.specs.declared.coming.Step.TheVariants as step
 use Rattle.mari_lines.specs.Ranges.{InRange}
 use Rattle.mari_lines.specs.Reading.{Lacks}
 use Rattle.mari_lines.specs.Spelling.{spelling}
+use Rattle.mari_publish.specs.Faults.{IsFormless}
 use Rattle.mari_publish.specs.Order.{after}
 use Rattle.mari_publish.specs.Pieces.{ComeState, HasNoLine}
 
@@ -33,9 +34,6 @@ pub record IsTaken (old new : ComeState) (x : Option Part) : Type 0 where
   pub left : new.unread ≡ behind
 
 -- the line has no form
-abbrev pub IsFormless : List ℕ → Type 0
-IsFormless here = (l : Line) → InRange l → spelling l ≡ here → ⊥
-
 abbrev pub HasBadLine : ComeState → Type 0
 HasBadLine r = (r.ahead ≡ mark.Ended) ⊎ ((here : List ℕ) × (behind : List ℕ) × BeginsWith r here behind × IsFormless here)
 

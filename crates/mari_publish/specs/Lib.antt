@@ -4,6 +4,5 @@ pub mod Texts
 pub mod Order
 pub mod Faults
 pub mod Gathering
-pub mod Closing
 pub mod Pieces
 pub mod Handling

@@ -8,6 +8,12 @@ use Rattle.mari_publish.specs.declared.publication.FullBlock.{FullBlock}
 use Rattle.mari_publish.specs.declared.publication.Block.{Block}
 use Rattle.mari_publish.specs.declared.publication.Block.TheVariants as block
 use Rattle.mari_publish.specs.declared.publication.Publication.{Publication}
+use Rattle.mari_lines.specs.declared.line.AmountLine.{AmountLine}
+use Rattle.mari_lines.specs.declared.line.BidLine.{BidLine}
+use Rattle.mari_lines.specs.declared.line.BorderLine.{BorderLine}
+use Rattle.mari_lines.specs.declared.line.Heading.{Heading}
+use Rattle.mari_lines.specs.declared.line.MoneyLine.{MoneyLine}
+use Rattle.mari_lines.specs.declared.line.ZoneLine.{ZoneLine}
 use Rattle.mari_lines.specs.declared.line.Line.{Line}
 use Rattle.mari_lines.specs.declared.line.Line.TheVariants as line
 
@@ -24,16 +30,23 @@ demand_lines place [] = []
 demand_lines place (mw ∷ mws) = line.Demand place mw ∷ demand_lines (place + 1) mws
 
 -- the lines of zones, borders, bids and demands
+abbrev pub market_lines_by : List ZoneLine → List BorderLine → List BidLine → (demands : List ℕ) → List Line
+market_lines_by zones borders bids demands =
+    map line.Zone zones ++ (map line.Border borders ++ (map line.Bid bids ++ demand_lines 1 demands))
+
 abbrev pub market_lines : FullBlock → List Line
-market_lines b = map line.Zone b.zones ++ (map line.Border b.borders ++ (map line.Bid b.bids ++ demand_lines 1 b.demands))
+market_lines b = market_lines_by b.zones b.borders b.bids b.demands
 
 -- the lines of a certificate tree: how many items it has, and the items
 abbrev pub tree_lines : List TreeItem → List Line
 tree_lines tree = line.Tree (length tree) ∷ flat_map item_lines tree
 
 -- the first two lines of a published run: its heading and its welfare
+abbrev pub opening_lines_by : Heading → (welfare : ℕ) → List Line
+opening_lines_by heading welfare = line.Run heading ∷ line.Welfare welfare ∷ []
+
 abbrev pub opening_lines : FullBlock → List Line
-opening_lines b = line.Run b.heading ∷ line.Welfare b.welfare ∷ []
+opening_lines b = opening_lines_by b.heading b.welfare
 
 -- its last lines: its operators, its providers, and its number once more
 abbrev pub ending_lines : FullBlock → List Line
@@ -61,9 +74,17 @@ unpublished_in (block.Published b ∷ bs) = unpublished_in bs
 unpublished_in (block.Unpublished heading count ∷ bs) = unpublished_in bs + 1
 
 -- the totals, and how many blocks of either kind there were
-abbrev pub closing_lines : Publication → List Line
-closing_lines p = map line.TotalOperator p.operators ++ (map line.TotalProvider p.providers ++ line.Done (published_in p.blocks) (unpublished_in p.blocks) ∷ [])
+abbrev pub closing_lines_by : List MoneyLine → List AmountLine → (published unpublished : ℕ) → List Line
+closing_lines_by operators providers published unpublished =
+    map line.TotalOperator operators ++ (map line.TotalProvider providers ++ line.Done published unpublished ∷ [])
 
--- the first line, the blocks, and the closing lines
+abbrev pub closing_lines : Publication → List Line
+closing_lines p = closing_lines_by p.operators p.providers (published_in p.blocks) (unpublished_in p.blocks)
+
+-- the lines of the head and the blocks
+abbrev pub front_lines : Publication → List Line
+front_lines p = line.Head p.date p.quarters p.budget ∷ flat_map block_lines p.blocks
+
+-- these, and the closing lines
 abbrev pub lines_of : Publication → List Line
-lines_of p = line.Head p.date p.quarters p.budget ∷ (flat_map block_lines p.blocks ++ closing_lines p)
+lines_of p = front_lines p ++ closing_lines p

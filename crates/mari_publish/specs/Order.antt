@@ -1,5 +1,5 @@
 -- Which line may follow what has come, and what has come then.
-use Rattle.std.specs.Prelude.{◌*◌, ◌≡◌, ℕ, ◌+◌, ◌<◌, Bool, true, false, ◌&&◌, List, [], ◌∷◌, ◌++◌, map, length, nat_lt, ◌==◌, Option, Some, None, Result, Ok, Err, if◌then◌else◌, ⊤, ℤ}
+use Rattle.std.specs.Prelude.{◌*◌, ◌≡◌, ℕ, ◌+◌, ◌<◌, Bool, true, false, ◌&&◌, List, [], ◌∷◌, ◌++◌, map, length, nat_lt, ◌==◌, Option, Some, None, option_and_then, Result, Ok, Err, if◌then◌else◌, ⊤, ℤ}
 use Rattle.std.specs.List.{flat_map}
 use Rattle.mari_units.specs.declared.numbers.Cents.{Cents}
 use Rattle.mari_market.specs.declared.certificate.Leaf.TheVariants as leaves
@@ -25,7 +25,7 @@ use Rattle.mari_publish.specs.declared.held.Counts.{Counts}
 use Rattle.mari_publish.specs.declared.held.Kept.{Kept}
 use Rattle.mari_publish.specs.declared.follow.step.FollowFault.{FollowFault}
 use Rattle.mari_publish.specs.declared.follow.step.FollowFault.TheVariants as follow_fault
-use Rattle.mari_publish.specs.Lines.{item_lines, demand_lines, block_lines, lines_of}
+use Rattle.mari_publish.specs.Lines.{front_lines, item_lines, lines_of, market_lines_by, opening_lines_by}
 use Rattle.mari_units.specs.declared.limits.TheConstants.{MOST_BIDS, MOST_BORDERS, MOST_RUNS, MOST_ZONES, MOST_QUARTERS}
 
 -- the lines that have come of a conflict
@@ -37,7 +37,7 @@ pending_lines (Flows zones prices flows) = line.Conflict zones ∷ line.At price
 
 -- of a block before its tree
 abbrev pub listing_lines : Listing → List Line
-listing_lines b = line.Run b.heading ∷ line.Welfare b.welfare ∷ (map line.Zone b.zones ++ (map line.Border b.borders ++ (map line.Bid b.bids ++ demand_lines 1 b.demands)))
+listing_lines b = opening_lines_by b.heading b.welfare ++ market_lines_by b.zones b.borders b.bids b.demands
 
 -- of a block in its tree
 abbrev pub growing_lines : Growing → List Line
@@ -174,10 +174,6 @@ grown p (Some (part.Head date quarters budget)) = record { date = date; quarters
 grown p (Some (part.Block b)) = record { date = p.date; quarters = p.quarters; budget = p.budget; blocks = p.blocks ++ b ∷ []; operators = p.operators; providers = p.providers }
 grown p (Some (part.Totals os ps)) = record { date = p.date; quarters = p.quarters; budget = p.budget; blocks = p.blocks; operators = os; providers = ps }
 
--- the lines of the head and the blocks
-abbrev pub front_lines : Publication → List Line
-front_lines p = line.Head p.date p.quarters p.budget ∷ flat_map block_lines p.blocks
-
 -- the lines of the parts so far, and of what is held
 abbrev pub lines_so_far : Publication → Held → List Line
 lines_so_far p held.Start = []
@@ -191,14 +187,10 @@ nothing_read = record { date = []; quarters = 0; budget = 0; blocks = []; operat
 abbrev pub nothing_kept : Kept
 nothing_kept = record { held = held.Start; counts = record { published = 0; unpublished = 0 } }
 
-abbrev pub and_then : {A B : Type 0} → Option A → (A → Option B) → Option B
-and_then None f = None
-and_then (Some x) f = f x
-
 -- a publication so far and what is kept, after lines that may follow one another
 abbrev pub after_all : Publication → Kept → List Line → Option (Publication × Kept)
 after_all p k [] = Some (p, k)
-after_all p k (l ∷ ls) = and_then (after k k.held l) (λ x. after_all (grown p x.1) x.0 ls)
+after_all p k (l ∷ ls) = option_and_then (λ (x : Kept × Option Part). after_all (grown p x.1) x.0 ls) (after k k.held l)
 
 -- what is kept, with this in place of what is held
 abbrev pub kept_with : Kept → Held → Kept

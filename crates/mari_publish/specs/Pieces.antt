@@ -66,9 +66,9 @@ IsAhead mark.Kept unread rest = rest ≡ unread
 IsAhead mark.TooLong unread rest = Lacks 10 rest × (MOST_LINE < length rest)
 IsAhead mark.Ended unread rest = (here : List ℕ) × (after : List ℕ) × (rest ≡ here ++ 10 ∷ after) × Lacks 10 here × (MOST_LINE < length here)
 
--- what has come stands for a text and the parts given of it: the text is that of handled lines, none of which has a
+-- what has come comes from a text, of which these parts were given: the text is that of handled lines, none of which has a
 -- fault, and the bytes behind them
-pub record StandsFor (r : ComeState) (text : List ℕ) (parts : List Part) : Type 0 where
+pub record ComesFrom (r : ComeState) (text : List ℕ) (parts : List Part) : Type 0 where
   pub lines : List Line
   pub rest : List ℕ
   pub is : text ≡ text_of_lines lines ++ rest
@@ -77,9 +77,9 @@ pub record StandsFor (r : ComeState) (text : List ℕ) (parts : List Part) : Typ
   pub number : r.lines ≡ length lines
   pub ahead : IsAhead r.ahead r.unread rest
 
--- it stands for some text
+-- it comes from some text
 abbrev pub IsCome : ComeState → Type 0
-IsCome r = (text : List ℕ) × (parts : List Part) × StandsFor r text parts
+IsCome r = (text : List ℕ) × (parts : List Part) × ComesFrom r text parts
 
 -- no whole line is left to be handled
 abbrev pub NoLineIn : Ahead → List ℕ → Type 0

@@ -1,9 +1,9 @@
 -- How many lines there may be, and that they are in range: which publications have a text.
-use Rattle.std.specs.Prelude.{◌*◌, ◌≤◌, ◌<◌, ◌^◌, length}
+use Rattle.std.specs.Prelude.{◌*◌, ◌≤◌, length}
 use Rattle.std.specs.List.{All, AllByRecursion}
 use Rattle.mari_market.specs.declared.certificate.TreeItem.{TreeItem}
 use Rattle.mari_lines.specs.declared.line.Line.TheVariants as line
-use Rattle.mari_lines.specs.Ranges.{Between, InRange, IsAmountLine, IsHeading, IsMoneyLine, Listed}
+use Rattle.mari_lines.specs.Ranges.{InRange, IsAmountLine, IsMoneyLine, Listed}
 use Rattle.mari_publish.specs.declared.publication.FullBlock.{FullBlock}
 use Rattle.mari_publish.specs.declared.publication.Block.{Block}
 use Rattle.mari_publish.specs.declared.publication.Block.TheVariants as block
@@ -17,8 +17,8 @@ ItemFits item = AllByRecursion InRange (item_lines item)
 
 -- the numbers of a published run are in range, and no kind of line comes too often
 pub record FullFits (b : FullBlock) : Type 0 where
-  pub heading : IsHeading b.heading
-  pub welfare : b.welfare < 2 ^ 63
+  pub heading : InRange (line.Run b.heading)
+  pub welfare : InRange (line.Welfare b.welfare)
   pub zones : Listed 1 MOST_ZONES (λ z. InRange (line.Zone z)) b.zones
   pub borders : Listed 0 MOST_BORDERS (λ x. InRange (line.Border x)) b.borders
   pub bids : Listed 0 MOST_BIDS (λ x. InRange (line.Bid x)) b.bids
@@ -29,7 +29,7 @@ pub record FullFits (b : FullBlock) : Type 0 where
 
 abbrev pub BlockFits : Block → Type 0
 BlockFits (block.Published b) = FullFits b
-BlockFits (block.Unpublished heading count) = IsHeading heading × Between 1 MOST_NODES count
+BlockFits (block.Unpublished heading count) = InRange (line.Unpublished heading count)
 
 -- the same of the closing lines
 pub record TotalsFit (p : Publication) : Type 0 where

@@ -3,7 +3,7 @@
 ghost use Rattle.std.specs.Prelude.{◌≡◌, ◌≤◌, ◌<◌, ◌+◌, ◌++◌, ◌^◌, ℕ, List, Ok, None, OnOk, OnErr, true, false, vec_len};
 ghost use Rattle.mari_publish.specs.declared.publication.Part.{Part as PartValue};
 ghost use Rattle.mari_publish.specs.Order.{HasRoom};
-ghost use Rattle.mari_publish.specs.Pieces.{StandsFor, IsCome, IsNext, HasNoLine, IsWhole, with_answer, come_of};
+ghost use Rattle.mari_publish.specs.Pieces.{ComesFrom, IsCome, IsNext, HasNoLine, IsWhole, with_answer, come_of};
 ghost use Rattle.mari_publish.specs.Handling.{Handles};
 
 use crate::fault::TextFault;
@@ -78,8 +78,8 @@ pub fn next_part(alloc: Global, coming: &mut Coming) -> Result<Option<Part>, Tex
     requires handled { coming.old.handled ≤ vec_len coming.old.bytes }
     requires reader { IsCome (come_of coming.old) }
     ensures handled { coming.new.handled ≤ vec_len coming.new.bytes }
-    ensures next { (text : List ℕ) (parts : List PartValue) → StandsFor (come_of coming.old) text parts → IsNext text parts result }
-    ensures stands { (text : List ℕ) (parts : List PartValue) → StandsFor (come_of coming.old) text parts → StandsFor (come_of coming.new) text (with_answer parts result) }
+    ensures next { (text : List ℕ) (parts : List PartValue) → ComesFrom (come_of coming.old) text parts → IsNext text parts result }
+    ensures stands { (text : List ℕ) (parts : List PartValue) → ComesFrom (come_of coming.old) text parts → ComesFrom (come_of coming.new) text (with_answer parts result) }
     ensures no_line { result ≡ Ok None → HasNoLine (come_of coming.new) }
 {
     'lines: loop {
@@ -97,7 +97,7 @@ pub fn forget(coming: &mut Coming)
     requires handled { coming.old.handled ≤ vec_len coming.old.bytes }
     requires no_line { HasNoLine (come_of coming.old) }
     ensures handled { coming.new.handled ≤ vec_len coming.new.bytes }
-    ensures stands { (text : List ℕ) (parts : List PartValue) → StandsFor (come_of coming.old) text parts → StandsFor (come_of coming.new) text parts }
+    ensures stands { (text : List ℕ) (parts : List PartValue) → ComesFrom (come_of coming.old) text parts → ComesFrom (come_of coming.new) text parts }
     ensures no_line { HasNoLine (come_of coming.new) }
 {
     let handled = coming.handled;
@@ -114,7 +114,7 @@ pub fn forget(coming: &mut Coming)
 pub fn append(coming: &mut Coming, piece: &[u8]) -> Result<(), Memory>
     requires handled { coming.old.handled ≤ vec_len coming.old.bytes }
     ensures handled { coming.new.handled ≤ vec_len coming.new.bytes }
-    ensures appended { (text : List ℕ) (parts : List PartValue) → StandsFor (come_of coming.old) text parts → OnOk result (StandsFor (come_of coming.new) (text ++ piece.now) parts) }
+    ensures appended { (text : List ℕ) (parts : List PartValue) → ComesFrom (come_of coming.old) text parts → OnOk result (ComesFrom (come_of coming.new) (text ++ piece.now) parts) }
     ensures same { OnErr result (come_of coming.new ≡ come_of coming.old) }
 {
     match coming.ahead {

@@ -6,7 +6,7 @@ ghost use Rattle.mari_publish.specs.declared.fault.TextFault.{TextFault as TextF
 ghost use Rattle.mari_publish.specs.declared.publication.Part.{Part as PartValue};
 ghost use Rattle.mari_publish.specs.declared.publication.Publication.{Publication as PublicationValue};
 ghost use Rattle.mari_publish.specs.Faults.{IsText, BadLineAt, BadOrderAt, TruncatedAt};
-ghost use Rattle.mari_publish.specs.Pieces.{StandsFor, HasPart, IsNext, IsEnd, SameAnswer, with_answer, found_none};
+ghost use Rattle.mari_publish.specs.Pieces.{ComesFrom, HasPart, IsNext, IsEnd, SameAnswer, with_answer, found_none};
 
 use crate::coming::{Ahead, Coming, append, forget, is_whole, next_part};
 use crate::fault::TextFault;
@@ -39,7 +39,7 @@ impl Model for TextReader {
 impl TextReader {
     /// A reader of a text of which nothing has come. It takes no memory.
     pub fn start(alloc: Global) -> TextReader
-        ensures stands { StandsFor result.come [] [] }
+        ensures stands { ComesFrom result.come [] [] }
         ensures waits { result.waits ≡ false }
     {
         TextReader {
@@ -63,7 +63,7 @@ impl TextReader {
 
     /// Appends to the text. Without memory for it the reader stays as it is.
     pub fn push(&mut self, piece: &[u8]) -> Result<(), Memory>
-        ensures pushed { (text : List ℕ) (parts : List PartValue) → StandsFor self.old.come text parts → OnOk result (StandsFor self.new.come (text ++ piece.now) parts) }
+        ensures pushed { (text : List ℕ) (parts : List PartValue) → ComesFrom self.old.come text parts → OnOk result (ComesFrom self.new.come (text ++ piece.now) parts) }
         ensures waits { OnOk result (self.new.waits ≡ false) }
         ensures same { OnErr result (self.new ≡ self.old) }
     {
@@ -76,12 +76,12 @@ impl TextReader {
     /// and comes again at each further call.
     pub fn next(&mut self, alloc: Global) -> Result<Option<Part>, TextFault>
         // What it is, and what the reader stands for then: after an error, for what it stood for.
-        ensures next { (text : List ℕ) (parts : List PartValue) → StandsFor self.old.come text parts → IsNext text parts result }
-        ensures stands { (text : List ℕ) (parts : List PartValue) → StandsFor self.old.come text parts → StandsFor self.new.come text (with_answer parts result) }
+        ensures next { (text : List ℕ) (parts : List PartValue) → ComesFrom self.old.come text parts → IsNext text parts result }
+        ensures stands { (text : List ℕ) (parts : List PartValue) → ComesFrom self.old.come text parts → ComesFrom self.new.come text (with_answer parts result) }
         ensures waits { self.new.waits ≡ found_none result }
 
         // The text so far and the parts given have no other answer, in whatever pieces the text came.
-        ensures one { (text : List ℕ) (parts : List PartValue) (answer : Result (Option PartValue) TextFaultValue) → StandsFor self.old.come text parts → IsNext text parts answer → SameAnswer answer result }
+        ensures one { (text : List ℕ) (parts : List PartValue) (answer : Result (Option PartValue) TextFaultValue) → ComesFrom self.old.come text parts → IsNext text parts answer → SameAnswer answer result }
 
         // A part that is there and a fault stay what they are, whatever text comes behind them.
         ensures part { (text more : List ℕ) (parts : List PartValue) (x : PartValue) → HasPart text parts x → HasPart (text ++ more) parts x }
@@ -100,11 +100,11 @@ impl TextReader {
     /// Whether the text ends as that of a publication does, whose parts were given.
     pub fn end(self) -> Result<(), TextFault>
         requires waits { self.waits ≡ true }
-        ensures end { (text : List ℕ) (parts : List PartValue) → StandsFor self.come text parts → IsEnd text parts result }
+        ensures end { (text : List ℕ) (parts : List PartValue) → ComesFrom self.come text parts → IsEnd text parts result }
 
         // Each answer comes exactly where it is due.
-        ensures text { (text : List ℕ) (parts : List PartValue) (p : PublicationValue) → StandsFor self.come text parts → IsText text p → IsOk result }
-        ensures truncated { (text : List ℕ) (parts : List PartValue) (n : ℕ) → StandsFor self.come text parts → TruncatedAt text n → result ≡ Err (text_fault.Truncated n) }
+        ensures text { (text : List ℕ) (parts : List PartValue) (p : PublicationValue) → ComesFrom self.come text parts → IsText text p → IsOk result }
+        ensures truncated { (text : List ℕ) (parts : List PartValue) (n : ℕ) → ComesFrom self.come text parts → TruncatedAt text n → result ≡ Err (text_fault.Truncated n) }
     {
         let whole = is_whole(&self.coming);
         let number = self.coming.lines + 1;

@@ -1,6 +1,6 @@
 use Rattle.std.proofs.Common.{Ok, ◌≡◌, sym, ap, subst, ◌∙◌}
 use Rattle.std.proofs.lemmas.Result.{err_from_is_err_and}
-use Rattle.mari_publish.specs.Pieces.{ReaderState, StandsFor, IsNext, with_answer, with_part}
+use Rattle.mari_publish.specs.Pieces.{ReaderState, ComesFrom, IsNext, with_answer, with_part}
 use Rattle.mari_publish.proofs.Pieces.{one_next, wrong}
 use Rattle.mari_publish.proofs.MoreText.{part_stays, line_stays, order_stays}
 use Rattle.mari_publish.proofs.reader.TextReader.next.Goals as goal
@@ -15,13 +15,13 @@ pub returns-in_err-part-clause-next : goal.returns-in_err-part-clause-next
 returns-in_err-part-clause-next c = λ text parts s.
     let x = err_from_is_err_and c.from_residual.result c.from_residual.ensures.1 in
     let is : c.from_residual.result ≡ wrong c.in_err-part.field-0.0 = x.1 ∙ ap wrong x.2 in
-    subst (λ r. IsNext text parts r) (sym is) (c.in_err-part.ensures.next text parts (subst (λ (r : ReaderState). StandsFor r.come text parts) (sym c.self.view_is) s))
+    subst (λ r. IsNext text parts r) (sym is) (c.in_err-part.ensures.next text parts (subst (λ (r : ReaderState). ComesFrom r.come text parts) (sym c.self.view_is) s))
 
 pub returns-in_err-part-clause-one : goal.returns-in_err-part-clause-one
 returns-in_err-part-clause-one c = λ text parts answer s a.
     let x = err_from_is_err_and c.from_residual.result c.from_residual.ensures.1 in
     let is : c.from_residual.result ≡ wrong c.in_err-part.field-0.0 = x.1 ∙ ap wrong x.2 in
-    one_next text parts answer c.from_residual.result a (subst (λ r. IsNext text parts r) (sym is) (c.in_err-part.ensures.next text parts (subst (λ (r : ReaderState). StandsFor r.come text parts) (sym c.self.view_is) s)))
+    one_next text parts answer c.from_residual.result a (subst (λ r. IsNext text parts r) (sym is) (c.in_err-part.ensures.next text parts (subst (λ (r : ReaderState). ComesFrom r.come text parts) (sym c.self.view_is) s)))
 
 pub invariant_of-self-then-is_none : goal.invariant_of-self-then-is_none
 invariant_of-self-then-is_none c =
@@ -34,18 +34,18 @@ invariant_of-self-else-is_none c =
     (c.next_part.ensures.handled, (h.0, with_answer h.1 c.next_part.result, c.next_part.ensures.stands h.0 h.1 h.2), λ no. absurd cc)
 
 pub returns-clause-next : goal.returns-clause-next
-returns-clause-next c = λ text parts s. c.in_ok-part.ensures.next text parts (subst (λ (r : ReaderState). StandsFor r.come text parts) (sym c.self.view_is) s)
+returns-clause-next c = λ text parts s. c.in_ok-part.ensures.next text parts (subst (λ (r : ReaderState). ComesFrom r.come text parts) (sym c.self.view_is) s)
 
 pub returns-clause-stands : goal.returns-clause-stands
 returns-clause-stands c = λ text parts s.
-    let old = subst (λ (r : ReaderState). StandsFor r.come text parts) (sym c.self.view_is) s in
+    let old = subst (λ (r : ReaderState). ComesFrom r.come text parts) (sym c.self.view_is) s in
     elim c.if-is_none.branch [
-      | then-is_none w ↦ subst (λ (r : ReaderState). StandsFor r.come text (with_part parts c.in_ok-part.part)) (sym w.self-is) (w.forget.ensures.stands text (with_part parts c.in_ok-part.part) (c.in_ok-part.ensures.stands text parts old))
-      | else-is_none w ↦ subst (λ (r : ReaderState). StandsFor r.come text (with_part parts c.in_ok-part.part)) (sym w.self-is) (c.in_ok-part.ensures.stands text parts old)
+      | then-is_none w ↦ subst (λ (r : ReaderState). ComesFrom r.come text (with_part parts c.in_ok-part.part)) (sym w.self-is) (w.forget.ensures.stands text (with_part parts c.in_ok-part.part) (c.in_ok-part.ensures.stands text parts old))
+      | else-is_none w ↦ subst (λ (r : ReaderState). ComesFrom r.come text (with_part parts c.in_ok-part.part)) (sym w.self-is) (c.in_ok-part.ensures.stands text parts old)
     ]
 
 pub returns-clause-one : goal.returns-clause-one
-returns-clause-one c = λ text parts answer s a. one_next text parts answer (Ok c.in_ok-part.part) a (c.in_ok-part.ensures.next text parts (subst (λ (r : ReaderState). StandsFor r.come text parts) (sym c.self.view_is) s))
+returns-clause-one c = λ text parts answer s a. one_next text parts answer (Ok c.in_ok-part.part) a (c.in_ok-part.ensures.next text parts (subst (λ (r : ReaderState). ComesFrom r.come text parts) (sym c.self.view_is) s))
 
 pub returns-in_err-part-clause-part : goal.returns-in_err-part-clause-part
 returns-in_err-part-clause-part c = λ text more parts x h. part_stays text more parts x h

@@ -1,21 +1,18 @@
 -- What is found of a published block, by its other faults and by its ledger.
-use Rattle.std.proofs.Common.{◌≡◌, ℕ, pos, Bool, true, false, List, Option, Some, None, subst}
+use Rattle.std.proofs.Common.{◌≡◌, ℕ, Bool, true, false, List, Option, Some, None, subst}
 use Rattle.std.specs.Prelude.{◌↔◌}
-use Rattle.std.specs.List.{All}
 use Rattle.std.proofs.lemmas.Bool.{both_ways}
 use Rattle.mari_units.specs.declared.numbers.Cents.{Cents}
 use Rattle.mari_market.specs.declared.activation.Activation.{Activation}
 use Rattle.mari_market.specs.declared.activation.Prices.{Prices}
 use Rattle.mari_market.specs.Optimal.{IsConsistent}
-use Rattle.mari_market.specs.Sums.{int_sum}
 use Rattle.mari_publish.specs.declared.publication.FullBlock.{FullBlock}
 use Rattle.mari_remain.specs.declared.books.Books.{Books}
 use Rattle.mari_remain.specs.declared.market.RunMarket.{RunMarket}
 use Rattle.mari_settle.specs.declared.ledger.Ledger.{Ledger}
-use Rattle.mari_settle.specs.Conditions.{HasSmallNumbers, IsWithin, LineIsWithin}
-use Rattle.mari_settle.specs.Ledger.{net_of, operator_lines, provider_amounts, rents_of, scheduled_or}
+use Rattle.mari_settle.specs.Ledger.{operator_lines, provider_amounts, rents_of, scheduled_or}
 use Rattle.mari_progress.specs.Money.{HasLedger, providers_among}
-use Rattle.mari_progress.specs.Runs.{IsMarketOf, most_of_operator, most_of_provider}
+use Rattle.mari_progress.specs.Runs.{IsBalancedLedger, IsMarketOf}
 use Rattle.mari_progress.specs.Told.{activation_of, prices_of}
 use Rattle.mari_check.specs.declared.block.Examined.{Examined}
 use Rattle.mari_check.specs.declared.block.Examined.TheVariants.{Faulty, Sound}
@@ -38,13 +35,12 @@ module _ (books : Books) (made : RunMarket) (also : Option (List Cents)) (b : Fu
   pub ledger-untold : held ≡ false → HasLedger books made also b → ⊥
   ledger-untold wrong h = both_ways held wrong (own.1 h)
 
-  pub ledger-told : held ≡ true → IsMarketOf books made → IsConsistent made.market a ps.cents → HasSmallNumbers ledger → All (LineIsWithin most_of_operator) ledger.operators
-      → All (IsWithin most_of_provider) ledger.providers → int_sum net_of ledger.operators ≡ pos 0 → IsToldLedger books made also b a ps (Some ledger)
-  ledger-told right of agrees small operators_small providers_small nets =
+  pub ledger-told : held ≡ true → IsMarketOf books made → IsConsistent made.market a ps.cents → IsBalancedLedger ledger → IsToldLedger books made also b a ps (Some ledger)
+  ledger-told right of agrees balanced =
       let h = own.0 right in
       let P : Activation → Type 0 = λ x. IsConsistent made.market x ps.cents in
       let Q : List Cents → Type 0 = λ qs. IsConsistent made.market (activation_of b) qs in
-      (h, run-of books made also b ledger a ps told priced of (subst Q priced (subst P told agrees)) h rents operators providers small operators_small providers_small nets)
+      (h, run-of books made also b ledger a ps told priced of (subst Q priced (subst P told agrees)) h rents operators providers balanced)
 
 module _ (books : Books) (run : ℕ) (made : RunMarket) (also : Option (List Cents)) (budget : Option ℕ) (b : FullBlock) where
   abbrev free : Fault → Type 0

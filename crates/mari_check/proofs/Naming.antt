@@ -15,7 +15,7 @@ use Rattle.mari_remain.specs.declared.books.Books.{Books}
 use Rattle.mari_remain.specs.declared.market.RunMarket.{RunMarket}
 use Rattle.mari_progress.specs.Told.{NamesMarket}
 use Rattle.mari_check.specs.Lines.{NamesBid, NamesEnds, NamesZone}
-use Rattle.mari_progress.specs.Told.{name_at}
+use Rattle.mari_rows.specs.Names.{name_at}
 use Rattle.mari_check.proofs.Zips.{map-itself, zip-from, zip-to}
 
 at-some : (names : List (List ℕ)) (place : ℕ) (own : List ℕ) → Some own ≡ slice_get names place → own ≡ name_at names place
@@ -43,22 +43,24 @@ named-none name names place is e = (
 module _ (books : Books) (made : RunMarket) (b : FullBlock) where
   pub zones-of : NamesMarket books made b → AllZip NamesZone b.zones books.zones.zones
   zones-of h =
-      let all = h.zones ∙ sym (map-itself books.zones.zones) in
+      let all = h.lines.zones ∙ sym (map-itself books.zones.zones) in
       zip-from NamesZone (λ (l : ZoneLine). l.name) (λ (l : ZoneLine). l.name) (λ (n : List ℕ). n) (λ (n : List ℕ). n) (λ l n e f. e) b.zones books.zones.zones all all
 
   pub borders-of : NamesMarket books made b → AllZip (NamesEnds books.zones.zones) b.borders books.borders.borders
   borders-of h =
       zip-from (NamesEnds books.zones.zones) (λ (l : BorderLine). l.from) (λ (l : BorderLine). l.to) (λ (ends : BorderEnds). name_at books.zones.zones ends.from) (λ (ends : BorderEnds). name_at books.zones.zones ends.to)
-      (λ l ends e f. record { from = e; to = f }) b.borders books.borders.borders h.from h.to
+      (λ l ends e f. record { from = e; to = f }) b.borders books.borders.borders h.lines.from h.lines.to
 
   pub bids-of : NamesMarket books made b → AllZip (NamesBid books.bids.ids) b.bids made.bids
-  bids-of h = zip-from (NamesBid books.bids.ids) (λ (l : BidLine). l.id) (λ (l : BidLine). l.id) (name_at books.bids.ids) (name_at books.bids.ids) (λ l n e f. e) b.bids made.bids h.bids h.bids
+  bids-of h = zip-from (NamesBid books.bids.ids) (λ (l : BidLine). l.id) (λ (l : BidLine). l.id) (name_at books.bids.ids) (name_at books.bids.ids) (λ l n e f. e) b.bids made.bids h.lines.bids h.lines.bids
 
   pub names-of : AllZip NamesZone b.zones books.zones.zones → AllZip (NamesEnds books.zones.zones) b.borders books.borders.borders → AllZip (NamesBid books.bids.ids) b.bids made.bids → length b.demands ≡ made.demands → NamesMarket books made b
   names-of zones borders bids demands = record {
-    zones = zip-to NamesZone (λ (l : ZoneLine). l.name) (λ (n : List ℕ). n) (λ l n e. e) b.zones books.zones.zones zones ∙ map-itself books.zones.zones;
-    from = zip-to (NamesEnds books.zones.zones) (λ (l : BorderLine). l.from) (λ (ends : BorderEnds). name_at books.zones.zones ends.from) (λ l ends e. e.from) b.borders books.borders.borders borders;
-    to = zip-to (NamesEnds books.zones.zones) (λ (l : BorderLine). l.to) (λ (ends : BorderEnds). name_at books.zones.zones ends.to) (λ l ends e. e.to) b.borders books.borders.borders borders;
-    bids = zip-to (NamesBid books.bids.ids) (λ (l : BidLine). l.id) (name_at books.bids.ids) (λ l n e. e) b.bids made.bids bids;
+    lines = record {
+      zones = zip-to NamesZone (λ (l : ZoneLine). l.name) (λ (n : List ℕ). n) (λ l n e. e) b.zones books.zones.zones zones ∙ map-itself books.zones.zones;
+      from = zip-to (NamesEnds books.zones.zones) (λ (l : BorderLine). l.from) (λ (ends : BorderEnds). name_at books.zones.zones ends.from) (λ l ends e. e.from) b.borders books.borders.borders borders;
+      to = zip-to (NamesEnds books.zones.zones) (λ (l : BorderLine). l.to) (λ (ends : BorderEnds). name_at books.zones.zones ends.to) (λ l ends e. e.to) b.borders books.borders.borders borders;
+      bids = zip-to (NamesBid books.bids.ids) (λ (l : BidLine). l.id) (name_at books.bids.ids) (λ l n e. e) b.bids made.bids bids;
+    };
     demands = demands;
   }

@@ -10,7 +10,7 @@ use Rattle.mari_io.specs.declared.shelf.Fetch.{Fetch}
 use Rattle.mari_io.specs.declared.shelf.Fetch.TheVariants as fetch
 use Rattle.mari_io.specs.declared.shelf.TheConstants.{MOST_GIVEN, MOST_PIECE}
 use Rattle.mari_publish.specs.Faults.{IsOutcome, IsText}
-use Rattle.mari_publish.specs.Pieces.{ComeState, HasPart, IsEnd, IsNext, NoFault, StandsFor, found_none, with_part}
+use Rattle.mari_publish.specs.Pieces.{ComeState, HasPart, IsEnd, IsNext, NoFault, ComesFrom, found_none, with_part}
 use Rattle.mari_lines.specs.Spelling.{spelling}
 use Rattle.mari_publish.specs.Texts.{text_of_lines}
 use Rattle.mari_publish.specs.declared.fault.TextFault.{TextFault}
@@ -140,12 +140,12 @@ pub next-part : (text : List ℕ) (parts : List Part) (o : Option Part) (x : Par
 next-part text parts None x e n = absurd cc
 next-part text parts (Some y) x e n = let same : y ≡ x = cc in subst (HasPart text parts) same n
 
-pub next-stands : (come : ComeState) (text : List ℕ) (parts : List Part) (o : Option Part) (x : Part) → o ≡ Some x → StandsFor come text (with_part parts o) → StandsFor come text (parts ++ x ∷ [])
+pub next-stands : (come : ComeState) (text : List ℕ) (parts : List Part) (o : Option Part) (x : Part) → o ≡ Some x → ComesFrom come text (with_part parts o) → ComesFrom come text (parts ++ x ∷ [])
 next-stands come text parts None x e s = absurd cc
-next-stands come text parts (Some y) x e s = let same : y ≡ x = cc in subst (λ (z : Part). StandsFor come text (parts ++ z ∷ [])) same s
+next-stands come text parts (Some y) x e s = let same : y ≡ x = cc in subst (λ (z : Part). ComesFrom come text (parts ++ z ∷ [])) same s
 
 -- there is no further part: all that has come is taken
-pub all-read : (books : Books) (text : List ℕ) (parts : List Part) (stream : Stream) (o : Option Part) → o ≡ None → IsNext text parts (Ok o) → StandsFor stream.reader.come text (with_part parts o) → stream.reader.waits ≡ found_none (Ok o)
+pub all-read : (books : Books) (text : List ℕ) (parts : List Part) (stream : Stream) (o : Option Part) → o ≡ None → IsNext text parts (Ok o) → ComesFrom stream.reader.come text (with_part parts o) → stream.reader.waits ≡ found_none (Ok o)
     → IsFound books parts stream.day stream.found → IsAllRead books text stream
 all-read books text parts stream (Some x) e n s w f = absurd cc
 all-read books text parts stream None e n s w f = record { parts = parts; read = record { stands = s; found = f }; waits = w; no_fault = n.1 }

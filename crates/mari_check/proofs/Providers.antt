@@ -1,7 +1,7 @@
 -- The ledger that a block tells.
-use Rattle.std.proofs.Common.{◌≡◌, ◌∙◌, ℕ, pos, Bool, true, List, [], length, map, Option, refl, sym, ap}
+use Rattle.std.proofs.Common.{◌≡◌, ◌∙◌, ℕ, Bool, true, List, [], length, map, Option, refl, sym, ap}
 use Rattle.std.specs.Prelude.{◌↔◌}
-use Rattle.std.specs.List.{All, AllZip}
+use Rattle.std.specs.List.{AllZip}
 use Rattle.std.proofs.lemmas.List.FromFn.{length-map-range_with_len}
 use Rattle.std.proofs.lemmas.Slice.Zip.{AllZip-long}
 use Rattle.mari_units.specs.declared.numbers.Cents.{Cents}
@@ -10,17 +10,15 @@ use Rattle.mari_market.specs.declared.activation.Activation.{Activation}
 use Rattle.mari_market.specs.declared.activation.Prices.{Prices}
 use Rattle.mari_market.specs.declared.market.Border.{Border}
 use Rattle.mari_market.specs.Optimal.{IsConsistent}
-use Rattle.mari_market.specs.Sums.{int_sum}
 use Rattle.mari_lines.specs.declared.line.BorderLine.{BorderLine}
 use Rattle.mari_publish.specs.declared.publication.FullBlock.{FullBlock}
 use Rattle.mari_remain.specs.declared.books.Books.{Books}
 use Rattle.mari_remain.specs.declared.market.RunMarket.{RunMarket}
 use Rattle.mari_settle.specs.declared.ledger.Ledger.{Ledger}
-use Rattle.mari_settle.specs.Conditions.{HasSmallNumbers, IsWithin, LineIsWithin}
-use Rattle.mari_settle.specs.Ledger.{net_of, operator_lines, provider_amounts, rent_of, rents_of, scheduled_or}
+use Rattle.mari_settle.specs.Ledger.{operator_lines, provider_amounts, rent_of, rents_of, scheduled_or}
 use Rattle.mari_settle.specs.Lines.{map_along}
 use Rattle.mari_progress.specs.Money.{HasLedger, amount_line, amounts_of, money_lines_of, providers_among}
-use Rattle.mari_progress.specs.Runs.{IsMarketOf, IsRunOf, most_of_operator, most_of_provider}
+use Rattle.mari_progress.specs.Runs.{IsBalancedLedger, IsMarketOf, IsRunOf}
 use Rattle.mari_progress.specs.Told.{activation_of, prices_of}
 use Rattle.mari_progress.proofs.Lists.{along-length}
 use Rattle.mari_check.specs.Lines.{TellsLedger, TellsRent}
@@ -54,9 +52,8 @@ module _ (books : Books) (made : RunMarket) (also : Option (List Cents)) (b : Fu
 -- what the block adds to its day
 pub run-of : (books : Books) (made : RunMarket) (also : Option (List Cents)) (b : FullBlock) (ledger : Ledger) (a : Activation) (ps : Prices) → a ≡ activation_of b → ps.cents ≡ prices_of b → IsMarketOf books made → IsConsistent made.market (activation_of b) (prices_of b)
     → HasLedger books made also b → ledger.rents ≡ rents_of made.market a ps.cents → ledger.operators ≡ operator_lines books.zones made.market a ps.cents → ledger.providers ≡ provider_amounts books.bids made.bids a ps.cents (scheduled_or ps.cents also)
-    → HasSmallNumbers ledger → All (LineIsWithin most_of_operator) ledger.operators → All (IsWithin most_of_provider) ledger.providers → int_sum net_of ledger.operators ≡ pos 0
-    → IsRunOf books made also b (record { made = made; activation = a; prices = ps; ledger = ledger })
-run-of books made also b ledger a ps told priced of agrees h rents operators providers small operators_small providers_small nets = record {
+    → IsBalancedLedger ledger → IsRunOf books made also b (record { made = made; activation = a; prices = ps; ledger = ledger })
+run-of books made also b ledger a ps told priced of agrees h rents operators providers balanced = record {
   market = refl;
   activation = told;
   prices = priced;
@@ -66,8 +63,5 @@ run-of books made also b ledger a ps told priced of agrees h rents operators pro
   rents =
       let many : length (map_along (λ (x : Border) f. record { 0 = rent_of (prices_of b) x f }) made.market.borders (activation_of b).flow) ≡ length made.market.borders = along-length _ made.market.borders (activation_of b).flow (AllZip-long _ made.market.borders (activation_of b).flow agrees.borders) in
       ap length (rents ∙ same2 books made also b ledger [] a ps.cents told priced (rents_of made.market)) ∙ many ∙ of.borders;
-  small = small;
-  operators_small = operators_small;
-  providers_small = providers_small;
-  nets = nets;
+  balanced = balanced;
 }

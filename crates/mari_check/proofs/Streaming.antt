@@ -12,7 +12,7 @@ use Rattle.mari_lines.specs.declared.line.MoneyLine.{MoneyLine}
 use Rattle.mari_publish.specs.declared.publication.Part.{Part}
 use Rattle.mari_publish.specs.declared.publication.Part.TheVariants as part
 use Rattle.mari_publish.specs.declared.publication.Publication.{Publication}
-use Rattle.mari_publish.specs.Pieces.{ComeState, Gives, HasPart, StandsFor, front_parts, parts_of, parts_so_far}
+use Rattle.mari_publish.specs.Pieces.{ComeState, Gives, HasPart, ComesFrom, front_parts, parts_of, parts_so_far}
 use Rattle.mari_publish.proofs.Counts.{counted}
 use Rattle.mari_publish.proofs.Pieces.{counts_of}
 use Rattle.mari_lines.specs.declared.line.Line.{Line}
@@ -98,7 +98,7 @@ counts lines parts k g =
     ap length g.given ∙ so-many g.so_far k.held ∙ ap (count_in k.held) both
 
 -- each part leaves room for one less
-pub fewer-left : (old new : ComeState) (text : List ℕ) (parts : List Part) (x : Part) → StandsFor old text parts → StandsFor new text (parts ++ x ∷ []) → 1002 - count_of new.kept < 1002 - count_of old.kept
+pub fewer-left : (old new : ComeState) (text : List ℕ) (parts : List Part) (x : Part) → ComesFrom old text parts → ComesFrom new text (parts ++ x ∷ []) → 1002 - count_of new.kept < 1002 - count_of old.kept
 fewer-left old new text parts x s t =
     let before = counts s.lines parts old.kept s.gives in
     let after = counts t.lines (parts ++ x ∷ []) new.kept t.gives in

@@ -2,6 +2,7 @@
 use Rattle.std.specs.Prelude.{◌≡◌, ◌≤ℤ◌, ℕ, List, map}
 use Rattle.mari_units.specs.declared.numbers.Cents.{Cents}
 use Rattle.mari_units.specs.declared.numbers.Quarters.{Quarters}
+use Rattle.mari_rows.specs.Names.{name_at}
 use Rattle.mari_zones.specs.declared.borders.BorderEnds.{BorderEnds}
 use Rattle.mari_market.specs.Interval.{IsNearest}
 use Rattle.mari_lines.specs.declared.line.AmountLine.{AmountLine}
@@ -13,7 +14,7 @@ use Rattle.mari_publish.specs.declared.publication.FullBlock.{FullBlock}
 use Rattle.mari_remain.specs.declared.books.Books.{Books}
 use Rattle.mari_settle.specs.declared.ledger.Ledger.{Ledger}
 use Rattle.mari_progress.specs.Money.{amount_line, money_lines_of}
-use Rattle.mari_progress.specs.Told.{name_at, rents_told}
+use Rattle.mari_progress.specs.Told.{rents_told}
 
 -- the line of a zone has the name
 abbrev pub NamesZone : ZoneLine → List ℕ → Type 0

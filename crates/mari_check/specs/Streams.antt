@@ -5,7 +5,7 @@ use Rattle.mari_io.specs.declared.shelf.Fetch.TheVariants as fetch
 use Rattle.mari_io.specs.declared.shelf.TheConstants.{MOST_GIVEN, MOST_PIECE}
 use Rattle.mari_io.specs.Outside.{counted}
 use Rattle.mari_publish.specs.Faults.{IsText, BadLineAt, BadOrderAt, TruncatedAt}
-use Rattle.mari_publish.specs.Pieces.{NoFault, StandsFor, parts_of}
+use Rattle.mari_publish.specs.Pieces.{NoFault, ComesFrom, parts_of}
 use Rattle.mari_publish.specs.declared.fault.TextFault.{TextFault}
 use Rattle.mari_publish.specs.declared.fault.TextFault.TheVariants as fault
 use Rattle.mari_publish.specs.declared.publication.Block.{Block}
@@ -168,7 +168,7 @@ IsFound books parts day (Some verdict) = IsSettled books parts verdict
 
 -- a text has come, and these parts of it were taken
 pub record IsRead (books : Books) (text : List ℕ) (parts : List Part) (stream : Stream) : Type 0 where
-  pub stands : StandsFor stream.reader.come text parts
+  pub stands : ComesFrom stream.reader.come text parts
   pub found : IsFound books parts stream.day stream.found
 
 -- all parts that have come of a text were taken, and no whole line of it has a fault

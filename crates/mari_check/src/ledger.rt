@@ -2,6 +2,7 @@
 
 ghost use Rattle.std.specs.Prelude.{◌≡◌, ◌<◌, ◌^◌, IfOk, IfSome, IsTrue, ◌↔◌, length, map, option_map};
 ghost use Rattle.std.specs.List.{All, AllZip, range_with_len};
+ghost use Rattle.mari_rows.specs.Names.{name_at};
 ghost use Rattle.mari_market.specs.Optimal.{IsConsistent, IsFeasible};
 ghost use Rattle.mari_market.specs.Price.{ArePrices};
 ghost use Rattle.mari_remain.specs.Accepted.{IsAccepted};
@@ -10,7 +11,7 @@ ghost use Rattle.mari_check.specs.Examined.{IsToldLedger};
 ghost use Rattle.mari_check.specs.Lines.{TellsLedger, TellsRent};
 ghost use Rattle.mari_progress.specs.Money.{amount_line, money_line, money_lines_of};
 ghost use Rattle.mari_progress.specs.Runs.{IsMarketOf};
-ghost use Rattle.mari_progress.specs.Told.{activation_of as activation_told, name_at, prices_of as prices_told};
+ghost use Rattle.mari_progress.specs.Told.{activation_of as activation_told, prices_of as prices_told};
 ghost use Rattle.mari_lines.specs.declared.line.AmountLine.{AmountLine as TheAmountLine};
 ghost use Rattle.mari_lines.specs.declared.line.MoneyLine.{MoneyLine as TheMoneyLine};
 

@@ -4,7 +4,7 @@ ghost use Rattle.std.specs.Prelude.{◌≡◌, ◌≤◌, ℕ, List, IsTrue, ◌
 ghost use Rattle.std.specs.List.{AllZip};
 ghost use Rattle.mari_progress.specs.Told.{NamesMarket};
 ghost use Rattle.mari_check.specs.Lines.{NamesBid, NamesEnds, NamesZone};
-ghost use Rattle.mari_progress.specs.Told.{name_at};
+ghost use Rattle.mari_rows.specs.Names.{name_at};
 
 use mari_publish::{BidLine, BorderLine, FullBlock, ZoneLine};
 use mari_remain::{Books, RunMarket};

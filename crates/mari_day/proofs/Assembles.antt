@@ -47,10 +47,7 @@ module _ (books : Books) (budget run : ℕ) (made : RunMarket) (also : Option (L
       record {
         heading = is.heading;
         names = record {
-          zones = is.zones.names;
-          from = is.borders.from;
-          to = is.borders.to;
-          bids = is.orders.ids;
+          lines = is.names;
           demands = ap length is.orders.demands ∙ simp length-drop (omega (arith, long));
         };
         clearing = subst (IsClearing m budget) (sym same_clearing) clears;
@@ -79,8 +76,5 @@ module _ (books : Books) (budget run : ℕ) (made : RunMarket) (also : Option (L
     providers = rw ledger (same_amounts p);
     one_each = rw ledger shapes.operators;
     rents = rw ledger shapes.rents;
-    small = rw ledger p.small;
-    operators_small = rw ledger p.operators_small;
-    providers_small = rw ledger p.providers_small;
-    nets = rw ledger p.nets;
+    balanced = rw ledger p.balanced;
   }

@@ -80,12 +80,12 @@ module _ (books : Books) (ok : IsAccepted books) (dated : IsDated books) (budget
     (is : IsAssembled books run made.bids clearing priced b) (shapes : HasShapes books made.bids clearing priced) (p : IsPriced books made also clearing priced) (feasible : IsFeasible made.market clearing.activation) where
   zones-fit : Listed 1 64 (λ z. InRange (line.Zone z)) b.zones
   zones-fit =
-      let names = of-map (λ (l : ZoneLine). l.name) IsName b.zones _ is.zones.names ok.zones.zones in
+      let names = of-map (λ (l : ZoneLine). l.name) IsName b.zones _ is.names.zones ok.zones.zones in
       let prices = of-map (λ (l : ZoneLine). l.price) IsPriceLine b.zones _ is.zones.prices p.consistent.prices.capped in
       let least = of-map (λ (l : ZoneLine). l.least) IsPriceLine b.zones _ is.zones.least (least-fit _ _ _ p.least) in
       let greatest = of-map (λ (l : ZoneLine). l.greatest) IsPriceLine b.zones _ is.zones.greatest (greatest-fit _ _ _ p.greatest) in
       let areas = of-map (λ (l : ZoneLine). l.area) (Between 1 64) b.zones _ is.zones.areas (areas-fit _ _ _ p.areas of.valid.zones.1) in
-      let many = as-many (λ (l : ZoneLine). l.name) b.zones _ is.zones.names in
+      let many = as-many (λ (l : ZoneLine). l.name) b.zones _ is.names.zones in
       ((omega (arith, many, ok.zones.some), omega (arith, many, ok.zones.few)), λ k d l. (names k d l, prices k d l, least k d l, greatest k d l, areas k d l))
 
   ends-named : (end : BorderEnds → ℕ) → ((x : BorderEnds) → IsBorder books.zones x → end x < length books.zones.zones) → All IsName (map (λ x. name_at books.zones.zones (end x)) books.borders.borders)
@@ -93,21 +93,21 @@ module _ (books : Books) (ok : IsAccepted books) (dated : IsDated books) (budget
 
   borders-fit : Listed 0 256 (λ x. InRange (line.Border x)) b.borders
   borders-fit =
-      let from = of-map (λ (l : BorderLine). l.from) IsName b.borders _ is.borders.from (ends-named (λ x. x.from) (λ x h. h.from)) in
-      let to = of-map (λ (l : BorderLine). l.to) IsName b.borders _ is.borders.to (ends-named (λ x. x.to) (λ x h. h.to)) in
+      let from = of-map (λ (l : BorderLine). l.from) IsName b.borders _ is.names.from (ends-named (λ x. x.from) (λ x h. h.from)) in
+      let to = of-map (λ (l : BorderLine). l.to) IsName b.borders _ is.names.to (ends-named (λ x. x.to) (λ x h. h.to)) in
       let flows = flows-fit made.market of.valid clearing.activation feasible in
       let flow = of-map (λ (l : BorderLine). l.flow) (λ f. Within 199998 f) b.borders _ is.borders.flow flows.1 in
-      let rents = of-map (λ (l : BorderLine). l.rent) IsMoney b.borders _ is.borders.rents (All-weaker IsSmall IsMoney money priced.ledger.rents p.small.rents) in
+      let rents = of-map (λ (l : BorderLine). l.rent) IsMoney b.borders _ is.borders.rents (All-weaker IsSmall IsMoney money priced.ledger.rents p.balanced.small.rents) in
       let many = as-many (λ (l : BorderLine). l.flow) b.borders _ is.borders.flow in
       ((omega arith, omega (arith, many, flows.0.1)), λ k d l. (from k d l, to k d l, flow k d l, rents k d l))
 
   bids-fit : Listed 0 4096 (λ x. InRange (line.Bid x)) b.bids
   bids-fit =
       let named : All IsName (map (name_at books.bids.ids) made.bids) = All-map IsName (name_at books.bids.ids) made.bids (λ k d l. ok.bids.ids _ _ (omega (arith, of.there k d l, ok.bids.named))) in
-      let ids = of-map (λ (l : BidLine). l.id) IsName b.bids _ is.orders.ids named in
+      let ids = of-map (λ (l : BidLine). l.id) IsName b.bids _ is.names.bids named in
       let mws = mws-fit made.market of.valid clearing.activation feasible in
       let mw = of-map (λ (l : BidLine). l.mw) (λ q. q ≤ 99999) b.bids _ is.orders.mw (All-take (λ q. q ≤ 99999) (length made.bids) clearing.activation.mw mws.1) in
-      let many = as-many (λ (l : BidLine). l.id) b.bids _ is.orders.ids in
+      let many = as-many (λ (l : BidLine). l.id) b.bids _ is.names.bids in
       ((omega arith, omega (arith, many, length-map made.bids (name_at books.bids.ids), of.few)), λ k d l. (ids k d l, mw k d l))
 
   demands-fit : length b.demands ≡ made.demands → Listed 0 512 (λ mw. mw ≤ 99999) b.demands
@@ -119,10 +119,10 @@ module _ (books : Books) (ok : IsAccepted books) (dated : IsDated books) (budget
   operators-fit =
       let many = along-length money_line books.zones.operators priced.ledger.operators shapes.operators in
       let some : 0 < length books.zones.operators = omega (arith, ok.zones.operator_of 0 0 (omega (arith, ok.zones.one_each, ok.zones.some))) in
-      rw is.operators ((omega (arith, many, some), omega (arith, many, ok.zones.few_operators)), lines-fit books.zones.operators priced.ledger.operators ok.zones.operators (halves priced.ledger.operators p.small.operators))
+      rw is.operators ((omega (arith, many, some), omega (arith, many, ok.zones.few_operators)), lines-fit books.zones.operators priced.ledger.operators ok.zones.operators (halves priced.ledger.operators p.balanced.small.operators))
 
   amount-fits : (place : ℕ) → place < length books.bids.providers → IsAmountLine (amount_line books.bids.providers priced.ledger.providers place)
-  amount-fits place l = (ok.bids.providers place [] l, money (slice_index_or priced.ledger.providers place nothing) (p.small.providers place nothing (omega (arith, shapes.providers))))
+  amount-fits place l = (ok.bids.providers place [] l, money (slice_index_or priced.ledger.providers place nothing) (p.balanced.small.providers place nothing (omega (arith, shapes.providers))))
 
   providers-fit : Listed 0 4096 IsAmountLine b.providers
   providers-fit =

@@ -16,7 +16,7 @@ use Rattle.mari_rows.specs.declared.faults.RowFault.{RowFault}
 use Rattle.mari_rows.specs.declared.faults.RowFault.TheVariants as unread
 use Rattle.mari_rows.specs.declared.rows.Row.{Row}
 use Rattle.mari_calendar.specs.Dates.{day_in}
-use Rattle.mari_calendar.specs.Midnights.{day_after, midnight_in, or_fault, quarters_at}
+use Rattle.mari_calendar.specs.Midnights.{◌>>>◌, day_after, midnight_in, or_fault, quarters_at}
 use Rattle.mari_calendar.specs.declared.quarters.CalendarFault.{CalendarFault}
 use Rattle.mari_calendar.specs.declared.quarters.CalendarFault.TheVariants as calendar
 use Rattle.mari_zones.specs.Borders.{border_grammar, borders_in, version_in}
@@ -39,7 +39,7 @@ use Rattle.mari_demands.specs.declared.limits.Limits.{Limits as BorderLimits}
 use Rattle.mari_demands.specs.declared.runs.RunCheck.TheVariants as run
 use Rattle.mari_day.specs.CalendarPage.{calendar_day_in, check_of, day_by, day_columns, day_of_read, day_of_rows}
 use Rattle.mari_day.specs.DateChecks.{date_check_number}
-use Rattle.mari_day.specs.Reading.{books_at, limits_at, of_file, ◌>>>◌, Reads}
+use Rattle.mari_day.specs.Reading.{books_at, limits_at, of_file, Reads}
 use Rattle.mari_day.specs.Refusals.{IsByCheck, IsCheckNumber, RefusesByCheck}
 use Rattle.mari_day.specs.Refusals.IsCheckNumber.{OfRows, Own}
 use Rattle.mari_day.specs.declared.calendar_page.DateCheck.TheVariants as date

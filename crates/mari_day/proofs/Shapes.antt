@@ -28,5 +28,5 @@ module _ (books : Books) (made : RunMarket) (is : IsMarketOf books made) (also :
         mw = omega (arith, mw, is.orders);
         operators = ap length p.operators ∙ length-map-range_with_len _ 0 (length books.zones.operators);
         providers = ap length p.providers ∙ length-map-range_with_len _ 0 (length books.bids.providers);
-        small = p.small;
+        small = p.balanced.small;
       }

@@ -8,8 +8,7 @@ use Rattle.mari_lines.specs.declared.line.Line.TheVariants as line
 use Rattle.mari_publish.specs.declared.publication.Block.{Block}
 use Rattle.mari_publish.specs.declared.publication.Publication.{Publication}
 use Rattle.std.specs.Prelude.{IfErr, OnErr, OnOk}
-use Rattle.mari_publish.specs.Closing.{closing_lines_by}
-use Rattle.mari_publish.specs.Lines.{block_lines, closing_lines, published_in, unpublished_in}
+use Rattle.mari_publish.specs.Lines.{block_lines, closing_lines, closing_lines_by, published_in, unpublished_in}
 use Rattle.mari_lines.specs.declared.line.AmountLine.{AmountLine}
 use Rattle.mari_lines.specs.declared.line.MoneyLine.{MoneyLine}
 use Rattle.mari_lines.specs.Spelling.{line_text}
@@ -136,11 +135,15 @@ module _ (books : Books) (budget : ℕ) where
         let few : published_in first.blocks ≡ kept.published = sym first.progress.kept.published in (
           omega (arith, both, few, first.counted, all),
           record {
-            publication = p;
-            day = is.day;
-            in_range = is.in_range;
-            counted = first.progress.kept.published ∙ ap published_in (sym is.of_blocks);
-            others = omega (arith, both, few, first.counted, all) ∙ ap unpublished_in (sym is.of_blocks);
+            text = text_of p;
+            printed = record {
+              publication = p;
+              is_day = is.day;
+              in_range = is.in_range;
+              text = refl;
+              published = first.progress.kept.published ∙ ap published_in (sym is.of_blocks);
+              unpublished = omega (arith, both, few, first.counted, all) ∙ ap unpublished_in (sym is.of_blocks);
+            };
             taken = totals-taken after p is e;
           },
         )

@@ -1,44 +1,36 @@
 -- A block put together from what was computed of a run.
-use Rattle.std.specs.Prelude.{◌≡◌, ◌≤◌, ℕ, pos, List, Option, length, map, take, drop}
-use Rattle.std.specs.List.{All}
+use Rattle.std.specs.Prelude.{◌≡◌, ◌≤◌, ℕ, List, Option, length, map, take, drop}
 use Rattle.mari_units.specs.declared.numbers.Cents.{Cents}
-use Rattle.mari_zones.specs.declared.borders.BorderEnds.{BorderEnds}
 use Rattle.mari_market.specs.declared.clearing.Clearing.{Clearing}
 use Rattle.mari_lines.specs.declared.line.BidLine.{BidLine}
 use Rattle.mari_lines.specs.declared.line.BorderLine.{BorderLine}
 use Rattle.mari_publish.specs.declared.publication.FullBlock.{FullBlock}
-use Rattle.mari_lines.specs.declared.line.ZoneLine.{ZoneLine}
 use Rattle.mari_remain.specs.declared.books.Books.{Books}
 use Rattle.mari_remain.specs.declared.market.RunMarket.{RunMarket}
 use Rattle.mari_market.specs.Area.{AreAreas}
 use Rattle.mari_market.specs.Interval.{AreLeastPrices, AreGreatestPrices, ArePublishedPrices}
 use Rattle.mari_market.specs.Optimal.{IsConsistent}
-use Rattle.mari_market.specs.Sums.{int_sum}
-use Rattle.mari_settle.specs.Ledger.{net_of, operator_lines, provider_amounts, rents_of, scheduled_or}
-use Rattle.mari_settle.specs.Conditions.{HasSmallNumbers, IsWithin, LineIsWithin}
+use Rattle.mari_settle.specs.Ledger.{operator_lines, provider_amounts, rents_of, scheduled_or}
+use Rattle.mari_settle.specs.Conditions.{HasSmallNumbers}
 use Rattle.mari_day.specs.declared.block.Priced.{Priced}
 use Rattle.mari_progress.specs.Money.{amount_line, money_lines_of, providers_among}
-use Rattle.mari_progress.specs.Runs.{most_of_operator, most_of_provider}
-use Rattle.mari_progress.specs.Told.{heading_of, name_at}
+use Rattle.mari_progress.specs.Runs.{IsBalancedLedger}
+use Rattle.mari_progress.specs.Told.{NamesLines, areas_of, greatest_of, heading_of, least_of, prices_of, rents_told}
 
--- the lines of zones
-pub record HasZoneLines (books : Books) (priced : Priced) (b : FullBlock) : Type 0 where
-  pub names : map (λ (l : ZoneLine). l.name) b.zones ≡ books.zones.zones
-  pub prices : map (λ (l : ZoneLine). l.price) b.zones ≡ priced.pricing.published.cents
-  pub least : map (λ (l : ZoneLine). l.least) b.zones ≡ priced.pricing.least.cents
-  pub greatest : map (λ (l : ZoneLine). l.greatest) b.zones ≡ priced.pricing.greatest.cents
-  pub areas : map (λ (l : ZoneLine). l.area) b.zones ≡ priced.areas.items
+-- what the lines of zones tell
+pub record HasZoneLines (priced : Priced) (b : FullBlock) : Type 0 where
+  pub prices : prices_of b ≡ priced.pricing.published.cents
+  pub least : least_of b ≡ priced.pricing.least.cents
+  pub greatest : greatest_of b ≡ priced.pricing.greatest.cents
+  pub areas : areas_of b ≡ priced.areas.items
 
--- the lines of borders
-pub record HasBorderLines (books : Books) (clearing : Clearing) (priced : Priced) (b : FullBlock) : Type 0 where
-  pub from : map (λ (l : BorderLine). l.from) b.borders ≡ map (λ (ends : BorderEnds). name_at books.zones.zones ends.from) books.borders.borders
-  pub to : map (λ (l : BorderLine). l.to) b.borders ≡ map (λ (ends : BorderEnds). name_at books.zones.zones ends.to) books.borders.borders
+-- what the lines of borders tell
+pub record HasBorderLines (clearing : Clearing) (priced : Priced) (b : FullBlock) : Type 0 where
   pub flow : map (λ (l : BorderLine). l.flow) b.borders ≡ clearing.activation.flow
-  pub rents : map (λ (l : BorderLine). l.rent) b.borders ≡ priced.ledger.rents
+  pub rents : rents_told b ≡ priced.ledger.rents
 
--- the lines of bids, and the demands
-pub record HasOrderLines (books : Books) (numbers : List ℕ) (clearing : Clearing) (b : FullBlock) : Type 0 where
-  pub ids : map (λ (l : BidLine). l.id) b.bids ≡ map (name_at books.bids.ids) numbers
+-- what the lines of bids tell, and the demands
+pub record HasOrderLines (numbers : List ℕ) (clearing : Clearing) (b : FullBlock) : Type 0 where
   pub mw : map (λ (l : BidLine). l.mw) b.bids ≡ take (length numbers) clearing.activation.mw
   pub demands : b.demands ≡ drop (length numbers) clearing.activation.mw
 
@@ -47,9 +39,10 @@ pub record IsAssembled (books : Books) (run : ℕ) (numbers : List ℕ) (clearin
   pub heading : b.heading ≡ heading_of books run
   pub welfare : b.welfare ≡ clearing.welfare
   pub tree : b.tree ≡ clearing.tree
-  pub zones : HasZoneLines books priced b
-  pub borders : HasBorderLines books clearing priced b
-  pub orders : HasOrderLines books numbers clearing b
+  pub names : NamesLines books numbers b
+  pub zones : HasZoneLines priced b
+  pub borders : HasBorderLines clearing priced b
+  pub orders : HasOrderLines numbers clearing b
   pub operators : b.operators ≡ money_lines_of books.zones.operators priced.ledger.operators
   pub providers : b.providers ≡ map (amount_line books.bids.providers priced.ledger.providers) (providers_among books.bids.bids numbers)
 
@@ -77,7 +70,4 @@ pub record IsPriced (books : Books) (made : RunMarket) (also : Option (List Cent
   pub operators : priced.ledger.operators ≡ operator_lines books.zones made.market clearing.activation priced.pricing.published.cents
   pub providers : priced.ledger.providers ≡ provider_amounts books.bids made.bids clearing.activation priced.pricing.published.cents (scheduled_or priced.pricing.published.cents also)
   pub rents : priced.ledger.rents ≡ rents_of made.market clearing.activation priced.pricing.published.cents
-  pub small : HasSmallNumbers priced.ledger
-  pub operators_small : All (LineIsWithin most_of_operator) priced.ledger.operators
-  pub providers_small : All (IsWithin most_of_provider) priced.ledger.providers
-  pub nets : int_sum net_of priced.ledger.operators ≡ pos 0
+  pub balanced : IsBalancedLedger priced.ledger

@@ -51,14 +51,20 @@ pub record IsDayText (books : Books) (budget : ℕ) (text : List ℕ) : Type 0 w
 abbrev pub then_took : Option (List ℕ) → List ℕ → Option (List ℕ)
 then_took taken text = option_map (λ t. t ++ text) taken
 
+-- the text of a day, and how many of its blocks are published, and how many are not
+pub record IsPrintedDay (books : Books) (nodes : ℕ) (day : PrintedDay) : Type 0 where
+  pub publication : Publication
+  pub is_day : IsDay books nodes publication
+  pub in_range : HasText publication
+  pub text : day.text ≡ text_of publication
+  pub published : day.published ≡ published_in publication.blocks
+  pub unpublished : day.unpublished ≡ unpublished_in publication.blocks
+
 -- a day was written whole, with so many published blocks and so many others
 pub record WroteWholeDay (books : Books) (budget published unpublished : ℕ) (before after : Option (List ℕ)) : Type 0 where
-  pub publication : Publication
-  pub day : IsDay books budget publication
-  pub in_range : HasText publication
-  pub counted : published ≡ published_in publication.blocks
-  pub others : unpublished ≡ unpublished_in publication.blocks
-  pub taken : after ≡ then_took before (text_of publication)
+  pub text : List ℕ
+  pub printed : IsPrintedDay books budget (record { text = text; published = published; unpublished = unpublished })
+  pub taken : after ≡ then_took before text
 
 -- a first part of the text of a day part, or of a day, was written
 pub record WrotePrefix (books : Books) (budget : ℕ) (before after : Option (List ℕ)) : Type 0 where
@@ -82,12 +88,3 @@ EndsDay books budget before after Memory = (after ≡ before) ⊎ WrotePart book
 -- whatever blocks are printed, the budget holds the search tree of the market of the next run
 abbrev pub HasEnough : Books → (budget : ℕ) → Type 0
 HasEnough books budget = (blocks : List Block) → IsDayPart books budget blocks → length blocks < length books.runs.runs → (size : ℕ) × HasSize (market_behind books blocks).market size × (size ≤ budget)
-
--- the text of a day, and how many of its blocks are published, and how many are not
-pub record IsPrintedDay (books : Books) (nodes : ℕ) (day : PrintedDay) : Type 0 where
-  pub publication : Publication
-  pub is_day : IsDay books nodes publication
-  pub in_range : HasText publication
-  pub text : day.text ≡ text_of publication
-  pub published : day.published ≡ published_in publication.blocks
-  pub unpublished : day.unpublished ≡ unpublished_in publication.blocks

@@ -22,6 +22,7 @@ use Rattle.mari_day.specs.declared.files.File.{File}
 use Rattle.mari_day.specs.declared.files.File.TheVariants.{Day, Zones, Borders, Bids, Links, Runs, Demands, Limits}
 use Rattle.mari_day.specs.declared.reading.BooksFault.{BooksFault}
 use Rattle.mari_day.specs.declared.reading.BooksFault.TheVariants as why
+use Rattle.mari_calendar.specs.Midnights.{◌>>>◌}
 use Rattle.mari_day.specs.CalendarPage.{calendar_day_in}
 use Rattle.mari_day.specs.Fetching.{HasFiles, SomeFetched}
 use Rattle.mari_day.specs.Files.{files_in, number_of, page_of, first_gap, AreHeld, Gap, IsFileNumber}
@@ -30,11 +31,6 @@ use Rattle.mari_day.specs.Files.Gap.{NotHeld, OverLimit}
 -- the refusal of a file at a line, by the number of the check that fails
 abbrev pub refusal_at : File → (line number : ℕ) → Refusal
 refusal_at file line number = record { file = number_of file; line = line; number = number }
-
-infixl 10 ◌>>>◌
-abbrev pub ◌>>>◌ : {A B E : Type 0} → Result A E → (A → Result B E) → Result B E
-(Ok x) >>> f = f x
-(Err e) >>> f = Err e
 
 -- the book of a file, or its refusal, which names the file; no page's book wants memory
 abbrev pub of_file : {Book : Type 0} → File → Result Book BookFault → Result Book Refusal

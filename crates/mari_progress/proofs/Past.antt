@@ -1,13 +1,10 @@
 -- The blocks of a day part, as the market of a later run reads them.
 use Rattle.std.proofs.Common.{◌≡◌, ◌≢◌, ◌∙◌, ℕ, ◌+◌, ◌<◌, ◌≤◌, Bool, true, false, List, [], ◌∷◌, length, map, get_or, Some, refl, sym, ap, subst, arith}
 use Rattle.std.specs.List.{All, AllPairs}
-use Rattle.std.specs.Str.{bytes_eq}
 use Rattle.std.proofs.lemmas.List.{length-map}
 use Rattle.std.proofs.lemmas.List.Elements.{All-head, All-tail}
-use Rattle.std.proofs.lemmas.List.Sums.{position_or_len_is}
-use Rattle.std.proofs.lemmas.Slice.Eq.{bytes_eq-Decides}
-use Rattle.mari_rows.specs.Names.{place_in}
-use Rattle.mari_rows.proofs.NameLemmas.{bytes_eq-same}
+use Rattle.mari_rows.specs.Names.{name_at, place_in}
+use Rattle.mari_rows.proofs.NameLemmas.{place-of-name}
 use Rattle.mari_lines.specs.declared.line.BidLine.{BidLine}
 use Rattle.mari_publish.specs.declared.publication.Block.{Block}
 use Rattle.mari_publish.specs.declared.publication.Block.TheVariants as block
@@ -20,23 +17,8 @@ use Rattle.mari_remain.specs.FirstBlocks.{AreFirstBlocks, IsNextBlock, IsPastRun
 use Rattle.mari_remain.specs.Lists.{run_at}
 use Rattle.mari_progress.specs.Behind.{before_of, market_behind, past_of, run_behind}
 use Rattle.mari_progress.specs.Runs.{IsSoundBlock, IsSoundRun}
-use Rattle.mari_progress.specs.Told.{activation_of, heading_of, name_at}
+use Rattle.mari_progress.specs.Told.{activation_of, heading_of}
 use Rattle.mari_progress.proofs.Made.{market-of}
-
--- where two names differ, the test tells
-differ : (a b : List ℕ) → a ≢ b → bytes_eq a b ≡ false
-differ a b apart = by (bytes_eq a b) refl
-  where
-    by : (t : Bool) → bytes_eq a b ≡ t → bytes_eq a b ≡ false
-    by false e = e
-    by true e = absurd (apart ((bytes_eq-Decides a b).0 e))
-
--- a name's place, among names of which no two are the same
-place-of-name : (names : List (List ℕ)) → AllPairs (λ a b. a ≢ b) names → (i : ℕ) → i < length names → place_in names (name_at names i) ≡ i
-place-of-name names apart i l =
-    position_or_len_is (bytes_eq (name_at names i)) names i [] (omega (arith, l))
-    (λ k before. differ (name_at names i) (get_or names k []) (λ same. apart k i [] before l (sym same)))
-    (λ there. bytes_eq-same (name_at names i))
 
 -- the places of names that are read off places
 places-of-names : (names : List (List ℕ)) → AllPairs (λ a b. a ≢ b) names → (numbers : List ℕ) → All (λ i. i < length names) numbers → (lines : List BidLine)
@@ -56,7 +38,7 @@ module _ (books : Books) (ok : IsAccepted books) (blocks : List Block) (first : 
   there = rw ok.bids.named (market-of books ok (before_of books blocks) first (run_behind blocks) (omega arith) last).there
 
   bids-of : (b : FullBlock) → IsSoundRun books blocks b → map (λ (l : BidLine). place_in books.bids.ids l.id) b.bids ≡ (market_behind books blocks).bids
-  bids-of b is = places-of-names books.bids.ids ok.bids.distinct (market_behind books blocks).bids there b.bids is.names.bids
+  bids-of b is = places-of-names books.bids.ids ok.bids.distinct (market_behind books blocks).bids there b.bids is.names.lines.bids
 
   -- a published block, as a later run reads it
   pub past-published : (b : FullBlock) → IsSoundRun books blocks b → past_of books (block.Published b) ≡ block_of books (run_behind blocks) (market_behind books blocks).bids (activation_of b)

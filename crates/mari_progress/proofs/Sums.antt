@@ -119,7 +119,7 @@ module _ (books : Books) (blocks : List Block) (sums : Ledger) (so_far : AreTota
           operators = All-weaker (LineIsWithin (length blocks * most_of_operator)) (LineIsWithin (10 ^ 21)) (λ l s. record { payment = omega (arith, few, s.payment); rent = omega (arith, few, s.rent) }) sums.operators so_far.operators_within;
           providers = All-weaker (IsWithin (length blocks * most_of_provider)) (IsWithin (10 ^ 21)) (λ q s. omega (arith, few, s)) sums.providers so_far.providers_within;
           rents = All-weaker (IsWithin (length blocks * 10 ^ 17)) (IsWithin (10 ^ 21)) (λ q s. omega (arith, few, s)) sums.rents so_far.rents_within;
-        }) is.small
+        }) is.balanced.small
 
     -- and its sums are those of one block more
     pub totals-more : (after : Ledger) → after.operators ≡ map_along lines_together sums.operators settled.ledger.operators → after.providers ≡ map_along together sums.providers settled.ledger.providers
@@ -141,14 +141,14 @@ module _ (books : Books) (blocks : List Block) (sums : Ledger) (so_far : AreTota
           rents = ap length rents ∙ along-length together sums.rents settled.ledger.rents (is.rents ∙ sym so_far.rents) ∙ so_far.rents;
           operators_within = rw (many p, operators) (All-weaker (LineIsWithin (length blocks * most_of_operator + most_of_operator)) (LineIsWithin ((length blocks + 1) * most_of_operator)) (λ l s. record { payment = omega (arith, s.payment); rent = omega (arith, s.rent) }) _
               (sums_within lines_together (LineIsWithin (length blocks * most_of_operator)) (LineIsWithin most_of_operator) (LineIsWithin (length blocks * most_of_operator + most_of_operator)) (lines_within _ _)
-              sums.operators settled.ledger.operators (so_far.one_each ∙ sym is.one_each) so_far.operators_within is.operators_small));
+              sums.operators settled.ledger.operators (so_far.one_each ∙ sym is.one_each) so_far.operators_within is.balanced.operators_small));
           providers_within = rw (many p, providers) (All-weaker (IsWithin (length blocks * most_of_provider + most_of_provider)) (IsWithin ((length blocks + 1) * most_of_provider)) (λ q s. omega (arith, s)) _
               (sums_within together (IsWithin (length blocks * most_of_provider)) (IsWithin most_of_provider) (IsWithin (length blocks * most_of_provider + most_of_provider)) (sum_within _ _)
-              sums.providers settled.ledger.providers as-many-providers so_far.providers_within is.providers_small));
+              sums.providers settled.ledger.providers as-many-providers so_far.providers_within is.balanced.providers_small));
           rents_within = rw (many p, rents) (All-weaker (IsWithin (length blocks * 10 ^ 17 + 10 ^ 17)) (IsWithin ((length blocks + 1) * 10 ^ 17)) (λ q s. omega (arith, s)) _
               (sums_within together (IsWithin (length blocks * 10 ^ 17)) (IsWithin (10 ^ 17)) (IsWithin (length blocks * 10 ^ 17 + 10 ^ 17)) (sum_within _ _)
-              sums.rents settled.ledger.rents (so_far.rents ∙ sym is.rents) so_far.rents_within is.small.rents));
-          nets = rw operators (let both = nets-together sums.operators settled.ledger.operators (so_far.one_each ∙ sym is.one_each) in omega (arith, ints, both, so_far.nets, is.nets));
+              sums.rents settled.ledger.rents (so_far.rents ∙ sym is.rents) so_far.rents_within is.balanced.small.rents));
+          nets = rw operators (let both = nets-together sums.operators settled.ledger.operators (so_far.one_each ∙ sym is.one_each) in omega (arith, ints, both, so_far.nets, is.balanced.nets));
         }
 
 -- the sums before the first run

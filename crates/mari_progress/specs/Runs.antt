@@ -13,6 +13,7 @@ use Rattle.mari_remain.specs.declared.books.Books.{Books}
 use Rattle.mari_remain.specs.declared.market.RunMarket.{RunMarket}
 use Rattle.mari_settle.specs.Conditions.{HasSmallNumbers, IsWithin, LineIsWithin, NameOrders}
 use Rattle.mari_settle.specs.Ledger.{net_of}
+use Rattle.mari_settle.specs.declared.ledger.Ledger.{Ledger}
 use Rattle.mari_progress.specs.declared.progress.SettledRun.{SettledRun}
 use Rattle.mari_progress.specs.Behind.{also_behind, market_behind, run_behind}
 use Rattle.mari_progress.specs.Money.{HasLedger, amounts_of, money_lines_of}
@@ -54,6 +55,13 @@ most_of_operator = 2 * 10 ^ 15
 abbrev pub most_of_provider : ℕ
 most_of_provider = 4 * 10 ^ 15
 
+-- the ledger of a run is small, and what some operators pay the others get
+pub record IsBalancedLedger (ledger : Ledger) : Type 0 where
+  pub small : HasSmallNumbers ledger
+  pub operators_small : All (LineIsWithin most_of_operator) ledger.operators
+  pub providers_small : All (IsWithin most_of_provider) ledger.providers
+  pub nets : int_sum net_of ledger.operators ≡ pos 0
+
 -- what the block of a run adds to its day: the market, the activation and the prices that it tells, and its ledger,
 -- which is small
 pub record IsRunOf (books : Books) (made : RunMarket) (also : Option (List Cents)) (b : FullBlock) (settled : SettledRun) : Type 0 where
@@ -64,10 +72,7 @@ pub record IsRunOf (books : Books) (made : RunMarket) (also : Option (List Cents
   pub providers : settled.ledger.providers ≡ amounts_of books made also b
   pub one_each : length settled.ledger.operators ≡ length books.zones.operators
   pub rents : length settled.ledger.rents ≡ length books.borders.borders
-  pub small : HasSmallNumbers settled.ledger
-  pub operators_small : All (LineIsWithin most_of_operator) settled.ledger.operators
-  pub providers_small : All (IsWithin most_of_provider) settled.ledger.providers
-  pub nets : int_sum net_of settled.ledger.operators ≡ pos 0
+  pub balanced : IsBalancedLedger settled.ledger
 
 -- a published block of the run behind these blocks, and what it adds
 pub record IsNextRun (books : Books) (before : List Block) (b : FullBlock) (settled : SettledRun) : Type 0 where

@@ -1,5 +1,5 @@
 -- What a printed block tells of its run.
-use Rattle.std.specs.Prelude.{◌≡◌, ℕ, List, [], ◌++◌, length, map, slice_index_or}
+use Rattle.std.specs.Prelude.{◌≡◌, ℕ, List, [], ◌++◌, length, map}
 use Rattle.mari_units.specs.declared.numbers.Cents.{Cents}
 use Rattle.mari_units.specs.declared.numbers.Quarters.{Quarters}
 use Rattle.mari_zones.specs.declared.borders.BorderEnds.{BorderEnds}
@@ -12,10 +12,6 @@ use Rattle.mari_publish.specs.declared.publication.FullBlock.{FullBlock}
 use Rattle.mari_remain.specs.declared.books.Books.{Books}
 use Rattle.mari_remain.specs.declared.market.RunMarket.{RunMarket}
 use Rattle.mari_remain.specs.Lists.{run_at}
-
--- the name at a place
-abbrev pub name_at : List (List ℕ) → ℕ → List ℕ
-name_at names place = slice_index_or names place []
 
 -- the activation: the MW of the bids and then of the demands, and the flows of the borders
 abbrev pub activation_of : FullBlock → Activation
@@ -45,11 +41,14 @@ rents_told b = map (λ (l : BorderLine). l.rent) b.borders
 abbrev pub heading_of : Books → ℕ → Heading
 heading_of books run = record { run = run; quarter = (run_at books run).quarter; direct = (run_at books run).direct }
 
--- the lines name the zones, the borders and the bids of the run's market, in their order, and there is one for each
--- demand
-pub record NamesMarket (books : Books) (made : RunMarket) (b : FullBlock) : Type 0 where
+-- the lines name the zones, the borders and the bids of these numbers, in their order
+pub record NamesLines (books : Books) (numbers : List ℕ) (b : FullBlock) : Type 0 where
   pub zones : map (λ (l : ZoneLine). l.name) b.zones ≡ books.zones.zones
   pub from : map (λ (l : BorderLine). l.from) b.borders ≡ map (λ (ends : BorderEnds). name_at books.zones.zones ends.from) books.borders.borders
   pub to : map (λ (l : BorderLine). l.to) b.borders ≡ map (λ (ends : BorderEnds). name_at books.zones.zones ends.to) books.borders.borders
-  pub bids : map (λ (l : BidLine). l.id) b.bids ≡ map (name_at books.bids.ids) made.bids
+  pub bids : map (λ (l : BidLine). l.id) b.bids ≡ map (name_at books.bids.ids) numbers
+
+-- so they name those of the run's market, and there is a line for each of its demands
+pub record NamesMarket (books : Books) (made : RunMarket) (b : FullBlock) : Type 0 where
+  pub lines : NamesLines books made.bids b
   pub demands : length b.demands ≡ made.demands

@@ -1,14 +1,11 @@
 //! The ledger of a run.
 
-ghost use Rattle.std.specs.Prelude.{◌≡◌, IfOk, IfSome, option_map, pos};
-ghost use Rattle.std.specs.List.{All};
+ghost use Rattle.std.specs.Prelude.{◌≡◌, IfOk, IfSome, option_map};
 ghost use Rattle.mari_market.specs.Optimal.{IsConsistent, IsFeasible};
 ghost use Rattle.mari_market.specs.Price.{ArePrices};
-ghost use Rattle.mari_market.specs.Sums.{int_sum};
 ghost use Rattle.mari_remain.specs.Accepted.{IsAccepted};
-ghost use Rattle.mari_settle.specs.Conditions.{HasSmallNumbers, IsWithin, LineIsWithin};
-ghost use Rattle.mari_settle.specs.Ledger.{net_of, operator_lines, provider_amounts, rents_of, scheduled_or};
-ghost use Rattle.mari_progress.specs.Runs.{IsMarketOf, most_of_operator, most_of_provider};
+ghost use Rattle.mari_settle.specs.Ledger.{operator_lines, provider_amounts, rents_of, scheduled_or};
+ghost use Rattle.mari_progress.specs.Runs.{IsBalancedLedger, IsMarketOf};
 
 use mari_market::{Activation, Prices};
 use mari_remain::{Books, RunMarket};
@@ -40,13 +37,8 @@ pub fn ledger_of(
     ensures providers { IfOk result (λ ledger. ledger.providers ≡ provider_amounts books.now.bids made.now.bids activation.now prices.now.cents (scheduled_or prices.now.cents (option_map (λ scheduled. scheduled.now.cents) also.entry))) }
     ensures rents { IfOk result (λ ledger. ledger.rents ≡ rents_of made.now.market activation.now prices.now.cents) }
 
-    // So a day's ledgers can be added up.
-    ensures small { IfOk result HasSmallNumbers }
-    ensures operators_small { IfOk result (λ ledger. All (LineIsWithin most_of_operator) ledger.operators) }
-    ensures providers_small { IfOk result (λ ledger. All (IsWithin most_of_provider) ledger.providers) }
-
-    // What some operators pay, the others get.
-    ensures nets { IfOk result (λ ledger. int_sum net_of ledger.operators ≡ pos 0) }
+    // So a day's ledgers can be added up, and what some operators pay, the others get.
+    ensures balanced { IfOk result IsBalancedLedger }
 {
     let mut ledger = Ledger::start(alloc, &books.zones, &books.borders, &books.bids)?;
     settle_run(

@@ -27,4 +27,4 @@ returns c =
     ledger-told c.args.books.now c.args.made.now _ c.args.block.now c.in_ok-ledger.ledger c.args.activation.now c.args.prices.now c.requires.activation c.requires.prices
     c.in_ok-ledger.ensures.rents c.in_ok-ledger.ensures.operators c.in_ok-ledger.ensures.providers c.deref.result.now (c.deref.ensures.value ∙ rw (c.as_slice.ensures, c.as_slice-2.ensures) at c.in_ok-places.ensures)
     c.tells_ledger-tells.result c.tells_ledger-tells.ensures c.if-not-tells.false c.requires.made c.requires.consistent
-    c.in_ok-ledger.ensures.small c.in_ok-ledger.ensures.operators_small c.in_ok-ledger.ensures.providers_small c.in_ok-ledger.ensures.nets
+    c.in_ok-ledger.ensures.balanced

@@ -20,21 +20,23 @@ returns-clause-block c = record {
   heading = c.heading.ensures;
   welfare = refl;
   tree = refl;
+  names = record {
+    zones = rw c.of.ensures c.in_ok-zones.ensures.names;
+    from = rw c.of-2.ensures (rw c.as_slice-ends.ensures at c.in_ok-borders.ensures.from);
+    to = rw c.of-2.ensures (rw c.as_slice-ends.ensures at c.in_ok-borders.ensures.to);
+    bids = rw c.of-3.ensures c.in_ok-bids.ensures.ids;
+  };
   zones = record {
-    names = rw c.of.ensures c.in_ok-zones.ensures.names;
     prices = rw c.of.ensures c.in_ok-zones.ensures.prices;
     least = rw c.of.ensures c.in_ok-zones.ensures.least;
     greatest = rw c.of.ensures c.in_ok-zones.ensures.greatest;
     areas = rw c.of.ensures (c.in_ok-zones.ensures.areas ∙ c.deref.ensures.value);
   };
   borders = record {
-    from = rw c.of-2.ensures (rw c.as_slice-ends.ensures at c.in_ok-borders.ensures.from);
-    to = rw c.of-2.ensures (rw c.as_slice-ends.ensures at c.in_ok-borders.ensures.to);
     flow = rw c.of-2.ensures (c.in_ok-borders.ensures.flow ∙ c.as_slice-flow.ensures);
     rents = rw c.of-2.ensures (c.in_ok-borders.ensures.rents ∙ c.as_slice.ensures);
   };
   orders = record {
-    ids = rw c.of-3.ensures c.in_ok-bids.ensures.ids;
     mw = rw c.of-3.ensures (rw c.as_slice-mw.ensures at c.in_ok-bids.ensures.mw);
     demands = rw c.of-4.ensures (rw c.as_slice-mw.ensures at c.in_ok-demands.ensures);
   };

@@ -16,6 +16,12 @@ settle_run-requires-clause-ledger c =
       rents = ap length c.in_ok-ledger.ensures.rents ∙ length-replicate (length books.borders.borders) nothing ∙ sym c.requires.made.borders;
     }
 
-pub returns-clause-providers_small : goal.returns-clause-providers_small
-returns-clause-providers_small c =
-    c.settle_run.ensures.providers_small (rw c.as_slice.ensures (small-bids c.args.made.now.market c.args.activation.now (length c.args.made.now.bids) c.requires.feasible c.requires.made.small))
+pub returns-clause-balanced : goal.returns-clause-balanced
+returns-clause-balanced c =
+    let few = small-bids c.args.made.now.market c.args.activation.now (length c.args.made.now.bids) c.requires.feasible c.requires.made.small in
+    record {
+      small = c.settle_run.ensures.small;
+      operators_small = c.settle_run.ensures.operators_small;
+      providers_small = c.settle_run.ensures.providers_small (rw c.as_slice.ensures few);
+      nets = c.settle_run.ensures.nets_sum_to_0;
+    }

@@ -1,5 +1,5 @@
 use Rattle.std.proofs.Common.{◌++◌, [], ◌∷◌, sym, subst}
-use Rattle.mari_publish.specs.Pieces.{ReaderState, StandsFor}
+use Rattle.mari_publish.specs.Pieces.{ReaderState, ComesFrom}
 use Rattle.mari_check.proofs.Piecewise.{all-read, next-fault, next-part, next-stands}
 use Rattle.mari_check.proofs.Streaming.{comes, fewer-left}
 use Rattle.mari_check.proofs.stream.Stream.take_parts.Goals as goal
@@ -16,7 +16,7 @@ parts-smaller c =
     let r = c.requires.read in
     let s = c.parts.invariant r.0 r.1 r.2 in
     let after = next-stands _ r.0 s.0 c.in-Ok-Some.field-0 c.in-Ok-Some.part c.in-Ok-Some.field-0-is (c.in-Ok-Some.ensures.stands r.0 s.0 s.1.stands) in
-    fewer-left _ _ r.0 s.0 c.in-Ok-Some.part s.1.stands (subst (λ (m : ReaderState). StandsFor m.come r.0 (s.0 ++ c.in-Ok-Some.part ∷ [])) (sym c.take.ensures.reader) after)
+    fewer-left _ _ r.0 s.0 c.in-Ok-Some.part s.1.stands (subst (λ (m : ReaderState). ComesFrom m.come r.0 (s.0 ++ c.in-Ok-Some.part ∷ [])) (sym c.take.ensures.reader) after)
 
 pub parts-preserved : goal.parts-preserved
 parts-preserved c = λ text parts read.
@@ -26,7 +26,7 @@ parts-preserved c = λ text parts read.
     let after = next-stands _ text s.0 c.in-Ok-Some.field-0 x c.in-Ok-Some.field-0-is (c.in-Ok-Some.ensures.stands text s.0 s.1.stands) in (
       s.0 ++ x ∷ [],
       record {
-        stands = subst (λ (r : ReaderState). StandsFor r.come text (s.0 ++ x ∷ [])) (sym c.take.ensures.reader) after;
+        stands = subst (λ (r : ReaderState). ComesFrom r.come text (s.0 ++ x ∷ [])) (sym c.take.ensures.reader) after;
         found = c.in-Ok.ensures.found s.0 s.1.found (comes text s.0 x there);
       },
     )

@@ -175,10 +175,10 @@ module _ (asked : Option Asked) (pages : Pages) where
   text-refused : (o : Outcome) (books : Books) (page : List ℕ) (f : TextFault) → CheckTells books (Some page) o → IsToldFault page f → Comes (IsRefusal (text_refusal f)) o
   text-refused NoCommand books page f tells bad = absurd tells
   text-refused (Day job) books page f tells bad = absurd tells
-  text-refused (Text t) books page f (short, (p, read, valid, spelled)) bad = absurd (no-fault page p f read (told-first page f bad))
+  text-refused (Text t) books page f (m, u, (short, (p, read, valid)), spelled) bad = absurd (no-fault page p f read (told-first page f bad))
   text-refused (Invalid run n) books page f (short, (p, read, more)) bad = absurd (no-fault page p f read (told-first page f bad))
   text-refused (NoPage n fetch.Failed) books page f tells bad = inr tt
-  text-refused (NoPage n fetch.Missing) books page f (none, number) bad = absurd (cc)
+  text-refused (NoPage n fetch.Missing) books page f (none, number) bad = absurd none
   text-refused (NoPage n fetch.TooLong) books page f (long, number) bad = absurd (long-none page f long bad)
   text-refused (NoPage n fetch.Memory) books page f tells bad = inr tt
   text-refused (Refused refusal) books page f (g, other, is) bad = inl (ap (λ x. Refused x) (is ∙ ap text_refusal (one-fault page g f (told-first page g other) (told-first page f bad))))
@@ -202,22 +202,22 @@ module _ (asked : Option Asked) (pages : Pages) where
   not-held : (o : Outcome) (books : Books) → CheckTells books None o → Comes (IsGapOf NotHeld) o
   not-held NoCommand books tells = absurd tells
   not-held (Day job) books tells = absurd tells
-  not-held (Text t) books tells = absurd tells
+  not-held (Text t) books (m, u, tells, spelled) = absurd tells
   not-held (Invalid run n) books tells = absurd tells
   not-held (NoPage n fetch.Failed) books tells = inr tt
   not-held (NoPage n fetch.Missing) books tells = inl (n, refl)
-  not-held (NoPage n fetch.TooLong) books tells = absurd tells
+  not-held (NoPage n fetch.TooLong) books (long, number) = absurd long
   not-held (NoPage n fetch.Memory) books tells = inr tt
-  not-held (Refused refusal) books tells = absurd tells
+  not-held (Refused refusal) books (f, bad, is) = absurd bad
   not-held NoMemory books tells = inr tt
 
   too-long : (o : Outcome) (books : Books) (page : List ℕ) → CheckTells books (Some page) o → IsTooLong page → Comes (IsGapOf OverLimit) o
   too-long NoCommand books page tells long = absurd tells
   too-long (Day job) books page tells long = absurd tells
-  too-long (Text t) books page (short, (p, read, valid, spelled)) long = absurd (omega (arith, long.longer, short))
+  too-long (Text t) books page (m, u, (short, (p, read, valid)), spelled) long = absurd (omega (arith, long.longer, short))
   too-long (Invalid run n) books page (short, (p, read, more)) long = absurd (omega (arith, long.longer, short))
   too-long (NoPage n fetch.Failed) books page tells long = inr tt
-  too-long (NoPage n fetch.Missing) books page (none, number) long = absurd (cc)
+  too-long (NoPage n fetch.Missing) books page (none, number) long = absurd none
   too-long (NoPage n fetch.TooLong) books page tells long = inl (n, refl)
   too-long (NoPage n fetch.Memory) books page tells long = inr tt
   too-long (Refused refusal) books page (f, bad, is) long = absurd (long-none page f long bad)
@@ -237,7 +237,7 @@ module _ (asked : Option Asked) (pages : Pages) where
   verdict-of (Text t) books page p tells is short = inl tt
   verdict-of (Invalid run n) books page p tells is short = inl tt
   verdict-of (NoPage n fetch.Failed) books page p tells is short = inr tt
-  verdict-of (NoPage n fetch.Missing) books page p (none, number) is short = absurd (cc)
+  verdict-of (NoPage n fetch.Missing) books page p (none, number) is short = absurd none
   verdict-of (NoPage n fetch.TooLong) books page p (long, number) is short = absurd (omega (arith, long.longer, short))
   verdict-of (NoPage n fetch.Memory) books page p tells is short = inr tt
   verdict-of (Refused refusal) books page p (f, bad, same) is short = absurd (no-fault page p f is (told-first page f bad))
@@ -362,8 +362,8 @@ module _ (before after : Option (List ℕ)) (result : Status) where
   -- within a budget that holds each run's search tree every run is published
   whole-end : (e : DayEnd) (books : Books) (nodes : ℕ) → EndsDay books nodes before after e → HasEnough books nodes → OrFault (IsStatus status.Done) (day_status e)
   whole-end (end.Done published unpublished) books nodes w enough =
-      let all = all-published books nodes w.publication w.day enough in
-      let none : unpublished ≡ 0 = w.others ∙ all in
+      let all = all-published books nodes w.printed.publication w.printed.is_day enough in
+      let none : unpublished ≡ 0 = w.printed.unpublished ∙ all in
       rw none (inl refl)
   whole-end end.WriteFault books nodes w enough = inr (inr (inl refl))
   whole-end end.Memory books nodes w enough = inr (inr (inr refl))
@@ -387,11 +387,14 @@ module _ (before after : Option (List ℕ)) (result : Status) where
     pub gap-answer : (number : ℕ) (gap : Gap) → LacksPage asked pages number gap → OrFault (IsStatus (gap_status gap)) result
     gap-answer number gap h = gap-of-answer o gap (gap-comes asked pages o number gap says h) reported
 
+    clearable-comes : (h : IsClearable asked pages) → Comes (IsDayOf h.books h.nodes) o
+    clearable-comes h = let c = h.cleared in day-comes asked pages o c.folder h.nodes c.workers h.books says c.clear c.gives
+
     pub cleared-answer : IsClearable asked pages → OrFault IsDayStatus result
-    cleared-answer h = day-of-answer o h.books h.nodes (day-comes asked pages o h.folder h.nodes h.workers h.books says h.clear h.gives) reported
+    cleared-answer h = day-of-answer o h.books h.nodes (clearable-comes h) reported
 
     pub complete-answer : HasBudget asked pages → OrFault (IsStatus status.Done) result
-    complete-answer h = whole-answer o h.books h.nodes h.enough (day-comes asked pages o h.folder h.nodes h.workers h.books says h.clear h.gives) reported
+    complete-answer h = whole-answer o h.clearable.books h.clearable.nodes h.enough (clearable-comes h.clearable) reported
 
     pub checked-answer : IsReadable asked pages → OrFault IsVerdictStatus result
     checked-answer h = verdict-of-answer o (verdict-comes asked pages o says h) reported

@@ -9,7 +9,7 @@ use Rattle.mari_io.specs.declared.shelf.TheConstants.{MOST_GIVEN}
 use Rattle.mari_io.specs.Outside.{Pages, page_of}
 use Rattle.mari_publish.specs.declared.publication.Publication.{Publication}
 use Rattle.mari_publish.specs.Faults.{IsText}
-use Rattle.mari_publish.specs.Texts.{text_of}
+use Rattle.mari_publish.specs.Lines.{published_in}
 use Rattle.mari_remain.specs.declared.books.Books.{Books}
 use Rattle.mari_day.specs.Day.{EndsDay, WroteWholeDay, then_took}
 use Rattle.mari_day.specs.declared.day.DayEnd.{DayEnd}
@@ -26,7 +26,7 @@ use Rattle.mari_app.specs.declared.outcome.Outcome.{Outcome}
 use Rattle.mari_app.specs.declared.outcome.Outcome.TheVariants.{NoCommand, Day, Text, Invalid, NoPage, Refused, Memory as NoMemory}
 use Rattle.mari_app.specs.declared.status.Status.{Status}
 use Rattle.mari_app.specs.declared.status.Status.TheVariants as status
-use Rattle.mari_app.specs.Commands.{HasPublication, IsInvalid, IsReadable, IsRefused, LacksPage, Prints, ReadsFolder, publication_path}
+use Rattle.mari_app.specs.Commands.{AreCleared, AsksForFiles, AsksToClear, HasPublication, IsInvalid, IsReadable, IsRefused, LacksPage, Prints, ReadsFolder, publication_path}
 use Rattle.mari_app.specs.Commands.IsRefused.{OfFiles as refused-files, OfText as refused-text}
 use Rattle.mari_app.specs.Commands.RefusesFiles.{OfBooks as refuses-books, OfVersion as refuses-version}
 use Rattle.mari_app.specs.Commands.LacksPage.{OfBooks as lacks-book, NoPublication as lacks-publication, LongPublication as lacks-long}
@@ -35,8 +35,8 @@ use Rattle.mari_app.specs.Headline.{WroteDay}
 use Rattle.mari_app.specs.Outcome.{AsksForText, CheckTells, IsNoPage, IsOfWords, IsReady, IsReportable, Reported, Reports, ReportsDay, Says, day_status, fetch_of}
 use Rattle.mari_app.specs.Outcome.Reports.{Printed, CutOff, Starved}
 use Rattle.mari_app.specs.Outcome.Says.{OfUsage, OfRefusal, OfGap, OfClear, OfCheck, OfMigrate, OfGenerate, Fails, Starves}
-use Rattle.mari_app.specs.Printing.{file_line, invalid_line, refused_line, usage_line}
-use Rattle.mari_app.specs.Program.{Answers, AreCleared, AsksForFiles, AsksToClear, IsLine, TookSummary, WhereTold}
+use Rattle.mari_app.specs.Printing.{file_line, invalid_line, refused_line, usage_line, valid_line}
+use Rattle.mari_app.specs.Program.{Answers, IsLine, TookSummary, WhereTold}
 use Rattle.mari_app.specs.Program.IsDone.{Cleared as done-cleared, Printed as done-printed}
 use Rattle.mari_app.specs.Program.IsLine.{OfUsage as line-usage, OfRefusal as line-refusal, OfFault as line-fault, OfMissing as line-missing, OfTooLong as line-too-long, OfInvalid as line-invalid, OfText as line-text}
 use Rattle.mari_app.specs.Program.IsCutOff.{Day as cut-day, Line as cut-line}
@@ -56,8 +56,9 @@ module _ (asked : Option Asked) where
   -- a text that is printed where all is well
   checked-text : (pages : Pages) (folder : List ℕ) (books : Books) (t : Vec ℕ) (page : Option (List ℕ)) → asked ≡ Some (Check folder) → HasBooks pages folder books → page_of pages (publication_path folder) ≡ page
       → CheckTells books page (Text t) → Prints asked pages t.items
-  checked-text pages folder books t None c g h tells = absurd tells
-  checked-text pages folder books t (Some page) c g h (short, (p, read, valid, spelled)) = prints-valid (readable pages folder books page p c g h short read) valid spelled
+  checked-text pages folder books t None c g h (n, u, tells, spelled) = absurd tells
+  checked-text pages folder books t (Some page) c g h (n, u, (short, (p, read, (valid, published, unpublished))), spelled) =
+      prints-valid (readable pages folder books page p c g h short read) valid (spelled ∙ ap (λ (m : ℕ). valid_line m u) published ∙ ap (λ (m : ℕ). valid_line (published_in p.blocks) m) unpublished)
 
   text-prints : (pages : Pages) (t : Vec ℕ) → Says asked pages (Text t) → Prints asked pages t.items
   text-prints pages t (OfUsage e f) = absurd (cc)
@@ -65,7 +66,8 @@ module _ (asked : Option Asked) where
   text-prints pages t (OfGap folder n g r h f) = absurd (cc)
   text-prints pages t (OfClear folder job e h f) = absurd (cc)
   text-prints pages t (OfCheck folder books e h tells) = checked-text pages folder books t (page_of pages (publication_path folder)) e h refl tells
-  text-prints pages t (OfMigrate folder part books e h (first, spelled)) = prints-migrated folder part books e h first spelled
+  text-prints pages t (OfMigrate folder part books e h (first, spelled)) =
+      prints-migrated (record { folder = folder; part = part; migrate = e; books = books; gives = h; first = first }) spelled
   text-prints pages t (OfGenerate number e is) = prints-generated number e is
   text-prints pages t (Fails x n y f) = absurd (cc)
   text-prints pages t (Starves f) = absurd (cc)
@@ -90,7 +92,7 @@ module _ (asked : Option Asked) where
   -- a refusal
   checked-refused : (pages : Pages) (folder : List ℕ) (books : Books) (refusal : Refusal) (page : Option (List ℕ)) → asked ≡ Some (Check folder) → HasBooks pages folder books → page_of pages (publication_path folder) ≡ page
       → CheckTells books page (Refused refusal) → IsRefused asked pages refusal
-  checked-refused pages folder books refusal None c g h tells = absurd tells
+  checked-refused pages folder books refusal None c g h (f, told, is) = absurd told
   checked-refused pages folder books refusal (Some page) c g h (f, told, is) = refused-text page f (record { books = books; checked = publication pages folder books page c g h; told = told }) is
 
   refused-is : (pages : Pages) (refusal : Refusal) → Says asked pages (Refused refusal) → IsRefused asked pages refusal
@@ -122,15 +124,20 @@ module _ (asked : Option Asked) where
 
   checked-too-long : (pages : Pages) (folder : List ℕ) (books : Books) (k : ℕ) (page : Option (List ℕ)) → asked ≡ Some (Check folder) → HasBooks pages folder books → page_of pages (publication_path folder) ≡ page
       → CheckTells books page (NoPage k fetch.TooLong) → LacksPage asked pages k OverLimit
-  checked-too-long pages folder books k None c g h tells = absurd tells
+  checked-too-long pages folder books k None c g h (long, number) = absurd long
   checked-too-long pages folder books k (Some page) c g h (long, number) = lacks-long books page (publication pages folder books page c g h) long number refl
+
+  checked-missing : (pages : Pages) (folder : List ℕ) (books : Books) (k : ℕ) (page : Option (List ℕ)) → asked ≡ Some (Check folder) → HasBooks pages folder books → page_of pages (publication_path folder) ≡ page
+      → CheckTells books page (NoPage k fetch.Missing) → LacksPage asked pages k NotHeld
+  checked-missing pages folder books k None c g h (none, number) = lacks-publication folder books c g h number refl
+  checked-missing pages folder books k (Some page) c g h (none, number) = absurd none
 
   missing-is : (pages : Pages) (k : ℕ) → Says asked pages (NoPage k fetch.Missing) → LacksPage asked pages k NotHeld
   missing-is pages k (OfUsage e f) = absurd (cc)
   missing-is pages k (OfRefusal folder r reads h f) = absurd (cc)
   missing-is pages k (OfGap folder n g r h f) = gap-is pages folder n k g NotHeld r h f (cc)
   missing-is pages k (OfClear folder job e h f) = absurd (cc)
-  missing-is pages k (OfCheck folder books e h (none, number)) = lacks-publication folder books e h none number refl
+  missing-is pages k (OfCheck folder books e h tells) = checked-missing pages folder books k (page_of pages (publication_path folder)) e h refl tells
   missing-is pages k (OfMigrate folder part books e h bad) = absurd bad
   missing-is pages k (OfGenerate n e bad) = absurd bad
   missing-is pages k (Fails x n y f) = absurd (cc)
@@ -201,23 +208,20 @@ module _ (asked : Option Asked) where
     wrote : (told : Pages) (job : Job) (published unpublished : ℕ) (whole : Bool) → IsReady job → AreCleared asked told job.books job.nodes → WroteWholeDay job.books job.nodes published unpublished before after
         → (unpublished == 0) ≡ whole → WroteDay asked told whole before after
     wrote told job published unpublished whole ready is w e = record {
-      text = text_of w.publication;
+      text = w.text;
       day = record {
-        folder = is.folder;
-        nodes = job.nodes;
-        workers = is.workers;
-        clear = is.clear;
         books = job.books;
-        gives = is.gives;
-        publication = w.publication;
-        is_day = w.day;
-        in_range = w.in_range;
-        offers = keeps-offers job.books ready.accepted job.nodes w.publication.blocks w.day.part;
-        sums = balanced job.books ready.accepted job.nodes w.publication.blocks w.day.part;
-        totals = ap net_sum w.day.operators ∙ totals-balance job.books ready.accepted job.nodes w.publication.blocks w.day.part;
-        valid = day-is-valid job.books job.nodes w.publication w.day;
-        printed = refl;
-        published = ap (λ (n : ℕ). n == 0) (sym w.others) ∙ e;
+        nodes = job.nodes;
+        cleared = is;
+        publication = w.printed.publication;
+        is_day = w.printed.is_day;
+        in_range = w.printed.in_range;
+        offers = keeps-offers job.books ready.accepted job.nodes w.printed.publication.blocks w.printed.is_day.part;
+        sums = balanced job.books ready.accepted job.nodes w.printed.publication.blocks w.printed.is_day.part;
+        totals = ap net_sum w.printed.is_day.operators ∙ totals-balance job.books ready.accepted job.nodes w.printed.publication.blocks w.printed.is_day.part;
+        valid = day-is-valid job.books job.nodes w.printed.publication w.printed.is_day;
+        printed = w.printed.text;
+        published = ap (λ (n : ℕ). n == 0) (sym w.printed.unpublished) ∙ e;
       };
       taken = w.taken;
     }

@@ -7,11 +7,12 @@ use Rattle.mari_words.specs.Asked.{Asked}
 use Rattle.mari_words.specs.Asked.Asked.{Clear, Check, Generate, Migrate}
 use Rattle.mari_words.specs.Words.{Given, Verb, asked_for, command_at, command_of, folder_in, given_by, number_in, number_or, part_named, verb_named}
 use Rattle.mari_words.specs.Words.Verb.{Clears, Checks, Generates, Migrates}
-use Rattle.mari_units.specs.declared.limits.TheConstants.{MOST_NODES, MOST_WORKERS}
-use Rattle.mari_words.specs.declared.command.TheConstants.{LAST_NUMBER, USUAL_NODES, USUAL_WORKERS}
+use Rattle.mari_units.specs.declared.limits.TheConstants.{LAST_NUMBER, MOST_NODES, MOST_WORKERS}
+use Rattle.mari_market.specs.Clearing.{IsBudget, IsWorkerCount}
+use Rattle.mari_words.specs.declared.command.TheConstants.{USUAL_NODES, USUAL_WORKERS}
 
 abbrev pub IsWithin : Asked → Type 0
-IsWithin (Clear folder nodes workers) = ((1 ≤ nodes) × (nodes ≤ MOST_NODES)) × ((1 ≤ workers) × (workers ≤ MOST_WORKERS))
+IsWithin (Clear folder nodes workers) = IsBudget nodes × IsWorkerCount workers
 IsWithin (Check folder) = ⊤
 IsWithin (Generate number) = number ≤ LAST_NUMBER
 IsWithin (Migrate folder part) = ⊤

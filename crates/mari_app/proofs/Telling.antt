@@ -1,5 +1,5 @@
 -- What an outcome says of the words and the pages, by how it came.
-use Rattle.std.proofs.Common.{ℕ, List, Option, Some, None, refl}
+use Rattle.std.proofs.Common.{ℕ, List, Option, Some, refl}
 use Rattle.std.specs.Prelude.{Err, Ok}
 use Rattle.mari_io.specs.declared.shelf.Fetch.TheVariants as fetch
 use Rattle.mari_io.specs.Outside.{Pages}
@@ -14,7 +14,6 @@ use Rattle.mari_check.specs.Streams.{StreamTells}
 use Rattle.mari_check.specs.declared.stream.StreamFault.TheVariants as stream
 use Rattle.mari_check.specs.declared.verdict.Verdict.{Verdict}
 use Rattle.mari_check.specs.declared.verdict.Verdict.TheVariants as verdict
-use Rattle.mari_check.proofs.Piecewise.{told-first}
 use Rattle.mari_words.specs.Asked.{Asked}
 use Rattle.mari_words.specs.Asked.Asked.{Check, Generate, Migrate}
 use Rattle.mari_words.specs.declared.command.FilePart.{FilePart}
@@ -34,29 +33,27 @@ says-fault asked pages folder why.Memory r tells = Starves refl
 
 -- what comes of the verdict on a publication
 pub checked-verdict : (books : Books) (page : Option (List ℕ)) (v : Verdict) (o : Outcome) → StreamTells books page (Ok v) → IsToldVerdict v o → CheckTells books page o
-checked-verdict books None v o tells is = absurd tells
-checked-verdict books (Some page) (verdict.Valid p u) NoCommand tells is = absurd is
-checked-verdict books (Some page) (verdict.Valid p u) (Day job) tells is = absurd is
-checked-verdict books (Some page) (verdict.Valid p u) (Text t) (short, (q, read, (valid, published, unpublished))) is = (short, (q, read, valid, rw (is, published, unpublished) refl))
-checked-verdict books (Some page) (verdict.Valid p u) (Invalid run n) tells is = absurd is
-checked-verdict books (Some page) (verdict.Valid p u) (NoPage n w) tells is = absurd is
-checked-verdict books (Some page) (verdict.Valid p u) (Refused r) tells is = absurd is
-checked-verdict books (Some page) (verdict.Valid p u) NoMemory tells is = tt
-checked-verdict books (Some page) (verdict.Invalid run f) NoCommand tells is = absurd is
-checked-verdict books (Some page) (verdict.Invalid run f) (Day job) tells is = absurd is
-checked-verdict books (Some page) (verdict.Invalid run f) (Text t) tells is = absurd is
-checked-verdict books (Some page) (verdict.Invalid run f) (Invalid r n) (short, (q, read, first)) (run-is, fault-is) = (short, (q, read, rw (run-is, fault-is) first))
-checked-verdict books (Some page) (verdict.Invalid run f) (NoPage n w) tells is = absurd is
-checked-verdict books (Some page) (verdict.Invalid run f) (Refused r) tells is = absurd is
-checked-verdict books (Some page) (verdict.Invalid run f) NoMemory tells is = absurd is
+checked-verdict books page (verdict.Valid p u) NoCommand tells is = absurd is
+checked-verdict books page (verdict.Valid p u) (Day job) tells is = absurd is
+checked-verdict books page (verdict.Valid p u) (Text t) tells is = (p, u, tells, is)
+checked-verdict books page (verdict.Valid p u) (Invalid run n) tells is = absurd is
+checked-verdict books page (verdict.Valid p u) (NoPage n w) tells is = absurd is
+checked-verdict books page (verdict.Valid p u) (Refused r) tells is = absurd is
+checked-verdict books page (verdict.Valid p u) NoMemory tells is = tt
+checked-verdict books page (verdict.Invalid run f) NoCommand tells is = absurd is
+checked-verdict books page (verdict.Invalid run f) (Day job) tells is = absurd is
+checked-verdict books page (verdict.Invalid run f) (Text t) tells is = absurd is
+checked-verdict books page (verdict.Invalid run f) (Invalid r n) tells (run-is, fault-is) = rw (run-is, fault-is) tells
+checked-verdict books page (verdict.Invalid run f) (NoPage n w) tells is = absurd is
+checked-verdict books page (verdict.Invalid run f) (Refused r) tells is = absurd is
+checked-verdict books page (verdict.Invalid run f) NoMemory tells is = absurd is
 
 -- and of a text that has a fault
 pub checked-text : (books : Books) (page : Option (List ℕ)) (f : TextFault) → StreamTells books page (Err (stream.Text f)) → CheckTells books page (text_outcome f)
-checked-text books None f tells = absurd tells
-checked-text books (Some page) (text_fault.BadLine n) tells = (text_fault.BadLine n, tells, refl)
-checked-text books (Some page) (text_fault.BadOrder n) tells = (text_fault.BadOrder n, tells, refl)
-checked-text books (Some page) (text_fault.Truncated n) tells = (text_fault.Truncated n, tells, refl)
-checked-text books (Some page) text_fault.Memory tells = absurd (told-first page text_fault.Memory tells)
+checked-text books page (text_fault.BadLine n) tells = (text_fault.BadLine n, tells, refl)
+checked-text books page (text_fault.BadOrder n) tells = (text_fault.BadOrder n, tells, refl)
+checked-text books page (text_fault.Truncated n) tells = (text_fault.Truncated n, tells, refl)
+checked-text books page text_fault.Memory tells = tt
 
 -- what the words ask for, by the outcome
 pub words-of-fault : (asked : Option Asked) (folder : List ℕ) (fault : BooksFault) → ReadsFolder asked folder → IsOfWords asked (no_books fault)

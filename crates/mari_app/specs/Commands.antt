@@ -39,6 +39,16 @@ folder_of (Migrate folder part) = Some folder
 abbrev pub ReadsFolder : Option Asked → List ℕ → Type 0
 ReadsFolder asked folder = option_and_then folder_of asked ≡ Some folder
 
+-- the words ask to clear a folder, or to check its publication, or for what reads its market files
+abbrev pub AsksToClear : Option Asked → Type 0
+AsksToClear asked = (folder : List ℕ) × (nodes : ℕ) × (workers : ℕ) × (asked ≡ Some (Clear folder nodes workers))
+
+abbrev pub AsksToCheck : Option Asked → Type 0
+AsksToCheck asked = (folder : List ℕ) × (asked ≡ Some (Check folder))
+
+abbrev pub AsksForFiles : Option Asked → Type 0
+AsksForFiles asked = (folder : List ℕ) × ReadsFolder asked folder
+
 -- the name of a folder's publication
 abbrev pub publication_path : List ℕ → List ℕ
 publication_path folder = path_in folder (file_named PUBLICATION)
@@ -105,30 +115,6 @@ abbrev pub page_of_part : FilePart → Books → List ℕ
 page_of_part Borders books = borders_page books
 page_of_part Limits books = limits_page books
 
--- a text that is printed whole, where all is well: that the publication that is checked is valid, with the numbers of
--- its published and of its other blocks; the new form of a file of a folder whose borders state their limits; or the
--- summary of a generated day
-pub data Prints (asked : Option Asked) (pages : Pages) (text : List ℕ) : Type 0 where
-  Valid : (is : IsReadable asked pages) → IsValidPublication is.books is.publication
-      → text ≡ valid_line (published_in is.publication.blocks) (unpublished_in is.publication.blocks) → Prints asked pages text
-  Migrated : (folder : List ℕ) (part : FilePart) (books : Books) → asked ≡ Some (Migrate folder part) → HasBooks pages folder books → books.limits ≡ None
-      → text ≡ page_of_part part books → Prints asked pages text
-  Generated : (number : ℕ) → asked ≡ Some (Generate number) → IsGenerated number text → Prints asked pages text
-
--- the publication that is checked has a fault: the first run that has one, and its least
-pub record IsInvalid (asked : Option Asked) (pages : Pages) (run fault : ℕ) : Type 0 where
-  pub is_read : IsReadable asked pages
-  pub first : IsFirstFault is_read.books is_read.publication run fault
-
--- the folder's pages give books that may be cleared within this budget of nodes
-pub record IsClearable (asked : Option Asked) (pages : Pages) : Type 0 where
-  pub folder : List ℕ
-  pub nodes : ℕ
-  pub workers : ℕ
-  pub clear : asked ≡ Some (Clear folder nodes workers)
-  pub books : Books
-  pub gives : HasBooks pages folder books
-
 -- the folder that is migrated has borders that state their limits
 pub record IsMigratable (asked : Option Asked) (pages : Pages) : Type 0 where
   pub folder : List ℕ
@@ -137,3 +123,30 @@ pub record IsMigratable (asked : Option Asked) (pages : Pages) : Type 0 where
   pub books : Books
   pub gives : HasBooks pages folder books
   pub first : books.limits ≡ None
+
+-- a text that is printed whole, where all is well: that the publication that is checked is valid, with the numbers of
+-- its published and of its other blocks; the new form of a file of a folder whose borders state their limits; or the
+-- summary of a generated day
+pub data Prints (asked : Option Asked) (pages : Pages) (text : List ℕ) : Type 0 where
+  Valid : (is : IsReadable asked pages) → IsValidPublication is.books is.publication
+      → text ≡ valid_line (published_in is.publication.blocks) (unpublished_in is.publication.blocks) → Prints asked pages text
+  Migrated : (is : IsMigratable asked pages) → text ≡ page_of_part is.part is.books → Prints asked pages text
+  Generated : (number : ℕ) → asked ≡ Some (Generate number) → IsGenerated number text → Prints asked pages text
+
+-- the publication that is checked has a fault: the first run that has one, and its least
+pub record IsInvalid (asked : Option Asked) (pages : Pages) (run fault : ℕ) : Type 0 where
+  pub is_read : IsReadable asked pages
+  pub first : IsFirstFault is_read.books is_read.publication run fault
+
+-- the books of the folder that the words ask to clear, and its budget of nodes
+pub record AreCleared (asked : Option Asked) (pages : Pages) (books : Books) (nodes : ℕ) : Type 0 where
+  pub folder : List ℕ
+  pub workers : ℕ
+  pub clear : asked ≡ Some (Clear folder nodes workers)
+  pub gives : HasBooks pages folder books
+
+-- the folder's pages give books that may be cleared within this budget of nodes
+pub record IsClearable (asked : Option Asked) (pages : Pages) : Type 0 where
+  pub books : Books
+  pub nodes : ℕ
+  pub cleared : AreCleared asked pages books nodes

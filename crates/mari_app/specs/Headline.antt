@@ -1,6 +1,6 @@
--- The headline: what is promised of each day that the program prints. Read this file first; it stands on `Day` and
--- `Published` of `mari_day`, and that on the definitions of `mari_market` (`Optimal`, `Clearing`, `Interval`) and
--- `mari_settle` (`Ledger`).
+-- The headline: what is promised of each day that the program prints. Read this file first; it stands on `AreCleared`
+-- in `Commands`, and on `Day` and `Published` of `mari_day`, which stand on the definitions of `mari_market` (`Optimal`,
+-- `Clearing`, `Interval`) and `mari_settle` (`Ledger`).
 use Rattle.std.specs.Prelude.{ℕ, pos, ◌≡◌, ◌==◌, Bool, List, Option, Some, slice_get}
 use Rattle.mari_io.specs.Outside.{Pages}
 use Rattle.mari_remain.specs.declared.books.Books.{Books}
@@ -12,10 +12,9 @@ use Rattle.mari_publish.specs.Texts.{text_of}
 use Rattle.mari_check.specs.Day.{IsValidPublication}
 use Rattle.mari_day.specs.Day.{HasEnough, IsDay, then_took}
 use Rattle.mari_day.specs.Keeps.{BlockSumsToZero}
-use Rattle.mari_day.specs.Reading.{HasBooks}
 use Rattle.mari_progress.specs.Keeps.{KeepsOffers, net_sum}
 use Rattle.mari_words.specs.Asked.{Asked}
-use Rattle.mari_words.specs.Asked.Asked.{Clear}
+use Rattle.mari_app.specs.Commands.{AreCleared, IsClearable}
 
 -- the text of a day of the folder that the words ask to clear: its pages are held and give books, and the text is that
 -- of their day within the budget of nodes, with a block for each run, in order. Each published run has a first
@@ -25,12 +24,9 @@ use Rattle.mari_words.specs.Asked.Asked.{Clear}
 -- to 0 in each block and in the totals, and no rent is negative. The checker accepts the day. All of its runs are
 -- published, or not
 pub record HasDay (asked : Option Asked) (pages : Pages) (whole : Bool) (text : List ℕ) : Type 0 where
-  pub folder : List ℕ
-  pub nodes : ℕ
-  pub workers : ℕ
-  pub clear : asked ≡ Some (Clear folder nodes workers)
   pub books : Books
-  pub gives : HasBooks pages folder books
+  pub nodes : ℕ
+  pub cleared : AreCleared asked pages books nodes
   pub publication : Publication
   pub is_day : IsDay books nodes publication
   pub in_range : HasText publication
@@ -49,10 +45,5 @@ pub record WroteDay (asked : Option Asked) (pages : Pages) (whole : Bool) (befor
 
 -- the budget holds the search tree of each run's market, whatever blocks are printed before it
 pub record HasBudget (asked : Option Asked) (pages : Pages) : Type 0 where
-  pub folder : List ℕ
-  pub nodes : ℕ
-  pub workers : ℕ
-  pub clear : asked ≡ Some (Clear folder nodes workers)
-  pub books : Books
-  pub gives : HasBooks pages folder books
-  pub enough : HasEnough books nodes
+  pub clearable : IsClearable asked pages
+  pub enough : HasEnough clearable.books clearable.nodes

@@ -1,9 +1,8 @@
 -- What the words and the pages come to, and how it is reported.
-use Rattle.std.specs.Prelude.{ℕ, ◌≡◌, ◌≢◌, ◌≤◌, ◌==◌, if◌then◌else◌, List, length, Option, Some, None, Result, Ok, Err, take, ⊤}
+use Rattle.std.specs.Prelude.{ℕ, ◌≡◌, ◌≢◌, ◌≤◌, ◌==◌, if◌then◌else◌, List, Option, Some, None, Result, Ok, Err, take, ⊤}
 use lib.Chars.{codes}
 use Rattle.mari_io.specs.declared.shelf.Fetch.{Fetch}
 use Rattle.mari_io.specs.declared.shelf.Fetch.TheVariants as fetch
-use Rattle.mari_io.specs.declared.shelf.TheConstants.{MOST_GIVEN}
 use Rattle.mari_io.specs.Outside.{Pages, page_of}
 use Rattle.mari_units.specs.declared.faults.Refusal.{Refusal}
 use Rattle.mari_publish.specs.declared.fault.TextFault.{TextFault}
@@ -20,24 +19,20 @@ use Rattle.mari_day.specs.Files.Gap.{NotHeld, OverLimit}
 use Rattle.mari_day.specs.Reading.{HasBooks, HasGap, HasRefusal}
 use Rattle.mari_day.specs.declared.reading.BooksFault.{BooksFault}
 use Rattle.mari_day.specs.declared.reading.BooksFault.TheVariants as why
-use Rattle.mari_publish.specs.declared.publication.Publication.{Publication}
-use Rattle.mari_publish.specs.Faults.{IsText}
-use Rattle.mari_publish.specs.Lines.{published_in, unpublished_in}
 use Rattle.mari_check.specs.declared.verdict.Verdict.{Verdict}
 use Rattle.mari_check.specs.declared.verdict.Verdict.TheVariants as verdict
-use Rattle.mari_check.specs.Day.{IsFirstFault, IsValidPublication}
-use Rattle.mari_check.specs.Streams.{IsToldFault, IsTooLong}
+use Rattle.mari_check.specs.Streams.{StreamTells}
+use Rattle.mari_check.specs.declared.stream.StreamFault.TheVariants as stream
 use Rattle.mari_words.specs.Asked.{Asked}
 use Rattle.mari_words.specs.Asked.Asked.{Clear, Check, Generate, Migrate}
-use Rattle.mari_market.specs.Clearing.{IsBudget}
-use Rattle.mari_units.specs.declared.limits.TheConstants.{MOST_WORKERS}
+use Rattle.mari_market.specs.Clearing.{IsBudget, IsWorkerCount}
 use Rattle.mari_app.specs.declared.outcome.Job.{Job}
 use Rattle.mari_app.specs.declared.outcome.Outcome.{Outcome}
 use Rattle.mari_app.specs.declared.outcome.Outcome.TheVariants.{NoCommand, Day, Text, Invalid, NoPage, Refused, Memory as NoMemory}
 use Rattle.mari_app.specs.declared.status.Status.{Status}
 use Rattle.mari_app.specs.declared.status.Status.TheVariants as status
 use Rattle.mari_words.specs.declared.command.FilePart.{FilePart}
-use Rattle.mari_app.specs.Commands.{ReadsFolder, already_two, page_of_part, publication_path, text_refusal}
+use Rattle.mari_app.specs.Commands.{AsksForFiles, AsksToCheck, ReadsFolder, already_two, page_of_part, publication_path, text_refusal}
 use Rattle.mari_app.specs.Summary.{IsGenerated}
 use Rattle.mari_app.specs.Printing.{file_line, invalid_line, refused_line, usage_line, valid_line}
 use Rattle.mari_app.specs.Refusals.{HasName}
@@ -56,9 +51,9 @@ abbrev pub IsOfWords : Option Asked → Outcome → Type 0
 IsOfWords asked NoCommand = asked ≡ None
 IsOfWords asked (Day job) = (folder : List ℕ) × (asked ≡ Some (Clear folder job.nodes job.workers))
 IsOfWords asked (Text text) = AsksForText asked text.items
-IsOfWords asked (Invalid run number) = (folder : List ℕ) × (asked ≡ Some (Check folder))
-IsOfWords asked (NoPage file why) = (folder : List ℕ) × ReadsFolder asked folder
-IsOfWords asked (Refused refusal) = (folder : List ℕ) × ReadsFolder asked folder
+IsOfWords asked (Invalid run number) = AsksToCheck asked
+IsOfWords asked (NoPage file why) = AsksForFiles asked
+IsOfWords asked (Refused refusal) = AsksForFiles asked
 IsOfWords asked NoMemory = ⊤
 
 -- the fetch of some file gave this answer
@@ -71,7 +66,7 @@ pub record IsReady (job : Job) : Type 0 where
   pub accepted : IsAccepted job.books
   pub dated : IsDated job.books
   pub nodes : IsBudget job.nodes
-  pub workers : (1 ≤ job.workers) × (job.workers ≤ MOST_WORKERS)
+  pub workers : IsWorkerCount job.workers
 
 -- an outcome that can be reported
 abbrev pub IsReportable : Outcome → Type 0
@@ -154,26 +149,17 @@ IsToldVerdict (verdict.Valid published unpublished) NoMemory = ⊤
 IsToldVerdict (verdict.Invalid run fault) (Invalid r f) = (r ≡ run) × (f ≡ fault)
 IsToldVerdict _ _ = ⊥
 
--- a publication that isn't held, or is longer than may be given in pieces
-abbrev pub PageTells : Option (List ℕ) → (file : ℕ) → Fetch → Type 0
-PageTells page file fetch.Failed = ⊤
-PageTells page file fetch.Missing = (page ≡ None) × (file ≡ PUBLICATION)
-PageTells None file fetch.TooLong = ⊥
-PageTells (Some page) file fetch.TooLong = IsTooLong page × (file ≡ PUBLICATION)
-PageTells page file fetch.Memory = ⊤
-
--- what is said of the page of a publication that is checked against these books
+-- what is said of the page of a publication that is checked against these books: what its check tells of it
 abbrev pub CheckTells : Books → Option (List ℕ) → Outcome → Type 0
 CheckTells books page NoCommand = ⊥
 CheckTells books page (Day job) = ⊥
-CheckTells books None (Text text) = ⊥
-CheckTells books (Some page) (Text text) =
-    (length page ≤ MOST_GIVEN) × ((p : Publication) × IsText page p × IsValidPublication books p × (text.items ≡ valid_line (published_in p.blocks) (unpublished_in p.blocks)))
-CheckTells books None (Invalid run number) = ⊥
-CheckTells books (Some page) (Invalid run number) = (length page ≤ MOST_GIVEN) × ((p : Publication) × IsText page p × IsFirstFault books p run number)
-CheckTells books page (NoPage file why) = PageTells page file why
-CheckTells books None (Refused refusal) = ⊥
-CheckTells books (Some page) (Refused refusal) = (f : TextFault) × IsToldFault page f × (refusal ≡ text_refusal f)
+CheckTells books page (Text text) =
+    (published : ℕ) × (unpublished : ℕ) × StreamTells books page (Ok (verdict.Valid published unpublished))
+    × (text.items ≡ valid_line published unpublished)
+CheckTells books page (Invalid run fault) = StreamTells books page (Ok (verdict.Invalid run fault))
+CheckTells books page (NoPage file why) = StreamTells books page (Err (stream.Fetch why)) × (file ≡ PUBLICATION)
+CheckTells books page (Refused refusal) =
+    (fault : TextFault) × StreamTells books page (Err (stream.Text fault)) × (refusal ≡ text_refusal fault)
 CheckTells books page NoMemory = ⊤
 
 -- the answer of a fetch of a page that can't be had

@@ -6,13 +6,12 @@ use Rattle.mari_io.specs.Outside.{Pages}
 use Rattle.mari_day.specs.Day.{WrotePart, WrotePrefix, then_took}
 use Rattle.mari_day.specs.Files.{Gap}
 use Rattle.mari_day.specs.Files.Gap.{NotHeld, OverLimit}
-use Rattle.mari_day.specs.Reading.{HasBooks}
 use Rattle.mari_remain.specs.declared.books.Books.{Books}
 use Rattle.mari_words.specs.Asked.{Asked}
-use Rattle.mari_words.specs.Asked.Asked.{Clear, Check, Generate}
+use Rattle.mari_words.specs.Asked.Asked.{Generate}
 use Rattle.mari_app.specs.declared.status.Status.{Status}
 use Rattle.mari_app.specs.declared.status.Status.TheVariants.{Done, Unpublished, Usage, Refused, ReadFault, WriteFault, Memory, Invalid, Missing, TooLong}
-use Rattle.mari_app.specs.Commands.{IsInvalid, IsRefused, LacksPage, Prints, ReadsFolder}
+use Rattle.mari_app.specs.Commands.{AreCleared, AsksForFiles, AsksToCheck, AsksToClear, IsInvalid, IsRefused, LacksPage, Prints, ReadsFolder}
 use Rattle.mari_app.specs.Headline.{WroteDay}
 use Rattle.mari_app.specs.Summary.{IsGenerated}
 use Rattle.mari_app.specs.Printing.{file_line, invalid_line, refused_line, usage_line}
@@ -22,13 +21,6 @@ use Rattle.mari_app.specs.Refusals.{HasName}
 pub data IsDone (asked : Option Asked) (pages : Pages) (before after : Option (List ℕ)) : Type 0 where
   Cleared : WroteDay asked pages true before after → IsDone asked pages before after
   Printed : (text : List ℕ) → Prints asked pages text → after ≡ then_took before text → IsDone asked pages before after
-
--- the books of the folder that the words ask to clear, and its budget of nodes
-pub record AreCleared (asked : Option Asked) (pages : Pages) (books : Books) (nodes : ℕ) : Type 0 where
-  pub folder : List ℕ
-  pub workers : ℕ
-  pub clear : asked ≡ Some (Clear folder nodes workers)
-  pub gives : HasBooks pages folder books
 
 -- a text that may be printed where no day is, by what it tells; that a fetch failed is told only where one did
 pub data IsLine (asked : Option Asked) (pages : Pages) (failed : Type 0) (text : List ℕ) : Type 0 where
@@ -59,16 +51,6 @@ pub record Lacks (asked : Option Asked) (pages : Option Pages) (gap : Gap) (word
 -- where the pages are told, this is so of them
 abbrev pub WhereTold : Option Pages → (Pages → Type 0) → Type 0
 WhereTold pages IsSo = (told : Pages) → pages ≡ Some told → IsSo told
-
--- the words ask to clear a folder, or to check its publication, or for what reads its market files
-abbrev pub AsksToClear : Option Asked → Type 0
-AsksToClear asked = (folder : List ℕ) × (nodes : ℕ) × (workers : ℕ) × (asked ≡ Some (Clear folder nodes workers))
-
-abbrev pub AsksToCheck : Option Asked → Type 0
-AsksToCheck asked = (folder : List ℕ) × (asked ≡ Some (Check folder))
-
-abbrev pub AsksForFiles : Option Asked → Type 0
-AsksForFiles asked = (folder : List ℕ) × ReadsFolder asked folder
 
 -- where a day is generated, its summary was taken
 abbrev pub TookSummary : Option Asked → (before after : Option (List ℕ)) → Type 0

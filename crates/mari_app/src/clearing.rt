@@ -1,7 +1,7 @@
 //! Clearing the runs of a day, whose text is written as it is made.
 
-ghost use Rattle.std.specs.Prelude.{◌≡◌, ◌≤◌, Some};
-ghost use Rattle.mari_market.specs.Clearing.{Clears, IsBudget};
+ghost use Rattle.std.specs.Prelude.{◌≡◌, Some};
+ghost use Rattle.mari_market.specs.Clearing.{Clears, IsBudget, IsWorkerCount};
 ghost use Rattle.mari_market.specs.Market.{IsValid};
 ghost use Rattle.mari_io.specs.Outside.{Counts, Pages};
 ghost use Rattle.mari_io.specs.declared.shelf.Fetch.TheVariants as fetch;
@@ -14,7 +14,6 @@ use crate::status::Status;
 use mari_day::{DayEnd, run_day};
 use mari_io::{Shelf, Sink};
 use mari_market::{Cleared, Clearer, Market};
-use mari_units::MOST_WORKERS;
 use mari_workers::{Alone, Crew, Turnstile, search};
 use std::alloc::Global;
 use std::sync::Wait;
@@ -71,7 +70,7 @@ pub fn clear_together<K: Sink, G: Turnstile, R: Threads + Wait + Sync>(
     let workers = job.workers;
     let mut crew = Crew {
         run: |alloc: Global, market: &Market, budget: u32| -> Cleared
-            requires { IsValid market.now × IsBudget budget × (1 ≤ workers) × (workers ≤ MOST_WORKERS) }
+            requires { IsValid market.now × IsBudget budget × IsWorkerCount workers }
             ensures { Clears market.entry.now budget result }
         { search(rt, alloc, market, workers, budget, turnstile) },
     };
@@ -88,7 +87,7 @@ pub fn to_clear<S: Shelf>(
 ) -> Outcome
     // Both numbers are such as a command may have.
     requires nodes { IsBudget nodes }
-    requires workers { (1 ≤ workers) × (workers ≤ MOST_WORKERS) }
+    requires workers { IsWorkerCount workers }
 
     // What is found of the folder's pages, where the shelf tells them.
     ensures same { S.pages shelf.new ≡ S.pages shelf.old }

@@ -3,9 +3,11 @@ use Rattle.std.proofs.Common.{◌≡◌, ◌≤◌, ◌<◌, ◌+◌, ◌*◌, �
 use Rattle.std.specs.List.{list_all, range_with_len}
 use Rattle.std.proofs.lemmas.Bool.{leb-true, ltb-true}
 use Rattle.std.proofs.lemmas.Bool.Decides.{nat_tests}
+use Rattle.std.proofs.lemmas.List.{get_or_past}
 use Rattle.std.proofs.lemmas.Fmt.{length-decimal-le}
 use Rattle.std.proofs.lemmas.Grind.{flat_map-append}
 use Rattle.mari_units.specs.Names.{is_name, is_name_byte}
+use Rattle.mari_rows.specs.Names.{name_at}
 use Rattle.mari_rows.proofs.BookFacts.{both-parts}
 use Rattle.mari_zones.specs.Borders.{bare_columns}
 use Rattle.mari_zones.specs.Zones.{IsZoneBook}

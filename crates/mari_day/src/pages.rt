@@ -110,8 +110,8 @@ fn fetch_seven<S: Shelf>(
     shelf: &mut S,
     folder: &str,
 ) -> Result<Items<Items<u8>>, PagesFault>
-    // The shelf is asked for each file once, up to the first whose page can't be had; after want of memory at most so
-    // often.
+    // As many fetches are counted as there are files, up to the first whose page can't be had; after want of memory at
+    // most so many.
     ensures same { S.pages shelf.new ≡ S.pages shelf.old }
     ensures small { IfOk result (All (λ (page : List ℕ). length page ≤ MOST_PAGE)) }
     ensures fetched { FetchesPages 7 (S.fetches shelf.old) (S.fetches shelf.new) result }
@@ -171,8 +171,8 @@ pub fn fetch_pages<S: Shelf>(
     shelf: &mut S,
     folder: &str,
 ) -> Result<Folder, PagesFault>
-    // The shelf is asked for each file once, up to the first whose page can't be had; after want of memory at most so
-    // often.
+    // As many fetches are counted as there are files, up to the first whose page can't be had; after want of memory at
+    // most so many.
     ensures same { S.pages shelf.new ≡ S.pages shelf.old }
     ensures fetched { FetchesFolder (S.pages shelf.old) folder.now (S.fetches shelf.old) (S.fetches shelf.new) result }
 

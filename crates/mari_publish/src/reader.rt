@@ -97,7 +97,8 @@ impl TextReader {
         Ok(part)
     }
 
-    /// Whether the text ends as that of a publication does, whose parts were given.
+    /// Whether the text ends as that of a publication does, whose parts were given. The call before was a `next` that
+    /// found no further part.
     pub fn end(self) -> Result<(), TextFault>
         requires waits { self.waits ≡ true }
         ensures end { (text : List ℕ) (parts : List PartValue) → ComesFrom self.come text parts → IsEnd text parts result }

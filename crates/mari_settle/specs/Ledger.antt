@@ -1,5 +1,5 @@
--- The ledger of a run: the rents of its borders, and what operators and providers get for the energy that they
--- exchange.
+-- The ledger of a run: the rents of its borders, and what operators pay and providers are paid for the energy that
+-- they exchange.
 use Rattle.std.specs.Prelude.{int_le, ◌==◌, if◌then◌else◌, Bool, true, false, ℕ, ℤ, pos, neg_ℤ, ◌+ℤ◌, ◌-ℤ◌, ◌*ℤ◌, List, length, map, slice_get, slice_index, Option, Some, None}
 use Rattle.std.specs.Int.{int_div_euclid}
 use Rattle.std.specs.List.{range_with_len}

@@ -1,4 +1,4 @@
-//! What operators get for the energy that their zones take in, and their parts of the rents.
+//! What operators pay for the energy that their zones take in, and their parts of the rents.
 
 ghost use Rattle.std.specs.Prelude.{◌≡◌, ◌≤◌, ◌*◌, ◌^◌, ◌<◌, ℕ, ℤ, length, IsTrue, if◌then◌else◌, pos, ◌-ℤ◌, ◌+ℤ◌, ◌*ℤ◌, unsigned_abs};
 ghost use Rattle.std.specs.List.{All};

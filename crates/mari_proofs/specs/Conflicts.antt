@@ -1,5 +1,5 @@
 -- The parts of a conflict, as the test goes through them.
-use Rattle.std.specs.Prelude.{◌≡◌, ◌⊎◌, ⊤, Bool, ℕ, ◌<◌, ◌≤◌, nat_lt, ℤ, neg_ℤ, ◌≤ℤ◌, List, [], ◌∷◌, length, Option, Some, None, IfSome}
+use Rattle.std.specs.Prelude.{◌≡◌, ⊤, Bool, ℕ, ◌<◌, ◌≤◌, nat_lt, ℤ, ◌≤ℤ◌, List, [], ◌∷◌, length, Option, Some, None, IfSome}
 use Rattle.std.specs.List.{All}
 use Rattle.mari_units.specs.declared.Cents.{Cents}
 use Rattle.mari_market.specs.declared.market.Order.{Order}
@@ -10,11 +10,11 @@ use Rattle.mari_market.specs.declared.prefix.Prefix.{Prefix}
 use Rattle.mari_market.specs.Activation.{gate_word_of}
 use Rattle.mari_market.specs.Bounds.{own_bounds}
 use Rattle.mari_market.specs.Conflict.{IsContradiction}
-use Rattle.mari_market.specs.Consistent.{LeadsBy, SetsLowerAt, SetsUpperAt}
+use Rattle.mari_market.specs.Consistent.{IsLowerOf, IsUpperOf, LeadsBy}
 use Rattle.mari_market.specs.Dual.{IsTight}
 use Rattle.mari_market.specs.Optimal.{IsFeasible}
 use Rattle.mari_market.specs.Prefix.{word_of, opens_in}
-use Rattle.mari_market.specs.Price.{cap, ArePrices}
+use Rattle.mari_market.specs.Price.{ArePrices}
 use Rattle.mari_market.specs.Sums.{AnyZip}
 
 -- whether the prefix decides the gate as open
@@ -45,14 +45,6 @@ pub record IsRefutation (m : Market) (a : Activation) (zs : List ℕ) : Type 0 w
   pub short : length zs ≤ m.zones
   pub zones : All (λ z. z < m.zones) zs
   pub chain : IsContradiction m a zs
-
--- c is the negative of the cap, or a lower bound that one of the orders sets
-abbrev pub IsLowerOf : (ℕ → Bool) → ℕ → List Order → List ℕ → ℤ → Type 0
-IsLowerOf opens z os qs c = (c ≡ neg_ℤ cap) ⊎ AnyZip (SetsLowerAt opens z c) os qs
-
--- c is the cap, or an upper bound that one of the orders sets
-abbrev pub IsUpperOf : (ℕ → Bool) → ℕ → List Order → List ℕ → ℤ → Type 0
-IsUpperOf opens z os qs c = (c ≡ cap) ⊎ AnyZip (SetsUpperAt opens z c) os qs
 
 -- the greatest lower bound
 pub record IsGreatestLower (opens : ℕ → Bool) (z : ℕ) (os : List Order) (qs : List ℕ) (c : ℤ) : Type 0 where

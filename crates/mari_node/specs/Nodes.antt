@@ -1,12 +1,10 @@
 -- A node of the search with the relaxed optimum that the solver gives.
-use Rattle.std.specs.Prelude.{◌≡◌, ◌<◌, ◌≤◌, Bool, true, ℕ, pos, List, length, Option, Some, None, IsSomeAnd, is_some}
+use Rattle.std.specs.Prelude.{◌≡◌, ◌<◌, Bool, true, ℕ, pos, List, length, Option, Some, None, IsSomeAnd, is_some}
 use Rattle.std.specs.Int.{int_max}
-use Rattle.std.specs.List.{All}
 use Rattle.mari_market.specs.declared.market.Market.{Market}
 use Rattle.mari_market.specs.declared.activation.Activation.{Activation}
 use Rattle.mari_market.specs.declared.finding.Relaxed.{Relaxed}
 use Rattle.mari_market.specs.Activation.{welfare_of}
-use Rattle.mari_market.specs.Conflict.{IsContradiction}
 use Rattle.mari_market.specs.Dual.{IsTight, dual_value_of}
 use Rattle.mari_market.specs.Optimal.{IsAdmissible}
 use Rattle.mari_market.specs.Prefix.{bounds_of_word, IsFeasibleWord}
@@ -28,12 +26,6 @@ bound_found s = record { potentials = s.potentials; bound = s.welfare; best = No
 -- the solved optimum as a conflict, by a chain of zones
 abbrev pub conflict_found : Solved → List ℕ → Relaxed
 conflict_found s chain = record { potentials = s.potentials; bound = s.welfare; best = None; conflict = Some (record { chain = chain; potentials = s.potentials; activation = s.activation }) }
-
--- a chain of at most all zones contradicts all prices of an activation
-pub record IsContradictory (m : Market) (a : Activation) (zs : List ℕ) : Type 0 where
-  pub chain : IsContradiction m a zs
-  pub short : length zs ≤ m.zones
-  pub zones : All (λ z. z < m.zones) zs
 
 -- the relaxed optimum of a word, as the solver states it
 pub record IsRelaxedOptimum (m : Market) (word : List Bool) (s : Solved) : Type 0 where

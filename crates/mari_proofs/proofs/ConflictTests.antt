@@ -12,7 +12,7 @@ use Rattle.mari_market.specs.declared.certificate.Conflict.{Conflict as Conflict
 use Rattle.mari_market.specs.Activation.{is_open, gate_word_of}
 use Rattle.mari_market.specs.Bounds.{Span, GateState, span_of, gated_span, own_bounds}
 use Rattle.mari_market.specs.Bounds.GateState.{Open, Closed, Free}
-use Rattle.mari_market.specs.Conflict.{IsChain, Contradicts, IsConflict}
+use Rattle.mari_market.specs.Conflict.{IsChain, Contradicts, IsConflict, IsContradictoryChain}
 use Rattle.mari_market.specs.Dual.{IsTight, IsTightOrder, IsTightTrade}
 use Rattle.mari_market.specs.Market.{IsValid, IsValidOrder, GateFits}
 use Rattle.mari_market.specs.Prefix.{word_of, bit_of, state_of, decided, bounds_at}
@@ -21,7 +21,7 @@ use Rattle.mari_market.proofs.Search.{parents_earlier}
 use Rattle.mari_market.proofs.Sums.{AllZip-both, AllZip-with}
 use Rattle.mari_gates.proofs.Decisions.{opens-decisions}
 use Rattle.mari_gates.proofs.GateTable.{state_decided}
-use Rattle.mari_proofs.specs.Conflicts.{decides, IsOfWord, IsGreatestLower, IsLeastUpper, LeadsOn, AreTightPotentials, IsRefutation}
+use Rattle.mari_proofs.specs.Conflicts.{decides, IsOfWord, IsGreatestLower, IsLeastUpper, LeadsOn, AreTightPotentials}
 use Rattle.mari_proofs.proofs.GateWords.{opens_as_decided, open_at, length_of_word}
 
 to_chain : (m : Market) (a : Activation) (z : ℕ) (zs : List ℕ) → LeadsOn m.borders a.flow z zs → IsChain m a z zs
@@ -88,9 +88,9 @@ tight_test f m x a ps answer v w e prices t = (
 )
 
 -- the parts of a conflict
-pub conflict_test : (m : Market) (x : Prefix) (k : ConflictRecord) (ps : List Cents) (zs : List ℕ) (answer : Bool) → ps ≡ k.potentials.cents → zs ≡ k.chain → IsOfWord m x k.activation → AreTightPotentials m k.activation ps → (IsTrue answer ↔ IsRefutation m k.activation zs) → IsTrue answer ↔ IsConflict m (word_of x) k
+pub conflict_test : (m : Market) (x : Prefix) (k : ConflictRecord) (ps : List Cents) (zs : List ℕ) (answer : Bool) → ps ≡ k.potentials.cents → zs ≡ k.chain → IsOfWord m x k.activation → AreTightPotentials m k.activation ps → (IsTrue answer ↔ IsContradictoryChain m k.activation zs) → IsTrue answer ↔ IsConflict m (word_of x) k
 conflict_test m x k ps zs answer same_ps same_zs w p t =
-    let own : IsTrue answer ↔ IsRefutation m k.activation k.chain = subst (λ (ys : List ℕ). IsTrue answer ↔ IsRefutation m k.activation ys) same_zs t in
+    let own : IsTrue answer ↔ IsContradictoryChain m k.activation k.chain = subst (λ (ys : List ℕ). IsTrue answer ↔ IsContradictoryChain m k.activation ys) same_zs t in
     let tight : AreTightPotentials m k.activation k.potentials.cents = subst (λ (qs : List Cents). AreTightPotentials m k.activation qs) same_ps p in (
       λ yes. let r = own.0 yes in record { gates = w.gates; feasible = w.feasible; prices = tight.prices; tight = tight.tight; short = r.short; zones = r.zones; chain = r.chain },
       λ c. own.1 (record { short = c.short; zones = c.zones; chain = c.chain }),

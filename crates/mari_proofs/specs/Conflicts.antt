@@ -1,6 +1,5 @@
 -- The parts of a conflict, as the test goes through them.
-use Rattle.std.specs.Prelude.{◌≡◌, ⊤, Bool, ℕ, ◌<◌, ◌≤◌, nat_lt, ℤ, ◌≤ℤ◌, List, [], ◌∷◌, length, Option, Some, None, IfSome}
-use Rattle.std.specs.List.{All}
+use Rattle.std.specs.Prelude.{◌≡◌, ⊤, Bool, ℕ, ◌<◌, ◌≤◌, nat_lt, ℤ, ◌≤ℤ◌, List, [], ◌∷◌, Option, Some, None, IfSome}
 use Rattle.mari_units.specs.declared.Cents.{Cents}
 use Rattle.mari_market.specs.declared.market.Order.{Order}
 use Rattle.mari_market.specs.declared.market.Border.{Border}
@@ -9,7 +8,6 @@ use Rattle.mari_market.specs.declared.activation.Activation.{Activation}
 use Rattle.mari_market.specs.declared.prefix.Prefix.{Prefix}
 use Rattle.mari_market.specs.Activation.{gate_word_of}
 use Rattle.mari_market.specs.Bounds.{own_bounds}
-use Rattle.mari_market.specs.Conflict.{IsContradiction}
 use Rattle.mari_market.specs.Consistent.{IsLowerOf, IsUpperOf, LeadsBy}
 use Rattle.mari_market.specs.Dual.{IsTight}
 use Rattle.mari_market.specs.Optimal.{IsFeasible}
@@ -39,12 +37,6 @@ pub record IsOfWord (m : Market) (x : Prefix) (a : Activation) : Type 0 where
 pub record AreTightPotentials (m : Market) (a : Activation) (ps : List Cents) : Type 0 where
   pub prices : ArePrices m ps
   pub tight : IsTight (own_bounds m a) m a ps
-
--- a chain of zones that are there, no more than there are, that is a contradiction
-pub record IsRefutation (m : Market) (a : Activation) (zs : List ℕ) : Type 0 where
-  pub short : length zs ≤ m.zones
-  pub zones : All (λ z. z < m.zones) zs
-  pub chain : IsContradiction m a zs
 
 -- the greatest lower bound
 pub record IsGreatestLower (opens : ℕ → Bool) (z : ℕ) (os : List Order) (qs : List ℕ) (c : ℤ) : Type 0 where

@@ -17,7 +17,7 @@ use Rattle.mari_market.specs.Consistent.{IsConsistentBorder}
 use Rattle.mari_market.specs.Dual.{dual_value_of, IsTightTrade, IsTightOrder, IsTight}
 use Rattle.mari_market.specs.Market.{IsValid, IsValidOrder, IsValidBorder}
 use Rattle.mari_market.specs.Price.{price_at, IsPrice}
-use Rattle.mari_market.specs.Relaxation.{IsWithinBounds}
+use Rattle.mari_market.specs.Relaxation.{IsWithinBounds, IsRelaxed}
 use Rattle.mari_market.specs.Cut.{least_put, most_put}
 use Rattle.std.proofs.lemmas.List.{length-map}
 use Rattle.mari_network.proofs.Lists.{map_at}
@@ -25,7 +25,6 @@ use Rattle.mari_market.proofs.Duality.{weak_duality}
 use Rattle.mari_market.proofs.Tight.{tight_is_equal}
 use Rattle.mari_network.specs.Slots.{slot_into, IsWithinSlot, IsTightSlot}
 use Rattle.mari_network.specs.Levels.{IsTightFlow}
-use Rattle.mari_network.specs.Solving.{IsRelaxed}
 use Rattle.mari_network.specs.Orders.{slots_of, ArePuts, capped, capped_cents}
 
 trade_within : (side : Side) (s : Span) (q : ℕ) → least_put side s ≤ℤ put_in side q → put_in side q ≤ℤ most_put side s → IsWithin s q

@@ -1,19 +1,17 @@
 -- The parts of a conflict, as the test goes through them.
-use Rattle.std.specs.Prelude.{◌≡◌, ⊤, Bool, ℕ, ◌<◌, ◌≤◌, nat_lt, ℤ, ◌≤ℤ◌, List, [], ◌∷◌, Option, Some, None, IfSome}
+use Rattle.std.specs.Prelude.{◌≡◌, ⊤, Bool, ℕ, ◌<◌, ◌≤◌, nat_lt, ℤ, ◌≤ℤ◌, List, Option, Some, None, IfSome}
 use Rattle.mari_units.specs.declared.Cents.{Cents}
 use Rattle.mari_market.specs.declared.market.Order.{Order}
-use Rattle.mari_market.specs.declared.market.Border.{Border}
 use Rattle.mari_market.specs.declared.market.Market.{Market}
 use Rattle.mari_market.specs.declared.activation.Activation.{Activation}
 use Rattle.mari_market.specs.declared.prefix.Prefix.{Prefix}
 use Rattle.mari_market.specs.Activation.{gate_word_of}
 use Rattle.mari_market.specs.Bounds.{own_bounds}
-use Rattle.mari_market.specs.Consistent.{IsLowerOf, IsUpperOf, LeadsBy}
+use Rattle.mari_market.specs.Consistent.{IsLowerOf, IsUpperOf}
 use Rattle.mari_market.specs.Dual.{IsTight}
 use Rattle.mari_market.specs.Optimal.{IsFeasible}
 use Rattle.mari_market.specs.Prefix.{word_of, opens_in}
 use Rattle.mari_market.specs.Price.{ArePrices}
-use Rattle.mari_market.specs.Sums.{AnyZip}
 
 -- whether the prefix decides the gate as open
 abbrev pub decides : Prefix → ℕ → Bool
@@ -47,8 +45,3 @@ pub record IsGreatestLower (opens : ℕ → Bool) (z : ℕ) (os : List Order) (q
 pub record IsLeastUpper (opens : ℕ → Bool) (z : ℕ) (os : List Order) (qs : List ℕ) (c : ℤ) : Type 0 where
   pub reached : IsUpperOf opens z os qs c
   pub least : (d : ℤ) → IsUpperOf opens z os qs d → c ≤ℤ d
-
--- from each zone to the next some border leads
-abbrev pub LeadsOn : List Border → List ℤ → ℕ → List ℕ → Type 0
-LeadsOn bs fs z [] = ⊤
-LeadsOn bs fs z (y ∷ ys) = AnyZip (LeadsBy z y) bs fs × LeadsOn bs fs y ys

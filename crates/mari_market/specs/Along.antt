@@ -20,7 +20,7 @@ LeadsBack Rising b f = HasRoomOn b f
 LeadsBack Falling b f = HasRoomBack b f
 LeadsBack Joined b f = IsUncongested b f
 
--- the border leads from zone y to zone z
+-- the border leads from zone y to zone z; along rising prices this is LeadsBy
 abbrev pub LeadsOver : Along → ℕ → ℕ → Border → ℤ → Type 0
 LeadsOver along y z b f = ((b.from ≡ y) × (b.to ≡ z) × LeadsOn along b f) ⊎ ((b.to ≡ y) × (b.from ≡ z) × LeadsBack along b f)
 

@@ -1,11 +1,15 @@
 -- How bounds of prices, and areas, spread along borders.
 use Rattle.std.specs.Prelude.{◌≡◌, ◌⊎◌, ℕ, ℤ, List}
 use Rattle.mari_market.specs.declared.market.Border.{Border}
-use Rattle.mari_market.specs.Area.{IsUncongested}
 use Rattle.mari_market.specs.Consistent.{HasRoomOn, HasRoomBack}
 use Rattle.mari_market.specs.Sums.{AnyZip}
 use Rattle.mari_market.specs.declared.along.Along.{Along}
 use Rattle.mari_market.specs.declared.along.Along.TheVariants.{Rising, Falling, Joined}
+
+-- the flow is below the border's limit and above the negative of its back limit
+pub record IsUncongested (b : Border) (f : ℤ) : Type 0 where
+  pub below : HasRoomOn b f
+  pub above : HasRoomBack b f
 
 -- whether the border leads from its first zone to its second: lower bounds go where prices are at least as high, upper
 -- bounds where they are at least as low, and areas over uncongested borders

@@ -54,8 +54,8 @@ module _ (m : Market) (a : Activation) (ps : List Cents) (k : KeepsAll m a ps) w
 
   border-agrees : (b : Border) (f : ℤ) → IsValidBorder m.zones b → AnyZip (Beside b f) m.borders a.flow → IsConsistentBorder ps b f
   border-agrees b f v s = record {
-    more = λ l. k.rises b.to b.from v.to v.from (leads-there b.to b.from b f (inl (refl, refl, l)) s);
-    less = λ l. k.rises b.from b.to v.from v.to (leads-there b.from b.to b f (inr (refl, refl, l)) s);
+    more = λ l. k.rises b.to b.from v.to v.from (leads-there b.to b.from b f (inr (refl, refl, l)) s);
+    less = λ l. k.rises b.from b.to v.from v.to (leads-there b.from b.to b f (inl (refl, refl, l)) s);
   }
 
   pub keeps-consistent : IsValid m → IsFeasible m a → IsConsistent m a ps

@@ -103,26 +103,18 @@ module _ (m : Market) (a : Activation) (v : IsValid m) (f : IsFeasible m a) wher
 
   -- ---- comparisons, as the definitions have them and as bounds spread
 
-  rising-by : (y z : ℕ) (b : Border) (g : ℤ) → LeadsBy y z b g → LeadsOver Rising y z b g
-  rising-by y z b g (inl l) = inr l
-  rising-by y z b g (inr l) = inl l
-
-  rising-over : (y z : ℕ) (b : Border) (g : ℤ) → LeadsOver Rising y z b g → LeadsBy y z b g
-  rising-over y z b g (inl l) = inr l
-  rising-over y z b g (inr l) = inl l
-
   falling-by : (y z : ℕ) (b : Border) (g : ℤ) → LeadsBy y z b g → LeadsOver Falling z y b g
-  falling-by y z b g (inl l) = inl (l.1, l.0, l.2)
-  falling-by y z b g (inr l) = inr (l.1, l.0, l.2)
+  falling-by y z b g (inl l) = inr (l.1, l.0, l.2)
+  falling-by y z b g (inr l) = inl (l.1, l.0, l.2)
 
   falling-over : (y z : ℕ) (b : Border) (g : ℤ) → LeadsOver Falling z y b g → LeadsBy y z b g
-  falling-over y z b g (inl l) = inl (l.1, l.0, l.2)
-  falling-over y z b g (inr l) = inr (l.1, l.0, l.2)
+  falling-over y z b g (inl l) = inr (l.1, l.0, l.2)
+  falling-over y z b g (inr l) = inl (l.1, l.0, l.2)
 
   module _ (qs : List Cents) (agrees : IsConsistent m a qs) where
     rise-along : (y z : ℕ) → Reaches (LeadsTo Rising m.borders a.flow) y z → price_at qs y ≤ℤ price_at qs z
     rise-along y _ itself = omega (arith, ints)
-    rise-along y _ (further x z r l) = omega (arith, ints, rise-along y x r, leads_sound m a qs x z agrees.borders (zip-widen (LeadsOver Rising x z) (LeadsBy x z) (rising-over x z) m.borders a.flow l))
+    rise-along y _ (further x z r l) = omega (arith, ints, rise-along y x r, leads_sound m a qs x z agrees.borders l)
 
     fall-along : (y z : ℕ) → Reaches (LeadsTo Falling m.borders a.flow) y z → price_at qs z ≤ℤ price_at qs y
     fall-along y _ itself = omega (arith, ints)
@@ -152,7 +144,7 @@ module _ (m : Market) (a : Activation) (v : IsValid m) (f : IsFeasible m a) wher
           omega (arith, ints, (t z (omega (arith, l, long))).tightest n (lower-height z c n high b), s.above z, p.each z (omega (arith, l, long, s.one_each)), high);
       upper = λ z c l b.
           omega (arith, ints, no-lower qs agrees bounds vs z t (s.source z (omega (arith, l, long))), upper_kept m a qs z c (price_in_cap m qs agrees.prices z) agrees.orders b, p.each z (omega (arith, l, long, s.one_each)));
-      rises = λ y z k l r. omega (arith, ints, s.rises y z (zip-widen (LeadsBy y z) (LeadsOver Rising y z) (rising-by y z) m.borders a.flow r), p.each y (omega (arith, k, long, s.one_each)), p.each z (omega (arith, l, long, s.one_each)));
+      rises = λ y z k l r. omega (arith, ints, s.rises y z r, p.each y (omega (arith, k, long, s.one_each)), p.each z (omega (arith, l, long, s.one_each)));
     }
 
     greatest-keeps : ((y : ℕ) → y < length bounds → IsTightest Greatest m.orders a.mw y bounds) → IsSpread (LeadsTo Falling m.borders a.flow) bounds vs → ArePricesOf Greatest vs ps → KeepsAll m a ps

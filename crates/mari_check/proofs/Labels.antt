@@ -5,7 +5,7 @@ use Rattle.std.specs.List.{range_with_len}
 use Rattle.mari_market.specs.declared.activation.Activation.{Activation}
 use Rattle.mari_market.specs.declared.market.Border.{Border}
 use Rattle.mari_market.specs.declared.market.Market.{Market}
-use Rattle.mari_market.specs.Area.{AreAreas, InOneArea, Joins, JoinsBy}
+use Rattle.mari_market.specs.Area.{AreAreas, InOneArea, Joins}
 use Rattle.mari_market.specs.Area.InOneArea.{further, itself}
 use Rattle.mari_market.specs.declared.along.Along.TheVariants.{Joined}
 use Rattle.mari_check.specs.Areas.{AgreeAt, AreNumbered}
@@ -14,28 +14,16 @@ use Rattle.mari_market.specs.Along.{LeadsOver, LeadsTo}
 use Rattle.mari_check.specs.Spread.Reaches.{further as leads-on, itself as starts}
 use Rattle.mari_check.proofs.Agree.{zip-widen}
 
-joins-over : (y z : ℕ) (b : Border) (f : ℤ) → LeadsOver Joined y z b f → JoinsBy y z b f
-joins-over y z b f (inl l) = record { uncongested = l.2; ends = inl (l.0, l.1) }
-joins-over y z b f (inr l) = record { uncongested = l.2; ends = inr (l.1, l.0) }
-
-over-joins : (y z : ℕ) (b : Border) (f : ℤ) → JoinsBy y z b f → LeadsOver Joined y z b f
-over-joins y z b f j = elim j.ends [ inl e ↦ inl (e.0, e.1, j.uncongested) | inr e ↦ inr (e.1, e.0, j.uncongested) ]
-
-joins-back : (y z : ℕ) (b : Border) (f : ℤ) → JoinsBy y z b f → JoinsBy z y b f
-joins-back y z b f j = elim j.ends [ inl e ↦ record { uncongested = j.uncongested; ends = inr e } | inr e ↦ record { uncongested = j.uncongested; ends = inl e } ]
+joins-back : (y z : ℕ) (b : Border) (f : ℤ) → LeadsOver Joined y z b f → LeadsOver Joined z y b f
+joins-back y z b f (inl l) = inr (l.1, l.0, l.2)
+joins-back y z b f (inr l) = inl (l.1, l.0, l.2)
 
 module _ (m : Market) (a : Activation) where
   abbrev Lead : ℕ → ℕ → Type 0
   Lead y z = LeadsTo Joined m.borders a.flow y z
 
-  joins-from : (y z : ℕ) → Lead y z → Joins m a y z
-  joins-from y z l = zip-widen (LeadsOver Joined y z) (JoinsBy y z) (joins-over y z) m.borders a.flow l
-
-  from-joins : (y z : ℕ) → Joins m a y z → Lead y z
-  from-joins y z j = zip-widen (JoinsBy y z) (LeadsOver Joined y z) (over-joins y z) m.borders a.flow j
-
   joins-other : (y z : ℕ) → Joins m a y z → Joins m a z y
-  joins-other y z j = zip-widen (JoinsBy y z) (JoinsBy z y) (joins-back y z) m.borders a.flow j
+  joins-other y z j = zip-widen (LeadsOver Joined y z) (LeadsOver Joined z y) (joins-back y z) m.borders a.flow j
 
   area-on : (x y z : ℕ) → InOneArea m a x y → InOneArea m a y z → InOneArea m a x z
   area-on x y _ h itself = h
@@ -47,12 +35,12 @@ module _ (m : Market) (a : Activation) where
 
   reached : (y z : ℕ) → Reaches Lead y z → InOneArea m a y z
   reached y _ starts = itself
-  reached y _ (leads-on x z r l) = further x z (reached y x r) (joins-from x z l)
+  reached y _ (leads-on x z r l) = further x z (reached y x r) l
 
   module _ (own labels : List ℕ) (s : IsSpread Lead own labels) (places : (z : ℕ) → z < length own → slice_index own z ≡ z) where
     same-label : (y z : ℕ) → InOneArea m a y z → slice_index labels y ≡ slice_index labels z
     same-label y _ itself = refl
-    same-label y _ (further w z k j) = omega (arith, same-label y w k, s.rises w z (from-joins w z j), s.rises z w (from-joins z w (joins-other w z j)))
+    same-label y _ (further w z k j) = omega (arith, same-label y w k, s.rises w z j, s.rises z w (joins-other w z j))
 
     one-area : (y z : ℕ) → y < length own → z < length own → slice_index labels y ≡ slice_index labels z → InOneArea m a y z
     one-area y z ly lz e =

@@ -5,10 +5,6 @@ use Rattle.mari_market.specs.declared.market.Border.{Border}
 use Rattle.mari_market.specs.Along.{LeadsOver}
 use Rattle.mari_market.specs.declared.along.Along.{Along}
 
--- both zones of a border are among so many
-abbrev pub IsAmong : ℕ → Border → Type 0
-IsAmong zones b = (b.from < zones) × (b.to < zones)
-
 -- no value is above the distance from the least price there may be to the greatest, in cents
 abbrev pub most_value : ℕ
 most_value = 19999800

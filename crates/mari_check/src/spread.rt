@@ -2,7 +2,8 @@
 
 ghost use Rattle.std.specs.Prelude.{◌≡◌, ◌<◌, ◌≤◌, IsTrue, ◌↔◌, true, false, length};
 ghost use Rattle.std.specs.List.{All};
-ghost use Rattle.mari_check.specs.Spread.{IsAmong, AreSmall, IsClosed, IsClosedOver, IsRaise, IsRaiseIf, IsSpread, Spreads, room_of};
+ghost use Rattle.mari_check.specs.Spread.{AreSmall, IsClosed, IsClosedOver, IsRaise, IsRaiseIf, IsSpread, Spreads, room_of};
+ghost use Rattle.mari_market.specs.Market.{IsBetween};
 ghost use Rattle.mari_market.specs.Along.{LeadsOver, LeadsTo};
 
 use mari_market::{Along, Border};
@@ -56,7 +57,7 @@ fn over_border(values: &mut [u64], border: &Border, flow: i64, along: Along) -> 
 /// Goes over all borders once, and tells whether a value was raised.
 fn round(values: &mut [u64], borders: &[Border], flow: &[i64], along: Along) -> bool
     requires lengths { length flow.now ≡ length borders.now }
-    requires ends { All (IsAmong (length values.old)) borders.now }
+    requires ends { All (IsBetween (length values.old)) borders.now }
     requires small { AreSmall values.old }
     ensures spreads { Spreads (LeadsTo along borders.now flow.now) values.old values.new }
     ensures settled { result ≡ false → (values.new ≡ values.old) × IsClosed along values.new borders.now flow.now }
@@ -74,7 +75,7 @@ fn round(values: &mut [u64], borders: &[Border], flow: &[i64], along: Along) -> 
 /// Raises the values until no border raises any.
 fn spread_out(values: &mut [u64], borders: &[Border], flow: &[i64], along: Along)
     requires lengths { length flow.now ≡ length borders.now }
-    requires ends { All (IsAmong (length values.old)) borders.now }
+    requires ends { All (IsBetween (length values.old)) borders.now }
     requires small { AreSmall values.old }
     ensures { IsSpread (LeadsTo along borders.now flow.now) values.old values.new }
 {
@@ -86,7 +87,7 @@ fn spread_out(values: &mut [u64], borders: &[Border], flow: &[i64], along: Along
 /// There are at most as many rounds over the borders as zones, and one that raises nothing.
 pub(crate) fn spread(values: Vec<u64>, borders: &[Border], flow: &[i64], along: Along) -> Vec<u64>
     requires lengths { length flow.now ≡ length borders.now }
-    requires ends { All (IsAmong (length values.items)) borders.now }
+    requires ends { All (IsBetween (length values.items)) borders.now }
     requires small { AreSmall values.items }
     ensures { IsSpread (LeadsTo along borders.now flow.now) values.items result.items }
 {

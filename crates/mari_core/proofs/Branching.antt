@@ -9,13 +9,13 @@ use Rattle.std.proofs.lemmas.List.{map-append, length-map}
 use Rattle.std.proofs.lemmas.List.Elements.{All-append, All-cons, All-nil}
 use Rattle.std.proofs.lemmas.Option.{slice_get_within, slice_get_past}
 use Rattle.mari_market.specs.declared.market.Market.{Market}
-use Rattle.mari_market.specs.Prefix.{children, may_open}
+use Rattle.mari_market.specs.Prefix.{children, may_open, child_words}
 use Rattle.mari_market.specs.SearchTree.{IsPromising, AreNodes}
 use Rattle.mari_core.specs.declared.node.NodeState.{NodeState}
 use Rattle.mari_core.specs.declared.node.NodeState.TheVariants.{Untaken, Taken, Branched, Closed}
 use Rattle.mari_core.specs.Nodes.{TreeNode, new_node, in_state, words_of, state_at, child_numbers, numbers_below, children_of, branch_of}
 use Rattle.mari_core.specs.Preorder.{HasPreorder, occurs}
-use Rattle.mari_core.specs.Growth.{Grown, with_state, branched, child_words, is_branched, IsGrowth, IsCrowded, HasChildren, HasParent, HoldsAtCutoff}
+use Rattle.mari_core.specs.Growth.{Grown, with_state, branched, is_branched, IsGrowth, IsCrowded, HasChildren, HasParent, HoldsAtCutoff}
 use Rattle.mari_core.proofs.Lists.{changed_same, changed_other, all_changed, get_front, get_back}
 use Rattle.mari_core.proofs.Changes.{words-with_state, length-with_state, leaf_has_none, word_of_node}
 use Rattle.mari_core.proofs.Keeps.{parent_stays}

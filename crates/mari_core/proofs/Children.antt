@@ -10,11 +10,11 @@ use Rattle.std.proofs.lemmas.List.Elements.{All-append, All-cons, All-nil}
 use Rattle.std.proofs.lemmas.List.Quantifiers.{all_pairs_push}
 use Rattle.std.proofs.lemmas.Option.{slice_get-map, slice_get_within, get_or_from_slice_get, slice_get-get_or}
 use Rattle.mari_market.specs.declared.market.Market.{Market}
-use Rattle.mari_market.specs.Prefix.{children, may_open, IsFeasibleWord}
+use Rattle.mari_market.specs.Prefix.{children, may_open, IsFeasibleWord, child_words}
 use Rattle.mari_market.specs.SearchTree.{IsNode, IsPromising, AreNodes}
 use Rattle.mari_market.proofs.Prefixes.{closed_child, open_child}
 use Rattle.mari_core.specs.Nodes.{TreeNode, words_of}
-use Rattle.mari_core.specs.Growth.{Grown, IsGrowth, HasParent, is_branched, child_words, Exceeds, IsCutoff}
+use Rattle.mari_core.specs.Growth.{Grown, IsGrowth, HasParent, is_branched, Exceeds, IsCutoff}
 use Rattle.mari_core.proofs.Lists.{all_get}
 
 -- ---- words one gate longer

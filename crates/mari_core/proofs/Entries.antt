@@ -2,7 +2,6 @@
 use Rattle.std.proofs.Common.{◌≡◌, inl, inr, Bool, true, false, ℕ, zero, suc, ◌+◌, ◌<◌, ◌≤◌, ◌==◌, min, pos, if◌then◌else◌, List, [], ◌∷◌, ◌++◌, length, map, get_or, Option, Some, None, arith, refl, sym, ap, subst, ◌∙◌, length-append, append_assoc}
 use Rattle.std.specs.Prelude.{nat_le}
 use Rattle.mari_market.specs.declared.prefix.Prefix.{Prefix}
-use Rattle.mari_gates.specs.Prefixes.{IsCleared}
 use Rattle.mari_core.specs.Growth.{settling_by}
 use Rattle.mari_core.proofs.Lists.{all_get}
 use Rattle.mari_core.proofs.Children.{word_of_number}
@@ -11,12 +10,12 @@ use Rattle.std.specs.Option.{option_map}
 use Rattle.std.proofs.lemmas.Bool.{cases_eq, cases_lt}
 use Rattle.std.proofs.lemmas.Bool.Decides.{nat_tests}
 use Rattle.std.proofs.lemmas.Option.{slice_get_within, slice_get_read}
-use Rattle.mari_market.specs.Prefix.{children, word_of, IsFeasibleWord, IsFeasiblePrefix}
+use Rattle.mari_market.specs.Prefix.{children, word_of, IsFeasibleWord, IsFeasiblePrefix, IsCleared, child_words}
 use Rattle.mari_market.specs.Tree.{LeafHolds}
 use Rattle.mari_core.specs.declared.node.NodeState.{NodeState}
 use Rattle.mari_core.specs.declared.node.NodeState.TheVariants.{Untaken, Taken, Branched, Closed}
 use Rattle.mari_core.specs.Nodes.{TreeNode, new_node, in_state, words_of, word_at, state_at, branch_of}
-use Rattle.mari_core.specs.Growth.{Grown, Entry, grown, with_state, branched, child_words, children_at, is_branched, IsGrowth, IsAllowed, MayBranch, take_refused, return_refused, IsNext, HoldsAtCutoff, CanBranch}
+use Rattle.mari_core.specs.Growth.{Grown, Entry, grown, with_state, branched, children_at, is_branched, IsGrowth, IsAllowed, MayBranch, take_refused, return_refused, IsNext, HoldsAtCutoff, CanBranch}
 use Rattle.mari_market.specs.SearchTree.{IsNode, IsPromising}
 use Rattle.mari_core.specs.declared.event.StepFault.TheVariants.{NotTaken}
 use Rattle.mari_core.specs.Growth.Entry.{Take, Close, Branch, Full, GiveBack}

@@ -291,7 +291,3 @@ IsAnswer refused (Err fault) = MatchOption refused (fault ≡ Memory) (λ r. fau
 pub record CanClose (g : Grown) (x : ℕ) (leaf : Leaf) (cutoff : ℕ) : Type 0 where
   pub actor : ℕ
   pub may : MayClose g actor x leaf cutoff
-
--- the words of a node's children, where the next gate may be open or not
-abbrev pub child_words : List Bool → Bool → List (List Bool)
-child_words word may_open = (word ++ false ∷ []) ∷ (if may_open then (word ++ true ∷ []) ∷ [] else [])

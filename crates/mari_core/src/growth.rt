@@ -3,12 +3,11 @@
 ghost use Rattle.std.specs.Prelude.{◌≡◌, ◌≢◌, ℕ, ◌+◌, ◌<◌, ◌≤◌, pos, ◌∷◌, [], true, map, length, slice_get, IfSome, IfOk, IfErr, OnOk, OnErr, MatchOption, ◌↔◌, IsTrue, Some, None, vec_capacity, vec_len};
 ghost use Rattle.std.specs.Option.{option_map};
 ghost use Rattle.mari_market.specs.Clearing.{IsSpent, ArePartsOfSearch, IsBudget};
-ghost use Rattle.mari_gates.specs.Prefixes.{IsCleared};
 ghost use Rattle.mari_market.specs.Market.{IsValid};
-ghost use Rattle.mari_market.specs.Prefix.{word_of, IsFeasiblePrefix};
+ghost use Rattle.mari_market.specs.Prefix.{word_of, IsFeasiblePrefix, IsCleared, child_words};
 ghost use Rattle.mari_market.specs.SearchTree.{IsLarger};
 ghost use Rattle.mari_market.specs.Tree.{TreeHolds};
-ghost use Rattle.mari_core.specs.Growth.{seed, grown, settling, closing_leaf, with_state, children_at, child_words, take_refused, return_refused, settling_by, MaySettle, CanClose, CanBranch, IsCutoff, IsGrowth, IsNext, IsLeastUntaken, IsRefusal, in_journal, NoneWaits, AreCutAt};
+ghost use Rattle.mari_core.specs.Growth.{seed, grown, settling, closing_leaf, with_state, children_at, take_refused, return_refused, settling_by, MaySettle, CanClose, CanBranch, IsCutoff, IsGrowth, IsNext, IsLeastUntaken, IsRefusal, in_journal, NoneWaits, AreCutAt};
 ghost use Rattle.mari_core.specs.Growth.Entry.{Take, Close, Branch, Full, GiveBack};
 ghost use Rattle.mari_core.specs.declared.event.StepFault.TheVariants.{Memory as NoStepMemory};
 ghost use Rattle.mari_core.specs.declared.node.NodeState.TheVariants.{Taken};

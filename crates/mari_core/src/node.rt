@@ -1,8 +1,7 @@
 //! The nodes of a search.
 
 ghost use Rattle.std.specs.Prelude.{◌≡◌, ◌≤◌, ◌↔◌, IsTrue, length};
-ghost use Rattle.mari_market.specs.Prefix.{word_of};
-ghost use Rattle.mari_gates.specs.Prefixes.{IsCleared};
+ghost use Rattle.mari_market.specs.Prefix.{word_of, IsCleared};
 ghost use Rattle.mari_core.specs.Nodes.{new_node, in_state};
 
 use mari_gates::opens;
@@ -31,8 +30,7 @@ pub struct Node {
 }
 
 impl Model for Node {
-    ghost use Rattle.mari_market.specs.Prefix.{word_of};
-    ghost use Rattle.mari_gates.specs.Prefixes.{IsCleared};
+    ghost use Rattle.mari_market.specs.Prefix.{word_of, IsCleared};
     ghost use Rattle.mari_core.specs.Nodes.{TreeNode};
 
     ghost Value = { TreeNode };

@@ -9,11 +9,11 @@ use Rattle.std.proofs.lemmas.List.FromFn.{get_or-map-range_with_len, length-map-
 use Rattle.std.proofs.lemmas.Option.{slice_get-get_or, slice_get_past}
 use Rattle.mari_market.specs.declared.market.GateInfo.{GateInfo}
 use Rattle.mari_market.specs.declared.prefix.Prefix.{Prefix}
-use Rattle.mari_market.specs.Gates.{group_of, parent_of}
+use Rattle.mari_market.specs.Gates.{group_of, parent_of, ParentsEarlier}
 use Rattle.mari_market.specs.Prefix.{bit_of, word_of, opens_in, group_taken, is_taken, may_open, parent_opens, children, IsFeasibleWord}
 use Rattle.mari_market.proofs.Words.{Found, found}
 use Rattle.mari_market.proofs.Prefixes.{open_child, closed_child, open_child_only, taken_by, opened_get}
-use Rattle.mari_gates.specs.Prefixes.{decisions, ParentsEarlier}
+use Rattle.mari_gates.specs.Prefixes.{decisions}
 
 pub length-decisions : (x : Prefix) (n : ℕ) → length (decisions x n) ≡ n
 length-decisions x n = length-map-range_with_len (bit_of x) 0 n

@@ -10,12 +10,11 @@ use Rattle.mari_market.specs.declared.market.GateInfo.{GateInfo}
 use Rattle.mari_market.specs.declared.prefix.Prefix.{Prefix}
 use Rattle.mari_market.specs.Bounds.{GateState, span_of, span_in, gated_span}
 use Rattle.mari_market.specs.Bounds.GateState.{Open, Closed, Free}
-use Rattle.mari_market.specs.Gates.{group_of, parent_of}
+use Rattle.mari_market.specs.Gates.{group_of, parent_of, ParentsEarlier}
 use Rattle.mari_market.specs.Prefix.{bit_of, word_of, is_taken, below_parent, undecided, decided, state_of, bounds_of_word, bounds_at}
 use Rattle.mari_market.proofs.Prefixes.{state_rule, same_below}
 use Rattle.mari_gates.specs.declared.states.GateState.{GateState as TableState}
 use Rattle.mari_gates.specs.declared.states.GateState.TheVariants.{Free as TableFree}
-use Rattle.mari_gates.specs.Prefixes.{ParentsEarlier}
 use Rattle.mari_gates.specs.GateTable.{meaning_of, state_in, AreStatesBelow}
 use Rattle.mari_gates.proofs.Decisions.{group_at, parent_at, get-decisions, decisions_past}
 

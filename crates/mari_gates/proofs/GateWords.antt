@@ -15,13 +15,12 @@ use Rattle.mari_market.specs.Bounds.{IsWithin, own_bounds}
 use Rattle.mari_market.specs.First.{ComesBefore}
 use Rattle.mari_market.specs.Market.{IsValid}
 use Rattle.mari_market.specs.Optimal.{IsFeasible}
-use Rattle.mari_market.specs.Prefix.{bit_of, word_of, opens_in, IsFeasiblePrefix, IsFeasibleWord}
+use Rattle.mari_market.specs.Prefix.{bit_of, word_of, opens_in, IsFeasiblePrefix, IsFeasibleWord, IsCleared}
 use Rattle.mari_market.proofs.Conflicts.{none_past}
 use Rattle.mari_market.proofs.GateRuns.{runs_all}
 use Rattle.mari_market.proofs.Prefixes.{opens_within}
 use Rattle.mari_market.proofs.Search.{parents_earlier}
 use Rattle.mari_market.proofs.Words.{begins_own, length-gate_word_of, word_is_feasible}
-use Rattle.mari_gates.specs.Prefixes.{IsCleared}
 use Rattle.mari_gates.proofs.Decisions.{opens-decisions, length-decisions}
 
 -- a prefix that decides no gate has no bit that is 1

@@ -4,11 +4,11 @@ use Rattle.std.proofs.lemmas.List.{take_all}
 use Rattle.mari_market.specs.declared.market.GateInfo.{GateInfo}
 use Rattle.mari_market.specs.declared.market.Market.{Market}
 use Rattle.mari_market.specs.declared.prefix.Prefix.{Prefix}
-use Rattle.mari_market.specs.Prefix.{word_of, opens_in, children, IsFeasibleWord, IsFeasiblePrefix}
+use Rattle.mari_market.specs.Prefix.{word_of, opens_in, children, IsFeasibleWord, IsFeasiblePrefix, IsCleared}
 use Rattle.mari_market.proofs.Prefixes.{opens_front, opens_past, opens_within}
 use Rattle.mari_market.proofs.Search.{parents_earlier}
 use Rattle.mari_market.specs.Market.{IsValid}
-use Rattle.mari_gates.specs.Prefixes.{IsCleared, ParentsEarlier}
+use Rattle.mari_market.specs.Gates.{ParentsEarlier}
 use Rattle.mari_gates.proofs.Decisions.{length-decisions}
 use Rattle.mari_gates.specs.Preorder.{opened_child, waiting, waiting_after, left_at}
 

@@ -6,8 +6,7 @@ ghost use Rattle.mari_market.specs.First.{ComesBefore};
 ghost use Rattle.mari_market.specs.GateRuns.{is_run_of};
 ghost use Rattle.mari_market.specs.Market.{IsValid};
 ghost use Rattle.mari_market.specs.Optimal.{IsFeasible};
-ghost use Rattle.mari_market.specs.Prefix.{bit_of, word_of, IsFeasiblePrefix};
-ghost use Rattle.mari_gates.specs.Prefixes.{IsCleared};
+ghost use Rattle.mari_market.specs.Prefix.{bit_of, word_of, IsFeasiblePrefix, IsCleared};
 
 use crate::prefixes::{empty_prefix, opens, set_bit};
 use mari_market::{Activation, Market, Order, Prefix};

@@ -3,8 +3,9 @@
 ghost use Rattle.std.specs.Prelude.{◌≡◌, ◌≢◌, ℕ, ◌<◌, ◌≤◌, ◌+◌, ◌-◌, ◌↔◌, IsTrue, Bool, true, false, not, [], ◌∷◌, ◌++◌, length, if◌then◌else◌};
 ghost use Rattle.std.specs.Int.{bit_at};
 ghost use Rattle.mari_market.specs.Market.{IsValid};
-ghost use Rattle.mari_market.specs.Prefix.{bit_of, word_of, may_open, group_taken, is_taken, parent_opens, children, IsFeasibleWord, IsFeasiblePrefix};
-ghost use Rattle.mari_gates.specs.Prefixes.{IsCleared, ParentsEarlier, decisions};
+ghost use Rattle.mari_market.specs.Prefix.{bit_of, word_of, may_open, group_taken, is_taken, parent_opens, children, IsFeasibleWord, IsFeasiblePrefix, IsCleared};
+ghost use Rattle.mari_gates.specs.Prefixes.{decisions};
+ghost use Rattle.mari_market.specs.Gates.{ParentsEarlier};
 
 use mari_market::{GateInfo, Market, Prefix};
 use mari_units::MOST_GATES;

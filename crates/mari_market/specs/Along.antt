@@ -1,11 +1,15 @@
 -- How bounds of prices, and areas, spread along borders.
 use Rattle.std.specs.Prelude.{◌≡◌, ◌⊎◌, ℕ, ℤ, List}
 use Rattle.mari_market.specs.declared.market.Border.{Border}
-use Rattle.mari_market.specs.Area.{IsUncongested}
 use Rattle.mari_market.specs.Consistent.{HasRoomOn, HasRoomBack}
 use Rattle.mari_market.specs.Sums.{AnyZip}
 use Rattle.mari_market.specs.declared.along.Along.{Along}
 use Rattle.mari_market.specs.declared.along.Along.TheVariants.{Rising, Falling, Joined}
+
+-- the flow is below the border's limit and above the negative of its back limit
+pub record IsUncongested (b : Border) (f : ℤ) : Type 0 where
+  pub below : HasRoomOn b f
+  pub above : HasRoomBack b f
 
 -- whether the border leads from its first zone to its second: lower bounds go where prices are at least as high, upper
 -- bounds where they are at least as low, and areas over uncongested borders
@@ -20,7 +24,7 @@ LeadsBack Rising b f = HasRoomOn b f
 LeadsBack Falling b f = HasRoomBack b f
 LeadsBack Joined b f = IsUncongested b f
 
--- the border leads from zone y to zone z
+-- the border leads from zone y to zone z; along rising prices this is LeadsBy
 abbrev pub LeadsOver : Along → ℕ → ℕ → Border → ℤ → Type 0
 LeadsOver along y z b f = ((b.from ≡ y) × (b.to ≡ z) × LeadsOn along b f) ⊎ ((b.to ≡ y) × (b.from ≡ z) × LeadsBack along b f)
 

@@ -1,8 +1,7 @@
 //! The ways in which bounds of prices, and areas, spread along borders.
 
 ghost use Rattle.std.specs.Prelude.{IsTrue, ◌↔◌};
-ghost use Rattle.mari_market.specs.Area.{IsUncongested};
-ghost use Rattle.mari_market.specs.Along.{LeadsBack, LeadsOn};
+ghost use Rattle.mari_market.specs.Along.{LeadsBack, LeadsOn, IsUncongested};
 
 use crate::market::Border;
 

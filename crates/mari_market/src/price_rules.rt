@@ -82,8 +82,8 @@ impl Border {
     pub fn leads(&self, flow: i64, first: u32, second: u32) -> bool
         ensures { IsTrue result ↔ LeadsBy first second self.now flow }
     {
-        (self.to == first && self.from == second && self.has_room_on(flow))
-            || (self.from == first && self.to == second && self.has_room_back(flow))
+        (self.from == first && self.to == second && self.has_room_back(flow))
+            || (self.to == first && self.from == second && self.has_room_on(flow))
     }
 }
 

@@ -9,7 +9,8 @@ use Rattle.mari_network.specs.Slots.{beyond, zone_of, price_of}
 use Rattle.mari_network.specs.Chain.{tail_of, head_of, room_of, hop_at}
 use Rattle.mari_network.specs.Spread.{is_marked, AreClosed, Keeps, IsSpread}
 use Rattle.mari_network.specs.Margins.{IsDearest, NoneLess, IsCheaper, NoneCheaper}
-use Rattle.mari_network.specs.Levels.{OrderedOver, AreLevels, IsTightFlow, AreTight}
+use Rattle.mari_network.specs.Levels.{OrderedOver, AreLevels, AreTight}
+use Rattle.mari_market.specs.Consistent.{IsConsistentFlow}
 use Rattle.mari_network.proofs.Marks.{is_false, not_both, marked_or, marked_below}
 
 -- the prices of a stage: those marked before keep theirs, the others have the level
@@ -67,7 +68,7 @@ cheaper_is_new slots bs xs fs old marked p hops start i j a d s cheap = elim (s.
   | inr k ↦ k
 ]
 
-tight_over : (bs : List Border) (fs : List ℤ) (old : List Bool) (p q : ℕ → ℤ) (floor : ℤ) → IsLevel old p q floor → ((z : ℕ) → z < length old → floor ≤ℤ q z) → AllZip (λ b f. (b.from < length old) × (b.to < length old)) bs fs → AreClosed bs fs old → AllZip (OrderedOver (is_marked old) p) bs fs → AllZip (IsTightFlow q) bs fs
+tight_over : (bs : List Border) (fs : List ℤ) (old : List Bool) (p q : ℕ → ℤ) (floor : ℤ) → IsLevel old p q floor → ((z : ℕ) → z < length old → floor ≤ℤ q z) → AllZip (λ b f. (b.from < length old) × (b.to < length old)) bs fs → AreClosed bs fs old → AllZip (OrderedOver (is_marked old) p) bs fs → AllZip (IsConsistentFlow q) bs fs
 tight_over [] [] old p q floor l low ends was o = tt
 tight_over (b ∷ bs) (f ∷ fs) old p q floor l low ends was o =
     let one : (forth : Bool) → head_of forth b < length old → tail_of forth b < length old → pos 0 <ℤ room_of forth b f → q (head_of forth b) ≤ℤ q (tail_of forth b) =

@@ -16,7 +16,8 @@ use Rattle.mari_market.specs.Market.{IsValid, IsValidOrder}
 use Rattle.mari_market.specs.Price.{price_at}
 use Rattle.mari_network.specs.declared.slots.Slot.{Slot}
 use Rattle.mari_network.specs.Slots.{beyond, no_slot, amount_at, slot_into, IsWithinSlot, IsTightSlot, IsRunning}
-use Rattle.mari_network.specs.Levels.{IsTightFlow, AreTight}
+use Rattle.mari_network.specs.Levels.{AreTight}
+use Rattle.mari_market.specs.Consistent.{IsConsistentFlow}
 use Rattle.mari_network.specs.Orders.{no_order, slot_of, slots_of, IsExtra, ArePuts, capped}
 use Rattle.mari_network.specs.Network.{no_border}
 use Rattle.mari_network.proofs.Lists.{all_zip, zip_of, zip_long, zip_first, zip_rest, at_drop, map_at}
@@ -78,7 +79,7 @@ flow_runs bounds m more xs fs p e =
       from = b_valid.from;
       to = b_valid.to;
       within = AllZip-at IsWithinLimits m.borders fs k no_border (pos 0) l e.running.flows;
-      tight = AllZip-at (IsTightFlow p) m.borders fs k no_border (pos 0) l e.tight.flows_tight;
+      tight = AllZip-at (IsConsistentFlow p) m.borders fs k no_border (pos 0) l e.tight.flows_tight;
     })
 
 ends_paid : (bounds : Order → Span) (m : Market) (more : List Slot) (xs fs : List ℤ) (p q : ℕ → ℤ) → Ends bounds m more xs fs p → (sum_along (paid_slot q) (slots_of bounds m.orders) (take (length (slots_of bounds m.orders)) xs) +ℤ sum_along (paid_slot q) more (drop (length (slots_of bounds m.orders)) xs)) ≡ sum_along (cost_flow q) m.borders fs

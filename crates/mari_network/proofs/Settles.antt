@@ -77,7 +77,7 @@ answer_optimum spans m more n s xs fs prices e v network same runs tight flow pu
       relaxed = best.relaxed;
       dual = best.dual;
       tight = best.tight;
-      capped = record {
+      potentials = record {
         one_each = ap (λ (cs : List Cents). length cs) made ∙ length-map prices capped_cents ∙ long;
         capped = subst (λ (cs : List Cents). All (λ (c : Cents). IsPrice c.0) cs) (sym made) (capped_prices prices);
       };

@@ -8,7 +8,7 @@ use Rattle.mari_market.specs.Activation.{carried_out, IsWithinLimits}
 use Rattle.mari_market.proofs.Sums.{sum_below, sum_below-same, sum_below--, sum_below-place, spread, sum_along-same, AllZip-both, int_sum-neg, AllZip-at}
 use Rattle.mari_network.specs.declared.slots.Slot.{Slot}
 use Rattle.mari_network.specs.Slots.{slot_into, IsWithinSlot, IsTightSlot}
-use Rattle.mari_network.specs.Levels.{IsTightFlow}
+use Rattle.mari_market.specs.Consistent.{IsConsistentFlow}
 use Rattle.mari_network.specs.Orders.{IsExtra}
 
 -- what slots are paid, and what borders cost, where each zone has a number
@@ -79,7 +79,7 @@ pub record RunsFlow (n : ℕ) (p : ℕ → ℤ) (b : Border) (f : ℤ) : Type 0 
   pub from : b.from < n
   pub to : b.to < n
   pub within : IsWithinLimits b f
-  pub tight : IsTightFlow p b f
+  pub tight : IsConsistentFlow p b f
 
 -- a slot of an order, dearer than the least price and cheaper than the greatest
 pub record IsReal (m : ℤ) (s : Slot) : Type 0 where

@@ -13,19 +13,17 @@ use Rattle.mari_market.specs.declared.activation.Activation.{Activation}
 use Rattle.mari_market.specs.Sums.{sum_along}
 use Rattle.mari_market.specs.Activation.{put_in, put_into, carried_out, IsWithinLimits, welfare_of}
 use Rattle.mari_market.specs.Bounds.{Span, IsWithin}
-use Rattle.mari_market.specs.Consistent.{IsConsistentBorder}
+use Rattle.mari_market.specs.Consistent.{IsConsistentBorder, IsConsistentFlow}
 use Rattle.mari_market.specs.Dual.{dual_value_of, IsTightTrade, IsTightOrder, IsTight}
 use Rattle.mari_market.specs.Market.{IsValid, IsValidOrder, IsValidBorder}
 use Rattle.mari_market.specs.Price.{price_at, IsPrice}
-use Rattle.mari_market.specs.Relaxation.{IsWithinBounds}
+use Rattle.mari_market.specs.Relaxation.{IsWithinBounds, IsRelaxed}
 use Rattle.mari_market.specs.Cut.{least_put, most_put}
 use Rattle.std.proofs.lemmas.List.{length-map}
 use Rattle.mari_network.proofs.Lists.{map_at}
 use Rattle.mari_market.proofs.Duality.{weak_duality}
 use Rattle.mari_market.proofs.Tight.{tight_is_equal}
 use Rattle.mari_network.specs.Slots.{slot_into, IsWithinSlot, IsTightSlot}
-use Rattle.mari_network.specs.Levels.{IsTightFlow}
-use Rattle.mari_network.specs.Solving.{IsRelaxed}
 use Rattle.mari_network.specs.Orders.{slots_of, ArePuts, capped, capped_cents}
 
 trade_within : (side : Side) (s : Span) (q : ℕ) → least_put side s ≤ℤ put_in side q → put_in side q ≤ℤ most_put side s → IsWithin s q
@@ -68,7 +66,7 @@ orders_into z bounds (o ∷ os) (x ∷ xs) [] r = absurd r
 flow_tight : (pa pb ca cb f : ℤ) (limit back : ℕ) → ca ≡ capped pa → cb ≡ capped pb → (f <ℤ pos limit → pb ≤ℤ pa) → (neg_ℤ (pos back) <ℤ f → pa ≤ℤ pb) → (f <ℤ pos limit → cb ≤ℤ ca) × (neg_ℤ (pos back) <ℤ f → ca ≤ℤ cb)
 flow_tight pa pb ca cb f limit back a b more less = (λ r. omega (arith, ints, clamps, a, b, more r), λ r. omega (arith, ints, clamps, a, b, less r))
 
-pub flows_tight : (n : ℕ) (p : ℕ → ℤ) (ps : List Cents) (bs : List Border) (fs : List ℤ) → ((z : ℕ) → z < n → price_at ps z ≡ capped (p z)) → All (IsValidBorder n) bs → AllZip (IsTightFlow p) bs fs → AllZip (IsConsistentBorder ps) bs fs
+pub flows_tight : (n : ℕ) (p : ℕ → ℤ) (ps : List Cents) (bs : List Border) (fs : List ℤ) → ((z : ℕ) → z < n → price_at ps z ≡ capped (p z)) → All (IsValidBorder n) bs → AllZip (IsConsistentFlow p) bs fs → AllZip (IsConsistentBorder ps) bs fs
 flows_tight n p ps [] [] e v t = tt
 flows_tight n p ps (b ∷ bs) (f ∷ fs) e v t =
     let b_valid = All-head (IsValidBorder n) b bs v in
@@ -89,7 +87,7 @@ pub optimum_from : (bounds : Order → Span) (m : Market) (a : Activation) (ps :
     → ArePuts m.orders xs a.mw → ((z : ℕ) → z < m.zones → price_at ps z ≡ capped (p z))
     → AllZip IsWithinSlot (slots_of bounds m.orders) xs → AllZip IsWithinLimits m.borders a.flow
     → ((z : ℕ) → z < m.zones → sum_along (slot_into z) (slots_of bounds m.orders) xs ≡ sum_along (carried_out z) m.borders a.flow)
-    → AllZip (IsTightSlot p) (slots_of bounds m.orders) xs → AllZip (IsTightFlow p) m.borders a.flow
+    → AllZip (IsTightSlot p) (slots_of bounds m.orders) xs → AllZip (IsConsistentFlow p) m.borders a.flow
     → IsOptimum bounds m a ps
 optimum_from bounds m a ps p xs v puts prices within limits balance slots flows =
     let in_bounds : IsWithinBounds bounds m a = record { orders = orders_within bounds m.orders xs a.mw puts within; borders = limits; balance = λ z l. orders_into z bounds m.orders xs a.mw puts ∙ balance z l } in

@@ -2,6 +2,7 @@
 use Rattle.std.specs.Prelude.{◌≡◌, Bool, true, false, ℕ, ◌<◌, ℤ, pos, neg_ℤ, ◌≤ℤ◌, ◌<ℤ◌, List, length}
 use Rattle.std.specs.List.{AllZip}
 use Rattle.mari_market.specs.declared.market.Border.{Border}
+use Rattle.mari_market.specs.Consistent.{IsConsistentFlow}
 use Rattle.mari_network.specs.declared.slots.Slot.{Slot}
 use Rattle.mari_network.specs.Slots.{beyond, slot_at, zone_of, price_of, amount_at, CanLess, CanMore, IsTightSlot}
 use Rattle.mari_network.specs.Chain.{tail_of, head_of, room_of}
@@ -21,12 +22,7 @@ pub record AreLevels (slots : List Slot) (bs : List Border) (xs fs : List ℤ) (
   pub sources : (k : ℕ) → CanMore slots xs k → is_marked marked (zone_of slots k) ≡ true → p (zone_of slots k) ≤ℤ price_of slots k
   pub later : (z k : ℕ) → is_marked marked z ≡ true → CanLess slots xs k → is_marked marked (zone_of slots k) ≡ false → price_of slots k ≤ℤ p z
 
--- a border that could carry more leads to no dearer zone
-pub record IsTightFlow (p : ℕ → ℤ) (b : Border) (f : ℤ) : Type 0 where
-  pub more : f <ℤ pos b.limit → p b.to ≤ℤ p b.from
-  pub less : neg_ℤ (pos b.back) <ℤ f → p b.from ≤ℤ p b.to
-
 -- each slot and each flow is tight
 pub record AreTight (slots : List Slot) (bs : List Border) (xs fs : List ℤ) (p : ℕ → ℤ) : Type 0 where
   pub slots_tight : (k : ℕ) → k < length slots → IsTightSlot p (slot_at slots k) (amount_at xs k)
-  pub flows_tight : AllZip (IsTightFlow p) bs fs
+  pub flows_tight : AllZip (IsConsistentFlow p) bs fs

@@ -2,6 +2,7 @@
 use Rattle.std.specs.Prelude.{◌≡◌, ◌⊎◌, ℕ, ◌<◌, ℤ, List, length, slice_index_or}
 use Rattle.std.specs.List.{All, Contains}
 use Rattle.mari_market.specs.declared.market.Border.{Border}
+use Rattle.mari_market.specs.Market.{IsBetween}
 use Rattle.mari_network.specs.declared.slots.Slot.{Slot}
 use Rattle.mari_network.specs.declared.network.Network.{Network}
 use Rattle.mari_network.specs.Slots.{zone_of, IsSmallSlot, IsRunning}
@@ -15,10 +16,6 @@ border_at bs i = slice_index_or bs i no_border
 -- the border meets the zone
 abbrev pub Meets : Border → ℕ → Type 0
 Meets b z = (b.from ≡ z) ⊎ (b.to ≡ z)
-
--- both ends of a border are among so many zones
-abbrev pub IsBetween : ℕ → Border → Type 0
-IsBetween zones b = (b.from < zones) × (b.to < zones)
 
 -- the places of the borders that meet the zone, and perhaps of others
 pub record AreMeeting (bs : List Border) (z : ℕ) (places : List ℕ) : Type 0 where

@@ -1,5 +1,5 @@
 -- What the solver answers: the relaxed optimum with tight potentials, or a cut.
-use Rattle.std.specs.Prelude.{◌≡◌, ℤ, pos, ◌≤ℤ◌, ◌++◌, List, length, take, Result, Ok, Err}
+use Rattle.std.specs.Prelude.{◌≡◌, pos, ◌++◌, List, length, take, Result, Ok, Err}
 use Rattle.std.specs.Int.{int_max}
 use Rattle.std.specs.List.{All, AllZip}
 use Rattle.mari_market.specs.declared.market.Order.{Order}
@@ -11,7 +11,7 @@ use Rattle.mari_market.specs.Bounds.{Span}
 use Rattle.mari_market.specs.Cut.{IsCut}
 use Rattle.mari_market.specs.Dual.{IsTight, dual_value_of}
 use Rattle.mari_market.specs.Price.{ArePrices}
-use Rattle.mari_market.specs.Relaxation.{IsWithinBounds}
+use Rattle.mari_market.specs.Relaxation.{IsWithinBounds, IsRelaxed}
 use Rattle.mari_network.specs.declared.network.Network.{Network as NetworkRecord}
 use Rattle.mari_network.specs.declared.optimum.Solved.{Solved}
 use Rattle.mari_network.specs.declared.optimum.SolveFault.{SolveFault}
@@ -29,18 +29,13 @@ abbrev pub OfCut : SolveFault → (CutRecord → Type 0) → Type 0
 OfCut (Cut cut) P = P cut
 OfCut Memory P = Unit {0}
 
--- the greatest welfare of an activation within the spans
-pub record IsRelaxed (spans : Order → Span) (m : Market) (w : ℤ) : Type 0 where
-  pub reached : (a : Activation) × IsWithinBounds spans m a × (welfare_of m a ≡ w)
-  pub greatest : (a : Activation) → IsWithinBounds spans m a → welfare_of m a ≤ℤ w
-
 -- an activation within the spans that is the relaxed optimum, and the dual value of its potentials
 pub record IsSolution (spans : Order → Span) (m : Market) (s : Solved) : Type 0 where
   pub within : IsWithinBounds spans m s.activation
   pub relaxed : IsRelaxed spans m (welfare_of m s.activation)
   pub dual : dual_value_of spans m s.potentials.cents ≡ welfare_of m s.activation
   pub tight : IsTight spans m s.activation s.potentials.cents
-  pub capped : ArePrices m s.potentials.cents
+  pub potentials : ArePrices m s.potentials.cents
   pub stated : pos s.welfare ≡ int_max (pos 0) (welfare_of m s.activation)
 
 -- the solution within the spans, or a cut that holds there

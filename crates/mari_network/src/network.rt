@@ -2,9 +2,9 @@
 
 ghost use Rattle.std.specs.Prelude.{◌≡◌, ◌≢◌, ◌<◌, ◌++◌, ◌∷◌, [], ℕ, length, take, IfOk, OnOk, slice_index_or};
 ghost use Rattle.std.specs.List.{All, AllZip};
-ghost use Rattle.mari_market.specs.Market.{IsValid};
+ghost use Rattle.mari_market.specs.Market.{IsValid, IsBetween};
 ghost use Rattle.mari_network.specs.Fits.{IsNetworkSlot};
-ghost use Rattle.mari_network.specs.Network.{AreMeeting, AreMembers, IsBetween, IsNetwork};
+ghost use Rattle.mari_network.specs.Network.{AreMeeting, AreMembers, IsNetwork};
 ghost use Rattle.mari_network.specs.Orders.{CanPut};
 ghost use Rattle.mari_network.specs.Solving.{IsNetworkOf};
 

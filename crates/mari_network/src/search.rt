@@ -4,7 +4,8 @@ ghost use Rattle.std.specs.Prelude.{◌≡◌, ℕ, ℤ, pos, ◌<ℤ◌, ◌≤
 ghost use Rattle.std.specs.List.{All, AllZip};
 ghost use Rattle.mari_market.specs.Activation.{IsWithinLimits};
 ghost use Rattle.mari_network.specs.Slots.{amount_at};
-ghost use Rattle.mari_network.specs.Network.{border_at, IsBetween, IsNetwork, Runs};
+ghost use Rattle.mari_network.specs.Network.{border_at, IsNetwork, Runs};
+ghost use Rattle.mari_market.specs.Market.{IsBetween};
 ghost use Rattle.mari_network.specs.Chain.{hop_at, hop_of, head_of, tail_of, room_of, IsImproving};
 ghost use Rattle.mari_network.specs.Spread.{is_marked, IsSpread, AreClosed, MarkedInto, Keeps};
 ghost use Rattle.mari_network.specs.Margins.{AreMargins};

@@ -9,7 +9,7 @@ use Rattle.mari_market.specs.declared.market.GateInfo.{GateInfo}
 use Rattle.mari_market.specs.declared.prefix.Prefix.{Prefix}
 use Rattle.mari_market.specs.declared.activation.Activation.{Activation}
 use Rattle.mari_market.specs.Activation.{welfare_of}
-use Rattle.mari_market.specs.Conflict.{IsConflict}
+use Rattle.mari_market.specs.Conflict.{IsConflict, IsContradictoryChain}
 use Rattle.mari_market.specs.Dual.{dual_value_of}
 use Rattle.mari_market.specs.Finding.{IsAttained, IsRelaxedFinding}
 use Rattle.mari_market.specs.Market.{IsValid}
@@ -19,7 +19,7 @@ use Rattle.mari_market.specs.Relaxation.{IsRelaxedWelfare}
 use Rattle.mari_market.proofs.Conflicts.{conflict_refutes, chain_refutes, price_in_cap}
 use Rattle.mari_market.proofs.Surplus.{welfare_at_least_0}
 use Rattle.mari_network.specs.declared.optimum.Solved.{Solved}
-use Rattle.mari_node.specs.Nodes.{best_found, bound_found, conflict_found, IsContradictory, IsRelaxedOptimum, IsLastNode, IsInnerNode}
+use Rattle.mari_node.specs.Nodes.{best_found, bound_found, conflict_found, IsRelaxedOptimum, IsLastNode, IsInnerNode}
 use Rattle.mari_node.proofs.Decided.{has_word, decided_feasible, decided_tight}
 
 -- the greater of 0 and a number, the other way round
@@ -61,7 +61,7 @@ last_best m word s v n adm = let h = n.optimum in record {
 }
 
 -- and where no prices are consistent with it, a chain is a conflict
-holds : (m : Market) (word : List Bool) (s : Solved) (chain : List ℕ) → IsValid m → IsLastNode m word s → IsContradictory m s.activation chain → IsConflict m word (record { chain = chain; potentials = s.potentials; activation = s.activation })
+holds : (m : Market) (word : List Bool) (s : Solved) (chain : List ℕ) → IsValid m → IsLastNode m word s → IsContradictoryChain m s.activation chain → IsConflict m word (record { chain = chain; potentials = s.potentials; activation = s.activation })
 holds m word s chain v n bad = let h = n.optimum in record {
   gates = has_word m s.activation word v n.full h.within;
   feasible = last_feasible m word s v n;
@@ -72,7 +72,7 @@ holds m word s chain v n bad = let h = n.optimum in record {
   chain = bad.chain;
 }
 
-pub last_conflict : (m : Market) (word : List Bool) (s : Solved) (chain : List ℕ) → IsValid m → IsLastNode m word s → IsContradictory m s.activation chain → IsRelaxedFinding m word (conflict_found s chain)
+pub last_conflict : (m : Market) (word : List Bool) (s : Solved) (chain : List ℕ) → IsValid m → IsLastNode m word s → IsContradictoryChain m s.activation chain → IsRelaxedFinding m word (conflict_found s chain)
 last_conflict m word s chain v n bad = let h = n.optimum in record {
   prices = h.potentials;
   value = value_told m word s h;
@@ -111,13 +111,13 @@ inner_bound m word s n none = let h = n.optimum in record {
 }
 
 -- a contradictory chain leaves no consistent prices
-contradicts : (m : Market) (a : Activation) (zs : List ℕ) → IsContradictory m a zs → IsAdmissible m a → ⊥
+contradicts : (m : Market) (a : Activation) (zs : List ℕ) → IsContradictoryChain m a zs → IsAdmissible m a → ⊥
 contradicts m a zs bad adm =
     let h = adm.consistent.1 in
     chain_refutes m a adm.consistent.0 zs (price_in_cap m adm.consistent.0 h.prices) h.orders h.borders bad.chain
 
 -- there is a chain, or the activation is admissible
-pub admissible_by : (m : Market) (a : Activation) (chain : Option (List ℕ)) (b : Bool) → is_some chain ≡ not b → MatchOption chain (IsAdmissible m a) (IsContradictory m a) → IsTrue b ↔ IsAdmissible m a
+pub admissible_by : (m : Market) (a : Activation) (chain : Option (List ℕ)) (b : Bool) → is_some chain ≡ not b → MatchOption chain (IsAdmissible m a) (IsContradictoryChain m a) → IsTrue b ↔ IsAdmissible m a
 admissible_by m a None true e h = (λ _. h, λ _. refl)
 admissible_by m a None false e h = absurd (cc)
 admissible_by m a (Some zs) true e h = absurd (cc)

@@ -1,21 +1,16 @@
 -- A node of the search with the relaxed optimum that the solver gives.
-use Rattle.std.specs.Prelude.{◌≡◌, ◌<◌, ◌≤◌, Bool, true, ℕ, pos, List, length, Option, Some, None, IsSomeAnd, is_some}
-use Rattle.std.specs.Int.{int_max}
-use Rattle.std.specs.List.{All}
+use Rattle.std.specs.Prelude.{◌≡◌, ◌<◌, Bool, true, ℕ, List, length, Option, Some, None, IsSomeAnd, is_some}
 use Rattle.mari_market.specs.declared.market.Market.{Market}
 use Rattle.mari_market.specs.declared.activation.Activation.{Activation}
 use Rattle.mari_market.specs.declared.finding.Relaxed.{Relaxed}
 use Rattle.mari_market.specs.Activation.{welfare_of}
-use Rattle.mari_market.specs.Conflict.{IsContradiction}
-use Rattle.mari_market.specs.Dual.{IsTight, dual_value_of}
 use Rattle.mari_market.specs.Optimal.{IsAdmissible}
 use Rattle.mari_market.specs.Prefix.{bounds_of_word, IsFeasibleWord}
-use Rattle.mari_market.specs.Price.{ArePrices}
 use Rattle.mari_market.specs.Relaxation.{IsWithinBounds, IsRelaxedWelfare}
 use Rattle.mari_market.specs.declared.finding.Finding.{Finding}
 use Rattle.mari_market.specs.declared.finding.Finding.TheVariants.{Empty, Relaxed as RelaxedFinding}
 use Rattle.mari_network.specs.declared.optimum.Solved.{Solved}
-use Rattle.mari_network.specs.Solving.{NoneWithin}
+use Rattle.mari_network.specs.Solving.{NoneWithin, IsSolution}
 
 -- the solved optimum as the best activation of its node
 abbrev pub best_found : Solved → Relaxed
@@ -29,20 +24,9 @@ bound_found s = record { potentials = s.potentials; bound = s.welfare; best = No
 abbrev pub conflict_found : Solved → List ℕ → Relaxed
 conflict_found s chain = record { potentials = s.potentials; bound = s.welfare; best = None; conflict = Some (record { chain = chain; potentials = s.potentials; activation = s.activation }) }
 
--- a chain of at most all zones contradicts all prices of an activation
-pub record IsContradictory (m : Market) (a : Activation) (zs : List ℕ) : Type 0 where
-  pub chain : IsContradiction m a zs
-  pub short : length zs ≤ m.zones
-  pub zones : All (λ z. z < m.zones) zs
-
 -- the relaxed optimum of a word, as the solver states it
-pub record IsRelaxedOptimum (m : Market) (word : List Bool) (s : Solved) : Type 0 where
-  pub within : IsWithinBounds (bounds_of_word m word) m s.activation
-  pub relaxed : IsRelaxedWelfare m word (welfare_of m s.activation)
-  pub dual : dual_value_of (bounds_of_word m word) m s.potentials.cents ≡ welfare_of m s.activation
-  pub tight : IsTight (bounds_of_word m word) m s.activation s.potentials.cents
-  pub potentials : ArePrices m s.potentials.cents
-  pub stated : pos s.welfare ≡ int_max (pos 0) (welfare_of m s.activation)
+abbrev pub IsRelaxedOptimum : Market → List Bool → Solved → Type 0
+IsRelaxedOptimum m word = IsSolution (bounds_of_word m word) m
 
 -- the same at a feasible word that decides every gate
 pub record IsLastNode (m : Market) (word : List Bool) (s : Solved) : Type 0 where

@@ -3,7 +3,7 @@
 ghost use Rattle.std.specs.Prelude.{◌↔◌, IfOk, IsTrue, MatchOption};
 ghost use Rattle.mari_market.specs.Market.{IsValid};
 ghost use Rattle.mari_market.specs.Optimal.{IsAdmissible, IsFeasible};
-ghost use Rattle.mari_node.specs.Nodes.{IsContradictory};
+ghost use Rattle.mari_market.specs.Conflict.{IsContradictoryChain};
 ghost use Rattle.mari_node.specs.Running.{IsBounded};
 
 use crate::gates::keeps_gates;
@@ -20,7 +20,7 @@ pub(crate) fn contradiction(
 ) -> Result<Option<Items<u32>>, Memory>
     requires valid { IsValid market.now }
     requires feasible { IsFeasible market.now activation.now }
-    ensures { IfOk result (λ chain. MatchOption chain (IsAdmissible market.now activation.now) (IsContradictory market.now activation.now)) }
+    ensures { IfOk result (λ chain. MatchOption chain (IsAdmissible market.now activation.now) (IsContradictoryChain market.now activation.now)) }
 {
     match price_test(alloc, market, activation) {
         Ok(_intervals) => Ok(None),

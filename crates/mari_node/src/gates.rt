@@ -8,7 +8,8 @@ ghost use Rattle.mari_market.specs.Market.{IsValid};
 ghost use Rattle.mari_market.specs.Optimal.{IsFeasible};
 ghost use Rattle.mari_market.specs.Sums.{AnyZip};
 ghost use Rattle.mari_node.specs.Running.{IsBounded, IsNotPartial, IsPartial, RunsWhereOpen};
-ghost use Rattle.mari_welfare.specs.Gates.{opens_in, IsOfFewGates};
+ghost use Rattle.mari_welfare.specs.Gates.{IsOfFewGates};
+ghost use Rattle.mari_market.specs.Prefix.{opens_in};
 
 use mari_gates::{child_of, empty_prefix, may_branch_up};
 use mari_market::{Activation, Market, Order};

@@ -6,7 +6,8 @@ use Rattle.mari_network.specs.declared.chain.Hop.{Hop}
 use Rattle.mari_network.specs.declared.chain.Chain.{Chain as ChainRecord}
 use Rattle.mari_network.specs.declared.network.Network.{Network as NetworkRecord}
 use Rattle.mari_network.specs.Slots.{no_slot}
-use Rattle.mari_network.specs.Network.{no_border, border_at, IsBetween, IsNetwork}
+use Rattle.mari_network.specs.Network.{no_border, border_at, IsNetwork}
+use Rattle.mari_market.specs.Market.{IsBetween}
 use Rattle.mari_network.specs.Chain.{hop_at, tail_of, IsTrace, IsImproving}
 use Rattle.mari_paths.specs.Drains.{AreHops}
 

@@ -5,8 +5,7 @@ ghost use Rattle.std.specs.Prelude.{◌≡◌, ◌<◌, ◌≤◌, ℕ, pos, neg
 ghost use Rattle.std.specs.List.{All, AllZip};
 ghost use Rattle.mari_market.specs.Sums.{sum_along};
 ghost use Rattle.mari_market.specs.Activation.{IsWithinLimits, carried_out};
-ghost use Rattle.mari_network.specs.Network.{IsBetween};
-ghost use Rattle.mari_market.specs.Market.{IsValid};
+ghost use Rattle.mari_market.specs.Market.{IsValid, IsBetween};
 ghost use Rattle.mari_network.specs.Orders.{IsOrderSlot, AreOrderSlots};
 ghost use Rattle.mari_network.specs.Slots.{amount_at, slot_into, IsSmallSlot, IsWithinSlot};
 ghost use Rattle.mari_paths.specs.Starts.{stand_in_of, stand_ins, IsOrdered, IsNear, AreSmallLimits, AreShort};

@@ -49,8 +49,8 @@ leads_at m a y z b f l s = AnyZip-map (Stand b f) (LeadsBy y z) (λ u v e. subst
 
 border_agrees : (m : Market) (a : Activation) (ps : List Cents) (b : Border) (f : ℤ) → KeepsAll m a ps → IsValidBorder m.zones b → AnyZip (Stand b f) m.borders a.flow → IsConsistentBorder ps b f
 border_agrees m a ps b f k v s = record {
-  more = λ l. k.rises b.to b.from v.to v.from (leads_at m a b.to b.from b f (inl (refl, refl, l)) s);
-  less = λ l. k.rises b.from b.to v.from v.to (leads_at m a b.from b.to b f (inr (refl, refl, l)) s);
+  more = λ l. k.rises b.to b.from v.to v.from (leads_at m a b.to b.from b f (inr (refl, refl, l)) s);
+  less = λ l. k.rises b.from b.to v.from v.to (leads_at m a b.from b.to b f (inl (refl, refl, l)) s);
 }
 
 pub keeps_consistent : (m : Market) (a : Activation) (ps : List Cents) → IsValid m → IsFeasible m a → KeepsAll m a ps → IsConsistent m a ps

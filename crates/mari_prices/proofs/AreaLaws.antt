@@ -5,7 +5,7 @@ use Rattle.std.proofs.lemmas.Int.{ints}
 use Rattle.mari_market.specs.declared.market.Border.{Border}
 use Rattle.mari_market.specs.declared.market.Market.{Market}
 use Rattle.mari_market.specs.declared.activation.Activation.{Activation}
-use Rattle.mari_market.specs.Area.{JoinsBy, Joins, InOneArea, AreAreas, area_at}
+use Rattle.mari_market.specs.Area.{Joins, InOneArea, AreAreas, area_at}
 use Rattle.mari_market.specs.Area.InOneArea.{itself, further}
 use Rattle.mari_market.specs.Market.{IsValid, IsValidBorder}
 use Rattle.mari_market.specs.declared.along.Along.TheVariants.{Joined}
@@ -18,33 +18,19 @@ use Rattle.mari_prices.proofs.Spreads.{AnyZip-map, AnyZip-of}
 
 -- ---- joins
 
-joins_over : (y z : ℕ) (b : Border) (f : ℤ) → LeadsOver Joined y z b f → JoinsBy y z b f
-joins_over y z b f (inl l) = record { uncongested = l.2; ends = inl (l.0, l.1) }
-joins_over y z b f (inr l) = record { uncongested = l.2; ends = inr (l.1, l.0) }
-
-joined_by : (y z : ℕ) (b : Border) (f : ℤ) → JoinsBy y z b f → LeadsOver Joined y z b f
-joined_by y z b f j = elim j.ends [ inl e ↦ inl (e.0, e.1, j.uncongested) | inr e ↦ inr (e.1, e.0, j.uncongested) ]
-
-joins_back : (y z : ℕ) (b : Border) (f : ℤ) → JoinsBy y z b f → JoinsBy z y b f
-joins_back y z b f j = elim j.ends [ inl e ↦ record { uncongested = j.uncongested; ends = inr e } | inr e ↦ record { uncongested = j.uncongested; ends = inl e } ]
-
-joins_from : (m : Market) (a : Activation) (y z : ℕ) → LeadsTo Joined m.borders a.flow y z → Joins m a y z
-joins_from m a y z l = AnyZip-map (LeadsOver Joined y z) (JoinsBy y z) (joins_over y z) m.borders a.flow l
-
-joins_spread : (m : Market) (a : Activation) (y z : ℕ) → Joins m a y z → LeadsTo Joined m.borders a.flow y z
-joins_spread m a y z j = AnyZip-map (JoinsBy y z) (LeadsOver Joined y z) (joined_by y z) m.borders a.flow j
+joins_back : (y z : ℕ) (b : Border) (f : ℤ) → LeadsOver Joined y z b f → LeadsOver Joined z y b f
+joins_back y z b f (inl l) = inr (l.1, l.0, l.2)
+joins_back y z b f (inr l) = inl (l.1, l.0, l.2)
 
 joins_other : (m : Market) (a : Activation) (y z : ℕ) → Joins m a y z → Joins m a z y
-joins_other m a y z j = AnyZip-map (JoinsBy y z) (JoinsBy z y) (joins_back y z) m.borders a.flow j
+joins_other m a y z j = AnyZip-map (LeadsOver Joined y z) (LeadsOver Joined z y) (joins_back y z) m.borders a.flow j
 
-join_ends : (n y z : ℕ) (b : Border) (f : ℤ) → IsValidBorder n b → JoinsBy y z b f → (y < n) × (z < n)
-join_ends n y z b f v j = elim j.ends [
-  | inl e ↦ (subst (λ (x : ℕ). x < n) e.0 v.from, subst (λ (x : ℕ). x < n) e.1 v.to)
-  | inr e ↦ (subst (λ (x : ℕ). x < n) e.1 v.to, subst (λ (x : ℕ). x < n) e.0 v.from)
-]
+join_ends : (n y z : ℕ) (b : Border) (f : ℤ) → IsValidBorder n b → LeadsOver Joined y z b f → (y < n) × (z < n)
+join_ends n y z b f v (inl l) = (subst (λ (x : ℕ). x < n) l.0 v.from, subst (λ (x : ℕ). x < n) l.1 v.to)
+join_ends n y z b f v (inr l) = (subst (λ (x : ℕ). x < n) l.0 v.to, subst (λ (x : ℕ). x < n) l.1 v.from)
 
 joins_within : (m : Market) (a : Activation) (y z : ℕ) → IsValid m → Joins m a y z → (y < m.zones) × (z < m.zones)
-joins_within m a y z v j = AnyZip-of (IsValidBorder m.zones) (JoinsBy y z) ((y < m.zones) × (z < m.zones)) (λ b f p k. join_ends m.zones y z b f p k) m.borders a.flow v.borders j
+joins_within m a y z v j = AnyZip-of (IsValidBorder m.zones) (LeadsOver Joined y z) ((y < m.zones) × (z < m.zones)) (λ b f p k. join_ends m.zones y z b f p k) m.borders a.flow v.borders j
 
 area_on : (m : Market) (a : Activation) (x y z : ℕ) → InOneArea m a x y → InOneArea m a y z → InOneArea m a x z
 area_on m a x y _ h itself = h
@@ -86,7 +72,7 @@ has_first m a values xs h (suc n) z s d e = by_source (h.spread.spreading.source
     }
     by_source (inr k) before =
         let b = before k.before k.entry (omega (arith, k.depth)) k.settled in
-        record { first = b.first; there = b.there; value = k.value ∙ b.value; joined = further k.before z b.joined (joins_from m a k.before z k.leads) }
+        record { first = b.first; there = b.there; value = k.value ∙ b.value; joined = further k.before z b.joined k.leads }
 
 abbrev SameValue : Market → List (Option SettledZone) → ℕ → ℕ → Type 0
 SameValue m xs y z = (z < m.zones) × ((s t : SettledZone) → entry_at xs y ≡ Some s → entry_at xs z ≡ Some t → s.value ≡ t.value)
@@ -101,8 +87,8 @@ same_value m a values xs v h y _ l (further w z k j) =
         arith,
         ints,
         before.1 s u.0 e u.1,
-        h.spread.spreading.rises w z u.0 t u.1 f (joins_spread m a w z j),
-        h.spread.spreading.rises z w t u.0 f u.1 (joins_spread m a z w (joins_other m a w z j)),
+        h.spread.spreading.rises w z u.0 t u.1 f j,
+        h.spread.spreading.rises z w t u.0 f u.1 (joins_other m a w z j),
       ),
     )
 

@@ -23,12 +23,12 @@ use Rattle.mari_prices.specs.Ends.{along_of, IsEnd, ArePriced, ArePricesOf, AreT
 use Rattle.mari_prices.specs.Spread.{entry_at, value_in, IsFirst, IsAfter, IsSpreading}
 use Rattle.mari_prices.proofs.Agree.{KeepsAll, keeps_consistent, consistent_keeps}
 use Rattle.mari_prices.proofs.Extremes.{entry_within, spread_least}
-use Rattle.mari_prices.proofs.Spreads.{AnyZip-of, lower_spreads, lower_from, upper_spreads, upper_from, rising_spreads, rising_from, falling_spreads, falling_from, bound_price}
+use Rattle.mari_prices.proofs.Spreads.{AnyZip-of, lower_spreads, lower_from, upper_spreads, upper_from, falling_spreads, falling_from, bound_price}
 
 -- a border leads between zones that are there
 leads_over : (n y z : ℕ) (b : Border) (f : ℤ) → IsValidBorder n b → LeadsBy y z b f → (y < n) × (z < n)
-leads_over n y z b f v (inl l) = (subst (λ (x : ℕ). x < n) l.0 v.to, subst (λ (x : ℕ). x < n) l.1 v.from)
-leads_over n y z b f v (inr l) = (subst (λ (x : ℕ). x < n) l.0 v.from, subst (λ (x : ℕ). x < n) l.1 v.to)
+leads_over n y z b f v (inl l) = (subst (λ (x : ℕ). x < n) l.0 v.from, subst (λ (x : ℕ). x < n) l.1 v.to)
+leads_over n y z b f v (inr l) = (subst (λ (x : ℕ). x < n) l.0 v.to, subst (λ (x : ℕ). x < n) l.1 v.from)
 
 leads_within : (m : Market) (a : Activation) (y z : ℕ) → IsValid m → Leads m a y z → (y < m.zones) × (z < m.zones)
 leads_within m a y z v l = AnyZip-of (IsValidBorder m.zones) (LeadsBy y z) ((y < m.zones) × (z < m.zones)) (λ b f p k. leads_over m.zones y z b f p k) m.borders a.flow v.borders l
@@ -61,7 +61,7 @@ bounds_priced end m a bounds xs v e = All-from_get_or IsPrice bounds (pos 0) (λ
 pub least_value : (m : Market) (a : Activation) (bounds : List ℤ) (xs : List (Option SettledZone)) (ps : List Cents) → IsValid m → IsFeasible m a → IsEnd Least m a bounds xs → KeepsAll m a ps → (z : ℕ) (s : SettledZone) → entry_at xs z ≡ Some s → s.value ≤ℤ price_at ps z
 least_value m a bounds xs ps v f e k z s h = spread_least (LeadsTo Rising m.borders a.flow) (value_in bounds) (price_at ps) xs e.spread.spreading
     (λ y l. let there : y < m.zones = omega (arith, l, e.one_each) in k.lower y (value_in bounds y) there (lower_from m a y (value_in bounds y) v f (e.tightest y there).bound))
-    (λ x y l. let r = rising_from m a x y l in let w = leads_within m a x y v r in k.rises x y w.0 w.1 r) z s h
+    (λ x y l. let w = leads_within m a x y v l in k.rises x y w.0 w.1 l) z s h
 
 pub greatest_value : (m : Market) (a : Activation) (bounds : List ℤ) (xs : List (Option SettledZone)) (ps : List Cents) → IsValid m → IsFeasible m a → IsEnd Greatest m a bounds xs → KeepsAll m a ps → (z : ℕ) (s : SettledZone) → entry_at xs z ≡ Some s → s.value ≤ℤ neg_ℤ (price_at ps z)
 greatest_value m a bounds xs ps v f e k z s h = spread_least (LeadsTo Falling m.borders a.flow) (value_in bounds) (λ y. neg_ℤ (price_at ps y)) xs e.spread.spreading
@@ -95,7 +95,7 @@ least_keeps m a bounds uppers xs ys ps v f e g fit p =
           let t = entry z k in
           let at : price_at ps y ≡ s.0.value = p.each y s.0 s.1 in
           let to : price_at ps z ≡ t.0.value = p.each z t.0 t.1 in
-          omega (arith, ints, e.spread.spreading.rises y z s.0 t.0 s.1 t.1 (rising_spreads m a y z h));
+          omega (arith, ints, e.spread.spreading.rises y z s.0 t.0 s.1 t.1 h);
     }
 
 pub greatest_keeps : (m : Market) (a : Activation) (uppers : List ℤ) (ys : List (Option SettledZone)) (ps qs : List Cents) → IsValid m → IsFeasible m a → IsEnd Greatest m a uppers ys → KeepsAll m a ps → ArePricesOf Greatest ys qs → KeepsAll m a qs
@@ -191,7 +191,7 @@ carries m a bounds xs z (y ∷ ys) s e f k =
     let after = after_of (LeadsTo Rising m.borders a.flow) (value_in bounds) xs y z b.entry b.previous (e.spread.spreading.source y b.entry b.settled) in
     let more = carries m a bounds xs y ys b.entry e f.1 b.settled in
     record {
-      chain = (rising_from m a z y after.0, more.chain);
+      chain = (after.0, more.chain);
       there = All-cons (λ (x : ℕ). x < length xs) z (y ∷ ys) (entry_within xs z s k) more.there;
       value = λ t l. more.value t l ∙ after.1 s k;
     }

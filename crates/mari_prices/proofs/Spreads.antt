@@ -22,7 +22,7 @@ use Rattle.mari_market.specs.Sums.{AnyZip}
 use Rattle.mari_market.proofs.Sums.{AllZip-with, AllZip-both}
 use Rattle.mari_prices.specs.declared.bounds.End.{End}
 use Rattle.mari_prices.specs.declared.bounds.End.TheVariants.{Least, Greatest}
-use Rattle.mari_market.specs.declared.along.Along.TheVariants.{Rising, Falling}
+use Rattle.mari_market.specs.declared.along.Along.TheVariants.{Falling}
 use Rattle.mari_market.specs.Along.{LeadsOver, LeadsTo}
 use Rattle.mari_prices.specs.Tightest.{signed, SetsAt, IsBoundBy}
 use Rattle.mari_market.specs.Consistent.{own_standing}
@@ -85,27 +85,13 @@ upper_from m a z c v f (inr s) = inr (AnyZip-with (OneStanding m a) (SetsAt Grea
 
 -- ---- comparisons
 
-rising_by : (y z : ℕ) (b : Border) (f : ℤ) → LeadsBy y z b f → LeadsOver Rising y z b f
-rising_by y z b f (inl l) = inr l
-rising_by y z b f (inr l) = inl l
-
-rising_over : (y z : ℕ) (b : Border) (f : ℤ) → LeadsOver Rising y z b f → LeadsBy y z b f
-rising_over y z b f (inl l) = inr l
-rising_over y z b f (inr l) = inl l
-
 falling_by : (y z : ℕ) (b : Border) (f : ℤ) → LeadsBy y z b f → LeadsOver Falling z y b f
-falling_by y z b f (inl l) = inl (l.1, l.0, l.2)
-falling_by y z b f (inr l) = inr (l.1, l.0, l.2)
+falling_by y z b f (inl l) = inr (l.1, l.0, l.2)
+falling_by y z b f (inr l) = inl (l.1, l.0, l.2)
 
 falling_over : (y z : ℕ) (b : Border) (f : ℤ) → LeadsOver Falling z y b f → LeadsBy y z b f
-falling_over y z b f (inl l) = inl (l.1, l.0, l.2)
-falling_over y z b f (inr l) = inr (l.1, l.0, l.2)
-
-pub rising_spreads : (m : Market) (a : Activation) (y z : ℕ) → Leads m a y z → LeadsTo Rising m.borders a.flow y z
-rising_spreads m a y z l = AnyZip-map (LeadsBy y z) (LeadsOver Rising y z) (rising_by y z) m.borders a.flow l
-
-pub rising_from : (m : Market) (a : Activation) (y z : ℕ) → LeadsTo Rising m.borders a.flow y z → Leads m a y z
-rising_from m a y z l = AnyZip-map (LeadsOver Rising y z) (LeadsBy y z) (rising_over y z) m.borders a.flow l
+falling_over y z b f (inl l) = inr (l.1, l.0, l.2)
+falling_over y z b f (inr l) = inl (l.1, l.0, l.2)
 
 pub falling_spreads : (m : Market) (a : Activation) (y z : ℕ) → Leads m a y z → LeadsTo Falling m.borders a.flow z y
 falling_spreads m a y z l = AnyZip-map (LeadsBy y z) (LeadsOver Falling z y) (falling_by y z) m.borders a.flow l

@@ -1,5 +1,5 @@
 -- The tests of a chain and of the two price bounds against the definition of a contradiction.
-use Rattle.std.proofs.Common.{◌≡◌, Bool, true, false, ℕ, ◌<◌, ◌≤◌, ℤ, ◌<ℤ◌, List, [], ◌∷◌, length, Option, Some, None, arith, subst, refl, sym, ap, ◌∙◌}
+use Rattle.std.proofs.Common.{◌≡◌, Bool, true, false, ℕ, ◌<◌, ◌≤◌, ℤ, ◌<ℤ◌, List, length, Option, Some, None, arith, subst, refl, sym, ap, ◌∙◌}
 use Rattle.std.specs.Prelude.{if◌then◌else◌, IsTrue, ◌↔◌, MatchOption}
 use Rattle.std.proofs.lemmas.Int.{ints}
 use Rattle.mari_market.specs.declared.market.Order.{Order}
@@ -12,7 +12,7 @@ use Rattle.mari_market.specs.declared.certificate.Conflict.{Conflict as Conflict
 use Rattle.mari_market.specs.Activation.{is_open, gate_word_of}
 use Rattle.mari_market.specs.Bounds.{Span, GateState, span_of, gated_span, own_bounds}
 use Rattle.mari_market.specs.Bounds.GateState.{Open, Closed, Free}
-use Rattle.mari_market.specs.Conflict.{IsChain, Contradicts, IsConflict}
+use Rattle.mari_market.specs.Conflict.{IsChain, Contradicts, IsConflict, IsContradictoryChain, IsChainOf}
 use Rattle.mari_market.specs.Dual.{IsTight, IsTightOrder, IsTightTrade}
 use Rattle.mari_market.specs.Market.{IsValid, IsValidOrder, GateFits}
 use Rattle.mari_market.specs.Prefix.{word_of, bit_of, state_of, decided, bounds_at}
@@ -21,22 +21,13 @@ use Rattle.mari_market.proofs.Search.{parents_earlier}
 use Rattle.mari_market.proofs.Sums.{AllZip-both, AllZip-with}
 use Rattle.mari_gates.proofs.Decisions.{opens-decisions}
 use Rattle.mari_gates.proofs.GateTable.{state_decided}
-use Rattle.mari_proofs.specs.Conflicts.{decides, IsOfWord, IsGreatestLower, IsLeastUpper, LeadsOn, AreTightPotentials, IsRefutation}
+use Rattle.mari_proofs.specs.Conflicts.{decides, IsOfWord, IsGreatestLower, IsLeastUpper, AreTightPotentials}
 use Rattle.mari_proofs.proofs.GateWords.{opens_as_decided, open_at, length_of_word}
 
-to_chain : (m : Market) (a : Activation) (z : ℕ) (zs : List ℕ) → LeadsOn m.borders a.flow z zs → IsChain m a z zs
-to_chain m a z [] l = tt
-to_chain m a z (y ∷ ys) l = (l.0, to_chain m a y ys l.1)
-
-from_chain : (m : Market) (a : Activation) (z : ℕ) (zs : List ℕ) → IsChain m a z zs → LeadsOn m.borders a.flow z zs
-from_chain m a z [] l = tt
-from_chain m a z (y ∷ ys) l = (l.0, from_chain m a y ys l.1)
-
 -- the test of a chain
-pub chain_test : (m : Market) (a : Activation) (bs : List Border) (fs : List ℤ) (z : ℕ) (zs : List ℕ) (answer : Bool) → bs ≡ m.borders → fs ≡ a.flow → (IsTrue answer ↔ LeadsOn bs fs z zs) → IsTrue answer ↔ IsChain m a z zs
+pub chain_test : (m : Market) (a : Activation) (bs : List Border) (fs : List ℤ) (z : ℕ) (zs : List ℕ) (answer : Bool) → bs ≡ m.borders → fs ≡ a.flow → (IsTrue answer ↔ IsChainOf bs fs z zs) → IsTrue answer ↔ IsChain m a z zs
 chain_test m a bs fs z zs answer same_bs same_fs t =
-    let own : IsTrue answer ↔ LeadsOn m.borders a.flow z zs = subst (λ (xs : List ℤ). IsTrue answer ↔ LeadsOn m.borders xs z zs) same_fs (subst (λ (xs : List Border). IsTrue answer ↔ LeadsOn xs fs z zs) same_bs t) in
-    (λ yes. to_chain m a z zs (own.0 yes), λ c. own.1 (from_chain m a z zs c))
+    subst (λ (xs : List ℤ). IsTrue answer ↔ IsChainOf m.borders xs z zs) same_fs (subst (λ (xs : List Border). IsTrue answer ↔ IsChainOf xs fs z zs) same_bs t)
 
 bounds_test : (m : Market) (a : Activation) (first last : ℕ) (upper lower : ℤ) (answer : Bool) → IsLeastUpper (is_open m a) last m.orders a.mw upper → IsGreatestLower (is_open m a) first m.orders a.mw lower → (IsTrue answer ↔ (upper <ℤ lower)) → IsTrue answer ↔ Contradicts m a first last
 bounds_test m a first last upper lower answer u l t = (
@@ -88,9 +79,9 @@ tight_test f m x a ps answer v w e prices t = (
 )
 
 -- the parts of a conflict
-pub conflict_test : (m : Market) (x : Prefix) (k : ConflictRecord) (ps : List Cents) (zs : List ℕ) (answer : Bool) → ps ≡ k.potentials.cents → zs ≡ k.chain → IsOfWord m x k.activation → AreTightPotentials m k.activation ps → (IsTrue answer ↔ IsRefutation m k.activation zs) → IsTrue answer ↔ IsConflict m (word_of x) k
+pub conflict_test : (m : Market) (x : Prefix) (k : ConflictRecord) (ps : List Cents) (zs : List ℕ) (answer : Bool) → ps ≡ k.potentials.cents → zs ≡ k.chain → IsOfWord m x k.activation → AreTightPotentials m k.activation ps → (IsTrue answer ↔ IsContradictoryChain m k.activation zs) → IsTrue answer ↔ IsConflict m (word_of x) k
 conflict_test m x k ps zs answer same_ps same_zs w p t =
-    let own : IsTrue answer ↔ IsRefutation m k.activation k.chain = subst (λ (ys : List ℕ). IsTrue answer ↔ IsRefutation m k.activation ys) same_zs t in
+    let own : IsTrue answer ↔ IsContradictoryChain m k.activation k.chain = subst (λ (ys : List ℕ). IsTrue answer ↔ IsContradictoryChain m k.activation ys) same_zs t in
     let tight : AreTightPotentials m k.activation k.potentials.cents = subst (λ (qs : List Cents). AreTightPotentials m k.activation qs) same_ps p in (
       λ yes. let r = own.0 yes in record { gates = w.gates; feasible = w.feasible; prices = tight.prices; tight = tight.tight; short = r.short; zones = r.zones; chain = r.chain },
       λ c. own.1 (record { short = c.short; zones = c.zones; chain = c.chain }),

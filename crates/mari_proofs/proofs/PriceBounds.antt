@@ -2,8 +2,8 @@
 use Rattle.std.proofs.Common.{◌≡◌, ◌⊎◌, ℕ, ◌+◌, ◌<◌, Bool, ℤ, ◌≤ℤ◌, List, length, take, get_or, arith, subst, sym, inl, inr}
 use Rattle.std.proofs.lemmas.Int.{ints}
 use Rattle.mari_market.specs.declared.market.Order.{Order}
-use Rattle.mari_market.specs.Consistent.{SetsLowerAt, SetsUpperAt}
-use Rattle.mari_proofs.specs.Conflicts.{IsLowerOf, IsUpperOf, IsGreatestLower, IsLeastUpper}
+use Rattle.mari_market.specs.Consistent.{SetsLowerAt, SetsUpperAt, IsLowerOf, IsUpperOf}
+use Rattle.mari_proofs.specs.Conflicts.{IsGreatestLower, IsLeastUpper}
 use Rattle.mari_market.proofs.Sums.{AnyZip_cases, AnyZip_kept, AnyZip_new}
 
 -- a loop's step

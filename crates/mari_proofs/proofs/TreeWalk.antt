@@ -8,10 +8,9 @@ use Rattle.mari_market.specs.declared.prefix.Prefix.{Prefix}
 use Rattle.mari_market.specs.declared.certificate.Leaf.{Leaf as LeafRecord}
 use Rattle.mari_market.specs.declared.certificate.TreeItem.{TreeItem}
 use Rattle.mari_market.specs.declared.certificate.TreeItem.TheVariants.{Branch, Leaf}
-use Rattle.mari_market.specs.Prefix.{word_of, children, IsFeasibleWord, IsFeasiblePrefix}
+use Rattle.mari_market.specs.Prefix.{word_of, children, IsFeasibleWord, IsFeasiblePrefix, IsCleared}
 use Rattle.mari_market.specs.Tree.{AreParts}
 use Rattle.mari_market.proofs.Prefixes.{closed_child}
-use Rattle.mari_gates.specs.Prefixes.{IsCleared}
 use Rattle.mari_gates.proofs.Decisions.{length-decisions}
 use Rattle.mari_proofs.specs.declared.trees.TreeVerdict.{TreeVerdict}
 use Rattle.mari_proofs.specs.declared.trees.TreeVerdict.TheVariants.{Holds, BadShape, BadLeaf}

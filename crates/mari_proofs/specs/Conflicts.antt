@@ -1,21 +1,17 @@
 -- The parts of a conflict, as the test goes through them.
-use Rattle.std.specs.Prelude.{◌≡◌, ◌⊎◌, ⊤, Bool, ℕ, ◌<◌, ◌≤◌, nat_lt, ℤ, neg_ℤ, ◌≤ℤ◌, List, [], ◌∷◌, length, Option, Some, None, IfSome}
-use Rattle.std.specs.List.{All}
+use Rattle.std.specs.Prelude.{◌≡◌, ⊤, Bool, ℕ, ◌<◌, ◌≤◌, nat_lt, ℤ, ◌≤ℤ◌, List, Option, Some, None, IfSome}
 use Rattle.mari_units.specs.declared.Cents.{Cents}
 use Rattle.mari_market.specs.declared.market.Order.{Order}
-use Rattle.mari_market.specs.declared.market.Border.{Border}
 use Rattle.mari_market.specs.declared.market.Market.{Market}
 use Rattle.mari_market.specs.declared.activation.Activation.{Activation}
 use Rattle.mari_market.specs.declared.prefix.Prefix.{Prefix}
 use Rattle.mari_market.specs.Activation.{gate_word_of}
 use Rattle.mari_market.specs.Bounds.{own_bounds}
-use Rattle.mari_market.specs.Conflict.{IsContradiction}
-use Rattle.mari_market.specs.Consistent.{LeadsBy, SetsLowerAt, SetsUpperAt}
+use Rattle.mari_market.specs.Consistent.{IsLowerOf, IsUpperOf}
 use Rattle.mari_market.specs.Dual.{IsTight}
 use Rattle.mari_market.specs.Optimal.{IsFeasible}
 use Rattle.mari_market.specs.Prefix.{word_of, opens_in}
-use Rattle.mari_market.specs.Price.{cap, ArePrices}
-use Rattle.mari_market.specs.Sums.{AnyZip}
+use Rattle.mari_market.specs.Price.{ArePrices}
 
 -- whether the prefix decides the gate as open
 abbrev pub decides : Prefix → ℕ → Bool
@@ -40,20 +36,6 @@ pub record AreTightPotentials (m : Market) (a : Activation) (ps : List Cents) : 
   pub prices : ArePrices m ps
   pub tight : IsTight (own_bounds m a) m a ps
 
--- a chain of zones that are there, no more than there are, that is a contradiction
-pub record IsRefutation (m : Market) (a : Activation) (zs : List ℕ) : Type 0 where
-  pub short : length zs ≤ m.zones
-  pub zones : All (λ z. z < m.zones) zs
-  pub chain : IsContradiction m a zs
-
--- c is the negative of the cap, or a lower bound that one of the orders sets
-abbrev pub IsLowerOf : (ℕ → Bool) → ℕ → List Order → List ℕ → ℤ → Type 0
-IsLowerOf opens z os qs c = (c ≡ neg_ℤ cap) ⊎ AnyZip (SetsLowerAt opens z c) os qs
-
--- c is the cap, or an upper bound that one of the orders sets
-abbrev pub IsUpperOf : (ℕ → Bool) → ℕ → List Order → List ℕ → ℤ → Type 0
-IsUpperOf opens z os qs c = (c ≡ cap) ⊎ AnyZip (SetsUpperAt opens z c) os qs
-
 -- the greatest lower bound
 pub record IsGreatestLower (opens : ℕ → Bool) (z : ℕ) (os : List Order) (qs : List ℕ) (c : ℤ) : Type 0 where
   pub reached : IsLowerOf opens z os qs c
@@ -63,8 +45,3 @@ pub record IsGreatestLower (opens : ℕ → Bool) (z : ℕ) (os : List Order) (q
 pub record IsLeastUpper (opens : ℕ → Bool) (z : ℕ) (os : List Order) (qs : List ℕ) (c : ℤ) : Type 0 where
   pub reached : IsUpperOf opens z os qs c
   pub least : (d : ℤ) → IsUpperOf opens z os qs d → c ≤ℤ d
-
--- from each zone to the next some border leads
-abbrev pub LeadsOn : List Border → List ℤ → ℕ → List ℕ → Type 0
-LeadsOn bs fs z [] = ⊤
-LeadsOn bs fs z (y ∷ ys) = AnyZip (LeadsBy z y) bs fs × LeadsOn bs fs y ys

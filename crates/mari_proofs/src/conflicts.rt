@@ -3,13 +3,13 @@
 ghost use Rattle.std.specs.Prelude.{◌≡◌, ◌⊎◌, ◌↔◌, ℤ, ◌≤ℤ◌, ◌<ℤ◌, ◌≤◌, ◌<◌, length, IsTrue};
 ghost use Rattle.std.specs.List.{All, AllZip};
 ghost use Rattle.mari_market.specs.Activation.{gate_word_of};
-ghost use Rattle.mari_market.specs.Conflict.{IsConflict, IsContradiction, IsChain, Contradicts, last_of};
+ghost use Rattle.mari_market.specs.Conflict.{IsConflict, IsContradiction, IsChain, Contradicts, last_of, IsContradictoryChain, IsChainOf};
 ghost use Rattle.mari_market.specs.Consistent.{LeadsBy, SetsLowerAt, SetsUpperAt, standing_of};
 ghost use Rattle.mari_market.specs.Market.{IsValid, IsValidOrder};
 ghost use Rattle.mari_market.specs.Optimal.{IsFeasible};
 ghost use Rattle.mari_market.specs.Prefix.{word_of, IsFeasiblePrefix};
 ghost use Rattle.mari_market.specs.Sums.{AnyZip};
-ghost use Rattle.mari_proofs.specs.Conflicts.{decides, HasDecidedGate, RunsAsDecided, IsOfWord, AreTightPotentials, IsRefutation, IsGreatestLower, IsLeastUpper, LeadsOn};
+ghost use Rattle.mari_proofs.specs.Conflicts.{decides, HasDecidedGate, RunsAsDecided, IsOfWord, AreTightPotentials, IsGreatestLower, IsLeastUpper};
 
 use crate::tightness::is_tight;
 use mari_gates::{opens, states_at};
@@ -82,7 +82,7 @@ fn leads(borders: &[Border], flow: &[i64], first: u32, second: u32) -> bool
 /// Whether some border leads from each zone of a chain to the next.
 fn leads_on(borders: &[Border], flow: &[i64], first: u32, rest: &[u32]) -> bool
     requires { length flow.now ≡ length borders.now }
-    ensures { IsTrue result ↔ LeadsOn borders.now flow.now first rest.now }
+    ensures { IsTrue result ↔ IsChainOf borders.now flow.now first rest.now }
 {
     let mut from = first;
     for to in rest {
@@ -270,7 +270,7 @@ fn are_zones(chain: &[u32], count: u32) -> bool
 fn is_refutation(market: &Market, prefix: &Prefix, activation: &Activation, chain: &[u32]) -> bool
     requires market { IsValid market.now }
     requires activation { IsOfWord market.now prefix.now activation.now }
-    ensures { IsTrue result ↔ IsRefutation market.now activation.now chain.now }
+    ensures { IsTrue result ↔ IsContradictoryChain market.now activation.now chain.now }
 {
     chain.len() <= market.zones as usize
         && are_zones(chain, market.zones)

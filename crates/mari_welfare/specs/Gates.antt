@@ -1,28 +1,13 @@
 -- Gates, as the tests go through them.
-use Rattle.std.specs.Prelude.{◌≡◌, ◌≢◌, if◌then◌else◌, Bool, true, false, ℕ, ◌<◌, List, Option, Some, IfSome, slice_index_or}
+use Rattle.std.specs.Prelude.{◌≡◌, ◌≢◌, Bool, true, ℕ, ◌<◌, List, Option, Some, IfSome}
 use Rattle.mari_units.specs.declared.limits.TheConstants.{MOST_GATES}
 use Rattle.mari_market.specs.declared.market.GateInfo.{GateInfo}
 use Rattle.mari_market.specs.declared.market.Order.{Order}
-use Rattle.mari_market.specs.Activation.{runs_gate}
-use Rattle.mari_market.specs.Bounds.{Span, span_in}
-use Rattle.mari_market.specs.Bounds.GateState.{Open, Closed}
 use Rattle.mari_market.specs.Gates.{group_of, parent_of}
-
--- whether what the orders run opens the gate
-abbrev pub opens_by : List Order → List ℕ → ℕ → Bool
-opens_by os qs g = runs_gate g os qs
-
--- whether a table says that the gate is open
-abbrev pub opens_in : List Bool → ℕ → Bool
-opens_in table g = slice_index_or table g false
 
 -- the order's gate, if it has one, is one of the most there may be
 abbrev pub IsOfFewGates : Order → Type 0
 IsOfFewGates o = IfSome o.gate (λ g. g < MOST_GATES)
-
--- an order's bounds where each gate is open or closed as said
-abbrev pub bounds_by : (ℕ → Bool) → Order → Span
-bounds_by opens = span_in (λ g. if opens g then Open else Closed)
 
 -- the gate's parent, if it has one, is open
 abbrev pub HasOpenParent : (ℕ → Bool) → Option ℕ → Type 0

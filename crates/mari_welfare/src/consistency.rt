@@ -6,7 +6,7 @@ ghost use Rattle.mari_market.specs.Consistent.{HasRoomBack, HasRoomOn, IsConsist
 ghost use Rattle.mari_market.specs.Market.{IsValid, IsValidBorder, IsValidOrder};
 ghost use Rattle.mari_market.specs.Optimal.{IsConsistent};
 ghost use Rattle.mari_market.specs.Price.{price_at};
-ghost use Rattle.mari_welfare.specs.Gates.{opens_in};
+ghost use Rattle.mari_market.specs.Prefix.{opens_in};
 ghost use Rattle.mari_welfare.specs.Parts.{HasLengths, OrdersAndBordersAgree};
 
 use crate::feasibility::has_lengths;

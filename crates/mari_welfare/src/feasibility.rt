@@ -3,11 +3,11 @@
 ghost use Rattle.std.specs.Prelude.{◌≡◌, ◌==◌, ◌<◌, ◌≤◌, ◌^◌, if◌then◌else◌, length, ℕ, ℤ, pos, ◌+◌, ◌+ℤ◌, ◌-ℤ◌, unsigned_abs, IsTrue, ◌↔◌};
 ghost use Rattle.std.specs.List.{All, AllZip};
 ghost use Rattle.mari_market.specs.Activation.{IsWithinLimits, carried_out, put_in, put_into};
-ghost use Rattle.mari_market.specs.Bounds.{IsWithin};
+ghost use Rattle.mari_market.specs.Bounds.{IsWithin, bounds_by};
 ghost use Rattle.mari_market.specs.Market.{IsValid};
 ghost use Rattle.mari_market.specs.Optimal.{IsFeasible};
 ghost use Rattle.mari_market.specs.Sums.{sum_along};
-ghost use Rattle.mari_welfare.specs.Gates.{bounds_by, opens_in};
+ghost use Rattle.mari_market.specs.Prefix.{opens_in};
 ghost use Rattle.mari_welfare.specs.Balance.{left_in};
 ghost use Rattle.mari_welfare.specs.Parts.{HasLengths, OrdersAndGatesFit, BordersAndZonesFit};
 

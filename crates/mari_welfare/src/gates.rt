@@ -2,9 +2,11 @@
 
 ghost use Rattle.std.specs.Prelude.{◌≡◌, ◌||◌, ◌<◌, ◌≤◌, ℕ, false, length, IsTrue, IfSome, ◌↔◌};
 ghost use Rattle.std.specs.List.{All};
+ghost use Rattle.mari_market.specs.Activation.{runs_gate};
 ghost use Rattle.mari_market.specs.GateRuns.{is_run_of};
 ghost use Rattle.mari_market.specs.Gates.{KeepsGateRules, group_of as group_of_gate, parent_of as parent_of_gate};
-ghost use Rattle.mari_welfare.specs.Gates.{HasOpenParent, IsAlone, IsAloneIn, IsRival, IsOfFewGates, KeepsRulesAt, opens_by, opens_in};
+ghost use Rattle.mari_welfare.specs.Gates.{HasOpenParent, IsAlone, IsAloneIn, IsRival, IsOfFewGates, KeepsRulesAt};
+ghost use Rattle.mari_market.specs.Prefix.{opens_in};
 
 use mari_market::{GateInfo, Order};
 use mari_units::MOST_GATES;
@@ -51,7 +53,7 @@ impl OpenGates {
     pub(crate) fn of(orders: &[Order], mw: &[u32]) -> OpenGates
         requires lengths { length mw.now ≡ length orders.now }
         requires gates { All IsOfFewGates orders.now }
-        ensures { opens_in result ≡ opens_by orders.now mw.now }
+        ensures { opens_in result ≡ (λ g. runs_gate g orders.now mw.now) }
     {
         let mut opened = OpenGates::none();
         for (i, order) in orders.iter().enumerate() {

@@ -30,7 +30,7 @@ use Rattle.mari_market.specs.Dual.{IsTightOrder, IsTightTrade}
 use Rattle.mari_market.specs.Finding.{IsAttained, IsFinding, IsRefuted, IsRelaxedFinding, IsSettled}
 use Rattle.mari_market.specs.Market.{IsValid, IsValidOrder}
 use Rattle.mari_market.specs.Optimal.{IsAdmissible}
-use Rattle.mari_market.specs.Prefix.{bit_of, bounds_of_word, decided, opens_in, state_of, undecided, word_of, IsFeasiblePrefix, IsFeasibleWord}
+use Rattle.mari_market.specs.Prefix.{bit_of, bounds_of_word, decided, opens_in, state_of, undecided, word_of, IsFeasiblePrefix, IsFeasibleWord, IsCleared}
 use Rattle.mari_market.specs.Price.{price_at}
 use Rattle.mari_market.specs.Relaxation.{all_closed, IsClosedWelfare, IsRelaxedWelfare, IsWithinBounds}
 use Rattle.mari_market.specs.Sums.{sum_along}
@@ -41,7 +41,6 @@ use Rattle.mari_market.proofs.Prefixes.{state_rule}
 use Rattle.mari_market.proofs.Search.{parents_earlier}
 use Rattle.mari_market.proofs.Sums.{AllZip-both, AllZip-with}
 use Rattle.mari_market.proofs.Words.{begins_get, begins_own, Begins}
-use Rattle.mari_gates.specs.Prefixes.{IsCleared}
 
 -- ---- the closed word
 

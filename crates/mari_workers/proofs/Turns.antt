@@ -11,11 +11,10 @@ use Rattle.mari_market.specs.declared.market.Market.{Market}
 use Rattle.mari_market.specs.declared.prefix.Prefix.{Prefix}
 use Rattle.mari_market.specs.Activation.{gate_word_of}
 use Rattle.mari_market.specs.Market.{IsValid}
-use Rattle.mari_market.specs.Prefix.{word_of, children, IsFeasiblePrefix, IsFeasibleWord}
+use Rattle.mari_market.specs.Prefix.{word_of, children, IsFeasiblePrefix, IsFeasibleWord, IsCleared}
 use Rattle.mari_market.specs.Relaxation.{all_closed}
 use Rattle.mari_market.specs.Tree.{AreParts, LeafHolds, LeafHoldsFor}
 use Rattle.mari_market.proofs.Prefixes.{closed_child}
-use Rattle.mari_gates.specs.Prefixes.{IsCleared}
 use Rattle.mari_gates.specs.Preorder.{left_at, waiting_after}
 use Rattle.mari_gates.proofs.Decisions.{length-decisions}
 use Rattle.mari_proofs.specs.Places.{LeavesWords}

@@ -1,11 +1,10 @@
 //! The best activation with every gate closed, from which a search starts.
 
 ghost use Rattle.std.specs.Prelude.{◌≡◌, ◌≤◌, ℤ, pos, length, IfOk};
-ghost use Rattle.mari_gates.specs.Prefixes.{IsCleared};
 ghost use Rattle.mari_market.specs.Activation.{gate_word_of};
 ghost use Rattle.mari_market.specs.Finding.{IsAttained};
 ghost use Rattle.mari_market.specs.Market.{IsValid};
-ghost use Rattle.mari_market.specs.Prefix.{word_of};
+ghost use Rattle.mari_market.specs.Prefix.{word_of, IsCleared};
 ghost use Rattle.mari_market.specs.Relaxation.{all_closed, IsClosedWelfare};
 
 use mari_gates::empty_prefix;

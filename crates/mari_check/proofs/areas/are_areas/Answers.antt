@@ -6,8 +6,8 @@ use Rattle.std.proofs.lemmas.List.FromFn.{length-range_with_len}
 use Rattle.std.proofs.lemmas.List.Elements.{All-from_get_or, All-weaker}
 use Rattle.std.proofs.lemmas.Slice.Zip.{AllZip-long}
 use Rattle.mari_market.specs.declared.market.Border.{Border}
-use Rattle.mari_market.specs.Market.{IsValidBorder}
-use Rattle.mari_check.specs.Spread.{IsAmong, IsSpread, most_value}
+use Rattle.mari_market.specs.Market.{IsValidBorder, IsBetween}
+use Rattle.mari_check.specs.Spread.{IsSpread, most_value}
 use Rattle.mari_market.specs.Along.{LeadsTo}
 use Rattle.mari_market.specs.declared.along.Along.TheVariants.{Joined}
 use Rattle.mari_check.proofs.Labels.{areas-by-labels, labels-by-areas, numbered-areas, place-at}
@@ -26,7 +26,7 @@ pub spread-labels-requires-clause-ends : goal.spread-labels-requires-clause-ends
 spread-labels-requires-clause-ends c =
     let m = c.args.market.now in
     let long : length c.in_ok-places.places.items ≡ m.zones = ap length c.in_ok-places.ensures ∙ length-range_with_len 0 m.zones in
-    rw c.as_slice-borders.ensures (All-weaker (IsValidBorder m.zones) (IsAmong (length c.in_ok-places.places.items)) (λ b v. (omega (arith, long, v.from), omega (arith, long, v.to))) m.borders c.requires.valid.borders)
+    rw c.as_slice-borders.ensures (All-weaker (IsValidBorder m.zones) (IsBetween (length c.in_ok-places.places.items)) (λ b v. (omega (arith, long, v.from), omega (arith, long, v.to))) m.borders c.requires.valid.borders)
 
 pub spread-labels-requires-clause-small : goal.spread-labels-requires-clause-small
 spread-labels-requires-clause-small c =

@@ -15,10 +15,10 @@ returns c =
     let answer : IsAnswer (bounds_at c.args.market.now c.args.prefix.now) c.args.market.now c.solve_slots.result = c.solve_slots.ensures (bounds_at c.args.market.now c.args.prefix.now) made in
     record {
       within = solution_says spans m _ (λ s a. a.within) c.solve_slots.result answer;
-      relaxed = solution_says spans m _ (λ s a. record { reached = a.relaxed.reached; greatest = a.relaxed.greatest }) c.solve_slots.result answer;
+      relaxed = solution_says spans m _ (λ s a. a.relaxed) c.solve_slots.result answer;
       dual = solution_says spans m _ (λ s a. a.dual) c.solve_slots.result answer;
       tight = solution_says spans m _ (λ s a. a.tight) c.solve_slots.result answer;
-      potentials = solution_says spans m _ (λ s a. a.capped) c.solve_slots.result answer;
+      potentials = solution_says spans m _ (λ s a. a.potentials) c.solve_slots.result answer;
       stated = solution_says spans m _ (λ s a. a.stated) c.solve_slots.result answer;
       cut = cut_says spans m _ (λ cut a. a) c.solve_slots.result answer;
       empty = cut_says spans m _ (λ (cut : CutRecord) a. λ b w. cut_is_empty spans m b cut.side cut.zones c.requires.market w a.side) c.solve_slots.result answer;

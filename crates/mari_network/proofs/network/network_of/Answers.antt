@@ -1,7 +1,7 @@
 use Rattle.std.proofs.Common.{◌<◌, ℕ, List, length, sym, ◌∙◌, subst, arith, get_or}
 use Rattle.std.specs.List.{All}
 use Rattle.mari_market.specs.declared.market.Border.{Border}
-use Rattle.mari_network.specs.Network.{IsBetween}
+use Rattle.mari_market.specs.Market.{IsBetween}
 use Rattle.mari_network.proofs.network.network_of.Goals as goal
 
 pub returns-clause-network : goal.returns-clause-network

@@ -3,7 +3,7 @@ use Rattle.std.proofs.lemmas.Int.{ints}
 use Rattle.mari_network.specs.declared.chain.Hop.{Hop}
 use Rattle.mari_network.specs.Slots.{no_slot, slot_at, zone_of, price_of, amount_at, IsSmallSlot}
 use Rattle.std.specs.List.{All}
-use Rattle.mari_network.specs.Network.{IsBetween}
+use Rattle.mari_market.specs.Market.{IsBetween}
 use Rattle.mari_network.specs.Chain.{hop_at}
 use Rattle.mari_network.specs.Margins.{IsDearestOf, IsDearest, NoneLess, IsCheaper, NoneCheaper}
 use Rattle.mari_network.proofs.Lists.{all_zip}

@@ -1,9 +1,8 @@
 use Rattle.std.proofs.Common.{Bool, List, [], ◌∷◌, ◌++◌, arith, ap, refl, sym, ◌∙◌, length, subst}
 use Rattle.std.proofs.lemmas.Bool.{false≢true}
-use Rattle.mari_market.specs.Prefix.{word_of, IsFeasibleWord}
+use Rattle.mari_market.specs.Prefix.{word_of, IsFeasibleWord, opens_in}
 use Rattle.mari_market.proofs.Prefixes.{closed_child}
 use Rattle.mari_market.proofs.Words.{Begins, begins_push}
-use Rattle.mari_welfare.specs.Gates.{opens_in}
 use Rattle.mari_node.proofs.Running.{decided_length, keeps_by_word, no_more}
 use Rattle.mari_node.proofs.gates.keep_rules.Goals as goal
 use Rattle.mari_node.proofs.gates.keep_rules.Goals.{else-runs_here-via-then-runs_here+else-not-may_branch_up, else-runs_here-via-else-runs_here}

@@ -1,7 +1,6 @@
 use Rattle.std.proofs.Common.{◌≡◌}
-use Rattle.mari_market.specs.Prefix.{word_of, IsFeasiblePrefix}
+use Rattle.mari_market.specs.Prefix.{word_of, IsFeasiblePrefix, opens_in}
 use Rattle.mari_market.proofs.Words.{Begins}
-use Rattle.mari_welfare.specs.Gates.{opens_in}
 use Rattle.mari_node.proofs.gates.keep_rules.Given as goal
 
 abbrev pub invariant-loop-gate : goal.invariant-loop-gate

@@ -1,6 +1,6 @@
 use Rattle.std.proofs.Common.{take}
 use Rattle.std.specs.List.{AllZip}
-use Rattle.mari_welfare.specs.Gates.{opens_in}
+use Rattle.mari_market.specs.Prefix.{opens_in}
 use Rattle.mari_node.specs.Running.{RunsWhereOpen}
 use Rattle.mari_node.proofs.gates.run_together.Given as goal
 

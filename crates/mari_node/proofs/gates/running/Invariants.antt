@@ -1,7 +1,7 @@
 use Rattle.std.proofs.Common.{◌≡◌, ℕ, take}
 use Rattle.std.specs.List.{AllZip}
 use Rattle.mari_market.specs.Activation.{runs_gate}
-use Rattle.mari_welfare.specs.Gates.{opens_in}
+use Rattle.mari_market.specs.Prefix.{opens_in}
 use Rattle.mari_node.specs.Running.{IsNotPartial}
 use Rattle.mari_node.proofs.gates.running.Given as goal
 

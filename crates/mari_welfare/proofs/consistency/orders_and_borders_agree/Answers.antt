@@ -1,7 +1,7 @@
 use Rattle.std.proofs.Common.{◌≡◌}
 use Rattle.std.proofs.lemmas.Bool.{both_ways}
 use Rattle.mari_market.specs.Activation.{is_open}
-use Rattle.mari_welfare.specs.Gates.{opens_in}
+use Rattle.mari_market.specs.Prefix.{opens_in}
 use Rattle.mari_welfare.proofs.Open.{few_gates}
 use Rattle.mari_welfare.proofs.consistency.orders_and_borders_agree.Goals as goal
 

@@ -3,8 +3,8 @@ use Rattle.std.specs.List.{AllZip}
 use Rattle.std.proofs.lemmas.Bool.{both_ways}
 use Rattle.mari_market.specs.declared.market.Order.{Order}
 use Rattle.mari_market.specs.Activation.{is_open}
-use Rattle.mari_market.specs.Bounds.{IsWithin}
-use Rattle.mari_welfare.specs.Gates.{bounds_by, opens_in}
+use Rattle.mari_market.specs.Bounds.{IsWithin, bounds_by}
+use Rattle.mari_market.specs.Prefix.{opens_in}
 use Rattle.mari_welfare.proofs.Open.{few_gates}
 use Rattle.mari_welfare.proofs.feasibility.orders_and_gates_fit.Goals as goal
 

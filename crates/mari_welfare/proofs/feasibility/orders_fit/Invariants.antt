@@ -1,7 +1,7 @@
 use Rattle.std.proofs.Common.{take}
 use Rattle.std.specs.List.{AllZip}
-use Rattle.mari_market.specs.Bounds.{IsWithin}
-use Rattle.mari_welfare.specs.Gates.{bounds_by, opens_in}
+use Rattle.mari_market.specs.Bounds.{IsWithin, bounds_by}
+use Rattle.mari_market.specs.Prefix.{opens_in}
 use Rattle.mari_welfare.proofs.feasibility.orders_fit.Given as goal
 
 abbrev pub invariant-loop-i : goal.invariant-loop-i

@@ -4,7 +4,8 @@ use Rattle.std.proofs.lemmas.Bool.{cases_lt}
 use Rattle.std.proofs.lemmas.Option.{slice_get_past}
 use Rattle.mari_market.specs.declared.market.GateInfo.{GateInfo}
 use Rattle.mari_market.specs.Gates.{KeepsGateRules}
-use Rattle.mari_welfare.specs.Gates.{KeepsRulesAt, opens_in}
+use Rattle.mari_welfare.specs.Gates.{KeepsRulesAt}
+use Rattle.mari_market.specs.Prefix.{opens_in}
 use Rattle.mari_welfare.proofs.gates.keep_gate_rules.Goals as goal
 
 past : (f : GateInfo → Option ℕ) (gates : List GateInfo) (g h : ℕ) → length gates ≤ g → option_and_then f (slice_get gates g) ≡ Some h → ⊥

@@ -1,5 +1,6 @@
 use Rattle.std.proofs.Common.{ℕ, ◌<◌}
-use Rattle.mari_welfare.specs.Gates.{KeepsRulesAt, opens_in}
+use Rattle.mari_welfare.specs.Gates.{KeepsRulesAt}
+use Rattle.mari_market.specs.Prefix.{opens_in}
 use Rattle.mari_welfare.proofs.gates.keep_gate_rules.Given as goal
 
 abbrev pub invariant-loop-place : goal.invariant-loop-place

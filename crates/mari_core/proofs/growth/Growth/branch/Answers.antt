@@ -1,8 +1,8 @@
 use Rattle.std.proofs.Common.{◌≡◌, ◌+◌, ◌≤◌, Bool, true, false, List, [], ◌∷◌, ◌++◌, length, arith, refl, ap, sym, subst, ◌∙◌}
-use Rattle.mari_market.specs.Prefix.{word_of}
+use Rattle.mari_market.specs.Prefix.{word_of, child_words}
 use Rattle.mari_gates.proofs.Decisions.{length-decisions}
 use Rattle.mari_core.specs.Nodes.{TreeNode, new_node}
-use Rattle.mari_core.specs.Growth.{Grown, CanBranch, children_at, child_words}
+use Rattle.mari_core.specs.Growth.{Grown, CanBranch, children_at}
 use Rattle.mari_core.proofs.Entries.{BranchKept, branch_entry, both_pushed, closed_pushed}
 use Rattle.std.specs.Bool.{then_some}
 use Rattle.mari_core.proofs.growth.Growth.branch.Goals as goal

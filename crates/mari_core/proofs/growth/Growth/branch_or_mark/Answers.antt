@@ -1,6 +1,6 @@
 use Rattle.std.proofs.Common.{◌≡◌, ◌+◌, ◌<◌, ◌≤◌, Bool, length, arith, ap, sym, ◌∙◌}
-use Rattle.mari_market.specs.Prefix.{word_of}
-use Rattle.mari_core.specs.Growth.{Grown, children_at, child_words, grown, in_journal}
+use Rattle.mari_market.specs.Prefix.{word_of, child_words}
+use Rattle.mari_core.specs.Growth.{Grown, children_at, grown, in_journal}
 use Rattle.mari_core.proofs.Entries.{settles_by_branch, settles_by_mark}
 use Rattle.mari_core.proofs.growth.Growth.branch_or_mark.Goals as goal
 use Rattle.mari_core.proofs.growth.Growth.branch_or_mark.Goals.{then-may_open, else-may_open}

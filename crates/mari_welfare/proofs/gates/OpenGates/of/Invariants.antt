@@ -1,6 +1,6 @@
 use Rattle.std.proofs.Common.{◌≡◌, ℕ, take}
 use Rattle.mari_market.specs.Activation.{runs_gate}
-use Rattle.mari_welfare.specs.Gates.{opens_in}
+use Rattle.mari_market.specs.Prefix.{opens_in}
 use Rattle.mari_welfare.proofs.gates.OpenGates.of.Given as goal
 
 abbrev pub invariant-loop-i : goal.invariant-loop-i

@@ -7,7 +7,7 @@ use Rattle.mari_market.specs.Activation.{IsWithinLimits}
 use Rattle.mari_market.specs.Optimal.{IsFeasible}
 use Rattle.mari_remain.specs.declared.books.Books.{Books}
 use Rattle.mari_remain.specs.declared.market.RunMarket.{RunMarket}
-use Rattle.mari_welfare.proofs.Sizes.{as_long, as_many}
+use Rattle.mari_market.proofs.Sizes.{as_long, as_many}
 use Rattle.mari_progress.specs.Runs.{IsMarketOf}
 use Rattle.mari_progress.proofs.Lists.{along-length}
 use Rattle.mari_day.specs.Assembled.{HasShapes, IsPriced}

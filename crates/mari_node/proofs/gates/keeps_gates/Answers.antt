@@ -3,7 +3,7 @@ use Rattle.std.proofs.Math.Path.{fun_ext}
 use Rattle.std.proofs.lemmas.Bool.{both_ways, false≢true}
 use Rattle.mari_market.specs.Activation.{is_open}
 use Rattle.mari_welfare.specs.Gates.{opens_in}
-use Rattle.mari_welfare.proofs.Sizes.{as_long}
+use Rattle.mari_market.proofs.Sizes.{as_long}
 use Rattle.mari_node.proofs.Running.{feasible_by, none_partial, run_together_of}
 use Rattle.mari_node.proofs.gates.keeps_gates.Goals as goal
 

@@ -1,65 +1,37 @@
 -- Labels that spread along uncongested borders are those of areas.
-use Rattle.std.proofs.Common.{◌≡◌, ℕ, zero, suc, ◌+◌, ◌<◌, ℤ, List, [], ◌∷◌, ◌++◌, length, arith, refl, sym, ap, subst, ◌∙◌, inl, inr}
+use Rattle.std.proofs.Common.{◌≡◌, ℕ, zero, suc, ◌+◌, ◌<◌, List, [], ◌∷◌, ◌++◌, length, arith, refl, sym, ap, subst, ◌∙◌}
 use Rattle.std.specs.Prelude.{slice_index}
 use Rattle.std.specs.List.{range_with_len}
 use Rattle.mari_market.specs.declared.activation.Activation.{Activation}
-use Rattle.mari_market.specs.declared.market.Border.{Border}
 use Rattle.mari_market.specs.declared.market.Market.{Market}
-use Rattle.mari_market.specs.Area.{AreAreas, InOneArea, Joins, JoinsBy}
+use Rattle.mari_market.specs.Area.{AreAreas, InOneArea}
 use Rattle.mari_market.specs.Area.InOneArea.{further, itself}
 use Rattle.mari_market.specs.declared.along.Along.TheVariants.{Joined}
 use Rattle.mari_check.specs.Areas.{AgreeAt, AreNumbered}
 use Rattle.mari_check.specs.Spread.{IsSpread, Reaches}
-use Rattle.mari_market.specs.Along.{LeadsOver, LeadsTo}
+use Rattle.mari_market.specs.Along.{LeadsTo}
 use Rattle.mari_check.specs.Spread.Reaches.{further as leads-on, itself as starts}
-use Rattle.mari_check.proofs.Agree.{zip-widen}
-
-joins-over : (y z : ℕ) (b : Border) (f : ℤ) → LeadsOver Joined y z b f → JoinsBy y z b f
-joins-over y z b f (inl l) = record { uncongested = l.2; ends = inl (l.0, l.1) }
-joins-over y z b f (inr l) = record { uncongested = l.2; ends = inr (l.1, l.0) }
-
-over-joins : (y z : ℕ) (b : Border) (f : ℤ) → JoinsBy y z b f → LeadsOver Joined y z b f
-over-joins y z b f j = elim j.ends [ inl e ↦ inl (e.0, e.1, j.uncongested) | inr e ↦ inr (e.1, e.0, j.uncongested) ]
-
-joins-back : (y z : ℕ) (b : Border) (f : ℤ) → JoinsBy y z b f → JoinsBy z y b f
-joins-back y z b f j = elim j.ends [ inl e ↦ record { uncongested = j.uncongested; ends = inr e } | inr e ↦ record { uncongested = j.uncongested; ends = inl e } ]
+use Rattle.mari_market.proofs.Joins.{joins_from, joins_spread, joins_other, area_on, area_back}
 
 module _ (m : Market) (a : Activation) where
   abbrev Lead : ℕ → ℕ → Type 0
   Lead y z = LeadsTo Joined m.borders a.flow y z
 
-  joins-from : (y z : ℕ) → Lead y z → Joins m a y z
-  joins-from y z l = zip-widen (LeadsOver Joined y z) (JoinsBy y z) (joins-over y z) m.borders a.flow l
-
-  from-joins : (y z : ℕ) → Joins m a y z → Lead y z
-  from-joins y z j = zip-widen (JoinsBy y z) (LeadsOver Joined y z) (over-joins y z) m.borders a.flow j
-
-  joins-other : (y z : ℕ) → Joins m a y z → Joins m a z y
-  joins-other y z j = zip-widen (JoinsBy y z) (JoinsBy z y) (joins-back y z) m.borders a.flow j
-
-  area-on : (x y z : ℕ) → InOneArea m a x y → InOneArea m a y z → InOneArea m a x z
-  area-on x y _ h itself = h
-  area-on x y _ h (further w z k j) = further w z (area-on x y w h k) j
-
-  area-back : (y z : ℕ) → InOneArea m a y z → InOneArea m a z y
-  area-back y _ itself = itself
-  area-back y _ (further w z k j) = area-on z w y (further z w itself (joins-other w z j)) (area-back y w k)
-
   reached : (y z : ℕ) → Reaches Lead y z → InOneArea m a y z
   reached y _ starts = itself
-  reached y _ (leads-on x z r l) = further x z (reached y x r) (joins-from x z l)
+  reached y _ (leads-on x z r l) = further x z (reached y x r) (joins_from m a x z l)
 
   module _ (own labels : List ℕ) (s : IsSpread Lead own labels) (places : (z : ℕ) → z < length own → slice_index own z ≡ z) where
     same-label : (y z : ℕ) → InOneArea m a y z → slice_index labels y ≡ slice_index labels z
     same-label y _ itself = refl
-    same-label y _ (further w z k j) = omega (arith, same-label y w k, s.rises w z (from-joins w z j), s.rises z w (from-joins z w (joins-other w z j)))
+    same-label y _ (further w z k j) = omega (arith, same-label y w k, s.rises w z (joins_spread m a w z j), s.rises z w (joins_spread m a z w (joins_other m a w z j)))
 
     one-area : (y z : ℕ) → y < length own → z < length own → slice_index labels y ≡ slice_index labels z → InOneArea m a y z
     one-area y z ly lz e =
         let p = s.source y ly in
         let q = s.source z lz in
         let same : p.from ≡ q.from = sym (places p.from p.there) ∙ sym p.value ∙ e ∙ q.value ∙ places q.from q.there in
-        area-on y p.from z (area-back p.from y (reached p.from y p.reaches)) (subst (λ (x : ℕ). InOneArea m a x z) (sym same) (reached q.from z q.reaches))
+        area_on m a y p.from z (area_back m a p.from y (reached p.from y p.reaches)) (subst (λ (x : ℕ). InOneArea m a x z) (sym same) (reached q.from z q.reaches))
 
     pub areas-by-labels : (areas : List ℕ) → length own ≡ m.zones → length areas ≡ m.zones → ((zone : ℕ) → zone < length areas → AgreeAt areas labels zone) → AreNumbered areas → AreAreas m a areas
     areas-by-labels areas long many agree numbered = record {

@@ -1,5 +1,5 @@
 -- Labels that spread along uncongested borders are those of areas.
-use Rattle.std.proofs.Common.{◌≡◌, ℕ, zero, suc, ◌+◌, ◌<◌, List, [], ◌∷◌, ◌++◌, length, arith, refl, sym, ap, subst, ◌∙◌}
+use Rattle.std.proofs.Common.{◌≡◌, ℕ, zero, suc, ◌+◌, ◌<◌, List, length, arith, refl, sym, subst, ◌∙◌}
 use Rattle.std.specs.Prelude.{slice_index}
 use Rattle.std.specs.List.{range_with_len}
 use Rattle.mari_market.specs.declared.activation.Activation.{Activation}
@@ -54,11 +54,6 @@ module _ (m : Market) (a : Activation) where
   numbered-areas areas is z l = record { from_one = is.from_one z (omega (arith, is.one_each, l)); by_first = λ k one up. is.by_first z k (omega (arith, is.one_each, l)) one up }
 
 -- ---- places
-
--- one number more
-pub range-more : (a n m : ℕ) → a + n ≡ m → range_with_len a (suc n) ≡ range_with_len a n ++ m ∷ []
-range-more a zero m e = ap (λ k. k ∷ []) (omega arith)
-range-more a (suc n) m e = ap (λ ks. a ∷ ks) (range-more (a + 1) n m (omega arith))
 
 pub place-at : (a n z : ℕ) → z < n → slice_index (range_with_len a n) z ≡ a + z
 place-at a zero z l = absurd (omega arith)

@@ -20,7 +20,8 @@ use Rattle.mari_core.specs.Growth.{Grown, Entry, grown, with_state, branched, ch
 use Rattle.mari_market.specs.SearchTree.{IsNode, IsPromising}
 use Rattle.mari_core.specs.declared.event.StepFault.TheVariants.{NotTaken}
 use Rattle.mari_core.specs.Growth.Entry.{Take, Close, Branch, Full, GiveBack}
-use Rattle.mari_core.proofs.Lists.{changed_same, get_front}
+use Rattle.mari_core.proofs.Lists.{changed_same}
+use Rattle.mari_units.proofs.Lists.{get_front}
 use Rattle.mari_core.proofs.Changes.{IsAt, node_at, word_of_node, length-with_state, state_other}
 use Rattle.mari_core.proofs.Keeps.{leaf_kept, crowded_stays}
 use Rattle.mari_core.proofs.Children.{promising_by}

@@ -15,7 +15,7 @@ use Rattle.mari_core.specs.Growth.{Grown, Entry, grown, with_state, children_at,
 use Rattle.mari_core.specs.Growth.Entry.{Take, Close, Branch, Full, GiveBack}
 use Rattle.mari_core.proofs.Changes.{IsAt, node_at, length-with_state, state_other, state_same}
 use Rattle.mari_core.proofs.Entries.{within_nodes}
-use Rattle.mari_core.proofs.Lists.{get_back, get_front}
+use Rattle.mari_units.proofs.Lists.{get_back, get_front}
 use Rattle.mari_pool.specs.Pooled.{keys_after, taken_in, taken_among}
 use Rattle.mari_pool.specs.Queued.{Queued, no_nodes, numbers_from, first_key, waits_in, untaken_among, CanFollow, Follows, IsAhead, IsBack, IsFirst, IsFirstWaiting, IsMore, IsQueueOf}
 use Rattle.mari_pool.proofs.Rooms.{comes, taken_state}

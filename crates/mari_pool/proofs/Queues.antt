@@ -321,7 +321,7 @@ pub record IsFollowed (g : Grown) (e : Entry) (key : ℕ) (q r : Queued) : Type 
   pub keys : r.keys ≡ keys_after g e q.keys key
   pub room : r.room ≡ q.room
 
-branch_done : (first : ℕ) (words : List (List Bool)) → waits_in (Some (branch_of first words)) ≡ 0
+pub branch_done : (first : ℕ) (words : List (List Bool)) → waits_in (Some (branch_of first words)) ≡ 0
 branch_done first [] = refl
 branch_done first (c ∷ []) = refl
 branch_done first (c ∷ o ∷ rest) = refl

@@ -12,7 +12,7 @@ use Rattle.mari_bids.specs.declared.bids.Bid.{Bid}
 use Rattle.mari_links.specs.Links.{has_gate}
 use Rattle.mari_market.specs.Activation.{is_open}
 use Rattle.mari_market.specs.Bounds.{GateState, IsWithin, span_of}
-use Rattle.mari_market.specs.Bounds.GateState.{Open, Closed, Free}
+use Rattle.mari_market.specs.Bounds.GateState.{Open, Closed}
 use Rattle.mari_market.specs.declared.market.Order.{Order}
 use Rattle.mari_market.specs.declared.market.Market.{Market}
 use Rattle.mari_remain.specs.declared.books.Books.{Books}
@@ -27,10 +27,7 @@ use Rattle.mari_remain.proofs.Gates.{gate-at}
 use Rattle.mari_remain.proofs.History.{IsOwnBlock, by_blocks, beside-none, own-block}
 use Rattle.mari_remain.proofs.Places.{places-rise}
 use Rattle.mari_remain.proofs.Standing.{mw-own}
-
-at_most : (state : ℕ → GateState) (gate : Option ℕ) (o : Order) → (span_of state gate o).hi ≤ o.greatest
-at_most state None o = omega arith
-at_most state (Some g) o = elim (state g) as (λ s. (span_of (λ (h : ℕ). s) (Some g) o).hi ≤ o.greatest) [ Open ↦ omega arith | Closed ↦ omega arith | Free ↦ omega arith ]
+use Rattle.mari_market.proofs.Sizes.{high_at_most}
 
 -- the MW beside a bid among rising numbers are at most its order's greatest
 beside-most : (state : ℕ → GateState) (f : ℕ → Order) (i : ℕ) (ns : List ℕ) (rest : List Order) (qs : List ℕ) → AllPairs (λ i j. i < j) ns
@@ -48,7 +45,7 @@ beside-most state f i (n ∷ ns) rest (q ∷ qs) rise h =
         let same : n ≡ i = eqb-true n i e in
         let none : mw_beside i ns qs ≡ 0 = beside-none i ns qs (λ k d l. apart (get_or ns k d) (above k d l) same) in
         let high : (f n).greatest ≡ (f i).greatest = ap (λ m. (f m).greatest) same in
-        omega (arith, none, high, most, at_most state (f n).gate (f n))
+        omega (arith, none, high, most, high_at_most state (f n).gate (f n))
       where
         apart : (m : ℕ) → n < m → n ≡ i → (m == i) ≡ false
         apart m l same = grind (arith, nat_tests, l, same)

@@ -2,7 +2,7 @@
 use Rattle.std.proofs.Common.{◌≡◌, ◌&&◌, ◌||◌, if◌then◌else◌, Bool, true, false, ℕ, ◌<◌, ◌≤◌, List, [], ◌∷◌, length, map, get_or, Option, Some, None, arith, subst, refl, sym, ap, ◌∙◌, inl, inr}
 use Rattle.std.specs.Prelude.{nat_lt, MatchOption, Any, IfSome, IsTrue, ◌↔◌}
 use Rattle.std.specs.List.{All, AllZip, range_with_len}
-use Rattle.std.proofs.lemmas.Bool.{cases_lt}
+use Rattle.std.proofs.lemmas.Bool.{cases_lt, and_parts}
 use Rattle.std.proofs.lemmas.Bool.Decides.{nat_tests}
 use Rattle.std.proofs.lemmas.List.{get_or_past}
 use Rattle.std.proofs.lemmas.List.FromFn.{get_or-map-range_with_len, length-map-range_with_len}
@@ -23,7 +23,6 @@ use Rattle.mari_gates.proofs.GateWords.{same_map}
 use Rattle.mari_welfare.proofs.Open.{runs_here}
 use Rattle.mari_proofs.specs.Conflicts.{decides, RunsAsDecided, HasDecidedGate}
 use Rattle.mari_market.proofs.Conflicts.{none_past}
-use Rattle.mari_market.proofs.Words.{and_both}
 use Rattle.std.specs.Cmp.Derive.{both_true}
 use Rattle.std.proofs.lemmas.Slice.Zip.{AllZip-long}
 
@@ -42,7 +41,7 @@ runs_at : (opens : ℕ → Bool) (g : ℕ) (gate : Option ℕ) (q : ℕ) (rest :
 runs_at opens g gate q rest r later e = by_test (is_gate g gate && nat_lt 0 q) refl e
   where
     by_test : (b : Bool) → (is_gate g gate && nat_lt 0 q) ≡ b → (b || rest) ≡ true → opens g ≡ true
-    by_test true is h = let both = and_both (is_gate g gate) (nat_lt 0 q) is in runs_test opens g gate q (of_gate g gate both.0) r ∙ both.1
+    by_test true is h = let both = and_parts (is_gate g gate) (nat_lt 0 q) is in runs_test opens g gate q (of_gate g gate both.0) r ∙ both.1
     by_test false is h = later h
 
 -- a gate that an order runs for is decided open

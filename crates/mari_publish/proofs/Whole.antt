@@ -1,7 +1,7 @@
 -- What has come stands for the lines read, at each moment.
 use Rattle.std.proofs.Common.{◌≡◌, ◌≤◌, ◌<◌, ℕ, ◌+◌, true, ◌&&◌, List, [], ◌∷◌, ◌++◌, map, length, Option, Some, None, refl, sym, ap, subst, ◌∙◌, append_assoc, length-append, arith, ltb, eqb}
 use Rattle.std.specs.List.{flat_map, AllByRecursion}
-use Rattle.std.proofs.lemmas.Bool.{eqb-true, ltb-true}
+use Rattle.std.proofs.lemmas.Bool.{eqb-true, ltb-true, and_parts}
 use Rattle.std.proofs.lemmas.List.{append-nil}
 use Rattle.std.proofs.lemmas.Grind.{flat_map-append}
 use Rattle.mari_publish.specs.declared.publication.Block.{Block}
@@ -19,7 +19,7 @@ use Rattle.mari_publish.specs.Lines.{item_lines, demand_lines, block_lines, publ
 use Rattle.mari_lines.specs.Ranges.{Between}
 use Rattle.mari_publish.specs.Order.{ending_part, after_listing, after_growing, after_ending, after_totals, full_block, keeps, kept_with, one_published, one_unpublished, starts_block, after, grown, lines_so_far}
 use Rattle.mari_publish.proofs.Counts.{both-kinds}
-use Rattle.mari_publish.proofs.Steps.{some_if, some_is, both, ListingFits, HeldFits, Moves, listing_step, growing_step, ending_step, totals_step}
+use Rattle.mari_publish.proofs.Steps.{some_if, some_is, ListingFits, HeldFits, Moves, listing_step, growing_step, ending_step, totals_step}
 
 pub all_front : {X : Type 0} (P : X → Type 0) (xs ys : List X) → AllByRecursion P (xs ++ ys) → AllByRecursion P xs
 all_front P [] ys a = tt
@@ -173,7 +173,7 @@ next ls p k (held.Ending g) l x s e = kept_step ls p k (held.Ending g) l (after_
 next ls p k (held.Totals os ps) (line.Done m n) x s e =
     let new : Kept = kept_with k held.Done in
     let c = some_if (eqb m k.counts.published && eqb n k.counts.unpublished) (new, Some (part.Totals os ps)) x e in
-    let bs = both (eqb m k.counts.published) (eqb n k.counts.unpublished) c.0 in
+    let bs = and_parts (eqb m k.counts.published) (eqb n k.counts.unpublished) c.0 in
     let em : m ≡ published_in p.blocks = eqb-true _ _ bs.0 ∙ s.published in
     let en : n ≡ unpublished_in p.blocks = eqb-true _ _ bs.1 ∙ s.unpublished in
     let last : line.Done m n ≡ line.Done (published_in p.blocks) (unpublished_in p.blocks) = ap (λ a. line.Done a n) em ∙ ap (λ b. line.Done (published_in p.blocks) b) en in

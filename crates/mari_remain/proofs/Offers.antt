@@ -1,9 +1,9 @@
 -- No bid is activated above its offer over a day, and a gated one in at most one block.
 use Rattle.std.proofs.Common.{◌≡◌, ◌∙◌, ℕ, suc, ◌+◌, ◌-◌, ◌<◌, ◌≤◌, ◌==◌, Bool, true, false, if◌then◌else◌, List, [], ◌∷◌, ◌++◌, Option, Some, None, refl, ap, sym, arith, get_or, map, inl, inr, ◌⊎◌}
-use Rattle.std.specs.Prelude.{IfSome, not, ◌&&◌, nat_lt}
+use Rattle.std.specs.Prelude.{IfSome, not, nat_lt}
 use Rattle.std.specs.List.{All, AllPairs, AllZip}
 use Rattle.std.specs.Option.{option_map_or}
-use Rattle.std.proofs.lemmas.Bool.{eqb-true, eq-eqb}
+use Rattle.std.proofs.lemmas.Bool.{eqb-true, eq-eqb, and_parts}
 use Rattle.std.proofs.lemmas.Bool.Decides.{nat_tests}
 use Rattle.std.proofs.lemmas.List.Elements.{All-nil, All-push, filter_passes}
 use Rattle.std.proofs.lemmas.List.Tally.{AllPairs-filter}
@@ -49,10 +49,6 @@ beside-most state f i (n ∷ ns) rest (q ∷ qs) rise h =
       where
         apart : (m : ℕ) → n < m → n ≡ i → (m == i) ≡ false
         apart m l same = grind (arith, nat_tests, l, same)
-
-both-true : (a b : Bool) → (a && b) ≡ true → (a ≡ true) × (b ≡ true)
-both-true true b e = (refl, e)
-both-true false b e = cc e
 
 module _ (books : Books) (ok : IsAccepted books) where
   -- what a block takes of a bid is at most what is left of its offer, and nothing of a gated bid that was activated
@@ -121,9 +117,9 @@ module _ (books : Books) (ok : IsAccepted books) where
           let rise : AllPairs (λ i j. i < j) (numbers_of books before b.run) = AllPairs-filter (λ i j. i < j) avail (bids_of_quarter books.bids.bids run.quarter) (places-rise (λ (b : Bid). b.quarter == run.quarter) 0 books.bids.bids) in
           let most = beside-most state order i (numbers_of books before b.run) (map demand_order (demands_of_run books.demands.demands b.run)) past.activation.mw rise is.feasible.orders in
           let same : taken.mw i ≡ mw_of before i = mw-own books ok run.quarter i before are_own ∙ rw e refl in
-          let may = both-true (may_run books taken run i) _ f in
-          let rest = both-true _ _ may.0 in
-          let left = both-true (is_left books taken i) _ rest.1 in
+          let may = and_parts (may_run books taken run i) _ f in
+          let rest = and_parts _ _ may.0 in
+          let left = and_parts (is_left books taken i) _ rest.1 in
           some_more before i _ taken gated so_far same left.0 (filter_passes (has_gate books.links) (numbers_of books before b.run)) (rw is.bids most)
 
       published : (p : Option PastRun) → IfSome p (IsPastRun books before b.run) → IsWithinOffer before i (option_map_or (λ (r : PastRun). mw_beside i r.bids r.activation.mw) p 0)

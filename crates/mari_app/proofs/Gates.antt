@@ -1,11 +1,10 @@
 -- In a generated day a quarter has few gates, so that a budget of 511 nodes holds each run's search tree.
-use Rattle.std.proofs.Common.{◌≡◌, ℕ, suc, ◌+◌, ◌<◌, ◌≤◌, ◌==◌, Bool, true, false, List, [], ◌∷◌, Some, filter, length, take, arith, refl, zero-add}
-use Rattle.std.specs.Prelude.{slice_get, slice_index_or}
+use Rattle.std.proofs.Common.{◌≡◌, ℕ, suc, ◌≤◌, ◌==◌, Bool, true, false, List, [], ◌∷◌, Some, filter, length, take, arith, refl}
+use Rattle.std.specs.Prelude.{slice_get}
 use Rattle.std.specs.List.{range_with_len}
 use Rattle.std.proofs.lemmas.List.{length-map}
 use Rattle.std.proofs.lemmas.List.Elements.{All-weaker}
 use Rattle.std.proofs.lemmas.List.Sums.{length-filter}
-use Rattle.std.proofs.lemmas.Option.{slice_get-get_or}
 use lib.Chars.{codes}
 use Rattle.mari_bids.specs.declared.bids.Bid.{Bid}
 use Rattle.mari_bids.specs.declared.bids.BidBook.{BidBook}
@@ -31,6 +30,7 @@ use Rattle.mari_scenario.specs.Accepted.{AreAccepted}
 use Rattle.mari_scenario.specs.Pages.{scenario_at}
 use Rattle.mari_app.proofs.ShortWords.{few-words}
 use Rattle.mari_app.proofs.GeneratedBooks.{one-each, same-books, whole}
+use Rattle.mari_remain.proofs.Validity.{same_quarter}
 
 -- what passes three tests is no more than what passes two of them
 one-more : (g p q : ℕ → Bool) (x : ℕ) (xs : List ℕ) → length (filter g (filter p (filter q xs))) ≤ length (filter q (filter g xs)) → (a : Bool) → q x ≡ a → (b : Bool) → p x ≡ b → (c : Bool) → g x ≡ c
@@ -46,17 +46,13 @@ fewer : (g p q : ℕ → Bool) (xs : List ℕ) → length (filter g (filter p (f
 fewer g p q [] = omega arith
 fewer g p q (x ∷ xs) = one-more g p q x xs (fewer g p q xs) (q x) refl (p x) refl (g x) refl
 
--- the quarter of a bid that is there
-same-quarter : (bids : BidBook) (quarter i : ℕ) (d : Bid) → i < length bids.bids → (quarter_of bids (0 + i) == quarter) ≡ ((slice_index_or bids.bids i d).quarter == quarter)
-same-quarter bids quarter i d l = rw (zero-add i, slice_get-get_or bids.bids i d l) refl
-
 -- the gated bids of a quarter, whichever of them are available
 few-gated : (bids : BidBook) (links : LinkBook) (p : ℕ → Bool) (quarter : ℕ) → length links.links ≡ length bids.bids
     → count_of bids (filter (has_gate links) (range_with_len 0 (length links.links))) quarter ≤ 8 → length (filter (has_gate links) (filter p (bids_of_quarter bids.bids quarter))) ≤ 8
 few-gated bids links p quarter all few =
     let numbers : List ℕ = range_with_len 0 (length bids.bids) in
     let of_quarter : ℕ → Bool = λ i. quarter_of bids i == quarter in
-    let placed : bids_of_quarter bids.bids quarter ≡ filter of_quarter numbers = places-filter (λ (b : Bid). b.quarter == quarter) of_quarter 0 bids.bids (same-quarter bids quarter) in
+    let placed : bids_of_quarter bids.bids quarter ≡ filter of_quarter numbers = places-filter (λ (b : Bid). b.quarter == quarter) of_quarter 0 bids.bids (same_quarter quarter bids) in
     let most = rw all at few in
     rw placed (omega (arith, fewer (has_gate links) p of_quarter numbers, length-filter of_quarter (filter (has_gate links) numbers), most))
 

@@ -12,7 +12,8 @@ use Rattle.mari_rows.specs.Rows.{field_of}
 use Rattle.mari_rows.specs.declared.faults.BookFault.{BookFault}
 use Rattle.mari_rows.specs.declared.rows.Row.{Row}
 use Rattle.mari_rows.proofs.BookLemmas.{book-page}
-use Rattle.mari_rows.proofs.BookFacts.{all-distinct, all-passed, along-lines, both-parts, count_by-map, counts-at-most, distinct-more, found-below, not-false, number-bounds, places-below, read-within}
+use Rattle.mari_rows.proofs.BookFacts.{all-distinct, all-passed, along-lines, count_by-map, counts-at-most, distinct-more, found-below, not-false, number-bounds, places-below, read-within}
+use Rattle.std.proofs.lemmas.Bool.{and_parts}
 use Rattle.mari_rows.proofs.PlaceLemmas.{length-distinct}
 use Rattle.mari_rows.proofs.RowLemmas.{length-rows_in}
 use Rattle.mari_zones.specs.declared.zones.ZoneBook.{ZoneBook}
@@ -42,8 +43,8 @@ module _ (zones : ZoneBook) (quarters : ℕ) where
   one-more : (before : List Row) (line : Row) → first_failing (line_checks zones quarters before line) ≡ None → AreLines before → AreLines (before ++ line ∷ [])
   one-more before line none so_far =
       let all = all-passed (line_checks zones quarters before line) none in
-      let numbers = both-parts (is_some (price_in line) && is_some (greatest_in line)) (is_some (least_in line)) (not-false _ all.1.1.1.1.0) in
-      let first = both-parts (is_some (price_in line)) (is_some (greatest_in line)) numbers.0 in
+      let numbers = and_parts (is_some (price_in line) && is_some (greatest_in line)) (is_some (least_in line)) (not-false _ all.1.1.1.1.0) in
+      let first = and_parts (is_some (price_in line)) (is_some (greatest_in line)) numbers.0 in
       let names = good-names line all.0 in
       record {
         lines = All-push IsLine before line so_far.lines

@@ -1,84 +1,55 @@
 -- The heights that bounds come to are those of the least, or of the greatest, consistent prices.
-use Rattle.std.proofs.Common.{◌≡◌, if◌then◌else◌, Bool, true, false, ℕ, ◌<◌, ◌≤◌, ℤ, pos, ◌+ℤ◌, ◌-ℤ◌, ◌≤ℤ◌, List, [], ◌∷◌, Option, Some, None, length, arith, refl, sym, ap, subst, inl, inr}
-use Rattle.std.specs.Prelude.{nat_lt, MatchOption, slice_index, unsigned_abs}
-use Rattle.std.specs.List.{AllZip, All}
+use Rattle.std.proofs.Common.{◌≡◌, ℕ, ◌<◌, ◌≤◌, ℤ, pos, ◌+ℤ◌, ◌-ℤ◌, ◌≤ℤ◌, List, [], ◌∷◌, length, arith, refl, sym, subst, inl, inr}
+use Rattle.std.specs.Prelude.{slice_index, unsigned_abs}
+use Rattle.std.specs.List.{All}
 use Rattle.std.proofs.lemmas.Int.{ints}
-use Rattle.std.proofs.lemmas.Bool.Decides.{nat_tests}
 use Rattle.std.proofs.lemmas.List.Elements.{All-head, All-tail}
 use Rattle.mari_units.specs.declared.numbers.Cents.{Cents}
 use Rattle.mari_market.specs.declared.activation.Activation.{Activation}
-use Rattle.mari_market.specs.declared.market.Border.{Border}
 use Rattle.mari_market.specs.declared.market.Market.{Market}
 use Rattle.mari_market.specs.declared.market.Order.{Order}
 use Rattle.mari_market.specs.declared.price_rules.Standing.{Standing}
-use Rattle.mari_market.specs.declared.price_rules.Standing.TheVariants.{InClosed, InOpen}
 use Rattle.mari_market.specs.Activation.{is_open}
-use Rattle.mari_market.specs.Bounds.{IsWithin, gated_span, own_bounds, span_of}
-use Rattle.mari_market.specs.Bounds.GateState.{Closed, Open}
-use Rattle.mari_market.specs.Consistent.{IsLowerBound, IsUpperBound, LeadsBy, SetsLower, SetsLowerAt, SetsUpper, SetsUpperAt, standing_of}
+use Rattle.mari_market.specs.Consistent.{IsLowerBound, IsUpperBound, SetsLower, SetsLowerAt, SetsUpper, SetsUpperAt}
 use Rattle.mari_market.specs.Market.{IsValid, IsValidOrder}
 use Rattle.mari_market.specs.Optimal.{IsConsistent, IsFeasible}
 use Rattle.mari_market.specs.Price.{IsPrice, cap, price_at}
 use Rattle.mari_market.specs.Sums.{AnyZip}
 use Rattle.mari_market.proofs.Conflicts.{leads_sound, lower_kept, price_in_cap, upper_kept}
-use Rattle.mari_market.proofs.Sums.{AllZip-both, AllZip-with}
+use Rattle.mari_market.proofs.Sums.{AnyZip-with}
 use Rattle.mari_check.specs.declared.ends.End.{End}
 use Rattle.mari_check.specs.declared.ends.End.TheVariants.{Greatest, Least}
 use Rattle.mari_market.specs.declared.along.Along.TheVariants.{Falling, Rising}
 use Rattle.mari_check.specs.Ends.{AreEndPrices, ArePricesOf, IsBoundBy, IsTightest, SetsAt, along_of}
-use Rattle.mari_market.specs.Consistent.{own_standing}
 use Rattle.mari_check.specs.Spread.{HasSource, IsSpread, Reaches}
-use Rattle.mari_market.specs.Along.{LeadsOver, LeadsTo}
+use Rattle.mari_market.specs.Along.{LeadsTo}
 use Rattle.mari_check.specs.Spread.Reaches.{further, itself}
-use Rattle.mari_check.proofs.Agree.{KeepsAll, keeps-consistent, zip-widen}
-
-zip-with : {X Y : Type 0} (P Q R : X → Y → Type 0) → ((x : X) (y : Y) → P x y → Q x y → R x y) → (xs : List X) (ys : List Y) → AllZip P xs ys → AnyZip Q xs ys → AnyZip R xs ys
-zip-with P Q R h [] ys a e = absurd e
-zip-with P Q R h (x ∷ xs) [] a e = absurd e
-zip-with P Q R h (x ∷ xs) (y ∷ ys) a (inl e) = inl (h x y a.0 e)
-zip-with P Q R h (x ∷ xs) (y ∷ ys) a (inr e) = inr (zip-with P Q R h xs ys a.1 e)
-
--- ---- an order of a gate runs exactly where its gate is open
-
-gate-standing : (b : Bool) (o : Order) (q : ℕ) → 1 ≤ o.least → IsWithin (gated_span (if b then Open else Closed) o) q → nat_lt 0 q ≡ b
-gate-standing true o q l w = let some : 0 < q = omega (arith, w.least) in grind (arith, nat_tests)
-gate-standing false o q l w = let none : q ≤ 0 = w.most in grind (arith, nat_tests)
-
-standing-at : (opens : ℕ → Bool) (gates : ℕ) (gate : Option ℕ) (o : Order) (q : ℕ) → MatchOption gate (o.least ≡ 0) (λ g. (g < gates) × (1 ≤ o.least)) → IsWithin (span_of (λ g. if opens g then Open else Closed) gate o) q → own_standing gate q ≡ standing_of opens gate
-standing-at opens gates None o q v w = refl
-standing-at opens gates (Some g) o q v w = ap (λ (b : Bool). if b then InOpen else InClosed) (gate-standing (opens g) o q v.1 w)
+use Rattle.mari_market.proofs.Agree.{KeepsAll, keeps_consistent}
+use Rattle.mari_market.proofs.Standings.{OneStanding, one_standing}
+use Rattle.mari_market.proofs.Leading.{falling_spreads, falling_from}
 
 module _ (m : Market) (a : Activation) (v : IsValid m) (f : IsFeasible m a) where
-  abbrev OneStanding : Order → ℕ → Type 0
-  OneStanding o q = own_standing o.gate q ≡ standing_of (is_open m a) o.gate
-
-  one-standing : AllZip OneStanding m.orders a.mw
-  one-standing =
-      let both = AllZip-with (IsValidOrder m.zones (length m.gates)) (λ o q. IsWithin (own_bounds m a o) q) m.orders a.mw v.orders f.orders in
-      AllZip-both (λ o q. IsValidOrder m.zones (length m.gates) o × IsWithin (own_bounds m a o) q) (λ o q. IsValidOrder m.zones (length m.gates) o × IsWithin (own_bounds m a o) q) OneStanding
-      (λ o q h k. standing-at (is_open m a) (length m.gates) o.gate o q h.0.gate h.1) m.orders a.mw both both
-
   -- ---- bounds, as the definitions have them and by their heights
 
   lower-height : (z : ℕ) (c : ℤ) (n : ℕ) → pos n ≡ c +ℤ cap → IsLowerBound m a z c → IsBoundBy Least m.orders a.mw z n
   lower-height z c n e (inl h) = inl (omega (arith, ints, e, h))
-  lower-height z c n e (inr s) = inr (zip-with OneStanding (SetsLowerAt (is_open m a) z c) (SetsAt Least z n)
-      (λ o q is h. record { zone = h.zone; height = omega (arith, ints, e, h.price); sets = subst (λ (s : Standing). SetsLower s o.side o.greatest q) (sym is) h.sets }) m.orders a.mw one-standing s)
+  lower-height z c n e (inr s) = inr (AnyZip-with (OneStanding m a) (SetsLowerAt (is_open m a) z c) (SetsAt Least z n)
+      (λ o q is h. record { zone = h.zone; height = omega (arith, ints, e, h.price); sets = subst (λ (s : Standing). SetsLower s o.side o.greatest q) (sym is) h.sets }) m.orders a.mw (one_standing m a v f) s)
 
   lower-from : (z n : ℕ) → IsBoundBy Least m.orders a.mw z n → IsLowerBound m a z (pos n -ℤ cap)
   lower-from z n (inl h) = inl (omega (arith, ints, h))
-  lower-from z n (inr s) = inr (zip-with OneStanding (SetsAt Least z n) (SetsLowerAt (is_open m a) z (pos n -ℤ cap))
-      (λ o q is h. record { zone = h.zone; price = omega (arith, ints, h.height); sets = subst (λ (s : Standing). SetsLower s o.side o.greatest q) is h.sets }) m.orders a.mw one-standing s)
+  lower-from z n (inr s) = inr (AnyZip-with (OneStanding m a) (SetsAt Least z n) (SetsLowerAt (is_open m a) z (pos n -ℤ cap))
+      (λ o q is h. record { zone = h.zone; price = omega (arith, ints, h.height); sets = subst (λ (s : Standing). SetsLower s o.side o.greatest q) is h.sets }) m.orders a.mw (one_standing m a v f) s)
 
   upper-height : (z : ℕ) (c : ℤ) (n : ℕ) → pos n ≡ cap -ℤ c → IsUpperBound m a z c → IsBoundBy Greatest m.orders a.mw z n
   upper-height z c n e (inl h) = inl (omega (arith, ints, e, h))
-  upper-height z c n e (inr s) = inr (zip-with OneStanding (SetsUpperAt (is_open m a) z c) (SetsAt Greatest z n)
-      (λ o q is h. record { zone = h.zone; height = omega (arith, ints, e, h.price); sets = subst (λ (s : Standing). SetsUpper s o.side o.greatest q) (sym is) h.sets }) m.orders a.mw one-standing s)
+  upper-height z c n e (inr s) = inr (AnyZip-with (OneStanding m a) (SetsUpperAt (is_open m a) z c) (SetsAt Greatest z n)
+      (λ o q is h. record { zone = h.zone; height = omega (arith, ints, e, h.price); sets = subst (λ (s : Standing). SetsUpper s o.side o.greatest q) (sym is) h.sets }) m.orders a.mw (one_standing m a v f) s)
 
   upper-from : (z n : ℕ) → IsBoundBy Greatest m.orders a.mw z n → IsUpperBound m a z (cap -ℤ pos n)
   upper-from z n (inl h) = inl (omega (arith, ints, h))
-  upper-from z n (inr s) = inr (zip-with OneStanding (SetsAt Greatest z n) (SetsUpperAt (is_open m a) z (cap -ℤ pos n))
-      (λ o q is h. record { zone = h.zone; price = omega (arith, ints, h.height); sets = subst (λ (s : Standing). SetsUpper s o.side o.greatest q) is h.sets }) m.orders a.mw one-standing s)
+  upper-from z n (inr s) = inr (AnyZip-with (OneStanding m a) (SetsAt Greatest z n) (SetsUpperAt (is_open m a) z (cap -ℤ pos n))
+      (λ o q is h. record { zone = h.zone; price = omega (arith, ints, h.height); sets = subst (λ (s : Standing). SetsUpper s o.side o.greatest q) is h.sets }) m.orders a.mw (one_standing m a v f) s)
 
   -- bounds are prices
   set-lower-price : (z : ℕ) (c : ℤ) (os : List Order) (qs : List ℕ) → All (IsValidOrder m.zones (length m.gates)) os → AnyZip (SetsLowerAt (is_open m a) z c) os qs → IsPrice c
@@ -101,16 +72,6 @@ module _ (m : Market) (a : Activation) (v : IsValid m) (f : IsFeasible m a) wher
   upper-price z c (inl e) = record { low = omega (arith, ints, e); high = omega (arith, ints, e) }
   upper-price z c (inr s) = set-upper-price z c m.orders a.mw v.orders s
 
-  -- ---- comparisons, as the definitions have them and as bounds spread
-
-  falling-by : (y z : ℕ) (b : Border) (g : ℤ) → LeadsBy y z b g → LeadsOver Falling z y b g
-  falling-by y z b g (inl l) = inr (l.1, l.0, l.2)
-  falling-by y z b g (inr l) = inl (l.1, l.0, l.2)
-
-  falling-over : (y z : ℕ) (b : Border) (g : ℤ) → LeadsOver Falling z y b g → LeadsBy y z b g
-  falling-over y z b g (inl l) = inr (l.1, l.0, l.2)
-  falling-over y z b g (inr l) = inl (l.1, l.0, l.2)
-
   module _ (qs : List Cents) (agrees : IsConsistent m a qs) where
     rise-along : (y z : ℕ) → Reaches (LeadsTo Rising m.borders a.flow) y z → price_at qs y ≤ℤ price_at qs z
     rise-along y _ itself = omega (arith, ints)
@@ -118,7 +79,7 @@ module _ (m : Market) (a : Activation) (v : IsValid m) (f : IsFeasible m a) wher
 
     fall-along : (y z : ℕ) → Reaches (LeadsTo Falling m.borders a.flow) y z → price_at qs z ≤ℤ price_at qs y
     fall-along y _ itself = omega (arith, ints)
-    fall-along y _ (further x z r l) = omega (arith, ints, fall-along y x r, leads_sound m a qs z x agrees.borders (zip-widen (LeadsOver Falling x z) (LeadsBy z x) (falling-over z x) m.borders a.flow l))
+    fall-along y _ (further x z r l) = omega (arith, ints, fall-along y x r, leads_sound m a qs z x agrees.borders (falling_from m a z x l))
 
     -- no consistent price is lower than that of the least height, nor higher than that of the greatest
     no-lower : (bounds vs : List ℕ) (z : ℕ) → ((y : ℕ) → y < length bounds → IsTightest Least m.orders a.mw y bounds) → HasSource (LeadsTo Rising m.borders a.flow) bounds vs z → (pos (slice_index vs z) -ℤ cap) ≤ℤ price_at qs z
@@ -157,7 +118,7 @@ module _ (m : Market) (a : Activation) (v : IsValid m) (f : IsFeasible m a) wher
           let n : ℕ = unsigned_abs (cap -ℤ c) in
           let low : pos n ≡ cap -ℤ c = omega (arith, ints, c_price.high) in
           omega (arith, ints, (t z (omega (arith, l, long))).tightest n (upper-height z c n low b), s.above z, p.each z (omega (arith, l, long, s.one_each)), low);
-      rises = λ y z k l r. omega (arith, ints, s.rises z y (zip-widen (LeadsBy y z) (LeadsOver Falling z y) (falling-by y z) m.borders a.flow r), p.each y (omega (arith, k, long, s.one_each)), p.each z (omega (arith, l, long, s.one_each)));
+      rises = λ y z k l r. omega (arith, ints, s.rises z y (falling_spreads m a y z r), p.each y (omega (arith, k, long, s.one_each)), p.each z (omega (arith, l, long, s.one_each)));
     }
 
   module _ (bounds vs : List ℕ) (ps : List Cents) (some : (qs : List Cents) × IsConsistent m a qs) (long : length bounds ≡ m.zones) where
@@ -165,7 +126,7 @@ module _ (m : Market) (a : Activation) (v : IsValid m) (f : IsFeasible m a) wher
     pub end-prices : (end : End) → ((y : ℕ) → y < m.zones → IsTightest end m.orders a.mw y bounds) → IsSpread (LeadsTo (along_of end) m.borders a.flow) bounds vs → ArePricesOf end vs ps → AreEndPrices end m a ps
     end-prices Least t s p =
         let each : (y : ℕ) → y < length bounds → IsTightest Least m.orders a.mw y bounds = λ y l. t y (omega (arith, l, long)) in
-        let agree = keeps-consistent m a ps (least-keeps bounds vs ps some.0 some.1 long each s p) v f in
+        let agree = keeps_consistent m a ps v f (least-keeps bounds vs ps some.0 some.1 long each s p) in
         record {
           one_each = agree.prices.one_each;
           each = λ z l. record {
@@ -175,7 +136,7 @@ module _ (m : Market) (a : Activation) (v : IsValid m) (f : IsFeasible m a) wher
         }
     end-prices Greatest t s p =
         let each : (y : ℕ) → y < length bounds → IsTightest Greatest m.orders a.mw y bounds = λ y l. t y (omega (arith, l, long)) in
-        let agree = keeps-consistent m a ps (greatest-keeps bounds vs ps some.0 some.1 long each s p) v f in
+        let agree = keeps_consistent m a ps v f (greatest-keeps bounds vs ps some.0 some.1 long each s p) in
         record {
           one_each = agree.prices.one_each;
           each = λ z l. record {

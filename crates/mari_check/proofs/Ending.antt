@@ -32,7 +32,7 @@ use Rattle.mari_progress.specs.Money.{amount_line, money_lines_of}
 use Rattle.mari_progress.specs.Told.{heading_of}
 use Rattle.mari_progress.specs.Totals.{operator_totals, provider_totals}
 use Rattle.mari_check.proofs.Least.{least-is, none-first}
-use Rattle.mari_progress.proofs.Counts.{both-kinds}
+use Rattle.mari_publish.proofs.Counts.{both-kinds}
 use Rattle.mari_progress.proofs.Sums.{provider-lines}
 use Rattle.mari_check.proofs.Zips.{refuted}
 

@@ -1,16 +1,15 @@
 -- A zone has one least, one greatest and one published price.
-use Rattle.std.proofs.Common.{◌≡◌, ℕ, suc, ◌<◌, ℤ, pos, ◌≤◌, ◌≤ℤ◌, Bool, true, List, [], ◌∷◌, length, get_or, arith, refl, sym, ap, ◌∙◌, subst}
+use Rattle.std.proofs.Common.{◌≡◌, ℕ, suc, ◌<◌, ℤ, pos, Bool, true, List, [], ◌∷◌, length, get_or, arith, refl, sym, ap, ◌∙◌, subst}
 use Rattle.std.specs.Prelude.{◌↔◌}
-use Rattle.std.specs.Int.{int_max, int_min}
 use Rattle.std.specs.List.{All, AllZip}
-use Rattle.std.proofs.lemmas.Int.{clamps, ints}
+use Rattle.std.proofs.lemmas.Int.{ints}
 use Rattle.std.proofs.lemmas.List.{get_or_default, length-map}
 use Rattle.mari_units.specs.declared.numbers.Cents.{Cents}
 use Rattle.mari_market.specs.declared.activation.Activation.{Activation}
 use Rattle.mari_market.specs.declared.market.Market.{Market}
-use Rattle.mari_market.specs.Interval.{ArePublishedPrices, IsGreatestPrice, IsLeastPrice, IsNearest, distance}
+use Rattle.mari_market.specs.Interval.{ArePublishedPrices, IsNearest}
 use Rattle.mari_market.specs.Price.{price_at}
-use Rattle.mari_market.proofs.Published.{nearest_rises}
+use Rattle.mari_market.proofs.Published.{nearest_rises, one_least, one_greatest}
 use Rattle.mari_publish.specs.declared.publication.FullBlock.{FullBlock}
 use Rattle.mari_lines.specs.declared.line.ZoneLine.{ZoneLine}
 use Rattle.mari_check.specs.declared.ends.End.{End}
@@ -31,15 +30,9 @@ same-prices (p ∷ ps) (q ∷ qs) e h =
     ap (λ (c : ℤ). let x : Cents = record { 0 = c } in x ∷ ps) first ∙ ap (λ (cs : List Cents). q ∷ cs) (same-prices ps qs (omega (arith, e)) (λ z l. h (suc z) (omega (arith, l))))
 
 module _ (m : Market) (a : Activation) where
-  one-least : (z : ℕ) (c d : ℤ) → IsLeastPrice m a z c → IsLeastPrice m a z d → c ≡ d
-  one-least z c d h k = omega (arith, ints, h.reached.2, k.reached.2, h.least k.reached.0 k.reached.1, k.least h.reached.0 h.reached.1)
-
-  one-greatest : (z : ℕ) (c d : ℤ) → IsGreatestPrice m a z c → IsGreatestPrice m a z d → c ≡ d
-  one-greatest z c d h k = omega (arith, ints, h.reached.2, k.reached.2, h.greatest k.reached.0 k.reached.1, k.greatest h.reached.0 h.reached.1)
-
   one-end : (end : End) (ps qs : List Cents) → AreEndPrices end m a ps → AreEndPrices end m a qs → ps ≡ qs
-  one-end Least ps qs h k = same-prices ps qs (h.one_each ∙ sym k.one_each) (λ z l. one-least z (price_at ps z) (price_at qs z) (h.each z (omega (arith, l, h.one_each))) (k.each z (omega (arith, l, h.one_each))))
-  one-end Greatest ps qs h k = same-prices ps qs (h.one_each ∙ sym k.one_each) (λ z l. one-greatest z (price_at ps z) (price_at qs z) (h.each z (omega (arith, l, h.one_each))) (k.each z (omega (arith, l, h.one_each))))
+  one-end Least ps qs h k = same-prices ps qs (h.one_each ∙ sym k.one_each) (λ z l. one_least m a z (price_at ps z) (price_at qs z) (h.each z (omega (arith, l, h.one_each))) (k.each z (omega (arith, l, h.one_each))))
+  one-end Greatest ps qs h k = same-prices ps qs (h.one_each ∙ sym k.one_each) (λ z l. one_greatest m a z (price_at ps z) (price_at qs z) (h.each z (omega (arith, l, h.one_each))) (k.each z (omega (arith, l, h.one_each))))
 
   -- prices are those of an end exactly where they are these
   pub ends-by : (end : End) (told ps : List Cents) (b : Bool) → AreEndPrices end m a ps → (b ≡ true) ↔ AllZip IsSamePrice told ps → (b ≡ true) ↔ AreEndPrices end m a told
@@ -50,12 +43,6 @@ module _ (m : Market) (a : Activation) where
       )
 
 -- ---- the nearest price
-
-nearer : (low high r c d : ℤ) → low ≤ℤ high → c ≡ int_max low (int_min r high) → low ≤ℤ d → d ≤ℤ high → distance r c ≤ distance r d
-nearer low high r c d l e h k = omega (arith, ints, clamps)
-
-pub clamped : (low high r c : ℤ) → low ≤ℤ high → c ≡ int_max low (int_min r high) → IsNearest low high r c
-clamped low high r c l e = record { from_low = omega (arith, ints, clamps); to_high = omega (arith, ints, clamps); nearest = λ d h k. nearer low high r c d l e h k }
 
 one-nearest : (low high r c d : ℤ) → IsNearest low high r c → IsNearest low high r d → c ≡ d
 one-nearest low high r c d h k =

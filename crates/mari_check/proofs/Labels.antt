@@ -1,37 +1,21 @@
 -- Labels that spread along uncongested borders are those of areas.
-use Rattle.std.proofs.Common.{◌≡◌, ℕ, zero, suc, ◌+◌, ◌<◌, ℤ, List, [], ◌∷◌, ◌++◌, length, arith, refl, sym, ap, subst, ◌∙◌, inl, inr}
+use Rattle.std.proofs.Common.{◌≡◌, ℕ, zero, suc, ◌+◌, ◌<◌, List, length, arith, refl, sym, subst, ◌∙◌}
 use Rattle.std.specs.Prelude.{slice_index}
 use Rattle.std.specs.List.{range_with_len}
 use Rattle.mari_market.specs.declared.activation.Activation.{Activation}
-use Rattle.mari_market.specs.declared.market.Border.{Border}
 use Rattle.mari_market.specs.declared.market.Market.{Market}
-use Rattle.mari_market.specs.Area.{AreAreas, InOneArea, Joins}
+use Rattle.mari_market.specs.Area.{AreAreas, InOneArea}
 use Rattle.mari_market.specs.Area.InOneArea.{further, itself}
 use Rattle.mari_market.specs.declared.along.Along.TheVariants.{Joined}
 use Rattle.mari_check.specs.Areas.{AgreeAt, AreNumbered}
 use Rattle.mari_check.specs.Spread.{IsSpread, Reaches}
-use Rattle.mari_market.specs.Along.{LeadsOver, LeadsTo}
+use Rattle.mari_market.specs.Along.{LeadsTo}
 use Rattle.mari_check.specs.Spread.Reaches.{further as leads-on, itself as starts}
-use Rattle.mari_check.proofs.Agree.{zip-widen}
-
-joins-back : (y z : ℕ) (b : Border) (f : ℤ) → LeadsOver Joined y z b f → LeadsOver Joined z y b f
-joins-back y z b f (inl l) = inr (l.1, l.0, l.2)
-joins-back y z b f (inr l) = inl (l.1, l.0, l.2)
+use Rattle.mari_market.proofs.Joins.{joins_other, area_on, area_back}
 
 module _ (m : Market) (a : Activation) where
   abbrev Lead : ℕ → ℕ → Type 0
   Lead y z = LeadsTo Joined m.borders a.flow y z
-
-  joins-other : (y z : ℕ) → Joins m a y z → Joins m a z y
-  joins-other y z j = zip-widen (LeadsOver Joined y z) (LeadsOver Joined z y) (joins-back y z) m.borders a.flow j
-
-  area-on : (x y z : ℕ) → InOneArea m a x y → InOneArea m a y z → InOneArea m a x z
-  area-on x y _ h itself = h
-  area-on x y _ h (further w z k j) = further w z (area-on x y w h k) j
-
-  area-back : (y z : ℕ) → InOneArea m a y z → InOneArea m a z y
-  area-back y _ itself = itself
-  area-back y _ (further w z k j) = area-on z w y (further z w itself (joins-other w z j)) (area-back y w k)
 
   reached : (y z : ℕ) → Reaches Lead y z → InOneArea m a y z
   reached y _ starts = itself
@@ -40,14 +24,14 @@ module _ (m : Market) (a : Activation) where
   module _ (own labels : List ℕ) (s : IsSpread Lead own labels) (places : (z : ℕ) → z < length own → slice_index own z ≡ z) where
     same-label : (y z : ℕ) → InOneArea m a y z → slice_index labels y ≡ slice_index labels z
     same-label y _ itself = refl
-    same-label y _ (further w z k j) = omega (arith, same-label y w k, s.rises w z j, s.rises z w (joins-other w z j))
+    same-label y _ (further w z k j) = omega (arith, same-label y w k, s.rises w z j, s.rises z w (joins_other m a w z j))
 
     one-area : (y z : ℕ) → y < length own → z < length own → slice_index labels y ≡ slice_index labels z → InOneArea m a y z
     one-area y z ly lz e =
         let p = s.source y ly in
         let q = s.source z lz in
         let same : p.from ≡ q.from = sym (places p.from p.there) ∙ sym p.value ∙ e ∙ q.value ∙ places q.from q.there in
-        area-on y p.from z (area-back p.from y (reached p.from y p.reaches)) (subst (λ (x : ℕ). InOneArea m a x z) (sym same) (reached q.from z q.reaches))
+        area_on m a y p.from z (area_back m a p.from y (reached p.from y p.reaches)) (subst (λ (x : ℕ). InOneArea m a x z) (sym same) (reached q.from z q.reaches))
 
     pub areas-by-labels : (areas : List ℕ) → length own ≡ m.zones → length areas ≡ m.zones → ((zone : ℕ) → zone < length areas → AgreeAt areas labels zone) → AreNumbered areas → AreAreas m a areas
     areas-by-labels areas long many agree numbered = record {
@@ -70,11 +54,6 @@ module _ (m : Market) (a : Activation) where
   numbered-areas areas is z l = record { from_one = is.from_one z (omega (arith, is.one_each, l)); by_first = λ k one up. is.by_first z k (omega (arith, is.one_each, l)) one up }
 
 -- ---- places
-
--- one number more
-pub range-more : (a n m : ℕ) → a + n ≡ m → range_with_len a (suc n) ≡ range_with_len a n ++ m ∷ []
-range-more a zero m e = ap (λ k. k ∷ []) (omega arith)
-range-more a (suc n) m e = ap (λ ks. a ∷ ks) (range-more (a + 1) n m (omega arith))
 
 pub place-at : (a n z : ℕ) → z < n → slice_index (range_with_len a n) z ≡ a + z
 place-at a zero z l = absurd (omega arith)

@@ -1,6 +1,5 @@
 pub mod Spreads
 pub mod Bounds
-pub mod Agree
 pub mod EndPrices
 pub mod Labels
 pub mod TreeShapes

@@ -5,7 +5,7 @@ use Rattle.std.proofs.lemmas.Bool.{cases_eq}
 use Rattle.std.proofs.lemmas.List.Elements.{All-cons, All-from_get_or, All-head, All-tail}
 use Rattle.mari_market.specs.declared.market.Border.{Border}
 use Rattle.mari_market.proofs.Sums.{AnyZip-at, AnyZip-meets}
-use Rattle.mari_welfare.proofs.Lists.{AllZip_more}
+use Rattle.mari_market.proofs.Lists.{AllZip_more}
 use Rattle.mari_market.specs.declared.along.Along.{Along}
 use Rattle.mari_check.specs.Spread.{AreSmall, HasSource, IsClosed, IsClosedOver, IsRaiseIf, IsSpread, Reaches, Spreads, most_value, room_of}
 use Rattle.mari_market.specs.Along.{LeadsBack, LeadsOn, LeadsOver, LeadsTo}

@@ -7,7 +7,7 @@ use Rattle.std.proofs.lemmas.List.{take_all}
 use Rattle.std.proofs.lemmas.List.Elements.{All-cons, All-head, All-nil, All-tail}
 use Rattle.std.proofs.lemmas.Slice.Zip.{AllZip-long}
 use Rattle.mari_settle.specs.Lines.{map_along}
-use Rattle.mari_welfare.proofs.Lists.{fails_at, passes_more}
+use Rattle.mari_market.proofs.Lists.{fails_at, passes_more}
 
 -- a loop that tests each pair, whose first item is read as x
 pub pass : {X Y : Type 0} (P : X → Y → Type 0) (xs : List X) (ys : List Y) (i : ℕ) (x : X) (e y : Y) (b : Bool) → i < length xs → i < length ys → x ≡ get_or xs i x → y ≡ get_or ys i e → ((b ≡ true) ↔ P x y) → b ≡ true → AllZip P (take i xs) (take i ys) → AllZip P (take (i + 1) xs) (take (i + 1) ys)

@@ -16,7 +16,8 @@ use Rattle.mari_core.specs.declared.node.NodeState.TheVariants.{Untaken, Taken, 
 use Rattle.mari_core.specs.Nodes.{TreeNode, new_node, in_state, words_of, state_at, child_numbers, numbers_below, children_of, branch_of}
 use Rattle.mari_core.specs.Preorder.{HasPreorder, occurs}
 use Rattle.mari_core.specs.Growth.{Grown, with_state, branched, is_branched, IsGrowth, IsCrowded, HasChildren, HasParent, HoldsAtCutoff}
-use Rattle.mari_core.proofs.Lists.{changed_same, changed_other, all_changed, get_front, get_back}
+use Rattle.mari_core.proofs.Lists.{changed_same, changed_other, all_changed}
+use Rattle.mari_units.proofs.Lists.{get_front, get_back}
 use Rattle.mari_core.proofs.Changes.{words-with_state, length-with_state, leaf_has_none, word_of_node}
 use Rattle.mari_core.proofs.Keeps.{parent_stays}
 use Rattle.mari_core.proofs.Insertions.{insert_after, occurs-insert_after, length-insert_after, walk_grows, AreLeaves}

@@ -7,7 +7,7 @@ use Rattle.mari_core.proofs.Lists.{all_get}
 use Rattle.mari_core.proofs.Children.{word_of_number}
 use Rattle.std.specs.Prelude.{slice_get}
 use Rattle.std.specs.Option.{option_map}
-use Rattle.std.proofs.lemmas.Bool.{cases_eq, cases_lt}
+use Rattle.std.proofs.lemmas.Bool.{cases_eq, cases_lt, eqb-true}
 use Rattle.std.proofs.lemmas.Bool.Decides.{nat_tests}
 use Rattle.std.proofs.lemmas.Option.{slice_get_within, slice_get_read}
 use Rattle.mari_market.specs.Prefix.{children, word_of, IsFeasibleWord, IsFeasiblePrefix, IsCleared, child_words}
@@ -19,7 +19,8 @@ use Rattle.mari_core.specs.Growth.{Grown, Entry, grown, with_state, branched, ch
 use Rattle.mari_market.specs.SearchTree.{IsNode, IsPromising}
 use Rattle.mari_core.specs.declared.event.StepFault.TheVariants.{NotTaken}
 use Rattle.mari_core.specs.Growth.Entry.{Take, Close, Branch, Full, GiveBack}
-use Rattle.mari_core.proofs.Lists.{changed_same, get_front}
+use Rattle.mari_core.proofs.Lists.{changed_same}
+use Rattle.mari_units.proofs.Lists.{get_front}
 use Rattle.mari_core.proofs.Changes.{IsAt, node_at, word_of_node, length-with_state, state_other}
 use Rattle.mari_core.proofs.Keeps.{leaf_kept, crowded_stays}
 use Rattle.mari_core.proofs.Children.{promising_by}
@@ -34,16 +35,13 @@ take_passes (Some (Taken k)) e = absurd (cc)
 take_passes (Some (Branched closed opened)) e = absurd (cc)
 take_passes (Some (Closed leaf cutoff)) e = absurd (cc)
 
-same_actor : (j k : ℕ) → (j == k) ≡ true → j ≡ k
-same_actor j k e = grind (arith, nat_tests)
-
 pub return_passes : (k : ℕ) (o : Option NodeState) → return_refused k o ≡ None → o ≡ Some (Taken k)
 return_passes k None e = absurd (cc)
 return_passes k (Some Untaken) e = absurd (cc)
 return_passes k (Some (Taken j)) e = by_test (j == k) refl e
   where
     by_test : (b : Bool) → (j == k) ≡ b → (if b then None else Some NotTaken) ≡ None → Some (Taken j) ≡ Some (Taken k)
-    by_test true same h = ap (λ (i : ℕ). Some (Taken i)) (same_actor j k same)
+    by_test true same h = ap (λ (i : ℕ). Some (Taken i)) (eqb-true j k same)
     by_test false same h = absurd (cc)
 return_passes k (Some (Branched closed opened)) e = absurd (cc)
 return_passes k (Some (Closed leaf cutoff)) e = absurd (cc)

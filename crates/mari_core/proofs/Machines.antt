@@ -31,6 +31,7 @@ use Rattle.mari_market.proofs.Search.{optimal_by_tree}
 use Rattle.mari_core.specs.declared.event.Event.TheVariants.{Settle}
 use Rattle.mari_core.proofs.Lists.{length-changed, all_changed, all_get}
 use Rattle.mari_core.proofs.Seeds.{seed_grows}
+use Rattle.std.proofs.lemmas.Bool.{eqb-true}
 
 -- ---- the actors
 
@@ -253,9 +254,6 @@ best_of_actor : (m : Market) (incumbent : ℕ) (first : Attained) (offered : ℕ
 best_of_actor m incumbent first offered None f e h = record { attained = f.attained; welfare_is = omega (arith, e, h) }
 best_of_actor m incumbent first offered (Some b) f e h = record { attained = h.0; welfare_is = h.1 ∙ e }
 
-same_by_test : (a b : ℕ) → (a == b) ≡ true → a ≡ b
-same_by_test a b e = grind (arith, nat_tests)
-
 other_by_test : (a b : ℕ) → (a == b) ≡ false → a ≡ b → ⊥
 other_by_test a b e h = grind (arith, nat_tests)
 
@@ -267,7 +265,7 @@ best_among m incumbent seen first [] f h e = record { attained = f.attained; wel
 best_among m incumbent seen first (a ∷ others) f h e = by_test (a.offered == incumbent) refl (best_among m incumbent seen first others f (All-tail (IsActor m first.welfare seen) a others h))
   where
     by_test : (b : Bool) → (a.offered == incumbent) ≡ b → (incumbent ≡ greatest first.welfare others → IsBestOf m incumbent (best_of incumbent first others)) → IsBestOf m incumbent (if b then best_or first a.best else best_of incumbent first others)
-    by_test true is rest = best_of_actor m incumbent first a.offered a.best f (same_by_test a.offered incumbent is) (All-head (IsActor m first.welfare seen) a others h).best
+    by_test true is rest = best_of_actor m incumbent first a.offered a.best f (eqb-true a.offered incumbent is) (All-head (IsActor m first.welfare seen) a others h).best
     by_test false is rest = rest (rest_is_greatest incumbent a.offered (greatest first.welfare others) e (other_by_test a.offered incumbent is))
 
 pub best_is : (s : Machine) → KeepsFacts s → IsBestOf s.tree.market s.incumbent (best_of s.incumbent s.first s.actors)
@@ -282,7 +280,7 @@ first_among m incumbent seen first [] e h = refl
 first_among m incumbent seen first (a ∷ others) e h = by_test (a.offered == incumbent) refl (first_among m incumbent seen first others e (All-tail (IsActor m first.welfare seen) a others h))
   where
     by_test : (b : Bool) → (a.offered == incumbent) ≡ b → best_of incumbent first others ≡ first → (if b then best_or first a.best else best_of incumbent first others) ≡ first
-    by_test true is rest = first_of_actor m incumbent first a.offered a.best e (same_by_test a.offered incumbent is) (All-head (IsActor m first.welfare seen) a others h).best
+    by_test true is rest = first_of_actor m incumbent first a.offered a.best e (eqb-true a.offered incumbent is) (All-head (IsActor m first.welfare seen) a others h).best
     by_test false is rest = rest
 
 -- where nothing better than the first was offered, it is the best

@@ -1,5 +1,5 @@
 -- The numbers of a day's text are in range.
-use Rattle.std.proofs.Common.{◌≡◌, ℕ, zero, suc, ◌*◌, ◌-◌, ◌<◌, ◌≤◌, ◌==◌, Bool, true, false, List, [], ◌∷◌, length, map, filter, get_or, cond, refl, arith}
+use Rattle.std.proofs.Common.{◌≡◌, ℕ, zero, suc, ◌*◌, ◌-◌, ◌<◌, ◌≤◌, ◌==◌, Bool, true, List, [], ◌∷◌, length, map, filter, get_or, refl, arith}
 use Rattle.std.specs.Prelude.{not, count_by}
 use Rattle.std.specs.List.{All, range_with_len}
 use Rattle.std.proofs.lemmas.Bool.Decides.{nat_tests}
@@ -33,24 +33,9 @@ use Rattle.mari_progress.specs.Told.{heading_of}
 use Rattle.mari_day.proofs.BlockFits.{lines-fit, IsHalf}
 use Rattle.mari_progress.proofs.Lists.{along-length}
 use Rattle.mari_progress.proofs.Sums.{one-each-provider, provider-lines}
+use Rattle.mari_remain.proofs.Counts.{filtered}
 
 module _ {X : Type 0} where
-  -- a filter of a list leaves no more that pass a test
-  fewer : (b : Bool) (x : X) (xs ys : List X) → length xs ≤ length ys → length (cond b (x ∷ xs) xs) ≤ length (cond b (x ∷ ys) ys)
-  fewer true x xs ys l = omega (arith, l)
-  fewer false x xs ys l = l
-
-  skipped : (b : Bool) (x : X) (xs ys : List X) → length xs ≤ length ys → length xs ≤ length (cond b (x ∷ ys) ys)
-  skipped true x xs ys l = omega (arith, l)
-  skipped false x xs ys l = l
-
-  filtered : (p q : X → Bool) (xs : List X) → length (filter p (filter q xs)) ≤ length (filter p xs)
-  filtered p q [] = omega arith
-  filtered p q (x ∷ xs) = elim (q x) as (λ b. length (filter p (cond b (x ∷ filter q xs) (filter q xs))) ≤ length (cond (p x) (x ∷ filter p xs) (filter p xs))) [
-    | true ↦ fewer (p x) x (filter p (filter q xs)) (filter p xs) (filtered p q xs)
-    | false ↦ skipped (p x) x (filter p (filter q xs)) (filter p xs) (filtered p q xs)
-  ]
-
   -- where each item has one of n numbers, and at most c have the same, there are at most c * n
   pub at-most-each : (number : X → ℕ) (c n : ℕ) (xs : List X) → All (λ x. Between 1 n (number x)) xs → ((k : ℕ) → count_by (λ x. number x == k) xs ≤ c) → length xs ≤ c * n
   at-most-each number c zero [] all few = omega arith

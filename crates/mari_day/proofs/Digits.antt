@@ -2,9 +2,8 @@
 use Rattle.std.proofs.Common.{◌≡◌, ℕ, ◌+◌, ◌*◌, ◌-◌, Bool, true, false, List, [], ◌∷◌, Option, Some, None, Ok, length, arith, refl, if◌then◌else◌, ℤ}
 use Rattle.std.specs.Prelude.{◌&&◌, ◌==◌, is_some, slice_index, Result}
 use Rattle.std.specs.Char.{is_ascii_digit}
-use Rattle.std.proofs.lemmas.Bool.{eqb-true}
+use Rattle.std.proofs.lemmas.Bool.{eqb-true, and_parts}
 use Rattle.mari_units.specs.Names.{is_name_byte}
-use Rattle.mari_rows.proofs.BookFacts.{both-parts}
 use Rattle.mari_calendar.specs.Dates.{day_by, day_in, number_at, two_digits}
 use Rattle.mari_calendar.specs.Midnights.{◌>>>◌, or_fault, quarters_at}
 use Rattle.mari_calendar.specs.declared.quarters.CalendarFault.{CalendarFault}
@@ -64,8 +63,8 @@ by-parts (a ∷ b ∷ c ∷ d ∷ e ∷ f ∷ g ∷ h ∷ i ∷ j ∷ k ∷ more
 named-day : (text : List ℕ) (date : ℤ) → day_in text ≡ Some date → IsDate text
 named-day text date is =
     let kept = is_tested (length text == 10 && slice_index text 4 == 45 && slice_index text 7 == 45) _ date is in
-    let second = both-parts (length text == 10 && slice_index text 4 == 45) (slice_index text 7 == 45) kept.0 in
-    let first = both-parts (length text == 10) (slice_index text 4 == 45) second.0 in
+    let second = and_parts (length text == 10 && slice_index text 4 == 45) (slice_index text 7 == 45) kept.0 in
+    let first = and_parts (length text == 10) (slice_index text 4 == 45) second.0 in
     by-parts text (eqb-true (length text) 10 first.0) (eqb-true (slice_index text 4) 45 first.1) (eqb-true (slice_index text 7) 45 second.1)
     (all-pairs (number_at text 0) (number_at text 2) (number_at text 5) (number_at text 8) date kept.1)
   where

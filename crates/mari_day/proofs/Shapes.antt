@@ -7,7 +7,8 @@ use Rattle.mari_market.specs.Activation.{IsWithinLimits}
 use Rattle.mari_market.specs.Optimal.{IsFeasible}
 use Rattle.mari_remain.specs.declared.books.Books.{Books}
 use Rattle.mari_remain.specs.declared.market.RunMarket.{RunMarket}
-use Rattle.mari_welfare.proofs.Sizes.{as_long, as_many}
+use Rattle.mari_market.proofs.Sizes.{as_many}
+use Rattle.std.proofs.lemmas.Slice.Zip.{AllZip-long}
 use Rattle.mari_progress.specs.Runs.{IsMarketOf}
 use Rattle.mari_progress.proofs.Lists.{along-length}
 use Rattle.mari_day.specs.Assembled.{HasShapes, IsPriced}
@@ -16,7 +17,7 @@ use Rattle.mari_day.specs.declared.block.Priced.{Priced}
 module _ (books : Books) (made : RunMarket) (is : IsMarketOf books made) (also : Option (List Cents)) where
   pub shapes : (clearing : Clearing) (priced : Priced) → IsPriced books made also clearing priced → IsFeasible made.market clearing.activation → HasShapes books made.bids clearing priced
   shapes clearing priced p f =
-      let flow = as_long IsWithinLimits made.market.borders clearing.activation.flow f.borders in
+      let flow = AllZip-long IsWithinLimits made.market.borders clearing.activation.flow f.borders in
       let mw = as_many made.market clearing.activation f in
       record {
         published = p.published.one_each ∙ is.zones;

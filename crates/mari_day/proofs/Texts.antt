@@ -20,7 +20,7 @@ use Rattle.mari_day.specs.Stepped.{BrokeOff, Closes, IsDayOf, Stepped, Stopped, 
 use Rattle.mari_day.specs.declared.step.Stop.TheVariants.{Sink, Memory as NoMemory}
 use Rattle.mari_progress.specs.declared.progress.Progress.{Progress}
 use Rattle.mari_day.specs.declared.step.Stop.{Stop}
-use Rattle.mari_progress.proofs.Counts.{both-kinds}
+use Rattle.mari_publish.proofs.Counts.{both-kinds}
 use Rattle.mari_day.proofs.Progressing.{part-more}
 
 -- the first line of a text

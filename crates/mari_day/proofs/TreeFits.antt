@@ -3,7 +3,8 @@ use Rattle.std.proofs.Common.{◌≡◌, ℕ, suc, ◌+◌, ◌-◌, ◌<◌, �
 use Rattle.std.proofs.lemmas.Int.{ints}
 use Rattle.std.specs.List.{All, AllZip}
 use Rattle.std.proofs.lemmas.List.Elements.{All-cons, All-nil, All-weaker}
-use Rattle.mari_welfare.proofs.Sizes.{as_long, as_many, at_most}
+use Rattle.mari_market.proofs.Sizes.{as_many, at_most}
+use Rattle.std.proofs.lemmas.Slice.Zip.{AllZip-long}
 use Rattle.mari_units.specs.declared.numbers.Cents.{Cents}
 use Rattle.mari_market.specs.declared.activation.Activation.{Activation}
 use Rattle.mari_market.specs.declared.certificate.Cut.{Cut as CutRecord}
@@ -58,7 +59,7 @@ module _ (m : Market) (v : IsValid m) where
 
   pub flows-fit : (a : Activation) → IsFeasible m a → Listed 0 256 (λ flow. Within 199998 flow) a.flow
   flows-fit a f =
-      let same = as_long IsWithinLimits m.borders a.flow f.borders in (
+      let same = AllZip-long IsWithinLimits m.borders a.flow f.borders in (
         (omega arith, omega (arith, same, v.few_borders)),
         beside (IsValidBorder m.zones) IsWithinLimits (λ flow. Within 199998 flow) (flow-fits m.zones) m.borders a.flow v.borders f.borders,
       )

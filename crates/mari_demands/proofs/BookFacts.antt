@@ -18,7 +18,8 @@ use Rattle.mari_rows.specs.Rows.{field_of}
 use Rattle.mari_rows.specs.declared.faults.BookFault.{BookFault}
 use Rattle.mari_rows.specs.declared.rows.Row.{Row}
 use Rattle.mari_rows.proofs.BookLemmas.{book-page}
-use Rattle.mari_rows.proofs.BookFacts.{all-passed, along-lines, both-parts, count_by-map, counts-at-most, found-below, not-false, number-bounds, price-within, read-within}
+use Rattle.mari_rows.proofs.BookFacts.{all-passed, along-lines, count_by-map, counts-at-most, found-below, not-false, number-bounds, price-within, read-within}
+use Rattle.std.proofs.lemmas.Bool.{and_parts}
 use Rattle.mari_zones.specs.declared.zones.ZoneBook.{ZoneBook}
 use Rattle.mari_demands.specs.Runs.{IsBefore, IsRun, IsRunBook, comes_too_late, is_direct, is_number_below, last_quarter, quarter_at, quarter_in, run_book, run_checks, run_grammar, run_of}
 use Rattle.mari_demands.specs.declared.runs.Run.{Run}
@@ -145,7 +146,7 @@ module _ (zones : ZoneBook) (runs : ℕ) where
   one-demand before line none so_far =
       let all = all-passed (line_checks zones runs before line) none in
       let run = number-bounds 1 runs (field_of line 0) (not-false _ all.1.0) in
-      let numbers = both-parts (is_some (mw_in line)) (is_inelastic line || is_some (cents_in (field_of line 3))) (not-false _ all.1.1.1.0) in
+      let numbers = and_parts (is_some (mw_in line)) (is_inelastic line || is_some (cents_in (field_of line 3))) (not-false _ all.1.1.1.0) in
       record {
         demands = All-push (λ row. IsDemand zones runs (demand_of zones runs row)) before line so_far.demands
             (record {

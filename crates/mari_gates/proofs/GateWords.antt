@@ -2,7 +2,7 @@
 use Rattle.std.proofs.Common.{◌≡◌, Bool, true, false, ℕ, zero, suc, ◌+◌, ◌<◌, ◌≤◌, List, [], ◌∷◌, ◌++◌, length, map, take, get_or, Option, Some, None, arith, refl, sym, ap, ◌∙◌, subst, not, ◌⊎◌, inl, inr}
 use mathlib.Core.Bool.{beq}
 use Rattle.std.specs.Prelude.{MatchOption, IfSome, IsTrue, ◌↔◌}
-use Rattle.std.specs.List.{AllZip, range_with_len}
+use Rattle.std.specs.List.{range_with_len}
 use Rattle.std.proofs.lemmas.Bool.{cases_lt}
 use Rattle.std.proofs.lemmas.List.{get_or_past}
 use Rattle.std.proofs.lemmas.List.FromFn.{length-map-range_with_len, map-range_with_len_more}
@@ -22,6 +22,7 @@ use Rattle.mari_market.proofs.Prefixes.{opens_within}
 use Rattle.mari_market.proofs.Search.{parents_earlier}
 use Rattle.mari_market.proofs.Words.{begins_own, length-gate_word_of, word_is_feasible}
 use Rattle.mari_gates.proofs.Decisions.{opens-decisions, length-decisions}
+use Rattle.std.proofs.lemmas.Slice.Zip.{AllZip-long}
 
 -- a prefix that decides no gate has no bit that is 1
 pub none_set : (x : Prefix) (g : ℕ) → word_of x ≡ [] → IsCleared x → g < 512 → bit_of x g ≡ false
@@ -29,15 +30,9 @@ none_set x g e cleared l =
     let none : x.length ≡ 0 = sym (length-map-range_with_len (bit_of x) 0 x.length) ∙ ap length e in
     cleared g (omega (arith, none)) l
 
-same_length : {X Y : Type 0} (P : X → Y → Type 0) (xs : List X) (ys : List Y) → AllZip P xs ys → length ys ≡ length xs
-same_length P [] [] a = refl
-same_length P (x ∷ xs) (y ∷ ys) a = ap suc (same_length P xs ys a.1)
-same_length P [] (y ∷ ys) a = absurd a
-same_length P (x ∷ xs) [] a = absurd a
-
 -- a feasible activation has as many quantities as there are orders
 pub as_many : (m : Market) (a : Activation) (os : List Order) (qs : List ℕ) → IsFeasible m a → os ≡ m.orders → qs ≡ a.mw → length qs ≡ length os
-as_many m a os qs f e h = ap length h ∙ same_length (λ o q. IsWithin (own_bounds m a o) q) m.orders a.mw f.orders ∙ sym (ap length e)
+as_many m a os qs f e h = ap length h ∙ AllZip-long (λ o q. IsWithin (own_bounds m a o) q) m.orders a.mw f.orders ∙ sym (ap length e)
 
 -- in a valid market an order's gate is one of 512
 pub few_at : (m : Market) (os : List Order) (i : ℕ) (d : Order) → IsValid m → os ≡ m.orders → i < length os → IfSome (get_or os i d).gate (λ g. g < 512)

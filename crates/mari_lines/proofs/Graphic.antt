@@ -4,7 +4,7 @@ use Rattle.std.specs.Char.{is_ascii_digit}
 use Rattle.std.specs.Int.RustNames.{unsigned_abs}
 use Rattle.std.specs.List.{list_all, slice_split, onto_first, AllByRecursion}
 use Rattle.std.specs.Fmt.{decimal, signed_decimal}
-use Rattle.std.proofs.lemmas.Bool.{lt-ltb, eqb-true}
+use Rattle.std.proofs.lemmas.Bool.{lt-ltb, eqb-true, and_parts}
 use Rattle.std.proofs.lemmas.Bool.Decides.{nat_tests}
 use Rattle.std.proofs.lemmas.List.{append-nil}
 use Rattle.std.proofs.lemmas.List.Folds.{list_all-append}
@@ -13,7 +13,7 @@ use Rattle.mari_units.specs.Names.{is_name, is_name_byte}
 use Rattle.mari_units.specs.Numbers.{sign_of, printed_cents, printed_euros, printed_ten_thousandths}
 use Rattle.mari_lines.specs.Reading.{Lacks}
 use Rattle.mari_lines.specs.Spelling.{spaced, kind_text}
-use Rattle.mari_lines.proofs.Printed.{own, and_parts}
+use Rattle.mari_lines.proofs.Printed.{own}
 use Rattle.mari_lines.proofs.Splits.{first_split, only_split, some_words}
 
 -- above the space

@@ -10,7 +10,7 @@ use Rattle.mari_units.specs.Numbers.{sign_of, printed_cents, printed_ten_thousan
 use Rattle.std.specs.Prelude.{nat_le, ◌&&◌}
 use Rattle.std.specs.List.{list_all}
 use Rattle.mari_units.specs.Names.{is_name_byte}
-use Rattle.mari_lines.proofs.Printed.{and_parts}
+use Rattle.std.proofs.lemmas.Bool.{and_parts}
 use Rattle.mari_units.specs.declared.numbers.Cents.{Cents}
 use Rattle.mari_units.specs.declared.numbers.Quarters.{Quarters}
 use Rattle.mari_market.specs.Price.{IsPrice}

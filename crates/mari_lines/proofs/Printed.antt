@@ -1,5 +1,5 @@
 -- The number that the digits of a printed number write, and its sign.
-use Rattle.std.proofs.Common.{◌≡◌, ◌<◌, ℕ, suc, ◌+◌, ◌*◌, ◌-◌, ◌/◌, ◌%◌, ◌^◌, Bool, true, false, ◌&&◌, eqb, List, [], ◌∷◌, ◌++◌, length, fold, ℤ, pos, negsuc, int_lt, refl, sym, ap, ◌∙◌, arith, rules}
+use Rattle.std.proofs.Common.{◌≡◌, ◌<◌, ℕ, suc, ◌+◌, ◌*◌, ◌-◌, ◌/◌, ◌%◌, ◌^◌, Bool, true, false, eqb, List, [], ◌∷◌, ◌++◌, length, fold, ℤ, pos, negsuc, int_lt, refl, sym, ap, ◌∙◌, arith, rules}
 use Rattle.std.specs.Char.{is_ascii_digit}
 use Rattle.std.specs.Int.RustNames.{unsigned_abs}
 use Rattle.std.specs.List.{list_all}
@@ -10,6 +10,7 @@ use Rattle.std.proofs.lemmas.Str.Parse.{IsNumeralModel, numerals_by_fold}
 use Rattle.std.proofs.lemmas.Fmt.{digits_decimal, digits_value-decimal, decimal_nonempty}
 use Rattle.mari_units.specs.Numbers.{has_minus, sign_of, printed_cents, printed_euros, printed_ten_thousandths}
 use Rattle.mari_lines.specs.Reading.{with_byte, digits_in}
+use Rattle.std.proofs.lemmas.Bool.{and_parts}
 
 abbrev pub AreDigits : List ℕ → Type 0
 AreDigits ds = list_all is_ascii_digit ds ≡ true
@@ -19,10 +20,6 @@ value_from a ds = fold (λ n d. 10 * n + (d - 48)) a ds
 
 pub own : IsNumeralModel AreDigits (value_from 0)
 own = numerals_by_fold AreDigits (search rules) value_from (search rules)
-
-pub and_parts : (a b : Bool) → (a && b) ≡ true → (a ≡ true) × (b ≡ true)
-and_parts true b e = (refl, e)
-and_parts false b e = absurd cc
 
 only_digits : (a : ℕ) (ds : List ℕ) → AreDigits ds → fold with_byte a ds ≡ value_from a ds
 only_digits a [] e = refl

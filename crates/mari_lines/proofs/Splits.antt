@@ -1,10 +1,9 @@
 -- The words of a text.
 use Rattle.std.proofs.Common.{◌≡◌, ℕ, Bool, true, false, not, eqb, List, [], ◌∷◌, ◌++◌, length, refl, ap, arith}
 use Rattle.std.specs.List.{list_all, slice_split}
-use Rattle.std.proofs.lemmas.Bool.{eq-eqb}
+use Rattle.std.proofs.lemmas.Bool.{eq-eqb, and_parts}
 use Rattle.std.proofs.lemmas.List.Splits.{length-slice_split}
 use Rattle.mari_lines.specs.Reading.{Lacks}
-use Rattle.mari_lines.proofs.Printed.{and_parts}
 
 same : (n : ℕ) → eqb n n ≡ true
 same n = eq-eqb n n refl

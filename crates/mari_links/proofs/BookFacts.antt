@@ -3,7 +3,7 @@ use Rattle.std.proofs.Common.{◌≡◌, ◌∙◌, ◌≤◌, ◌<◌, ◌==◌
 use Rattle.std.specs.Prelude.{◌&&◌, ◌||◌, nat_lt, not, is_some, option_map}
 use Rattle.std.specs.List.{All, find, list_any}
 use Rattle.std.specs.Str.{bytes_eq}
-use Rattle.std.proofs.lemmas.Bool.{eqb-true, ltb-true}
+use Rattle.std.proofs.lemmas.Bool.{eqb-true, ltb-true, and_parts}
 use Rattle.std.proofs.lemmas.Bool.Decides.{eqb_tells, nat_tests}
 use Rattle.std.proofs.lemmas.List.Elements.{All-filter, All-head, All-map, All-nil, All-push, All-tail}
 use Rattle.std.proofs.lemmas.List.FromFn.{length-map-range_with_len}
@@ -13,7 +13,7 @@ use Rattle.mari_rows.specs.Names.{place_in}
 use Rattle.mari_rows.specs.declared.faults.BookFault.{BookFault}
 use Rattle.mari_rows.specs.declared.rows.Row.{Row}
 use Rattle.mari_rows.proofs.BookLemmas.{book-page}
-use Rattle.mari_rows.proofs.BookFacts.{all-passed, along-lines, both-parts, found-below, not-false}
+use Rattle.mari_rows.proofs.BookFacts.{all-passed, along-lines, found-below, not-false}
 use Rattle.mari_bids.specs.declared.bids.BidBook.{BidBook}
 use Rattle.mari_links.specs.Links.{has_later_parent, has_wrong_quarter, link_file_checks, names_no_bid, AreLinks, IsLinkBook, IsParent, bid_named, bid_of, count_of, first_of, gated_bids, group_of, groups_of, has_too_many, is_gated, is_same_kind, kind_of, least_of, line_checks, link_book, link_grammar, link_of, links_of, named_by, parent_of, quarter_of, said_by, second_of, Member, Said}
 use Rattle.mari_links.specs.SoFar.{entries_of}
@@ -92,7 +92,7 @@ module _ (bids : BidBook) where
         → names_no_bid bids line kind ≡ not (is_some (bid_named bids (first_of line)) && is_some (bid_named bids (second_of line)))
         → (bid_of bids (first_of line) < length bids.ids) × (bid_of bids (second_of line) < length bids.ids)
     both-named kind is same =
-        let parts = both-parts (is_some (bid_named bids (first_of line))) (is_some (bid_named bids (second_of line))) (not-false _ (sym same ∙ named kind is)) in
+        let parts = and_parts (is_some (bid_named bids (first_of line))) (is_some (bid_named bids (second_of line))) (not-false _ (sym same ∙ named kind is)) in
         (found-below (bytes_eq (first_of line)) bids.ids parts.0, found-below (bytes_eq (second_of line)) bids.ids parts.1)
 
     said-more : (said : Said) → said_by bids (before ++ line ∷ []) ≡ said → All IsChild said.children → All (λ (link : Link). link.second < length bids.ids) said.timed

@@ -21,7 +21,8 @@ use Rattle.mari_market.specs.Consistent.{IsConsistentFlow}
 use Rattle.mari_network.specs.Orders.{no_order, slot_of, slots_of, IsExtra, ArePuts, capped}
 use Rattle.mari_network.specs.Network.{no_border}
 use Rattle.mari_network.proofs.Lists.{all_zip, zip_of, zip_long, zip_first, zip_rest, at_drop, map_at}
-use Rattle.mari_network.proofs.Shortfalls.{RunsSlot, RunsFlow, IsReal, AreLowest, AreHighest, out_of, into_of, least_in, most_in_slot, counts, paid_slot, cost_flow, paid_is_cost, shortfall_out, shortfall_in}
+use Rattle.mari_network.proofs.Shortfalls.{RunsSlot, RunsFlow, IsReal, AreLowest, AreHighest, out_of, into_of, least_in, most_in_slot, counts, paid_slot, paid_is_cost, shortfall_out, shortfall_in}
+use Rattle.mari_market.proofs.Duality.{cost_at}
 use Rattle.mari_network.proofs.Chains.{if_none}
 use Rattle.mari_network.proofs.Transfers.{IsOptimum, optimum_from}
 use Rattle.mari_market.proofs.Sums.{AllZip-at}
@@ -82,7 +83,7 @@ flow_runs bounds m more xs fs p e =
       tight = AllZip-at (IsConsistentFlow p) m.borders fs k no_border (pos 0) l e.tight.flows_tight;
     })
 
-ends_paid : (bounds : Order → Span) (m : Market) (more : List Slot) (xs fs : List ℤ) (p q : ℕ → ℤ) → Ends bounds m more xs fs p → (sum_along (paid_slot q) (slots_of bounds m.orders) (take (length (slots_of bounds m.orders)) xs) +ℤ sum_along (paid_slot q) more (drop (length (slots_of bounds m.orders)) xs)) ≡ sum_along (cost_flow q) m.borders fs
+ends_paid : (bounds : Order → Span) (m : Market) (more : List Slot) (xs fs : List ℤ) (p q : ℕ → ℤ) → Ends bounds m more xs fs p → (sum_along (paid_slot q) (slots_of bounds m.orders) (take (length (slots_of bounds m.orders)) xs) +ℤ sum_along (paid_slot q) more (drop (length (slots_of bounds m.orders)) xs)) ≡ sum_along (cost_at q) m.borders fs
 ends_paid bounds m more xs fs p q e =
     sym (sum_split (paid_slot q) IsWithinSlot (slots_of bounds m.orders) more xs e.running.amounts)
     ∙ paid_is_cost q m.zones (slots_of bounds m.orders ++ more) xs m.borders fs e.zones (λ k d l. let b_valid = e.valid.borders k d l in (b_valid.from, b_valid.to)) e.running.balance

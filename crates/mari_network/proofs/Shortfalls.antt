@@ -1,32 +1,26 @@
 -- Where a zone can't be balanced, the zones of the least or greatest price are a cut.
-use Rattle.std.proofs.Common.{◌&&◌, not, ◌≡◌, ◌==◌, if◌then◌else◌, Bool, true, false, ℕ, zero, suc, ◌<◌, ℤ, pos, ◌+ℤ◌, ◌-ℤ◌, ◌*ℤ◌, neg_ℤ, ◌≤ℤ◌, ◌<ℤ◌, List, [], ◌∷◌, ◌++◌, length, get_or, arith, refl, sym, ap, ◌∙◌, inl, inr}
+use Rattle.std.proofs.Common.{◌&&◌, not, ◌≡◌, if◌then◌else◌, Bool, true, false, ℕ, zero, suc, ◌<◌, ℤ, pos, ◌+ℤ◌, ◌-ℤ◌, ◌*ℤ◌, neg_ℤ, ◌≤ℤ◌, ◌<ℤ◌, List, [], ◌∷◌, ◌++◌, length, get_or, arith, refl, sym, ap, ◌∙◌, inl, inr}
 use Rattle.std.proofs.lemmas.Int.{ints, by_lt_z}
 use Rattle.std.specs.List.{All, AllZip}
 use Rattle.mari_market.specs.declared.market.Border.{Border}
 use Rattle.mari_market.specs.Sums.{int_sum, sum_along}
 use Rattle.mari_market.specs.Activation.{carried_out, IsWithinLimits}
-use Rattle.mari_market.proofs.Sums.{sum_below, sum_below-same, sum_below--, sum_below-place, spread, sum_along-same, AllZip-both, int_sum-neg, AllZip-at}
+use Rattle.mari_market.proofs.Sums.{sum_below-same, sum_below-place, spread, sum_along-same, AllZip-both, int_sum-neg, AllZip-at}
 use Rattle.mari_network.specs.declared.slots.Slot.{Slot}
 use Rattle.mari_network.specs.Slots.{slot_into, IsWithinSlot, IsTightSlot}
 use Rattle.mari_market.specs.Consistent.{IsConsistentFlow}
 use Rattle.mari_network.specs.Orders.{IsExtra}
+use Rattle.mari_market.proofs.Duality.{cost_at, cost_spread}
 
--- what slots are paid, and what borders cost, where each zone has a number
+-- what slots are paid, where each zone has a number
 abbrev pub paid_slot : (ℕ → ℤ) → Slot → ℤ → ℤ
 paid_slot p s x = p s.zone *ℤ x
 
-abbrev pub cost_flow : (ℕ → ℤ) → Border → ℤ → ℤ
-cost_flow p b f = (p b.from *ℤ f) -ℤ (p b.to *ℤ f)
-
-pub paid_is_cost : (p : ℕ → ℤ) (n : ℕ) (slots : List Slot) (xs : List ℤ) (bs : List Border) (fs : List ℤ) → All (λ (s : Slot). s.zone < n) slots → All (λ (b : Border). (b.from < n) × (b.to < n)) bs → ((z : ℕ) → z < n → sum_along (slot_into z) slots xs ≡ sum_along (carried_out z) bs fs) → sum_along (paid_slot p) slots xs ≡ sum_along (cost_flow p) bs fs
+pub paid_is_cost : (p : ℕ → ℤ) (n : ℕ) (slots : List Slot) (xs : List ℤ) (bs : List Border) (fs : List ℤ) → All (λ (s : Slot). s.zone < n) slots → All (λ (b : Border). (b.from < n) × (b.to < n)) bs → ((z : ℕ) → z < n → sum_along (slot_into z) slots xs ≡ sum_along (carried_out z) bs fs) → sum_along (paid_slot p) slots xs ≡ sum_along (cost_at p) bs fs
 paid_is_cost p n slots xs bs fs zones ends balance =
     spread p n (paid_slot p) slot_into (λ s. s.zone < n) (λ s x l. sym (sum_below-place p s.zone x n l)) slots xs zones
     ∙ sum_below-same n _ _ (λ z l. ap (λ (x : ℤ). p z *ℤ x) (balance z l))
-    ∙ sym (spread p n (cost_flow p) carried_out (λ b. (b.from < n) × (b.to < n))
-    (λ b f l. sym (sum_below-- p (λ z. if b.from == z then f else pos 0) (λ z. if b.to == z then f else pos 0) n
-    ∙ ap (λ (v : ℤ). v -ℤ sum_below n (λ z. p z *ℤ (if b.to == z then f else pos 0))) (sum_below-place p b.from f n l.0)
-    ∙ ap (λ (v : ℤ). (p b.from *ℤ f) -ℤ v) (sum_below-place p b.to f n l.1)))
-    bs fs ends)
+    ∙ sym (cost_spread p n bs fs ends)
 
 pub sum_along-append : {X Y : Type 0} (f : X → Y → ℤ) (ss rs : List X) (xs ys : List Y) → length ss ≡ length xs → sum_along f (ss ++ rs) (xs ++ ys) ≡ sum_along f ss xs +ℤ sum_along f rs ys
 sum_along-append f [] rs [] ys e = omega (arith, ints)
@@ -127,14 +121,14 @@ low_flow false true m pa pb f limit back ai ao bi bo l h more less = by_lt_z (ne
 pub shortfall_out : (n : ℕ) (m : ℤ) (p : ℕ → ℤ) (inside : ℕ → Bool) (reals extras : List Slot) (xs ws : List ℤ) (bs : List Border) (fs : List ℤ) (k : ℕ) (d : Slot)
     → pos 0 <ℤ m → AreLowest n m p inside
     → AllZip (RunsSlot n p) reals xs → AllZip (λ s x. IsReal m s) reals xs → AllZip (RunsSlot n p) extras ws → AllZip (λ s x. IsExtra m s) extras ws → AllZip (RunsFlow n p) bs fs
-    → (sum_along (paid_slot (λ z. counts (inside z))) reals xs +ℤ sum_along (paid_slot (λ z. counts (inside z))) extras ws) ≡ sum_along (cost_flow (λ z. counts (inside z))) bs fs
+    → (sum_along (paid_slot (λ z. counts (inside z))) reals xs +ℤ sum_along (paid_slot (λ z. counts (inside z))) extras ws) ≡ sum_along (cost_at (λ z. counts (inside z))) bs fs
     → k < length extras → get_or ws k (pos 0) <ℤ pos 0
     → int_sum (out_of inside) bs <ℤ int_sum (least_in inside) reals
 shortfall_out n m p inside reals extras xs ws bs fs k d h low rs real es extra flows paid there short =
     let zone : (s : Slot) (x : ℤ) → RunsSlot n p s x → IsReal m s → paid_slot (λ z. counts (inside z)) s x ≡ least_in inside s =
     λ s x r c. low_slot (inside s.zone) m (p s.zone) s.low x s.price (low.yes s.zone r.zone) c.above r.within.least r.tight.less in
     let a = sum_along-same (paid_slot (λ z. counts (inside z))) (least_in inside) reals xs (AllZip-both (RunsSlot n p) (λ s x. IsReal m s) _ zone reals xs rs real) in
-    let b = sum_along-same (cost_flow (λ z. counts (inside z))) (out_of inside) bs fs (zip_map (RunsFlow n p) _ (λ b f r. low_flow (inside b.from) (inside b.to) m (p b.from) (p b.to) f b.limit b.back (low.yes b.from r.from) (low.no b.from r.from) (low.yes b.to r.to) (low.no b.to r.to) r.within.back r.within.limit r.tight.more r.tight.less) bs fs flows) in
+    let b = sum_along-same (cost_at (λ z. counts (inside z))) (out_of inside) bs fs (zip_map (RunsFlow n p) _ (λ b f r. low_flow (inside b.from) (inside b.to) m (p b.from) (p b.to) f b.limit b.back (low.yes b.from r.from) (low.no b.from r.from) (low.yes b.to r.to) (low.no b.to r.to) r.within.back r.within.limit r.tight.more r.tight.less) bs fs flows) in
     let none : AllZip (λ s x. paid_slot (λ z. counts (inside z)) s x ≤ℤ pos 0) extras ws = AllZip-both (RunsSlot n p) (λ s x. IsExtra m s) _ (λ s x r e. low_extra (inside s.zone) m (p s.zone) x s h e (low.yes s.zone r.zone) r.within r.tight.less) extras ws es extra in
     let one = AllZip-at (RunsSlot n p) extras ws k d (pos 0) there es in
     let kind = AllZip-at (λ (s : Slot) (x : ℤ). IsExtra m s) extras ws k d (pos 0) there extra in
@@ -181,14 +175,14 @@ high_flow false true m pa pb f limit back ai ao bi bo l h more less = by_lt_z f 
 pub shortfall_in : (n : ℕ) (m : ℤ) (p : ℕ → ℤ) (inside : ℕ → Bool) (reals extras : List Slot) (xs ws : List ℤ) (bs : List Border) (fs : List ℤ) (k : ℕ) (d : Slot)
     → pos 0 <ℤ m → AreHighest n m p inside
     → AllZip (RunsSlot n p) reals xs → AllZip (λ s x. IsReal m s) reals xs → AllZip (RunsSlot n p) extras ws → AllZip (λ s x. IsExtra m s) extras ws → AllZip (RunsFlow n p) bs fs
-    → (sum_along (paid_slot (λ z. counts (inside z))) reals xs +ℤ sum_along (paid_slot (λ z. counts (inside z))) extras ws) ≡ sum_along (cost_flow (λ z. counts (inside z))) bs fs
+    → (sum_along (paid_slot (λ z. counts (inside z))) reals xs +ℤ sum_along (paid_slot (λ z. counts (inside z))) extras ws) ≡ sum_along (cost_at (λ z. counts (inside z))) bs fs
     → k < length extras → pos 0 <ℤ get_or ws k (pos 0)
     → int_sum (most_in_slot inside) reals <ℤ neg_ℤ (int_sum (into_of inside) bs)
 shortfall_in n m p inside reals extras xs ws bs fs k d h high rs real es extra flows paid there short =
     let zone : (s : Slot) (x : ℤ) → RunsSlot n p s x → IsReal m s → paid_slot (λ z. counts (inside z)) s x ≡ most_in_slot inside s =
     λ s x r c. high_slot (inside s.zone) m (p s.zone) s.high x s.price (high.yes s.zone r.zone) c.below r.within.most r.tight.more in
     let a = sum_along-same (paid_slot (λ z. counts (inside z))) (most_in_slot inside) reals xs (AllZip-both (RunsSlot n p) (λ s x. IsReal m s) _ zone reals xs rs real) in
-    let b = sum_along-same (cost_flow (λ z. counts (inside z))) (λ b. neg_ℤ (into_of inside b)) bs fs (zip_map (RunsFlow n p) _ (λ b f r. high_flow (inside b.from) (inside b.to) m (p b.from) (p b.to) f b.limit b.back (high.yes b.from r.from) (high.no b.from r.from) (high.yes b.to r.to) (high.no b.to r.to) r.within.back r.within.limit r.tight.more r.tight.less) bs fs flows) in
+    let b = sum_along-same (cost_at (λ z. counts (inside z))) (λ b. neg_ℤ (into_of inside b)) bs fs (zip_map (RunsFlow n p) _ (λ b f r. high_flow (inside b.from) (inside b.to) m (p b.from) (p b.to) f b.limit b.back (high.yes b.from r.from) (high.no b.from r.from) (high.yes b.to r.to) (high.no b.to r.to) r.within.back r.within.limit r.tight.more r.tight.less) bs fs flows) in
     let none : AllZip (λ s x. pos 0 ≤ℤ paid_slot (λ z. counts (inside z)) s x) extras ws = AllZip-both (RunsSlot n p) (λ s x. IsExtra m s) _ (λ s x r e. high_extra (inside s.zone) m (p s.zone) x s h e (high.yes s.zone r.zone) r.within r.tight.more) extras ws es extra in
     let one = AllZip-at (RunsSlot n p) extras ws k d (pos 0) there es in
     let kind = AllZip-at (λ (s : Slot) (x : ℤ). IsExtra m s) extras ws k d (pos 0) there extra in

@@ -1,7 +1,7 @@
 -- At a word that decides every gate, what lies within its bounds opens exactly the gates that the word opens.
 use Rattle.std.proofs.Common.{◌≡◌, ◌==◌, ◌&&◌, ◌||◌, if◌then◌else◌, Bool, true, false, ℕ, zero, suc, ◌+◌, ◌<◌, ◌≤◌, List, [], ◌∷◌, Option, Some, None, length, map, arith, refl, sym, ap, ◌∙◌, subst, inl, inr}
 use Rattle.std.proofs.lemmas.Bool.Decides.{nat_tests}
-use Rattle.std.proofs.lemmas.Bool.{cases_lt}
+use Rattle.std.proofs.lemmas.Bool.{cases_lt, eqb-true}
 use Rattle.std.proofs.lemmas.List.{get_or_past}
 use Rattle.std.proofs.lemmas.List.Elements.{All-head, All-tail}
 use Rattle.std.specs.Prelude.{nat_lt, slice_get, slice_index_or, MatchOption}
@@ -63,9 +63,6 @@ idle q l = grind (arith, nat_tests)
 pub busy : (q : ℕ) → 1 ≤ q → nat_lt 0 q ≡ true
 busy q l = grind (arith, nat_tests)
 
-same_gate : (h g : ℕ) → (h == g) ≡ true → h ≡ g
-same_gate h g e = grind (arith, nat_tests)
-
 pub its_gate : (g : ℕ) → (g == g) ≡ true
 its_gate g = grind (arith, nat_tests)
 
@@ -73,7 +70,7 @@ its_gate g = grind (arith, nat_tests)
 closed_idle : (state : ℕ → GateState) (gate : Option ℕ) (g : ℕ) (o : Order) (q : ℕ) → IsWithin (span_of state gate o) q → state g ≡ Closed → (is_gate g gate && nat_lt 0 q) ≡ false
 closed_idle state None g o q w e = refl
 closed_idle state (Some h) g o q w e = and_shut (h == g) (nat_lt 0 q) (λ same.
-    let shut : state h ≡ Closed = ap state (same_gate h g same) ∙ e in
+    let shut : state h ≡ Closed = ap state (eqb-true h g same) ∙ e in
     let none : IsWithin (gated_span Closed o) q = subst (λ (s : GateState). IsWithin (gated_span s o) q) shut w in
     idle q none.most)
 

@@ -1,7 +1,7 @@
 -- What each zone is short of, kept as slots and borders are gone over.
 use Rattle.std.proofs.Common.{◌≡◌, ◌==◌, if◌then◌else◌, Bool, true, false, ℕ, ◌+◌, ◌<◌, ◌≤◌, ℤ, pos, ◌+ℤ◌, ◌-ℤ◌, List, length, set, arith, refl, sym, ap, ◌∙◌, inl, inr, get_or-set_other}
 use Rattle.std.proofs.lemmas.Int.{ints}
-use Rattle.std.proofs.lemmas.Bool.{cases_eq}
+use Rattle.std.proofs.lemmas.Bool.{cases_eq, eqb-true}
 use Rattle.std.proofs.lemmas.List.{get_or-set_same}
 use Rattle.std.specs.List.{All, AllZip}
 use Rattle.mari_market.specs.declared.market.Border.{Border}
@@ -33,14 +33,11 @@ more_if : (b : Bool) (a c x : ℤ) → (b ≡ true → a ≡ c) → (if b then a
 more_if true a c x e = omega (arith, ints, e refl)
 more_if false a c x e = omega (arith, ints)
 
-same_place : (k z : ℕ) → (k == z) ≡ true → k ≡ z
-same_place k z e = grind (arith)
-
 pub less_at : (xs : List ℤ) (k z : ℕ) (x : ℤ) → k < length xs → amount_at (set xs k (amount_at xs k -ℤ x)) z ≡ amount_at xs z -ℤ at_zone z k x
-less_at xs k z x l = set_at xs k z (amount_at xs k -ℤ x) l ∙ less_if (k == z) (amount_at xs k) (amount_at xs z) x (λ e. ap (λ (j : ℕ). amount_at xs j) (same_place k z e))
+less_at xs k z x l = set_at xs k z (amount_at xs k -ℤ x) l ∙ less_if (k == z) (amount_at xs k) (amount_at xs z) x (λ e. ap (λ (j : ℕ). amount_at xs j) (eqb-true k z e))
 
 pub more_at : (xs : List ℤ) (k z : ℕ) (x : ℤ) → k < length xs → amount_at (set xs k (amount_at xs k +ℤ x)) z ≡ amount_at xs z +ℤ at_zone z k x
-more_at xs k z x l = set_at xs k z (amount_at xs k +ℤ x) l ∙ more_if (k == z) (amount_at xs k) (amount_at xs z) x (λ e. ap (λ (j : ℕ). amount_at xs j) (same_place k z e))
+more_at xs k z x l = set_at xs k z (amount_at xs k +ℤ x) l ∙ more_if (k == z) (amount_at xs k) (amount_at xs z) x (λ e. ap (λ (j : ℕ). amount_at xs j) (eqb-true k z e))
 
 near_if : (b : Bool) (m : ℕ) (x : ℤ) → IsNear m x → IsNear m (if b then x else pos 0)
 near_if true m x n = n

@@ -6,7 +6,7 @@ use Rattle.std.specs.BinaryHeap.{IsUpperBound}
 use Rattle.std.proofs.lemmas.Option.{get_or_from_slice_get, slice_get_within}
 use Rattle.std.proofs.lemmas.List.Elements.{All-from_recursion, All-cons, All-head, All-tail, All-map, All-weaker}
 use Rattle.std.proofs.lemmas.List.Sorted.{All-permutation}
-use Rattle.mari_core.proofs.Lists.{get_front, get_back}
+use Rattle.mari_units.proofs.Lists.{get_front, get_back}
 use Rattle.mari_pool.specs.Queued.{Waiting, number_in, by_key, IsAhead, IsKeyed}
 
 -- ---- the order

@@ -15,7 +15,7 @@ use Rattle.mari_core.specs.Growth.{Grown, Entry, grown, with_state, children_at,
 use Rattle.mari_core.specs.Growth.Entry.{Take, Close, Branch, Full, GiveBack}
 use Rattle.mari_core.proofs.Changes.{IsAt, node_at, length-with_state, state_other, state_same}
 use Rattle.mari_core.proofs.Entries.{within_nodes}
-use Rattle.mari_core.proofs.Lists.{get_back, get_front}
+use Rattle.mari_units.proofs.Lists.{get_back, get_front}
 use Rattle.mari_pool.specs.Pooled.{keys_after, taken_in, taken_among}
 use Rattle.mari_pool.specs.Queued.{Queued, no_nodes, numbers_from, first_key, waits_in, untaken_among, CanFollow, Follows, IsAhead, IsBack, IsFirst, IsFirstWaiting, IsMore, IsQueueOf}
 use Rattle.mari_pool.proofs.Rooms.{comes, taken_state}
@@ -321,7 +321,7 @@ pub record IsFollowed (g : Grown) (e : Entry) (key : ℕ) (q r : Queued) : Type 
   pub keys : r.keys ≡ keys_after g e q.keys key
   pub room : r.room ≡ q.room
 
-branch_done : (first : ℕ) (words : List (List Bool)) → waits_in (Some (branch_of first words)) ≡ 0
+pub branch_done : (first : ℕ) (words : List (List Bool)) → waits_in (Some (branch_of first words)) ≡ 0
 branch_done first [] = refl
 branch_done first (c ∷ []) = refl
 branch_done first (c ∷ o ∷ rest) = refl

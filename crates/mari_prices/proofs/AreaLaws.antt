@@ -10,20 +10,14 @@ use Rattle.mari_market.specs.Area.InOneArea.{itself, further}
 use Rattle.mari_market.specs.Market.{IsValid, IsValidBorder}
 use Rattle.mari_market.specs.declared.along.Along.TheVariants.{Joined}
 use Rattle.mari_prices.specs.declared.spread.SettledZone.{SettledZone}
-use Rattle.mari_market.specs.Along.{LeadsOver, LeadsTo}
+use Rattle.mari_market.specs.Along.{LeadsTo}
 use Rattle.mari_prices.specs.Firsts.{ArePlaces, first_in, first_at, AreFirsts, AreNumbered}
 use Rattle.mari_prices.specs.Spread.{entry_at, value_in, IsFirst, IsAfter, SpreadsAlong}
 use Rattle.mari_prices.proofs.Extremes.{entry_within}
-use Rattle.mari_prices.proofs.Spreads.{AnyZip-map, AnyZip-of}
+use Rattle.mari_prices.proofs.Spreads.{AnyZip-of}
+use Rattle.mari_market.proofs.Joins.{joins_other, area_on, area_back}
 
 -- ---- joins
-
-joins_back : (y z : ℕ) (b : Border) (f : ℤ) → LeadsOver Joined y z b f → LeadsOver Joined z y b f
-joins_back y z b f (inl l) = inr (l.1, l.0, l.2)
-joins_back y z b f (inr l) = inl (l.1, l.0, l.2)
-
-joins_other : (m : Market) (a : Activation) (y z : ℕ) → Joins m a y z → Joins m a z y
-joins_other m a y z j = AnyZip-map (LeadsOver Joined y z) (LeadsOver Joined z y) (joins_back y z) m.borders a.flow j
 
 join_ends : (n y z : ℕ) (b : Border) (f : ℤ) → IsValidBorder n b → LeadsOver Joined y z b f → (y < n) × (z < n)
 join_ends n y z b f v (inl l) = (subst (λ (x : ℕ). x < n) l.0 v.from, subst (λ (x : ℕ). x < n) l.1 v.to)
@@ -31,14 +25,6 @@ join_ends n y z b f v (inr l) = (subst (λ (x : ℕ). x < n) l.0 v.to, subst (λ
 
 joins_within : (m : Market) (a : Activation) (y z : ℕ) → IsValid m → Joins m a y z → (y < m.zones) × (z < m.zones)
 joins_within m a y z v j = AnyZip-of (IsValidBorder m.zones) (LeadsOver Joined y z) ((y < m.zones) × (z < m.zones)) (λ b f p k. join_ends m.zones y z b f p k) m.borders a.flow v.borders j
-
-area_on : (m : Market) (a : Activation) (x y z : ℕ) → InOneArea m a x y → InOneArea m a y z → InOneArea m a x z
-area_on m a x y _ h itself = h
-area_on m a x y _ h (further w z k j) = further w z (area_on m a x y w h k) j
-
-area_back : (m : Market) (a : Activation) (y z : ℕ) → InOneArea m a y z → InOneArea m a z y
-area_back m a y _ itself = itself
-area_back m a y _ (further w z k j) = area_on m a z w y (further z w itself (joins_other m a w z j)) (area_back m a y w k)
 
 -- ---- first zones
 

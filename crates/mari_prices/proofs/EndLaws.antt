@@ -21,9 +21,10 @@ use Rattle.mari_prices.specs.declared.spread.SettledZone.{SettledZone}
 use Rattle.mari_market.specs.Along.{LeadsTo}
 use Rattle.mari_prices.specs.Ends.{along_of, IsEnd, ArePriced, ArePricesOf, AreTrails, AreUncontradicted, IsContradicted, Follows, IsTrailTo}
 use Rattle.mari_prices.specs.Spread.{entry_at, value_in, IsFirst, IsAfter, IsSpreading}
-use Rattle.mari_prices.proofs.Agree.{KeepsAll, keeps_consistent, consistent_keeps}
+use Rattle.mari_market.proofs.Agree.{KeepsAll, keeps_consistent, consistent_keeps}
 use Rattle.mari_prices.proofs.Extremes.{entry_within, spread_least}
-use Rattle.mari_prices.proofs.Spreads.{AnyZip-of, lower_spreads, lower_from, upper_spreads, upper_from, falling_spreads, falling_from, bound_price}
+use Rattle.mari_prices.proofs.Spreads.{AnyZip-of, lower_spreads, lower_from, upper_spreads, upper_from, bound_price}
+use Rattle.mari_market.proofs.Leading.{falling_spreads, falling_from}
 
 -- a border leads between zones that are there
 leads_over : (n y z : ℕ) (b : Border) (f : ℤ) → IsValidBorder n b → LeadsBy y z b f → (y < n) × (z < n)

@@ -3,7 +3,6 @@ pub mod Lists
 pub mod Tight
 pub mod Spreads
 pub mod Extremes
-pub mod Agree
 pub mod EndLaws
 pub mod Numbers
 pub mod AreaLaws

@@ -1,5 +1,5 @@
 -- How many blocks are published and how many aren't.
-use Rattle.std.proofs.Common.{◌≡◌, ℕ, ◌+◌, List, [], ◌∷◌, ◌++◌, length, refl, ap, arith}
+use Rattle.std.proofs.Common.{◌≡◌, ℕ, ◌+◌, List, [], ◌∷◌, ◌++◌, refl, ap}
 use Rattle.mari_lines.specs.declared.line.Heading.{Heading}
 use Rattle.mari_publish.specs.declared.publication.Block.{Block}
 use Rattle.mari_publish.specs.declared.publication.Block.TheVariants as block
@@ -27,9 +27,3 @@ pub unpublished-more : (blocks : List Block) (heading : Heading) (count : ℕ) �
 unpublished-more [] heading count = refl
 unpublished-more (block.Published x ∷ bs) heading count = unpublished-more bs heading count
 unpublished-more (block.Unpublished h c ∷ bs) heading count = ap (λ n. n + 1) (unpublished-more bs heading count)
-
--- each block is of either kind
-pub both-kinds : (blocks : List Block) → published_in blocks + unpublished_in blocks ≡ length blocks
-both-kinds [] = refl
-both-kinds (block.Published b ∷ bs) = let more = both-kinds bs in omega (arith, more)
-both-kinds (block.Unpublished heading count ∷ bs) = let more = both-kinds bs in omega (arith, more)

@@ -28,7 +28,8 @@ use Rattle.mari_progress.specs.Behind.{also_behind, before_of, market_behind, pa
 use Rattle.mari_progress.specs.Progress.{IsProgress, KeepsPrices}
 use Rattle.mari_progress.specs.Runs.{IsMarketOf, IsNextRun, IsRunOf}
 use Rattle.mari_progress.specs.Told.{activation_of, heading_of}
-use Rattle.mari_progress.proofs.Counts.{both-kinds, published-more, published-same}
+use Rattle.mari_progress.proofs.Counts.{published-more, published-same}
+use Rattle.mari_publish.proofs.Counts.{both-kinds}
 use Rattle.mari_progress.proofs.Made.{market-of}
 use Rattle.mari_progress.proofs.Past.{next-block, past-published}
 use Rattle.mari_progress.proofs.Scheduling.{keeps-direct, keeps-scheduled, keeps-unpublished}

@@ -8,7 +8,7 @@ use Rattle.mari_market.specs.Optimal.{IsFeasible}
 use Rattle.mari_market.specs.declared.activation.Activation.{Activation}
 use Rattle.mari_market.specs.declared.market.Market.{Market}
 use Rattle.mari_market.specs.declared.market.Order.{Order}
-use Rattle.mari_welfare.proofs.Sizes.{at_most}
+use Rattle.mari_market.proofs.Sizes.{at_most}
 
 -- first orders of at most 9,999 MW run at most as much
 module _ (m : Market) (a : Activation) where

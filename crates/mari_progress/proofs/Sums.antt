@@ -28,7 +28,8 @@ use Rattle.mari_progress.specs.Progress.{AreTotals}
 use Rattle.mari_progress.specs.Totals.{amount_in, amount_over, money_together, operator_totals, provider_total, provider_totals, with_operators}
 use Rattle.mari_progress.specs.Told.{name_at}
 use Rattle.mari_progress.proofs.Keeping.{no-nets}
-use Rattle.mari_progress.proofs.Lists.{along-length, same-over}
+use Rattle.mari_progress.proofs.Lists.{along-length}
+use Rattle.mari_units.proofs.Lists.{same_over}
 
 -- the net of two lines together is that of each, together
 net-together : (name : List ℕ) (l m : OperatorLine) → money_together (money_line name l) (money_line name m) ≡ money_line name (lines_together l m)
@@ -83,7 +84,7 @@ module _ (books : Books) (blocks : List Block) (sums : Ledger) (so_far : AreTota
 
   -- whose lines are the totals
   pub provider-lines : map (amount_line books.bids.providers sums.providers) (range_with_len 0 (length books.bids.providers)) ≡ provider_totals books blocks
-  provider-lines = same-over (amount_line books.bids.providers sums.providers) (provider_total books blocks) 0 (length books.bids.providers)
+  provider-lines = same_over (amount_line books.bids.providers sums.providers) (provider_total books blocks) 0 (length books.bids.providers)
       (λ k from below. ap (λ (q : Quarters). record { name = name_at books.bids.providers k; amount = q })
       (ap (λ (qs : List Quarters). slice_index_or qs k nothing) so_far.providers ∙ get_or-map-range_with_len _ 0 (length books.bids.providers) k k nothing (omega (arith, below)) (omega arith)))
 

@@ -1,8 +1,8 @@
 -- An activation of a prefix's gate word, order by order.
-use Rattle.std.proofs.Common.{◌≡◌, ◌&&◌, ◌||◌, if◌then◌else◌, Bool, true, false, ℕ, ◌<◌, ◌≤◌, List, [], ◌∷◌, length, map, get_or, Option, Some, None, arith, subst, refl, sym, ap, ◌∙◌, suc, inl, inr}
+use Rattle.std.proofs.Common.{◌≡◌, ◌&&◌, ◌||◌, if◌then◌else◌, Bool, true, false, ℕ, ◌<◌, ◌≤◌, List, [], ◌∷◌, length, map, get_or, Option, Some, None, arith, subst, refl, sym, ap, ◌∙◌, inl, inr}
 use Rattle.std.specs.Prelude.{nat_lt, MatchOption, Any, IfSome, IsTrue, ◌↔◌}
 use Rattle.std.specs.List.{All, AllZip, range_with_len}
-use Rattle.std.proofs.lemmas.Bool.{cases_lt}
+use Rattle.std.proofs.lemmas.Bool.{cases_lt, and_parts}
 use Rattle.std.proofs.lemmas.Bool.Decides.{nat_tests}
 use Rattle.std.proofs.lemmas.List.{get_or_past}
 use Rattle.std.proofs.lemmas.List.FromFn.{get_or-map-range_with_len, length-map-range_with_len}
@@ -23,8 +23,8 @@ use Rattle.mari_gates.proofs.GateWords.{same_map}
 use Rattle.mari_welfare.proofs.Open.{runs_here}
 use Rattle.mari_proofs.specs.Conflicts.{decides, RunsAsDecided, HasDecidedGate}
 use Rattle.mari_market.proofs.Conflicts.{none_past}
-use Rattle.mari_market.proofs.Words.{and_both}
 use Rattle.std.specs.Cmp.Derive.{both_true}
+use Rattle.std.proofs.lemmas.Slice.Zip.{AllZip-long}
 
 of_gate : (g : ℕ) (gate : Option ℕ) → is_gate g gate ≡ true → gate ≡ Some g
 of_gate g None e = absurd (cc)
@@ -41,7 +41,7 @@ runs_at : (opens : ℕ → Bool) (g : ℕ) (gate : Option ℕ) (q : ℕ) (rest :
 runs_at opens g gate q rest r later e = by_test (is_gate g gate && nat_lt 0 q) refl e
   where
     by_test : (b : Bool) → (is_gate g gate && nat_lt 0 q) ≡ b → (b || rest) ≡ true → opens g ≡ true
-    by_test true is h = let both = and_both (is_gate g gate) (nat_lt 0 q) is in runs_test opens g gate q (of_gate g gate both.0) r ∙ both.1
+    by_test true is h = let both = and_parts (is_gate g gate) (nat_lt 0 q) is in runs_test opens g gate q (of_gate g gate both.0) r ∙ both.1
     by_test false is h = later h
 
 -- a gate that an order runs for is decided open
@@ -65,12 +65,6 @@ same_tests true b f g = sym (f refl)
 same_tests false true f g = g refl
 same_tests false false f g = refl
 
-pub same_length : {X Y : Type 0} (P : X → Y → Type 0) (xs : List X) (ys : List Y) → AllZip P xs ys → length ys ≡ length xs
-same_length P [] [] a = refl
-same_length P (x ∷ xs) (y ∷ ys) a = ap suc (same_length P xs ys a.1)
-same_length P [] (y ∷ ys) a = absurd a
-same_length P (x ∷ xs) [] a = absurd a
-
 -- where each order runs exactly where its gate is decided open, the gate word is the prefix's
 pub word_where_run : (m : Market) (x : Prefix) (a : Activation) → IsValid m → x.length ≡ length m.gates → AllZip (λ (o : Order) q. RunsAsDecided (decides x) o.gate q) m.orders a.mw → gate_word_of m a ≡ word_of x
 word_where_run m x a v full run =
@@ -79,7 +73,7 @@ word_where_run m x a v full run =
     each : (g : ℕ) → g < length m.gates → is_open m a g ≡ bit_of x g
     each g h = same_tests (is_open m a g) (bit_of x g)
         (λ e. sym (opens-decisions x x.length g (omega arith)) ∙ runs_open (decides x) g m.orders a.mw run e)
-        (λ e. open_runs (decides x) g m.orders a.mw (same_length (λ (o : Order) q. RunsAsDecided (decides x) o.gate q) m.orders a.mw run) (v.gates g h).used run (opens-decisions x x.length g (omega arith) ∙ e))
+        (λ e. open_runs (decides x) g m.orders a.mw (AllZip-long (λ (o : Order) q. RunsAsDecided (decides x) o.gate q) m.orders a.mw run) (v.gates g h).used run (opens-decisions x x.length g (omega arith) ∙ e))
 
 -- the gates of an activation of that word are open as the prefix decides
 pub open_at : (m : Market) (x : Prefix) (a : Activation) (g : ℕ) → g < length m.gates → gate_word_of m a ≡ word_of x → is_open m a g ≡ decides x g
@@ -118,7 +112,7 @@ all_decided m n os v same full = subst (λ (xs : List Order). All (HasDecidedGat
     of_option (Some g) least f = let l : g < length m.gates = f.0 in omega (arith, full)
 
 pub lengths_read : {X Y : Type 0} (P : X → Y → Type 0) (xs os : List X) (ys qs : List Y) → AllZip P xs ys → os ≡ xs → qs ≡ ys → length qs ≡ length os
-lengths_read P xs os ys qs a e f = ap length f ∙ same_length P xs ys a ∙ sym (ap length e)
+lengths_read P xs os ys qs a e f = ap length f ∙ AllZip-long P xs ys a ∙ sym (ap length e)
 
 -- the test of the gate word
 pub word_test : (m : Market) (x : Prefix) (a : Activation) (os : List Order) (qs : List ℕ) (answer : Bool) → IsValid m → IsFeasible m a → x.length ≡ length m.gates → os ≡ m.orders → qs ≡ a.mw → (IsTrue answer ↔ AllZip (λ (o : Order) q. RunsAsDecided (decides x) o.gate q) os qs) → IsTrue answer ↔ (gate_word_of m a ≡ word_of x)

@@ -17,7 +17,7 @@ use Rattle.mari_publish.specs.Texts.{text_of_lines}
 use Rattle.mari_publish.specs.Order.{nothing_kept}
 use Rattle.mari_publish.specs.Faults.{IsText, BadLineAt, BadOrderAt, TruncatedAt}
 use Rattle.mari_publish.specs.Pieces.{Gives, parts_so_far, ComeState, IsAhead, ComesFrom, NoLineIn, HasNoLine, IsWhole, HasPart, IsEnd}
-use Rattle.mari_lines.proofs.Printed.{and_parts}
+use Rattle.std.proofs.lemmas.Bool.{and_parts}
 use Rattle.mari_publish.proofs.Follows.{and_true}
 use Rattle.mari_publish.proofs.Progress.{whole_text, truncated}
 use Rattle.mari_publish.proofs.Outcomes.{text_truncated, truncated_number}

@@ -1,7 +1,7 @@
 -- A text has one outcome.
 use Rattle.std.proofs.Common.{◌≡◌, ℕ, ◌+◌, Bool, true, false, not, eqb, List, [], ◌∷◌, ◌++◌, length, Result, Ok, Err, ◌⊎◌, inl, inr, refl, sym, ap, subst, ◌∙◌, append_assoc}
 use Rattle.std.specs.List.{list_all}
-use Rattle.std.proofs.lemmas.Bool.{eq-eqb}
+use Rattle.std.proofs.lemmas.Bool.{eq-eqb, and_parts}
 use Rattle.std.proofs.lemmas.List.{append-nil}
 use Rattle.mari_publish.specs.declared.publication.Publication.{Publication}
 use Rattle.mari_lines.specs.declared.line.Line.{Line}
@@ -13,7 +13,6 @@ use Rattle.mari_lines.specs.Reading.{Lacks}
 use Rattle.mari_lines.specs.Spelling.{spelling, line_text}
 use Rattle.mari_publish.specs.Texts.{text_of_lines}
 use Rattle.mari_publish.specs.Faults.{Begins, IsText, BadLineAt, BadOrderAt, TruncatedAt, IsOutcome, Answers}
-use Rattle.mari_lines.proofs.Printed.{and_parts}
 use Rattle.mari_lines.proofs.LineWords.{no_feed}
 use Rattle.mari_lines.proofs.SameLine.{same_line}
 use Rattle.mari_publish.proofs.Whole.{all_front, all_back}

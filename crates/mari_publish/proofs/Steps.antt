@@ -1,7 +1,7 @@
 -- A line that may follow is the next line of what has come.
 use Rattle.std.proofs.Common.{◌≡◌, ◌≤◌, ◌<◌, ◌+◌, ℕ, Bool, true, false, cond, ◌&&◌, List, [], ◌∷◌, ◌++◌, map, length, Option, Some, None, refl, sym, ap, subst, ◌∙◌, append_assoc, length-append, arith, ltb, eqb}
 use Rattle.std.specs.List.{flat_map}
-use Rattle.std.proofs.lemmas.Bool.{eqb-true, ltb-true}
+use Rattle.std.proofs.lemmas.Bool.{eqb-true, ltb-true, and_parts}
 use Rattle.std.proofs.lemmas.List.{append-nil, nil_from_length, map_push}
 use Rattle.std.proofs.lemmas.Grind.{flat_map-append}
 use Rattle.mari_market.specs.declared.certificate.Leaf.TheVariants as leaves
@@ -36,10 +36,6 @@ some x = Some x
 
 pub some_is : {A : Type 0} (x y : A) → some x ≡ some y → x ≡ y
 some_is x y e = cc
-
-pub both : (a b : Bool) → (a && b) ≡ true → (a ≡ true) × (b ≡ true)
-both true b e = (refl, e)
-both false b e = absurd cc
 
 -- a block's lists keep to the limits, and none begins before there is a zone
 pub record ListingFits (b : Listing) : Type 0 where
@@ -132,9 +128,9 @@ pub listing_step : (p : Publication) (b : Listing) (l : Line) (h : Held) → Hel
 listing_step p b (line.Zone z) h fits e =
     let made = held.Listing (record { heading = b.heading; welfare = b.welfare; zones = b.zones ++ z ∷ []; borders = b.borders; bids = b.bids; demands = b.demands }) in
     let t = some_if (empty b.borders && empty b.bids && empty b.demands && ltb (length b.zones) 64) made h e in
-    let s1 = both (empty b.borders && empty b.bids && empty b.demands) (ltb (length b.zones) 64) t.0 in
-    let s2 = both (empty b.borders && empty b.bids) (empty b.demands) s1.0 in
-    let s3 = both (empty b.borders) (empty b.bids) s2.0 in
+    let s1 = and_parts (empty b.borders && empty b.bids && empty b.demands) (ltb (length b.zones) 64) t.0 in
+    let s2 = and_parts (empty b.borders && empty b.bids) (empty b.demands) s1.0 in
+    let s3 = and_parts (empty b.borders) (empty b.bids) s2.0 in
     let room : length b.zones < 64 = ltb-true _ _ s1.1 in
     let len = longer b.zones z in
     let f = fits.1 in
@@ -144,9 +140,9 @@ listing_step p b (line.Zone z) h fits e =
 listing_step p b (line.Border x) h fits e =
     let made = held.Listing (record { heading = b.heading; welfare = b.welfare; zones = b.zones; borders = b.borders ++ x ∷ []; bids = b.bids; demands = b.demands }) in
     let t = some_if (ltb 0 (length b.zones) && empty b.bids && empty b.demands && ltb (length b.borders) 256) made h e in
-    let s1 = both (ltb 0 (length b.zones) && empty b.bids && empty b.demands) (ltb (length b.borders) 256) t.0 in
-    let s2 = both (ltb 0 (length b.zones) && empty b.bids) (empty b.demands) s1.0 in
-    let s3 = both (ltb 0 (length b.zones)) (empty b.bids) s2.0 in
+    let s1 = and_parts (ltb 0 (length b.zones) && empty b.bids && empty b.demands) (ltb (length b.borders) 256) t.0 in
+    let s2 = and_parts (ltb 0 (length b.zones) && empty b.bids) (empty b.demands) s1.0 in
+    let s3 = and_parts (ltb 0 (length b.zones)) (empty b.bids) s2.0 in
     let some : 0 < length b.zones = ltb-true _ _ s3.0 in
     let room : length b.borders < 256 = ltb-true _ _ s1.1 in
     let len = longer b.borders x in
@@ -157,8 +153,8 @@ listing_step p b (line.Border x) h fits e =
 listing_step p b (line.Bid d) h fits e =
     let made = held.Listing (record { heading = b.heading; welfare = b.welfare; zones = b.zones; borders = b.borders; bids = b.bids ++ d ∷ []; demands = b.demands }) in
     let t = some_if (ltb 0 (length b.zones) && empty b.demands && ltb (length b.bids) 4096) made h e in
-    let s1 = both (ltb 0 (length b.zones) && empty b.demands) (ltb (length b.bids) 4096) t.0 in
-    let s2 = both (ltb 0 (length b.zones)) (empty b.demands) s1.0 in
+    let s1 = and_parts (ltb 0 (length b.zones) && empty b.demands) (ltb (length b.bids) 4096) t.0 in
+    let s2 = and_parts (ltb 0 (length b.zones)) (empty b.demands) s1.0 in
     let some : 0 < length b.zones = ltb-true _ _ s2.0 in
     let room : length b.bids < 4096 = ltb-true _ _ s1.1 in
     let len = longer b.bids d in
@@ -169,7 +165,7 @@ listing_step p b (line.Bid d) h fits e =
 listing_step p b (line.Demand place m) h fits e =
     let made = held.Listing (record { heading = b.heading; welfare = b.welfare; zones = b.zones; borders = b.borders; bids = b.bids; demands = b.demands ++ m ∷ [] }) in
     let t = some_if (ltb 0 (length b.zones) && eqb place (length b.demands + 1)) made h e in
-    let s1 = both (ltb 0 (length b.zones)) (eqb place (length b.demands + 1)) t.0 in
+    let s1 = and_parts (ltb 0 (length b.zones)) (eqb place (length b.demands + 1)) t.0 in
     let some : 0 < length b.zones = ltb-true _ _ s1.0 in
     let f = fits.1 in
     let new : HeldFits p made = (fits.0, record { zones = f.zones; borders = f.borders; bids = f.bids; border_later = λ _. some; bid_later = λ _. some; demand_later = λ _. some }) in
@@ -253,7 +249,7 @@ pub ending_step : (p : Publication) (n : Ending) (l : Line) (h : Held) → HeldF
 ending_step p n (line.Operator o) h fits e =
     let made = held.Ending (record { listing = n.listing; tree = n.tree; operators = n.operators ++ o ∷ []; providers = n.providers }) in
     let t = some_if (empty n.providers && ltb (length n.operators) 64) made h e in
-    let s = both (empty n.providers) (ltb (length n.operators) 64) t.0 in
+    let s = and_parts (empty n.providers) (ltb (length n.operators) 64) t.0 in
     let room : length n.operators < 64 = ltb-true _ _ s.1 in
     let len = longer n.operators o in
     let lines : (ps : List AmountLine) → ps ≡ [] → listing_lines n.listing ++ line.Tree (length n.tree) ∷ (flat_map item_lines n.tree ++ (map line.Operator (n.operators ++ o ∷ []) ++ map line.Provider ps))
@@ -286,7 +282,7 @@ ending_step p n _ h fits e = absurd cc
 pub totals_step : (p : Publication) (os : List MoneyLine) (ps : List AmountLine) (l : Line) (h : Held) → HeldFits p (held.Totals os ps) → after_totals os ps l ≡ Some h → Moves p (held.Totals os ps) l h
 totals_step p os ps (line.TotalOperator o) h fits e =
     let t = some_if (empty ps && ltb (length os) 64) (held.Totals (os ++ o ∷ []) ps) h e in
-    let s = both (empty ps) (ltb (length os) 64) t.0 in
+    let s = and_parts (empty ps) (ltb (length os) 64) t.0 in
     let room : length os < 64 = ltb-true _ _ s.1 in
     let len = longer os o in
     let lines : (qs : List AmountLine) → qs ≡ [] → map line.TotalOperator (os ++ o ∷ []) ++ map line.TotalProvider qs ≡ (map line.TotalOperator os ++ map line.TotalProvider qs) ++ line.TotalOperator o ∷ []

@@ -1,7 +1,7 @@
 -- What has come stands for the lines read, at each moment.
 use Rattle.std.proofs.Common.{◌≡◌, ◌≤◌, ◌<◌, ℕ, ◌+◌, true, ◌&&◌, List, [], ◌∷◌, ◌++◌, map, length, Option, Some, None, refl, sym, ap, subst, ◌∙◌, append_assoc, length-append, arith, ltb, eqb}
 use Rattle.std.specs.List.{flat_map, AllByRecursion}
-use Rattle.std.proofs.lemmas.Bool.{eqb-true, ltb-true}
+use Rattle.std.proofs.lemmas.Bool.{eqb-true, ltb-true, and_parts}
 use Rattle.std.proofs.lemmas.List.{append-nil}
 use Rattle.std.proofs.lemmas.Grind.{flat_map-append}
 use Rattle.mari_publish.specs.declared.publication.Block.{Block}
@@ -18,8 +18,8 @@ use Rattle.mari_publish.specs.declared.held.Kept.{Kept}
 use Rattle.mari_publish.specs.Lines.{item_lines, demand_lines, block_lines, published_in, unpublished_in, front_lines}
 use Rattle.mari_lines.specs.Ranges.{Between}
 use Rattle.mari_publish.specs.Order.{ending_part, after_listing, after_growing, after_ending, after_totals, full_block, keeps, kept_with, one_published, one_unpublished, starts_block, after, grown, lines_so_far}
-use Rattle.mari_publish.proofs.Counts.{counted}
-use Rattle.mari_publish.proofs.Steps.{some_if, some_is, both, ListingFits, HeldFits, Moves, listing_step, growing_step, ending_step, totals_step}
+use Rattle.mari_publish.proofs.Counts.{both-kinds}
+use Rattle.mari_publish.proofs.Steps.{some_if, some_is, ListingFits, HeldFits, Moves, listing_step, growing_step, ending_step, totals_step}
 
 pub all_front : {X : Type 0} (P : X → Type 0) (xs ys : List X) → AllByRecursion P (xs ++ ys) → AllByRecursion P xs
 all_front P [] ys a = tt
@@ -113,7 +113,7 @@ block_next ls p k new h l b s within room e ep eu = record {
 }
 
 room_of : (ls : List Line) (p : Publication) (k : Kept) (h : Held) → Stands ls p k h → ltb (k.counts.published + k.counts.unpublished) 1000 ≡ true → length p.blocks < 1000
-room_of ls p k h s e = let c = counted p.blocks in let lt = ltb-true (k.counts.published + k.counts.unpublished) 1000 e in omega (arith, c, lt, s.published, s.unpublished)
+room_of ls p k h s e = let c = both-kinds p.blocks in let lt = ltb-true (k.counts.published + k.counts.unpublished) 1000 e in omega (arith, c, lt, s.published, s.unpublished)
 
 between_step : (ls : List Line) (p : Publication) (k : Kept) (l : Line) (x : Kept × Option Part) → Stands ls p k held.Between → starts_block k l ≡ Some x → Next ls p l x
 between_step ls p k (line.Run h) x s e =
@@ -173,7 +173,7 @@ next ls p k (held.Ending g) l x s e = kept_step ls p k (held.Ending g) l (after_
 next ls p k (held.Totals os ps) (line.Done m n) x s e =
     let new : Kept = kept_with k held.Done in
     let c = some_if (eqb m k.counts.published && eqb n k.counts.unpublished) (new, Some (part.Totals os ps)) x e in
-    let bs = both (eqb m k.counts.published) (eqb n k.counts.unpublished) c.0 in
+    let bs = and_parts (eqb m k.counts.published) (eqb n k.counts.unpublished) c.0 in
     let em : m ≡ published_in p.blocks = eqb-true _ _ bs.0 ∙ s.published in
     let en : n ≡ unpublished_in p.blocks = eqb-true _ _ bs.1 ∙ s.unpublished in
     let last : line.Done m n ≡ line.Done (published_in p.blocks) (unpublished_in p.blocks) = ap (λ a. line.Done a n) em ∙ ap (λ b. line.Done (published_in p.blocks) b) en in

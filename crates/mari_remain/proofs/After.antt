@@ -1,5 +1,5 @@
 -- What stands for blocks stands for one more after it is added.
-use Rattle.std.proofs.Common.{◌≡◌, ◌∙◌, ℕ, zero, suc, ◌+◌, ◌<◌, ◌≤◌, ◌==◌, ℤ, pos, Bool, true, false, cond, if◌then◌else◌, List, [], ◌∷◌, ◌++◌, Some, None, refl, ap, sym, subst, arith, length, get_or, map, take, inl, inr}
+use Rattle.std.proofs.Common.{◌≡◌, ◌∙◌, ℕ, ◌+◌, ◌<◌, ◌≤◌, ◌==◌, ℤ, pos, Bool, true, false, cond, if◌then◌else◌, List, [], ◌∷◌, ◌++◌, Some, None, refl, ap, sym, subst, arith, length, get_or, map, take, inl, inr}
 use Rattle.std.specs.Prelude.{◌+ℤ◌, ◌&&◌, ◌||◌, is_some, nat_lt, slice_get, unsigned_abs, unwrap_or}
 use Rattle.std.specs.List.{All, range_with_len}
 use Rattle.std.specs.Option.{option_map_or}
@@ -28,27 +28,18 @@ use Rattle.mari_remain.proofs.Offers.{offers, within-offer}
 use Rattle.mari_market.specs.Optimal.{IsFeasible}
 use Rattle.mari_market.specs.declared.activation.Activation.{Activation}
 use Rattle.std.proofs.lemmas.Slice.Zip.{AllZip-long}
-
--- an item of a list, with more behind it
-get-left : {X : Type 0} (xs ys : List X) (k : ℕ) → k < length xs → slice_get (xs ++ ys) k ≡ slice_get xs k
-get-left [] ys k l = absurd (omega (arith, l))
-get-left (x ∷ xs) ys zero l = refl
-get-left (x ∷ xs) ys (suc k) l = get-left xs ys k (omega (arith, l))
-
-get-last : {X : Type 0} (xs : List X) (y : X) → slice_get (xs ++ y ∷ []) (length xs) ≡ Some y
-get-last [] y = refl
-get-last (x ∷ xs) y = get-last xs y
+use Rattle.mari_units.proofs.Lists.{get_front, get_seam}
 
 module _ (books : Books) (ok : IsAccepted books) (blocks : List PastBlock) (b : PastBlock) (next : IsNextBlock books blocks b) where
   -- one more of the first blocks
   pub first-more : AreFirstBlocks books blocks → AreFirstBlocks books (blocks ++ b ∷ [])
   first-more first k x e = elim (cases_lt k (length blocks)) [
-    | inl l ↦ rw (take-append-le k blocks (b ∷ []) (omega (arith, l))) (first k x (sym (get-left blocks (b ∷ []) k l) ∙ e))
+    | inl l ↦ rw (take-append-le k blocks (b ∷ []) (omega (arith, l))) (first k x (sym (get_front blocks (b ∷ []) k l) ∙ e))
     | inr past ↦ (
         let within = slice_get_within (blocks ++ b ∷ []) k x e in
         let last : k ≡ length blocks = omega (arith, past, within, length-append blocks (b ∷ [])) in
         let here : slice_get (blocks ++ b ∷ []) (length blocks) ≡ Some x = rw last at e in
-        let same : Some b ≡ Some x = sym (get-last blocks b) ∙ here in
+        let same : Some b ≡ Some x = sym (get_seam blocks [] b) ∙ here in
         let is : b ≡ x = cc same in
         let whole : take k (blocks ++ b ∷ []) ≡ blocks = ap (λ n. take n (blocks ++ b ∷ [])) last ∙ take-append-le (length blocks) blocks (b ∷ []) (omega arith) ∙ take-length blocks in
         rw (whole, sym is) next)

@@ -17,7 +17,7 @@ module _ {X : Type 0} where
   skipped true x xs ys l = omega (arith, l)
   skipped false x xs ys l = l
 
-  filtered : (p q : X → Bool) (xs : List X) → length (filter p (filter q xs)) ≤ length (filter p xs)
+  pub filtered : (p q : X → Bool) (xs : List X) → length (filter p (filter q xs)) ≤ length (filter p xs)
   filtered p q [] = omega arith
   filtered p q (x ∷ xs) = elim (q x) as (λ b. length (filter p (cond b (x ∷ filter q xs) (filter q xs))) ≤ length (cond (p x) (x ∷ filter p xs) (filter p xs))) [
     | true ↦ fewer (p x) x (filter p (filter q xs)) (filter p xs) (filtered p q xs)

@@ -26,7 +26,8 @@ use Rattle.mari_remain.specs.Lists.{bids_of_quarter, parent_at, run_at}
 use Rattle.mari_remain.specs.Migrated.{AreRead, borders_page, limits_page, with_limits}
 use Rattle.mari_remain.specs.RunMarket.{border_of, borders_left, demands_of_run, ends_at, gates_of, limits_at, numbers_left, orders_of, run_market_left, run_market_of, taken_before}
 use Rattle.mari_remain.proofs.MigratedBorders.{NoneRepeated, bare, borders-read, none-repeated, second}
-use Rattle.mari_remain.proofs.MigratedLimits.{limits-read-back, same-map, table, table-has}
+use Rattle.mari_remain.proofs.MigratedLimits.{limits-read-back, table, table-has}
+use Rattle.mari_units.proofs.Lists.{same_over}
 use Rattle.mari_remain.proofs.Validity.{in_range}
 
 -- lists of blocks of first runs are the same in books whose runs have the same markets
@@ -129,7 +130,7 @@ module _ (books : Books) (ok : IsAccepted books) (own : List ℕ) (read : border
       borders-same =
           (λ i. map (λ k. border_of (ends_at (same-borders i).borders k) (limits_at migrated run k) (taken.flow k)) (range_with_len 0 (length (same-borders i).borders)))
           ∙ ap (λ n. map (λ k. border_of (ends_at (map bare owns) k) (limits_at migrated run k) (taken.flow k)) (range_with_len 0 n)) (length-map owns bare)
-          ∙ same-map _ _ 0 (length owns) (λ k low high. λ i. border_of (get_or-map bare owns k no_border no_border (omega (arith, high)) i)
+          ∙ same_over _ _ 0 (length owns) (λ k low high. λ i. border_of (get_or-map bare owns k no_border no_border (omega (arith, high)) i)
           (limits-same run k first last (omega (arith, high)) i) (taken.flow k))
 
       abbrev pub market-of : List ℕ → List Border → RunMarket

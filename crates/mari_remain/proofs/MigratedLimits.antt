@@ -28,6 +28,7 @@ use Rattle.mari_remain.specs.RunMarket.{ends_at}
 use Rattle.mari_remain.proofs.MigratedBorders.{NoneRepeated, bare, no-way, position-behind, zone-found, zone-plain}
 use Rattle.mari_remain.proofs.PrintedFields.{number-plain, number-read, whole-read}
 use Rattle.mari_remain.proofs.ReadBack.{AreColumns, book-read, five-pass, is_plain_record, page-rows, row-passes}
+use Rattle.mari_units.proofs.Lists.{same_over}
 
 -- a border is the first that leads between its zones, where none is repeated
 no-way-in : (x : BorderEnds) (before : List BorderEnds) → list_any (is_between_same x) before ≡ false → list_any (leads x.from x.to) before ≡ false
@@ -141,12 +142,6 @@ module _ (runs borders : ℕ) where
           → (list_any (is_pair run border) (pairs_of first 0 borders) || list_any (is_pair run border) (all_pairs (first + 1) count)) ≡ true
       by (inl same) more = rw (same.1, in-run run border 0 borders (omega arith) (omega (arith, b))) refl
       by (inr other) more = rw (more (above low other.1)) (some-or (list_any (is_pair run border) (pairs_of first 0 borders)))
-
--- tables that agree at each of their places
-pub same-map : {X : Type 0} (f g : ℕ → X) (first count : ℕ) → ((k : ℕ) → first ≤ k → k < first + count → f k ≡ g k) → map f (range_with_len first count) ≡ map g (range_with_len first count)
-same-map f g first zero same = refl
-same-map f g first (suc count) same =
-    λ i. same first (le_refl first) (omega arith) i ∷ same-map f g (first + 1) count (λ k low high. same k (omega (arith, low)) (omega (arith, high))) i
 
 columns-five : AreColumns limit_columns 5
 unfolding limit_columns strip_bom
@@ -279,7 +274,7 @@ module _ (zones : ZoneBook) (is : IsZoneBook zones) (borders : List BorderEnds) 
 
   table-read : limit_table zones book runs (rows_from 2 (map fields pairs)) ≡ table
   table-read =
-      same-map _ _ 0 runs (λ run low high. same-map _ _ 0 (length (map bare borders)) (λ border below above.
+      same_over _ _ 0 runs (λ run low high. same_over _ _ 0 (length (map bare borders)) (λ border below above.
       ap (λ o. unwrap_or o no_limits) (found (run + 1) border [] pairs 2 are-fresh
       (among-runs runs (length borders) (run + 1) border 1 runs (omega arith) (omega (arith, high)) (omega (arith, above, length-map borders bare))))))
 

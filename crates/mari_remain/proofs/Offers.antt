@@ -1,9 +1,9 @@
 -- No bid is activated above its offer over a day, and a gated one in at most one block.
 use Rattle.std.proofs.Common.{◌≡◌, ◌∙◌, ℕ, suc, ◌+◌, ◌-◌, ◌<◌, ◌≤◌, ◌==◌, Bool, true, false, if◌then◌else◌, List, [], ◌∷◌, ◌++◌, Option, Some, None, refl, ap, sym, arith, get_or, map, inl, inr, ◌⊎◌}
-use Rattle.std.specs.Prelude.{IfSome, not, ◌&&◌, nat_lt}
+use Rattle.std.specs.Prelude.{IfSome, not, nat_lt}
 use Rattle.std.specs.List.{All, AllPairs, AllZip}
 use Rattle.std.specs.Option.{option_map_or}
-use Rattle.std.proofs.lemmas.Bool.{eqb-true, eq-eqb}
+use Rattle.std.proofs.lemmas.Bool.{eqb-true, eq-eqb, and_parts}
 use Rattle.std.proofs.lemmas.Bool.Decides.{nat_tests}
 use Rattle.std.proofs.lemmas.List.Elements.{All-nil, All-push, filter_passes}
 use Rattle.std.proofs.lemmas.List.Kept.{AllPairs-filter}
@@ -12,7 +12,7 @@ use Rattle.mari_bids.specs.declared.bids.Bid.{Bid}
 use Rattle.mari_links.specs.Links.{has_gate}
 use Rattle.mari_market.specs.Activation.{is_open}
 use Rattle.mari_market.specs.Bounds.{GateState, IsWithin, span_of}
-use Rattle.mari_market.specs.Bounds.GateState.{Open, Closed, Free}
+use Rattle.mari_market.specs.Bounds.GateState.{Open, Closed}
 use Rattle.mari_market.specs.declared.market.Order.{Order}
 use Rattle.mari_market.specs.declared.market.Market.{Market}
 use Rattle.mari_remain.specs.declared.books.Books.{Books}
@@ -27,10 +27,7 @@ use Rattle.mari_remain.proofs.Gates.{gate-at}
 use Rattle.mari_remain.proofs.History.{IsOwnBlock, by_blocks, beside-none, own-block}
 use Rattle.mari_remain.proofs.Places.{places-rise}
 use Rattle.mari_remain.proofs.Standing.{mw-own}
-
-at_most : (state : ℕ → GateState) (gate : Option ℕ) (o : Order) → (span_of state gate o).hi ≤ o.greatest
-at_most state None o = omega arith
-at_most state (Some g) o = elim (state g) as (λ s. (span_of (λ (h : ℕ). s) (Some g) o).hi ≤ o.greatest) [ Open ↦ omega arith | Closed ↦ omega arith | Free ↦ omega arith ]
+use Rattle.mari_market.proofs.Sizes.{high_at_most}
 
 -- the MW beside a bid among rising numbers are at most its order's greatest
 beside-most : (state : ℕ → GateState) (f : ℕ → Order) (i : ℕ) (ns : List ℕ) (rest : List Order) (qs : List ℕ) → AllPairs (λ i j. i < j) ns
@@ -48,14 +45,10 @@ beside-most state f i (n ∷ ns) rest (q ∷ qs) rise h =
         let same : n ≡ i = eqb-true n i e in
         let none : mw_beside i ns qs ≡ 0 = beside-none i ns qs (λ k d l. apart (get_or ns k d) (above k d l) same) in
         let high : (f n).greatest ≡ (f i).greatest = ap (λ m. (f m).greatest) same in
-        omega (arith, none, high, most, at_most state (f n).gate (f n))
+        omega (arith, none, high, most, high_at_most state (f n).gate (f n))
       where
         apart : (m : ℕ) → n < m → n ≡ i → (m == i) ≡ false
         apart m l same = grind (arith, nat_tests, l, same)
-
-both-true : (a b : Bool) → (a && b) ≡ true → (a ≡ true) × (b ≡ true)
-both-true true b e = (refl, e)
-both-true false b e = cc e
 
 module _ (books : Books) (ok : IsAccepted books) where
   -- what a block takes of a bid is at most what is left of its offer, and nothing of a gated bid that was activated
@@ -124,9 +117,9 @@ module _ (books : Books) (ok : IsAccepted books) where
           let rise : AllPairs (λ i j. i < j) (numbers_of books before b.run) = AllPairs-filter (λ i j. i < j) avail (bids_of_quarter books.bids.bids run.quarter) (places-rise (λ (b : Bid). b.quarter == run.quarter) 0 books.bids.bids) in
           let most = beside-most state order i (numbers_of books before b.run) (map demand_order (demands_of_run books.demands.demands b.run)) past.activation.mw rise is.feasible.orders in
           let same : taken.mw i ≡ mw_of before i = mw-own books ok run.quarter i before are_own ∙ rw e refl in
-          let may = both-true (may_run books taken run i) _ f in
-          let rest = both-true _ _ may.0 in
-          let left = both-true (is_left books taken i) _ rest.1 in
+          let may = and_parts (may_run books taken run i) _ f in
+          let rest = and_parts _ _ may.0 in
+          let left = and_parts (is_left books taken i) _ rest.1 in
           some_more before i _ taken gated so_far same left.0 (filter_passes (has_gate books.links) (numbers_of books before b.run)) (rw is.bids most)
 
       published : (p : Option PastRun) → IfSome p (IsPastRun books before b.run) → IsWithinOffer before i (option_map_or (λ (r : PastRun). mw_beside i r.bids r.activation.mw) p 0)

@@ -2,14 +2,13 @@
 use Rattle.std.proofs.Common.{◌≡◌, ◌≤◌, ◌<◌, ◌+◌, ◌-◌, ◌*◌, ◌^◌, ◌==◌, ◌&&◌, ℕ, Bool, true, false, List, [], ◌∷◌, Some, fold, length, refl, ap, arith, nat_le, pos, decimal, leb}
 use Rattle.std.specs.Char.{is_ascii_digit}
 use Rattle.std.specs.List.{list_all}
-use Rattle.std.proofs.lemmas.Bool.{le-leb, leb-true, lt-ltb, ne_eqb}
+use Rattle.std.proofs.lemmas.Bool.{le-leb, leb-true, lt-ltb, ne_eqb, and_parts}
 use Rattle.std.proofs.lemmas.Bool.Decides.{nat_tests}
 use Rattle.std.proofs.lemmas.Fmt.{decimal_nonempty, digits_decimal, digits_value-decimal}
 use Rattle.std.proofs.lemmas.Str.Parse.{FoldsDigits, IsDigitsTest, IsNumeralModel, numerals_by_fold}
 use Rattle.mari_units.specs.Names.{is_name, is_name_byte}
 use Rattle.mari_units.specs.Numbers.{value_of_digits, whole_of}
 use Rattle.mari_rows.specs.Fields.{number_in}
-use Rattle.mari_rows.proofs.BookFacts.{both-parts}
 use Rattle.mari_remain.proofs.ReadBack.{is_plain, is_plain_field}
 
 -- digits, and the number that they write from the left
@@ -17,8 +16,8 @@ are-digits : IsDigitsTest (λ ds. list_all is_ascii_digit ds ≡ true)
 are-digits = record {
   empty = refl;
   parts = λ d ds e.
-      let both = both-parts (is_ascii_digit d) (list_all is_ascii_digit ds) e in
-      let range = both-parts (leb 48 d) (leb d 57) both.0 in
+      let both = and_parts (is_ascii_digit d) (list_all is_ascii_digit ds) e in
+      let range = and_parts (leb 48 d) (leb d 57) both.0 in
       ((leb-true 48 d range.0, leb-true d 57 range.1), both.1);
   more = λ d ds range e. rw (le-leb 48 d range.0, le-leb d 57 range.1) e;
 }
@@ -36,13 +35,13 @@ numerals : IsNumeralModel (λ ds. list_all is_ascii_digit ds ≡ true) value_of_
 numerals = numerals_by_fold (λ ds. list_all is_ascii_digit ds ≡ true) are-digits from-left folds
 
 digit-range : (d : ℕ) → is_ascii_digit d ≡ true → (48 ≤ d) × (d ≤ 57)
-digit-range d e = let range = both-parts (leb 48 d) (leb d 57) e in (leb-true 48 d range.0, leb-true d 57 range.1)
+digit-range d e = let range = and_parts (leb 48 d) (leb d 57) e in (leb-true 48 d range.0, leb-true d 57 range.1)
 
 -- digits are a whole number
 whole : (ds : List ℕ) (n : ℕ) → 0 < length ds → list_all is_ascii_digit ds ≡ true → value_of_digits ds ≡ n → whole_of ds ≡ Some (pos n)
 whole [] n some e value = absurd (omega (arith, some))
 whole (d ∷ ds) n some e value =
-    let range = digit-range d ((both-parts (is_ascii_digit d) (list_all is_ascii_digit ds) e).0) in
+    let range = digit-range d ((and_parts (is_ascii_digit d) (list_all is_ascii_digit ds) e).0) in
     let no_minus : (d == 45) ≡ false = ne_eqb d 45 (λ same. absurd (omega (arith, same, range.0))) in
     rw (no_minus, e) (ap (λ m. Some (pos m)) value)
 
@@ -64,7 +63,7 @@ module _ (test : ℕ → Bool) (passes : (b : ℕ) → test b ≡ true → is_pl
   all-plain : (text : List ℕ) → list_all test text ≡ true → is_plain_field text ≡ true
   all-plain [] e = refl
   all-plain (b ∷ bs) e =
-      let parts = both-parts (test b) (list_all test bs) e in
+      let parts = and_parts (test b) (list_all test bs) e in
       rw (passes b parts.0) (all-plain bs parts.1)
 
 -- a printed number stands without quotes
@@ -78,5 +77,5 @@ name-range b e = grind (arith, nat_tests)
 -- and so does a name
 pub name-plain : (name : List ℕ) → is_name name ≡ true → is_plain_field name ≡ true
 name-plain name e =
-    let parts = both-parts (nat_le 1 (length name) && nat_le (length name) 16) (list_all is_name_byte name) e in
+    let parts = and_parts (nat_le 1 (length name) && nat_le (length name) 16) (list_all is_name_byte name) e in
     all-plain is_name_byte (λ b named. let range = name-range b named in plain-byte b range.0 range.1) name parts.1

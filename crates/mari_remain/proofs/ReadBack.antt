@@ -3,7 +3,7 @@ use Rattle.std.proofs.Common.{◌≡◌, ◌∙◌, ◌≤◌, ◌<◌, ◌+◌,
 use Rattle.std.specs.List.{join_with_byte, list_all, list_any}
 use Rattle.std.specs.Option.{option_or}
 use Rattle.std.specs.Str.{is_utf8}
-use Rattle.std.proofs.lemmas.Bool.{eqb-true, ltb-true}
+use Rattle.std.proofs.lemmas.Bool.{eqb-true, ltb-true, and_parts}
 use Rattle.std.proofs.lemmas.List.Splits.{join_with_byte-slice_split}
 use Rattle.std.proofs.lemmas.Str.{IsUtf8-from_ascii, is_utf8-from_IsUtf8}
 use Rattle.csv.specs.Machine.{next_record}
@@ -18,7 +18,6 @@ use Rattle.mari_rows.specs.Rows.{columns_of, fault_of_row, is_header, rows_from,
 use Rattle.mari_rows.specs.declared.faults.BookFault.{BookFault}
 use Rattle.mari_rows.specs.declared.faults.BookFault.TheVariants as refused
 use Rattle.mari_rows.specs.declared.rows.Row.{Row}
-use Rattle.mari_rows.proofs.BookFacts.{both-parts}
 use Rattle.mari_rows.proofs.FirstLemmas.{first_fault-go}
 use Rattle.mari_rows.proofs.NameLemmas.{bytes_eq-same}
 use Rattle.mari_remain.specs.Migrated.{line_of, page_of}
@@ -41,16 +40,16 @@ not-true false e = refl
 no-mark : (field : List ℕ) → is_plain_field field ≡ true → list_any (needs_byte default_writer) field ≡ false
 no-mark [] e = refl
 no-mark (b ∷ bs) e =
-    let parts = both-parts (is_plain b) (is_plain_field bs) e in
-    let here = not-true (needs_byte default_writer b) ((both-parts (nat_lt b 128) (not (needs_byte default_writer b)) parts.0).1) in
+    let parts = and_parts (is_plain b) (is_plain_field bs) e in
+    let here = not-true (needs_byte default_writer b) ((and_parts (nat_lt b 128) (not (needs_byte default_writer b)) parts.0).1) in
     rw (here, no-mark bs parts.1) refl
 
 ascii : (field : List ℕ) → is_plain_field field ≡ true → IsAscii field
 ascii [] e i = omega arith
 ascii (b ∷ bs) e zero =
-    let parts = both-parts (is_plain b) (is_plain_field bs) e in
-    ltb-true b 128 ((both-parts (nat_lt b 128) (not (needs_byte default_writer b)) parts.0).0)
-ascii (b ∷ bs) e (suc i) = ascii bs ((both-parts (is_plain b) (is_plain_field bs) e).1) i
+    let parts = and_parts (is_plain b) (is_plain_field bs) e in
+    ltb-true b 128 ((and_parts (nat_lt b 128) (not (needs_byte default_writer b)) parts.0).0)
+ascii (b ∷ bs) e (suc i) = ascii bs ((and_parts (is_plain b) (is_plain_field bs) e).1) i
 
 -- such a field is written as it stands
 as-it-stands : (field : List ℕ) → is_plain_field field ≡ true → field_text default_writer field ≡ field
@@ -60,7 +59,7 @@ as-it-stands field e = rw (no-mark field e) refl
 all-text : (fields : List (List ℕ)) → list_all is_plain_field fields ≡ true → list_all is_utf8 fields ≡ true
 all-text [] e = refl
 all-text (field ∷ fields) e =
-    let parts = both-parts (is_plain_field field) (list_all is_plain_field fields) e in
+    let parts = and_parts (is_plain_field field) (list_all is_plain_field fields) e in
     rw (is_utf8-from_IsUtf8 field (IsUtf8-from_ascii field (ascii field parts.0)), all-text fields parts.1) refl
 
 -- the fields of a line, as csv writes them
@@ -68,10 +67,10 @@ joined : (field : List ℕ) (fields : List (List ℕ)) → list_all is_plain_fie
     → field_text default_writer field ++ fields_text default_writer fields ≡ join_with_byte 44 (field ∷ fields)
 unfolding fields_text
 joined field [] e =
-    let parts = both-parts (is_plain_field field) true e in
+    let parts = and_parts (is_plain_field field) true e in
     rw (as-it-stands field parts.0) (append-nil field)
 joined field (next ∷ fields) e =
-    let parts = both-parts (is_plain_field field) (list_all is_plain_field (next ∷ fields)) e in
+    let parts = and_parts (is_plain_field field) (list_all is_plain_field (next ∷ fields)) e in
     rw (as-it-stands field parts.0) (ap (λ text. field ++ 44 ∷ text) (joined next fields parts.1))
 
 written : (field next : List ℕ) (fields : List (List ℕ)) → list_all is_plain_field (field ∷ next ∷ fields) ≡ true
@@ -92,7 +91,7 @@ some-byte fields tail = grind (arith, length-append)
 
 same-width : (width : ℕ) (fields : List (List ℕ)) → is_plain_record width fields ≡ true → (length fields ≡ width) × (list_all is_plain_field fields ≡ true)
 same-width width fields e =
-    let parts = both-parts (length fields == width) (list_all is_plain_field fields) e in
+    let parts = and_parts (length fields == width) (list_all is_plain_field fields) e in
     (eqb-true (length fields) width parts.0, parts.1)
 
 module _ (width : ℕ) (wide : 2 ≤ width) where
@@ -104,7 +103,7 @@ module _ (width : ℕ) (wide : 2 ≤ width) where
   all-lines [] (suc n) e room = refl
   all-lines (fields ∷ records) zero e room = absurd (omega (arith, room))
   all-lines (fields ∷ records) (suc n) e room =
-      let parts = both-parts (is_plain_record width fields) (list_all (is_plain_record width) records) e in
+      let parts = and_parts (is_plain_record width fields) (list_all (is_plain_record width) records) e in
       let here = same-width width fields parts.0 in
       rw (one-line fields (flat_map line_of records) (omega (arith, wide, here.0)) here.1)
       (ap (λ rest. fields ∷ rest) (all-lines records n parts.1 (omega (arith, room, some-byte fields (flat_map line_of records)))))
@@ -114,8 +113,8 @@ module _ (width : ℕ) (wide : 2 ≤ width) where
       → first_fault_behind (λ earlier row. fault_of_row width row) earlier (rows_from line records) ≡ None
   no-fault earlier line [] e = refl
   no-fault earlier line (fields ∷ records) e =
-      let parts = both-parts (is_plain_record width fields) (list_all (is_plain_record width) records) e in
-      let shape = both-parts (length fields == width) (list_all is_plain_field fields) parts.0 in
+      let parts = and_parts (is_plain_record width fields) (list_all (is_plain_record width) records) e in
+      let shape = and_parts (length fields == width) (list_all is_plain_field fields) parts.0 in
       rw (shape.0, all-text fields shape.1) (no-fault (earlier ++ record { line = line; fields = fields } ∷ []) (line + 1) records parts.1)
 
 -- columns are a header of themselves

@@ -1,14 +1,13 @@
 -- The printed pages are no longer than a page may be.
 use Rattle.std.proofs.Common.{◌≡◌, ◌≤◌, ◌<◌, ◌+◌, ◌*◌, ◌&&◌, ℕ, zero, suc, Bool, true, false, List, [], ◌∷◌, length, map, refl, arith, flat_map, nat_le, nat_lt, decimal, length-append}
 use Rattle.std.specs.List.{list_all, range_with_len}
-use Rattle.std.proofs.lemmas.Bool.{leb-true, ltb-true}
+use Rattle.std.proofs.lemmas.Bool.{leb-true, ltb-true, and_parts}
 use Rattle.std.proofs.lemmas.Bool.Decides.{nat_tests}
 use Rattle.std.proofs.lemmas.List.{get_or_past}
 use Rattle.std.proofs.lemmas.Fmt.{length-decimal-le}
 use Rattle.std.proofs.lemmas.Grind.{flat_map-append}
 use Rattle.mari_units.specs.Names.{is_name, is_name_byte}
 use Rattle.mari_rows.specs.Names.{name_at}
-use Rattle.mari_rows.proofs.BookFacts.{both-parts}
 use Rattle.mari_zones.specs.Borders.{bare_columns}
 use Rattle.mari_zones.specs.Zones.{IsZoneBook}
 use Rattle.mari_zones.specs.declared.borders.BorderEnds.{BorderEnds}
@@ -22,8 +21,8 @@ use Rattle.mari_remain.proofs.Validity.{in_range}
 
 short-name : (name : List ℕ) → is_name name ≡ true → length name ≤ 16
 short-name name e =
-    let parts = both-parts (nat_le 1 (length name) && nat_le (length name) 16) (list_all is_name_byte name) e in
-    leb-true (length name) 16 ((both-parts (nat_le 1 (length name)) (nat_le (length name) 16) parts.0).1)
+    let parts = and_parts (nat_le 1 (length name) && nat_le (length name) 16) (list_all is_name_byte name) e in
+    leb-true (length name) 16 ((and_parts (nat_le 1 (length name)) (nat_le (length name) 16) parts.0).1)
 
 short-zone : (zones : ZoneBook) → IsZoneBook zones → (i : ℕ) → length (name_at zones.zones i) ≤ 16
 short-zone zones is i = by (nat_lt i (length zones.zones)) refl

@@ -100,7 +100,7 @@ gate_there : (links : List BidLinks) (gated : List ℕ) (g : ℕ) → g < length
 gate_there links gated g l = rw (slice_get-map (gate_at links gated) gated g, slice_get-get_or gated g 0 l) refl
 
 -- what is read at a place that is there is its bid
-same_quarter : (quarter : ℕ) (bids : BidBook) (i : ℕ) (d : Bid) → i < length bids.bids → (quarter_of bids (0 + i) == quarter) ≡ ((slice_index_or bids.bids i d).quarter == quarter)
+pub same_quarter : (quarter : ℕ) (bids : BidBook) (i : ℕ) (d : Bid) → i < length bids.bids → (quarter_of bids (0 + i) == quarter) ≡ ((slice_index_or bids.bids i d).quarter == quarter)
 same_quarter quarter bids i d l = rw (zero-add i, slice_get-get_or bids.bids i d l) refl
 
 -- two filters in either order

@@ -81,12 +81,6 @@ pub not-false : (b : Bool) → not b ≡ false → b ≡ true
 not-false true e = refl
 not-false false e = cc e
 
--- two tests that hold
-pub both-parts : (a b : Bool) → (a && b) ≡ true → (a ≡ true) × (b ≡ true)
-both-parts true true e = (refl, refl)
-both-parts true false e = cc e
-both-parts false b e = cc e
-
 -- a number that a text writes is within its bounds
 pub number-bounds : (least greatest : ℕ) (text : List ℕ) → is_some (number_in least greatest text) ≡ true
     → (least ≤ unwrap_or (number_in least greatest text) 0) × (unwrap_or (number_in least greatest text) 0 ≤ greatest)

@@ -5,13 +5,12 @@ use Rattle.std.specs.Char.{is_ascii_digit}
 use Rattle.std.specs.List.{list_all}
 use Rattle.std.specs.Str.{bytes_eq}
 use Rattle.std.proofs.lemmas.Bool.Decides.{nat_tests}
-use Rattle.std.proofs.lemmas.Bool.{false_from_ne_true}
+use Rattle.std.proofs.lemmas.Bool.{false_from_ne_true, and_parts}
 use Rattle.std.proofs.lemmas.Fmt.{decimal_injective, decimal_nonempty, digits_decimal, length-decimal-le}
 use Rattle.std.proofs.lemmas.List.{length-append}
 use Rattle.std.proofs.lemmas.List.Folds.{list_all-append}
 use Rattle.std.proofs.lemmas.Slice.Eq.{bytes_eq-Decides}
 use Rattle.mari_units.specs.Names.{is_name, is_name_byte}
-use Rattle.mari_rows.proofs.BookFacts.{both-parts}
 use Rattle.mari_scenario.specs.Pages.{bid, group, provider}
 use Rattle.mari_scenario.proofs.FieldBytes.{IsPlain, decimal-plain, joined}
 use Rattle.mari_scenario.proofs.ReadBack.{AreDigits, own}
@@ -31,7 +30,7 @@ digit-name d e = grind (arith, nat_tests)
 
 digits-name : (ds : List ℕ) → AreDigits ds → AreNameBytes ds
 digits-name [] e = refl
-digits-name (d ∷ ds) e = let p = both-parts (is_ascii_digit d) (list_all is_ascii_digit ds) e in rw (digit-name d p.0) (digits-name ds p.1)
+digits-name (d ∷ ds) e = let p = and_parts (is_ascii_digit d) (list_all is_ascii_digit ds) e in rw (digit-name d p.0) (digits-name ds p.1)
 
 decimal-name : (n : ℕ) → n < 100 → AreNameBytes (decimal n)
 decimal-name n small = digits-name (decimal n) (digits_decimal own n (omega arith))
@@ -80,12 +79,12 @@ no-b d e same = let no : (d == 98) ≡ false = grind (arith, nat_tests) in true�
 
 before-b : (xs us ys vs : List ℕ) → AreDigits xs → AreDigits us → xs ++ 98 ∷ ys ≡ us ++ 98 ∷ vs → (xs ≡ us) × (ys ≡ vs)
 before-b [] [] ys vs x u e = (refl, cc e)
-before-b [] (u ∷ us) ys vs x d e = absurd (no-b u (both-parts (is_ascii_digit u) (list_all is_ascii_digit us) d).0 (cc e))
-before-b (x ∷ xs) [] ys vs d u e = absurd (no-b x (both-parts (is_ascii_digit x) (list_all is_ascii_digit xs) d).0 (cc e))
+before-b [] (u ∷ us) ys vs x d e = absurd (no-b u (and_parts (is_ascii_digit u) (list_all is_ascii_digit us) d).0 (cc e))
+before-b (x ∷ xs) [] ys vs d u e = absurd (no-b x (and_parts (is_ascii_digit x) (list_all is_ascii_digit xs) d).0 (cc e))
 before-b (x ∷ xs) (u ∷ us) ys vs d c e =
     let first : x ≡ u = cc e in
     let rest : xs ++ 98 ∷ ys ≡ us ++ 98 ∷ vs = cc e in
-    let more = before-b xs us ys vs (both-parts (is_ascii_digit x) (list_all is_ascii_digit xs) d).1 (both-parts (is_ascii_digit u) (list_all is_ascii_digit us) c).1 rest in
+    let more = before-b xs us ys vs (and_parts (is_ascii_digit x) (list_all is_ascii_digit xs) d).1 (and_parts (is_ascii_digit u) (list_all is_ascii_digit us) c).1 rest in
     ((λ i. first i ∷ more.0 i), more.1)
 
 bid-parts : (t j : ℕ) → bid t j ≡ 113 ∷ (decimal t ++ 98 ∷ decimal j)

@@ -20,16 +20,7 @@ use Rattle.mari_scenario.proofs.BidNames.{bid_id}
 use Rattle.mari_scenario.proofs.BidPage.{bid_fields, bid_records, bid_rows, length-rows, new-id, the_bids}
 use Rattle.mari_scenario.proofs.ReadBack.{decimal-in}
 use Rattle.mari_scenario.proofs.ZonePage.{the_zones}
-
--- an item of a list with more behind it, and the first of what stands behind
-pub in-front : {X : Type 0} (xs ys : List X) (k : ℕ) → k < length xs → slice_get (xs ++ ys) k ≡ slice_get xs k
-in-front [] ys k few = absurd (omega (arith, few))
-in-front (x ∷ xs) ys zero few = refl
-in-front (x ∷ xs) ys (suc k) few = in-front xs ys k (omega (arith, few))
-
-pub at-seam : {X : Type 0} (xs ys : List X) (y : X) → slice_get (xs ++ y ∷ ys) (length xs) ≡ Some y
-at-seam [] ys y = refl
-at-seam (x ∷ xs) ys y = at-seam xs ys y
+use Rattle.mari_units.proofs.Lists.{get_front, get_seam}
 
 -- the row of a bid behind the first ones
 abbrev row_of : (n state : ℕ) → Row
@@ -87,7 +78,7 @@ bid-there f (suc n) x k before few = rw (rows-more bid_line bid_records n x, map
     sized = length-map (bid_rows n x) f ∙ length-rows n x
 
     last : slice_get (first ++ f (row_of n x) ∷ []) n ≡ Some (f (row_of n x))
-    last = ap (λ i. slice_get (first ++ f (row_of n x) ∷ []) i) (sym sized) ∙ at-seam first [] (f (row_of n x))
+    last = ap (λ i. slice_get (first ++ f (row_of n x) ∷ []) i) (sym sized) ∙ get_seam first [] (f (row_of n x))
 
     by : ((k == n) ≡ true) × (k ≡ n) ⊎ ((k == n) ≡ false) × (k ≢ n)
         → (k < n → (at : ℕ) × (state : ℕ) × (slice_get first k ≡ Some (f (line_of k at state))))
@@ -98,7 +89,7 @@ bid-there f (suc n) x k before few = rw (rows-more bid_line bid_records n x, map
     by (inr other) earlier =
         let lower : k < n = below other.1 in
         let found = earlier lower in
-        (found.0, found.1, in-front first (f (row_of n x) ∷ []) k (omega (arith, sized, lower)) ∙ found.2)
+        (found.0, found.1, get_front first (f (row_of n x) ∷ []) k (omega (arith, sized, lower)) ∙ found.2)
       where
         below : (k ≢ n) → k < n
         below apart = grind (arith, before)

@@ -10,7 +10,7 @@ use Rattle.std.proofs.lemmas.List.Folds.{list_all-append}
 use Rattle.std.proofs.lemmas.Str.{IsUtf8-from_ascii, is_utf8-from_IsUtf8}
 use Rattle.std.proofs.lemmas.Str.Ascii.{IsAscii-cons, IsAscii-nil}
 use Rattle.csv.specs.Writing.{default_writer, needs_byte}
-use Rattle.mari_rows.proofs.BookFacts.{both-parts}
+use Rattle.std.proofs.lemmas.Bool.{and_parts}
 use Rattle.mari_scenario.proofs.ReadBack.{AreDigits, own}
 
 -- a byte from `-` to `z`: a digit, a letter, a point or a minus, but no comma, no quote and no end of a line
@@ -30,7 +30,7 @@ digit-plain d e = grind (arith, nat_tests)
 
 pub digits-plain : (ds : List ℕ) → AreDigits ds → IsPlain ds
 digits-plain [] e = refl
-digits-plain (d ∷ ds) e = let p = both-parts (is_ascii_digit d) (list_all is_ascii_digit ds) e in rw (digit-plain d p.0) (digits-plain ds p.1)
+digits-plain (d ∷ ds) e = let p = and_parts (is_ascii_digit d) (list_all is_ascii_digit ds) e in rw (digit-plain d p.0) (digits-plain ds p.1)
 
 -- a printed number
 pub decimal-plain : (n : ℕ) → n < 2 ^ 64 → IsPlain (decimal n)
@@ -42,7 +42,7 @@ byte-needs b e = grind (arith, nat_tests)
 
 pub needs-none : (field : List ℕ) → IsPlain field → list_any (needs_byte default_writer) field ≡ false
 needs-none [] e = refl
-needs-none (b ∷ bs) e = let p = both-parts (is_field_byte b) (list_all is_field_byte bs) e in rw (byte-needs b p.0) (needs-none bs p.1)
+needs-none (b ∷ bs) e = let p = and_parts (is_field_byte b) (list_all is_field_byte bs) e in rw (byte-needs b p.0) (needs-none bs p.1)
 
 -- and it is text
 byte-ascii : (b : ℕ) → is_field_byte b ≡ true → b < 128
@@ -50,7 +50,7 @@ byte-ascii b e = grind (arith, nat_tests)
 
 plain-ascii : (field : List ℕ) → IsPlain field → IsAscii field
 plain-ascii [] e = IsAscii-nil
-plain-ascii (b ∷ bs) e = let p = both-parts (is_field_byte b) (list_all is_field_byte bs) e in IsAscii-cons b bs (byte-ascii b p.0) (plain-ascii bs p.1)
+plain-ascii (b ∷ bs) e = let p = and_parts (is_field_byte b) (list_all is_field_byte bs) e in IsAscii-cons b bs (byte-ascii b p.0) (plain-ascii bs p.1)
 
 pub plain-utf8 : (field : List ℕ) → IsPlain field → is_utf8 field ≡ true
 plain-utf8 field e = is_utf8-from_IsUtf8 field (IsUtf8-from_ascii field (plain-ascii field e))

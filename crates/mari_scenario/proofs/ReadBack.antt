@@ -9,7 +9,7 @@ use Rattle.std.proofs.lemmas.Int.{ints}
 use Rattle.std.proofs.lemmas.Fmt.{digits_decimal, digits_value-decimal, decimal_nonempty}
 use Rattle.std.proofs.lemmas.Str.Parse.{IsNumeralModel, numerals_by_fold}
 use Rattle.mari_units.specs.Numbers.{cents_at, has_minus, hundredths_of, natural_of, price_of, printed_cents, value_of_digits, whole_of, without_minus}
-use Rattle.mari_rows.proofs.BookFacts.{both-parts}
+use Rattle.std.proofs.lemmas.Bool.{and_parts}
 use Rattle.mari_rows.specs.Fields.{cents_in, number_in, within_cap}
 
 abbrev pub AreDigits : List ℕ → Type 0
@@ -30,7 +30,7 @@ no-point d e = grind (arith, nat_tests)
 -- digits, whatever stands behind them
 pub digits-unsigned : (ds rest : List ℕ) → AreDigits ds → 0 < length ds → (has_minus (ds ++ rest) ≡ false) × (without_minus (ds ++ rest) ≡ ds ++ rest)
 digits-unsigned [] rest e some = absurd (omega arith)
-digits-unsigned (d ∷ ds) rest e some = let n = no-minus d ((both-parts (is_ascii_digit d) (list_all is_ascii_digit ds) e).0) in (n, rw n refl)
+digits-unsigned (d ∷ ds) rest e some = let n = no-minus d ((and_parts (is_ascii_digit d) (list_all is_ascii_digit ds) e).0) in (n, rw n refl)
 
 pub digits-natural : (ds : List ℕ) → AreDigits ds → 0 < length ds → natural_of ds ≡ Some (value_of_digits ds)
 digits-natural [] e some = absurd (omega arith)
@@ -45,7 +45,7 @@ decimal-whole n small = by (decimal n) (digits_decimal own n small) (decimal_non
   where
     by : (ds : List ℕ) → AreDigits ds → 0 < length ds → natural_of ds ≡ Some n → whole_of ds ≡ Some (pos n)
     by [] e some is = absurd (omega arith)
-    by (d ∷ ds) e some is = let m = no-minus d ((both-parts (is_ascii_digit d) (list_all is_ascii_digit ds) e).0) in rw (m, is) refl
+    by (d ∷ ds) e some is = let m = no-minus d ((and_parts (is_ascii_digit d) (list_all is_ascii_digit ds) e).0) in rw (m, is) refl
 
 pub signed-whole : (z : ℤ) → unsigned_abs z < 2 ^ 64 → whole_of (signed_decimal z) ≡ Some z
 signed-whole (pos n) small = decimal-whole n small
@@ -72,7 +72,7 @@ decimal-above least greatest n small above =
 point-behind : (ds rest : List ℕ) → AreDigits ds → position_or_len (λ b. b == 46) (ds ++ 46 ∷ rest) ≡ length ds
 point-behind [] rest e = refl
 point-behind (d ∷ ds) rest e =
-    rw (no-point d ((both-parts (is_ascii_digit d) (list_all is_ascii_digit ds) e).0), point-behind ds rest ((both-parts (is_ascii_digit d) (list_all is_ascii_digit ds) e).1)) (omega arith)
+    rw (no-point d ((and_parts (is_ascii_digit d) (list_all is_ascii_digit ds) e).0), point-behind ds rest ((and_parts (is_ascii_digit d) (list_all is_ascii_digit ds) e).1)) (omega arith)
 
 pub point-at : (ds rest : List ℕ) → AreDigits ds → position (λ b. b == 46) (ds ++ 46 ∷ rest) ≡ Some (length ds)
 point-at ds rest e =

@@ -12,24 +12,20 @@ use Rattle.mari_bids.specs.declared.bids.BidBook.{BidBook}
 use Rattle.mari_market.specs.declared.market.Order.{Order}
 use Rattle.mari_market.specs.declared.market.Market.{Market}
 use Rattle.mari_market.specs.declared.activation.Activation.{Activation}
-use Rattle.mari_market.specs.Bounds.{GateState, IsWithin, span_in, span_of}
-use Rattle.mari_market.specs.Bounds.GateState.{Open, Closed, Free}
+use Rattle.mari_market.specs.Bounds.{GateState, IsWithin, span_in}
 use Rattle.mari_market.specs.Market.{IsValid, IsValidOrder}
 use Rattle.mari_market.specs.Optimal.{IsFeasible}
 use Rattle.mari_settle.specs.Conditions.{HasFlows, HasProviders, IsOrderOf, IsPayable, NameOrders, NamesBid}
+use Rattle.mari_market.proofs.Sizes.{high_at_most}
 
 pub has_flows : (m : Market) (a : Activation) → IsFeasible m a → HasFlows m a
 has_flows m a f = record { one_each = AllZip-long _ m.borders a.flow f.borders; within = f.borders }
-
-at_most : (state : ℕ → GateState) (gate : Option ℕ) (o : Order) → (span_of state gate o).hi ≤ o.greatest
-at_most state None o = omega arith
-at_most state (Some g) o = elim (state g) as (λ s. (span_of (λ (h : ℕ). s) (Some g) o).hi ≤ o.greatest) [ Open ↦ omega arith | Closed ↦ omega arith | Free ↦ omega arith ]
 
 small_mw : (state : ℕ → GateState) (zones gates : ℕ) (os : List Order) (qs : List ℕ) → All (IsValidOrder zones gates) os → AllZip (λ o q. IsWithin (span_in state o) q) os qs → All (λ q. q ≤ 99999) qs
 small_mw state zones gates [] [] v f = λ k d h. absurd (omega arith)
 small_mw state zones gates (o ∷ os) (q ∷ qs) v f =
     let here = All-head (IsValidOrder zones gates) o os v in
-    All-cons (λ q. q ≤ 99999) q qs (omega (arith, f.0.most, at_most state o.gate o, here.small)) (small_mw state zones gates os qs (All-tail (IsValidOrder zones gates) o os v) f.1)
+    All-cons (λ q. q ≤ 99999) q qs (omega (arith, f.0.most, high_at_most state o.gate o, here.small)) (small_mw state zones gates os qs (All-tail (IsValidOrder zones gates) o os v) f.1)
 small_mw state zones gates [] (q ∷ qs) v f = absurd f
 small_mw state zones gates (o ∷ os) [] v f = absurd f
 

@@ -1,4 +1,2 @@
-pub mod Lists
 pub mod Open
 pub mod Balance
-pub mod Sizes

@@ -35,9 +35,9 @@ use Rattle.mari_core.proofs.Changes.{IsAt, length-with_state, node_at, state_sam
 use Rattle.mari_core.proofs.Lists.{changed_same}
 use Rattle.mari_core.proofs.Machines.{actor_there, by_actor_there}
 use Rattle.mari_pool.specs.Pooled.{taken_among}
-use Rattle.mari_pool.specs.Queued.{Queued, no_nodes, first_key, waits_in, IsFirst, IsIdleQueue, IsMore, IsQueueOf}
+use Rattle.mari_pool.specs.Queued.{Queued, no_nodes, first_key, IsFirst, IsIdleQueue, IsMore, IsQueueOf}
 use Rattle.mari_pool.proofs.Keeps.{grown_longer}
-use Rattle.mari_pool.proofs.Queues.{first_waits, length_waiting, made, none_waits, queue_done, queue_more, queue_start, queue_taken, state_same_as, untaken_few}
+use Rattle.mari_pool.proofs.Queues.{first_waits, length_waiting, made, none_waits, queue_done, queue_more, queue_start, queue_taken, state_same_as, untaken_few, branch_done}
 use Rattle.mari_pool.proofs.Rooms.{branch_untaken, taken-append, taken_new, taken_state}
 use Rattle.mari_workers.specs.Alone.{after_offer, best_in, IsAtNode, IsDone, IsUnderWay, IsVisited}
 use Rattle.mari_workers.specs.Refine.{MayRefine}
@@ -47,11 +47,6 @@ use Rattle.mari_workers.specs.Refine.{MayRefine}
 -- a node is taken and then settled by this certificate, or without one
 abbrev taken_and : Grown → ℕ → ℕ → Option Leaf → Grown
 taken_and g x cutoff o = grown (grown g (Take 0 x)) (settling_by (grown g (Take 0 x)) 0 x cutoff o)
-
-branch_done : (first : ℕ) (kids : List (List Bool)) → waits_in (Some (branch_of first kids)) ≡ 0
-branch_done first [] = refl
-branch_done first (c ∷ []) = refl
-branch_done first (c ∷ o ∷ rest) = refl
 
 -- what a queue is of the nodes after one that was taken is settled, where those that were made wait
 record IsSettledBy (old new : Grown) (r s : Queued) : Type 0 where

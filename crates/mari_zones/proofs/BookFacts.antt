@@ -14,7 +14,8 @@ use Rattle.mari_rows.specs.Rows.{field_of}
 use Rattle.mari_rows.specs.declared.faults.BookFault.{BookFault}
 use Rattle.mari_rows.specs.declared.rows.Row.{Row}
 use Rattle.mari_rows.proofs.BookLemmas.{book-page}
-use Rattle.mari_rows.proofs.BookFacts.{all-distinct, all-passed, along-lines, both-parts, distinct-more, found-below, not-false, number-bounds, places-below}
+use Rattle.mari_rows.proofs.BookFacts.{all-distinct, all-passed, along-lines, distinct-more, found-below, not-false, number-bounds, places-below}
+use Rattle.std.proofs.lemmas.Bool.{and_parts}
 use Rattle.mari_rows.proofs.PlaceLemmas.{length-distinct}
 use Rattle.mari_zones.specs.Zones.{IsZoneBook, operator_of, operators_of, zone_book, zone_checks, zone_file_checks, zone_grammar, zone_of, zones_of}
 use Rattle.mari_zones.specs.Borders.{IsBorder, IsBorderBook, border_book, border_checks, border_grammar, border_of, limit_in, zone_named}
@@ -31,7 +32,7 @@ record AreZones (rows : List Row) : Type 0 where
 one-zone : (before : List Row) (line : Row) → first_failing (zone_checks before line) ≡ None → AreZones before → AreZones (before ++ line ∷ [])
 one-zone before line none so_far =
     let all = all-passed (zone_checks before line) none in
-    let names = both-parts (is_name (zone_of line)) (is_name (operator_of line)) (not-false _ all.1.0) in
+    let names = and_parts (is_name (zone_of line)) (is_name (operator_of line)) (not-false _ all.1.0) in
     let room : length before < 64 = grind (arith, nat_tests, all.0) in
     record {
       few = simp length-append (omega (arith, room));
@@ -88,8 +89,8 @@ module _ (zones : ZoneBook) (version : ℕ) where
   one-border : (before : List Row) (line : Row) → first_failing (border_checks zones version before line) ≡ None → AreBorders before → AreBorders (before ++ line ∷ [])
   one-border before line none so_far =
       let all = all-passed (border_checks zones version before line) none in
-      let ends = both-parts (is_some (zone_named zones (field_of line 0))) (is_some (zone_named zones (field_of line 1))) (not-false _ all.1.0) in
-      let limits = both-parts (is_some (limit_in version (field_of line 2))) (is_some (limit_in version (field_of line 3))) (not-false _ all.1.1.1.1.0) in
+      let ends = and_parts (is_some (zone_named zones (field_of line 0))) (is_some (zone_named zones (field_of line 1))) (not-false _ all.1.0) in
+      let limits = and_parts (is_some (limit_in version (field_of line 2))) (is_some (limit_in version (field_of line 3))) (not-false _ all.1.1.1.1.0) in
       let room : length before < 256 = grind (arith, nat_tests, all.0) in
       record {
         few = simp length-append (omega (arith, room));

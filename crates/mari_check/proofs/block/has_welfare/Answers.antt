@@ -1,4 +1,4 @@
-use Rattle.mari_welfare.proofs.Sizes.{as_many}
+use Rattle.mari_market.proofs.Sizes.{as_many}
 use Rattle.mari_check.proofs.block.has_welfare.Goals as goal
 
 pub welfare-requires-clause-lengths : goal.welfare-requires-clause-lengths

@@ -1,6 +1,6 @@
 use Rattle.std.proofs.Common.{◌<◌, [], arith, length, map}
 use Rattle.std.proofs.lemmas.List.{length-map}
-use Rattle.mari_welfare.proofs.Lists.{passes_all}
+use Rattle.mari_market.proofs.Lists.{passes_all}
 use Rattle.mari_settle.specs.Lines.{nothing}
 use Rattle.mari_lines.specs.declared.line.AmountLine.{AmountLine}
 use Rattle.mari_check.specs.Lines.{IsAmountLine}

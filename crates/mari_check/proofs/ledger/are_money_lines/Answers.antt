@@ -1,5 +1,5 @@
 use Rattle.std.proofs.Common.{◌<◌, [], arith, length}
-use Rattle.mari_welfare.proofs.Lists.{passes_all}
+use Rattle.mari_market.proofs.Lists.{passes_all}
 use Rattle.mari_settle.specs.Lines.{no_line}
 use Rattle.mari_lines.specs.declared.line.MoneyLine.{MoneyLine}
 use Rattle.mari_check.specs.Lines.{IsMoneyLine}

@@ -1,7 +1,7 @@
 use Rattle.std.proofs.Common.{◌≡◌, ◌∙◌, ◌<◌, [], false, ap, arith, get_or, length, map, sym}
 use Rattle.std.specs.List.{range_with_len}
 use Rattle.std.proofs.lemmas.List.FromFn.{get_or-range_with_len, length-map-range_with_len, length-range_with_len}
-use Rattle.mari_welfare.proofs.Lists.{passes_all}
+use Rattle.mari_market.proofs.Lists.{passes_all}
 use Rattle.mari_settle.specs.Lines.{nothing}
 use Rattle.mari_lines.specs.declared.line.AmountLine.{AmountLine}
 use Rattle.mari_check.specs.Lines.{IsAmountLine}

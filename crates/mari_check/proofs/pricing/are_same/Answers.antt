@@ -1,6 +1,6 @@
 use Rattle.std.proofs.Common.{arith, refl, pos}
 use Rattle.mari_units.specs.declared.numbers.Cents.{Cents}
-use Rattle.mari_welfare.proofs.Lists.{passes_more}
+use Rattle.mari_market.proofs.Lists.{passes_more}
 use Rattle.mari_check.specs.Lines.{IsSamePrice}
 use Rattle.mari_check.proofs.Zips.{uneven}
 use Rattle.mari_check.proofs.pricing.are_same.Goals as goal

@@ -1,6 +1,6 @@
 use Rattle.std.proofs.Common.{arith}
 use Rattle.std.proofs.lemmas.Int.{clamps, ints}
-use Rattle.mari_check.proofs.Intervals.{clamped}
+use Rattle.mari_market.proofs.Published.{clamped}
 use Rattle.mari_check.proofs.pricing.nearest.Goals as goal
 
 pub returns : goal.returns

@@ -4,7 +4,7 @@ use Rattle.mari_market.specs.Clearing.{IsClearing}
 use Rattle.mari_market.specs.Market.{IsValid}
 use Rattle.mari_market.specs.declared.clearing.Clearing.{Clearing}
 use Rattle.mari_market.specs.declared.market.Market.{Market}
-use Rattle.mari_welfare.proofs.Sizes.{as_many, welfare_at_most}
+use Rattle.mari_market.proofs.Sizes.{as_many, welfare_at_most}
 use Rattle.mari_day.proofs.Assembles.{published, run-of}
 use Rattle.mari_day.proofs.BlockFits.{block-fits}
 use Rattle.mari_day.proofs.Shapes.{shapes}

@@ -1,5 +1,5 @@
 use Rattle.std.proofs.Common.{◌∙◌, arith}
-use Rattle.mari_progress.proofs.Counts.{both-kinds}
+use Rattle.mari_publish.proofs.Counts.{both-kinds}
 use Rattle.mari_progress.proofs.Sums.{one-each-provider}
 use Rattle.mari_day.proofs.BlockFits.{have-nets}
 use Rattle.mari_day.proofs.Days.{day-of-blocks, is-day, operators-fit, providers-fit, sums-halves}

@@ -1,7 +1,7 @@
 use Rattle.std.proofs.Common.{arith}
 use Rattle.std.proofs.lemmas.Int.{ints}
 use Rattle.mari_market.proofs.Surplus.{welfare_at_least_0}
-use Rattle.mari_welfare.proofs.Sizes.{welfare_at_most, as_many}
+use Rattle.mari_market.proofs.Sizes.{welfare_at_most, as_many}
 use Rattle.mari_merit.proofs.plain.welfare_at_least_0.Goals as goal
 
 pub welfare-requires-clause-lengths : goal.welfare-requires-clause-lengths

@@ -1,6 +1,6 @@
 use Rattle.std.proofs.Common.{arith, refl}
 use Rattle.mari_market.specs.Prefix.{opens_in}
-use Rattle.mari_welfare.proofs.Lists.{passes_more, fails_at}
+use Rattle.mari_market.proofs.Lists.{passes_more, fails_at}
 use Rattle.mari_node.specs.Running.{RunsWhereOpen}
 use Rattle.mari_node.proofs.gates.run_together.Goals as goal
 

@@ -1,7 +1,7 @@
 use Rattle.std.proofs.Common.{arith}
 use Rattle.mari_market.proofs.GateRuns.{marks_more}
 use Rattle.mari_market.proofs.Sums.{AnyZip-at}
-use Rattle.mari_welfare.proofs.Lists.{AllZip_more}
+use Rattle.mari_market.proofs.Lists.{AllZip_more}
 use Rattle.mari_node.specs.Running.{IsNotPartial, IsPartial}
 use Rattle.mari_node.proofs.gates.running.Goals as goal
 use Rattle.mari_node.proofs.gates.running.Goals.{else-mw-i-gt0-via-then-mw-i-gt0+else-mw-i, else-mw-i-gt0-via-else-mw-i-gt0}

@@ -8,7 +8,7 @@ use Rattle.mari_prices.specs.declared.spread.SettledZone.{SettledZone}
 use Rattle.mari_market.specs.Along.{LeadsTo}
 use Rattle.mari_prices.specs.Ends.{IsEnd, ArePriced, ArePricesOf, AreTrails, AreUncontradicted, IsContradicted, IsTrailTo}
 use Rattle.mari_prices.specs.Spread.{value_in}
-use Rattle.mari_prices.proofs.Agree.{keeps_consistent}
+use Rattle.mari_market.proofs.Agree.{keeps_consistent}
 use Rattle.mari_prices.proofs.EndLaws.{priced, bounds_priced, least_keeps, greatest_keeps, are_least, are_greatest, contradicted_none, trails, trail_contradicts}
 use Rattle.mari_prices.proofs.intervals.price_test.Goals as goal
 

@@ -3,7 +3,7 @@ use Rattle.mari_market.specs.declared.market.Border.{Border}
 use Rattle.mari_market.proofs.Sums.{AnyZip-meets, AnyZip-at}
 use Rattle.mari_market.specs.Along.{LeadsOver}
 use Rattle.mari_prices.specs.Spread.{NoneOver, IsLedOver}
-use Rattle.mari_welfare.proofs.Lists.{AllZip_more}
+use Rattle.mari_market.proofs.Lists.{AllZip_more}
 use Rattle.mari_prices.proofs.Lists.{AllZip_all}
 use Rattle.mari_prices.proofs.spread.next_led.Goals as goal
 

@@ -3,14 +3,14 @@ use Rattle.mari_market.specs.declared.market.Order.{Order}
 use Rattle.mari_market.specs.Activation.{IsWithinLimits}
 use Rattle.mari_market.specs.Bounds.{IsWithin, span_in, own_bounds}
 use Rattle.mari_proofs.proofs.ConflictTests.{tight_test}
-use Rattle.mari_proofs.proofs.GateWords.{same_length}
+use Rattle.std.proofs.lemmas.Slice.Zip.{AllZip-long}
 use Rattle.mari_proofs.proofs.conflicts.has_tight_potentials.Goals as goal
 
 pub is_tight-requires-clause-mw : goal.is_tight-requires-clause-mw
-is_tight-requires-clause-mw c = same_length (λ (o : Order) q. IsWithin (own_bounds c.args.market.now c.args.activation.now o) q) c.args.market.now.orders c.args.activation.now.mw c.requires.activation.feasible.orders
+is_tight-requires-clause-mw c = AllZip-long (λ (o : Order) q. IsWithin (own_bounds c.args.market.now c.args.activation.now o) q) c.args.market.now.orders c.args.activation.now.mw c.requires.activation.feasible.orders
 
 pub is_tight-requires-clause-flow : goal.is_tight-requires-clause-flow
-is_tight-requires-clause-flow c = same_length IsWithinLimits c.args.market.now.borders c.args.activation.now.flow c.requires.activation.feasible.borders
+is_tight-requires-clause-flow c = AllZip-long IsWithinLimits c.args.market.now.borders c.args.activation.now.flow c.requires.activation.feasible.borders
 
 pub returns-then-are_prices : goal.returns-then-are_prices
 returns-then-are_prices c =

@@ -1,6 +1,6 @@
 use Rattle.std.proofs.Common.{arith, refl}
 use Rattle.mari_market.specs.declared.market.Order.{Order}
-use Rattle.mari_welfare.proofs.Lists.{passes_more, fails_at}
+use Rattle.mari_market.proofs.Lists.{passes_more, fails_at}
 use Rattle.mari_proofs.specs.Conflicts.{decides, RunsAsDecided}
 use Rattle.mari_proofs.proofs.conflicts.run_as_decided.Goals as goal
 

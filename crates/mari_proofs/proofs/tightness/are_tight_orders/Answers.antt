@@ -2,7 +2,7 @@ use Rattle.std.proofs.Common.{arith, refl}
 use Rattle.mari_market.specs.Bounds.{span_in}
 use Rattle.mari_market.specs.Dual.{IsTightOrder}
 use Rattle.mari_gates.specs.GateTable.{state_in}
-use Rattle.mari_welfare.proofs.Lists.{passes_more, fails_at}
+use Rattle.mari_market.proofs.Lists.{passes_more, fails_at}
 use Rattle.mari_proofs.proofs.tightness.are_tight_orders.Goals as goal
 
 pub loop-i-preserved : goal.loop-i-preserved

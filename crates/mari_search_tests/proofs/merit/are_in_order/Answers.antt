@@ -1,5 +1,5 @@
 use Rattle.std.proofs.Common.{ℕ, ◌≤◌, arith}
-use Rattle.mari_welfare.proofs.Lists.{AllZip_more}
+use Rattle.mari_market.proofs.Lists.{AllZip_more}
 use Rattle.mari_search_tests.proofs.merit.are_in_order.Goals as goal
 
 pub loop-i-preserved : goal.loop-i-preserved

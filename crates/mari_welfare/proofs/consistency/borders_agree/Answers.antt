@@ -1,7 +1,7 @@
 use Rattle.std.proofs.Common.{arith, pos, get_or, to_z-of_z, FitsSigned, w64, rules}
 use Rattle.mari_market.specs.declared.market.Border.{Border}
 use Rattle.mari_market.specs.Consistent.{IsConsistentBorder}
-use Rattle.mari_welfare.proofs.Lists.{passes_more, fails_at}
+use Rattle.mari_market.proofs.Lists.{passes_more, fails_at}
 use Rattle.mari_welfare.proofs.consistency.borders_agree.Goals as goal
 
 pub loop-i-preserved : goal.loop-i-preserved

@@ -1,7 +1,7 @@
 use Rattle.std.proofs.Common.{arith, refl}
 use Rattle.mari_market.specs.Bounds.{IsWithin, bounds_by}
 use Rattle.mari_market.specs.Prefix.{opens_in}
-use Rattle.mari_welfare.proofs.Lists.{passes_more, fails_at}
+use Rattle.mari_market.proofs.Lists.{passes_more, fails_at}
 use Rattle.mari_welfare.proofs.feasibility.orders_fit.Goals as goal
 
 pub loop-i-preserved : goal.loop-i-preserved

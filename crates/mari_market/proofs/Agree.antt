@@ -16,7 +16,7 @@ use Rattle.mari_market.specs.Optimal.{IsFeasible, IsConsistent}
 use Rattle.mari_market.specs.Price.{IsPrice, price_at, cap}
 use Rattle.mari_market.specs.Sums.{AnyZip}
 use Rattle.mari_market.proofs.Conflicts.{lower_kept, upper_kept, leads_sound, price_in_cap}
-use Rattle.mari_prices.proofs.Spreads.{AnyZip-map}
+use Rattle.mari_market.proofs.Sums.{AnyZip-map}
 
 -- the two stand side by side
 abbrev Stand : {X Y : Type 0} → X → Y → X → Y → Type 0

@@ -1,26 +1,25 @@
 -- The welfare of an admissible activation fits 64 bits.
-use Rattle.std.proofs.Common.{◌≡◌, ℕ, ◌*◌, ◌≤◌, if◌then◌else◌, Bool, true, false, pos, ◌≤ℤ◌, List, [], ◌∷◌, Option, Some, None, length, arith, refl}
+use Rattle.std.proofs.Common.{◌≡◌, ℕ, ◌*◌, ◌≤◌, if◌then◌else◌, Bool, pos, ◌≤ℤ◌, List, [], ◌∷◌, Option, Some, None, length, arith, refl}
 use Rattle.std.proofs.lemmas.Int.{ints}
-use Rattle.std.specs.List.{AllZip}
 use Rattle.mari_market.specs.declared.market.Order.{Order}
 use Rattle.mari_market.specs.declared.market.Market.{Market}
 use Rattle.mari_market.specs.declared.activation.Activation.{Activation}
 use Rattle.mari_market.specs.Activation.{order_gain, welfare_of, is_open}
-use Rattle.mari_market.specs.Bounds.{IsWithin, gated_span, span_of, own_bounds}
-use Rattle.mari_market.specs.Bounds.GateState.{Open, Closed}
+use Rattle.mari_market.specs.Bounds.{GateState, IsWithin, span_of, own_bounds}
+use Rattle.mari_market.specs.Bounds.GateState.{Open, Closed, Free}
 use Rattle.mari_market.specs.Market.{IsValid, IsValidOrder}
 use Rattle.mari_market.specs.Optimal.{IsFeasible}
 use Rattle.mari_market.specs.Sums.{int_sum}
 use Rattle.mari_market.proofs.Sums.{sum_along-le, AllZip-with}
 use Rattle.mari_market.proofs.Gains.{gain_at_most}
+use Rattle.std.proofs.lemmas.Slice.Zip.{AllZip-long}
 
-gated_at_most : (b : Bool) (o : Order) (q : ℕ) → IsWithin (gated_span (if b then Open else Closed) o) q → q ≤ o.greatest
-gated_at_most true o q w = w.most
-gated_at_most false o q w = omega (arith, w.most)
+pub high_at_most : (state : ℕ → GateState) (gate : Option ℕ) (o : Order) → (span_of state gate o).hi ≤ o.greatest
+high_at_most state None o = omega arith
+high_at_most state (Some g) o = elim (state g) as (λ s. (span_of (λ (h : ℕ). s) (Some g) o).hi ≤ o.greatest) [ Open ↦ omega arith | Closed ↦ omega arith | Free ↦ omega arith ]
 
 pub at_most : (opens : ℕ → Bool) (gate : Option ℕ) (o : Order) (q : ℕ) → IsWithin (span_of (λ g. if opens g then Open else Closed) gate o) q → q ≤ o.greatest
-at_most opens None o q w = w.most
-at_most opens (Some g) o q w = gated_at_most (opens g) o q w
+at_most opens gate o q w = omega (arith, w.most, high_at_most (λ g. if opens g then Open else Closed) gate o)
 
 constant : {X : Type 0} (xs : List X) → int_sum (λ (x : X). pos (9999900 * 99999)) xs ≡ pos (9999900 * 99999 * length xs)
 constant [] = refl
@@ -35,12 +34,6 @@ welfare_at_most m a v f =
     m.orders a.mw (AllZip-with _ _ m.orders a.mw v.orders f.orders) in
     omega (arith, ints, each, constant m.orders, v.few_orders)
 
--- two lists side by side are of one length
-pub as_long : {X Y : Type 0} (R : X → Y → Type 0) (xs : List X) (ys : List Y) → AllZip R xs ys → length ys ≡ length xs
-as_long R [] [] h = refl
-as_long R [] (y ∷ ys) h = absurd h
-as_long R (x ∷ xs) [] h = absurd h
-as_long R (x ∷ xs) (y ∷ ys) h = omega (arith, as_long R xs ys h.1)
-
+-- a feasible activation has as many quantities as there are orders
 pub as_many : (m : Market) (a : Activation) → IsFeasible m a → length a.mw ≡ length m.orders
-as_many m a f = as_long _ m.orders a.mw f.orders
+as_many m a f = AllZip-long _ m.orders a.mw f.orders

@@ -1,0 +1,33 @@
+-- In a feasible activation an order of a gate runs exactly where its gate is open.
+use Rattle.std.proofs.Common.{◌≡◌, if◌then◌else◌, Bool, true, false, ℕ, ◌<◌, ◌≤◌, Option, Some, None, length, arith, refl, ap}
+use Rattle.std.specs.Prelude.{nat_lt, MatchOption}
+use Rattle.std.specs.List.{AllZip}
+use Rattle.std.proofs.lemmas.Bool.Decides.{nat_tests}
+use Rattle.mari_market.specs.declared.market.Order.{Order}
+use Rattle.mari_market.specs.declared.market.Market.{Market}
+use Rattle.mari_market.specs.declared.activation.Activation.{Activation}
+use Rattle.mari_market.specs.declared.price_rules.Standing.TheVariants.{InOpen, InClosed}
+use Rattle.mari_market.specs.Activation.{is_open}
+use Rattle.mari_market.specs.Bounds.{IsWithin, own_bounds, span_of, gated_span}
+use Rattle.mari_market.specs.Bounds.GateState.{Open, Closed}
+use Rattle.mari_market.specs.Consistent.{own_standing, standing_of}
+use Rattle.mari_market.specs.Market.{IsValid, IsValidOrder}
+use Rattle.mari_market.specs.Optimal.{IsFeasible}
+use Rattle.mari_market.proofs.Sums.{AllZip-with, AllZip-both}
+
+gate_standing : (b : Bool) (o : Order) (q : ℕ) → 1 ≤ o.least → IsWithin (gated_span (if b then Open else Closed) o) q → nat_lt 0 q ≡ b
+gate_standing true o q l w = let some : 0 < q = omega (arith, w.least) in grind (arith, nat_tests)
+gate_standing false o q l w = let none : q ≤ 0 = w.most in grind (arith, nat_tests)
+
+standing_at : (opens : ℕ → Bool) (gates : ℕ) (gate : Option ℕ) (o : Order) (q : ℕ) → MatchOption gate (o.least ≡ 0) (λ g. (g < gates) × (1 ≤ o.least)) → IsWithin (span_of (λ g. if opens g then Open else Closed) gate o) q → own_standing gate q ≡ standing_of opens gate
+standing_at opens gates None o q v w = refl
+standing_at opens gates (Some g) o q v w = ap (λ (b : Bool). if b then InOpen else InClosed) (gate_standing (opens g) o q v.1 w)
+
+abbrev pub OneStanding : Market → Activation → Order → ℕ → Type 0
+OneStanding m a o q = own_standing o.gate q ≡ standing_of (is_open m a) o.gate
+
+pub one_standing : (m : Market) (a : Activation) → IsValid m → IsFeasible m a → AllZip (OneStanding m a) m.orders a.mw
+one_standing m a v f =
+    let both = AllZip-with (IsValidOrder m.zones (length m.gates)) (λ o q. IsWithin (own_bounds m a o) q) m.orders a.mw v.orders f.orders in
+    AllZip-both (λ o q. IsValidOrder m.zones (length m.gates) o × IsWithin (own_bounds m a o) q) (λ o q. IsValidOrder m.zones (length m.gates) o × IsWithin (own_bounds m a o) q) (OneStanding m a)
+    (λ o q h k. standing_at (is_open m a) (length m.gates) o.gate o q h.0.gate h.1) m.orders a.mw both both

@@ -1,5 +1,5 @@
 -- What the calls of the ledger ask of what they are given, and how large its numbers are.
-use Rattle.std.specs.Prelude.{◌≡◌, ℕ, ◌<◌, ◌≤◌, ◌^◌, ◌+ℤ◌, List, length, take, slice_get, unsigned_abs, IsSomeAnd}
+use Rattle.std.specs.Prelude.{◌≡◌, ℕ, ◌<◌, ◌≤◌, ◌*◌, ◌^◌, ◌+ℤ◌, List, length, take, slice_get, unsigned_abs, IsSomeAnd}
 use Rattle.std.specs.List.{All, AllZip}
 use Rattle.mari_units.specs.declared.numbers.Quarters.{Quarters}
 use Rattle.mari_zones.specs.declared.zones.ZoneBook.{ZoneBook}
@@ -91,12 +91,22 @@ pub record LedgerIsWithin (most : ℕ) (ledger : Ledger) : Type 0 where
   pub providers : All (IsWithin most) ledger.providers
   pub rents : All (IsWithin most) ledger.rents
 
--- the numbers of one run's ledger are small: within 10^17 quarter-cents of 0
+-- how far from 0 the numbers of one run's ledger are at most, in quarter-cents: an operator's, a provider's, and any
+abbrev pub most_of_operator : ℕ
+most_of_operator = 2 * 10 ^ 15
+
+abbrev pub most_of_provider : ℕ
+most_of_provider = 4 * 10 ^ 15
+
+abbrev pub most_of_run : ℕ
+most_of_run = 10 ^ 17
+
+-- the numbers of one run's ledger are small: within `most_of_run`
 abbrev pub IsSmall : Quarters → Type 0
-IsSmall a = IsWithin (10 ^ 17) a
+IsSmall a = IsWithin most_of_run a
 
 abbrev pub IsSmallLine : OperatorLine → Type 0
-IsSmallLine line = LineIsWithin (10 ^ 17) line
+IsSmallLine line = LineIsWithin most_of_run line
 
 abbrev pub HasSmallNumbers : Ledger → Type 0
-HasSmallNumbers ledger = LedgerIsWithin (10 ^ 17) ledger
+HasSmallNumbers ledger = LedgerIsWithin most_of_run ledger

@@ -64,9 +64,3 @@ abbrev pub GivesBook : {Book : Type 0} → Result Book BookFault → Result Book
 GivesBook (Ok book) read = read ≡ Ok book
 GivesBook (Err refused.Memory) read = Unit {0}
 GivesBook (Err (refused.At line number)) read = read ≡ Err (refused.At line number)
-
--- what an answer to one more line says: its book with that line, where no check fails, and else the first that fails
-abbrev pub TakesLine : {X : Type 0} → Result X BookFault → ℕ → Option ℕ → (X → Type 0) → Type 0
-TakesLine (Ok x) line failing Holds = (failing ≡ None) × Holds x
-TakesLine (Err refused.Memory) line failing Holds = Unit {0}
-TakesLine (Err (refused.At at number)) line failing Holds = (at ≡ line) × (failing ≡ Some number)

@@ -2,7 +2,7 @@
 use Rattle.std.proofs.Common.{◌≡◌, ◌∙◌, ℕ, Bool, true, false, if◌then◌else◌, Option, List, [], ◌∷◌, ◌++◌, Some, None, Result, Ok, Err, append_assoc, refl, sym}
 use Rattle.std.proofs.lemmas.List.{append-nil}
 use Rattle.mari_rows.specs.Books.{Checks, Grammar, GivesBook, book_in, book_of_read, book_of_rows, first_failing, line_refusal, refusal_of}
-use Rattle.std.specs.Prelude.{option_map}
+use Rattle.std.specs.Prelude.{option_map, ⊤}
 use Rattle.std.specs.Option.{option_or}
 use Rattle.std.specs.Result.{IsErrAnd}
 use Rattle.mari_rows.specs.First.{HasNoFault, first_fault, first_fault_behind, unless_fault}
@@ -19,7 +19,7 @@ use Rattle.mari_rows.proofs.FirstLemmas.{first_fault-go, first_fault-here}
 -- else the first that fails
 abbrev pub TakesLineAt : {X : Type 0} → Result X BookFault → ℕ → Option ℕ → (X → Type 0) → Type 0
 TakesLineAt (Ok x) line failing Holds = (failing ≡ None) × Holds x
-TakesLineAt (Err refused.Memory) line failing Holds = Unit {0}
+TakesLineAt (Err refused.Memory) line failing Holds = ⊤
 TakesLineAt (Err (refused.At at number)) line failing Holds = (at ≡ line) × (failing ≡ Some number)
 
 module _ {Book : Type 0} (g : Grammar Book) where

@@ -1,5 +1,5 @@
 -- A book from its page: the checks of its lines, the first that fails, and what its lines say.
-use Rattle.std.specs.Prelude.{◌≡◌, ℕ, Bool, List, [], ◌∷◌, Option, Some, None, Result, Ok, Err, if◌then◌else◌, option_map}
+use Rattle.std.specs.Prelude.{◌≡◌, ℕ, Bool, List, [], ◌∷◌, Option, Some, None, Result, Ok, Err, if◌then◌else◌, option_map, ⊤}
 use Rattle.std.specs.Option.{option_or}
 use Rattle.mari_rows.specs.Checks.{row_check_number}
 use Rattle.mari_rows.specs.declared.checks.RowCheck.TheVariants as check
@@ -62,5 +62,5 @@ module _ {Book : Type 0} (g : Grammar Book) where
 -- this is the book that was to be read or its first refusal, unless memory was wanted
 abbrev pub GivesBook : {Book : Type 0} → Result Book BookFault → Result Book BookFault → Type 0
 GivesBook (Ok book) read = read ≡ Ok book
-GivesBook (Err refused.Memory) read = Unit {0}
+GivesBook (Err refused.Memory) read = ⊤
 GivesBook (Err (refused.At line number)) read = read ≡ Err (refused.At line number)

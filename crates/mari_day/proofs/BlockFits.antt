@@ -24,7 +24,7 @@ use Rattle.mari_lines.specs.declared.line.ZoneLine.{ZoneLine}
 use Rattle.mari_remain.specs.Accepted.{IsAccepted}
 use Rattle.mari_remain.specs.declared.market.RunMarket.{RunMarket}
 use Rattle.mari_remain.specs.declared.books.Books.{Books}
-use Rattle.mari_settle.specs.Conditions.{IsSmall, IsSmallLine, IsWithin, LineIsWithin}
+use Rattle.mari_settle.specs.Conditions.{IsSmall, IsSmallLine, MoneyIsWithin, LineIsWithin}
 use Rattle.mari_settle.specs.Lines.{map_along, nothing}
 use Rattle.mari_settle.specs.declared.ledger.OperatorLine.{OperatorLine}
 use Rattle.mari_progress.specs.Runs.{IsMarketOf}
@@ -56,7 +56,7 @@ money q small = omega (arith, small)
 abbrev pub IsHalf : OperatorLine → Type 0
 IsHalf l = LineIsWithin (2 * 10 ^ 18) l
 
-half : (q : Quarters) → IsWithin (2 * 10 ^ 18) q → IsMoney q
+half : (q : Quarters) → MoneyIsWithin (2 * 10 ^ 18) q → IsMoney q
 half q small = omega (arith, small)
 
 net : (l : OperatorLine) → IsHalf l → Within 4000000000000000000 (l.payment.0 -ℤ l.rent.0)

@@ -11,7 +11,7 @@ use Rattle.mari_publish.specs.Lines.{published_in}
 use Rattle.mari_remain.specs.declared.books.Books.{Books}
 use Rattle.mari_remain.specs.FirstBlocks.{StandsFor}
 use Rattle.mari_remain.specs.Lists.{run_at}
-use Rattle.mari_settle.specs.Conditions.{IsWithin, LineIsWithin, most_of_operator, most_of_provider, most_of_run}
+use Rattle.mari_settle.specs.Conditions.{MoneyIsWithin, LineIsWithin, most_of_operator, most_of_provider, most_of_run}
 use Rattle.mari_settle.specs.Ledger.{net_of}
 use Rattle.mari_settle.specs.declared.ledger.Ledger.{Ledger}
 use Rattle.mari_progress.specs.declared.progress.Progress.{Progress}
@@ -31,8 +31,8 @@ pub record AreTotals (books : Books) (blocks : List Block) (ledger : Ledger) : T
   pub one_each : length ledger.operators ≡ length books.zones.operators
   pub rents : length ledger.rents ≡ length books.borders.borders
   pub operators_within : All (LineIsWithin (length blocks * most_of_operator)) ledger.operators
-  pub providers_within : All (IsWithin (length blocks * most_of_provider)) ledger.providers
-  pub rents_within : All (IsWithin (length blocks * most_of_run)) ledger.rents
+  pub providers_within : All (MoneyIsWithin (length blocks * most_of_provider)) ledger.providers
+  pub rents_within : All (MoneyIsWithin (length blocks * most_of_run)) ledger.rents
   pub nets : int_sum net_of ledger.operators ≡ pos 0
 
 -- the prices that are kept, for a run of a quarter

@@ -11,7 +11,7 @@ use Rattle.mari_publish.specs.declared.publication.Block.TheVariants as block
 use Rattle.mari_publish.specs.declared.publication.FullBlock.{FullBlock}
 use Rattle.mari_remain.specs.declared.books.Books.{Books}
 use Rattle.mari_remain.specs.declared.market.RunMarket.{RunMarket}
-use Rattle.mari_settle.specs.Conditions.{HasSmallNumbers, IsWithin, LineIsWithin, NameOrders, most_of_operator, most_of_provider}
+use Rattle.mari_settle.specs.Conditions.{HasSmallNumbers, MoneyIsWithin, LineIsWithin, NameOrders, most_of_operator, most_of_provider}
 use Rattle.mari_settle.specs.Ledger.{net_of}
 use Rattle.mari_settle.specs.declared.ledger.Ledger.{Ledger}
 use Rattle.mari_progress.specs.declared.progress.SettledRun.{SettledRun}
@@ -51,7 +51,7 @@ IsSoundBlock books before (block.Unpublished heading count) = heading ≡ headin
 pub record IsBalancedLedger (ledger : Ledger) : Type 0 where
   pub small : HasSmallNumbers ledger
   pub operators_small : All (LineIsWithin most_of_operator) ledger.operators
-  pub providers_small : All (IsWithin most_of_provider) ledger.providers
+  pub providers_small : All (MoneyIsWithin most_of_provider) ledger.providers
   pub nets : int_sum net_of ledger.operators ≡ pos 0
 
 -- what the block of a run adds to its day: the market, the activation and the prices that it tells, and its ledger,

@@ -21,7 +21,7 @@ use Rattle.std.proofs.lemmas.Bool.{cases_lt}
 use Rattle.std.proofs.lemmas.List.{get_or_past}
 use Rattle.mari_bids.specs.declared.bids.Bid.{Bid}
 use Rattle.mari_bids.specs.declared.bids.BidBook.{BidBook}
-use Rattle.mari_settle.specs.Conditions.{IsWithin, LineIsWithin, most_of_operator, most_of_provider}
+use Rattle.mari_settle.specs.Conditions.{MoneyIsWithin, LineIsWithin, most_of_operator, most_of_provider}
 use Rattle.mari_settle.specs.Ledger.{bid_amount, carried_in, earned, paid_at, provider_amount, provider_amounts, half_of, net_import, operator_at, operator_line, operator_lines, operator_payment, operator_rent, payment_at, rent_of, share_of}
 use Rattle.mari_settle.proofs.Laws.{range_is_below}
 use Rattle.mari_settle.proofs.Money.{half_small, product_small}
@@ -139,7 +139,7 @@ module _ (bids : BidBook) (ps scheduled : List Cents) (own : All IsCapped ps) (a
 
 -- each provider's amount, where no bid runs more than 9,999 MW
 pub amounts_small : (bids : BidBook) (numbers : List ℕ) (a : Activation) (ps scheduled : List Cents) → All IsCapped ps → All IsCapped scheduled → length numbers ≤ 4608 → All (λ q. q ≤ 9999) (take (length numbers) a.mw)
-    → All (IsWithin most_of_provider) (provider_amounts bids numbers a ps scheduled)
+    → All (MoneyIsWithin most_of_provider) (provider_amounts bids numbers a ps scheduled)
 amounts_small bids numbers a ps scheduled mine also few h =
-    All-map (IsWithin most_of_provider) (λ k. record { 0 = provider_amount bids numbers a ps scheduled k }) (range_with_len 0 (length bids.providers))
+    All-map (MoneyIsWithin most_of_provider) (λ k. record { 0 = provider_amount bids numbers a ps scheduled k }) (range_with_len 0 (length bids.providers))
     (λ k (d : ℕ) l. let small = amounts_along bids ps scheduled mine also (get_or (range_with_len 0 (length bids.providers)) k d) numbers a.mw h in omega (arith, small, few))

@@ -77,19 +77,19 @@ pub record LedgersAddUp (a b : Ledger) : Type 0 where
   pub rents : AllZip AddUp a.rents b.rents
 
 -- an amount within so many quarter-cents of 0
-abbrev pub IsWithin : ℕ → Quarters → Type 0
-IsWithin most a = unsigned_abs a.0 ≤ most
+abbrev pub MoneyIsWithin : ℕ → Quarters → Type 0
+MoneyIsWithin most a = unsigned_abs a.0 ≤ most
 
 -- so are the two of an operator's line
 pub record LineIsWithin (most : ℕ) (line : OperatorLine) : Type 0 where
-  pub payment : IsWithin most line.payment
-  pub rent : IsWithin most line.rent
+  pub payment : MoneyIsWithin most line.payment
+  pub rent : MoneyIsWithin most line.rent
 
 -- so is every number of a ledger
 pub record LedgerIsWithin (most : ℕ) (ledger : Ledger) : Type 0 where
   pub operators : All (LineIsWithin most) ledger.operators
-  pub providers : All (IsWithin most) ledger.providers
-  pub rents : All (IsWithin most) ledger.rents
+  pub providers : All (MoneyIsWithin most) ledger.providers
+  pub rents : All (MoneyIsWithin most) ledger.rents
 
 -- how far from 0 the numbers of one run's ledger are at most, in quarter-cents: an operator's, a provider's, and any
 abbrev pub most_of_operator : ℕ
@@ -103,7 +103,7 @@ most_of_run = 10 ^ 17
 
 -- the numbers of one run's ledger are small: within `most_of_run`
 abbrev pub IsSmall : Quarters → Type 0
-IsSmall a = IsWithin most_of_run a
+IsSmall a = MoneyIsWithin most_of_run a
 
 abbrev pub IsSmallLine : OperatorLine → Type 0
 IsSmallLine line = LineIsWithin most_of_run line

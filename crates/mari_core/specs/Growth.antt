@@ -130,7 +130,7 @@ IsEntryCutAt w (GiveBack k x) = ⊤
 
 -- the journal's entries, with the certificates of closed nodes, are allowed one after the other, at cutoffs of at most
 -- w, and lead from the start to the tree
-pub record LeadsTo (journal : List JournalEntry) (w : ℕ) (g : Grown) : Type 0 where
+pub record JournalLeadsTo (journal : List JournalEntry) (w : ℕ) (g : Grown) : Type 0 where
   pub entries : List Entry
   pub kept : map in_journal entries ≡ journal
   pub allowed : AreAllowed (seed g.market g.budget) entries

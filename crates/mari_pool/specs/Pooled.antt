@@ -7,7 +7,7 @@ use Rattle.mari_core.specs.declared.node.NodeState.{NodeState}
 use Rattle.mari_core.specs.declared.node.NodeState.TheVariants.{Untaken, Taken, Branched, Closed}
 use Rattle.mari_core.specs.declared.journal.JournalEntry.{JournalEntry}
 use Rattle.mari_core.specs.Nodes.{TreeNode, words_of, state_at}
-use Rattle.mari_core.specs.Growth.{Grown, Entry, seed, grown, grown_by, settling, in_journal, IsGrowth, LeadsTo}
+use Rattle.mari_core.specs.Growth.{Grown, Entry, seed, grown, grown_by, settling, in_journal, IsGrowth, JournalLeadsTo}
 use Rattle.mari_core.specs.Growth.Entry.{Take, Close, Branch, Full, GiveBack}
 use Rattle.mari_incumbent.specs.Incumbent.{IncumbentId, Standing, standing}
 use Rattle.mari_pool.specs.Queued.{first_key, child_key}
@@ -77,7 +77,7 @@ pub record IsPool (m : Market) (budget workers : ℕ) (incumbent : IncumbentId) 
   pub market_is : p.tree.market ≡ m
   pub budget_is : p.tree.budget ≡ budget
   pub grows : IsGrowth p.tree
-  pub leads : LeadsTo p.journal p.seat.seen p.tree
+  pub leads : JournalLeadsTo p.journal p.seat.seen p.tree
   pub keys_are : length p.keys ≡ length p.tree.nodes
   pub closed : IsClosedWelfare m (pos incumbent.first)
   pub seat_incumbent : p.seat.incumbent ≡ incumbent

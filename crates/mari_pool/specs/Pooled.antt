@@ -147,8 +147,8 @@ abbrev pub entered_by : Pooled → List Entry → Pooled
 entered_by p es = record p { tree = grown_by p.tree es; journal = p.journal ++ map in_journal es }
 
 -- where the nodes from this one on are put back as far as they are taken
-abbrev pub left_at : Pooled → ℕ → Pooled
-left_at p x = entered_by p (returns_of x (drop x p.tree.nodes))
+abbrev pub put_back_from : Pooled → ℕ → Pooled
+put_back_from p x = entered_by p (returns_of x (drop x p.tree.nodes))
 
 -- the journal has room for so many entries
 abbrev pub roomy : Pooled → ℕ → Pooled

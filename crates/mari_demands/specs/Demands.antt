@@ -91,7 +91,7 @@ pub record IsDemand (zones : ZoneBook) (runs : ℕ) (demand : Demand) : Type 0 w
   pub mw : unsigned_abs demand.mw ≤ MOST_MW
   pub price : IfSome demand.price IsCapped
 
--- what holds of every book of demands that is read: no run has more than 512
+-- what holds of every book of demands that is read: no run has more than `MOST_DEMANDS`
 pub record IsDemandBook (zones : ZoneBook) (runs : ℕ) (book : DemandBook) : Type 0 where
   pub demands : All (IsDemand zones runs) book.demands
   pub of_run : (run : ℕ) → count_by (λ (demand : Demand). demand.run == run) book.demands ≤ MOST_DEMANDS

@@ -30,8 +30,8 @@ pub record IsPayable (bids : BidBook) (zones : ℕ) (bid : Bid) : Type 0 where
   pub zone : bid.zone < zones
   pub provider : bid.provider < length bids.providers
 
-abbrev pub NamesBid : BidBook → ℕ → ℕ → Type 0
-NamesBid bids zones number = IsSomeAnd (slice_get bids.bids number) (IsPayable bids zones)
+abbrev pub NamesPayable : BidBook → ℕ → ℕ → Type 0
+NamesPayable bids zones number = IsSomeAnd (slice_get bids.bids number) (IsPayable bids zones)
 
 -- a flow for each border, within its limits
 pub record HasFlows (m : Market) (a : Activation) : Type 0 where

@@ -4,7 +4,7 @@ ghost use Rattle.std.specs.Prelude.{◌≡◌, ◌==◌, ◌≤◌, ◌<◌, ◌
 ghost use Rattle.std.specs.List.{All};
 ghost use Rattle.mari_market.specs.Price.{IsCapped, price_at};
 ghost use Rattle.mari_market.specs.Sums.{sum_along};
-ghost use Rattle.mari_settle.specs.Conditions.{IsSmall, NamesBid, most_of_run};
+ghost use Rattle.mari_settle.specs.Conditions.{IsSmall, NamesPayable, most_of_run};
 ghost use Rattle.mari_settle.specs.Ledger.{bid_amount, earned as earned_by, paid_at, provider_amounts};
 ghost use Rattle.mari_settle.specs.Lines.{amount_at};
 
@@ -96,7 +96,7 @@ fn pay_all(
     requires lengths_too { length scheduled.now ≡ length prices.now }
     requires prices { All IsCapped prices.now }
     requires scheduled { All IsCapped scheduled.now }
-    requires numbers { All (NamesBid bids.now (length prices.now)) numbers.now }
+    requires numbers { All (NamesPayable bids.now (length prices.now)) numbers.now }
 
     // Each provider's sum, which never runs over.
     ensures lengths { length amounts.new ≡ length bids.now.providers }
@@ -130,7 +130,7 @@ pub(crate) fn write_amounts(
     requires lengths_too { length scheduled.now ≡ length prices.now }
     requires prices { All IsCapped prices.now }
     requires scheduled { All IsCapped scheduled.now }
-    requires numbers { All (NamesBid bids.now (length prices.now)) numbers.now }
+    requires numbers { All (NamesPayable bids.now (length prices.now)) numbers.now }
 
     // Each provider's amount, whatever stood there.
     ensures value { amounts.new ≡ provider_amounts bids.now numbers.now activation.now prices.now scheduled.now }

@@ -45,65 +45,65 @@ abbrev pub name_among : {C : Type 0} → (number : C → ℕ) (name : C → List
 name_among number name checks n = option_map name (find (λ check. number check == n) checks)
 
 -- the checks that every file has
-abbrev pub row_checks : List RowCheck
-row_checks = row.BadHeader ∷ row.BadRow ∷ row.NotUtf8 ∷ []
+abbrev pub checks_of_rows : List RowCheck
+checks_of_rows = row.BadHeader ∷ row.BadRow ∷ row.NotUtf8 ∷ []
 
 -- and the checks of each file of its own; borders.csv may also be refused in a folder that is migrated
-abbrev pub date_checks : List DateCheck
-date_checks = date.NotOneRecord ∷ date.BadDate ∷ date.BadZoneText ∷ date.OutOfRange ∷ date.NotWholeQuarters ∷ []
+abbrev pub checks_of_dates : List DateCheck
+checks_of_dates = date.NotOneRecord ∷ date.BadDate ∷ date.BadZoneText ∷ date.OutOfRange ∷ date.NotWholeQuarters ∷ []
 
-abbrev pub zone_checks : List ZoneCheck
-zone_checks = zone.TooManyZones ∷ zone.BadField ∷ zone.Repeated ∷ zone.NoZone ∷ []
+abbrev pub checks_of_zones : List ZoneCheck
+checks_of_zones = zone.TooManyZones ∷ zone.BadField ∷ zone.Repeated ∷ zone.NoZone ∷ []
 
-abbrev pub border_checks : List BorderCheck
-border_checks = border.TooManyBorders ∷ border.Unknown ∷ border.SelfBorder ∷ border.Repeated ∷ border.Range ∷ []
+abbrev pub checks_of_borders : List BorderCheck
+checks_of_borders = border.TooManyBorders ∷ border.Unknown ∷ border.SelfBorder ∷ border.Repeated ∷ border.Range ∷ []
 
-abbrev pub migration_checks : List MigrationCheck
-migration_checks = migration.AlreadyTwo ∷ []
+abbrev pub checks_of_migrations : List MigrationCheck
+checks_of_migrations = migration.AlreadyTwo ∷ []
 
-abbrev pub bid_checks : List BidCheck
-bid_checks = bid.BadField ∷ bid.Repeated ∷ bid.UnknownZone ∷ bid.Quarter ∷ bid.Range ∷ bid.LeastAboveGreatest ∷ bid.TooMany ∷ []
+abbrev pub checks_of_bids : List BidCheck
+checks_of_bids = bid.BadField ∷ bid.Repeated ∷ bid.UnknownZone ∷ bid.Quarter ∷ bid.Range ∷ bid.LeastAboveGreatest ∷ bid.TooMany ∷ []
 
-abbrev pub link_checks : List LinkCheck
-link_checks = link.BadKind ∷ link.UnknownBid ∷ link.WrongQuarter ∷ link.ParentNotEarlier ∷ link.Repeated ∷ link.BadField ∷ link.TooManyGates ∷ []
+abbrev pub checks_of_links : List LinkCheck
+checks_of_links = link.BadKind ∷ link.UnknownBid ∷ link.WrongQuarter ∷ link.ParentNotEarlier ∷ link.Repeated ∷ link.BadField ∷ link.TooManyGates ∷ []
 
-abbrev pub run_checks : List RunCheck
-run_checks = run.BadField ∷ run.RunsOutOfOrder ∷ run.Quarter ∷ run.Range ∷ run.TooMany ∷ []
+abbrev pub checks_of_runs : List RunCheck
+checks_of_runs = run.BadField ∷ run.RunsOutOfOrder ∷ run.Quarter ∷ run.Range ∷ run.TooMany ∷ []
 
-abbrev pub demand_checks : List DemandCheck
-demand_checks = demand.BadField ∷ demand.UnknownRun ∷ demand.UnknownZone ∷ demand.Range ∷ demand.TooMany ∷ []
+abbrev pub checks_of_demands : List DemandCheck
+checks_of_demands = demand.BadField ∷ demand.UnknownRun ∷ demand.UnknownZone ∷ demand.Range ∷ demand.TooMany ∷ []
 
-abbrev pub text_checks : List TextCheck
-text_checks = text.BadLine ∷ text.BadOrder ∷ text.Truncated ∷ []
+abbrev pub checks_of_texts : List TextCheck
+checks_of_texts = text.BadLine ∷ text.BadOrder ∷ text.Truncated ∷ []
 
-abbrev pub limit_checks : List LimitCheck
-limit_checks = limit.BadField ∷ limit.UnknownRun ∷ limit.UnknownBorder ∷ limit.Repeated ∷ limit.Range ∷ []
+abbrev pub checks_of_limits : List LimitCheck
+checks_of_limits = limit.BadField ∷ limit.UnknownRun ∷ limit.UnknownBorder ∷ limit.Repeated ∷ limit.Range ∷ []
 
 -- the name of a check of borders.csv, by its number
 abbrev pub border_name : ℕ → Option (List ℕ)
-border_name number = option_or (name_among border_check_number border_check_name border_checks number)
-    (name_among migration_check_number migration_check_name migration_checks number)
+border_name number = option_or (name_among border_check_number border_check_name checks_of_borders number)
+    (name_among migration_check_number migration_check_name checks_of_migrations number)
 
 -- the name of a check of a market file's own
 abbrev pub named_of : Option File → (number : ℕ) → Option (List ℕ)
-named_of (Some file.Day) number = name_among date_check_number date_check_name date_checks number
-named_of (Some file.Zones) number = name_among zone_check_number zone_check_name zone_checks number
+named_of (Some file.Day) number = name_among date_check_number date_check_name checks_of_dates number
+named_of (Some file.Zones) number = name_among zone_check_number zone_check_name checks_of_zones number
 named_of (Some file.Borders) number = border_name number
-named_of (Some file.Bids) number = name_among bid_check_number bid_check_name bid_checks number
-named_of (Some file.Links) number = name_among link_check_number link_check_name link_checks number
-named_of (Some file.Runs) number = name_among run_check_number run_check_name run_checks number
-named_of (Some file.Demands) number = name_among demand_check_number demand_check_name demand_checks number
-named_of (Some file.Limits) number = name_among limit_check_number limit_check_name limit_checks number
+named_of (Some file.Bids) number = name_among bid_check_number bid_check_name checks_of_bids number
+named_of (Some file.Links) number = name_among link_check_number link_check_name checks_of_links number
+named_of (Some file.Runs) number = name_among run_check_number run_check_name checks_of_runs number
+named_of (Some file.Demands) number = name_among demand_check_number demand_check_name checks_of_demands number
+named_of (Some file.Limits) number = name_among limit_check_number limit_check_name checks_of_limits number
 named_of None number = None
 
 -- the name of a check of one file of its own, by the file's number from 1
 abbrev pub own_name : (file number : ℕ) → Option (List ℕ)
 own_name file number =
-    if file == PUBLICATION then name_among text_check_number text_check_name text_checks number else named_of (file_with file) number
+    if file == PUBLICATION then name_among text_check_number text_check_name checks_of_texts number else named_of (file_with file) number
 
 -- the name of a check, by its file's number from 1 and its own
 unfoldable pub check_name : (file number : ℕ) → Option (List ℕ)
-check_name file number = option_or (name_among row_check_number row_check_name row_checks number) (own_name file number)
+check_name file number = option_or (name_among row_check_number row_check_name checks_of_rows number) (own_name file number)
 
 -- the check by which a file is refused has a name, which isn't empty
 abbrev pub HasName : Refusal → Type 0

@@ -87,8 +87,8 @@ fn finish<K: Sink, G: Turnstile, R: Threads + Wait + Sync>(
 /// Does all that the program does, by the words behind its name:
 ///
 /// - `clear FOLDER [--nodes N] [--workers K]` clears the runs of the folder's day and prints the day as it is made. A
-///   run's search makes at most N nodes, 1 to 50,000, or 10,000 where the words don't say; K workers search, 1 to 16,
-///   or 2.
+///   run's search makes at most N nodes, 1 to `MOST_NODES`, or `USUAL_NODES` where the words don't say; K workers
+///   search, 1 to `MOST_WORKERS`, or `USUAL_WORKERS`.
 /// - `check FOLDER` checks the folder's publication.txt against its market files.
 /// - `generate NUMBER` clears a generated day and prints its summary.
 /// - `migrate FOLDER borders` and `migrate FOLDER limits` print these files in the form that states limits for each

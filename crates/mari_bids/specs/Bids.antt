@@ -3,10 +3,11 @@ use Rattle.std.specs.Prelude.{◌≡◌, ◌≢◌, ◌≤◌, ◌<◌, ℕ, ◌
 use Rattle.std.specs.List.{All, AllPairs}
 use Rattle.mari_units.specs.Names.{is_name}
 use Rattle.mari_units.specs.Numbers.{price_of, whole_of}
+use Rattle.mari_units.specs.Prices.{IsCapped}
 use Rattle.mari_units.specs.declared.limits.TheConstants.{MOST_BID_MW, MOST_BIDS, MOST_PAGE}
 use Rattle.mari_units.specs.declared.numbers.Cents.{Cents}
 use Rattle.mari_rows.specs.Books.{Checks, Grammar}
-use Rattle.mari_rows.specs.Fields.{cents_in, is_first_of, number_in, IsWithinCap}
+use Rattle.mari_rows.specs.Fields.{cents_in, is_first_of, number_in}
 use Rattle.mari_rows.specs.Names.{distinct, is_among, place_in}
 use Rattle.mari_rows.specs.Rows.{field_of}
 use Rattle.mari_rows.specs.declared.rows.Row.{Row}
@@ -96,7 +97,7 @@ bid_checks zones quarters earlier row =
     ∷ (nat_lt (greatest_at row) (least_at row), bid_check_number LeastAboveGreatest)
     ∷ []
 
--- and as the 4,097th bid of its quarter
+-- and behind `MOST_BIDS` bids of its quarter
 abbrev pub line_checks : ZoneBook → ℕ → List Row → Row → Checks
 line_checks zones quarters earlier row =
     bid_checks zones quarters earlier row ++ (nat_le MOST_BIDS (count_of quarters earlier (quarter_at quarters row)), bid_check_number TooMany) ∷ []
@@ -146,7 +147,7 @@ pub record IsBid (zones : ZoneBook) (providers quarters : ℕ) (bid : Bid) : Typ
   pub zone : bid.zone < length zones.zones
   pub first_quarter : 1 ≤ bid.quarter
   pub last_quarter : bid.quarter ≤ quarters
-  pub price : IsWithinCap bid.price.0
+  pub price : IsCapped bid.price
   pub some : 1 ≤ bid.greatest
   pub most : bid.greatest ≤ MOST_BID_MW
   pub least : bid.least ≤ bid.greatest

@@ -13,7 +13,7 @@ use Rattle.mari_lines.specs.declared.line.MoneyLine.{MoneyLine}
 use Rattle.mari_publish.specs.declared.publication.Publication.{Publication}
 use Rattle.mari_remain.specs.Accepted.{IsAccepted}
 use Rattle.mari_remain.specs.declared.books.Books.{Books}
-use Rattle.mari_settle.specs.Conditions.{LineIsWithin}
+use Rattle.mari_settle.specs.Conditions.{LineIsWithin, most_of_operator}
 use Rattle.mari_settle.specs.declared.ledger.Ledger.{Ledger}
 use Rattle.mari_settle.specs.declared.ledger.OperatorLine.{OperatorLine}
 use Rattle.mari_check.specs.declared.day.DayCheck.{DayCheck}
@@ -21,7 +21,6 @@ use Rattle.mari_check.specs.declared.fault.Fault.{Fault}
 use Rattle.mari_check.specs.declared.fault.Fault.TheVariants as fault
 use Rattle.mari_progress.specs.Behind.{run_behind}
 use Rattle.mari_progress.specs.Progress.{AreTotals}
-use Rattle.mari_progress.specs.Runs.{most_of_operator}
 use Rattle.mari_check.specs.declared.verdict.Verdict.{Verdict}
 use Rattle.mari_check.specs.declared.verdict.Verdict.TheVariants.{Invalid, Valid}
 use Rattle.mari_check.specs.Checked.{FindsHead, IsChecked}

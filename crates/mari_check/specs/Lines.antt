@@ -46,11 +46,11 @@ abbrev pub TellsRent : BorderLine → Quarters → Type 0
 TellsRent l rent = l.rent ≡ rent
 
 -- a line is the one that it is to be
-abbrev pub IsMoneyLine : MoneyLine → MoneyLine → Type 0
-IsMoneyLine l own = l ≡ own
+abbrev pub IsSameMoneyLine : MoneyLine → MoneyLine → Type 0
+IsSameMoneyLine l own = l ≡ own
 
-abbrev pub IsAmountLine : AmountLine → AmountLine → Type 0
-IsAmountLine l own = l ≡ own
+abbrev pub IsSameAmountLine : AmountLine → AmountLine → Type 0
+IsSameAmountLine l own = l ≡ own
 
 -- a block tells this ledger, and of the providers those at these places
 pub record TellsLedger (books : Books) (b : FullBlock) (ledger : Ledger) (places : List ℕ) : Type 0 where

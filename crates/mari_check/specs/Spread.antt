@@ -1,13 +1,14 @@
 -- Values that spread from zone to zone: each zone gets the greatest value of the zones that lead to it.
-use Rattle.std.specs.Prelude.{◌≡◌, ◌+◌, ◌-◌, ◌<◌, ◌≤◌, ℕ, ℤ, Bool, true, false, List, [], ◌∷◌, length, set, slice_index}
+use Rattle.std.specs.Prelude.{◌≡◌, ◌+◌, ◌-◌, ◌*◌, ◌<◌, ◌≤◌, ℕ, ℤ, Bool, true, false, List, [], ◌∷◌, length, set, slice_index, unsigned_abs}
 use Rattle.std.specs.List.{All, AllZip}
+use Rattle.mari_units.specs.declared.numbers.TheConstants.{CAP}
 use Rattle.mari_market.specs.declared.market.Border.{Border}
 use Rattle.mari_market.specs.Along.{LeadsOver}
 use Rattle.mari_market.specs.declared.along.Along.{Along}
 
 -- no value is above the distance from the least price there may be to the greatest, in cents
 abbrev pub most_value : ℕ
-most_value = 19999800
+most_value = 2 * unsigned_abs CAP
 
 abbrev pub AreSmall : List ℕ → Type 0
 AreSmall values = All (λ v. v ≤ most_value) values

@@ -14,7 +14,7 @@ use Rattle.mari_market.specs.Prefix.{children, may_open, IsFeasibleWord, child_w
 use Rattle.mari_market.specs.SearchTree.{IsNode, IsPromising, AreNodes}
 use Rattle.mari_market.proofs.Prefixes.{closed_child, open_child}
 use Rattle.mari_core.specs.Nodes.{TreeNode, words_of}
-use Rattle.mari_core.specs.Growth.{Grown, IsGrowth, HasParent, is_branched, Exceeds, IsCutoff}
+use Rattle.mari_core.specs.Growth.{Grown, IsGrowth, HasParent, is_branched, RelaxedExceeds, IsCutoff}
 use Rattle.mari_core.proofs.Lists.{all_get}
 
 -- ---- words one gate longer
@@ -83,7 +83,7 @@ child_is_node m w b n p f = record {
 }
 
 -- what is more than a cutoff is more than the closed welfare
-pub promising_by : (m : Market) (w : List Bool) (cutoff : ℕ) → Exceeds m w cutoff → IsCutoff m cutoff → IsPromising m w
+pub promising_by : (m : Market) (w : List Bool) (cutoff : ℕ) → RelaxedExceeds m w cutoff → IsCutoff m cutoff → IsPromising m w
 promising_by m w cutoff e c = record {
   relaxed = e.relaxed;
   closed = c.closed;

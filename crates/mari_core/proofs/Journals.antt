@@ -6,7 +6,7 @@ use Rattle.std.proofs.lemmas.List.Elements.{All-append, All-cons, All-nil, All-h
 use Rattle.mari_market.specs.declared.market.Market.{Market}
 use Rattle.mari_core.specs.declared.journal.JournalEntry.{JournalEntry}
 use Rattle.mari_core.specs.Nodes.{TreeNode, new_node}
-use Rattle.mari_core.specs.Growth.{Grown, Entry, seed, grown, grown_by, in_journal, AreAllowed, IsAllowed, IsEntryCutAt, IsCutAt, AreCutAt, LeadsTo}
+use Rattle.mari_core.specs.Growth.{Grown, Entry, seed, grown, grown_by, in_journal, AreAllowed, IsAllowed, IsEntryCutAt, IsCutAt, AreCutAt, JournalLeadsTo}
 use Rattle.mari_core.specs.Growth.Entry.{Take, Close, Branch, Full, GiveBack}
 use Rattle.mari_core.proofs.Machines.{entry_cut, grown_market}
 
@@ -33,7 +33,7 @@ cut_above v w (Full k x cutoff) l h = omega arith
 cut_above v w (GiveBack k x) l h = tt
 
 -- the same, where more is seen
-pub leads_above : (j : List JournalEntry) (v w : ℕ) (g : Grown) → v ≤ w → LeadsTo j v g → LeadsTo j w g
+pub leads_above : (j : List JournalEntry) (v w : ℕ) (g : Grown) → v ≤ w → JournalLeadsTo j v g → JournalLeadsTo j w g
 leads_above j v w g l h = record {
   entries = h.entries;
   kept = h.kept;
@@ -46,7 +46,7 @@ seed_same : (g h : Grown) → h.market ≡ g.market → h.budget ≡ g.budget �
 seed_same g h m b = ap (λ (n : Market). seed n h.budget) m ∙ ap (λ (k : ℕ). seed g.market k) b
 
 -- an allowed entry leads on
-pub leads_on : (j : List JournalEntry) (w : ℕ) (g : Grown) (e : Entry) → LeadsTo j w g → IsAllowed g e → IsEntryCutAt w e → LeadsTo (j ++ in_journal e ∷ []) w (grown g e)
+pub leads_on : (j : List JournalEntry) (w : ℕ) (g : Grown) (e : Entry) → JournalLeadsTo j w g → IsAllowed g e → IsEntryCutAt w e → JournalLeadsTo (j ++ in_journal e ∷ []) w (grown g e)
 leads_on j w g e h may cut =
     let same : seed (grown g e).market (grown g e).budget ≡ seed g.market g.budget = seed_same g (grown g e) (grown_market g e) (grown_budget g e) in
     record {
@@ -65,10 +65,10 @@ seed_cut : (w : ℕ) (m : Market) (budget : ℕ) → AreCutAt w (seed m budget).
 seed_cut w m budget = All-cons (λ (n : TreeNode). IsCutAt w n.state) (new_node []) [] tt (All-nil (λ (n : TreeNode). IsCutAt w n.state))
 
 -- each node is closed at a cutoff of the journal
-pub cut_by_journal : (j : List JournalEntry) (w : ℕ) (g : Grown) → LeadsTo j w g → AreCutAt w g.nodes
+pub cut_by_journal : (j : List JournalEntry) (w : ℕ) (g : Grown) → JournalLeadsTo j w g → AreCutAt w g.nodes
 cut_by_journal j w g h =
     subst (λ (s : Grown). AreCutAt w s.nodes) h.leads (cut_by w (seed g.market g.budget) h.entries (seed_cut w g.market g.budget) h.cut)
 
 -- at the start there is no entry
-pub leads_nowhere : (w : ℕ) (m : Market) (budget : ℕ) → LeadsTo [] w (seed m budget)
+pub leads_nowhere : (w : ℕ) (m : Market) (budget : ℕ) → JournalLeadsTo [] w (seed m budget)
 leads_nowhere w m budget = record { entries = []; kept = refl; allowed = tt; cut = All-nil (IsEntryCutAt w); leads = refl }

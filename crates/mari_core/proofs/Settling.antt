@@ -17,7 +17,7 @@ use Rattle.mari_market.specs.Finding.{IsFinding, IsRelaxedFinding, IsRefuted, Is
 use Rattle.mari_market.specs.Tree.{LeafHolds}
 use Rattle.mari_core.specs.declared.node.NodeState.TheVariants.{Taken}
 use Rattle.mari_core.specs.Nodes.{TreeNode, word_at, state_at}
-use Rattle.mari_core.specs.Growth.{Grown, IsGrowth, IsCutoff, MayClose, MayBranch, MaySettle, Exceeds, IsReached, closing_leaf, closing_relaxed}
+use Rattle.mari_core.specs.Growth.{Grown, IsGrowth, IsCutoff, MayClose, MayBranch, MaySettle, RelaxedExceeds, IsReached, closing_leaf, closing_relaxed}
 use Rattle.mari_core.proofs.Changes.{IsAt, node_at, word_of_node}
 use Rattle.mari_core.proofs.Entries.{feasible_word}
 
@@ -62,7 +62,7 @@ closing_leaf_holds m word cutoff (Relaxed r) leaf f l e = leaf_of_relaxed m word
 -- what is left where a finding doesn't close its node
 pub record MustBranch (m : Market) (word : List Bool) (cutoff : ℕ) : Type 0 where
   pub undecided : length word < length m.gates
-  pub exceeds : Exceeds m word cutoff
+  pub exceeds : RelaxedExceeds m word cutoff
 
 branch_of_relaxed : (m : Market) (word : List Bool) (r : RelaxedRecord) (cutoff : ℕ) → IsRelaxedFinding m word r → length word ≤ length m.gates → IsReached m word cutoff (Relaxed r) → closing_relaxed cutoff r r.conflict ≡ None → MustBranch m word cutoff
 branch_of_relaxed m word r cutoff f l reached e = by_conflict r.conflict refl e
@@ -112,6 +112,6 @@ may_branch g k x cutoff finding grows above h taken e =
     record {
       taken = taken;
       undecided = subst (λ (w : List Bool). length w < length g.market.gates) word must.undecided;
-      exceeds = subst (λ (w : List Bool). Exceeds g.market w cutoff) word must.exceeds;
+      exceeds = subst (λ (w : List Bool). RelaxedExceeds g.market w cutoff) word must.exceeds;
       cutoff_is = above;
     }

@@ -80,7 +80,7 @@ pub record MayClose (g : Grown) (k x : ℕ) (leaf : Leaf) (cutoff : ℕ) : Type 
   pub cutoff_is : IsCutoff g.market cutoff
 
 -- the relaxed welfare of the word is greater than the cutoff
-pub record Exceeds (m : Market) (word : List Bool) (cutoff : ℕ) : Type 0 where
+pub record RelaxedExceeds (m : Market) (word : List Bool) (cutoff : ℕ) : Type 0 where
   pub relaxed : ℤ
   pub is_relaxed : IsRelaxedWelfare m word relaxed
   pub above : pos cutoff <ℤ relaxed
@@ -89,7 +89,7 @@ pub record Exceeds (m : Market) (word : List Bool) (cutoff : ℕ) : Type 0 where
 pub record MayBranch (g : Grown) (k x cutoff : ℕ) : Type 0 where
   pub taken : state_at g.nodes x ≡ Some (Taken k)
   pub undecided : length (word_at g.nodes x) < length g.market.gates
-  pub exceeds : Exceeds g.market (word_at g.nodes x) cutoff
+  pub exceeds : RelaxedExceeds g.market (word_at g.nodes x) cutoff
   pub cutoff_is : IsCutoff g.market cutoff
 
 -- when an entry is allowed: a branch where the children fit the budget, and the mark where they don't
@@ -130,7 +130,7 @@ IsEntryCutAt w (GiveBack k x) = ⊤
 
 -- the journal's entries, with the certificates of closed nodes, are allowed one after the other, at cutoffs of at most
 -- w, and lead from the start to the tree
-pub record LeadsTo (journal : List JournalEntry) (w : ℕ) (g : Grown) : Type 0 where
+pub record JournalLeadsTo (journal : List JournalEntry) (w : ℕ) (g : Grown) : Type 0 where
   pub entries : List Entry
   pub kept : map in_journal entries ≡ journal
   pub allowed : AreAllowed (seed g.market g.budget) entries

@@ -13,7 +13,8 @@ use Rattle.mari_market.specs.Clearing.{IsClearing}
 use Rattle.mari_market.proofs.Ties.{tree_holds_plain}
 use Rattle.mari_market.specs.Optimal.{IsFeasible}
 use Rattle.mari_market.specs.declared.clearing.Clearing.{Clearing}
-use Rattle.mari_lines.specs.Ranges.{Between, InRange, IsAmountLine, IsMoney, IsMoneyLine, IsName, IsPriceLine, Listed, Within}
+use Rattle.mari_market.specs.Price.{IsCapped}
+use Rattle.mari_lines.specs.Ranges.{Between, InRange, IsAmountLine, IsMoney, IsMoneyLine, IsName, Listed, Within}
 use Rattle.mari_publish.specs.Ranges.{FullFits}
 use Rattle.mari_lines.specs.declared.line.Line.TheVariants as line
 use Rattle.mari_lines.specs.declared.line.BidLine.{BidLine}
@@ -23,7 +24,7 @@ use Rattle.mari_lines.specs.declared.line.ZoneLine.{ZoneLine}
 use Rattle.mari_remain.specs.Accepted.{IsAccepted}
 use Rattle.mari_remain.specs.declared.market.RunMarket.{RunMarket}
 use Rattle.mari_remain.specs.declared.books.Books.{Books}
-use Rattle.mari_settle.specs.Conditions.{IsSmall, IsSmallLine, IsWithin, LineIsWithin}
+use Rattle.mari_settle.specs.Conditions.{IsSmall, IsSmallLine, MoneyIsWithin, LineIsWithin}
 use Rattle.mari_settle.specs.Lines.{map_along, nothing}
 use Rattle.mari_settle.specs.declared.ledger.OperatorLine.{OperatorLine}
 use Rattle.mari_progress.specs.Runs.{IsMarketOf}
@@ -55,7 +56,7 @@ money q small = omega (arith, small)
 abbrev pub IsHalf : OperatorLine → Type 0
 IsHalf l = LineIsWithin (2 * 10 ^ 18) l
 
-half : (q : Quarters) → IsWithin (2 * 10 ^ 18) q → IsMoney q
+half : (q : Quarters) → MoneyIsWithin (2 * 10 ^ 18) q → IsMoney q
 half q small = omega (arith, small)
 
 net : (l : OperatorLine) → IsHalf l → Within 4000000000000000000 (l.payment.0 -ℤ l.rent.0)
@@ -81,9 +82,9 @@ module _ (books : Books) (ok : IsAccepted books) (dated : IsDated books) (budget
   zones-fit : Listed 1 64 (λ z. InRange (line.Zone z)) b.zones
   zones-fit =
       let names = of-map (λ (l : ZoneLine). l.name) IsName b.zones _ is.names.zones ok.zones.zones in
-      let prices = of-map (λ (l : ZoneLine). l.price) IsPriceLine b.zones _ is.zones.prices p.consistent.prices.capped in
-      let least = of-map (λ (l : ZoneLine). l.least) IsPriceLine b.zones _ is.zones.least (least-fit _ _ _ p.least) in
-      let greatest = of-map (λ (l : ZoneLine). l.greatest) IsPriceLine b.zones _ is.zones.greatest (greatest-fit _ _ _ p.greatest) in
+      let prices = of-map (λ (l : ZoneLine). l.price) IsCapped b.zones _ is.zones.prices p.consistent.prices.capped in
+      let least = of-map (λ (l : ZoneLine). l.least) IsCapped b.zones _ is.zones.least (least-fit _ _ _ p.least) in
+      let greatest = of-map (λ (l : ZoneLine). l.greatest) IsCapped b.zones _ is.zones.greatest (greatest-fit _ _ _ p.greatest) in
       let areas = of-map (λ (l : ZoneLine). l.area) (Between 1 64) b.zones _ is.zones.areas (areas-fit _ _ _ p.areas of.valid.zones.1) in
       let many = as-many (λ (l : ZoneLine). l.name) b.zones _ is.names.zones in
       ((omega (arith, many, ok.zones.some), omega (arith, many, ok.zones.few)), λ k d l. (names k d l, prices k d l, least k d l, greatest k d l, areas k d l))

@@ -23,9 +23,8 @@ use Rattle.mari_settle.specs.Lines.{nothing}
 use Rattle.mari_settle.specs.declared.ledger.Ledger.{Ledger}
 use Rattle.mari_day.specs.Dated.{IsDated}
 use Rattle.mari_progress.specs.Money.{amount_line, money_line, money_lines_of}
-use Rattle.mari_settle.specs.Conditions.{LineIsWithin}
+use Rattle.mari_settle.specs.Conditions.{LineIsWithin, most_of_operator}
 use Rattle.mari_progress.specs.Progress.{AreTotals}
-use Rattle.mari_progress.specs.Runs.{most_of_operator}
 use Rattle.mari_day.specs.Progress.{IsDayProgress}
 use Rattle.mari_day.specs.Stepped.{IsDayOf}
 use Rattle.mari_progress.specs.declared.progress.Progress.{Progress}

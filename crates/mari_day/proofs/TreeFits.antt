@@ -24,10 +24,10 @@ use Rattle.mari_market.specs.Cut.{IsCut, IsRising, CannotBalance, least_of, most
 use Rattle.mari_market.specs.Market.{IsValid, IsValidBorder, IsValidOrder}
 use Rattle.mari_market.specs.Optimal.{IsFeasible}
 use Rattle.mari_market.specs.Prefix.{bounds_of_word, children}
-use Rattle.mari_market.specs.Price.{ArePrices}
+use Rattle.mari_market.specs.Price.{IsCapped, ArePrices}
 use Rattle.mari_market.specs.Sums.{int_sum}
 use Rattle.mari_market.specs.Tree.{AreParts, LeafHolds, TreeHolds}
-use Rattle.mari_lines.specs.Ranges.{InRange, IsPriceLine, IsZone, Listed, Within}
+use Rattle.mari_lines.specs.Ranges.{InRange, IsZone, Listed, Within}
 use Rattle.mari_publish.specs.Ranges.{ItemFits}
 use Rattle.mari_lines.specs.declared.line.Line.TheVariants as line
 
@@ -64,7 +64,7 @@ module _ (m : Market) (v : IsValid m) where
         beside (IsValidBorder m.zones) IsWithinLimits (λ flow. Within 199998 flow) (flow-fits m.zones) m.borders a.flow v.borders f.borders,
       )
 
-  pub prices-fit : (ps : List Cents) → ArePrices m ps → Listed 1 64 IsPriceLine ps
+  pub prices-fit : (ps : List Cents) → ArePrices m ps → Listed 1 64 IsCapped ps
   prices-fit ps p = ((omega (arith, p.one_each, v.zones.0), omega (arith, p.one_each, v.zones.1)), p.capped)
 
   -- a cut has a zone, since nothing can't exceed nothing

@@ -57,7 +57,7 @@ day_of_read (Err fault) = Err (refusal_of fault)
 abbrev pub calendar_day_in : List ℕ → Result CalendarDay BookFault
 calendar_day_in page = day_of_read (rows_in day_columns page)
 
--- what holds of every day that is read: a date in digits, and 1 to 400 quarter hours
+-- what holds of every day that is read: a date in digits, and 1 to `MOST_QUARTERS` quarter hours
 pub record IsCalendarDay (day : CalendarDay) : Type 0 where
   pub date : IsDate day.date
   pub quarters : Between 1 MOST_QUARTERS day.quarters

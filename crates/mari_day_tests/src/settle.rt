@@ -1,8 +1,8 @@
 //! Ledgers of small runs: what borders earn, and what operators and providers get; and the providers of bids.
 
-ghost use Rattle.std.specs.Prelude.{◌^◌, IfOk};
+ghost use Rattle.std.specs.Prelude.{IfOk};
 ghost use Rattle.mari_remain.specs.Accepted.{IsAccepted};
-ghost use Rattle.mari_settle.specs.Conditions.{LedgerIsWithin};
+ghost use Rattle.mari_settle.specs.Conditions.{HasSmallNumbers};
 
 use crate::folder::{ONE_ZONE, Pages, TWO_ZONES, books};
 use mari_bids::Bid;
@@ -201,7 +201,7 @@ fn settled(
     prices: &Prices,
 ) -> Result<Ledger, Fail>
     requires { IsAccepted books.now }
-    ensures { IfOk result (LedgerIsWithin (10 ^ 17)) }
+    ensures { IfOk result HasSmallNumbers }
 {
     if run_count(books) == 0 {
         return Err("there is a run".into());
@@ -227,7 +227,7 @@ fn settled(
 /// The ledger of a run of these books, which is a scheduled one of the first quarter.
 fn ledger_by(alloc: Global, books: &Books, run: &Run) -> Result<Ledger, Fail>
     requires { IsAccepted books.now }
-    ensures { IfOk result (LedgerIsWithin (10 ^ 17)) }
+    ensures { IfOk result HasSmallNumbers }
 {
     let first = Heading {
         run: 1,
@@ -247,7 +247,7 @@ fn ledger_by(alloc: Global, books: &Books, run: &Run) -> Result<Ledger, Fail>
 
 /// The ledger of a run.
 fn ledger_in(alloc: Global, run: &Run) -> Result<Ledger, Fail>
-    ensures { IfOk result (LedgerIsWithin (10 ^ 17)) }
+    ensures { IfOk result HasSmallNumbers }
 {
     let books = books(alloc, &run.folder)?;
     let ledger = ledger_by(alloc, &books, run);
@@ -273,8 +273,8 @@ fn a_run_pays_operators_providers_and_borders(rt: HostRuntime) -> Result<(), Fai
 
 /// Adds a ledger to another of the same lengths.
 fn add_up(sum: &mut Ledger, other: &Ledger)
-    requires sum { LedgerIsWithin (10 ^ 17) sum.old }
-    requires other { LedgerIsWithin (10 ^ 17) other.now }
+    requires sum { HasSmallNumbers sum.old }
+    requires other { HasSmallNumbers other.now }
 {
     if sum.operators.as_slice().len() == other.operators.as_slice().len()
         && sum.providers.as_slice().len() == other.providers.as_slice().len()

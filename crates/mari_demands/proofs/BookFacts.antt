@@ -11,9 +11,10 @@ use Rattle.std.proofs.lemmas.List.Quantifiers.{all_pairs_push}
 use Rattle.std.proofs.lemmas.List.Sums.{fold-append}
 use Rattle.std.proofs.lemmas.List.Elements.{All-map, All-nil, All-push, All-weaker}
 use Rattle.mari_units.specs.Numbers.{whole_of}
+use Rattle.mari_units.specs.Prices.{IsCapped}
 use Rattle.mari_units.specs.declared.numbers.Cents.{Cents}
 use Rattle.mari_rows.specs.Books.{GivesBook, book_in, first_failing}
-use Rattle.mari_rows.specs.Fields.{cents_in, number_in, within, IsWithinCap}
+use Rattle.mari_rows.specs.Fields.{cents_in, number_in, within}
 use Rattle.mari_rows.specs.Rows.{field_of}
 use Rattle.mari_rows.specs.declared.faults.BookFault.{BookFault}
 use Rattle.mari_rows.specs.declared.rows.Row.{Row}
@@ -129,10 +130,10 @@ mw-within row some = by (whole_of (field_of row 2)) some
     by (Some z) s = tested z (int_le (neg_ℤ (pos 99999)) z) (int_le z (pos 99999)) refl refl s
 
 -- a price that a field states is within the cap
-stated-price : (text : List ℕ) → IfSome (cents_in text) (λ (price : Cents). IsWithinCap price.0)
+stated-price : (text : List ℕ) → IfSome (cents_in text) IsCapped
 stated-price text = by (cents_in text) refl
   where
-    by : (o : Option Cents) → cents_in text ≡ o → IfSome o (λ (price : Cents). IsWithinCap price.0)
+    by : (o : Option Cents) → cents_in text ≡ o → IfSome o IsCapped
     by None e = tt
     by (Some price) e = price-within text price e
 

@@ -3,10 +3,10 @@ use Rattle.std.specs.Prelude.{◌≤◌, ◌<◌, IfSome, unsigned_abs, ℕ, ◌
 use Rattle.std.specs.Option.{option_and_then}
 use Rattle.std.specs.List.{All}
 use Rattle.mari_units.specs.declared.limits.TheConstants.{MOST_DEMANDS, MOST_MW}
-use Rattle.mari_units.specs.declared.numbers.Cents.{Cents}
 use Rattle.mari_units.specs.Numbers.{price_of, whole_of}
+use Rattle.mari_units.specs.Prices.{IsCapped}
 use Rattle.mari_rows.specs.Books.{Checks, Grammar}
-use Rattle.mari_rows.specs.Fields.{cents_in, number_in, IsWithinCap}
+use Rattle.mari_rows.specs.Fields.{cents_in, number_in}
 use Rattle.mari_rows.specs.Rows.{field_of}
 use Rattle.mari_rows.specs.declared.rows.Row.{Row}
 use Rattle.mari_zones.specs.Borders.{zone_named}
@@ -89,9 +89,9 @@ pub record IsDemand (zones : ZoneBook) (runs : ℕ) (demand : Demand) : Type 0 w
   pub last_run : demand.run ≤ runs
   pub zone : demand.zone < length zones.zones
   pub mw : unsigned_abs demand.mw ≤ MOST_MW
-  pub price : IfSome demand.price (λ (price : Cents). IsWithinCap price.0)
+  pub price : IfSome demand.price IsCapped
 
--- what holds of every book of demands that is read: no run has more than 512
+-- what holds of every book of demands that is read: no run has more than `MOST_DEMANDS`
 pub record IsDemandBook (zones : ZoneBook) (runs : ℕ) (book : DemandBook) : Type 0 where
   pub demands : All (IsDemand zones runs) book.demands
   pub of_run : (run : ℕ) → count_by (λ (demand : Demand). demand.run == run) book.demands ≤ MOST_DEMANDS

@@ -2,10 +2,11 @@
 use Rattle.std.specs.Prelude.{◌≡◌, ◌≤◌, ◌<◌, ℕ, ◌+◌, ℤ, pos, negsuc, Bool, true, false, List, [], ◌∷◌, Option, Some, None, not, ◌&&◌, ◌||◌, nat_le, nat_lt, length, map, codes, fold, is_some, unwrap_or}
 use Rattle.std.specs.List.{All, AllPairs}
 use Rattle.mari_units.specs.Numbers.{price_of, whole_of}
+use Rattle.mari_units.specs.Prices.{IsCapped}
 use Rattle.mari_units.specs.declared.limits.TheConstants.{MOST_RUNS}
 use Rattle.mari_units.specs.declared.numbers.Cents.{Cents}
 use Rattle.mari_rows.specs.Books.{Checks, Grammar}
-use Rattle.mari_rows.specs.Fields.{cents_in, is_first_of, number_in, IsWithinCap}
+use Rattle.mari_rows.specs.Fields.{cents_in, is_first_of, number_in}
 use Rattle.mari_rows.specs.Rows.{field_of}
 use Rattle.mari_rows.specs.declared.rows.Row.{Row}
 use Rattle.mari_demands.specs.RunChecks.{run_check_number}
@@ -86,7 +87,7 @@ run_grammar quarters = record { columns = run_columns; line_checks = run_checks 
 pub record IsRun (quarters : ℕ) (run : Run) : Type 0 where
   pub first_quarter : 1 ≤ run.quarter
   pub last_quarter : run.quarter ≤ quarters
-  pub reference : IsWithinCap run.reference.0
+  pub reference : IsCapped run.reference
 
 -- a run before another: quarters don't fall, and a scheduled run has none before it in its quarter
 pub record IsBefore (a b : Run) : Type 0 where

@@ -2,7 +2,7 @@
 
 ghost use Rattle.std.specs.Prelude.{◌≡◌, pos, neg_ℤ, ◌≤ℤ◌, ◌++◌, IfOk};
 ghost use Rattle.std.specs.List.{All};
-ghost use Rattle.mari_network.specs.Slots.{IsSmallSlot};
+ghost use Rattle.mari_network.specs.Slots.{IsSmallSlot, most_room};
 ghost use Rattle.mari_flow.specs.Starts.{extra_of, extras, lows, offsets};
 
 use mari_network::{BEYOND, Slot};
@@ -10,8 +10,8 @@ use std::alloc::{AllocError, Global};
 
 /// What can take away, or give, the least that a slot puts in.
 fn extra(slot: Slot) -> Slot
-    requires low { neg_ℤ (pos 1099511627776) ≤ℤ slot.low }
-    requires high { slot.low ≤ℤ pos 1099511627776 }
+    requires low { neg_ℤ (pos most_room) ≤ℤ slot.low }
+    requires high { slot.low ≤ℤ pos most_room }
     ensures { result ≡ extra_of slot }
 {
     if slot.low < 0 {

@@ -13,7 +13,7 @@ use Rattle.mari_units.specs.Names.{is_name_byte}
 use Rattle.std.proofs.lemmas.Bool.{and_parts}
 use Rattle.mari_units.specs.declared.numbers.Cents.{Cents}
 use Rattle.mari_units.specs.declared.numbers.Quarters.{Quarters}
-use Rattle.mari_market.specs.Price.{IsPrice}
+use Rattle.mari_market.specs.Price.{IsCapped, IsPrice}
 use Rattle.mari_market.specs.declared.certificate.CutSide.{CutSide}
 use Rattle.mari_market.specs.declared.certificate.CutSide.TheVariants.{Out, In}
 use Rattle.mari_lines.specs.declared.line.MoneyLine.{MoneyLine}
@@ -22,7 +22,7 @@ use Rattle.mari_lines.specs.declared.line.Keyword.{Keyword}
 use Rattle.mari_lines.specs.declared.line.Keyword.TheVariants as first
 use Rattle.mari_lines.specs.declared.line.Line.{Line}
 use Rattle.mari_lines.specs.declared.line.Line.TheVariants as line
-use Rattle.mari_lines.specs.Ranges.{InRange, IsName, IsPriceLine, IsMoney, IsMoneyLine, IsAmountLine, Within, IsZone}
+use Rattle.mari_lines.specs.Ranges.{InRange, IsName, IsMoney, IsMoneyLine, IsAmountLine, Within, IsZone}
 use Rattle.mari_lines.specs.Spelling.{keyword_of, keyword_text, fields, spaced, spelling, price_text, money_text, zone_text, kind_text, side_text, money_fields, amount_fields}
 use Rattle.mari_lines.specs.declared.line.TheConstants.{MOST_LINE}
 use Rattle.mari_lines.proofs.Gathered.{head_of, tail_of, rising_zones}
@@ -95,7 +95,7 @@ price_size : (z : ℤ) → IsPrice z → unsigned_abs z ≤ 9999900
 price_size (pos n) h = let high : pos n ≤ℤ pos 9999900 = h.high in omega (arith, ints, high)
 price_size (negsuc n) h = let low : neg_ℤ (pos 9999900) ≤ℤ negsuc n = h.low in omega (arith, ints, low)
 
-price_short : (c : Cents) → IsPriceLine c → length (price_text c) ≤ 9
+price_short : (c : Cents) → IsCapped c → length (price_text c) ≤ 9
 price_short c h = euros_short c.0 (price_size c.0 h)
 
 ten_thousandths_short : (n : ℕ) → n ≤ 100000000000000000000 → length (printed_ten_thousandths n) ≤ 17 + 5
@@ -119,7 +119,7 @@ name t h = short t 16 (name_short t h) (omega arith)
 number : (n : ℕ) → n ≤ 99999 → Short (decimal n)
 number n le = short (decimal n) 5 (number_short n le) (omega arith)
 
-price : (c : Cents) → IsPriceLine c → Short (price_text c)
+price : (c : Cents) → IsCapped c → Short (price_text c)
 price c h = short (price_text c) 9 (price_short c h) (omega arith)
 
 of_words : (ts : List (List ℕ)) → AllByRecursion Short ts → length (spaced ts) ≤ length ts * 24
@@ -168,13 +168,13 @@ fields_short (line.Bid b) r = few_words (fields (line.Bid b)) (name b.id r.0, (n
 fields_short (line.Demand place mw) r = few_words (fields (line.Demand place mw)) (number place (omega (arith, r.0.1)), (number mw r.1, tt)) (omega arith)
 fields_short (line.Tree count) r = few_words (fields (line.Tree count)) (number count (omega (arith, r.1)), tt) (omega arith)
 fields_short line.Branch r = omega arith
-fields_short (line.Bound prices) r = let le = many IsPriceLine price_text 9 64 price_short prices r.1 r.0.1 in omega (arith, le)
+fields_short (line.Bound prices) r = let le = many IsCapped price_text 9 64 price_short prices r.1 r.0.1 in omega (arith, le)
 fields_short (line.Cut cut) r =
     let zones = many IsZone zone_text 2 64 zone_short cut.zones (rising_zones 0 cut.zones r.1) r.0.1 in
     let le = spaced_more (side_text cut.side) (map zone_text cut.zones) 23 192 (side cut.side) zones in
     omega (arith, le)
 fields_short (line.Conflict zones) r = let le = many IsZone zone_text 2 64 zone_short zones r.1 r.0.1 in omega (arith, le)
-fields_short (line.At prices) r = let le = many IsPriceLine price_text 9 64 price_short prices r.1 r.0.1 in omega (arith, le)
+fields_short (line.At prices) r = let le = many IsCapped price_text 9 64 price_short prices r.1 r.0.1 in omega (arith, le)
 fields_short (line.Flows flows) r = let le = many (λ flow. Within 199998 flow) signed_decimal 7 256 flow_short flows r.1 r.0.1 in omega (arith, le)
 fields_short (line.Mws mws) r = let le = many (λ mw. mw ≤ 99999) decimal 5 4608 number_short mws r.1 r.0.1 in omega (arith, le)
 fields_short (line.Operator o) r = money_line o r

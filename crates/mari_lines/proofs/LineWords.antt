@@ -5,7 +5,7 @@ use Rattle.std.specs.List.{slice_split, AllByRecursion, All}
 use Rattle.std.specs.Fmt.{decimal, signed_decimal}
 use Rattle.std.proofs.lemmas.Int.{ints}
 use Rattle.mari_units.specs.Numbers.{printed_cents, printed_euros}
-use Rattle.mari_market.specs.Price.{IsPrice}
+use Rattle.mari_market.specs.Price.{IsCapped, IsPrice}
 use Rattle.mari_market.specs.declared.certificate.CutSide.{CutSide}
 use Rattle.mari_market.specs.declared.certificate.CutSide.TheVariants.{Out, In}
 use Rattle.mari_lines.specs.declared.line.Line.{Line}
@@ -14,7 +14,7 @@ use Rattle.mari_lines.specs.declared.line.Keyword.{Keyword}
 use Rattle.mari_lines.specs.declared.line.Keyword.TheVariants as first
 use Rattle.mari_lines.specs.declared.line.MoneyLine.{MoneyLine}
 use Rattle.mari_lines.specs.declared.line.AmountLine.{AmountLine}
-use Rattle.mari_lines.specs.Ranges.{InRange, Within, IsMoneyLine, IsAmountLine, IsZone, IsPriceLine}
+use Rattle.mari_lines.specs.Ranges.{InRange, Within, IsMoneyLine, IsAmountLine, IsZone}
 use Rattle.mari_lines.specs.Reading.{Lacks}
 use Rattle.mari_lines.specs.Spelling.{fields, keyword_of, keyword_text, spelling, price_text, money_fields, amount_fields, zone_text, side_text}
 use Rattle.mari_lines.proofs.Numbers.{size_between}
@@ -84,10 +84,10 @@ graphic_fields (line.Bid b) r = (graphic_name b.id r.0, (number b.mw 99999 r.1 (
 graphic_fields (line.Demand place mw) r = (number place 512 r.0.1 (omega arith), (number mw 99999 r.1 (omega arith), tt))
 graphic_fields (line.Tree count) r = (number count 50000 r.1 (omega arith), tt)
 graphic_fields line.Branch r = tt
-graphic_fields (line.Bound prices) r = graphic_list IsPriceLine price_text (λ p q. graphic_price p.0 q) prices r.1
+graphic_fields (line.Bound prices) r = graphic_list IsCapped price_text (λ p q. graphic_price p.0 q) prices r.1
 graphic_fields (line.Cut cut) r = (graphic_side cut.side, graphic_list IsZone zone_text (λ z lt. graphic_decimal (z + 1) (omega arith)) cut.zones (rising_zones 0 cut.zones r.1))
 graphic_fields (line.Conflict zones) r = graphic_list IsZone zone_text (λ z lt. graphic_decimal (z + 1) (omega arith)) zones r.1
-graphic_fields (line.At prices) r = graphic_list IsPriceLine price_text (λ p q. graphic_price p.0 q) prices r.1
+graphic_fields (line.At prices) r = graphic_list IsCapped price_text (λ p q. graphic_price p.0 q) prices r.1
 graphic_fields (line.Flows flows) r = graphic_list (λ z. Within 199998 z) signed_decimal graphic_flow flows r.1
 graphic_fields (line.Mws mws) r = graphic_list (λ n. n ≤ 99999) decimal (λ n le. number n 99999 le (omega arith)) mws r.1
 graphic_fields (line.Operator operator) r = graphic_operator operator r

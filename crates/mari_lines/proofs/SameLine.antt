@@ -17,7 +17,8 @@ use Rattle.mari_lines.specs.declared.line.BorderLine.{BorderLine}
 use Rattle.mari_lines.specs.declared.line.BidLine.{BidLine}
 use Rattle.mari_lines.specs.declared.line.MoneyLine.{MoneyLine}
 use Rattle.mari_lines.specs.declared.line.AmountLine.{AmountLine}
-use Rattle.mari_lines.specs.Ranges.{InRange, IsHeading, Within, IsMoney, IsMoneyLine, IsAmountLine, IsZone, IsPriceLine}
+use Rattle.mari_market.specs.Price.{IsCapped}
+use Rattle.mari_lines.specs.Ranges.{InRange, IsHeading, Within, IsMoney, IsMoneyLine, IsAmountLine, IsZone}
 use Rattle.mari_lines.specs.Spelling.{spaced, fields, keyword_of, keyword_text, spelling, price_text, money_text, money_fields, amount_fields, zone_text, side_text, kind_text}
 use Rattle.mari_lines.proofs.Numbers.{same_whole, same_price, same_money}
 use Rattle.mari_lines.proofs.Gathered.{same_list, same_zone, same_number, rising_zones}
@@ -64,7 +65,7 @@ same_keyword k m e = sym (at_mark k) ∙ ap (λ (t : List ℕ). keyword_at (mark
 below : (m n most : ℕ) → m ≤ most → n ≤ most → most < 2 ^ 64 → decimal m ≡ decimal n → m ≡ n
 below m n most lm ln lt e = same_number m n (omega arith) (omega arith) e
 
-cents : (p q : Cents) → IsPriceLine p → IsPriceLine q → price_text p ≡ price_text q → p ≡ q
+cents : (p q : Cents) → IsCapped p → IsCapped q → price_text p ≡ price_text q → p ≡ q
 cents p q rp rq e = ap (λ z. record { 0 = z }) (same_price p.0 q.0 (small_price p.0 rp) (small_price q.0 rq) e)
 
 money : (p q : Quarters) → IsMoney p → IsMoney q → money_text p ≡ money_text q → p ≡ q
@@ -191,13 +192,13 @@ same_fields (line.Demand a m) (line.Demand b n) r s k e =
     cc
 same_fields (line.Tree m) (line.Tree n) r s k e = let en : decimal m ≡ decimal n = cc in ap (λ x. line.Tree x) (below m n 50000 r.1 s.1 (omega arith) en)
 same_fields line.Branch line.Branch r s k e = refl
-same_fields (line.Bound ps) (line.Bound qs) r s k e = ap (λ x. line.Bound x) (same_list IsPriceLine price_text cents ps qs r.1 s.1 e)
+same_fields (line.Bound ps) (line.Bound qs) r s k e = ap (λ x. line.Bound x) (same_list IsCapped price_text cents ps qs r.1 s.1 e)
 same_fields (line.Cut c) (line.Cut d) r s k e =
     let es : side_text c.side ≡ side_text d.side = cc in
     let ez : map zone_text c.zones ≡ map zone_text d.zones = cc in
     ap (λ x. line.Cut x) (same_cut c d (side c.side d.side es) (same_list IsZone zone_text same_zone c.zones d.zones (rising_zones 0 c.zones r.1) (rising_zones 0 d.zones s.1) ez))
 same_fields (line.Conflict ys) (line.Conflict zs) r s k e = ap (λ x. line.Conflict x) (same_list IsZone zone_text same_zone ys zs r.1 s.1 e)
-same_fields (line.At ps) (line.At qs) r s k e = ap (λ x. line.At x) (same_list IsPriceLine price_text cents ps qs r.1 s.1 e)
+same_fields (line.At ps) (line.At qs) r s k e = ap (λ x. line.At x) (same_list IsCapped price_text cents ps qs r.1 s.1 e)
 same_fields (line.Flows ys) (line.Flows zs) r s k e = ap (λ x. line.Flows x) (same_list (λ z. Within 199998 z) signed_decimal flow ys zs r.1 s.1 e)
 same_fields (line.Mws ms) (line.Mws ns) r s k e = ap (λ x. line.Mws x) (same_list (λ n. n ≤ 99999) decimal (λ m n lm ln q. below m n 99999 lm ln (omega arith) q) ms ns r.1 s.1 e)
 same_fields (line.Operator g) (line.Operator h) r s k e = ap (λ x. line.Operator x) (operator g h r s e)

@@ -4,12 +4,12 @@ use Rattle.std.specs.Char.{is_ascii_digit}
 use Rattle.std.specs.Int.RustNames.{unsigned_abs}
 use Rattle.std.specs.List.{All, list_all}
 use Rattle.mari_units.specs.Names.{is_name}
-use Rattle.mari_units.specs.declared.limits.TheConstants.{MOST_BORDERS, MOST_DEMANDS, MOST_FLOW, MOST_MW, MOST_NODES, MOST_QUARTERS, MOST_RUNS, MOST_ZONES}
-use Rattle.mari_units.specs.declared.numbers.Cents.{Cents}
+use Rattle.mari_units.specs.declared.limits.TheConstants.{MOST_BORDERS, MOST_DEMANDS, MOST_FLOW, MOST_MW, MOST_QUARTERS, MOST_RUNS, MOST_ZONES}
 use Rattle.mari_units.specs.declared.numbers.Quarters.{Quarters}
 use Rattle.mari_market.specs.declared.limits.TheConstants.{MOST_ORDERS}
+use Rattle.mari_market.specs.Clearing.{IsBudget}
 use Rattle.mari_market.specs.Cut.{IsRising}
-use Rattle.mari_market.specs.Price.{IsPrice}
+use Rattle.mari_market.specs.Price.{IsCapped}
 use Rattle.mari_lines.specs.declared.line.TheConstants.{MOST_MONEY}
 use Rattle.mari_lines.specs.declared.line.Heading.{Heading}
 use Rattle.mari_lines.specs.declared.line.MoneyLine.{MoneyLine}
@@ -38,9 +38,6 @@ IsDate text = IsName text × (is_date text ≡ true)
 abbrev pub IsMoney : Quarters → Type 0
 IsMoney q = Within MOST_MONEY q.0
 
-abbrev pub IsPriceLine : Cents → Type 0
-IsPriceLine c = IsPrice c.0
-
 -- a zone's number from 0
 abbrev pub IsZone : ℕ → Type 0
 IsZone zone = zone < MOST_ZONES
@@ -61,20 +58,20 @@ Listed least greatest P xs = Between least greatest (length xs) × All P xs
 
 -- the ranges of the numbers in a line, and how many it may have
 abbrev pub InRange : Line → Type 0
-InRange (line.Head date quarters budget) = IsDate date × Between 1 MOST_QUARTERS quarters × Between 1 MOST_NODES budget
+InRange (line.Head date quarters budget) = IsDate date × Between 1 MOST_QUARTERS quarters × IsBudget budget
 InRange (line.Run heading) = IsHeading heading
-InRange (line.Unpublished heading count) = IsHeading heading × Between 1 MOST_NODES count
+InRange (line.Unpublished heading count) = IsHeading heading × IsBudget count
 InRange (line.Welfare welfare) = welfare < 2 ^ 63
-InRange (line.Zone z) = IsName z.name × IsPrice z.price.0 × IsPrice z.least.0 × IsPrice z.greatest.0 × Between 1 MOST_ZONES z.area
+InRange (line.Zone z) = IsName z.name × IsCapped z.price × IsCapped z.least × IsCapped z.greatest × Between 1 MOST_ZONES z.area
 InRange (line.Border b) = IsName b.from × IsName b.to × Within MOST_FLOW b.flow × IsMoney b.rent
 InRange (line.Bid b) = IsName b.id × (b.mw ≤ MOST_MW)
 InRange (line.Demand place mw) = Between 1 MOST_DEMANDS place × (mw ≤ MOST_MW)
-InRange (line.Tree count) = Between 1 MOST_NODES count
+InRange (line.Tree count) = IsBudget count
 InRange line.Branch = ⊤
-InRange (line.Bound prices) = Listed 1 MOST_ZONES IsPriceLine prices
+InRange (line.Bound prices) = Listed 1 MOST_ZONES IsCapped prices
 InRange (line.Cut cut) = Between 1 MOST_ZONES (length cut.zones) × IsRising 0 MOST_ZONES cut.zones
 InRange (line.Conflict zones) = Listed 1 MOST_ZONES IsZone zones
-InRange (line.At prices) = Listed 1 MOST_ZONES IsPriceLine prices
+InRange (line.At prices) = Listed 1 MOST_ZONES IsCapped prices
 InRange (line.Flows flows) = Listed 0 MOST_BORDERS (λ flow. Within MOST_FLOW flow) flows
 InRange (line.Mws mws) = Listed 0 MOST_ORDERS (λ mw. mw ≤ MOST_MW) mws
 InRange (line.Operator operator) = IsMoneyLine operator

@@ -212,11 +212,11 @@ place_checks bids said row =
 abbrev pub line_checks : BidBook → List Row → Row → Checks
 line_checks bids earlier row = name_checks bids row ++ place_checks bids (said_by bids earlier) row
 
--- whether one of these bids is of a quarter that has more than 512 of them
+-- whether one of these bids is of a quarter that has more than `MOST_GATES` of them
 abbrev pub has_too_many : BidBook → List ℕ → Bool
 has_too_many bids gated = list_any (λ bid. nat_lt MOST_GATES (count_of bids gated (quarter_of bids bid))) gated
 
--- a file is refused where some quarter has more than 512 bids with a gate
+-- a file is refused where some quarter has more than `MOST_GATES` bids with a gate
 abbrev pub link_file_checks : BidBook → List Row → Checks
 link_file_checks bids rows = (has_too_many bids (gated_bids bids (said_by bids rows)), link_check_number TooManyGates) ∷ []
 
@@ -264,7 +264,8 @@ pub record AreLinks (bids : BidBook) (book : LinkBook) (bid : ℕ) (links : BidL
   pub bars : All (λ other. other < length bids.ids) links.bars
   pub technical : All (λ other. other < length bids.ids) links.technical
 
--- what holds of every book of links that is read: one entry per bid, and no quarter has more than 512 bids with a gate
+-- what holds of every book of links that is read: one entry per bid, and no quarter has more than `MOST_GATES` bids
+-- with a gate
 pub record IsLinkBook (bids : BidBook) (book : LinkBook) : Type 0 where
   pub one_each : length book.links ≡ length bids.ids
   pub links : (bid : ℕ) (links : BidLinks) → slice_get book.links bid ≡ Some links → AreLinks bids book bid links

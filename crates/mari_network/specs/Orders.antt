@@ -1,5 +1,5 @@
 -- Orders as slots, and what stands in for what they leave out of balance.
-use Rattle.std.specs.Prelude.{◌≡◌, ◌⊎◌, Bool, not, ℕ, ◌∷◌, [], List, ℤ, pos, neg_ℤ, ◌≤ℤ◌, ◌<◌, length, map, None}
+use Rattle.std.specs.Prelude.{◌≡◌, ◌⊎◌, Bool, not, ℕ, ◌∷◌, [], List, ℤ, pos, neg_ℤ, ◌≤ℤ◌, ◌<◌, length, map, None, ⊤}
 use Rattle.std.specs.List.{All, AllZip}
 use Rattle.std.specs.Int.{int_max, int_min}
 use lib.Signed.{lt_z}
@@ -34,7 +34,7 @@ IsExtra m s = ((s.price ≡ neg_ℤ m) × (s.high ≡ pos 0)) ⊎ ((s.price ≡ 
 
 -- the amounts are what the orders put in
 abbrev pub ArePuts : List Order → List ℤ → List ℕ → Type 0
-ArePuts [] [] [] = Unit {0}
+ArePuts [] [] [] = ⊤
 ArePuts (o ∷ os) (x ∷ xs) (q ∷ qs) = (x ≡ put_in o.side q) × ArePuts os xs qs
 ArePuts [] [] (q ∷ qs) = ⊥
 ArePuts [] (x ∷ xs) qs = ⊥

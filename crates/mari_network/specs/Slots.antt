@@ -1,14 +1,19 @@
 -- Slots: what may run in a zone, as an amount of energy put in at a price.
-use Rattle.std.specs.Prelude.{◌≡◌, ◌==◌, if◌then◌else◌, ℕ, ◌<◌, ℤ, pos, ◌*ℤ◌, neg_ℤ, ◌≤ℤ◌, ◌<ℤ◌, List, length, slice_index_or}
+use Rattle.std.specs.Prelude.{◌≡◌, ◌==◌, if◌then◌else◌, ℕ, ◌<◌, ◌^◌, ℤ, pos, ◌*ℤ◌, neg_ℤ, ◌≤ℤ◌, ◌<ℤ◌, List, length, slice_index_or}
 use Rattle.std.specs.List.{AllZip}
 use Rattle.mari_market.specs.declared.market.Border.{Border}
 use Rattle.mari_market.specs.Sums.{sum_along}
 use Rattle.mari_market.specs.Activation.{IsWithinLimits, carried_out}
 use Rattle.mari_network.specs.declared.slots.Slot.{Slot}
+use Rattle.mari_network.specs.declared.slots.TheConstants.{BEYOND}
 
 -- a price above that of every order
 abbrev pub beyond : ℤ
-beyond = pos 20000000
+beyond = BEYOND
+
+-- how far from 0 the bounds of a slot are at most
+abbrev pub most_room : ℕ
+most_room = 2 ^ 40
 
 abbrev pub no_slot : Slot
 no_slot = record { zone = 0; price = pos 0; low = pos 0; high = pos 0 }
@@ -64,7 +69,7 @@ pub record IsTightSlot (p : ℕ → ℤ) (s : Slot) (x : ℤ) : Type 0 where
 
 -- whole numbers that leave room to add them, and a price that no slot of an order reaches
 pub record IsSmallSlot (s : Slot) : Type 0 where
-  pub low : neg_ℤ (pos 1099511627776) ≤ℤ s.low
-  pub high : s.high ≤ℤ pos 1099511627776
+  pub low : neg_ℤ (pos most_room) ≤ℤ s.low
+  pub high : s.high ≤ℤ pos most_room
   pub cheap : neg_ℤ beyond ≤ℤ s.price
   pub dear : s.price ≤ℤ beyond

@@ -1,5 +1,5 @@
 -- What the solver answers: the relaxed optimum with tight potentials, or a cut.
-use Rattle.std.specs.Prelude.{◌≡◌, pos, ◌++◌, List, length, take, Result, Ok, Err}
+use Rattle.std.specs.Prelude.{◌≡◌, pos, ◌++◌, List, length, take, Result, Ok, Err, ⊤}
 use Rattle.std.specs.Int.{int_max}
 use Rattle.std.specs.List.{All, AllZip}
 use Rattle.mari_market.specs.declared.market.Order.{Order}
@@ -27,7 +27,7 @@ NoneWithin spans m = (a : Activation) → ¬ IsWithinBounds spans m a
 -- P holds of the cut, where the fault is one
 abbrev pub OfCut : SolveFault → (CutRecord → Type 0) → Type 0
 OfCut (Cut cut) P = P cut
-OfCut Memory P = Unit {0}
+OfCut Memory P = ⊤
 
 -- an activation within the spans that is the relaxed optimum, and the dual value of its potentials
 pub record IsSolution (spans : Order → Span) (m : Market) (s : Solved) : Type 0 where

@@ -12,6 +12,7 @@ ghost use Rattle.mari_market.specs.declared.market.Order.{Order};
 
 use mari_gates::states_at;
 use mari_market::{Market, Order, Prefix, Side};
+use mari_units::MOST_ZONES;
 use std::alloc::{AllocError, Global};
 
 /// A price above that of every order.
@@ -93,7 +94,7 @@ pub fn order_slots(alloc: Global, market: &Market, prefix: &Prefix) -> Result<Ve
 {
     let states = states_at(market, prefix);
     let orders = market.orders.as_slice();
-    let mut slots = Vec::with_capacity(alloc, orders.len() + 64)?;
+    let mut slots = Vec::with_capacity(alloc, orders.len() + MOST_ZONES)?;
     for order in orders {
         let (least, greatest) = states.span(order);
         slots.push(slot_from(order, least, greatest))?;

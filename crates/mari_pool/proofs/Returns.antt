@@ -9,7 +9,7 @@ use Rattle.mari_core.specs.Nodes.{TreeNode, in_state, changed, state_at}
 use Rattle.mari_core.specs.Growth.{Entry, grown_by, in_journal, with_state}
 use Rattle.mari_core.specs.Growth.Entry.{GiveBack}
 use Rattle.mari_core.proofs.Changes.{IsAt, node_at, state_of_node}
-use Rattle.mari_pool.specs.Pooled.{Pooled, entered, entered_by, returning, returns_of, left_at}
+use Rattle.mari_pool.specs.Pooled.{Pooled, entered, entered_by, returning, returns_of, put_back_from}
 
 pub entered_first : (p : Pooled) (e : Entry) (es : List Entry) → entered_by p (e ∷ es) ≡ entered_by (entered p e) es
 entered_first p e es = ap (λ (j : List JournalEntry). record p { tree = grown_by p.tree (e ∷ es); journal = j }) (sym (append_assoc p.journal (in_journal e ∷ []) (map in_journal es)))
@@ -28,7 +28,7 @@ at_next : {X : Type 0} (xs : List X) (k : ℕ) (x : X) → slice_get xs k ≡ So
 at_next xs k x e = let next : suc k ≡ k + 1 = omega arith in drop_at xs k x e ∙ ap (λ (j : ℕ). x ∷ drop j xs) next
 
 -- a taken node is put back
-pub left_taken : (p : Pooled) (k x : ℕ) → state_at p.tree.nodes x ≡ Some (Taken k) → left_at (entered p (GiveBack k x)) (x + 1) ≡ left_at p x
+pub left_taken : (p : Pooled) (k x : ℕ) → state_at p.tree.nodes x ≡ Some (Taken k) → put_back_from (entered p (GiveBack k x)) (x + 1) ≡ put_back_from p x
 left_taken p k x e =
     let at : IsAt p.tree.nodes x (Taken k) = node_at p.tree.nodes x (Taken k) e in
     let next : suc x ≡ x + 1 = omega arith in
@@ -44,10 +44,10 @@ returns_none x (Branched closed opened) h = refl
 returns_none x (Closed leaf cutoff) h = refl
 
 -- another one stays
-pub left_other : (p : Pooled) (x : ℕ) → x < length p.tree.nodes → ((k : ℕ) → state_at p.tree.nodes x ≡ Some (Taken k) → ⊥) → left_at p (x + 1) ≡ left_at p x
+pub left_other : (p : Pooled) (x : ℕ) → x < length p.tree.nodes → ((k : ℕ) → state_at p.tree.nodes x ≡ Some (Taken k) → ⊥) → put_back_from p (x + 1) ≡ put_back_from p x
 left_other p x l h = by_node (slice_get p.tree.nodes x) refl
   where
-    by_node : (o : Option TreeNode) → slice_get p.tree.nodes x ≡ o → left_at p (x + 1) ≡ left_at p x
+    by_node : (o : Option TreeNode) → slice_get p.tree.nodes x ≡ o → put_back_from p (x + 1) ≡ put_back_from p x
     by_node None e = absurd (past p.tree.nodes x l e)
       where
         past : (ns : List TreeNode) (y : ℕ) → y < length ns → slice_get ns y ≡ None → ⊥
@@ -61,5 +61,5 @@ left_other p x l h = by_node (slice_get p.tree.nodes x) refl
         ap (entered_by p) (sym here)
 
 -- none is left
-pub left_done : (p : Pooled) (x : ℕ) → length p.tree.nodes ≤ x → left_at p x ≡ p
+pub left_done : (p : Pooled) (x : ℕ) → length p.tree.nodes ≤ x → put_back_from p x ≡ p
 left_done p x l = ap (λ (ns : List TreeNode). entered_by p (returns_of x ns)) (drop_of_length-le p.tree.nodes l) ∙ ap (λ (j : List JournalEntry). record p { journal = j }) (append-nil p.journal)

@@ -7,7 +7,7 @@ use Rattle.mari_core.specs.declared.node.NodeState.{NodeState}
 use Rattle.mari_core.specs.declared.node.NodeState.TheVariants.{Untaken, Taken, Branched, Closed}
 use Rattle.mari_core.specs.declared.journal.JournalEntry.{JournalEntry}
 use Rattle.mari_core.specs.Nodes.{TreeNode, words_of, state_at}
-use Rattle.mari_core.specs.Growth.{Grown, Entry, seed, grown, grown_by, settling, in_journal, IsGrowth, LeadsTo}
+use Rattle.mari_core.specs.Growth.{Grown, Entry, seed, grown, grown_by, settling, in_journal, IsGrowth, JournalLeadsTo}
 use Rattle.mari_core.specs.Growth.Entry.{Take, Close, Branch, Full, GiveBack}
 use Rattle.mari_incumbent.specs.Incumbent.{IncumbentId, Standing, standing}
 use Rattle.mari_pool.specs.Queued.{first_key, child_key}
@@ -77,7 +77,7 @@ pub record IsPool (m : Market) (budget workers : ℕ) (incumbent : IncumbentId) 
   pub market_is : p.tree.market ≡ m
   pub budget_is : p.tree.budget ≡ budget
   pub grows : IsGrowth p.tree
-  pub leads : LeadsTo p.journal p.seat.seen p.tree
+  pub leads : JournalLeadsTo p.journal p.seat.seen p.tree
   pub keys_are : length p.keys ≡ length p.tree.nodes
   pub closed : IsClosedWelfare m (pos incumbent.first)
   pub seat_incumbent : p.seat.incumbent ≡ incumbent
@@ -147,8 +147,8 @@ abbrev pub entered_by : Pooled → List Entry → Pooled
 entered_by p es = record p { tree = grown_by p.tree es; journal = p.journal ++ map in_journal es }
 
 -- where the nodes from this one on are put back as far as they are taken
-abbrev pub left_at : Pooled → ℕ → Pooled
-left_at p x = entered_by p (returns_of x (drop x p.tree.nodes))
+abbrev pub put_back_from : Pooled → ℕ → Pooled
+put_back_from p x = entered_by p (returns_of x (drop x p.tree.nodes))
 
 -- the journal has room for so many entries
 abbrev pub roomy : Pooled → ℕ → Pooled

@@ -1,5 +1,5 @@
 -- What contracts see of a queue of nodes, and which queue is that of a tree.
-use Rattle.std.specs.Prelude.{◌≡◌, ℕ, zero, suc, ◌+◌, ◌-◌, ◌<◌, ◌≤◌, ◌==◌, List, [], ◌∷◌, ◌++◌, length, replicate, All, count_by, slice_get, slice_index_or, IsPermutation, Option, Some, None, ⊤}
+use Rattle.std.specs.Prelude.{◌≡◌, ℕ, zero, suc, ◌+◌, ◌-◌, ◌^◌, ◌<◌, ◌≤◌, ◌==◌, List, [], ◌∷◌, ◌++◌, length, replicate, All, count_by, slice_get, slice_index_or, IsPermutation, Option, Some, None, ⊤}
 use Rattle.std.specs.Ordering.{nat_cmp, ordering_then}
 use Rattle.std.specs.declared.cmp.Ordering.{Ordering}
 use Rattle.std.specs.declared.cmp.Reverse.{Reverse}
@@ -22,7 +22,7 @@ pub record Queued : Type 0 where
 
 -- the key of the first node
 abbrev pub first_key : ℕ
-first_key = 18446744073709551615
+first_key = 2 ^ 64 - 1
 
 -- the key of a node's children, by what was found at the node
 abbrev pub child_key : Finding → ℕ

@@ -11,7 +11,7 @@ ghost use Rattle.mari_market.specs.Market.{IsValid};
 ghost use Rattle.mari_market.specs.Prefix.{word_of};
 ghost use Rattle.mari_market.specs.Relaxation.{IsClosedWelfare};
 ghost use Rattle.mari_market.specs.Tree.{TreeHolds};
-ghost use Rattle.mari_pool.specs.Pooled.{started, IsPool, IsTakenAt, settled_with, answer_of, giving_back, entered, entered_by, returns_of, left_at, roomy, owed, taken_among};
+ghost use Rattle.mari_pool.specs.Pooled.{started, IsPool, IsTakenAt, settled_with, answer_of, giving_back, entered, entered_by, returns_of, put_back_from, roomy, owed, taken_among};
 ghost use Rattle.mari_pool.specs.Taking.{Takes, IsOpenAt};
 ghost use Rattle.mari_pool.specs.declared.ticket.Settled.TheVariants.{Stale};
 
@@ -254,7 +254,7 @@ impl<'m, N: SearchName> Pool<'m, N> {
     fn put_back_at(&mut self, node: u32)
         requires there { node < length self.old.tree.nodes }
         requires room { length self.old.journal + owed self.old.tree self.old.returned + 2 * taken_among self.old.tree.nodes ≤ self.old.room }
-        ensures left { left_at self.new (node + 1) ≡ left_at self.old node }
+        ensures left { put_back_from self.new (node + 1) ≡ put_back_from self.old node }
         ensures many { length self.new.tree.nodes ≡ length self.old.tree.nodes }
         ensures room { length self.new.journal + owed self.new.tree self.new.returned + 2 * taken_among self.new.tree.nodes ≤ self.new.room }
     {

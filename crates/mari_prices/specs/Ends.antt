@@ -1,5 +1,5 @@
 -- The ends of all zones' intervals of prices, and where they contradict each other.
-use Rattle.std.specs.Prelude.{◌≡◌, ◌+◌, ℕ, ◌<◌, ◌≤◌, ℤ, neg_ℤ, ◌≤ℤ◌, ◌<ℤ◌, List, [], ◌∷◌, Option, Some, None, length}
+use Rattle.std.specs.Prelude.{◌≡◌, ◌+◌, ℕ, ◌<◌, ◌≤◌, ℤ, neg_ℤ, ◌≤ℤ◌, ◌<ℤ◌, List, [], ◌∷◌, Option, Some, None, length, ⊤}
 use Rattle.mari_units.specs.declared.Cents.{Cents}
 use Rattle.mari_market.specs.declared.market.Market.{Market}
 use Rattle.mari_market.specs.declared.activation.Activation.{Activation}
@@ -53,7 +53,7 @@ pub record IsBefore (xs : List (Option SettledZone)) (z y : ℕ) : Type 0 where
 
 -- each zone was settled by the one before it
 abbrev pub Follows : List (Option SettledZone) → ℕ → List ℕ → Type 0
-Follows xs z [] = Unit {0}
+Follows xs z [] = ⊤
 Follows xs z (y ∷ ys) = IsBefore xs z y × Follows xs y ys
 
 -- a chain of zones from the first to the last, each settled by the one before it

@@ -14,14 +14,14 @@ use Rattle.mari_publish.specs.declared.publication.Block.TheVariants as block
 use Rattle.mari_publish.specs.declared.publication.FullBlock.{FullBlock}
 use Rattle.mari_lines.specs.declared.line.Heading.{Heading}
 use Rattle.mari_remain.specs.declared.books.Books.{Books}
-use Rattle.mari_settle.specs.Conditions.{IsWithin, LedgerIsWithin, LedgersAddUp, LineIsWithin}
+use Rattle.mari_settle.specs.Conditions.{MoneyIsWithin, LedgerIsWithin, LedgersAddUp, LineIsWithin, most_of_operator, most_of_provider, most_of_run}
 use Rattle.mari_settle.specs.Ledger.{net_of}
 use Rattle.mari_settle.specs.Lines.{lines_together, map_along, no_line, nothing, together}
 use Rattle.mari_settle.specs.declared.ledger.Ledger.{Ledger}
 use Rattle.mari_settle.specs.declared.ledger.OperatorLine.{OperatorLine}
 use Rattle.mari_settle.proofs.Sizes.{ledgers_add_up, lines_within, sum_within, sums_within}
 use Rattle.mari_progress.specs.declared.progress.SettledRun.{SettledRun}
-use Rattle.mari_progress.specs.Runs.{IsRunOf, most_of_operator, most_of_provider}
+use Rattle.mari_progress.specs.Runs.{IsRunOf}
 use Rattle.mari_progress.specs.Behind.{also_behind, market_behind}
 use Rattle.mari_progress.specs.Money.{amount_line, money_line, money_lines_of}
 use Rattle.mari_progress.specs.Progress.{AreTotals}
@@ -99,8 +99,8 @@ module _ (books : Books) (blocks : List Block) (sums : Ledger) (so_far : AreTota
         one_each = so_far.one_each;
         rents = so_far.rents;
         operators_within = rw (many b) (All-weaker (LineIsWithin (length blocks * most_of_operator)) (LineIsWithin ((length blocks + 1) * most_of_operator)) (λ l s. record { payment = omega (arith, s.payment); rent = omega (arith, s.rent) }) sums.operators so_far.operators_within);
-        providers_within = rw (many b) (All-weaker (IsWithin (length blocks * most_of_provider)) (IsWithin ((length blocks + 1) * most_of_provider)) (λ q s. omega (arith, s)) sums.providers so_far.providers_within);
-        rents_within = rw (many b) (All-weaker (IsWithin (length blocks * 10 ^ 17)) (IsWithin ((length blocks + 1) * 10 ^ 17)) (λ q s. omega (arith, s)) sums.rents so_far.rents_within);
+        providers_within = rw (many b) (All-weaker (MoneyIsWithin (length blocks * most_of_provider)) (MoneyIsWithin ((length blocks + 1) * most_of_provider)) (λ q s. omega (arith, s)) sums.providers so_far.providers_within);
+        rents_within = rw (many b) (All-weaker (MoneyIsWithin (length blocks * most_of_run)) (MoneyIsWithin ((length blocks + 1) * most_of_run)) (λ q s. omega (arith, s)) sums.rents so_far.rents_within);
         nets = so_far.nets;
       }
 
@@ -115,11 +115,11 @@ module _ (books : Books) (blocks : List Block) (sums : Ledger) (so_far : AreTota
     -- the ledger of a published block can be added
     pub adds-up : length blocks ≤ 1000 → LedgersAddUp sums settled.ledger
     adds-up few =
-        ledgers_add_up (10 ^ 21) (10 ^ 17) sums settled.ledger (omega arith) (so_far.one_each ∙ sym is.one_each) as-many-providers (so_far.rents ∙ sym is.rents)
+        ledgers_add_up (10 ^ 21) most_of_run sums settled.ledger (omega arith) (so_far.one_each ∙ sym is.one_each) as-many-providers (so_far.rents ∙ sym is.rents)
         (record {
           operators = All-weaker (LineIsWithin (length blocks * most_of_operator)) (LineIsWithin (10 ^ 21)) (λ l s. record { payment = omega (arith, few, s.payment); rent = omega (arith, few, s.rent) }) sums.operators so_far.operators_within;
-          providers = All-weaker (IsWithin (length blocks * most_of_provider)) (IsWithin (10 ^ 21)) (λ q s. omega (arith, few, s)) sums.providers so_far.providers_within;
-          rents = All-weaker (IsWithin (length blocks * 10 ^ 17)) (IsWithin (10 ^ 21)) (λ q s. omega (arith, few, s)) sums.rents so_far.rents_within;
+          providers = All-weaker (MoneyIsWithin (length blocks * most_of_provider)) (MoneyIsWithin (10 ^ 21)) (λ q s. omega (arith, few, s)) sums.providers so_far.providers_within;
+          rents = All-weaker (MoneyIsWithin (length blocks * most_of_run)) (MoneyIsWithin (10 ^ 21)) (λ q s. omega (arith, few, s)) sums.rents so_far.rents_within;
         }) is.balanced.small
 
     -- and its sums are those of one block more
@@ -143,11 +143,11 @@ module _ (books : Books) (blocks : List Block) (sums : Ledger) (so_far : AreTota
           operators_within = rw (many p, operators) (All-weaker (LineIsWithin (length blocks * most_of_operator + most_of_operator)) (LineIsWithin ((length blocks + 1) * most_of_operator)) (λ l s. record { payment = omega (arith, s.payment); rent = omega (arith, s.rent) }) _
               (sums_within lines_together (LineIsWithin (length blocks * most_of_operator)) (LineIsWithin most_of_operator) (LineIsWithin (length blocks * most_of_operator + most_of_operator)) (lines_within _ _)
               sums.operators settled.ledger.operators (so_far.one_each ∙ sym is.one_each) so_far.operators_within is.balanced.operators_small));
-          providers_within = rw (many p, providers) (All-weaker (IsWithin (length blocks * most_of_provider + most_of_provider)) (IsWithin ((length blocks + 1) * most_of_provider)) (λ q s. omega (arith, s)) _
-              (sums_within together (IsWithin (length blocks * most_of_provider)) (IsWithin most_of_provider) (IsWithin (length blocks * most_of_provider + most_of_provider)) (sum_within _ _)
+          providers_within = rw (many p, providers) (All-weaker (MoneyIsWithin (length blocks * most_of_provider + most_of_provider)) (MoneyIsWithin ((length blocks + 1) * most_of_provider)) (λ q s. omega (arith, s)) _
+              (sums_within together (MoneyIsWithin (length blocks * most_of_provider)) (MoneyIsWithin most_of_provider) (MoneyIsWithin (length blocks * most_of_provider + most_of_provider)) (sum_within _ _)
               sums.providers settled.ledger.providers as-many-providers so_far.providers_within is.balanced.providers_small));
-          rents_within = rw (many p, rents) (All-weaker (IsWithin (length blocks * 10 ^ 17 + 10 ^ 17)) (IsWithin ((length blocks + 1) * 10 ^ 17)) (λ q s. omega (arith, s)) _
-              (sums_within together (IsWithin (length blocks * 10 ^ 17)) (IsWithin (10 ^ 17)) (IsWithin (length blocks * 10 ^ 17 + 10 ^ 17)) (sum_within _ _)
+          rents_within = rw (many p, rents) (All-weaker (MoneyIsWithin (length blocks * most_of_run + most_of_run)) (MoneyIsWithin ((length blocks + 1) * most_of_run)) (λ q s. omega (arith, s)) _
+              (sums_within together (MoneyIsWithin (length blocks * most_of_run)) (MoneyIsWithin most_of_run) (MoneyIsWithin (length blocks * most_of_run + most_of_run)) (sum_within _ _)
               sums.rents settled.ledger.rents (so_far.rents ∙ sym is.rents) so_far.rents_within is.balanced.small.rents));
           nets = rw operators (let both = nets-together sums.operators settled.ledger.operators (so_far.one_each ∙ sym is.one_each) in omega (arith, ints, both, so_far.nets, is.balanced.nets));
         }
@@ -165,7 +165,7 @@ no-totals books ledger operators providers rents within = record {
   one_each = ap length operators ∙ length-replicate (length books.zones.operators) no_line;
   rents = ap length rents ∙ length-replicate (length books.borders.borders) nothing;
   operators_within = All-weaker (LineIsWithin 0) (LineIsWithin (0 * most_of_operator)) (λ l s. record { payment = omega (arith, s.payment); rent = omega (arith, s.rent) }) ledger.operators within.operators;
-  providers_within = All-weaker (IsWithin 0) (IsWithin (0 * most_of_provider)) (λ q s. omega (arith, s)) ledger.providers within.providers;
-  rents_within = All-weaker (IsWithin 0) (IsWithin (0 * 10 ^ 17)) (λ q s. omega (arith, s)) ledger.rents within.rents;
+  providers_within = All-weaker (MoneyIsWithin 0) (MoneyIsWithin (0 * most_of_provider)) (λ q s. omega (arith, s)) ledger.providers within.providers;
+  rents_within = All-weaker (MoneyIsWithin 0) (MoneyIsWithin (0 * most_of_run)) (λ q s. omega (arith, s)) ledger.rents within.rents;
   nets = ap (int_sum net_of) operators ∙ no-nets (length books.zones.operators);
 }

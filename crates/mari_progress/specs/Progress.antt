@@ -1,5 +1,5 @@
 -- What is kept of a day between its blocks, and the blocks that it stands for.
-use Rattle.std.specs.Prelude.{ℕ, ◌≡◌, ◌≤◌, ◌<◌, ◌*◌, ◌^◌, ◌==◌, pos, List, [], Option, Some, None, IfSome, if◌then◌else◌, length, map}
+use Rattle.std.specs.Prelude.{ℕ, ◌≡◌, ◌≤◌, ◌<◌, ◌*◌, ◌==◌, pos, List, [], Option, Some, None, IfSome, if◌then◌else◌, length, map}
 use Rattle.std.specs.List.{All, range_with_len}
 use Rattle.mari_units.specs.declared.numbers.Cents.{Cents}
 use Rattle.mari_market.specs.Price.{IsCapped}
@@ -11,14 +11,13 @@ use Rattle.mari_publish.specs.Lines.{published_in}
 use Rattle.mari_remain.specs.declared.books.Books.{Books}
 use Rattle.mari_remain.specs.FirstBlocks.{StandsFor}
 use Rattle.mari_remain.specs.Lists.{run_at}
-use Rattle.mari_settle.specs.Conditions.{IsWithin, LineIsWithin}
+use Rattle.mari_settle.specs.Conditions.{MoneyIsWithin, LineIsWithin, most_of_operator, most_of_provider, most_of_run}
 use Rattle.mari_settle.specs.Ledger.{net_of}
 use Rattle.mari_settle.specs.declared.ledger.Ledger.{Ledger}
 use Rattle.mari_progress.specs.declared.progress.Progress.{Progress}
 use Rattle.mari_progress.specs.declared.progress.Scheduled.{Scheduled}
 use Rattle.mari_progress.specs.Behind.{before_of, scheduled_prices}
 use Rattle.mari_progress.specs.Money.{money_lines_of}
-use Rattle.mari_progress.specs.Runs.{most_of_operator, most_of_provider}
 use Rattle.mari_progress.specs.Totals.{amount_over, operator_totals}
 
 -- a printed block that is published
@@ -32,8 +31,8 @@ pub record AreTotals (books : Books) (blocks : List Block) (ledger : Ledger) : T
   pub one_each : length ledger.operators ≡ length books.zones.operators
   pub rents : length ledger.rents ≡ length books.borders.borders
   pub operators_within : All (LineIsWithin (length blocks * most_of_operator)) ledger.operators
-  pub providers_within : All (IsWithin (length blocks * most_of_provider)) ledger.providers
-  pub rents_within : All (IsWithin (length blocks * 10 ^ 17)) ledger.rents
+  pub providers_within : All (MoneyIsWithin (length blocks * most_of_provider)) ledger.providers
+  pub rents_within : All (MoneyIsWithin (length blocks * most_of_run)) ledger.rents
   pub nets : int_sum net_of ledger.operators ≡ pos 0
 
 -- the prices that are kept, for a run of a quarter

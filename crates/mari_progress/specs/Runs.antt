@@ -1,5 +1,5 @@
 -- A run behind the blocks of the runs before it: its market, what its block has to tell, and what that adds to its day.
-use Rattle.std.specs.Prelude.{◌≡◌, ◌<◌, ◌≤◌, ◌+◌, ◌*◌, ◌^◌, ℕ, pos, List, Option, length, take}
+use Rattle.std.specs.Prelude.{◌≡◌, ◌<◌, ◌≤◌, ◌+◌, pos, List, Option, length, take}
 use Rattle.std.specs.List.{All}
 use Rattle.mari_units.specs.declared.numbers.Cents.{Cents}
 use Rattle.mari_market.specs.declared.market.Order.{Order}
@@ -11,7 +11,7 @@ use Rattle.mari_publish.specs.declared.publication.Block.TheVariants as block
 use Rattle.mari_publish.specs.declared.publication.FullBlock.{FullBlock}
 use Rattle.mari_remain.specs.declared.books.Books.{Books}
 use Rattle.mari_remain.specs.declared.market.RunMarket.{RunMarket}
-use Rattle.mari_settle.specs.Conditions.{HasSmallNumbers, IsWithin, LineIsWithin, NameOrders}
+use Rattle.mari_settle.specs.Conditions.{HasSmallNumbers, MoneyIsWithin, LineIsWithin, NameOrders, most_of_operator, most_of_provider}
 use Rattle.mari_settle.specs.Ledger.{net_of}
 use Rattle.mari_settle.specs.declared.ledger.Ledger.{Ledger}
 use Rattle.mari_progress.specs.declared.progress.SettledRun.{SettledRun}
@@ -47,19 +47,11 @@ abbrev pub IsSoundBlock : Books → (before : List Block) → Block → Type 0
 IsSoundBlock books before (block.Published b) = IsSoundRun books before b
 IsSoundBlock books before (block.Unpublished heading count) = heading ≡ heading_of books (run_behind before)
 
--- how large a run's ledger is, so that those of a day can be added up: an operator's numbers within 2 * 10^15
--- quarter-cents of 0, and a provider's within 4 * 10^15
-abbrev pub most_of_operator : ℕ
-most_of_operator = 2 * 10 ^ 15
-
-abbrev pub most_of_provider : ℕ
-most_of_provider = 4 * 10 ^ 15
-
--- the ledger of a run is small, and what some operators pay the others get
+-- the ledger of a run is small, so that those of a day can be added up, and what some operators pay the others get
 pub record IsBalancedLedger (ledger : Ledger) : Type 0 where
   pub small : HasSmallNumbers ledger
   pub operators_small : All (LineIsWithin most_of_operator) ledger.operators
-  pub providers_small : All (IsWithin most_of_provider) ledger.providers
+  pub providers_small : All (MoneyIsWithin most_of_provider) ledger.providers
   pub nets : int_sum net_of ledger.operators ≡ pos 0
 
 -- what the block of a run adds to its day: the market, the activation and the prices that it tells, and its ledger,

@@ -5,7 +5,7 @@ use Rattle.std.proofs.lemmas.Int.{ints}
 use Rattle.std.proofs.lemmas.List.{append-nil}
 use Rattle.std.proofs.lemmas.List.Elements.{All-nil}
 use Rattle.mari_units.specs.declared.numbers.Cents.{Cents}
-use Rattle.mari_market.specs.Price.{IsPrice}
+use Rattle.mari_market.specs.Price.{IsCapped, IsPrice}
 use Rattle.mari_market.specs.declared.certificate.TreeItem.TheVariants as items
 use Rattle.mari_publish.specs.declared.publication.Publication.{Publication}
 use Rattle.mari_lines.specs.declared.line.Heading.{Heading}
@@ -25,7 +25,7 @@ use Rattle.mari_publish.specs.declared.publication.Part.{Part}
 use Rattle.mari_publish.specs.declared.publication.Part.TheVariants as part
 use Rattle.mari_publish.specs.declared.held.Kept.{Kept}
 use Rattle.mari_publish.specs.Faults.{Begins}
-use Rattle.mari_lines.specs.Ranges.{InRange, IsPriceLine, IsMoneyLine, Listed}
+use Rattle.mari_lines.specs.Ranges.{InRange, IsMoneyLine, Listed}
 use Rattle.mari_publish.specs.Ranges.{HasText}
 use Rattle.mari_publish.specs.Lines.{front_lines}
 use Rattle.mari_publish.specs.Order.{kept_with, one_published, with_item, conflict_item, after_listing, after_growing, full_block, after, grown}
@@ -143,7 +143,7 @@ from_pending (Zones zones) ls p k g is s fit =
     let prices : List Cents = record { 0 = pos 0 } ∷ [] in
     let new : Growing = record { listing = g.listing; count = g.count; tree = g.tree; pending = At zones prices } in
     let o : after_growing g g.pending (line.At prices) ≡ Some (held.Growing new) = rw is refl in
-    then_line ls p k (held.Growing g) (line.At prices) (kept_with k (held.Growing new), None) s fit ((omega arith, omega arith), cons_all IsPriceLine (record { 0 = pos 0 }) [] free_price (All-nil IsPriceLine)) (kept_some k _ (held.Growing new) o)
+    then_line ls p k (held.Growing g) (line.At prices) (kept_with k (held.Growing new), None) s fit ((omega arith, omega arith), cons_all IsCapped (record { 0 = pos 0 }) [] free_price (All-nil IsCapped)) (kept_some k _ (held.Growing new) o)
     (λ s2 fit2. from_at zones prices (ls ++ line.At prices ∷ []) p (kept_with k (held.Growing new)) new refl s2 fit2)
 
 from_growing : (ls : List Line) (p : Publication) (k : Kept) (g : Growing) → Stands ls p k (held.Growing g) → Fit ls → Begins ls

@@ -20,11 +20,10 @@ use Rattle.mari_demands.specs.Demands.{IsDemand}
 use Rattle.mari_links.specs.Links.{has_gate, count_of, quarter_of, IsParent}
 use Rattle.mari_links.specs.declared.links.BidLinks.{BidLinks}
 use Rattle.mari_demands.specs.declared.demands.Demand.{Demand}
-use Rattle.mari_rows.specs.Fields.{IsWithinCap}
 use Rattle.mari_market.specs.declared.market.Order.{Order}
 use Rattle.mari_market.specs.Gates.{parent_of}
 use Rattle.mari_market.specs.Market.{IsValid, IsValidBorder, IsValidGate, IsValidOrder, GateFits}
-use Rattle.mari_market.specs.Price.{IsPrice}
+use Rattle.mari_market.specs.Price.{IsCapped, IsPrice}
 use Rattle.mari_remain.specs.declared.books.Books.{Books}
 use Rattle.mari_remain.specs.Accepted.{IsAccepted}
 use Rattle.mari_demands.specs.LimitPairs.{IsLimitTable}
@@ -67,7 +66,7 @@ bid : (zones : ZoneBook) (providers quarters gates : ℕ) (b : Bid) (gate : Opti
     → IsValidOrder (length zones.zones) gates (bid_order b gate taken)
 bid zones providers quarters gates b gate taken h there =
     let fits = least_fits gates b gate taken h.least h.some there in
-    record { zone = h.zone; price = record { low = h.price.low; high = h.price.high }; in_order = fits.0; small = omega (arith, h.most, most_left gate b.greatest taken); gate = fits.1 }
+    record { zone = h.zone; price = h.price; in_order = fits.0; small = omega (arith, h.most, most_left gate b.greatest taken); gate = fits.1 }
 
 -- an inelastic price is within the cap
 inelastic : (mw : ℤ) → IsPrice (inelastic_price mw).0
@@ -79,9 +78,9 @@ inelastic mw =
       | false ↦ record { low = omega (arith, ints); high = omega (arith, ints) }
     ]
 
-demand_price : (price : Option Cents) (mw : ℤ) → IfSome price (λ (p : Cents). IsWithinCap p.0) → IsPrice (unwrap_or price (inelastic_price mw)).0
+demand_price : (price : Option Cents) (mw : ℤ) → IfSome price IsCapped → IsPrice (unwrap_or price (inelastic_price mw)).0
 demand_price None mw h = inelastic mw
-demand_price (Some p) mw h = record { low = h.low; high = h.high }
+demand_price (Some p) mw h = h
 
 -- a demand's order
 demand : (zones : ZoneBook) (runs gates : ℕ) (d : Demand) → IsDemand zones runs d → IsValidOrder (length zones.zones) gates (demand_order d)

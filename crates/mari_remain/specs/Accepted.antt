@@ -10,7 +10,7 @@ use Rattle.mari_demands.specs.Demands.{IsDemandBook}
 use Rattle.mari_remain.specs.declared.books.Books.{Books}
 use Rattle.mari_units.specs.declared.limits.TheConstants.{MOST_QUARTERS}
 
--- books of one folder, each read with those before it, on a day of at most 400 quarters
+-- books of one folder, each read with those before it, on a day of at most `MOST_QUARTERS` quarters
 pub record IsAccepted (books : Books) : Type 0 where
   pub quarters : books.quarters ≤ MOST_QUARTERS
   pub zones : IsZoneBook books.zones

@@ -14,9 +14,10 @@ use Rattle.std.proofs.lemmas.List.Sums.{AllPass-from_list_all}
 use Rattle.std.proofs.lemmas.Option.{cond_some}
 use Rattle.std.proofs.lemmas.List.Quantifiers.{all_pairs_push}
 use Rattle.mari_units.specs.Numbers.{price_of, whole_of}
+use Rattle.mari_units.specs.Prices.{IsPrice}
 use Rattle.mari_units.specs.declared.numbers.Cents.{Cents}
 use Rattle.mari_rows.specs.Books.{Checks, Grammar, first_failing, line_refusal}
-use Rattle.mari_rows.specs.Fields.{cents_in, number_in, within, within_cap, IsWithinCap}
+use Rattle.mari_rows.specs.Fields.{cents_in, number_in, within, within_cap}
 use Rattle.mari_rows.specs.First.{HasNoFault}
 use Rattle.mari_rows.specs.Names.{distinct, is_among, place_in, with_name}
 use Rattle.mari_rows.specs.declared.rows.Row.{Row}
@@ -99,19 +100,19 @@ number-bounds least greatest text some = by (whole_of text) some
     by (Some (negsuc n)) s = cc s
 
 -- a price that a text writes is within the cap
-pub price-within : (text : List ℕ) (price : Cents) → cents_in text ≡ Some price → IsWithinCap price.0
+pub price-within : (text : List ℕ) (price : Cents) → cents_in text ≡ Some price → IsPrice price.0
 price-within text price read = by (price_of text) read
   where
     cents : ℤ → Cents
     cents z = record { 0 = z }
 
     tested : (z : ℤ) (b c : Bool) → int_le (neg_ℤ (pos 9999900)) z ≡ b → int_le z (pos 9999900) ≡ c
-        → (if b && c then Some (cents z) else None) ≡ Some price → IsWithinCap price.0
+        → (if b && c then Some (cents z) else None) ≡ Some price → IsPrice price.0
     tested z true true low high s = let same : z ≡ price.0 = cc s in rw (sym same) (record { low = grind (arith, ints, low); high = grind (arith, ints, high) })
     tested z true false low high s = cc s
     tested z false c low high s = cc s
 
-    by : (z : Option ℤ) → option_and_then within_cap z ≡ Some price → IsWithinCap price.0
+    by : (z : Option ℤ) → option_and_then within_cap z ≡ Some price → IsPrice price.0
     by None s = cc s
     by (Some z) s = tested z (int_le (neg_ℤ (pos 9999900)) z) (int_le z (pos 9999900)) refl refl s
 
@@ -147,10 +148,10 @@ found-below test xs some = by (position test xs) refl some
     by (Some place) e s = position-below test xs place e
 
 -- a price that is read, in place of any other
-pub read-within : (text : List ℕ) (other : Cents) → is_some (cents_in text) ≡ true → IsWithinCap (unwrap_or (cents_in text) other).0
+pub read-within : (text : List ℕ) (other : Cents) → is_some (cents_in text) ≡ true → IsPrice (unwrap_or (cents_in text) other).0
 read-within text other some = by (cents_in text) refl some
   where
-    by : (o : Option Cents) → cents_in text ≡ o → is_some o ≡ true → IsWithinCap (unwrap_or o other).0
+    by : (o : Option Cents) → cents_in text ≡ o → is_some o ≡ true → IsPrice (unwrap_or o other).0
     by None e s = cc s
     by (Some price) e s = price-within text price e
 

@@ -1,8 +1,8 @@
 -- Steps that every book takes.
 use Rattle.std.proofs.Common.{◌≡◌, ◌∙◌, ℕ, Bool, true, false, if◌then◌else◌, Option, List, [], ◌∷◌, ◌++◌, Some, None, Result, Ok, Err, append_assoc, refl, sym}
 use Rattle.std.proofs.lemmas.List.{append-nil}
-use Rattle.mari_rows.specs.Books.{Checks, Grammar, GivesBook, TakesLine, book_in, book_of_read, book_of_rows, first_failing, line_refusal, refusal_of}
-use Rattle.std.specs.Prelude.{option_map}
+use Rattle.mari_rows.specs.Books.{Checks, Grammar, GivesBook, book_in, book_of_read, book_of_rows, first_failing, line_refusal, refusal_of}
+use Rattle.std.specs.Prelude.{option_map, ⊤}
 use Rattle.std.specs.Option.{option_or}
 use Rattle.std.specs.Result.{IsErrAnd}
 use Rattle.mari_rows.specs.First.{HasNoFault, first_fault, first_fault_behind, unless_fault}
@@ -14,6 +14,13 @@ use Rattle.mari_rows.specs.declared.faults.RowFault.{RowFault}
 use Rattle.mari_rows.specs.declared.faults.RowFault.TheVariants.{BadHeader, BadRow, NotUtf8, Memory}
 use Rattle.mari_rows.specs.declared.rows.Row.{Row}
 use Rattle.mari_rows.proofs.FirstLemmas.{first_fault-go, first_fault-here}
+
+-- what an answer to one more line says, with the refusal at the line: its book with that line, where no check fails, and
+-- else the first that fails
+abbrev pub TakesLineAt : {X : Type 0} → Result X BookFault → ℕ → Option ℕ → (X → Type 0) → Type 0
+TakesLineAt (Ok x) line failing Holds = (failing ≡ None) × Holds x
+TakesLineAt (Err refused.Memory) line failing Holds = ⊤
+TakesLineAt (Err (refused.At at number)) line failing Holds = (at ≡ line) × (failing ≡ Some number)
 
 module _ {Book : Type 0} (g : Grammar Book) where
   -- these earlier lines of all are not refused, and these are left
@@ -42,14 +49,14 @@ module _ {Book : Type 0} (g : Grammar Book) where
 
   -- an answer to a line that refuses it is the answer to all
   pub gives-line-fault : {X : Type 0} (earlier lines rest all : List Row) (line : Row) (fault : BookFault) (Holds : X → Type 0) → IsReadTo earlier lines all
-      → lines ≡ line ∷ rest → TakesLine (Err fault) line.line (first_failing (g.line_checks earlier line)) Holds → GivesBook (Err fault) (book_of_rows g all)
+      → lines ≡ line ∷ rest → TakesLineAt (Err fault) line.line (first_failing (g.line_checks earlier line)) Holds → GivesBook (Err fault) (book_of_rows g all)
   gives-line-fault earlier lines rest all line refused.Memory Holds so_far next takes = tt
   gives-line-fault earlier lines rest all line (refused.At at number) Holds so_far next takes =
       rw takes.0 (refused-line earlier lines rest all line number so_far next takes.1)
 
   -- the same, where the answer is passed on
   pub gives-line-error : {X : Type 0} (earlier lines rest all : List Row) (line : Row) (fault : BookFault) (Holds : X → Type 0) (result : Result Book BookFault)
-      → IsReadTo earlier lines all → lines ≡ line ∷ rest → TakesLine (Err fault) line.line (first_failing (g.line_checks earlier line)) Holds
+      → IsReadTo earlier lines all → lines ≡ line ∷ rest → TakesLineAt (Err fault) line.line (first_failing (g.line_checks earlier line)) Holds
       → IsErrAnd result (λ error. error ≡ fault) → GivesBook result (book_of_rows g all)
   gives-line-error earlier lines rest all line fault Holds (Ok book) so_far next takes passed_on = absurd passed_on
   gives-line-error earlier lines rest all line fault Holds (Err error) so_far next takes passed_on =
@@ -73,7 +80,7 @@ module _ {Book : Type 0} (g : Grammar Book) where
 
   -- an answer to the end of the file
   pub gives-file : (earlier lines all : List Row) (result : Result Book BookFault) → IsReadTo earlier lines all → lines ≡ []
-      → TakesLine result 1 (first_failing (g.file_checks earlier)) (λ book. book ≡ g.book earlier) → GivesBook result (book_of_rows g all)
+      → TakesLineAt result 1 (first_failing (g.file_checks earlier)) (λ book. book ≡ g.book earlier) → GivesBook result (book_of_rows g all)
   gives-file earlier lines all (Ok book) so_far ended takes = rw takes.1 (read-whole earlier lines all so_far ended takes.0)
   gives-file earlier lines all (Err refused.Memory) so_far ended takes = tt
   gives-file earlier lines all (Err (refused.At at number)) so_far ended takes = rw takes.0 (refused-file earlier lines all number so_far ended takes.1)

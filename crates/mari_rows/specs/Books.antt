@@ -1,5 +1,5 @@
 -- A book from its page: the checks of its lines, the first that fails, and what its lines say.
-use Rattle.std.specs.Prelude.{◌≡◌, ℕ, Bool, List, [], ◌∷◌, Option, Some, None, Result, Ok, Err, if◌then◌else◌, option_map}
+use Rattle.std.specs.Prelude.{◌≡◌, ℕ, Bool, List, [], ◌∷◌, Option, Some, None, Result, Ok, Err, if◌then◌else◌, option_map, ⊤}
 use Rattle.std.specs.Option.{option_or}
 use Rattle.mari_rows.specs.Checks.{row_check_number}
 use Rattle.mari_rows.specs.declared.checks.RowCheck.TheVariants as check
@@ -62,11 +62,5 @@ module _ {Book : Type 0} (g : Grammar Book) where
 -- this is the book that was to be read or its first refusal, unless memory was wanted
 abbrev pub GivesBook : {Book : Type 0} → Result Book BookFault → Result Book BookFault → Type 0
 GivesBook (Ok book) read = read ≡ Ok book
-GivesBook (Err refused.Memory) read = Unit {0}
+GivesBook (Err refused.Memory) read = ⊤
 GivesBook (Err (refused.At line number)) read = read ≡ Err (refused.At line number)
-
--- what an answer to one more line says: its book with that line, where no check fails, and else the first that fails
-abbrev pub TakesLine : {X : Type 0} → Result X BookFault → ℕ → Option ℕ → (X → Type 0) → Type 0
-TakesLine (Ok x) line failing Holds = (failing ≡ None) × Holds x
-TakesLine (Err refused.Memory) line failing Holds = Unit {0}
-TakesLine (Err (refused.At at number)) line failing Holds = (at ≡ line) × (failing ≡ Some number)

@@ -1,5 +1,5 @@
 -- The checks of a file, each with its number and its name.
-use Rattle.std.specs.Prelude.{◌≡◌, ℕ, List, codes, Option, Some, None, Result, Ok, Err}
+use Rattle.std.specs.Prelude.{◌≡◌, ℕ, List, codes, Option, Some, None, Result, Ok, Err, ⊤}
 use Rattle.mari_rows.specs.declared.checks.LineFault.{LineFault}
 use Rattle.mari_rows.specs.declared.checks.LineFault.TheVariants as fault
 use Rattle.mari_rows.specs.declared.checks.RowCheck.{RowCheck}
@@ -28,7 +28,7 @@ module _ {C : Type 0} (number : C → ℕ) where
   abbrev pub TakesLine : {X : Type 0} → Result X (LineFault C) → Option ℕ → (X → Type 0) → Type 0
   TakesLine (Ok x) failing Holds = (failing ≡ None) × Holds x
   TakesLine (Err (fault.Fails check)) failing Holds = failing ≡ Some (number check)
-  TakesLine (Err fault.Memory) failing Holds = Unit {0}
+  TakesLine (Err fault.Memory) failing Holds = ⊤
 
   -- what an answer to a line by itself says: what the line states, where no check fails, and else the first that fails
   abbrev pub IsRead : {X : Type 0} → Result X C → Option ℕ → X → Type 0

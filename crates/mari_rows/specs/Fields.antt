@@ -1,5 +1,5 @@
 -- Numbers, prices and words of a field.
-use Rattle.std.specs.Prelude.{◌≤ℤ◌, ℕ, ℤ, pos, negsuc, List, Option, Some, None, Bool, true, false, nat_le, int_le, neg_ℤ, ◌&&◌, if◌then◌else◌}
+use Rattle.std.specs.Prelude.{ℕ, ℤ, pos, negsuc, List, Option, Some, None, Bool, true, false, nat_le, int_le, neg_ℤ, ◌&&◌, if◌then◌else◌}
 use Rattle.std.specs.Option.{option_and_then}
 use Rattle.std.specs.Str.{bytes_eq}
 use Rattle.mari_units.specs.Numbers.{price_of, whole_of}
@@ -14,11 +14,6 @@ within least greatest (negsuc n) = None
 -- the whole number that a text writes, where it is from the least to the greatest
 abbrev pub number_in : ℕ → ℕ → List ℕ → Option ℕ
 number_in least greatest text = option_and_then (within least greatest) (whole_of text)
-
--- a number of cents from -CAP to CAP
-pub record IsWithinCap (cents : ℤ) : Type 0 where
-  pub low : neg_ℤ CAP ≤ℤ cents
-  pub high : cents ≤ℤ CAP
 
 -- a price from -CAP to CAP
 abbrev pub within_cap : ℤ → Option Cents

@@ -1,5 +1,5 @@
 -- Pages as rows: records with their lines.
-use Rattle.std.specs.Prelude.{◌≡◌, ℕ, ◌+◌, ◌==◌, Bool, List, [], ◌∷◌, Option, Some, None, Result, Ok, Err, length, if◌then◌else◌, unwrap_or, slice_get}
+use Rattle.std.specs.Prelude.{◌≡◌, ℕ, ◌+◌, ◌==◌, Bool, List, [], ◌∷◌, Option, Some, None, Result, Ok, Err, length, if◌then◌else◌, unwrap_or, slice_get, ⊤}
 use Rattle.std.specs.Cmp.Lexicographic.{pointwise}
 use Rattle.std.specs.List.{list_all, slice_split}
 use Rattle.std.specs.Str.{bytes_eq, is_utf8}
@@ -84,4 +84,4 @@ abbrev pub IsFaultOf : Result (List Row) RowFault → RowFault → Type 0
 IsFaultOf read BadHeader = read ≡ Err BadHeader
 IsFaultOf read (BadRow line) = read ≡ Err (BadRow line)
 IsFaultOf read (NotUtf8 line) = read ≡ Err (NotUtf8 line)
-IsFaultOf read Memory = Unit {0}
+IsFaultOf read Memory = ⊤

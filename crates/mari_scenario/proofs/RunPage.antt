@@ -8,10 +8,10 @@ use Rattle.csv.specs.Reading.{strip_bom}
 use Rattle.mari_units.specs.Numbers.{printed_cents}
 use Rattle.mari_rows.specs.Books.{book_in}
 use Rattle.mari_rows.specs.declared.rows.Row.{Row}
-use Rattle.mari_demands.specs.Runs.{comes_too_late, direct_word, last_quarter, quarter_at, run_book, run_checks, run_columns, run_grammar, run_of, scheduled_word as scheduled}
+use Rattle.mari_demands.specs.Runs.{comes_too_late, direct_word, last_quarter, quarter_at, run_book, run_checks, run_columns, run_grammar, run_of, scheduled_word}
 use Rattle.mari_demands.specs.declared.runs.RunBook.{RunBook}
 use Rattle.mari_scenario.specs.Draws.{draw, lines}
-use Rattle.mari_scenario.specs.Pages.{run_line, runs_at, scheduled_word}
+use Rattle.mari_scenario.specs.Pages.{run_line, runs_at}
 use Rattle.mari_scenario.proofs.Accepting.{Passes, accepted, drawn, none-fails, one-line, rows, rows-length, rows-more}
 use Rattle.mari_scenario.proofs.FieldBytes.{decimal-plain}
 use Rattle.mari_scenario.proofs.PlainNumbers.{cents-plain}
@@ -62,7 +62,7 @@ in-time : (n x at : ℕ) (last : Option ℕ) → n < 24 → last ≡ None → co
 in-time n x at last few none = rw none refl
 
 after : (n x at : ℕ) → n < 24 → comes_too_late (Some n) (record { line = at; fields = run_fields n x }) ≡ false
-unfolding scheduled_word scheduled direct_word
+unfolding scheduled_word direct_word
 after n x at few =
     let later : nat_lt (n + 1) n ≡ false = grind (arith, nat_tests) in
     rw (decimal-above n n (n + 1) (omega arith) (omega arith), decimal-whole (n + 1) (omega arith), later) refl
@@ -73,7 +73,7 @@ not-late (suc n) x at state few =
     rw (last-of n x (omega arith)) (ap (λ (o : Option ℕ). comes_too_late o (record { line = at; fields = run_fields (suc n) state })) (ap Some (omega arith)) ∙ after (suc n) state at few)
 
 run-passes : (x n : ℕ) → n < 24 → Passes run_line run_records (run_grammar 96) n x
-unfolding scheduled_word scheduled direct_word
+unfolding scheduled_word direct_word
 run-passes x n few = one-line run_line run_records (run_grammar 96) n x (run_fields n state) refl (λ at. none-fails (run_checks 96 (run_rows n x) (record { line = at; fields = run_fields n state })) (
   (let e = length-rows n x in grind (arith, nat_tests)),
   (

@@ -7,7 +7,8 @@ use Rattle.std.proofs.lemmas.List.Elements.{All-cons, All-nil}
 use Rattle.mari_units.specs.Numbers.{printed_cents, sign_of}
 use Rattle.mari_scenario.specs.Accepted.{IsShort}
 use Rattle.mari_scenario.specs.Draws.{Drawn, after, draw, lines}
-use Rattle.mari_scenario.specs.Pages.{before_bids, before_demands, before_runs, bid, bid_line, bid_price, bids_at, border_line, borders_at, day_text, demand_line, demand_text, demands_at, direction, from_of, further, greatest, group, is_both, is_up, kind, least_of, link_lines, links_text, provider, row, run_line, runs_at, scenario_at, scheduled_word, to_of, zone, zones_text}
+use Rattle.mari_demands.specs.Runs.{scheduled_word}
+use Rattle.mari_scenario.specs.Pages.{before_bids, before_demands, before_runs, bid, bid_line, bid_price, bids_at, border_line, borders_at, day_text, demand_line, demand_text, demands_at, direction, from_of, further, greatest, group, is_both, is_up, kind, least_of, link_lines, links_text, provider, row, run_line, runs_at, scenario_at, to_of, zone, zones_text}
 use Rattle.mari_scenario.proofs.BidNames.{length-bid}
 use Rattle.mari_scenario.proofs.BidPage.{greatest-small, least-small, price-small}
 use Rattle.mari_scenario.proofs.DemandPage.{price-small as elastic-small, quantity-small}

@@ -4,6 +4,7 @@ use lib.Chars.{codes}
 use Rattle.std.specs.Fmt.{decimal, signed_decimal}
 use Rattle.mari_units.specs.Numbers.{printed_cents}
 use Rattle.mari_io.specs.Outside.{Pages}
+use Rattle.mari_demands.specs.Runs.{scheduled_word}
 use Rattle.mari_scenario.specs.Draws.{Drawn, after, draw, lines}
 
 -- further fields of a line, each behind a comma, and the line's end
@@ -93,10 +94,6 @@ link_lines i x = still (
     row (codes "group") (group (i + 1) ∷ bid (i + 1) 10 ∷ [])
     ++ row (codes "group") (group (i + 1) ∷ bid (i + 1) 15 ∷ [])
     ++ row (codes "child") (bid (i + 1) 25 ∷ bid (i + 1) 20 ∷ [])) x
-
--- the word of a scheduled run
-unfoldable pub scheduled_word : List ℕ
-scheduled_word = codes "scheduled"
 
 -- the run of quarter i + 1
 abbrev pub run_line : ℕ → ℕ → Drawn

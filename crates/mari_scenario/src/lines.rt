@@ -3,8 +3,9 @@
 ghost use Rattle.std.specs.Prelude.{◌≡◌, ◌++◌, ◌∷◌, [], ◌<◌, ◌≤◌, ◌+◌, ◌-◌, ◌/◌, ◌%◌, ◌-ℤ◌, pos, IfOk, OnOk, codes, if◌then◌else◌};
 ghost use Rattle.std.specs.Fmt.{decimal, signed_decimal};
 ghost use Rattle.mari_units.specs.Numbers.{printed_cents};
+ghost use Rattle.mari_demands.specs.Runs.{scheduled_word};
 ghost use Rattle.mari_scenario.specs.Draws.{after, below as below_of, draw};
-ghost use Rattle.mari_scenario.specs.Pages.{bid, bid_line, bid_price as bid_price_of, border_line, demand_line, direction, from_of, greatest as greatest_of, group, is_both, is_up, kind, least_of, link_lines, provider, row, run_line, scheduled_word, to_of, zone, zone_line};
+ghost use Rattle.mari_scenario.specs.Pages.{bid, bid_line, bid_price as bid_price_of, border_line, demand_line, direction, from_of, greatest as greatest_of, group, is_both, is_up, kind, least_of, link_lines, provider, row, run_line, to_of, zone, zone_line};
 
 use crate::draws::{below, next};
 use crate::text::{
@@ -257,7 +258,7 @@ pub fn put_link_lines(alloc: Global, out: &mut Vec<u8>, i: u32, state: u32) -> R
 }
 
 /// Appends the word of a scheduled run.
-#[tactic(auto, unfolding(crate::specs::Pages::scheduled_word))]
+#[tactic(auto, unfolding(mari_demands::specs::Runs::scheduled_word))]
 fn put_scheduled(out: &mut Vec<u8>) -> Result<(), Memory>
     ensures { OnOk result (out.new.items ≡ out.old.items ++ scheduled_word) }
 {

@@ -14,7 +14,7 @@ use Rattle.mari_market.specs.Price.{price_at}
 use Rattle.mari_market.specs.Sums.{sum_along}
 use Rattle.mari_settle.specs.Ledger.{bid_amount, earned, paid_at, provider_amount, provider_amounts}
 use Rattle.mari_settle.specs.Lines.{amount_at, nothing}
-use Rattle.mari_settle.specs.Conditions.{IsPayable, NamesBid}
+use Rattle.mari_settle.specs.Conditions.{IsPayable, NamesPayable}
 use Rattle.mari_bids.specs.declared.bids.BidBook.{BidBook}
 
 -- a bid, where there is none
@@ -22,7 +22,7 @@ abbrev pub no_bid : Bid
 no_bid = record { provider = 0; zone = 0; quarter = 0; up = false; price = record { 0 = pos 0 }; least = 0; greatest = 0; both = false }
 
 -- a bid that is named is there
-pub named_there : (bids : BidBook) (zones number : ℕ) → NamesBid bids zones number → number < length bids.bids
+pub named_there : (bids : BidBook) (zones number : ℕ) → NamesPayable bids zones number → number < length bids.bids
 named_there bids zones number named = elim (cases_lt number (length bids.bids)) [
   | inl l ↦ l
   | inr past ↦ absurd (subst (λ (bid : Option Bid). IsSomeAnd bid (IsPayable bids zones)) (slice_get_past bids.bids number past) named)

@@ -15,7 +15,7 @@ use Rattle.mari_market.specs.declared.activation.Activation.{Activation}
 use Rattle.mari_market.specs.Bounds.{GateState, IsWithin, span_in}
 use Rattle.mari_market.specs.Market.{IsValid, IsValidOrder}
 use Rattle.mari_market.specs.Optimal.{IsFeasible}
-use Rattle.mari_settle.specs.Conditions.{HasFlows, HasProviders, IsOrderOf, IsPayable, NameOrders, NamesBid}
+use Rattle.mari_settle.specs.Conditions.{HasFlows, HasProviders, IsOrderOf, IsPayable, NameOrders, NamesPayable}
 use Rattle.mari_market.proofs.Sizes.{high_at_most}
 
 pub has_flows : (m : Market) (a : Activation) → IsFeasible m a → HasFlows m a
@@ -47,15 +47,15 @@ payable_at : (bids : BidBook) (zones : ℕ) (o : Order) (bid : Option Bid) → (
 payable_at bids zones o None there z h = absurd h
 payable_at bids zones o (Some bid) there z h = record { zone = omega (arith, h.zone); provider = there bid refl }
 
-payable_all : (bids : BidBook) (zones gates : ℕ) → HasProviders bids → (numbers : List ℕ) (os : List Order) → All (IsValidOrder zones gates) os → AllZip (λ number o. IsSomeAnd (slice_get bids.bids number) (IsOrderOf o)) numbers os → All (NamesBid bids zones) numbers
+payable_all : (bids : BidBook) (zones gates : ℕ) → HasProviders bids → (numbers : List ℕ) (os : List Order) → All (IsValidOrder zones gates) os → AllZip (λ number o. IsSomeAnd (slice_get bids.bids number) (IsOrderOf o)) numbers os → All (NamesPayable bids zones) numbers
 payable_all bids zones gates h [] [] v f = λ k d l. absurd (omega arith)
 payable_all bids zones gates h (n ∷ ns) (o ∷ os) v f =
-    All-cons (NamesBid bids zones) n ns
+    All-cons (NamesPayable bids zones) n ns
     (payable_at bids zones o (slice_get bids.bids n) (λ bid e. provider_there bids n bid h e) (All-head (IsValidOrder zones gates) o os v).zone f.0)
     (payable_all bids zones gates h ns os (All-tail (IsValidOrder zones gates) o os v) f.1)
 payable_all bids zones gates h [] (o ∷ os) v f = absurd f
 payable_all bids zones gates h (n ∷ ns) [] v f = absurd f
 
 -- each number names a bid whose provider and zone are there
-pub payable : (bids : BidBook) (m : Market) (numbers : List ℕ) → HasProviders bids → IsValid m → NameOrders bids.bids numbers m.orders → All (NamesBid bids m.zones) numbers
+pub payable : (bids : BidBook) (m : Market) (numbers : List ℕ) → HasProviders bids → IsValid m → NameOrders bids.bids numbers m.orders → All (NamesPayable bids m.zones) numbers
 payable bids m numbers h v named = payable_all bids m.zones (length m.gates) h numbers (take (length numbers) m.orders) (All-take (IsValidOrder m.zones (length m.gates)) (length numbers) m.orders v.orders) named

@@ -1,5 +1,5 @@
 -- How large payments and rents of a run are: each flow touches two zones, so each border counts once.
-use Rattle.std.proofs.Common.{◌≡◌, ◌==◌, if◌then◌else◌, ℕ, ◌*◌, ◌<◌, ◌≤◌, ◌^◌, ℤ, pos, Bool, true, false, ◌+ℤ◌, ◌-ℤ◌, ◌*ℤ◌, List, [], ◌∷◌, length, arith, refl, sym, ap, ◌∙◌}
+use Rattle.std.proofs.Common.{◌≡◌, ◌==◌, if◌then◌else◌, ℕ, ◌*◌, ◌<◌, ◌≤◌, ℤ, pos, Bool, true, false, ◌+ℤ◌, ◌-ℤ◌, ◌*ℤ◌, List, [], ◌∷◌, length, arith, refl, sym, ap, ◌∙◌}
 use Rattle.std.specs.Prelude.{unsigned_abs}
 use Rattle.std.specs.List.{All, AllZip, range_with_len}
 use Rattle.std.proofs.lemmas.Int.{ints}
@@ -21,7 +21,7 @@ use Rattle.std.proofs.lemmas.Bool.{cases_lt}
 use Rattle.std.proofs.lemmas.List.{get_or_past}
 use Rattle.mari_bids.specs.declared.bids.Bid.{Bid}
 use Rattle.mari_bids.specs.declared.bids.BidBook.{BidBook}
-use Rattle.mari_settle.specs.Conditions.{IsWithin, LineIsWithin}
+use Rattle.mari_settle.specs.Conditions.{MoneyIsWithin, LineIsWithin, most_of_operator, most_of_provider}
 use Rattle.mari_settle.specs.Ledger.{bid_amount, carried_in, earned, paid_at, provider_amount, provider_amounts, half_of, net_import, operator_at, operator_line, operator_lines, operator_payment, operator_rent, payment_at, rent_of, share_of}
 use Rattle.mari_settle.proofs.Laws.{range_is_below}
 use Rattle.mari_settle.proofs.Money.{half_small, product_small}
@@ -82,7 +82,7 @@ module _ (zones : ZoneBook) (m : Market) (a : Activation) (ps : List Cents) (v :
           sum_below-place own b.from f m.zones k.from,
         )) m.borders a.flow v.borders)
 
-    pub payment_small : unsigned_abs (operator_payment zones m a ps operator) ≤ 2 * 10 ^ 15
+    pub payment_small : unsigned_abs (operator_payment zones m a ps operator) ≤ most_of_operator
     payment_small =
         let one = each (λ b q. (own b.to -ℤ own b.from) *ℤ q) (19999800 * 199998) (λ b q valid within.
         let to = small_own (operator_at zones b.to == operator) (price_at ps b.to) (price_small b.to valid.to) in
@@ -90,7 +90,7 @@ module _ (zones : ZoneBook) (m : Market) (a : Activation) (ps : List Cents) (v :
         product_small (own b.to -ℤ own b.from) q _ 19999800 199998 (omega (arith, ints, to, from)) (flow_small b q valid within) refl) in
         rw by_borders (omega (arith, one, v.few_borders))
 
-    pub rent_small : unsigned_abs (operator_rent zones m a ps operator) ≤ 2 * 10 ^ 15
+    pub rent_small : unsigned_abs (operator_rent zones m a ps operator) ≤ most_of_operator
     rent_small =
         let one = each (λ b q. share_of (operator_at zones b.from) (operator_at zones b.to) operator (rent_of ps b q)) 4000000000000 (λ b q valid within.
         let to = price_small b.to valid.to in
@@ -100,8 +100,8 @@ module _ (zones : ZoneBook) (m : Market) (a : Activation) (ps : List Cents) (v :
         omega (arith, one, v.few_borders)
 
   -- each operator's payment and rent
-  pub lines_small : All (LineIsWithin (2 * 10 ^ 15)) (operator_lines zones m a ps)
-  lines_small = All-map (LineIsWithin (2 * 10 ^ 15)) (operator_line zones m a ps) (range_with_len 0 (length zones.operators)) (λ k d l. record { payment = payment_small _; rent = rent_small _ })
+  pub lines_small : All (LineIsWithin most_of_operator) (operator_lines zones m a ps)
+  lines_small = All-map (LineIsWithin most_of_operator) (operator_line zones m a ps) (range_with_len 0 (length zones.operators)) (λ k d l. record { payment = payment_small _; rent = rent_small _ })
 
 -- any zone's price, there or not
 price_any : (ps : List Cents) → All IsCapped ps → (z : ℕ) → unsigned_abs (price_at ps z) ≤ 9999900
@@ -139,7 +139,7 @@ module _ (bids : BidBook) (ps scheduled : List Cents) (own : All IsCapped ps) (a
 
 -- each provider's amount, where no bid runs more than 9,999 MW
 pub amounts_small : (bids : BidBook) (numbers : List ℕ) (a : Activation) (ps scheduled : List Cents) → All IsCapped ps → All IsCapped scheduled → length numbers ≤ 4608 → All (λ q. q ≤ 9999) (take (length numbers) a.mw)
-    → All (IsWithin (4 * 10 ^ 15)) (provider_amounts bids numbers a ps scheduled)
+    → All (MoneyIsWithin most_of_provider) (provider_amounts bids numbers a ps scheduled)
 amounts_small bids numbers a ps scheduled mine also few h =
-    All-map (IsWithin (4 * 10 ^ 15)) (λ k. record { 0 = provider_amount bids numbers a ps scheduled k }) (range_with_len 0 (length bids.providers))
+    All-map (MoneyIsWithin most_of_provider) (λ k. record { 0 = provider_amount bids numbers a ps scheduled k }) (range_with_len 0 (length bids.providers))
     (λ k (d : ℕ) l. let small = amounts_along bids ps scheduled mine also (get_or (range_with_len 0 (length bids.providers)) k d) numbers a.mw h in omega (arith, small, few))

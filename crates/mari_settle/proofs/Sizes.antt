@@ -7,7 +7,7 @@ use Rattle.std.specs.List.{All, AllZip}
 use Rattle.mari_units.specs.declared.numbers.Quarters.{Quarters}
 use Rattle.mari_settle.specs.declared.ledger.OperatorLine.{OperatorLine}
 use Rattle.mari_settle.specs.declared.ledger.Ledger.{Ledger}
-use Rattle.mari_settle.specs.Conditions.{AddUp, IsWithin, LedgerIsWithin, LedgersAddUp, LineIsWithin, LinesAddUp}
+use Rattle.mari_settle.specs.Conditions.{AddUp, MoneyIsWithin, LedgerIsWithin, LedgersAddUp, LineIsWithin, LinesAddUp}
 use Rattle.mari_settle.specs.Lines.{lines_together, map_along, together}
 use Rattle.mari_settle.proofs.Laws.{All-map_along}
 
@@ -18,10 +18,10 @@ side_by_side P Q R h (x ∷ xs) (y ∷ ys) l p q = (h x y (All-head P x xs p) (A
 side_by_side P Q R h [] (y ∷ ys) l p q = absurd (omega (arith, l))
 side_by_side P Q R h (x ∷ xs) [] l p q = absurd (omega (arith, l))
 
-pub sum_within : (m n : ℕ) (a b : Quarters) → IsWithin m a → IsWithin n b → IsWithin (m + n) (together a b)
+pub sum_within : (m n : ℕ) (a b : Quarters) → MoneyIsWithin m a → MoneyIsWithin n b → MoneyIsWithin (m + n) (together a b)
 sum_within m n a b h l = omega (arith, ints, h, l)
 
-add_up : (m n : ℕ) (a b : Quarters) → m + n ≤ 10 ^ 30 → IsWithin m a → IsWithin n b → AddUp a b
+add_up : (m n : ℕ) (a b : Quarters) → m + n ≤ 10 ^ 30 → MoneyIsWithin m a → MoneyIsWithin n b → AddUp a b
 add_up m n a b k h l = omega (arith, ints, h, l, k)
 
 lines_add_up : (m n : ℕ) (a b : OperatorLine) → m + n ≤ 10 ^ 30 → LineIsWithin m a → LineIsWithin n b → LinesAddUp a b
@@ -34,8 +34,8 @@ lines_within m n a b h l = record { payment = sum_within m n a.payment b.payment
 pub ledgers_add_up : (m n : ℕ) (a b : Ledger) → m + n ≤ 10 ^ 30 → length a.operators ≡ length b.operators → length a.providers ≡ length b.providers → length a.rents ≡ length b.rents → LedgerIsWithin m a → LedgerIsWithin n b → LedgersAddUp a b
 ledgers_add_up m n a b k os ps rs h l = record {
   operators = side_by_side (LineIsWithin m) (LineIsWithin n) LinesAddUp (λ x y p q. lines_add_up m n x y k p q) a.operators b.operators os h.operators l.operators;
-  providers = side_by_side (IsWithin m) (IsWithin n) AddUp (λ x y p q. add_up m n x y k p q) a.providers b.providers ps h.providers l.providers;
-  rents = side_by_side (IsWithin m) (IsWithin n) AddUp (λ x y p q. add_up m n x y k p q) a.rents b.rents rs h.rents l.rents;
+  providers = side_by_side (MoneyIsWithin m) (MoneyIsWithin n) AddUp (λ x y p q. add_up m n x y k p q) a.providers b.providers ps h.providers l.providers;
+  rents = side_by_side (MoneyIsWithin m) (MoneyIsWithin n) AddUp (λ x y p q. add_up m n x y k p q) a.rents b.rents rs h.rents l.rents;
 }
 
 pub sums_within : {X : Type 0} (f : X → X → X) (P Q R : X → Type 0) → ((x y : X) → P x → Q y → R (f x y)) → (xs ys : List X) → length xs ≡ length ys → All P xs → All Q ys → All R (map_along f xs ys)
@@ -45,6 +45,6 @@ sums_within f P Q R h xs ys l p q = All-map_along f (λ x y. R (f x y)) R (λ x 
 pub sum_is_within : (m n : ℕ) (a b c : Ledger) → LedgersAddUp a b → c.operators ≡ map_along lines_together a.operators b.operators → c.providers ≡ map_along together a.providers b.providers → c.rents ≡ map_along together a.rents b.rents → LedgerIsWithin m a → LedgerIsWithin n b → LedgerIsWithin (m + n) c
 sum_is_within m n a b c sums os ps rs h l = record {
   operators = rw os (sums_within lines_together (LineIsWithin m) (LineIsWithin n) (LineIsWithin (m + n)) (lines_within m n) a.operators b.operators (sym (AllZip-long LinesAddUp a.operators b.operators sums.operators)) h.operators l.operators);
-  providers = rw ps (sums_within together (IsWithin m) (IsWithin n) (IsWithin (m + n)) (sum_within m n) a.providers b.providers (sym (AllZip-long AddUp a.providers b.providers sums.providers)) h.providers l.providers);
-  rents = rw rs (sums_within together (IsWithin m) (IsWithin n) (IsWithin (m + n)) (sum_within m n) a.rents b.rents (sym (AllZip-long AddUp a.rents b.rents sums.rents)) h.rents l.rents);
+  providers = rw ps (sums_within together (MoneyIsWithin m) (MoneyIsWithin n) (MoneyIsWithin (m + n)) (sum_within m n) a.providers b.providers (sym (AllZip-long AddUp a.providers b.providers sums.providers)) h.providers l.providers);
+  rents = rw rs (sums_within together (MoneyIsWithin m) (MoneyIsWithin n) (MoneyIsWithin (m + n)) (sum_within m n) a.rents b.rents (sym (AllZip-long AddUp a.rents b.rents sums.rents)) h.rents l.rents);
 }

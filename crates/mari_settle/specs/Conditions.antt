@@ -1,5 +1,5 @@
 -- What the calls of the ledger ask of what they are given, and how large its numbers are.
-use Rattle.std.specs.Prelude.{◌≡◌, ℕ, ◌<◌, ◌≤◌, ◌^◌, ◌+ℤ◌, List, length, take, slice_get, unsigned_abs, IsSomeAnd}
+use Rattle.std.specs.Prelude.{◌≡◌, ℕ, ◌<◌, ◌≤◌, ◌*◌, ◌^◌, ◌+ℤ◌, List, length, take, slice_get, unsigned_abs, IsSomeAnd}
 use Rattle.std.specs.List.{All, AllZip}
 use Rattle.mari_units.specs.declared.numbers.Quarters.{Quarters}
 use Rattle.mari_zones.specs.declared.zones.ZoneBook.{ZoneBook}
@@ -30,8 +30,8 @@ pub record IsPayable (bids : BidBook) (zones : ℕ) (bid : Bid) : Type 0 where
   pub zone : bid.zone < zones
   pub provider : bid.provider < length bids.providers
 
-abbrev pub NamesBid : BidBook → ℕ → ℕ → Type 0
-NamesBid bids zones number = IsSomeAnd (slice_get bids.bids number) (IsPayable bids zones)
+abbrev pub NamesPayable : BidBook → ℕ → ℕ → Type 0
+NamesPayable bids zones number = IsSomeAnd (slice_get bids.bids number) (IsPayable bids zones)
 
 -- a flow for each border, within its limits
 pub record HasFlows (m : Market) (a : Activation) : Type 0 where
@@ -77,26 +77,36 @@ pub record LedgersAddUp (a b : Ledger) : Type 0 where
   pub rents : AllZip AddUp a.rents b.rents
 
 -- an amount within so many quarter-cents of 0
-abbrev pub IsWithin : ℕ → Quarters → Type 0
-IsWithin most a = unsigned_abs a.0 ≤ most
+abbrev pub MoneyIsWithin : ℕ → Quarters → Type 0
+MoneyIsWithin most a = unsigned_abs a.0 ≤ most
 
 -- so are the two of an operator's line
 pub record LineIsWithin (most : ℕ) (line : OperatorLine) : Type 0 where
-  pub payment : IsWithin most line.payment
-  pub rent : IsWithin most line.rent
+  pub payment : MoneyIsWithin most line.payment
+  pub rent : MoneyIsWithin most line.rent
 
 -- so is every number of a ledger
 pub record LedgerIsWithin (most : ℕ) (ledger : Ledger) : Type 0 where
   pub operators : All (LineIsWithin most) ledger.operators
-  pub providers : All (IsWithin most) ledger.providers
-  pub rents : All (IsWithin most) ledger.rents
+  pub providers : All (MoneyIsWithin most) ledger.providers
+  pub rents : All (MoneyIsWithin most) ledger.rents
 
--- the numbers of one run's ledger are small: within 10^17 quarter-cents of 0
+-- how far from 0 the numbers of one run's ledger are at most, in quarter-cents: an operator's, a provider's, and any
+abbrev pub most_of_operator : ℕ
+most_of_operator = 2 * 10 ^ 15
+
+abbrev pub most_of_provider : ℕ
+most_of_provider = 4 * 10 ^ 15
+
+abbrev pub most_of_run : ℕ
+most_of_run = 10 ^ 17
+
+-- the numbers of one run's ledger are small: within `most_of_run`
 abbrev pub IsSmall : Quarters → Type 0
-IsSmall a = IsWithin (10 ^ 17) a
+IsSmall a = MoneyIsWithin most_of_run a
 
 abbrev pub IsSmallLine : OperatorLine → Type 0
-IsSmallLine line = LineIsWithin (10 ^ 17) line
+IsSmallLine line = LineIsWithin most_of_run line
 
 abbrev pub HasSmallNumbers : Ledger → Type 0
-HasSmallNumbers ledger = LedgerIsWithin (10 ^ 17) ledger
+HasSmallNumbers ledger = LedgerIsWithin most_of_run ledger

@@ -1,11 +1,11 @@
 //! What operators pay for the energy that their zones take in, and their parts of the rents.
 
-ghost use Rattle.std.specs.Prelude.{◌≡◌, ◌≤◌, ◌*◌, ◌^◌, ◌<◌, ℕ, ℤ, length, IsTrue, if◌then◌else◌, pos, ◌-ℤ◌, ◌+ℤ◌, ◌*ℤ◌, unsigned_abs};
+ghost use Rattle.std.specs.Prelude.{◌≡◌, ◌≤◌, ◌*◌, ◌<◌, ℕ, ℤ, length, IsTrue, if◌then◌else◌, pos, ◌-ℤ◌, ◌+ℤ◌, ◌*ℤ◌, unsigned_abs};
 ghost use Rattle.std.specs.List.{All};
 ghost use Rattle.mari_market.specs.Activation.{IsWithinLimits};
 ghost use Rattle.mari_market.specs.Market.{IsValid, IsValidBorder};
 ghost use Rattle.mari_market.specs.Price.{IsCapped, price_at};
-ghost use Rattle.mari_settle.specs.Conditions.{HasFlows, LineIsWithin, Settles};
+ghost use Rattle.mari_settle.specs.Conditions.{HasFlows, IsSmallLine, Settles};
 ghost use Rattle.mari_settle.specs.Ledger.{carried_in as carried_into, half_of, net_import as net_import_of, operator_at, operator_line as line_of, operator_lines, operator_payment as payment_of, payment_at, operator_rent as rent_of_operator, rent_of as rent_at, share_of};
 
 use crate::ledger::OperatorLine;
@@ -191,7 +191,7 @@ pub(crate) fn write_lines(
     requires lengths { length lines.old ≡ length zones.now.operators }
     requires settles { Settles zones.now market.now activation.now prices.now }
     ensures value { lines.new ≡ operator_lines zones.now market.now activation.now prices.now }
-    ensures small { All (LineIsWithin (10 ^ 17)) lines.new }
+    ensures small { All IsSmallLine lines.new }
 {
     for operator in 0..lines.len() {
         lines[operator] = OperatorLine {

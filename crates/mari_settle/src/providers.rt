@@ -1,10 +1,10 @@
 //! What providers get and pay for what their bids run.
 
-ghost use Rattle.std.specs.Prelude.{◌≡◌, ◌==◌, ◌≤◌, ◌<◌, ◌*◌, ◌^◌, ℕ, ℤ, pos, ◌+ℤ◌, if◌then◌else◌, length, unsigned_abs, slice_get};
+ghost use Rattle.std.specs.Prelude.{◌≡◌, ◌==◌, ◌≤◌, ◌<◌, ◌*◌, ℕ, ℤ, pos, ◌+ℤ◌, if◌then◌else◌, length, unsigned_abs, slice_get};
 ghost use Rattle.std.specs.List.{All};
 ghost use Rattle.mari_market.specs.Price.{IsCapped, price_at};
 ghost use Rattle.mari_market.specs.Sums.{sum_along};
-ghost use Rattle.mari_settle.specs.Conditions.{IsWithin, NamesBid};
+ghost use Rattle.mari_settle.specs.Conditions.{IsSmall, NamesPayable, most_of_run};
 ghost use Rattle.mari_settle.specs.Ledger.{bid_amount, earned as earned_by, paid_at, provider_amounts};
 ghost use Rattle.mari_settle.specs.Lines.{amount_at};
 
@@ -66,7 +66,7 @@ fn clear(amounts: &mut [Quarters])
 /// Adds to the amount of one provider.
 fn pay(amounts: &mut [Quarters], provider: u32, amount: i128)
     requires provider { provider < length amounts.old }
-    requires so_far { unsigned_abs (amount_at amounts.old provider) ≤ 10 ^ 17 }
+    requires so_far { unsigned_abs (amount_at amounts.old provider) ≤ most_of_run }
     requires amount { unsigned_abs amount ≤ 1000000000000 }
     ensures lengths { length amounts.new ≡ length amounts.old }
     ensures paid { (k : ℕ) → amount_at amounts.new k ≡ amount_at amounts.old k +ℤ (if provider == k then amount else pos 0) }
@@ -96,7 +96,7 @@ fn pay_all(
     requires lengths_too { length scheduled.now ≡ length prices.now }
     requires prices { All IsCapped prices.now }
     requires scheduled { All IsCapped scheduled.now }
-    requires numbers { All (NamesBid bids.now (length prices.now)) numbers.now }
+    requires numbers { All (NamesPayable bids.now (length prices.now)) numbers.now }
 
     // Each provider's sum, which never runs over.
     ensures lengths { length amounts.new ≡ length bids.now.providers }
@@ -130,11 +130,11 @@ pub(crate) fn write_amounts(
     requires lengths_too { length scheduled.now ≡ length prices.now }
     requires prices { All IsCapped prices.now }
     requires scheduled { All IsCapped scheduled.now }
-    requires numbers { All (NamesBid bids.now (length prices.now)) numbers.now }
+    requires numbers { All (NamesPayable bids.now (length prices.now)) numbers.now }
 
     // Each provider's amount, whatever stood there.
     ensures value { amounts.new ≡ provider_amounts bids.now numbers.now activation.now prices.now scheduled.now }
-    ensures small { All (IsWithin (10 ^ 17)) amounts.new }
+    ensures small { All IsSmall amounts.new }
 {
     clear(amounts);
     pay_all(

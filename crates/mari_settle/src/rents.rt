@@ -1,11 +1,11 @@
 //! The rents of borders.
 
-ghost use Rattle.std.specs.Prelude.{◌≡◌, ◌≤◌, ◌<◌, ◌*◌, ◌-ℤ◌, ◌^◌, ℤ, length, unsigned_abs};
+ghost use Rattle.std.specs.Prelude.{◌≡◌, ◌≤◌, ◌<◌, ◌*◌, ◌-ℤ◌, ℤ, length, unsigned_abs};
 ghost use Rattle.std.specs.List.{All};
 ghost use Rattle.mari_market.specs.Activation.{IsWithinLimits};
 ghost use Rattle.mari_market.specs.Market.{IsValidBorder};
 ghost use Rattle.mari_market.specs.Price.{IsCapped, price_at};
-ghost use Rattle.mari_settle.specs.Conditions.{HasFlows, IsWithin};
+ghost use Rattle.mari_settle.specs.Conditions.{HasFlows, IsSmall};
 ghost use Rattle.mari_settle.specs.Ledger.{rent_of as rent_at, rents_of};
 
 use mari_market::{Activation, Border, Market, worth};
@@ -54,7 +54,7 @@ pub(crate) fn write_rents(
     requires prices { All IsCapped prices.now }
     requires flows { HasFlows market.now activation.now }
     ensures value { rents.new ≡ rents_of market.now activation.now prices.now }
-    ensures small { All (IsWithin (10 ^ 17)) rents.new }
+    ensures small { All IsSmall rents.new }
 {
     let flow = activation.flow.as_slice();
     for (i, border) in market.borders.as_slice().iter().enumerate() {

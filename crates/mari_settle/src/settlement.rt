@@ -1,11 +1,11 @@
 //! The ledger of one run.
 
-ghost use Rattle.std.specs.Prelude.{◌≡◌, ◌≤◌, ◌*◌, ◌^◌, take, IfSome, length, option_map, pos, ◌≤ℤ◌};
+ghost use Rattle.std.specs.Prelude.{◌≡◌, ◌≤◌, take, IfSome, length, option_map, pos, ◌≤ℤ◌};
 ghost use Rattle.std.specs.List.{All};
 ghost use Rattle.mari_market.specs.Market.{IsValid};
 ghost use Rattle.mari_market.specs.Optimal.{IsConsistent, IsFeasible};
 ghost use Rattle.mari_market.specs.Sums.{int_sum};
-ghost use Rattle.mari_settle.specs.Conditions.{FitsRun, HasOperators, HasProviders, HasSmallNumbers, IsWithin, LineIsWithin, NameOrders};
+ghost use Rattle.mari_settle.specs.Conditions.{FitsRun, HasOperators, HasProviders, HasSmallNumbers, MoneyIsWithin, LineIsWithin, NameOrders, most_of_operator, most_of_provider};
 ghost use Rattle.mari_settle.specs.Ledger.{net_of, operator_lines, provider_amounts, rents_of, scheduled_or as scheduled_or_in};
 ghost use Rattle.mari_market.specs.Price.{IsCapped, ArePrices};
 
@@ -66,8 +66,8 @@ pub fn settle_run(
 
     // So a day's ledgers can be added up.
     ensures small { HasSmallNumbers ledger.new }
-    ensures providers_small { All (λ q. q ≤ MOST_BID_MW) (take (length numbers.now) activation.now.mw) → All (IsWithin (4 * 10 ^ 15)) ledger.new.providers }
-    ensures operators_small { All (LineIsWithin (2 * 10 ^ 15)) ledger.new.operators }
+    ensures providers_small { All (λ q. q ≤ MOST_BID_MW) (take (length numbers.now) activation.now.mw) → All (MoneyIsWithin most_of_provider) ledger.new.providers }
+    ensures operators_small { All (LineIsWithin most_of_operator) ledger.new.operators }
 {
     let prices = prices.cents.as_slice();
     let scheduled = scheduled_or(prices, also);

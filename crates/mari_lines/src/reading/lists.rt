@@ -2,7 +2,8 @@
 
 ghost use Rattle.std.specs.Prelude.{◌≡◌, ◌≤◌, map};
 ghost use Rattle.std.specs.Fmt.{decimal, signed_decimal};
-ghost use Rattle.mari_lines.specs.Ranges.{Listed, Within, IsPriceLine, IsZone};
+ghost use Rattle.mari_market.specs.Price.{IsCapped};
+ghost use Rattle.mari_lines.specs.Ranges.{Listed, Within, IsZone};
 ghost use Rattle.mari_lines.specs.Spelling.{price_text, zone_text};
 ghost use Rattle.mari_lines.specs.Reading.{Reads};
 
@@ -15,7 +16,7 @@ use std::alloc::Global;
 
 /// One to `MOST_ZONES` prices, to the end of the line.
 pub fn read_prices(alloc: Global, words: &mut Words<'_>) -> Result<Items<Cents>, FormFault>
-    ensures { Reads (Listed 1 MOST_ZONES IsPriceLine) (map price_text) words.old result }
+    ensures { Reads (Listed 1 MOST_ZONES IsCapped) (map price_text) words.old result }
 {
     let mut prices = Vec::new(alloc);
     while let Some(word) = words.next_word() {

@@ -4,7 +4,8 @@ ghost use Rattle.std.specs.Prelude.{◌≡◌, ◌≤◌, ◌<◌, ◌^◌, ◌�
 ghost use Rattle.std.specs.Char.{is_ascii_digit};
 ghost use Rattle.std.specs.List.{list_all};
 ghost use Rattle.std.specs.Fmt.{decimal, signed_decimal};
-ghost use Rattle.mari_lines.specs.Ranges.{Between, Within, IsName, IsDate, IsPriceLine, IsMoney, IsZone, is_date as is_date_text};
+ghost use Rattle.mari_market.specs.Price.{IsCapped};
+ghost use Rattle.mari_lines.specs.Ranges.{Between, Within, IsName, IsDate, IsMoney, IsZone, is_date as is_date_text};
 ghost use Rattle.mari_lines.specs.Spelling.{price_text, money_text, zone_text};
 ghost use Rattle.mari_lines.specs.Reading.{Reads, digits_in as digits_of, value_in};
 
@@ -85,7 +86,7 @@ pub fn read_flow(text: &[u8]) -> Result<i64, FormFault>
 
 /// The price from -CAP to CAP that is printed so.
 pub fn read_price(text: &[u8]) -> Result<Cents, FormFault>
-    ensures { Reads IsPriceLine price_text text.now result }
+    ensures { Reads IsCapped price_text text.now result }
 {
     let value = value_of(text, 1);
     if value < -i128::from(CAP) {

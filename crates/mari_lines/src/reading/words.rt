@@ -3,7 +3,8 @@
 ghost use Rattle.std.specs.Prelude.{◌≡◌, ◌≢◌, ◌==◌, ◌∷◌, [], ◌<◌, ◌^◌, ◌↔◌, IsTrue, MatchOption, MatchResult, codes, ⊤};
 ghost use Rattle.std.specs.List.{slice_split};
 ghost use Rattle.std.specs.Fmt.{decimal, signed_decimal};
-ghost use Rattle.mari_lines.specs.Ranges.{Between, Within, IsName, IsDate, IsPriceLine, IsMoney};
+ghost use Rattle.mari_market.specs.Price.{IsCapped};
+ghost use Rattle.mari_lines.specs.Ranges.{Between, Within, IsName, IsDate, IsMoney};
 ghost use Rattle.mari_lines.specs.Spelling.{price_text, money_text, kind_text, published_text, side_text};
 ghost use Rattle.mari_lines.specs.Reading.{ReadsFirst};
 ghost use Rattle.mari_lines.specs.declared.fault.FormFault.TheVariants as form_fault;
@@ -119,7 +120,7 @@ impl<'a> Words<'a> {
 
     /// Takes a price.
     pub fn price(&mut self) -> Result<Cents, FormFault>
-        ensures { ReadsFirst IsPriceLine price_text self.old self.new result }
+        ensures { ReadsFirst IsCapped price_text self.old self.new result }
     {
         let word = self.word()?;
         read_price(word)

@@ -4,7 +4,7 @@ use Rattle.std.proofs.lemmas.List.FromFn.{get_or-range_with_len, length-map-rang
 use Rattle.mari_market.proofs.Lists.{passes_all}
 use Rattle.mari_settle.specs.Lines.{nothing}
 use Rattle.mari_lines.specs.declared.line.AmountLine.{AmountLine}
-use Rattle.mari_check.specs.Lines.{IsAmountLine}
+use Rattle.mari_check.specs.Lines.{IsSameAmountLine}
 use Rattle.mari_progress.specs.Money.{amount_line}
 use Rattle.mari_check.proofs.Zips.{fail, map-at, pass, same-by, uneven}
 use Rattle.mari_check.proofs.ledger.are_total_lines.Goals as goal
@@ -17,7 +17,7 @@ returns-then-lines-len c =
     let line = amount_line c.args.names.now c.args.amounts.now in
     let all = map line (range_with_len 0 (length c.args.names.now)) in
     let many = length-map-range_with_len line 0 (length c.args.names.now) in
-    same-by IsAmountLine (λ x y e. e) (λ x y e. e) c.args.lines.now all _ (uneven IsAmountLine c.args.lines.now all (λ e. omega (arith, e, many, c.if-lines-len.true, c.len.ensures.len)))
+    same-by IsSameAmountLine (λ x y e. e) (λ x y e. e) c.args.lines.now all _ (uneven IsSameAmountLine c.args.lines.now all (λ e. omega (arith, e, many, c.if-lines-len.true, c.len.ensures.len)))
 
 pub loop-provider-preserved : goal.loop-provider-preserved
 loop-provider-preserved c =
@@ -27,15 +27,15 @@ loop-provider-preserved c =
     let i = c.loop-provider.provider in
     let inside : i < n = omega (arith, c.loop-provider-test.true, c.if-lines-len.false, c.len.ensures.len) in
     let own : get_or (range_with_len 0 n) i 0 ≡ i = omega (arith, get_or-range_with_len 0 n i 0 inside) in
-    pass IsAmountLine c.args.lines.now all i c.index-lines-provider.result none _ c.is_amount_line.result c.loop-provider-test.true (omega (arith, length-map-range_with_len line 0 n, inside)) c.index-lines-provider.is
+    pass IsSameAmountLine c.args.lines.now all i c.index-lines-provider.result none _ c.is_amount_line.result c.loop-provider-test.true (omega (arith, length-map-range_with_len line 0 n, inside)) c.index-lines-provider.is
     (ap line (sym own) ∙ map-at line (range_with_len 0 n) i 0 none (omega (arith, length-range_with_len 0 n, inside))) c.is_amount_line.ensures c.if-not-is_amount_line.false c.loop-provider.invariant
 
 pub returns : goal.returns
 returns c =
     let line = amount_line c.args.names.now c.args.amounts.now in
     let all = map line (range_with_len 0 (length c.args.names.now)) in
-    same-by IsAmountLine (λ x y e. e) (λ x y e. e) c.args.lines.now all _
-    (passes_all IsAmountLine c.args.lines.now all c.loop-provider.provider c.loop-provider-test.false (omega (arith, length-map-range_with_len line 0 (length c.args.names.now), c.loop-provider-test.false, c.if-lines-len.false, c.len.ensures.len)) c.loop-provider.invariant)
+    same-by IsSameAmountLine (λ x y e. e) (λ x y e. e) c.args.lines.now all _
+    (passes_all IsSameAmountLine c.args.lines.now all c.loop-provider.provider c.loop-provider-test.false (omega (arith, length-map-range_with_len line 0 (length c.args.names.now), c.loop-provider-test.false, c.if-lines-len.false, c.len.ensures.len)) c.loop-provider.invariant)
 
 pub returns-then-not-is_amount_line : goal.returns-then-not-is_amount_line
 returns-then-not-is_amount_line c =
@@ -45,6 +45,6 @@ returns-then-not-is_amount_line c =
     let i = c.loop-provider.provider in
     let inside : i < n = omega (arith, c.loop-provider-test.true, c.if-lines-len.false, c.len.ensures.len) in
     let own : get_or (range_with_len 0 n) i 0 ≡ i = omega (arith, get_or-range_with_len 0 n i 0 inside) in
-    same-by IsAmountLine (λ x y e. e) (λ x y e. e) c.args.lines.now all false
-    (fail IsAmountLine c.args.lines.now all i c.index-lines-provider.result none _ c.is_amount_line.result c.loop-provider-test.true c.index-lines-provider.is
+    same-by IsSameAmountLine (λ x y e. e) (λ x y e. e) c.args.lines.now all false
+    (fail IsSameAmountLine c.args.lines.now all i c.index-lines-provider.result none _ c.is_amount_line.result c.loop-provider-test.true c.index-lines-provider.is
     (ap line (sym own) ∙ map-at line (range_with_len 0 n) i 0 none (omega (arith, length-range_with_len 0 n, inside))) c.is_amount_line.ensures c.if-not-is_amount_line.true)

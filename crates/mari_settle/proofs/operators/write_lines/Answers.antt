@@ -1,8 +1,8 @@
-use Rattle.std.proofs.Common.{◌^◌, arith, refl, to_z-of_z}
+use Rattle.std.proofs.Common.{arith, refl, to_z-of_z}
 use Rattle.std.specs.Int.{w128}
 use Rattle.std.specs.Prelude.{FitsSigned}
 use Rattle.std.proofs.lemmas.Int.{ints, fits_signed_from_abs}
-use Rattle.mari_settle.specs.Conditions.{LineIsWithin}
+use Rattle.mari_settle.specs.Conditions.{IsSmallLine}
 use Rattle.mari_settle.specs.Ledger.{operator_line}
 use Rattle.mari_settle.proofs.Lists.{written_more, small_more}
 use Rattle.mari_settle.proofs.operators.write_lines.Goals as goal
@@ -16,5 +16,5 @@ loop-operator-preserved c =
       written =
           rw (to_z-of_z payment_fits, to_z-of_z rent_fits, c.operator_payment.ensures.value, c.operator_rent.ensures.value)
           (written_more line c.loop-operator.lines c.loop-operator.operator _ (omega arith) c.loop-operator.invariant.written refl);
-      small = small_more (LineIsWithin (10 ^ 17)) c.loop-operator.lines c.loop-operator.operator _ (omega arith) c.loop-operator.invariant.small (record { payment = omega (arith, ints); rent = omega (arith, ints) });
+      small = small_more IsSmallLine c.loop-operator.lines c.loop-operator.operator _ (omega arith) c.loop-operator.invariant.small (record { payment = omega (arith, ints); rent = omega (arith, ints) });
     }

@@ -1,10 +1,10 @@
-use Rattle.std.proofs.Common.{◌^◌, arith, ◌≡◌, ◌<◌, ℤ, pos, length, get_or, to_z-of_z, w64, rules, refl}
+use Rattle.std.proofs.Common.{arith, ◌≡◌, ◌<◌, ℤ, pos, length, get_or, to_z-of_z, w64, rules, refl}
 use Rattle.std.specs.Int.{w128}
 use Rattle.std.specs.Prelude.{FitsSigned}
 use Rattle.std.proofs.lemmas.Int.{ints, fits_signed_from_abs}
 use Rattle.mari_units.specs.declared.numbers.Quarters.{Quarters}
 use Rattle.mari_market.specs.declared.market.Border.{Border}
-use Rattle.mari_settle.specs.Conditions.{IsWithin}
+use Rattle.mari_settle.specs.Conditions.{IsSmall}
 use Rattle.mari_settle.specs.Ledger.{rent_of}
 use Rattle.mari_settle.proofs.Flows.{no_border, flow_within}
 use Rattle.mari_settle.proofs.Lists.{written_along_more, small_more}
@@ -26,5 +26,5 @@ loop-i-preserved c =
       written =
           rw (to_z-of_z rent_fits, value)
           (written_along_more rent c.args.market.now.borders c.args.activation.now.flow c.loop-i.rents c.loop-i.i no_border (pos 0) _ here (omega (arith, c.requires.flows.one_each)) (omega arith) c.loop-i.invariant.written refl);
-      small = small_more (IsWithin (10 ^ 17)) c.loop-i.rents c.loop-i.i _ (omega arith) c.loop-i.invariant.small (omega (arith, ints));
+      small = small_more IsSmall c.loop-i.rents c.loop-i.i _ (omega arith) c.loop-i.invariant.small (omega (arith, ints));
     }

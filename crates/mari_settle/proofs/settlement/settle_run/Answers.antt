@@ -1,4 +1,4 @@
-use Rattle.std.proofs.Common.{◌≡◌, ◌∙◌, ◌*◌, ◌^◌, ap, arith, pos, sym, subst, List, length}
+use Rattle.std.proofs.Common.{◌≡◌, ◌∙◌, ap, arith, pos, sym, subst, List, length}
 use Rattle.std.specs.Prelude.{◌≤ℤ◌, IfSome, Option, Some, None}
 use Rattle.std.specs.List.{All}
 use Rattle.std.proofs.lemmas.Slice.Zip.{AllZip-long}
@@ -9,7 +9,7 @@ use Rattle.mari_settle.specs.declared.ledger.OperatorLine.{OperatorLine}
 use Rattle.mari_settle.specs.Ledger.{net_of, operator_lines, provider_amounts, rents_of}
 use Rattle.mari_settle.proofs.Books.{has_flows, few_mw, few_numbers, payable}
 use Rattle.mari_settle.proofs.Laws.{no_rent_below_0, nets_sum_to_0}
-use Rattle.mari_settle.specs.Conditions.{IsWithin, LineIsWithin}
+use Rattle.mari_settle.specs.Conditions.{MoneyIsWithin, LineIsWithin, most_of_operator, most_of_provider}
 use Rattle.mari_settle.proofs.Bounds.{amounts_small, lines_small}
 use Rattle.mari_settle.proofs.Lists.{written_over}
 use Rattle.mari_settle.proofs.settlement.settle_run.Goals as goal
@@ -66,12 +66,12 @@ returns-clause-operators_small c =
     let a = c.args.activation.now in
     let ps = c.args.prices.now.cents in
     let lines : with_items c.args.ledger.now.operators c.write_lines.new.lines ≡ operator_lines c.args.zones.now m a ps = written_over _ _ _ (c.write_lines.auto.lines ∙ ap length c.as_mut_slice-2.ensures.value) (rw c.as_slice-prices.ensures at c.write_lines.ensures.value) in
-    subst (All (LineIsWithin (2 * 10 ^ 15))) (sym lines) (lines_small c.args.zones.now m a ps c.requires.market c.requires.consistent.prices c.requires.feasible.borders)
+    subst (All (LineIsWithin most_of_operator)) (sym lines) (lines_small c.args.zones.now m a ps c.requires.market c.requires.consistent.prices c.requires.feasible.borders)
 
 pub returns-clause-providers_small : goal.returns-clause-providers_small
 returns-clause-providers_small c = λ fewer.
     let m = c.args.market.now in
     let amounts : with_items c.args.ledger.now.providers c.write_amounts.new.amounts ≡ provider_amounts c.args.bids.now c.args.numbers.now c.args.activation.now c.as_slice-prices.result.now c.scheduled_or-scheduled.result.now =
     written_over _ _ _ (c.write_amounts.auto.amounts ∙ ap length c.as_mut_slice-3.ensures.value) c.write_amounts.ensures.value in
-    subst (All (IsWithin (4 * 10 ^ 15))) (sym amounts) (amounts_small c.args.bids.now c.args.numbers.now c.args.activation.now c.as_slice-prices.result.now c.scheduled_or-scheduled.result.now
+    subst (All (MoneyIsWithin most_of_provider)) (sym amounts) (amounts_small c.args.bids.now c.args.numbers.now c.args.activation.now c.as_slice-prices.result.now c.scheduled_or-scheduled.result.now
     (rw c.as_slice-prices.ensures c.requires.consistent.prices.capped) (c.scheduled_or-scheduled.ensures.capped (rw c.as_slice-prices.ensures c.requires.consistent.prices.capped) (if_some _ _ c.args.also (λ s h. h.capped) c.requires.also)) (omega (arith, c.requires.market.few_orders, few_numbers c.args.bids.now.bids c.args.numbers.now m.orders c.requires.numbers)) fewer)

@@ -1,12 +1,12 @@
 use Rattle.std.proofs.Common.{length}
-use Rattle.mari_lines.specs.Ranges.{IsPriceLine}
+use Rattle.mari_market.specs.Price.{IsCapped}
 use Rattle.mari_lines.specs.Spelling.{price_text}
 use Rattle.mari_lines.proofs.Gathered.{Begun}
 use Rattle.mari_lines.proofs.reading.lists.read_prices.Given as goal
 
 -- those so far were gathered from the words so far
 abbrev pub invariant-loop-word : goal.invariant-loop-word
-invariant-loop-word l = Begun IsPriceLine price_text 64 l.prices.items l.words l.fn.words
+invariant-loop-word l = Begun IsCapped price_text 64 l.prices.items l.words l.fn.words
 
 abbrev pub decreases-loop-word : goal.decreases-loop-word
 decreases-loop-word l = length l.words

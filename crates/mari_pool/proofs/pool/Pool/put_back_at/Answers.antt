@@ -3,7 +3,7 @@ use Rattle.mari_core.specs.declared.node.NodeState.TheVariants.{Untaken}
 use Rattle.mari_core.specs.Growth.{in_journal}
 use Rattle.mari_core.specs.Growth.Entry.{GiveBack}
 use Rattle.mari_core.proofs.Changes.{length-with_state}
-use Rattle.mari_pool.specs.Pooled.{Pooled, left_at}
+use Rattle.mari_pool.specs.Pooled.{Pooled, put_back_from}
 use Rattle.mari_pool.proofs.Rooms.{taken_after}
 use Rattle.mari_pool.proofs.Keeps.{back_owed}
 use Rattle.mari_pool.proofs.Returns.{left_taken, left_other}
@@ -15,7 +15,7 @@ put_back-requires-clause-room g c =
 
 pub returns-in-Some-clause-left : goal.returns-in-Some-clause-left
 returns-in-Some-clause-left g c =
-    ap (λ (q : Pooled). left_at q (c.args.node + 1)) c.put_back.ensures ∙ left_taken c.args.self.now c.in-Some.worker c.args.node c.in-Some.ensures.taker
+    ap (λ (q : Pooled). put_back_from q (c.args.node + 1)) c.put_back.ensures ∙ left_taken c.args.self.now c.in-Some.worker c.args.node c.in-Some.ensures.taker
 
 pub returns-in-Some-clause-many : goal.returns-in-Some-clause-many
 returns-in-Some-clause-many g c =

@@ -2,14 +2,14 @@
 
 ghost use Rattle.std.specs.Prelude.{◌≡◌, ◌<◌, ◌≤◌, length, ℕ, ◌≤ℤ◌, IsTrue, ◌↔◌};
 ghost use Rattle.std.specs.List.{All, AllZip};
+ghost use Rattle.mari_market.specs.Activation.{HasLengths};
 ghost use Rattle.mari_market.specs.Consistent.{HasRoomBack, HasRoomOn, IsConsistentBorder, IsConsistentOrder, IsConsistentTrade, standing_of};
 ghost use Rattle.mari_market.specs.Market.{IsValid, IsValidBorder, IsValidOrder};
 ghost use Rattle.mari_market.specs.Optimal.{IsConsistent};
 ghost use Rattle.mari_market.specs.Price.{price_at};
 ghost use Rattle.mari_welfare.specs.Gates.{opens_in};
-ghost use Rattle.mari_welfare.specs.Parts.{HasLengths, OrdersAndBordersAgree};
+ghost use Rattle.mari_welfare.specs.Parts.{OrdersAndBordersAgree};
 
-use crate::feasibility::has_lengths;
 use crate::gates::OpenGates;
 use mari_market::{Activation, Border, Market, Order, Prices, Standing};
 use mari_units::Cents;
@@ -129,7 +129,7 @@ pub fn is_consistent(market: &Market, activation: &Activation, prices: &Prices) 
     ensures { IsTrue result ↔ IsConsistent market.now activation.now prices.now.cents }
 {
     let prices = prices.cents.as_slice();
-    has_lengths(market, activation)
+    market.has_lengths(activation)
         && market.are_prices(prices)
         && orders_and_borders_agree(market, activation, prices)
 }

@@ -2,14 +2,14 @@
 
 ghost use Rattle.std.specs.Prelude.{◌≡◌, ◌==◌, ◌<◌, ◌≤◌, ◌^◌, if◌then◌else◌, length, ℕ, ℤ, pos, ◌+◌, ◌+ℤ◌, ◌-ℤ◌, unsigned_abs, IsTrue, ◌↔◌};
 ghost use Rattle.std.specs.List.{All, AllZip};
-ghost use Rattle.mari_market.specs.Activation.{IsWithinLimits, carried_out, put_in, put_into};
+ghost use Rattle.mari_market.specs.Activation.{HasLengths, IsWithinLimits, carried_out, put_in, put_into};
 ghost use Rattle.mari_market.specs.Bounds.{IsWithin};
 ghost use Rattle.mari_market.specs.Market.{IsValid};
 ghost use Rattle.mari_market.specs.Optimal.{IsFeasible};
 ghost use Rattle.mari_market.specs.Sums.{sum_along};
 ghost use Rattle.mari_welfare.specs.Gates.{bounds_by, opens_in};
 ghost use Rattle.mari_welfare.specs.Balance.{left_in};
-ghost use Rattle.mari_welfare.specs.Parts.{HasLengths, OrdersAndGatesFit, BordersAndZonesFit};
+ghost use Rattle.mari_welfare.specs.Parts.{OrdersAndGatesFit, BordersAndZonesFit};
 
 use crate::gates::{OpenGates, keep_gate_rules};
 use mari_market::{Activation, Border, MOST_ORDERS, Market, Order, Side};
@@ -154,14 +154,6 @@ fn is_balanced(zones: u32, orders: &[Order], mw: &[u32], borders: &[Border], flo
     is_nothing_left(&left, zones)
 }
 
-/// Whether there are one quantity for each order and one flow for each border.
-pub(crate) fn has_lengths(market: &Market, activation: &Activation) -> bool
-    ensures { IsTrue result ↔ HasLengths market.now activation.now }
-{
-    activation.mw.as_slice().len() == market.orders.as_slice().len()
-        && activation.flow.as_slice().len() == market.borders.as_slice().len()
-}
-
 fn orders_and_gates_fit(market: &Market, activation: &Activation) -> bool
     requires market { IsValid market.now }
     requires lengths { HasLengths market.now activation.now }
@@ -191,7 +183,7 @@ pub fn is_feasible(market: &Market, activation: &Activation) -> bool
     requires { IsValid market.now }
     ensures { IsTrue result ↔ IsFeasible market.now activation.now }
 {
-    has_lengths(market, activation)
+    market.has_lengths(activation)
         && orders_and_gates_fit(market, activation)
         && borders_and_zones_fit(market, activation)
 }

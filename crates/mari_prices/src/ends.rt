@@ -24,6 +24,7 @@ pub(crate) struct Ends {
 }
 
 impl End {
+    /// How the bounds of this end spread along borders.
     fn along(self) -> Along
         ensures { result ≡ along_of self }
     {
@@ -33,6 +34,7 @@ impl End {
         }
     }
 
+    /// The price that a value of this end stands for: the values of the greatest end are negated.
     fn price(self, value: i64) -> Cents
         requires { IsPrice value }
         ensures { result.0 ≡ signed self value }
@@ -44,6 +46,7 @@ impl End {
     }
 }
 
+/// The bounds of all zones' prices at one end, and what they become.
 pub(crate) fn ends_of(
     alloc: Global,
     market: &Market,

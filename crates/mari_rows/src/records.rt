@@ -50,6 +50,7 @@ pub(crate) enum Tested {
     Faulty(RowFault),
 }
 
+/// Whether bytes are text in UTF-8.
 fn is_text(bytes: &[u8]) -> bool
     ensures { result ≡ is_utf8_of bytes.now }
 {
@@ -97,6 +98,7 @@ fn fields_from(alloc: Global, row: &ByteRecord) -> Result<Vec<Field>, Memory>
     Ok(fields)
 }
 
+/// The bytes of each field, lent.
 fn texts_of(alloc: Global, fields: &[Field]) -> Result<Vec<&[u8]>, AllocError>
     ensures { IfOk result (λ v. map (λ x. x.now) v.items ≡ fields.now) }
 {

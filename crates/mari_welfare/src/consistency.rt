@@ -44,6 +44,7 @@ fn is_consistent_order(opened: &OpenGates, order: &Order, mw: u32, prices: &[Cen
     is_consistent_trade(standing, order, mw, prices[order.zone as usize])
 }
 
+/// Whether what each order runs is consistent with the price of its zone.
 fn orders_agree(opened: &OpenGates, orders: &[Order], mw: &[u32], prices: &[Cents]) -> bool
     requires lengths { length mw.now ≡ length orders.now }
     requires zones { All (λ o. o.zone < length prices.now) orders.now }
@@ -107,6 +108,7 @@ pub fn borders_agree(borders: &[Border], flow: &[i64], prices: &[Cents]) -> bool
     true
 }
 
+/// Whether each order and each border is consistent with the prices.
 fn orders_and_borders_agree(market: &Market, activation: &Activation, prices: &[Cents]) -> bool
     requires market { IsValid market.now }
     requires lengths { HasLengths market.now activation.now }

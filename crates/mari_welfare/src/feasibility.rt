@@ -26,6 +26,7 @@ fn is_within(opened: &OpenGates, order: &Order, mw: u32) -> bool
     }
 }
 
+/// Whether each order runs within its bounds.
 fn orders_fit(opened: &OpenGates, orders: &[Order], mw: &[u32]) -> bool
     requires { length mw.now ≡ length orders.now }
     ensures { IsTrue result ↔ AllZip (λ o q. IsWithin (bounds_by (opens_in opened.now) o) q) orders.now mw.now }
@@ -45,6 +46,7 @@ fn is_within_limits(border: &Border, flow: i64) -> bool
     -i64::from(border.back) <= flow && flow <= i64::from(border.limit)
 }
 
+/// Whether each flow is within its border's limits.
 fn flows_fit(borders: &[Border], flow: &[i64]) -> bool
     requires { length flow.now ≡ length borders.now }
     ensures { IsTrue result ↔ AllZip IsWithinLimits borders.now flow.now }
@@ -154,6 +156,7 @@ fn is_balanced(zones: u32, orders: &[Order], mw: &[u32], borders: &[Border], flo
     is_nothing_left(&left, zones)
 }
 
+/// Whether each order runs within its bounds, and the open gates keep the rules.
 fn orders_and_gates_fit(market: &Market, activation: &Activation) -> bool
     requires market { IsValid market.now }
     requires lengths { HasLengths market.now activation.now }
@@ -164,6 +167,7 @@ fn orders_and_gates_fit(market: &Market, activation: &Activation) -> bool
     orders_fit(&opened, orders, mw) && keep_gate_rules(market.gates.as_slice(), &opened)
 }
 
+/// Whether each flow is within its border's limits, and each zone is in balance.
 fn borders_and_zones_fit(market: &Market, activation: &Activation) -> bool
     requires market { IsValid market.now }
     requires lengths { HasLengths market.now activation.now }

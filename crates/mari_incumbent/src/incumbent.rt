@@ -3,7 +3,7 @@
 ghost use Rattle.std.specs.Prelude.{◌≡◌, ◌+◌, ◌-◌, ◌<◌, ◌≤◌, max, IfOk};
 ghost use Rattle.mari_incumbent.specs.Incumbent.{seat_view};
 
-use crate::rule::{Both, Law, Look, Note, Offer, Part, View};
+use crate::rule::{Both, Law, Look, Note, Offer, OnePart, View};
 use atomic_table::{Seat as Place, Table};
 use mari_units::Memory;
 use std::alloc::Global;
@@ -121,7 +121,7 @@ impl Incumbent {
         ensures left { seat.new ≡ seat_view self.now seat.old.seen seat.old.offered (seat.old.parts - 1) }
         ensures new { result ≡ seat_view self.now seat.old.seen self.now.first 1 }
     {
-        let place = self.table.shared.split_seat::<Part>(&mut seat.place);
+        let place = self.table.shared.split_seat::<OnePart>(&mut seat.place);
         Seat {
             place,
             seen: seat.seen,

@@ -18,7 +18,7 @@ use std::alloc::{AllocError, Global};
 
 /// The tightest bounds of all zones' prices at one end, and what they become as they spread along borders.
 #[derive(Drop)]
-pub(crate) struct Ends {
+pub(crate) struct EndBounds {
     pub(crate) bounds: Vec<i64>,
     pub(crate) settled: Vec<Option<SettledZone>>,
 }
@@ -52,7 +52,7 @@ pub(crate) fn ends_of(
     market: &Market,
     activation: &Activation,
     end: End,
-) -> Result<Ends, AllocError>
+) -> Result<EndBounds, AllocError>
     requires valid { IsValid market.now }
     requires feasible { IsFeasible market.now activation.now }
     ensures { IfOk result (λ e. IsEnd end market.now activation.now e.bounds.items e.settled.items) }
@@ -61,7 +61,7 @@ pub(crate) fn ends_of(
     let bounds = tightest(alloc, market.zones, orders, mw, end)?;
     let (borders, flow) = (market.borders.as_slice(), activation.flow.as_slice());
     let settled = spread(alloc, &bounds, borders, flow, end.along())?;
-    Ok(Ends { bounds, settled })
+    Ok(EndBounds { bounds, settled })
 }
 
 /// The prices that the values stand for.

@@ -1,6 +1,6 @@
 -- The headline: what is promised of each day that the program prints. Read this file first; it stands on `AreCleared`
--- in `Commands`, and on `Day` and `Published` of `mari_day`, which stand on the definitions of `mari_market` (`Optimal`,
--- `Clearing`, `Interval`) and `mari_settle` (`Ledger`).
+-- in `Commands`, and on `Day` and `Published` of `mari_day`, which stand on the definitions of `mari_market`
+-- (`Optimal`, `Clearing`, `Interval`) and `mari_settle` (`Ledger`).
 use Rattle.std.specs.Prelude.{ℕ, pos, ◌≡◌, ◌==◌, Bool, List, Option, Some, slice_get}
 use Rattle.mari_io.specs.Outside.{Pages}
 use Rattle.mari_remain.specs.declared.books.Books.{Books}

@@ -30,6 +30,7 @@ pub use program::run_program;
 pub use status::Status;
 use std::process::ExitCode;
 
+/// Runs the program on its arguments, and ends with the status that it comes to.
 fn main(rt: HostRuntime) -> ExitCode {
     let words = match words_of(&rt) {
         Ok(words) => words,

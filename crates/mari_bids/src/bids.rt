@@ -92,6 +92,7 @@ impl BidBook {
     }
 }
 
+/// Whether a line is of an upward bid. A word that is no direction gives none.
 #[tactic(auto, unfolding(crate::specs::Bids::up_word, crate::specs::Bids::down_word))]
 fn is_up(line: &Row) -> Option<bool>
     ensures { result ≡ is_up_in line.now }
@@ -99,6 +100,7 @@ fn is_up(line: &Row) -> Option<bool>
     is_first_of(line.field(4), b"up", b"down")
 }
 
+/// Whether a line is of a bid for scheduled and direct runs. A word that is no kind gives none.
 #[tactic(auto, unfolding(crate::specs::Bids::both_word, crate::specs::Bids::scheduled_word))]
 fn is_both(line: &Row) -> Option<bool>
     ensures { result ≡ is_both_in line.now }
@@ -179,6 +181,7 @@ struct BidsSoFar<'a> {
 impl<'a> BidsSoFar<'a> {
     ghost use Rattle.mari_bids.specs.SoFar.{HoldsBids};
 
+    /// None so far.
     fn new(alloc: Global, zones: &'a ZoneBook, quarters: u32) -> Result<Self, AllocError>
         ensures zones { IfOk result (λ so_far. so_far.zones.now ≡ zones.now) }
         ensures quarters { IfOk result (λ so_far. so_far.quarters ≡ quarters) }

@@ -14,8 +14,8 @@ use Rattle.mari_check.specs.declared.block.Examined.TheVariants.{Faulty, Sound}
 use Rattle.mari_check.specs.declared.fault.Fault.{Fault}
 use Rattle.mari_check.specs.Faults.{IsFreeOf, IsLeast}
 
--- a ledger is given exactly where the block tells its run's, and is then the one that its day adds, with this activation
--- and these prices
+-- a ledger is given exactly where the block tells its run's, and is then the one that its day adds, with this
+-- activation and these prices
 abbrev pub IsToldLedger : Books → RunMarket → (also : Option (List Cents)) → FullBlock → Activation → Prices → Option Ledger → Type 0
 IsToldLedger books made also b a ps None = HasLedger books made also b → ⊥
 IsToldLedger books made also b a ps (Some ledger) = HasLedger books made also b × IsRunOf books made also b (record { made = made; activation = a; prices = ps; ledger = ledger })

@@ -208,6 +208,7 @@ impl DayCheck {
     }
 }
 
+/// Whether two headings are the same.
 fn is_same(told: Heading, other: Heading) -> bool
     ensures { IsTrue result ↔ (told ≡ other) }
 {

@@ -25,6 +25,7 @@ use mari_settle::{Ledger, OperatorLine};
 use mari_units::{Memory, Quarters};
 use std::alloc::Global;
 
+/// Whether a border's line tells this rent.
 fn is_rent(line: &BorderLine, rent: Quarters) -> bool
     ensures { IsTrue result ↔ TellsRent line.now rent }
 {

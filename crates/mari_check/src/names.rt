@@ -23,6 +23,7 @@ pub(crate) fn is_named(name: &Name, names: &NameIndex, place: u32) -> bool
     }
 }
 
+/// Whether the lines have the names of the zones, one line each.
 fn zones_named(lines: &[ZoneLine], names: &NameIndex) -> bool
     ensures { IsTrue result ↔ AllZip NamesZone lines.now names.now }
 {
@@ -47,6 +48,7 @@ fn are_ends_named(line: &BorderLine, names: &NameIndex, ends: BorderEnds) -> boo
     is_named(&line.to, names, ends.to)
 }
 
+/// Whether the lines have the names of the borders' zones, one line each.
 fn borders_named(lines: &[BorderLine], names: &NameIndex, borders: &[BorderEnds]) -> bool
     ensures { IsTrue result ↔ AllZip (NamesEnds names.now) lines.now borders.now }
 {
@@ -61,6 +63,7 @@ fn borders_named(lines: &[BorderLine], names: &NameIndex, borders: &[BorderEnds]
     true
 }
 
+/// Whether the lines have the ids of these bids, one line each.
 fn bids_named(lines: &[BidLine], ids: &NameIndex, numbers: &[u32]) -> bool
     ensures { IsTrue result ↔ AllZip (NamesBid ids.now) lines.now numbers.now }
 {

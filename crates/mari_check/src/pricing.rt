@@ -18,12 +18,14 @@ use mari_publish::{FullBlock, ZoneLine};
 use mari_units::{Cents, Memory};
 use std::alloc::Global;
 
+/// Whether two prices are the same.
 fn is_same(price: Cents, other: Cents) -> bool
     ensures { IsTrue result ↔ IsSamePrice price other }
 {
     price == other
 }
 
+/// Whether prices are the same, zone by zone.
 fn are_same(prices: &[Cents], others: &[Cents]) -> bool
     ensures { IsTrue result ↔ AllZip IsSamePrice prices.now others.now }
 {
@@ -93,6 +95,7 @@ fn is_nearest(line: &ZoneLine, reference: Cents) -> bool
     is_same(line.price, nearest(line, reference))
 }
 
+/// Whether each zone's price is the one of its interval that is nearest to the reference.
 fn are_nearest(lines: &[ZoneLine], reference: Cents) -> bool
     requires { All IsInOrder lines.now }
     ensures { IsTrue result ↔ All (IsNearestLine reference) lines.now }

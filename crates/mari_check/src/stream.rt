@@ -28,6 +28,7 @@ pub enum StreamFault {
     Memory,
 }
 
+/// What a fault of the shelf is told as. One of memory is told as that alone.
 fn fault_of_shelf(fault: Fetch) -> StreamFault
     ensures { result ≡ fault_of_fetch fault }
 {
@@ -37,6 +38,7 @@ fn fault_of_shelf(fault: Fetch) -> StreamFault
     }
 }
 
+/// What a fault of the text is told as. One of memory is told as that alone.
 fn fault_of_reader(fault: TextFault) -> StreamFault
     ensures { result ≡ fault_of_text fault }
 {

@@ -1,7 +1,7 @@
 //! The day of a folder: its books, read and accepted, and the text that is printed of it.
 //!
-//! It stands on the books and on what clears a market, and knows neither solvers nor threads. Its promise: the books are
-//! exactly those of the pages, or the first refusal; and the text is that of a day of these books.
+//! It stands on the books and on what clears a market, and knows neither solvers nor threads. Its promise: the books
+//! are exactly those of the pages, or the first refusal; and the text is that of a day of these books.
 #![tactic(auto)]
 
 mod block;

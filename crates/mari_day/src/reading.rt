@@ -68,6 +68,7 @@ fn named<T: Drop>(file: File, read: Result<T, BookFault>) -> Result<T, BooksFaul
     }
 }
 
+/// Reads the day and its calendar.
 fn read_day(alloc: Global, folder: &Folder) -> Result<CalendarDay, BooksFault>
     ensures reads { Reads result (of_file File.Day (calendar_day_in (page_of folder.now File.Day))) }
     ensures file { NamesAFile result }
@@ -76,6 +77,7 @@ fn read_day(alloc: Global, folder: &Folder) -> Result<CalendarDay, BooksFault>
     named(File::Day, CalendarDay::read(alloc, folder.page(File::Day)))
 }
 
+/// Reads the zones.
 fn read_zones(alloc: Global, folder: &Folder) -> Result<ZoneBook, BooksFault>
     ensures reads { Reads result (of_file File.Zones (book_in zone_grammar (page_of folder.now File.Zones))) }
     ensures file { NamesAFile result }
@@ -84,6 +86,7 @@ fn read_zones(alloc: Global, folder: &Folder) -> Result<ZoneBook, BooksFault>
     named(File::Zones, ZoneBook::read(alloc, folder.page(File::Zones)))
 }
 
+/// Reads the borders between the zones.
 fn read_borders(alloc: Global, folder: &Folder, zones: &ZoneBook) -> Result<BorderBook, BooksFault>
     ensures reads { Reads result (of_file File.Borders (borders_in zones.now (page_of folder.now File.Borders))) }
     ensures file { NamesAFile result }
@@ -95,6 +98,7 @@ fn read_borders(alloc: Global, folder: &Folder, zones: &ZoneBook) -> Result<Bord
     )
 }
 
+/// Reads the bids in the zones.
 fn read_bids(
     alloc: Global,
     folder: &Folder,
@@ -111,6 +115,7 @@ fn read_bids(
     )
 }
 
+/// Reads the links between the bids.
 fn read_links(alloc: Global, folder: &Folder, bids: &BidBook) -> Result<LinkBook, BooksFault>
     ensures reads { Reads result (of_file File.Links (book_in (link_grammar bids.now) (page_of folder.now File.Links))) }
     ensures file { NamesAFile result }
@@ -122,6 +127,7 @@ fn read_links(alloc: Global, folder: &Folder, bids: &BidBook) -> Result<LinkBook
     )
 }
 
+/// Reads the runs.
 fn read_runs(alloc: Global, folder: &Folder, quarters: u32) -> Result<RunBook, BooksFault>
     ensures reads { Reads result (of_file File.Runs (book_in (run_grammar quarters) (page_of folder.now File.Runs))) }
     ensures file { NamesAFile result }
@@ -133,6 +139,7 @@ fn read_runs(alloc: Global, folder: &Folder, quarters: u32) -> Result<RunBook, B
     )
 }
 
+/// Reads the demands of the runs in the zones.
 fn read_demands(
     alloc: Global,
     folder: &Folder,

@@ -133,6 +133,7 @@ struct DemandsSoFar<'a> {
 impl<'a> DemandsSoFar<'a> {
     ghost use Rattle.mari_demands.specs.SoFar.{HoldsDemands};
 
+    /// None so far.
     fn new(alloc: Global, zones: &'a ZoneBook, runs: u32) -> Result<Self, AllocError>
         ensures zones { IfOk result (λ so_far. so_far.zones.now ≡ zones.now) }
         ensures runs { IfOk result (λ so_far. so_far.runs ≡ runs) }

@@ -159,6 +159,7 @@ struct LimitsSoFar<'a> {
 impl<'a> LimitsSoFar<'a> {
     ghost use Rattle.mari_demands.specs.SoFar.{HoldsLimits};
 
+    /// None so far.
     fn new(
         alloc: Global,
         zones: &'a ZoneBook,

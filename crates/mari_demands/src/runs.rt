@@ -74,6 +74,7 @@ impl RunBook {
     }
 }
 
+/// Whether a line is of a direct run. A word that is no kind gives none.
 #[tactic(auto, unfolding(crate::specs::Runs::direct_word, crate::specs::Runs::scheduled_word))]
 fn is_direct(line: &Row) -> Option<bool>
     ensures { result ≡ is_direct_in line.now }

@@ -9,12 +9,12 @@ pub record IncumbentId : Type 0 where
   pub all : ℕ
 
 -- a seat: its incumbent, the greatest number that it saw and offered, and its parts
-pub record Standing : Type 0 where
+pub record SeatView : Type 0 where
   pub incumbent : IncumbentId
   pub seen : ℕ
   pub offered : ℕ
   pub parts : ℕ
 
 -- a seat of these numbers
-abbrev pub standing : IncumbentId → ℕ → ℕ → ℕ → Standing
-standing incumbent seen offered parts = record { incumbent = incumbent; seen = seen; offered = offered; parts = parts }
+abbrev pub seat_view : IncumbentId → ℕ → ℕ → ℕ → SeatView
+seat_view incumbent seen offered parts = record { incumbent = incumbent; seen = seen; offered = offered; parts = parts }

@@ -1,9 +1,9 @@
 //! The shared incumbent and its seats.
 
 ghost use Rattle.std.specs.Prelude.{◌≡◌, ◌+◌, ◌-◌, ◌<◌, ◌≤◌, max, IfOk};
-ghost use Rattle.mari_incumbent.specs.Incumbent.{standing};
+ghost use Rattle.mari_incumbent.specs.Incumbent.{seat_view};
 
-use crate::rule::{Both, Law, Look, Note, Offer, Part, View};
+use crate::rule::{Both, Law, Look, Note, Offer, OnePart, View};
 use atomic_table::{Seat as Place, Table};
 use mari_units::Memory;
 use std::alloc::Global;
@@ -39,10 +39,10 @@ pub struct Seat {
 
 impl Model for Seat {
     ghost use Rattle.std.specs.Prelude.{◌≡◌, ◌<◌, ◌≤◌, []};
-    ghost use Rattle.mari_incumbent.specs.Incumbent.{Standing};
+    ghost use Rattle.mari_incumbent.specs.Incumbent.{SeatView};
     ghost use Rattle.mari_incumbent.specs.Rule.{view_of};
 
-    ghost Value = { Standing };
+    ghost Value = { SeatView };
 
     ghost view = { λ s. record { incumbent = record { table = s.place.table_id; first = s.place.me.0.first; all = s.place.me.0.all }; seen = s.seen; offered = s.offered; parts = s.place.me.0.parts } };
 
@@ -75,7 +75,7 @@ impl Incumbent {
         requires { 1 ≤ parts }
         ensures first { IfOk result (λ r. r.0.first ≡ first) }
         ensures all { IfOk result (λ r. r.0.all ≡ parts) }
-        ensures seat { IfOk result (λ r. r.1 ≡ standing r.0 first first parts) }
+        ensures seat { IfOk result (λ r. r.1 ≡ seat_view r.0 first first parts) }
     {
         let (table, place) = Table::of_words(alloc, &[first], &(first, parts))?;
         let incumbent = Incumbent { table, first };
@@ -90,7 +90,7 @@ impl Incumbent {
     /// Looks at the incumbent, by one load: the answer is the seat's new `seen`.
     pub fn look(&self, seat: &mut Seat) -> u64
         requires { seat.old.incumbent ≡ self.now }
-        ensures seat { seat.new ≡ standing self.now result seat.old.offered seat.old.parts }
+        ensures seat { seat.new ≡ seat_view self.now result seat.old.offered seat.old.parts }
         ensures rises { seat.old.seen ≤ result }
     {
         let found = self.table.shared.load::<Look>(&mut seat.place, 0);
@@ -101,7 +101,7 @@ impl Incumbent {
     /// Offers a welfare, by one `fetch_max`: the answer is the seat's new `seen`, and at least the welfare.
     pub fn offer(&self, seat: &mut Seat, welfare: u64) -> u64
         requires { seat.old.incumbent ≡ self.now }
-        ensures seat { seat.new ≡ standing self.now result (max seat.old.offered welfare) seat.old.parts }
+        ensures seat { seat.new ≡ seat_view self.now result (max seat.old.offered welfare) seat.old.parts }
         ensures rises { seat.old.seen ≤ result }
         ensures counted { welfare ≤ result }
     {
@@ -118,10 +118,10 @@ impl Incumbent {
     pub fn split(&self, seat: &mut Seat) -> Seat
         requires incumbent { seat.old.incumbent ≡ self.now }
         requires parts { 2 ≤ seat.old.parts }
-        ensures left { seat.new ≡ standing self.now seat.old.seen seat.old.offered (seat.old.parts - 1) }
-        ensures new { result ≡ standing self.now seat.old.seen self.now.first 1 }
+        ensures left { seat.new ≡ seat_view self.now seat.old.seen seat.old.offered (seat.old.parts - 1) }
+        ensures new { result ≡ seat_view self.now seat.old.seen self.now.first 1 }
     {
-        let place = self.table.shared.split_seat::<Part>(&mut seat.place);
+        let place = self.table.shared.split_seat::<OnePart>(&mut seat.place);
         Seat {
             place,
             seen: seat.seen,
@@ -133,7 +133,7 @@ impl Incumbent {
     pub fn meet(&self, into: &mut Seat, from: &mut Seat) -> u64
         requires into { into.old.incumbent ≡ self.now }
         requires from { from.old.incumbent ≡ self.now }
-        ensures into { into.new ≡ standing self.now result into.old.offered into.old.parts }
+        ensures into { into.new ≡ seat_view self.now result into.old.offered into.old.parts }
         ensures from { from.new ≡ from.old }
         ensures greater { result ≡ max into.old.seen from.old.seen }
     {
@@ -147,7 +147,7 @@ impl Incumbent {
     pub fn join(&self, into: &mut Seat, from: Seat)
         requires into { into.old.incumbent ≡ self.now }
         requires from { from.incumbent ≡ self.now }
-        ensures { into.new ≡ standing self.now (max into.old.seen from.seen) (max into.old.offered from.offered) (into.old.parts + from.parts) }
+        ensures { into.new ≡ seat_view self.now (max into.old.seen from.seen) (max into.old.offered from.offered) (into.old.parts + from.parts) }
     {
         let Seat {
             place,

@@ -41,9 +41,9 @@ impl Play<(), View> for Offer {
 }
 
 /// One part goes to a new seat.
-pub struct Part;
+pub struct OnePart;
 
-impl Split<View> for Part {
+impl Split<View> for OnePart {
     ghost use Rattle.mari_incumbent.specs.Rule.{less_one, one_part};
 
     ghost left = { less_one };

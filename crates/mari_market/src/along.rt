@@ -14,6 +14,7 @@ pub enum Along {
     Joined,
 }
 
+/// Whether the border has room both ways.
 fn is_uncongested(border: &Border, flow: i64) -> bool
     ensures { IsTrue result ↔ IsUncongested border.now flow }
 {

@@ -94,6 +94,7 @@ pub(crate) fn is_price(price: Cents) -> bool
     -CAP <= price.0 && price.0 <= CAP
 }
 
+/// Whether each price lies from the negative of the cap to the cap.
 fn all_within_cap(prices: &[Cents]) -> bool
     ensures { IsTrue result ↔ All (λ c. IsPrice c.0) prices.now }
 {

@@ -44,12 +44,14 @@ fn border_fits(border: &Border, zones: u32) -> bool
         && border.back <= MOST_FLOW
 }
 
+/// Whether each order fits the zones and gates.
 fn orders_fit(orders: &[Order], zones: u32, gates: usize) -> bool
     ensures { IsTrue result ↔ All (IsValidOrder zones gates) orders.now }
 {
     orders.iter().all(|order| order_fits(order, zones, gates))
 }
 
+/// Whether each border fits the zones.
 fn borders_fit(borders: &[Border], zones: u32) -> bool
     ensures { IsTrue result ↔ All (IsValidBorder zones) borders.now }
 {
@@ -75,6 +77,7 @@ fn parent_stands_before(gates: &[GateInfo], gate: usize) -> bool
 }
 
 impl Market {
+    /// Whether a gate has an order, and its parent, if any, stands before it.
     fn gate_fits(&self, gate: usize) -> bool
         requires there { gate < length self.now.gates }
         requires few { length self.now.gates ≤ MOST_GATES }
@@ -84,6 +87,7 @@ impl Market {
             && is_used(gate as u32, self.orders.as_slice())
     }
 
+    /// Whether each gate fits.
     fn gates_fit(&self) -> bool
         requires { length self.now.gates ≤ MOST_GATES }
         ensures { IsTrue result ↔ ((g : ℕ) → g < length self.now.gates → IsValidGate self.now g) }
@@ -96,6 +100,7 @@ impl Market {
         true
     }
 
+    /// Whether there are no more zones, borders, orders and gates than there may be, and a zone at least.
     fn is_within_limits(&self) -> bool
         ensures { IsTrue result ↔ ((1 ≤ self.now.zones) × (self.now.zones ≤ MOST_ZONES) × (length self.now.borders ≤ MOST_BORDERS)
             × (length self.now.orders ≤ MOST_ORDERS) × (length self.now.gates ≤ MOST_GATES)) }
@@ -107,6 +112,7 @@ impl Market {
             && self.gates.as_slice().len() <= MOST_GATES
     }
 
+    /// Whether the reference is a price, and each border and each order fits.
     fn parts_fit(&self) -> bool
         ensures { IsTrue result ↔ (IsPrice self.now.reference.0 × All (IsValidBorder self.now.zones) self.now.borders
             × All (IsValidOrder self.now.zones (length self.now.gates)) self.now.orders) }

@@ -23,6 +23,7 @@ struct Filled {
     mw: Vec<u32>,
 }
 
+/// The marginal price of the orders, and what runs at it.
 fn fill(alloc: Global, orders: &[Order]) -> Result<Filled, Memory>
     requires few { length orders.now ≤ MOST_ORDERS }
     requires small { All (λ o. o.greatest ≤ MOST_MW) orders.now }

@@ -1,7 +1,7 @@
 //! What a search starts from: the quantities and flows of an activation, set right, or what runs at one price; and what
 //! stands in for what they leave out of balance.
 
-ghost use Rattle.std.specs.Prelude.{◌≡◌, ◌<◌, ◌≤◌, ℕ, pos, neg_ℤ, ◌+ℤ◌, ◌-ℤ◌, ◌++◌, true, length, slice_set, IfOk, OnOk};
+ghost use Rattle.std.specs.Prelude.{◌≡◌, ◌<◌, ◌≤◌, ℕ, pos, neg_ℤ, ◌+ℤ◌, ◌-ℤ◌, ◌++◌, length, slice_set, IfOk, OnOk};
 ghost use Rattle.std.specs.List.{All, AllZip};
 ghost use Rattle.mari_market.specs.Sums.{sum_along};
 ghost use Rattle.mari_market.specs.Activation.{IsWithinLimits, carried_out};
@@ -79,14 +79,6 @@ fn flows_near(alloc: Global, borders: &[Border], flow: &[i64]) -> Result<Vec<i64
     Ok(flows)
 }
 
-/// Whether an activation has one quantity for each order and one flow for each border.
-fn fits(market: &Market, activation: &Activation) -> bool
-    ensures { result ≡ true → (length activation.now.mw ≡ length market.now.orders) × (length activation.now.flow ≡ length market.now.borders) }
-{
-    activation.mw.as_slice().len() == market.orders.as_slice().len()
-        && activation.flow.as_slice().len() == market.borders.as_slice().len()
-}
-
 /// What the orders' slots put in and what flows at the start: as near to an activation as may be, if one is given that
 /// fits the market, and else what runs at one price for the whole market, with no flow.
 pub fn first_run(
@@ -104,7 +96,7 @@ pub fn first_run(
 {
     let borders = market.borders.as_slice();
     match start {
-        Some(activation) if fits(market, activation) => {
+        Some(activation) if market.has_lengths(activation) => {
             let orders = market.orders.as_slice();
             let amounts = amounts_near(alloc, slots, orders, activation.mw.as_slice())?;
             let flows = flows_near(alloc, borders, activation.flow.as_slice())?;

@@ -21,7 +21,7 @@ use Rattle.mari_core.proofs.Journals.{grown_budget, leads_on, leads_above, leads
 use Rattle.mari_core.proofs.Seeds.{seed_by}
 use Rattle.mari_market.specs.Market.{IsValid}
 use Rattle.mari_market.specs.Relaxation.{IsClosedWelfare}
-use Rattle.mari_incumbent.specs.Incumbent.{IncumbentId, Standing}
+use Rattle.mari_incumbent.specs.Incumbent.{IncumbentId, SeatView}
 use Rattle.mari_pool.specs.Pooled.{Pooled, IsPool, unreturned, owed, keys_after, meeting, settled_with, answer_of}
 use Rattle.mari_pool.specs.Queued.{first_key, child_key}
 use Rattle.mari_pool.proofs.Queues.{made}
@@ -32,7 +32,7 @@ pub has_room : (m : Market) (budget workers : ℕ) (incumbent : IncumbentId) (p 
 has_room m budget workers incumbent p e after h may paid = omega (arith, entry_paid p.tree e (unreturned p.returned) after h.grows.within_budget may paid, h.room_is)
 
 -- a pool of these parts
-abbrev pub pool_of : Grown → List ℕ → List JournalEntry → ℕ → List ℕ → List Bool → Standing → Pooled
+abbrev pub pool_of : Grown → List ℕ → List JournalEntry → ℕ → List ℕ → List Bool → SeatView → Pooled
 pool_of tree keys journal room turns returned seat = record { tree = tree; keys = keys; journal = journal; room = room; turns = turns; returned = returned; seat = seat }
 
 -- an entry for which there is room keeps what holds
@@ -96,10 +96,10 @@ may_settle m budget workers incumbent p k x seen f gates h l taken at may =
     (may_settle_node p.tree.market seen f gates p.tree.nodes x at (subst (λ (n : Market). MaySettle n seen f (new_node gates)) (sym h.market_is) may)) taken
 
 -- a pool of the same parts
-pub pool_same : (m : Market) (budget workers : ℕ) (incumbent : IncumbentId) (t t' : Grown) (ks ks' : List ℕ) (j j' : List JournalEntry) (r r' : ℕ) (turns : List ℕ) (returned : List Bool) (s s' : Standing) → t' ≡ t → ks' ≡ ks → j' ≡ j → r' ≡ r → s' ≡ s → IsPool m budget workers incumbent (pool_of t ks j r turns returned s) → IsPool m budget workers incumbent (pool_of t' ks' j' r' turns returned s')
+pub pool_same : (m : Market) (budget workers : ℕ) (incumbent : IncumbentId) (t t' : Grown) (ks ks' : List ℕ) (j j' : List JournalEntry) (r r' : ℕ) (turns : List ℕ) (returned : List Bool) (s s' : SeatView) → t' ≡ t → ks' ≡ ks → j' ≡ j → r' ≡ r → s' ≡ s → IsPool m budget workers incumbent (pool_of t ks j r turns returned s) → IsPool m budget workers incumbent (pool_of t' ks' j' r' turns returned s')
 pool_same m budget workers incumbent t t' ks ks' j j' r r' turns returned s s' et ek ej er es h = rw (et, ek, ej, er, es) h
 
-pub pool_parts : (t t' : Grown) (ks ks' : List ℕ) (j j' : List JournalEntry) (r r' : ℕ) (turns : List ℕ) (returned : List Bool) (s s' : Standing) → t' ≡ t → ks' ≡ ks → j' ≡ j → r' ≡ r → s' ≡ s → pool_of t' ks' j' r' turns returned s' ≡ pool_of t ks j r turns returned s
+pub pool_parts : (t t' : Grown) (ks ks' : List ℕ) (j j' : List JournalEntry) (r r' : ℕ) (turns : List ℕ) (returned : List Bool) (s s' : SeatView) → t' ≡ t → ks' ≡ ks → j' ≡ j → r' ≡ r → s' ≡ s → pool_of t' ks' j' r' turns returned s' ≡ pool_of t ks j r turns returned s
 pool_parts t t' ks ks' j j' r r' turns returned s s' et ek ej er es = rw (et, ek, ej, er, es) refl
 
 -- no entry makes nodes fewer
@@ -147,7 +147,7 @@ answer_full g (GiveBack k x) a b c e = absurd (cc)
 
 -- ---- the start
 
-pub start_keeps : (m n : Market) (b budget w workers : ℕ) (incumbent : IncumbentId) (t : Grown) (ks : List ℕ) (j : List JournalEntry) (room : ℕ) (turns : List ℕ) (returned : List Bool) (seat : Standing) → m ≡ n → b ≡ budget → w ≡ workers → IsValid m → IsBudget b → seat.incumbent ≡ incumbent → seat.parts ≡ 1 → seat.offered ≡ incumbent.first → IsClosedWelfare m (pos incumbent.first) → t ≡ seed m b → ks ≡ first_key ∷ [] → j ≡ [] → 2 * b + 2 * w + 2 ≤ room → turns ≡ replicate b 0 → returned ≡ replicate (w + 1) false → IsPool n budget workers incumbent (pool_of t ks j room turns returned seat)
+pub start_keeps : (m n : Market) (b budget w workers : ℕ) (incumbent : IncumbentId) (t : Grown) (ks : List ℕ) (j : List JournalEntry) (room : ℕ) (turns : List ℕ) (returned : List Bool) (seat : SeatView) → m ≡ n → b ≡ budget → w ≡ workers → IsValid m → IsBudget b → seat.incumbent ≡ incumbent → seat.parts ≡ 1 → seat.offered ≡ incumbent.first → IsClosedWelfare m (pos incumbent.first) → t ≡ seed m b → ks ≡ first_key ∷ [] → j ≡ [] → 2 * b + 2 * w + 2 ≤ room → turns ≡ replicate b 0 → returned ≡ replicate (w + 1) false → IsPool n budget workers incumbent (pool_of t ks j room turns returned seat)
 start_keeps m n b budget w workers incumbent t ks j room turns returned seat em eb ew valid few sw sp so closed et ek ej er eturns ereturned =
     subst (λ (k : Market). IsPool k budget workers incumbent (pool_of t ks j room turns returned seat)) em (rw (et, ek, ej, eturns, ereturned) (record {
       market_is = refl;

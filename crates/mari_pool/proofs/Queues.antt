@@ -17,7 +17,7 @@ use Rattle.mari_core.proofs.Changes.{IsAt, node_at, length-with_state, state_oth
 use Rattle.mari_core.proofs.Entries.{within_nodes}
 use Rattle.mari_units.proofs.Lists.{get_back, get_front}
 use Rattle.mari_pool.specs.Pooled.{keys_after, taken_in, taken_among}
-use Rattle.mari_pool.specs.Queued.{Queued, no_nodes, numbers_from, first_key, waits_in, untaken_among, CanFollow, Follows, IsAhead, IsBack, IsFirst, IsFirstWaiting, IsMore, IsQueueOf}
+use Rattle.mari_pool.specs.Queued.{Queued, no_nodes, numbers_from, first_key, waits_in, untaken_among, CanFollow, Follows, IsAhead, IsBack, LeavesFirst, IsFirstWaiting, IsMore, IsQueueOf}
 use Rattle.mari_pool.proofs.Rooms.{comes, taken_state}
 
 -- ---- how often a number is in a list
@@ -167,11 +167,11 @@ more_one key n m p q r h k e =
 -- ---- the queue of a tree
 
 -- the one that leaves waits
-pub first_waits : (nodes : List TreeNode) (q r : Queued) (x : ℕ) → IsQueueOf nodes q → IsFirst q r x → state_at nodes x ≡ Some Untaken
+pub first_waits : (nodes : List TreeNode) (q r : Queued) (x : ℕ) → IsQueueOf nodes q → LeavesFirst q r x → state_at nodes x ≡ Some Untaken
 first_waits nodes q r x h f = waits_is (state_at nodes x) (omega (arith, h.each x, times_permuted x q.waiting (x ∷ r.waiting) f.leaves, times_same x x r.waiting refl))
 
 -- and no other is before it
-pub first_of_all : (nodes : List TreeNode) (q r : Queued) (x : ℕ) → IsQueueOf nodes q → IsFirst q r x → IsFirstWaiting q.keys nodes x
+pub first_of_all : (nodes : List TreeNode) (q r : Queued) (x : ℕ) → IsQueueOf nodes q → LeavesFirst q r x → IsFirstWaiting q.keys nodes x
 first_of_all nodes q r x h f = record {
   waits = first_waits nodes q r x h f;
   ahead = λ y e. at_one (IsAhead q.keys x) y q.waiting f.ahead (omega (arith, h.each y, ap waits_in e));
@@ -181,7 +181,7 @@ pub none_waits : (nodes : List TreeNode) (q : Queued) → IsQueueOf nodes q → 
 none_waits nodes q h e y w = omega (arith, h.each y, ap (λ (ws : List ℕ). count_by (λ z. z == y) ws) e, ap waits_in w)
 
 -- a node is taken as it leaves
-pub queue_taken : (nodes : List TreeNode) (q r : Queued) (x k : ℕ) → IsQueueOf nodes q → IsFirst q r x → IsQueueOf (with_state (Taken k) nodes x) r
+pub queue_taken : (nodes : List TreeNode) (q r : Queued) (x k : ℕ) → IsQueueOf nodes q → LeavesFirst q r x → IsQueueOf (with_state (Taken k) nodes x) r
 queue_taken nodes q r x k h f = record {
   keys = ap length f.keys ∙ h.keys ∙ sym (length-with_state (Taken k) nodes x);
   each = each;

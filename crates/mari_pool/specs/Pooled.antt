@@ -9,7 +9,7 @@ use Rattle.mari_core.specs.declared.journal.JournalEntry.{JournalEntry}
 use Rattle.mari_core.specs.Nodes.{TreeNode, words_of, state_at}
 use Rattle.mari_core.specs.Growth.{Grown, Entry, seed, grown, grown_by, settling, in_journal, IsGrowth, JournalLeadsTo}
 use Rattle.mari_core.specs.Growth.Entry.{Take, Close, Branch, Full, GiveBack}
-use Rattle.mari_incumbent.specs.Incumbent.{IncumbentId, Standing, standing}
+use Rattle.mari_incumbent.specs.Incumbent.{IncumbentId, SeatView, seat_view}
 use Rattle.mari_pool.specs.Queued.{first_key, child_key}
 use Rattle.mari_pool.specs.declared.ticket.Settled.{Settled}
 use Rattle.mari_pool.specs.declared.ticket.Settled.TheVariants as settled
@@ -26,10 +26,10 @@ pub record Pooled : Type 0 where
   pub room : ℕ
   pub turns : List ℕ
   pub returned : List Bool
-  pub seat : Standing
+  pub seat : SeatView
 
 -- at the start the empty word waits, with the greatest key
-abbrev pub started : Market → ℕ → ℕ → ℕ → Standing → Pooled
+abbrev pub started : Market → ℕ → ℕ → ℕ → SeatView → Pooled
 started m budget workers room seat = record { tree = seed m budget; keys = first_key ∷ []; journal = []; room = room; turns = replicate budget 0; returned = replicate (workers + 1) false; seat = seat }
 
 -- ---- the journal's room
@@ -107,7 +107,7 @@ taking p worker node = record (entered p (Take worker node)) { turns = slice_set
 
 -- the pool's seat has seen what another saw
 abbrev pub meeting : Pooled → ℕ → Pooled
-meeting p seen = record p { seat = standing p.seat.incumbent (max p.seat.seen seen) p.seat.offered p.seat.parts }
+meeting p seen = record p { seat = seat_view p.seat.incumbent (max p.seat.seen seen) p.seat.offered p.seat.parts }
 
 -- the keys after an entry: each node that it makes has this one
 abbrev pub keys_after : Grown → Entry → List ℕ → ℕ → List ℕ

@@ -73,7 +73,7 @@ pub record IsMore (key count : ℕ) (old new : Queued) : Type 0 where
   pub room : new.room ≡ old.room
 
 -- the node leaves those that wait, and was ahead of each of them
-pub record IsFirst (old new : Queued) (x : ℕ) : Type 0 where
+pub record LeavesFirst (old new : Queued) (x : ℕ) : Type 0 where
   pub leaves : IsPermutation old.waiting (x ∷ new.waiting)
   pub ahead : All (IsAhead old.keys x) old.waiting
   pub keys : new.keys ≡ old.keys

@@ -2,7 +2,7 @@
 
 ghost use Rattle.std.specs.Prelude.{◌≡◌, ◌-◌, ◌<◌, ◌≤◌, length, IfOk, MatchOption};
 ghost use Rattle.mari_market.specs.Clearing.{IsBudget};
-ghost use Rattle.mari_pool.specs.Queued.{child_key, no_nodes, first_key, IsMore, IsFirst, IsIdleQueue, IsBack, CanFollow, Follows};
+ghost use Rattle.mari_pool.specs.Queued.{child_key, no_nodes, first_key, IsMore, LeavesFirst, IsIdleQueue, IsBack, CanFollow, Follows};
 
 use mari_core::JournalEntry;
 use mari_market::Finding;
@@ -85,7 +85,7 @@ impl Queue {
 
     /// The node that comes first no longer waits.
     pub fn take_first(&mut self) -> Option<u32>
-        ensures { MatchOption result (IsIdleQueue self.old self.new) (IsFirst self.old self.new) }
+        ensures { MatchOption result (IsIdleQueue self.old self.new) (LeavesFirst self.old self.new) }
     {
         let Some((_, Reverse(node))) = self.waiting.pop() else {
             return None;

@@ -46,6 +46,7 @@ pub enum Settled {
 }
 
 impl<N: SearchName> Ticket<N> {
+    /// The ticket of a node, for a worker at a turn.
     pub(crate) fn new(node: u32, turn: u64, worker: u32, prefix: Prefix) -> Ticket<N>
         requires feasible { IsFeasiblePrefix N.market prefix }
         requires numbered { worker ≤ N.workers }

@@ -12,7 +12,7 @@ use Rattle.mari_market.specs.declared.along.Along.TheVariants.{Joined}
 use Rattle.mari_prices.specs.declared.spread.SettledZone.{SettledZone}
 use Rattle.mari_market.specs.Along.{LeadsTo}
 use Rattle.mari_prices.specs.Firsts.{ArePlaces, first_in, first_at, AreFirsts, AreNumbered}
-use Rattle.mari_prices.specs.Spread.{entry_at, value_in, IsFirst, IsAfter, SpreadsAlong}
+use Rattle.mari_prices.specs.Spread.{entry_at, value_in, IsByItself, IsAfter, SpreadsAlong}
 use Rattle.mari_prices.proofs.Extremes.{entry_within}
 use Rattle.mari_prices.proofs.Spreads.{AnyZip-of}
 use Rattle.mari_market.proofs.Joins.{joins_other, area_on, area_back}
@@ -44,12 +44,12 @@ record HasFirst (m : Market) (a : Activation) (z : ℕ) (s : SettledZone) : Type
 has_first : (m : Market) (a : Activation) (values : List ℤ) (xs : List (Option SettledZone)) → AreSpread m a values xs → (n z : ℕ) (s : SettledZone) → s.depth ≤ n → entry_at xs z ≡ Some s → HasFirst m a z s
 has_first m a values xs h zero z s d e = by_source (h.spread.spreading.source z s e)
   where
-    by_source : IsFirst (value_in values) z s ⊎ IsAfter (LeadsTo Joined m.borders a.flow) xs z s → HasFirst m a z s
+    by_source : IsByItself (value_in values) z s ⊎ IsAfter (LeadsTo Joined m.borders a.flow) xs z s → HasFirst m a z s
     by_source (inl f) = absurd (omega (arith, f.depth))
     by_source (inr k) = absurd (omega (arith, k.depth))
 has_first m a values xs h (suc n) z s d e = by_source (h.spread.spreading.source z s e) (λ y t l k. has_first m a values xs h n y t l k)
   where
-    by_source : IsFirst (value_in values) z s ⊎ IsAfter (LeadsTo Joined m.borders a.flow) xs z s → ((y : ℕ) (t : SettledZone) → t.depth ≤ n → entry_at xs y ≡ Some t → HasFirst m a y t) → HasFirst m a z s
+    by_source : IsByItself (value_in values) z s ⊎ IsAfter (LeadsTo Joined m.borders a.flow) xs z s → ((y : ℕ) (t : SettledZone) → t.depth ≤ n → entry_at xs y ≡ Some t → HasFirst m a y t) → HasFirst m a z s
     by_source (inl f) before = record {
       first = z;
       there = omega (arith, entry_within xs z s e, h.one_each);

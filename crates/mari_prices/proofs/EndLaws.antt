@@ -20,7 +20,7 @@ use Rattle.mari_market.specs.declared.along.Along.TheVariants.{Rising, Falling}
 use Rattle.mari_prices.specs.declared.spread.SettledZone.{SettledZone}
 use Rattle.mari_market.specs.Along.{LeadsTo}
 use Rattle.mari_prices.specs.Ends.{along_of, IsEnd, ArePriced, ArePricesOf, AreTrails, AreUncontradicted, IsContradicted, Follows, IsTrailTo}
-use Rattle.mari_prices.specs.Spread.{entry_at, value_in, IsFirst, IsAfter, IsSpreading}
+use Rattle.mari_prices.specs.Spread.{entry_at, value_in, IsByItself, IsAfter, IsSpreading}
 use Rattle.mari_market.proofs.Agree.{KeepsAll, keeps_consistent, consistent_keeps}
 use Rattle.mari_prices.proofs.Extremes.{entry_within, spread_least}
 use Rattle.mari_prices.proofs.Spreads.{AnyZip-of, lower_spreads, lower_from, upper_spreads, upper_from, bound_price}
@@ -161,15 +161,15 @@ trails lead own xs h all = record {
   short = λ z s k. omega (arith, h.short z s k);
 }
   where
-    before : (z y : ℕ) (s : SettledZone) → s.previous ≡ Some y → IsFirst own z s ⊎ IsAfter lead xs z s → (t : SettledZone) × (entry_at xs y ≡ Some t) × (s.depth ≡ t.depth + 1)
+    before : (z y : ℕ) (s : SettledZone) → s.previous ≡ Some y → IsByItself own z s ⊎ IsAfter lead xs z s → (t : SettledZone) × (entry_at xs y ≡ Some t) × (s.depth ≡ t.depth + 1)
     before z y s e (inl f) = let none = f.previous in absurd (cc)
     before z y s e (inr a) = let same : a.before ≡ y = (let k = a.previous in cc) in (a.entry, subst (λ (x : ℕ). entry_at xs x ≡ Some a.entry) same a.settled, a.depth)
 
-    some : (z : ℕ) (s : SettledZone) → IsFirst own z s ⊎ IsAfter lead xs z s → 1 ≤ s.depth
+    some : (z : ℕ) (s : SettledZone) → IsByItself own z s ⊎ IsAfter lead xs z s → 1 ≤ s.depth
     some z s (inl f) = omega (arith, f.depth)
     some z s (inr a) = omega (arith, a.depth)
 
-after_of : (lead : ℕ → ℕ → Type 0) (own : ℕ → ℤ) (xs : List (Option SettledZone)) (z y : ℕ) (s : SettledZone) → s.previous ≡ Some y → IsFirst own z s ⊎ IsAfter lead xs z s → lead y z × ((t : SettledZone) → entry_at xs y ≡ Some t → s.value ≡ t.value)
+after_of : (lead : ℕ → ℕ → Type 0) (own : ℕ → ℤ) (xs : List (Option SettledZone)) (z y : ℕ) (s : SettledZone) → s.previous ≡ Some y → IsByItself own z s ⊎ IsAfter lead xs z s → lead y z × ((t : SettledZone) → entry_at xs y ≡ Some t → s.value ≡ t.value)
 after_of lead own xs z y s e (inl f) = let none = f.previous in absurd (cc)
 after_of lead own xs z y s e (inr a) =
     let same : a.before ≡ y = (let k = a.previous in cc) in
@@ -202,7 +202,7 @@ pub record ShowsContradiction (m : Market) (a : Activation) (chain : List ℕ) :
   pub short : length chain ≤ m.zones
   pub zones : All (λ (z : ℕ). z < m.zones) chain
 
-first_value : (lead : ℕ → ℕ → Type 0) (own : ℕ → ℤ) (xs : List (Option SettledZone)) (z : ℕ) (s : SettledZone) → s.previous ≡ None → IsFirst own z s ⊎ IsAfter lead xs z s → s.value ≡ own z
+first_value : (lead : ℕ → ℕ → Type 0) (own : ℕ → ℤ) (xs : List (Option SettledZone)) (z : ℕ) (s : SettledZone) → s.previous ≡ None → IsByItself own z s ⊎ IsAfter lead xs z s → s.value ≡ own z
 first_value lead own xs z s e (inl f) = f.value
 first_value lead own xs z s e (inr a) = let k = a.previous in absurd (cc)
 

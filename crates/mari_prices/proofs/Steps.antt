@@ -3,7 +3,7 @@ use Rattle.std.proofs.Common.{◌≡◌, ◌⊎◌, ◌+◌, ℕ, ◌<◌, ◌�
 use Rattle.std.proofs.lemmas.Int.{ints}
 use Rattle.std.proofs.lemmas.Bool.{cases_eq}
 use Rattle.mari_prices.specs.declared.spread.SettledZone.{SettledZone}
-use Rattle.mari_prices.specs.Spread.{entry_at, IsFree, free_zones, IsFirst, IsAfter, IsSpreading, IsLed, IsStart, IsNext}
+use Rattle.mari_prices.specs.Spread.{entry_at, IsFree, free_zones, IsByItself, IsAfter, IsSpreading, IsLed, IsStart, IsNext}
 
 pub free_zones-set : (xs : List (Option SettledZone)) (z : ℕ) (s : SettledZone) → z < length xs → entry_at xs z ≡ None → free_zones (set xs z (Some s)) + 1 ≡ free_zones xs
 free_zones-set [] z s h e = absurd (omega arith)
@@ -52,13 +52,13 @@ record Fits (lead : ℕ → ℕ → Type 0) (own : ℕ → ℤ) (xs : List (Opti
   least : (w : ℕ) (s : SettledZone) → entry_at xs w ≡ Some s → e.value ≤ℤ s.value
   newest : (y u : ℕ) (s : SettledZone) → entry_at xs y ≡ Some s → IsFree xs u → lead y u → s.value ≤ℤ e.value
   rest : (u : ℕ) → IsFree xs u → own u ≤ℤ e.value
-  source : IsFirst own z e ⊎ IsAfter lead xs z e
+  source : IsByItself own z e ⊎ IsAfter lead xs z e
   short : e.depth + free_zones xs ≤ length xs + 1
 
 after_kept : (lead : ℕ → ℕ → Type 0) (xs : List (Option SettledZone)) (z w : ℕ) (e s : SettledZone) → entry_at xs z ≡ None → IsAfter lead xs w s → IsAfter lead (set xs z (Some e)) w s
 after_kept lead xs z w e s free a = record { before = a.before; entry = a.entry; settled = entry_kept xs z a.before e a.entry free a.settled; leads = a.leads; previous = a.previous; value = a.value; depth = a.depth }
 
-source_kept : (lead : ℕ → ℕ → Type 0) (own : ℕ → ℤ) (xs : List (Option SettledZone)) (z w : ℕ) (e s : SettledZone) → entry_at xs z ≡ None → IsFirst own w s ⊎ IsAfter lead xs w s → IsFirst own w s ⊎ IsAfter lead (set xs z (Some e)) w s
+source_kept : (lead : ℕ → ℕ → Type 0) (own : ℕ → ℤ) (xs : List (Option SettledZone)) (z w : ℕ) (e s : SettledZone) → entry_at xs z ≡ None → IsByItself own w s ⊎ IsAfter lead xs w s → IsByItself own w s ⊎ IsAfter lead (set xs z (Some e)) w s
 source_kept lead own xs z w e s free (inl f) = inl f
 source_kept lead own xs z w e s free (inr a) = inr (after_kept lead xs z w e s free a)
 
@@ -94,8 +94,8 @@ settle lead own xs z e h f =
         | inr old ↦ h.rest y u s old (free_before xs z u e there free)
       ];
       source = λ w s k. elim (entry_cases xs z w e s there k) [
-        | inl new ↦ subst (λ (x : SettledZone). IsFirst own w x ⊎ IsAfter lead (set xs z (Some e)) w x) (sym new.1)
-            (subst (λ (y : ℕ). IsFirst own y e ⊎ IsAfter lead (set xs z (Some e)) y e) (sym new.0) (source_kept lead own xs z z e e f.free.1 f.source))
+        | inl new ↦ subst (λ (x : SettledZone). IsByItself own w x ⊎ IsAfter lead (set xs z (Some e)) w x) (sym new.1)
+            (subst (λ (y : ℕ). IsByItself own y e ⊎ IsAfter lead (set xs z (Some e)) y e) (sym new.0) (source_kept lead own xs z z e e f.free.1 f.source))
         | inr old ↦ source_kept lead own xs z w e s f.free.1 (h.source w s old)
       ];
       short = λ w s k. elim (entry_cases xs z w e s there k) [

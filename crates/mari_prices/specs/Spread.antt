@@ -24,7 +24,7 @@ abbrev pub value_in : List ℤ → ℕ → ℤ
 value_in values z = slice_index_or values z (pos 0)
 
 -- the zone was settled by its own value
-pub record IsFirst (own : ℕ → ℤ) (z : ℕ) (s : SettledZone) : Type 0 where
+pub record IsByItself (own : ℕ → ℤ) (z : ℕ) (s : SettledZone) : Type 0 where
   pub previous : s.previous ≡ None
   pub value : s.value ≡ own z
   pub depth : s.depth ≡ 1
@@ -49,7 +49,7 @@ pub record IsSpreading (lead : ℕ → ℕ → Type 0) (own : ℕ → ℤ) (xs :
   pub newest : (y z u : ℕ) (s t : SettledZone) → entry_at xs y ≡ Some s → entry_at xs z ≡ Some t → IsFree xs u → lead y u → s.value ≤ℤ t.value
   -- and free zones' own values are no greater
   pub rest : (y u : ℕ) (s : SettledZone) → entry_at xs y ≡ Some s → IsFree xs u → own u ≤ℤ s.value
-  pub source : (z : ℕ) (s : SettledZone) → entry_at xs z ≡ Some s → IsFirst own z s ⊎ IsAfter lead xs z s
+  pub source : (z : ℕ) (s : SettledZone) → entry_at xs z ≡ Some s → IsByItself own z s ⊎ IsAfter lead xs z s
   -- no chain is longer than the number of settled zones
   pub short : (z : ℕ) (s : SettledZone) → entry_at xs z ≡ Some s → s.depth + free_zones xs ≤ length xs
 
@@ -76,7 +76,7 @@ pub record IsGreatestFree (own : ℕ → ℤ) (xs : List (Option SettledZone)) (
 pub record IsStart (lead : ℕ → ℕ → Type 0) (own : ℕ → ℤ) (xs : List (Option SettledZone)) (z : ℕ) (s : SettledZone) : Type 0 where
   pub greatest : IsGreatestFree own xs z
   pub none_led : NoneLed lead xs
-  pub first : IsFirst own z s
+  pub first : IsByItself own z s
 
 abbrev pub IsNext : (ℕ → ℕ → Type 0) → (ℕ → ℤ) → List (Option SettledZone) → ℕ → SettledZone → Type 0
 IsNext lead own xs z s = IsLed lead xs z s ⊎ IsStart lead own xs z s

@@ -18,12 +18,13 @@ use std::alloc::{AllocError, Global};
 
 /// The tightest bounds of all zones' prices at one end, and what they become as they spread along borders.
 #[derive(Drop)]
-pub(crate) struct Ends {
+pub(crate) struct EndBounds {
     pub(crate) bounds: Vec<i64>,
     pub(crate) settled: Vec<Option<SettledZone>>,
 }
 
 impl End {
+    /// How the bounds of this end spread along borders.
     fn along(self) -> Along
         ensures { result ≡ along_of self }
     {
@@ -33,6 +34,7 @@ impl End {
         }
     }
 
+    /// The price that a value of this end stands for: the values of the greatest end are negated.
     fn price(self, value: i64) -> Cents
         requires { IsPrice value }
         ensures { result.0 ≡ signed self value }
@@ -44,12 +46,13 @@ impl End {
     }
 }
 
+/// The bounds of all zones' prices at one end, and what they become.
 pub(crate) fn ends_of(
     alloc: Global,
     market: &Market,
     activation: &Activation,
     end: End,
-) -> Result<Ends, AllocError>
+) -> Result<EndBounds, AllocError>
     requires valid { IsValid market.now }
     requires feasible { IsFeasible market.now activation.now }
     ensures { IfOk result (λ e. IsEnd end market.now activation.now e.bounds.items e.settled.items) }
@@ -58,7 +61,7 @@ pub(crate) fn ends_of(
     let bounds = tightest(alloc, market.zones, orders, mw, end)?;
     let (borders, flow) = (market.borders.as_slice(), activation.flow.as_slice());
     let settled = spread(alloc, &bounds, borders, flow, end.along())?;
-    Ok(Ends { bounds, settled })
+    Ok(EndBounds { bounds, settled })
 }
 
 /// The prices that the values stand for.

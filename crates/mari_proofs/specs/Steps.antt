@@ -6,8 +6,8 @@ use Rattle.mari_market.specs.declared.certificate.Leaf.{Leaf as LeafRecord}
 use Rattle.mari_market.specs.declared.certificate.TreeItem.{TreeItem}
 use Rattle.mari_market.specs.declared.certificate.TreeItem.TheVariants.{Branch, Leaf}
 use Rattle.mari_market.specs.Prefix.{word_of, children, IsFeasiblePrefix}
-use Rattle.mari_proofs.specs.declared.trees.Step.{Step}
-use Rattle.mari_proofs.specs.declared.trees.Step.TheVariants.{On, BadShape, BadLeaf}
+use Rattle.mari_proofs.specs.declared.trees.TreeStep.{TreeStep}
+use Rattle.mari_proofs.specs.declared.trees.TreeStep.TheVariants.{On, BadShape, BadLeaf}
 use Rattle.mari_gates.specs.Preorder.{waiting_after, left_at}
 
 -- the item fits a prefix, and the next prefix or none is what is then left
@@ -26,7 +26,7 @@ IsFalseLeaf m holds x (Leaf leaf) = holds (word_of x) leaf → ⊥
 IsFalseLeaf m holds x Branch = ⊥
 
 -- the answer to an item is right: what is next, a branch that has no gate to decide, or a leaf that doesn't hold
-abbrev pub IsStep : Market → (List Bool → LeafRecord → Type 0) → Prefix → TreeItem → Step → Type 0
+abbrev pub IsStep : Market → (List Bool → LeafRecord → Type 0) → Prefix → TreeItem → TreeStep → Type 0
 IsStep m holds x item (On next) = FitsItem m holds x item next × IfSome next (IsFeasiblePrefix m)
 IsStep m holds x item BadShape = IsFullBranch m x item
 IsStep m holds x item BadLeaf = IsFalseLeaf m holds x item

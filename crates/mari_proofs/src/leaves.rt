@@ -1,13 +1,13 @@
 //! The test of one certificate.
 
-ghost use Rattle.std.specs.Prelude.{◌≡◌, ◌↔◌, ℕ, ℤ, ◌≤ℤ◌, ◌-ℤ◌, pos, IsTrue, take};
+ghost use Rattle.std.specs.Prelude.{◌≡◌, ◌↔◌, ℤ, ◌≤ℤ◌, IsTrue, take};
 ghost use Rattle.mari_market.specs.declared.activation.Activation.{Activation};
 ghost use Rattle.mari_market.specs.Activation.{welfare_of, gate_word_of};
 ghost use Rattle.mari_market.specs.Market.{IsValid};
 ghost use Rattle.mari_market.specs.Optimal.{IsAdmissible};
 ghost use Rattle.mari_market.specs.Prefix.{word_of, IsFeasiblePrefix};
 ghost use Rattle.mari_market.specs.Tree.{IsBound, LeafHolds, LeafHoldsFor};
-ghost use Rattle.mari_proofs.specs.Leaves.{ExcludesWord};
+ghost use Rattle.mari_proofs.specs.Leaves.{ExcludesWord, lowered};
 
 use crate::conflicts::is_conflict;
 use crate::cuts::is_cut;
@@ -16,14 +16,44 @@ use mari_gates::comes_before;
 use mari_market::{Leaf, Market, Prefix, Prices};
 use mari_units::Quarters;
 
-/// Whether potentials bound a prefix at a cutoff.
-fn is_bound(market: &Market, prefix: &Prefix, potentials: &Prices, cutoff: Quarters) -> bool
+/// Whether a value is at most the cutoff, or below it where that is asked for.
+fn is_within(value: Quarters, cutoff: Quarters, below: bool) -> bool
+    ensures { IsTrue result ↔ value.0 ≤ℤ lowered below cutoff.0 }
+{
+    if below {
+        value.0 < cutoff.0
+    } else {
+        value.0 <= cutoff.0
+    }
+}
+
+/// Whether potentials bound a prefix at a cutoff, or below it.
+fn is_bound(
+    market: &Market,
+    prefix: &Prefix,
+    potentials: &Prices,
+    cutoff: Quarters,
+    below: bool,
+) -> bool
     requires market { IsValid market.now }
     requires prefix { IsFeasiblePrefix market.now prefix.now }
-    ensures { IsTrue result ↔ IsBound market.now cutoff.0 (word_of prefix.now) potentials.now.cents }
+    ensures { IsTrue result ↔ IsBound market.now (lowered below cutoff.0) (word_of prefix.now) potentials.now.cents }
 {
     market.are_prices(potentials.cents.as_slice())
-        && dual_value(market, prefix, potentials).0 <= cutoff.0
+        && is_within(dual_value(market, prefix, potentials), cutoff, below)
+}
+
+/// Whether a certificate holds at a prefix and a cutoff, or at the cutoff less 1, which may be no number of the type.
+fn holds_at(market: &Market, prefix: &Prefix, leaf: &Leaf, cutoff: Quarters, below: bool) -> bool
+    requires market { IsValid market.now }
+    requires prefix { IsFeasiblePrefix market.now prefix.now }
+    ensures { IsTrue result ↔ LeafHolds market.now (lowered below cutoff.0) (word_of prefix.now) leaf.now }
+{
+    match leaf {
+        Leaf::Bound(potentials) => is_bound(market, prefix, potentials, cutoff, below),
+        Leaf::Cut(cut) => is_cut(market, prefix, cut),
+        Leaf::Conflict(conflict) => is_conflict(market, prefix, conflict),
+    }
 }
 
 /// Whether a certificate holds at a prefix and a cutoff, in quarter-cents.
@@ -41,34 +71,7 @@ pub fn check_leaf(market: &Market, prefix: &Prefix, leaf: &Leaf, cutoff: Quarter
     ensures excludes { IsTrue result → ExcludesWord market.now (word_of prefix.now) leaf.now }
     ensures rises { IsTrue result → (w : ℤ) → cutoff.0 ≤ℤ w → LeafHolds market.now w (word_of prefix.now) leaf.now }
 {
-    match leaf {
-        Leaf::Bound(potentials) => is_bound(market, prefix, potentials, cutoff),
-        Leaf::Cut(cut) => is_cut(market, prefix, cut),
-        Leaf::Conflict(conflict) => is_conflict(market, prefix, conflict),
-    }
-}
-
-/// Whether potentials bound a prefix below a cutoff.
-fn is_bound_below(market: &Market, prefix: &Prefix, potentials: &Prices, cutoff: Quarters) -> bool
-    requires market { IsValid market.now }
-    requires prefix { IsFeasiblePrefix market.now prefix.now }
-    ensures { IsTrue result ↔ IsBound market.now (cutoff.0 -ℤ pos 1) (word_of prefix.now) potentials.now.cents }
-{
-    market.are_prices(potentials.cents.as_slice())
-        && dual_value(market, prefix, potentials).0 < cutoff.0
-}
-
-/// Whether a certificate holds at a prefix at the cutoff less 1, which may be no number of the type.
-fn check_leaf_below(market: &Market, prefix: &Prefix, leaf: &Leaf, cutoff: Quarters) -> bool
-    requires market { IsValid market.now }
-    requires prefix { IsFeasiblePrefix market.now prefix.now }
-    ensures { IsTrue result ↔ LeafHolds market.now (cutoff.0 -ℤ pos 1) (word_of prefix.now) leaf.now }
-{
-    match leaf {
-        Leaf::Bound(potentials) => is_bound_below(market, prefix, potentials, cutoff),
-        Leaf::Cut(cut) => is_cut(market, prefix, cut),
-        Leaf::Conflict(conflict) => is_conflict(market, prefix, conflict),
-    }
+    holds_at(market, prefix, leaf, cutoff, false)
 }
 
 /// Whether a certificate holds at a prefix and a cutoff for a gate word: where the prefix is early for it, it is to
@@ -86,7 +89,7 @@ pub(crate) fn check_leaf_for(
     ensures { IsTrue result ↔ LeafHoldsFor market.now cutoff.0 (word_of word.now) (word_of prefix.now) leaf.now }
 {
     if comes_before(prefix, word) {
-        check_leaf_below(market, prefix, leaf, cutoff)
+        holds_at(market, prefix, leaf, cutoff, true)
     } else {
         check_leaf(market, prefix, leaf, cutoff)
     }

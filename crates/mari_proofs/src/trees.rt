@@ -29,7 +29,7 @@ pub enum TreeVerdict {
 }
 
 /// What one item does to a walk: the next prefix or the end of the tree, or a fault.
-enum Step {
+enum TreeStep {
     On(Option<Prefix>),
     BadShape,
     BadLeaf,
@@ -42,7 +42,7 @@ fn take_item(
     item: &TreeItem,
     cutoff: Quarters,
     word: &Prefix,
-) -> Step
+) -> TreeStep
     requires market { IsValid market.now }
     requires prefix { IsFeasiblePrefix market.now prefix.now }
     requires word { IsFeasiblePrefix market.now word.now }
@@ -50,12 +50,12 @@ fn take_item(
 {
     match item {
         TreeItem::Branch if prefix.length as usize >= market.gates.as_slice().len() =>
-            Step::BadShape,
-        TreeItem::Branch => Step::On(Some(child_of(prefix, false))),
+            TreeStep::BadShape,
+        TreeItem::Branch => TreeStep::On(Some(child_of(prefix, false))),
         TreeItem::Leaf(leaf) if check_leaf_for(market, prefix, leaf, cutoff, word) => {
-            Step::On(next_after(market, prefix))
+            TreeStep::On(next_after(market, prefix))
         }
-        TreeItem::Leaf(_) => Step::BadLeaf,
+        TreeItem::Leaf(_) => TreeStep::BadLeaf,
     }
 }
 
@@ -71,9 +71,9 @@ fn walk(market: &Market, tree: &[TreeItem], cutoff: Quarters, word: &Prefix) -> 
             return TreeVerdict::BadShape(place);
         };
         match take_item(market, &prefix, item, cutoff, word) {
-            Step::On(following) => next = following,
-            Step::BadShape => return TreeVerdict::BadShape(place),
-            Step::BadLeaf => return TreeVerdict::BadLeaf(place),
+            TreeStep::On(following) => next = following,
+            TreeStep::BadShape => return TreeVerdict::BadShape(place),
+            TreeStep::BadLeaf => return TreeVerdict::BadLeaf(place),
         }
     }
     match next {

@@ -9,8 +9,8 @@ use Rattle.mari_publish.specs.declared.fault.TextFault.TheVariants as fault
 use Rattle.mari_lines.specs.declared.line.TheConstants.{MOST_LINE}
 use Rattle.mari_publish.specs.declared.coming.Ahead.{Ahead}
 use Rattle.mari_publish.specs.declared.coming.Ahead.TheVariants as mark
-use Rattle.mari_publish.specs.declared.coming.Step.{Step}
-use Rattle.mari_publish.specs.declared.coming.Step.TheVariants as step
+use Rattle.mari_publish.specs.declared.coming.Handled.{Handled}
+use Rattle.mari_publish.specs.declared.coming.Handled.TheVariants as step
 use Rattle.mari_lines.specs.Ranges.{InRange}
 use Rattle.mari_lines.specs.Reading.{Lacks}
 use Rattle.mari_lines.specs.Spelling.{spelling, line_text}
@@ -189,10 +189,10 @@ fault_next old new (fault.Truncated n) h text parts s = absurd h
 fault_next old new fault.Memory h text parts s = (tt, subst (λ r. ComesFrom r text parts) (sym h) s)
 
 -- what a step tells
-pub line_step : (old new : ComeState) (a : Step) (x : Option Part) → a ≡ step.Line x → Handles old new (Ok a) → IsTaken old new x
+pub line_step : (old new : ComeState) (a : Handled) (x : Option Part) → a ≡ step.Line x → Handles old new (Ok a) → IsTaken old new x
 line_step old new a x e h = subst (λ b. Handles old new (Ok b)) e h
 
-pub nothing_step : (old new : ComeState) (a : Step) → a ≡ step.Nothing → Handles old new (Ok a) → HasNoLine old
+pub nothing_step : (old new : ComeState) (a : Handled) → a ≡ step.Nothing → Handles old new (Ok a) → HasNoLine old
 nothing_step old new a e h = let both : HasNoLine old × (new ≡ old) = subst (λ b. Handles old new (Ok b)) e h in both.0
 
 -- a line was taken

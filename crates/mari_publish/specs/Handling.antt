@@ -5,8 +5,8 @@ use Rattle.mari_lines.specs.declared.line.Line.{Line}
 use Rattle.mari_publish.specs.declared.fault.TextFault.{TextFault}
 use Rattle.mari_publish.specs.declared.fault.TextFault.TheVariants as fault
 use Rattle.mari_publish.specs.declared.coming.Ahead.TheVariants as mark
-use Rattle.mari_publish.specs.declared.coming.Step.{Step}
-use Rattle.mari_publish.specs.declared.coming.Step.TheVariants as step
+use Rattle.mari_publish.specs.declared.coming.Handled.{Handled}
+use Rattle.mari_publish.specs.declared.coming.Handled.TheVariants as step
 use Rattle.mari_lines.specs.Ranges.{InRange}
 use Rattle.mari_lines.specs.Reading.{Lacks}
 use Rattle.mari_lines.specs.Spelling.{spelling}
@@ -48,7 +48,7 @@ pub record HasBadOrder (r : ComeState) : Type 0 where
   pub misplaced : after r.kept r.kept.held line ≡ None
 
 -- a line was taken, or no whole one is there; or what is wrong with it, and nothing changed
-abbrev pub Handles : ComeState → ComeState → Result Step TextFault → Type 0
+abbrev pub Handles : ComeState → ComeState → Result Handled TextFault → Type 0
 Handles old new (Ok (step.Line x)) = IsTaken old new x
 Handles old new (Ok step.Nothing) = HasNoLine old × (new ≡ old)
 Handles old new (Err (fault.BadLine n)) = HasBadLine old × (n ≡ old.lines + 1) × (new ≡ old)

@@ -66,8 +66,8 @@ IsAhead mark.Kept unread rest = rest ≡ unread
 IsAhead mark.TooLong unread rest = Lacks 10 rest × (MOST_LINE < length rest)
 IsAhead mark.Ended unread rest = (here : List ℕ) × (after : List ℕ) × (rest ≡ here ++ 10 ∷ after) × Lacks 10 here × (MOST_LINE < length here)
 
--- what has come comes from a text, of which these parts were given: the text is that of handled lines, none of which has a
--- fault, and the bytes behind them
+-- what has come comes from a text, of which these parts were given: the text is that of handled lines, none of which
+-- has a fault, and the bytes behind them
 pub record ComesFrom (r : ComeState) (text : List ℕ) (parts : List Part) : Type 0 where
   pub lines : List Line
   pub rest : List ℕ

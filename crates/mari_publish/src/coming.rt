@@ -37,13 +37,13 @@ pub struct Coming {
 /// What comes of the first line behind the handled ones: the part that is whole with it, if one is; or no line is
 /// whole.
 #[derive(Drop)]
-pub enum Step {
+pub enum Handled {
     Line(Option<Part>),
     Nothing,
 }
 
 /// Handles the first line behind the handled ones, if it is whole.
-fn handle_line(alloc: Global, coming: &mut Coming) -> Result<Step, TextFault>
+fn handle_line(alloc: Global, coming: &mut Coming) -> Result<Handled, TextFault>
     requires handled { coming.old.handled ≤ vec_len coming.old.bytes }
     requires counts { coming.old.kept.counts.published + coming.old.kept.counts.unpublished ≤ MOST_RUNS }
     requires room { HasRoom coming.old.kept.held coming.old.kept.counts }
@@ -53,11 +53,11 @@ fn handle_line(alloc: Global, coming: &mut Coming) -> Result<Step, TextFault>
 {
     match coming.ahead {
         Ahead::Kept => {}
-        Ahead::TooLong => return Ok(Step::Nothing),
+        Ahead::TooLong => return Ok(Handled::Nothing),
         Ahead::Ended => return Err(TextFault::BadLine(coming.lines + 1)),
     }
     let Some((here, _after)) = split_once(b'\n', &coming.bytes[coming.handled..]) else {
-        return Ok(Step::Nothing);
+        return Ok(Handled::Nothing);
     };
     if here.len() > MOST_LINE {
         return Err(TextFault::BadLine(coming.lines + 1));
@@ -67,7 +67,7 @@ fn handle_line(alloc: Global, coming: &mut Coming) -> Result<Step, TextFault>
         Ok(part) => {
             coming.handled += length;
             coming.lines += 1;
-            Ok(Step::Line(part))
+            Ok(Handled::Line(part))
         }
         Err(fault) => Err(fault.at(coming.lines + 1)),
     }
@@ -84,9 +84,9 @@ pub fn next_part(alloc: Global, coming: &mut Coming) -> Result<Option<Part>, Tex
 {
     'lines: loop {
         match handle_line(alloc, coming) {
-            Ok(Step::Line(None)) => {}
-            Ok(Step::Line(Some(part))) => return Ok(Some(part)),
-            Ok(Step::Nothing) => return Ok(None),
+            Ok(Handled::Line(None)) => {}
+            Ok(Handled::Line(Some(part))) => return Ok(Some(part)),
+            Ok(Handled::Nothing) => return Ok(None),
             Err(fault) => return Err(fault),
         }
     }

@@ -20,6 +20,7 @@ use mari_units::{MOST_DEMANDS, MOST_RUNS, Memory, Name};
 use std::alloc::Global;
 use tree::put_tree_lines;
 
+/// Appends the zones' lines.
 fn put_zones(alloc: Global, out: &mut Vec<u8>, zones: &[ZoneLine]) -> Result<(), Memory>
     ensures { OnOk result (out.new.items ≡ out.old.items ++ text_of_lines (map line.Zone zones.now)) }
 {
@@ -29,6 +30,7 @@ fn put_zones(alloc: Global, out: &mut Vec<u8>, zones: &[ZoneLine]) -> Result<(),
     Ok(())
 }
 
+/// Appends the borders' lines.
 fn put_borders(alloc: Global, out: &mut Vec<u8>, borders: &[BorderLine]) -> Result<(), Memory>
     requires { All (λ b. IsMoney b.rent) borders.now }
     ensures { OnOk result (out.new.items ≡ out.old.items ++ text_of_lines (map line.Border borders.now)) }
@@ -39,6 +41,7 @@ fn put_borders(alloc: Global, out: &mut Vec<u8>, borders: &[BorderLine]) -> Resu
     Ok(())
 }
 
+/// Appends the bids' lines.
 fn put_bids(alloc: Global, out: &mut Vec<u8>, bids: &[BidLine]) -> Result<(), Memory>
     ensures { OnOk result (out.new.items ≡ out.old.items ++ text_of_lines (map line.Bid bids.now)) }
 {
@@ -48,6 +51,7 @@ fn put_bids(alloc: Global, out: &mut Vec<u8>, bids: &[BidLine]) -> Result<(), Me
     Ok(())
 }
 
+/// Appends the lines of a run's operators.
 fn put_operators(alloc: Global, out: &mut Vec<u8>, operators: &[MoneyLine]) -> Result<(), Memory>
     requires { All IsMoneyLine operators.now }
     ensures { OnOk result (out.new.items ≡ out.old.items ++ text_of_lines (map line.Operator operators.now)) }
@@ -58,6 +62,7 @@ fn put_operators(alloc: Global, out: &mut Vec<u8>, operators: &[MoneyLine]) -> R
     Ok(())
 }
 
+/// Appends the lines of a run's providers.
 fn put_providers(alloc: Global, out: &mut Vec<u8>, providers: &[AmountLine]) -> Result<(), Memory>
     requires { All IsAmountLine providers.now }
     ensures { OnOk result (out.new.items ≡ out.old.items ++ text_of_lines (map line.Provider providers.now)) }
@@ -68,6 +73,7 @@ fn put_providers(alloc: Global, out: &mut Vec<u8>, providers: &[AmountLine]) -> 
     Ok(())
 }
 
+/// Appends the lines of the operators' totals.
 fn put_total_operators(
     alloc: Global,
     out: &mut Vec<u8>,
@@ -82,6 +88,7 @@ fn put_total_operators(
     Ok(())
 }
 
+/// Appends the lines of the providers' totals.
 fn put_total_providers(
     alloc: Global,
     out: &mut Vec<u8>,
@@ -96,6 +103,7 @@ fn put_total_providers(
     Ok(())
 }
 
+/// Appends the demands' lines, numbered from 1 on.
 fn put_demands(alloc: Global, out: &mut Vec<u8>, demands: &[u32]) -> Result<(), Memory>
     requires { length demands.now ≤ MOST_DEMANDS }
     ensures { OnOk result (out.new.items ≡ out.old.items ++ text_of_lines (demand_lines 1 demands.now)) }
@@ -106,6 +114,7 @@ fn put_demands(alloc: Global, out: &mut Vec<u8>, demands: &[u32]) -> Result<(), 
     Ok(())
 }
 
+/// Appends a block's lines of zones, borders, bids and demands.
 fn put_market(alloc: Global, out: &mut Vec<u8>, block: &FullBlock) -> Result<(), Memory>
     requires { FullFits block.now }
     ensures { OnOk result (out.new.items ≡ out.old.items ++ text_of_lines (market_lines block.now)) }
@@ -116,6 +125,7 @@ fn put_market(alloc: Global, out: &mut Vec<u8>, block: &FullBlock) -> Result<(),
     put_demands(alloc, out, block.demands.as_slice())
 }
 
+/// Appends the two lines that a block begins with.
 fn put_opening(alloc: Global, out: &mut Vec<u8>, block: &FullBlock) -> Result<(), Memory>
     ensures { OnOk result (out.new.items ≡ out.old.items ++ text_of_lines (opening_lines block.now)) }
 {
@@ -123,6 +133,7 @@ fn put_opening(alloc: Global, out: &mut Vec<u8>, block: &FullBlock) -> Result<()
     put_welfare(alloc, out, block.welfare)
 }
 
+/// Appends a block's lines behind its tree.
 fn put_ending(alloc: Global, out: &mut Vec<u8>, block: &FullBlock) -> Result<(), Memory>
     requires { FullFits block.now }
     ensures { OnOk result (out.new.items ≡ out.old.items ++ text_of_lines (ending_lines block.now)) }
@@ -132,6 +143,7 @@ fn put_ending(alloc: Global, out: &mut Vec<u8>, block: &FullBlock) -> Result<(),
     put_end(alloc, out, block.heading.run)
 }
 
+/// Appends the lines of a published block.
 fn put_full(alloc: Global, out: &mut Vec<u8>, block: &FullBlock) -> Result<(), Memory>
     requires { FullFits block.now }
     ensures { OnOk result (out.new.items ≡ out.old.items ++ text_of_lines (full_lines block.now)) }
@@ -142,6 +154,7 @@ fn put_full(alloc: Global, out: &mut Vec<u8>, block: &FullBlock) -> Result<(), M
     put_ending(alloc, out, block)
 }
 
+/// Appends the lines of a block, published or not.
 fn put_block(alloc: Global, out: &mut Vec<u8>, block: &Block) -> Result<(), Memory>
     requires { BlockFits block.now }
     ensures { OnOk result (out.new.items ≡ out.old.items ++ block_text_of block.now) }
@@ -152,6 +165,7 @@ fn put_block(alloc: Global, out: &mut Vec<u8>, block: &Block) -> Result<(), Memo
     }
 }
 
+/// Appends the lines of all blocks.
 fn put_blocks(alloc: Global, out: &mut Vec<u8>, blocks: &[Block]) -> Result<(), Memory>
     requires { All BlockFits blocks.now }
     ensures { OnOk result (out.new.items ≡ out.old.items ++ text_of_lines (flat_map block_lines blocks.now)) }
@@ -185,6 +199,7 @@ fn unpublished_in(blocks: &[Block]) -> u32
     blocks.len() as u32 - published_in(blocks)
 }
 
+/// Appends the lines behind all blocks.
 fn put_totals(alloc: Global, out: &mut Vec<u8>, publication: &Publication) -> Result<(), Memory>
     requires { TotalsFit publication.now }
     ensures { OnOk result (out.new.items ≡ out.old.items ++ total_text_of publication.now) }

@@ -23,6 +23,7 @@ impl Model for Numbers {
 }
 
 impl Numbers {
+    /// No numbers.
     fn new(alloc: Global) -> Numbers
         ensures { result ≡ [] }
     {
@@ -31,6 +32,7 @@ impl Numbers {
         }
     }
 
+    /// Appends a number.
     fn push(&mut self, number: u32) -> Result<(), AllocFailed<u32>>
         ensures { OnOk result (self.new ≡ self.old ++ number ∷ []) }
     {

@@ -7,8 +7,8 @@ use Rattle.mari_rows.specs.First.{first_fault, unless_fault}
 use Rattle.mari_rows.specs.Records.{records_in}
 use Rattle.mari_rows.specs.declared.faults.RowFault.{RowFault}
 use Rattle.mari_rows.specs.declared.faults.RowFault.TheVariants.{BadHeader, BadRow, NotUtf8, Memory}
-use Rattle.mari_rows.specs.declared.records.Tested.{Tested}
-use Rattle.mari_rows.specs.declared.records.Tested.TheVariants.{End, Fine, Faulty}
+use Rattle.mari_rows.specs.declared.records.TestedRecord.{TestedRecord}
+use Rattle.mari_rows.specs.declared.records.TestedRecord.TheVariants.{End, Fine, Faulty}
 use Rattle.mari_rows.specs.declared.rows.Row.{Row}
 
 -- records with their lines, from this line on
@@ -36,19 +36,19 @@ abbrev pub is_header : List (List ℕ) → List (List ℕ) → Bool
 is_header columns fields = pointwise bytes_eq fields columns
 
 -- what the test of a record tells, of this line and where so many fields are wanted
-abbrev pub TellsRecord : (width line : ℕ) → List (List ℕ) → Tested → Type 0
+abbrev pub TellsRecord : (width line : ℕ) → List (List ℕ) → TestedRecord → Type 0
 TellsRecord width line fields End = ⊥
 TellsRecord width line fields Fine = fault_of_row width (record { line = line; fields = fields }) ≡ None
 TellsRecord width line fields (Faulty fault) = fault_of_row width (record { line = line; fields = fields }) ≡ Some fault
 
 -- what the test of the next record tells, of those that are left before and after it
-abbrev pub TellsNext : (width line : ℕ) → (old new : List (List (List ℕ))) → Tested → Type 0
+abbrev pub TellsNext : (width line : ℕ) → (old new : List (List (List ℕ))) → TestedRecord → Type 0
 TellsNext width line old new End = (old ≡ []) × (new ≡ [])
 TellsNext width line old new Fine = (fields : List (List ℕ)) × (old ≡ fields ∷ new) × TellsRecord width line fields Fine
 TellsNext width line old new (Faulty fault) = (fields : List (List ℕ)) × (old ≡ fields ∷ new) × TellsRecord width line fields (Faulty fault)
 
 -- and of the rows that are left
-abbrev pub TellsRow : (width : ℕ) → (old new : List Row) → Tested → Type 0
+abbrev pub TellsRow : (width : ℕ) → (old new : List Row) → TestedRecord → Type 0
 TellsRow width old new End = (old ≡ []) × (new ≡ [])
 TellsRow width old new Fine = (row : Row) × (old ≡ row ∷ new) × (fault_of_row width row ≡ None)
 TellsRow width old new (Faulty fault) = (row : Row) × (old ≡ row ∷ new) × (fault_of_row width row ≡ Some fault)

@@ -67,6 +67,7 @@ impl NameIndex {
         }
     }
 
+    /// Whether a name is among the names.
     #[tactic(auto, using(crate::proofs::NameLemmas::name_lemmas))]
     fn contains(&self, name: &[u8]) -> bool
         ensures { result ≡ is_among self.now name.now }

@@ -44,12 +44,13 @@ impl Drop for Records<'_> {
 
 /// What the test of the next record tells: there is none, or nothing is wrong with it by itself, or this is.
 #[derive(Clone, Copy, Debug, PartialEq, Eq)]
-pub(crate) enum Tested {
+pub(crate) enum TestedRecord {
     End,
     Fine,
     Faulty(RowFault),
 }
 
+/// Whether bytes are text in UTF-8.
 fn is_text(bytes: &[u8]) -> bool
     ensures { result ≡ is_utf8_of bytes.now }
 {
@@ -72,15 +73,15 @@ fn all_text(row: &ByteRecord) -> bool
 }
 
 /// What is wrong with a record of this line by itself, where so many fields are wanted. No field is copied.
-fn test(row: &ByteRecord, line: u32, width: usize) -> Tested
+fn test(row: &ByteRecord, line: u32, width: usize) -> TestedRecord
     ensures { TellsRecord width line (fields_of row.now) result }
 {
     if row.len() != width {
-        Tested::Faulty(RowFault::BadRow(line))
+        TestedRecord::Faulty(RowFault::BadRow(line))
     } else if !all_text(row) {
-        Tested::Faulty(RowFault::NotUtf8(line))
+        TestedRecord::Faulty(RowFault::NotUtf8(line))
     } else {
-        Tested::Fine
+        TestedRecord::Fine
     }
 }
 
@@ -97,6 +98,7 @@ fn fields_from(alloc: Global, row: &ByteRecord) -> Result<Vec<Field>, Memory>
     Ok(fields)
 }
 
+/// The bytes of each field, lent.
 fn texts_of(alloc: Global, fields: &[Field]) -> Result<Vec<&[u8]>, AllocError>
     ensures { IfOk result (λ v. map (λ x. x.now) v.items ≡ fields.now) }
 {
@@ -200,16 +202,16 @@ impl<'a> Records<'a> {
     }
 
     /// Tests the next record, of this line, where so many fields are wanted. Once memory was wanted there are no more.
-    pub(crate) fn test_next(&mut self, line: u32, width: usize) -> Result<Tested, Memory>
+    pub(crate) fn test_next(&mut self, line: u32, width: usize) -> Result<TestedRecord, Memory>
         ensures tested { IfOk result (TellsNext width line self.old self.new) }
         ensures err { OnErr result (self.new ≡ []) }
     {
         if self.has_ended {
-            return Ok(Tested::End);
+            return Ok(TestedRecord::End);
         }
         self.has_ended = true;
         if !read_record(&mut self.reader, &mut self.row)? {
-            return Ok(Tested::End);
+            return Ok(TestedRecord::End);
         }
         self.has_ended = false;
         Ok(test(&self.row, line, width))

@@ -7,7 +7,7 @@ ghost use Rattle.mari_rows.specs.Widths.{first_wide};
 
 use crate::faults::RowFault;
 use crate::field::Field;
-use crate::records::{Records, Tested};
+use crate::records::{Records, TestedRecord};
 use crate::widths::wide_line;
 use mari_units::{Items, MOST_PAGE, Memory};
 use std::alloc::{AllocError, Global};
@@ -86,12 +86,12 @@ impl<'a> RowReader<'a> {
     }
 
     /// Tests the next row, where so many fields are wanted.
-    fn test_next(&mut self, width: usize) -> Result<Tested, Memory>
+    fn test_next(&mut self, width: usize) -> Result<TestedRecord, Memory>
         ensures tested { IfOk result (TellsRow width self.old self.new) }
         ensures err { OnErr result (self.new ≡ []) }
     {
         let tested = self.records.test_next(self.line, width)?;
-        if tested != Tested::End {
+        if tested != TestedRecord::End {
             self.line += 1;
         }
         Ok(tested)
@@ -154,9 +154,9 @@ fn first_fault_of(
             return Ok(Some(RowFault::BadRow(line)));
         }
         match rows.test_next(width)? {
-            Tested::Fine => {}
-            Tested::Faulty(fault) => return Ok(Some(fault)),
-            Tested::End => return Ok(None),
+            TestedRecord::Fine => {}
+            TestedRecord::Faulty(fault) => return Ok(Some(fault)),
+            TestedRecord::End => return Ok(None),
         }
     }
 }

@@ -24,8 +24,8 @@ const VALID: &[MarketRow] = &[
     },
 ];
 
-/// Markets that aren't: a plain order with a least; a gated one without, with one above its greatest, and of a gate that
-/// isn't there.
+/// Markets that aren't: a plain order with a least; a gated one without, with one above its greatest, and of a gate
+/// that isn't there.
 const NOT_VALID: &[MarketRow] = &[
     MarketRow {
         limits: &[],

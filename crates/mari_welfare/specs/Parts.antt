@@ -1,5 +1,5 @@
 -- The parts of the tests of a market and an activation.
-use Rattle.std.specs.Prelude.{◌≡◌, ℕ, List, length}
+use Rattle.std.specs.Prelude.{ℕ, List}
 use Rattle.std.specs.List.{AllZip}
 use Rattle.mari_units.specs.declared.Cents.{Cents}
 use Rattle.mari_market.specs.declared.market.Order.{Order}
@@ -9,11 +9,6 @@ use Rattle.mari_market.specs.Activation.{IsBalanced, IsWithinLimits, is_open}
 use Rattle.mari_market.specs.Bounds.{IsWithin, own_bounds}
 use Rattle.mari_market.specs.Consistent.{IsConsistentOrder, IsConsistentBorder}
 use Rattle.mari_market.specs.Gates.{KeepsGateRules}
-
--- one quantity for each order and one flow for each border
-pub record HasLengths (m : Market) (a : Activation) : Type 0 where
-  pub orders : length a.mw ≡ length m.orders
-  pub borders : length a.flow ≡ length m.borders
 
 -- each order runs within its bounds, and the open gates keep the rules
 pub record OrdersAndGatesFit (m : Market) (a : Activation) : Type 0 where

@@ -2,14 +2,14 @@
 
 ghost use Rattle.std.specs.Prelude.{◌≡◌, ◌<◌, ◌≤◌, length, ℕ, ◌≤ℤ◌, IsTrue, ◌↔◌};
 ghost use Rattle.std.specs.List.{All, AllZip};
+ghost use Rattle.mari_market.specs.Activation.{HasLengths};
 ghost use Rattle.mari_market.specs.Consistent.{HasRoomBack, HasRoomOn, IsConsistentBorder, IsConsistentOrder, IsConsistentTrade, standing_of};
 ghost use Rattle.mari_market.specs.Market.{IsValid, IsValidBorder, IsValidOrder};
 ghost use Rattle.mari_market.specs.Optimal.{IsConsistent};
 ghost use Rattle.mari_market.specs.Price.{price_at};
 ghost use Rattle.mari_market.specs.Prefix.{opens_in};
-ghost use Rattle.mari_welfare.specs.Parts.{HasLengths, OrdersAndBordersAgree};
+ghost use Rattle.mari_welfare.specs.Parts.{OrdersAndBordersAgree};
 
-use crate::feasibility::has_lengths;
 use crate::gates::OpenGates;
 use mari_market::{Activation, Border, Market, Order, Prices, Standing};
 use mari_units::Cents;
@@ -44,6 +44,7 @@ fn is_consistent_order(opened: &OpenGates, order: &Order, mw: u32, prices: &[Cen
     is_consistent_trade(standing, order, mw, prices[order.zone as usize])
 }
 
+/// Whether what each order runs is consistent with the price of its zone.
 fn orders_agree(opened: &OpenGates, orders: &[Order], mw: &[u32], prices: &[Cents]) -> bool
     requires lengths { length mw.now ≡ length orders.now }
     requires zones { All (λ o. o.zone < length prices.now) orders.now }
@@ -107,6 +108,7 @@ pub fn borders_agree(borders: &[Border], flow: &[i64], prices: &[Cents]) -> bool
     true
 }
 
+/// Whether each order and each border is consistent with the prices.
 fn orders_and_borders_agree(market: &Market, activation: &Activation, prices: &[Cents]) -> bool
     requires market { IsValid market.now }
     requires lengths { HasLengths market.now activation.now }
@@ -129,7 +131,7 @@ pub fn is_consistent(market: &Market, activation: &Activation, prices: &Prices) 
     ensures { IsTrue result ↔ IsConsistent market.now activation.now prices.now.cents }
 {
     let prices = prices.cents.as_slice();
-    has_lengths(market, activation)
+    market.has_lengths(activation)
         && market.are_prices(prices)
         && orders_and_borders_agree(market, activation, prices)
 }

@@ -2,14 +2,14 @@
 
 ghost use Rattle.std.specs.Prelude.{◌≡◌, ◌==◌, ◌<◌, ◌≤◌, ◌^◌, if◌then◌else◌, length, ℕ, ℤ, pos, ◌+◌, ◌+ℤ◌, ◌-ℤ◌, unsigned_abs, IsTrue, ◌↔◌};
 ghost use Rattle.std.specs.List.{All, AllZip};
-ghost use Rattle.mari_market.specs.Activation.{IsWithinLimits, carried_out, put_in, put_into};
+ghost use Rattle.mari_market.specs.Activation.{HasLengths, IsWithinLimits, carried_out, put_in, put_into};
 ghost use Rattle.mari_market.specs.Bounds.{IsWithin, bounds_by};
 ghost use Rattle.mari_market.specs.Market.{IsValid};
 ghost use Rattle.mari_market.specs.Optimal.{IsFeasible};
 ghost use Rattle.mari_market.specs.Sums.{sum_along};
 ghost use Rattle.mari_market.specs.Prefix.{opens_in};
 ghost use Rattle.mari_welfare.specs.Balance.{left_in};
-ghost use Rattle.mari_welfare.specs.Parts.{HasLengths, OrdersAndGatesFit, BordersAndZonesFit};
+ghost use Rattle.mari_welfare.specs.Parts.{OrdersAndGatesFit, BordersAndZonesFit};
 
 use crate::gates::{OpenGates, keep_gate_rules};
 use mari_market::{Activation, Border, MOST_ORDERS, Market, Order, Side};
@@ -26,6 +26,7 @@ fn is_within(opened: &OpenGates, order: &Order, mw: u32) -> bool
     }
 }
 
+/// Whether each order runs within its bounds.
 fn orders_fit(opened: &OpenGates, orders: &[Order], mw: &[u32]) -> bool
     requires { length mw.now ≡ length orders.now }
     ensures { IsTrue result ↔ AllZip (λ o q. IsWithin (bounds_by (opens_in opened.now) o) q) orders.now mw.now }
@@ -45,6 +46,7 @@ fn is_within_limits(border: &Border, flow: i64) -> bool
     -i64::from(border.back) <= flow && flow <= i64::from(border.limit)
 }
 
+/// Whether each flow is within its border's limits.
 fn flows_fit(borders: &[Border], flow: &[i64]) -> bool
     requires { length flow.now ≡ length borders.now }
     ensures { IsTrue result ↔ AllZip IsWithinLimits borders.now flow.now }
@@ -154,14 +156,7 @@ fn is_balanced(zones: u32, orders: &[Order], mw: &[u32], borders: &[Border], flo
     is_nothing_left(&left, zones)
 }
 
-/// Whether there are one quantity for each order and one flow for each border.
-pub(crate) fn has_lengths(market: &Market, activation: &Activation) -> bool
-    ensures { IsTrue result ↔ HasLengths market.now activation.now }
-{
-    activation.mw.as_slice().len() == market.orders.as_slice().len()
-        && activation.flow.as_slice().len() == market.borders.as_slice().len()
-}
-
+/// Whether each order runs within its bounds, and the open gates keep the rules.
 fn orders_and_gates_fit(market: &Market, activation: &Activation) -> bool
     requires market { IsValid market.now }
     requires lengths { HasLengths market.now activation.now }
@@ -172,6 +167,7 @@ fn orders_and_gates_fit(market: &Market, activation: &Activation) -> bool
     orders_fit(&opened, orders, mw) && keep_gate_rules(market.gates.as_slice(), &opened)
 }
 
+/// Whether each flow is within its border's limits, and each zone is in balance.
 fn borders_and_zones_fit(market: &Market, activation: &Activation) -> bool
     requires market { IsValid market.now }
     requires lengths { HasLengths market.now activation.now }
@@ -191,7 +187,7 @@ pub fn is_feasible(market: &Market, activation: &Activation) -> bool
     requires { IsValid market.now }
     ensures { IsTrue result ↔ IsFeasible market.now activation.now }
 {
-    has_lengths(market, activation)
+    market.has_lengths(activation)
         && orders_and_gates_fit(market, activation)
         && borders_and_zones_fit(market, activation)
 }

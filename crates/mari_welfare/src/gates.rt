@@ -70,6 +70,7 @@ impl OpenGates {
     }
 }
 
+/// Whether the parent, if there is one, is open.
 fn has_open_parent(opened: &OpenGates, parent: Option<u32>) -> bool
     ensures { IsTrue result ↔ HasOpenParent (opens_in opened.now) parent }
 {
@@ -79,6 +80,7 @@ fn has_open_parent(opened: &OpenGates, parent: Option<u32>) -> bool
     }
 }
 
+/// The gate's group, if it has one.
 fn group_of(gates: &[GateInfo], gate: usize) -> Option<u32>
     requires { gate < length gates.now }
     ensures { result ≡ group_of_gate gates.now gate }
@@ -86,6 +88,7 @@ fn group_of(gates: &[GateInfo], gate: usize) -> Option<u32>
     gates[gate].group
 }
 
+/// The gate's parent, if it has one.
 fn parent_of(gates: &[GateInfo], gate: usize) -> Option<u32>
     requires { gate < length gates.now }
     ensures { result ≡ parent_of_gate gates.now gate }
@@ -102,6 +105,7 @@ fn is_rival(gates: &[GateInfo], opened: &OpenGates, place: usize, group: u32, ot
     place != other && group_of(gates, other) == Some(group) && opened.has(other as u32)
 }
 
+/// Whether no other gate of the group is open.
 fn is_alone_in(gates: &[GateInfo], opened: &OpenGates, place: usize, group: u32) -> bool
     requires few { length gates.now ≤ MOST_GATES }
     ensures { IsTrue result ↔ IsAloneIn gates.now (opens_in opened.now) place group }
@@ -126,6 +130,7 @@ fn is_alone(gates: &[GateInfo], opened: &OpenGates, place: usize) -> bool
     }
 }
 
+/// Whether a gate is closed, or has an open parent, if it has one, and is the only open gate of its group.
 fn keeps_rules_at(gates: &[GateInfo], opened: &OpenGates, place: usize) -> bool
     requires few { length gates.now ≤ MOST_GATES }
     requires there { place < length gates.now }

@@ -84,6 +84,7 @@ fn part(word: &str) -> Option<FilePart>
     }
 }
 
+/// What `clear` asks for, if its words are right.
 fn clear<'a>(found: &ArgMatches<'a>) -> Option<Asked<'a>>
     ensures { option_map lent_asked result ≡ asked_for Clears (given_of (rows_of (found_of found.now))) }
 {
@@ -97,6 +98,7 @@ fn clear<'a>(found: &ArgMatches<'a>) -> Option<Asked<'a>>
     })
 }
 
+/// What `check` asks for, if its words are right.
 fn check<'a>(found: &ArgMatches<'a>) -> Option<Asked<'a>>
     ensures { option_map lent_asked result ≡ asked_for Checks (given_of (rows_of (found_of found.now))) }
 {
@@ -104,6 +106,7 @@ fn check<'a>(found: &ArgMatches<'a>) -> Option<Asked<'a>>
     Some(Asked::Check { folder })
 }
 
+/// What `generate` asks for, if its words are right.
 fn generate<'a>(found: &ArgMatches<'a>) -> Option<Asked<'a>>
     ensures { option_map lent_asked result ≡ asked_for Generates (given_of (rows_of (found_of found.now))) }
 {
@@ -112,6 +115,7 @@ fn generate<'a>(found: &ArgMatches<'a>) -> Option<Asked<'a>>
     Some(Asked::Generate { number })
 }
 
+/// What `migrate` asks for, if its words are right.
 fn migrate<'a>(found: &ArgMatches<'a>) -> Option<Asked<'a>>
     ensures { option_map lent_asked result ≡ asked_for Migrates (given_of (rows_of (found_of found.now))) }
 {

@@ -35,7 +35,7 @@ use Rattle.mari_core.proofs.Changes.{IsAt, length-with_state, node_at, state_sam
 use Rattle.mari_core.proofs.Lists.{changed_same}
 use Rattle.mari_core.proofs.Machines.{actor_there, by_actor_there}
 use Rattle.mari_pool.specs.Pooled.{taken_among}
-use Rattle.mari_pool.specs.Queued.{Queued, no_nodes, first_key, IsFirst, IsIdleQueue, IsMore, IsQueueOf}
+use Rattle.mari_pool.specs.Queued.{Queued, no_nodes, first_key, LeavesFirst, IsIdleQueue, IsMore, IsQueueOf}
 use Rattle.mari_pool.proofs.Keeps.{grown_longer}
 use Rattle.mari_pool.proofs.Queues.{first_waits, length_waiting, made, none_waits, queue_done, queue_more, queue_start, queue_taken, state_same_as, untaken_few, branch_done}
 use Rattle.mari_pool.proofs.Rooms.{branch_untaken, taken-append, taken_new, taken_state}
@@ -127,7 +127,7 @@ visit_same m old new x word key v =
     (ap (λ (g : Grown). g.market) t.is ∙ same.market, ap (λ (g : Grown). g.budget) t.is ∙ same.budget)
 
 -- what a visit makes of the queue, once the nodes that were made wait
-visit_settles : (m : Market) (old new : Machine) (x : ℕ) (word : List Bool) (key : ℕ) (q r s : Queued) → IsUnderWay m old q → IsFirst q r x → IsVisited m old new x word key → (new.tree.full ≡ true → ⊥) → IsMore key (length new.tree.nodes - length r.keys) r s → IsSettledBy (grown old.tree (Take 0 x)) new.tree r s
+visit_settles : (m : Market) (old new : Machine) (x : ℕ) (word : List Bool) (key : ℕ) (q r s : Queued) → IsUnderWay m old q → LeavesFirst q r x → IsVisited m old new x word key → (new.tree.full ≡ true → ⊥) → IsMore key (length new.tree.nodes - length r.keys) r s → IsSettledBy (grown old.tree (Take 0 x)) new.tree r s
 visit_settles m old new x word key q r s u f v not_full more =
     let t = visited_tree m old new x word key v in
     let waits : state_at old.tree.nodes x ≡ Some Untaken = first_waits old.tree.nodes q r x u.queue f in
@@ -136,7 +136,7 @@ visit_settles m old new x word key q r s u f v not_full more =
     (λ full. not_full (ap (λ (g : Grown). g.full) t.is ∙ full)) (subst (λ (g : Grown). IsMore key (length g.nodes - length r.keys) r s) t.is more))
 
 -- after a visit the search is under way again, unless the mark is on
-visit_keeps : (m : Market) (old new : Machine) (x : ℕ) (word : List Bool) (key : ℕ) (q r s : Queued) → IsUnderWay m old q → IsFirst q r x → IsVisited m old new x word key → KeepsFacts new → (new.tree.full ≡ true → ⊥) → IsMore key (length new.tree.nodes - length r.keys) r s → IsUnderWay m new s
+visit_keeps : (m : Market) (old new : Machine) (x : ℕ) (word : List Bool) (key : ℕ) (q r s : Queued) → IsUnderWay m old q → LeavesFirst q r x → IsVisited m old new x word key → KeepsFacts new → (new.tree.full ≡ true → ⊥) → IsMore key (length new.tree.nodes - length r.keys) r s → IsUnderWay m new s
 visit_keeps m old new x word key q r s u f v facts not_full more =
     let settled = visit_settles m old new x word key q r s u f v not_full more in
     let same = visit_same m old new x word key v in
@@ -151,7 +151,7 @@ visit_keeps m old new x word key q r s u f v facts not_full more =
     }
 
 -- the node that comes first waits in the search
-pub at_node : (m : Market) (s : Machine) (q r : Queued) (x : ℕ) → IsUnderWay m s q → IsFirst q r x → IsAtNode m s x
+pub at_node : (m : Market) (s : Machine) (q r : Queued) (x : ℕ) → IsUnderWay m s q → LeavesFirst q r x → IsAtNode m s x
 at_node m s q r x u f = record { market = u.market; facts = u.facts; waits = first_waits s.tree.nodes q r x u.queue f }
 
 -- ---- what each step asks for
@@ -274,7 +274,7 @@ done_by m s q r u idle = record {
 }
 
 -- the node that comes first has a word
-pub has_word : (m : Market) (s : Machine) (q r : Queued) (x : ℕ) → IsUnderWay m s q → IsFirst q r x → slice_get (words_of s.tree.nodes) x ≡ None → ⊥
+pub has_word : (m : Market) (s : Machine) (q r : Queued) (x : ℕ) → IsUnderWay m s q → LeavesFirst q r x → slice_get (words_of s.tree.nodes) x ≡ None → ⊥
 has_word m s q r x u f e =
     let at : IsAt s.tree.nodes x Untaken = node_at s.tree.nodes x Untaken (first_waits s.tree.nodes q r x u.queue f) in
     let there : slice_get (words_of s.tree.nodes) x ≡ Some at.node.word = slice_get-map (λ (n : TreeNode). n.word) s.tree.nodes x ∙ ap (option_map (λ (n : TreeNode). n.word)) at.there in
@@ -287,7 +287,7 @@ pub record IsStill (m : Market) (budget : ℕ) (s : Machine) (q : Queued) : Type
   pub under_way : IsUnderWay m s q
   pub budget_is : s.tree.budget ≡ budget
 
-pub still_next : (m : Market) (budget : ℕ) (old new : Machine) (x : ℕ) (word : List Bool) (key : ℕ) (q r s : Queued) → IsStill m budget old q → IsFirst q r x → IsVisited m old new x word key → KeepsFacts new → (new.tree.full ≡ true → ⊥) → IsMore key (length new.tree.nodes - length r.keys) r s → IsStill m budget new s
+pub still_next : (m : Market) (budget : ℕ) (old new : Machine) (x : ℕ) (word : List Bool) (key : ℕ) (q r s : Queued) → IsStill m budget old q → LeavesFirst q r x → IsVisited m old new x word key → KeepsFacts new → (new.tree.full ≡ true → ⊥) → IsMore key (length new.tree.nodes - length r.keys) r s → IsStill m budget new s
 still_next m budget old new x word key q r s h f v facts not_full more = record {
   under_way = visit_keeps m old new x word key q r s h.under_way f v facts not_full more;
   budget_is = (visit_same m old new x word key v).1 ∙ h.budget_is;
@@ -301,7 +301,7 @@ not_marked is off on = absurd (true≢false (sym on ∙ sym is ∙ off))
 abbrev pub still_left : ℕ → Machine → Queued → ℕ
 still_left budget s q = 2 * (budget - length s.tree.nodes) + length q.waiting
 
-pub fewer_left : (m : Market) (budget : ℕ) (old new : Machine) (x : ℕ) (word : List Bool) (key : ℕ) (q r s : Queued) → IsStill m budget old q → IsFirst q r x → IsVisited m old new x word key → KeepsFacts new → (new.tree.full ≡ true → ⊥) → IsMore key (length new.tree.nodes - length r.keys) r s → still_left budget new s < still_left budget old q
+pub fewer_left : (m : Market) (budget : ℕ) (old new : Machine) (x : ℕ) (word : List Bool) (key : ℕ) (q r s : Queued) → IsStill m budget old q → LeavesFirst q r x → IsVisited m old new x word key → KeepsFacts new → (new.tree.full ≡ true → ⊥) → IsMore key (length new.tree.nodes - length r.keys) r s → still_left budget new s < still_left budget old q
 fewer_left m budget old new x word key q r s h f v facts not_full more =
     let settled = visit_settles m old new x word key q r s h.under_way f v not_full more in
     let same = visit_same m old new x word key v in
@@ -330,7 +330,7 @@ pub record MayAdmit (s : Machine) (r : Queued) : Type 0 where
   pub made : length r.keys ≤ length s.tree.nodes
   pub waiting : length r.waiting ≤ length r.keys
 
-pub may_admit : (m : Market) (old new : Machine) (x : ℕ) (word : List Bool) (key : ℕ) (q r : Queued) → IsUnderWay m old q → IsFirst q r x → IsVisited m old new x word key → MayAdmit new r
+pub may_admit : (m : Market) (old new : Machine) (x : ℕ) (word : List Bool) (key : ℕ) (q r : Queued) → IsUnderWay m old q → LeavesFirst q r x → IsVisited m old new x word key → MayAdmit new r
 may_admit m old new x word key q r u f v =
     let t = visited_tree m old new x word key v in
     let longer = grown_longer (grown old.tree (Take 0 x)) (settling_by (grown old.tree (Take 0 x)) 0 x t.cutoff t.leaf) in

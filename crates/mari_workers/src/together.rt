@@ -2,7 +2,7 @@
 
 ghost use Rattle.std.specs.Prelude.{◌≡◌, ℕ, ◌+◌, ◌-◌, ◌<◌, ◌≤◌, pos, true, false, IfOk, OnOk, slice_index_or, vec_len};
 ghost use Rattle.mari_core.specs.Machine.{IsBest};
-ghost use Rattle.mari_incumbent.specs.Incumbent.{standing};
+ghost use Rattle.mari_incumbent.specs.Incumbent.{seat_view};
 ghost use Rattle.mari_market.specs.Activation.{gate_word_of};
 ghost use Rattle.mari_market.specs.Clearing.{Clears, IsBudget, IsWorkerCount};
 ghost use Rattle.mari_market.specs.Finding.{IsAttained};
@@ -45,7 +45,7 @@ fn seated_of(
     requires { (mine.old.incumbent ≡ incumbent.now) × (workers < mine.old.parts) }
     ensures len { IfOk result (λ v. vec_len v ≡ workers) }
     ensures seated { IfOk result (λ v. (i : ℕ) (d : _) → i < workers → IsSeated incumbent.now workers (slice_index_or v.items i d)) }
-    ensures mine { IfOk result (λ _. mine.new ≡ standing incumbent.now mine.old.seen mine.old.offered (mine.old.parts - workers)) }
+    ensures mine { IfOk result (λ _. mine.new ≡ seat_view incumbent.now mine.old.seen mine.old.offered (mine.old.parts - workers)) }
 {
     let mut seated = Vec::with_capacity(alloc, workers as usize)?;
     for worker in 0..workers {
@@ -322,7 +322,7 @@ fn searched<N: SearchName + Send + Sync, G: Turnstile, R: Threads + Wait + Sync>
 
     // A part of the seat for each worker, and two more.
     requires incumbent { (incumbent ≡ N.incumbent) × (N.incumbent.all ≡ workers + 2) }
-    requires seat { seat ≡ standing N.incumbent N.incumbent.first N.incumbent.first (workers + 2) }
+    requires seat { seat ≡ seat_view N.incumbent N.incumbent.first N.incumbent.first (workers + 2) }
 
     // The best activation with every gate closed.
     requires first { IsAttained market.now first × (first.welfare ≡ N.incumbent.first) }

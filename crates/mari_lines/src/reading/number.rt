@@ -131,6 +131,7 @@ pub fn read_name_text(alloc: Global, text: &[u8]) -> Result<Name, FormFault>
     }
 }
 
+/// Whether each byte is a digit.
 fn all_digits(text: &[u8]) -> bool
     ensures { result ≡ list_all is_ascii_digit text.now }
 {

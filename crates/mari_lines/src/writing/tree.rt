@@ -11,6 +11,7 @@ use mari_market::{Cut, CutSide};
 use mari_units::{Cents, Memory, put};
 use std::alloc::Global;
 
+/// Appends a space and a price, for each of the prices.
 fn put_prices(alloc: Global, out: &mut Vec<u8>, prices: &[Cents]) -> Result<(), Memory>
     ensures { OnOk result (out.new.items ≡ out.old.items ++ spaced (map price_text prices.now)) }
 {
@@ -20,6 +21,7 @@ fn put_prices(alloc: Global, out: &mut Vec<u8>, prices: &[Cents]) -> Result<(), 
     Ok(())
 }
 
+/// Appends a space and a flow, for each of the flows.
 fn put_flows(alloc: Global, out: &mut Vec<u8>, flows: &[i64]) -> Result<(), Memory>
     ensures { OnOk result (out.new.items ≡ out.old.items ++ spaced (map signed_decimal flows.now)) }
 {
@@ -29,6 +31,7 @@ fn put_flows(alloc: Global, out: &mut Vec<u8>, flows: &[i64]) -> Result<(), Memo
     Ok(())
 }
 
+/// Appends a space and a quantity, for each of the quantities.
 fn put_mws(alloc: Global, out: &mut Vec<u8>, mws: &[u32]) -> Result<(), Memory>
     ensures { OnOk result (out.new.items ≡ out.old.items ++ spaced (map decimal mws.now)) }
 {
@@ -38,6 +41,7 @@ fn put_mws(alloc: Global, out: &mut Vec<u8>, mws: &[u32]) -> Result<(), Memory>
     Ok(())
 }
 
+/// Appends a space and a zone's number from 1 on, for each of the zones.
 fn put_zones(alloc: Global, out: &mut Vec<u8>, zones: &[u32]) -> Result<(), Memory>
     ensures { OnOk result (out.new.items ≡ out.old.items ++ spaced (map zone_text zones.now)) }
 {
@@ -56,6 +60,7 @@ pub fn put_bound(alloc: Global, out: &mut Vec<u8>, prices: &[Cents]) -> Result<(
     put(out, b"\n")
 }
 
+/// Appends the word of a cut's side.
 fn put_side(out: &mut Vec<u8>, side: CutSide) -> Result<(), Memory>
     ensures { OnOk result (out.new.items ≡ out.old.items ++ side_text side) }
 {

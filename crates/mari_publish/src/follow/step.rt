@@ -47,6 +47,7 @@ pub fn more(pushed: Result<(), Memory>) -> Result<(), FollowFault>
     Ok(pushed?)
 }
 
+/// An empty list.
 pub fn empty<T>(alloc: Global) -> Items<T>
     ensures { result ≡ [] }
 {

@@ -1,6 +1,6 @@
 //! The tree of a block is open.
 
-ghost use Rattle.std.specs.Prelude.{◌≡◌, ◌<◌, length, nat_lt, if◌then◌else◌, Some, None, true, vec_len, vec_capacity};
+ghost use Rattle.std.specs.Prelude.{◌≡◌, ◌<◌, length, nat_lt, if◌then◌else◌, Some, None, Err, IsOk, true, vec_len, vec_capacity};
 ghost use Rattle.mari_publish.specs.Order.{after, after_growing, with_item, with_pending, conflict_item, kept_with, Steps, Follows};
 ghost use Rattle.mari_publish.specs.declared.held.Held.TheVariants as held_as;
 
@@ -157,6 +157,33 @@ fn close_conflict(
     (held, Ok(()))
 }
 
+/// A line of a conflict, where it is the next one.
+fn goes_on(
+    listing: Listing,
+    count: u32,
+    tree: Items<TreeItem>,
+    pending: Pending,
+) -> (Held, Result<(), FollowFault>)
+    ensures held { result.0 ≡ held_as.Growing (record { listing = listing; count = count; tree = tree; pending = pending }) }
+    ensures taken { IsOk result.1 }
+{
+    (tree_with(listing, count, tree, pending), Ok(()))
+}
+
+/// A line of a conflict, where it is not the next one.
+fn stays(
+    listing: Listing,
+    count: u32,
+    tree: Items<TreeItem>,
+    pending: Pending,
+    line: Line,
+) -> (Held, Result<(), FollowFault>)
+    ensures held { result.0 ≡ held_as.Growing (record { listing = listing; count = count; tree = tree; pending = pending }) }
+    ensures refused { result.1 ≡ Err FollowFault.OutOfOrder }
+{
+    stay(tree_with(listing, count, tree, pending), line)
+}
+
 /// A line of a block's tree.
 fn after_grown(alloc: Global, growing: Growing, line: Line) -> (Held, Result<(), FollowFault>)
     ensures { Steps (after_growing growing growing.pending line) (held_as.Growing growing) result.0 result.1 }
@@ -178,24 +205,12 @@ fn after_grown(alloc: Global, growing: Growing, line: Line) -> (Held, Result<(),
             at_item(alloc, growing, line)
         }
         Pending::Zones(zones) => match line {
-            Line::At(at) => (
-                tree_with(listing, count, tree, Pending::At(zones, at)),
-                Ok(()),
-            ),
-            line => {
-                let held = tree_with(listing, count, tree, Pending::Zones(zones));
-                stay(held, line)
-            }
+            Line::At(at) => goes_on(listing, count, tree, Pending::At(zones, at)),
+            line => stays(listing, count, tree, Pending::Zones(zones), line),
         },
         Pending::At(zones, at) => match line {
-            Line::Flows(flows) => (
-                tree_with(listing, count, tree, Pending::Flows(zones, at, flows)),
-                Ok(()),
-            ),
-            line => {
-                let held = tree_with(listing, count, tree, Pending::At(zones, at));
-                stay(held, line)
-            }
+            Line::Flows(flows) => goes_on(listing, count, tree, Pending::Flows(zones, at, flows)),
+            line => stays(listing, count, tree, Pending::At(zones, at), line),
         },
         Pending::Flows(zones, at, flows) => match line {
             Line::Mws(mws) => {
@@ -207,10 +222,7 @@ fn after_grown(alloc: Global, growing: Growing, line: Line) -> (Held, Result<(),
                 };
                 close_conflict(growing, zones, at, flows, mws)
             }
-            line => {
-                let held = tree_with(listing, count, tree, Pending::Flows(zones, at, flows));
-                stay(held, line)
-            }
+            line => stays(listing, count, tree, Pending::Flows(zones, at, flows), line),
         },
     }
 }

@@ -12,6 +12,7 @@ use mari_market::{Conflict, Leaf, TreeItem};
 use mari_units::{MOST_NODES, Memory};
 use std::alloc::Global;
 
+/// Appends a conflict's four lines.
 fn put_conflict_lines(alloc: Global, out: &mut Vec<u8>, conflict: &Conflict) -> Result<(), Memory>
     ensures { OnOk result (out.new.items ≡ out.old.items ++ text_of_lines (item_lines (TreeItem.Leaf (Leaf.Conflict conflict.now)))) }
 {
@@ -21,6 +22,7 @@ fn put_conflict_lines(alloc: Global, out: &mut Vec<u8>, conflict: &Conflict) -> 
     put_mw_line(alloc, out, conflict.activation.mw.as_slice())
 }
 
+/// Appends the lines of a tree's item.
 fn put_item(alloc: Global, out: &mut Vec<u8>, item: &TreeItem) -> Result<(), Memory>
     ensures { OnOk result (out.new.items ≡ out.old.items ++ text_of_lines (item_lines item.now)) }
 {
@@ -32,6 +34,7 @@ fn put_item(alloc: Global, out: &mut Vec<u8>, item: &TreeItem) -> Result<(), Mem
     }
 }
 
+/// Appends the lines of a tree's items.
 fn put_items(alloc: Global, out: &mut Vec<u8>, items: &[TreeItem]) -> Result<(), Memory>
     ensures { OnOk result (out.new.items ≡ out.old.items ++ text_of_lines (flat_map item_lines items.now)) }
 {

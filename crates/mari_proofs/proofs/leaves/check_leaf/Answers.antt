@@ -1,22 +1,13 @@
-use Rattle.std.proofs.Common.{subst, sym}
-use Rattle.mari_market.specs.declared.certificate.Leaf.{Leaf as LeafRecord}
-use Rattle.mari_proofs.specs.Leaves.{ExcludesWord}
-use Rattle.mari_market.specs.declared.certificate.Leaf.TheVariants.{Bound, Cut, Conflict}
 use Rattle.mari_market.specs.Prefix.{word_of}
-use Rattle.mari_market.proofs.Conflicts.{conflict_refutes}
-use Rattle.mari_proofs.proofs.LeafLaws.{leaf_bounds_below}
+use Rattle.mari_market.proofs.Search.{leaf_rises}
+use Rattle.mari_proofs.proofs.LeafLaws.{leaf_bounds_below, leaf_excludes}
 use Rattle.mari_proofs.proofs.leaves.check_leaf.Goals as goal
 
-pub returns-in-Bound-clause-bounds : goal.returns-in-Bound-clause-bounds
-returns-in-Bound-clause-bounds c = λ yes a adm e. leaf_bounds_below c.args.market.now c.args.cutoff.0 c.args.prefix.now c.args.prefix.now.length (Bound c.in-Bound.potentials) a c.requires.market (c.is_bound.ensures.0 yes) adm e
+pub returns-clause-bounds : goal.returns-clause-bounds
+returns-clause-bounds c = λ yes a adm e. leaf_bounds_below c.args.market.now c.args.cutoff.0 c.args.prefix.now c.args.prefix.now.length c.args.leaf.now a c.requires.market (c.holds_at.ensures.0 yes) adm e
 
-pub returns-in-Cut-clause-bounds : goal.returns-in-Cut-clause-bounds
-returns-in-Cut-clause-bounds c = λ yes a adm e. leaf_bounds_below c.args.market.now c.args.cutoff.0 c.args.prefix.now c.args.prefix.now.length (Cut c.in-Cut.cut) a c.requires.market (c.is_cut.ensures.0 yes) adm e
+pub returns-clause-excludes : goal.returns-clause-excludes
+returns-clause-excludes c = λ yes. leaf_excludes c.args.market.now c.args.cutoff.0 (word_of c.args.prefix.now) c.args.leaf.now c.requires.market (c.holds_at.ensures.0 yes)
 
-pub returns-in-Conflict-clause-bounds : goal.returns-in-Conflict-clause-bounds
-returns-in-Conflict-clause-bounds c = λ yes a adm e. leaf_bounds_below c.args.market.now c.args.cutoff.0 c.args.prefix.now c.args.prefix.now.length (Conflict c.in-Conflict.conflict) a c.requires.market (c.is_conflict.ensures.0 yes) adm e
-
-pub returns-in-Conflict-clause-excludes : goal.returns-in-Conflict-clause-excludes
-returns-in-Conflict-clause-excludes c = λ yes.
-    subst (λ (leaf : LeafRecord). ExcludesWord c.args.market.now (word_of c.args.prefix.now) leaf) (sym c.in-Conflict.is)
-    (λ a adm e. conflict_refutes c.args.market.now (word_of c.args.prefix.now) c.in-Conflict.conflict a c.requires.market (c.is_conflict.ensures.0 yes) adm e)
+pub returns-clause-rises : goal.returns-clause-rises
+returns-clause-rises c = λ yes w l. leaf_rises c.args.market.now c.args.cutoff.0 w (word_of c.args.prefix.now) c.args.leaf.now l (c.holds_at.ensures.0 yes)

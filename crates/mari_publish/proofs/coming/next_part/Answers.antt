@@ -1,5 +1,5 @@
 use Rattle.std.proofs.Common.{Some, None, ap, ◌∙◌}
-use Rattle.mari_publish.specs.declared.coming.Step.TheVariants as step
+use Rattle.mari_publish.specs.declared.coming.Handled.TheVariants as step
 use Rattle.mari_publish.specs.Pieces.{come_of}
 use Rattle.mari_publish.proofs.Pieces.{counts_of, room_of, lines_of_few, taken, taken_part, nothing_next, fault_next, line_step, nothing_step}
 use Rattle.mari_publish.proofs.coming.next_part.Goals as goal

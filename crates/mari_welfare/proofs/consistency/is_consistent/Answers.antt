@@ -5,8 +5,8 @@ use Rattle.mari_units.specs.declared.Cents.{Cents}
 use Rattle.std.proofs.Common.{List}
 use Rattle.mari_market.specs.declared.market.Market.{Market}
 use Rattle.mari_market.specs.declared.activation.Activation.{Activation}
+use Rattle.mari_market.specs.Activation.{HasLengths}
 use Rattle.mari_market.specs.Optimal.{IsConsistent}
-use Rattle.mari_welfare.specs.Parts.{HasLengths}
 use Rattle.mari_welfare.proofs.consistency.is_consistent.Goals as goal
 use Rattle.mari_welfare.proofs.consistency.is_consistent.Goals.{then-has_lengths, else-has_lengths}
 

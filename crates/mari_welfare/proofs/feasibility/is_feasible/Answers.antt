@@ -3,8 +3,8 @@ use Rattle.std.proofs.lemmas.Bool.{both_ways}
 use Rattle.std.proofs.lemmas.Slice.Zip.{AllZip-long}
 use Rattle.mari_market.specs.declared.market.Market.{Market}
 use Rattle.mari_market.specs.declared.activation.Activation.{Activation}
+use Rattle.mari_market.specs.Activation.{HasLengths}
 use Rattle.mari_market.specs.Optimal.{IsFeasible}
-use Rattle.mari_welfare.specs.Parts.{HasLengths}
 use Rattle.mari_welfare.proofs.feasibility.is_feasible.Goals as goal
 use Rattle.mari_welfare.proofs.feasibility.is_feasible.Goals.{then-has_lengths, else-has_lengths}
 

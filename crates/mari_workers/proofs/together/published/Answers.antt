@@ -6,7 +6,7 @@ use Rattle.mari_market.specs.Clearing.{ArePartsOfSearch}
 use Rattle.mari_market.specs.Finding.{IsAttained}
 use Rattle.mari_market.specs.Tree.{TreeHolds}
 use Rattle.mari_core.specs.Preorder.{shape_of}
-use Rattle.mari_incumbent.specs.Incumbent.{Standing}
+use Rattle.mari_incumbent.specs.Incumbent.{SeatView}
 use Rattle.mari_pool.specs.declared.pool.PoolFault.{PoolFault}
 use Rattle.mari_pool.specs.Taking.{IsOpenAt}
 use Rattle.mari_workers.proofs.Rest.{all_done, best_of_all, clearing_by_tree, refinable}
@@ -25,10 +25,10 @@ returns g c =
     let a : Attained = c.unwrap_or-best.result in
     let is : unwrap_or c.args.mine.best c.args.first ≡ a = sym c.unwrap_or-best.ensures in
     let attained : IsAttained m a = subst (IsAttained m) is best.0 in
-    let offered : c.close-welfare.result ≡ max c.args.mine.seat.offered c.into_seat.result.offered = c.close-welfare.ensures.offered ∙ ap (λ (s : Standing). s.offered) c.join.ensures in
+    let offered : c.close-welfare.result ≡ max c.args.mine.seat.offered c.into_seat.result.offered = c.close-welfare.ensures.offered ∙ ap (λ (s : SeatView). s.offered) c.join.ensures in
     let welfare : c.close-welfare.result ≡ a.welfare = omega (arith, offered, c.into_seat.ensures.fresh, best.2, best.1, ap (λ (b : Attained). b.welfare) is) in
-    let seen : c.close-welfare.result ≡ max c.args.mine.seat.seen c.into_seat.result.seen = c.close-welfare.ensures.seen ∙ ap (λ (s : Standing). s.seen) c.join.ensures in
-    let above : c.args.pool.seat.seen ≤ c.close-welfare.result = omega (arith, seen, ap (λ (s : Standing). s.seen) c.into_seat.ensures.seat) in
+    let seen : c.close-welfare.result ≡ max c.args.mine.seat.seen c.into_seat.result.seen = c.close-welfare.ensures.seen ∙ ap (λ (s : SeatView). s.seen) c.join.ensures in
+    let above : c.args.pool.seat.seen ≤ c.close-welfare.result = omega (arith, seen, ap (λ (s : SeatView). s.seen) c.into_seat.ensures.seat) in
     refinable m g.N.SearchName.budget incumbent.first c.args.mine.seat.offered c.args.mine.best c.args.first _
     (clearing_by_tree m g.N.SearchName.budget _ a c.requires.market attained refl welfare
     (subst (λ (items : List TreeItem). TreeHolds m (pos c.close-welfare.result) items) (sym c.of.ensures) (c.in-Ok.ensures.holds c.close-welfare.result above))

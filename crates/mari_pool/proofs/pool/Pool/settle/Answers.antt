@@ -3,7 +3,7 @@ use Rattle.std.specs.Prelude.{vec_capacity}
 use Rattle.mari_market.specs.Prefix.{word_of}
 use Rattle.mari_core.specs.declared.journal.JournalEntry.{JournalEntry}
 use Rattle.mari_core.specs.Growth.{Grown, settling, closing_leaf, grown, in_journal, IsAllowed}
-use Rattle.mari_incumbent.specs.Incumbent.{IncumbentId, standing}
+use Rattle.mari_incumbent.specs.Incumbent.{IncumbentId, seat_view}
 use Rattle.mari_pool.specs.declared.ticket.Settled.TheVariants as settled
 use Rattle.mari_core.proofs.Journals.{grown_budget}
 use Rattle.mari_pool.specs.Pooled.{Pooled, IsTakenAt, keys_after, settled_with, unreturned, taken_among, answer_of}
@@ -67,9 +67,9 @@ invariant_of-self g c =
     (subst (λ (n : ℕ). Follows (child_key c.args.finding) n q r c.in-Ok.entry) count
     (subst (λ (k : ℕ). Follows k c.len-nodes.result q r c.in-Ok.entry) c.child_key-key.ensures c.follow.ensures)) in
     let followed : IsFollowed c.self.inside.tree e (child_key c.args.finding) q r = follows_kept c.self.inside.tree e (child_key c.args.finding) q r (settling_comes c.self.inside.tree c.args.ticket.worker c.args.ticket.node seen (closing_leaf seen c.args.finding)) c.self.invariant.2 may follows in
-    let seat : c.meet.new.into ≡ standing c.self.inside.seat.incumbent (max c.self.inside.seat.seen seen) c.self.inside.seat.offered c.self.inside.seat.parts =
-    c.meet.ensures.into ∙ ap (λ (n : ℕ). standing c.args.incumbent.now n c.self.inside.seat.offered c.self.inside.seat.parts) c.meet.ensures.greater
-    ∙ ap (λ (w : IncumbentId). standing w (max c.self.inside.seat.seen seen) c.self.inside.seat.offered c.self.inside.seat.parts) (c.requires.incumbent.0 ∙ sym c.self.invariant.0.seat_incumbent) in (
+    let seat : c.meet.new.into ≡ seat_view c.self.inside.seat.incumbent (max c.self.inside.seat.seen seen) c.self.inside.seat.offered c.self.inside.seat.parts =
+    c.meet.ensures.into ∙ ap (λ (n : ℕ). seat_view c.args.incumbent.now n c.self.inside.seat.offered c.self.inside.seat.parts) c.meet.ensures.greater
+    ∙ ap (λ (w : IncumbentId). seat_view w (max c.self.inside.seat.seen seen) c.self.inside.seat.offered c.self.inside.seat.parts) (c.requires.incumbent.0 ∙ sym c.self.invariant.0.seat_incumbent) in (
       pool_same g.N.SearchName.market g.N.SearchName.budget g.N.SearchName.workers g.N.SearchName.incumbent (grown c.self.inside.tree e) c.settle.new.self (keys_after c.self.inside.tree e q.keys (child_key c.args.finding)) r.keys (c.self.inside.journal.items ++ in_journal e ∷ []) c.push_reserved.new.self.items (vec_capacity c.self.inside.journal) (vec_capacity c.push_reserved.new.self) c.self.inside.turns.items c.self.inside.returned.items _ c.meet.new.into
           change followed.keys (c.push_reserved.ensures.items ∙ ap (λ (j : JournalEntry). c.self.inside.journal.items ++ j ∷ []) entry) c.push_reserved.ensures.capacity seat
           (settle_keeps g.N.SearchName.market g.N.SearchName.budget g.N.SearchName.workers g.N.SearchName.incumbent p c.args.ticket.worker c.args.ticket.node seen c.args.finding c.self.invariant.0 may),
@@ -96,9 +96,9 @@ returns-clause-settled g c = λ _.
     (subst (λ (n : ℕ). Follows (child_key c.args.finding) n q r c.in-Ok.entry) count
     (subst (λ (k : ℕ). Follows k c.len-nodes.result q r c.in-Ok.entry) c.child_key-key.ensures c.follow.ensures)) in
     let followed : IsFollowed c.self.inside.tree e (child_key c.args.finding) q r = follows_kept c.self.inside.tree e (child_key c.args.finding) q r (settling_comes c.self.inside.tree c.args.ticket.worker c.args.ticket.node seen (closing_leaf seen c.args.finding)) c.self.invariant.2 may follows in
-    let seat : c.meet.new.into ≡ standing c.self.inside.seat.incumbent (max c.self.inside.seat.seen seen) c.self.inside.seat.offered c.self.inside.seat.parts =
-    c.meet.ensures.into ∙ ap (λ (n : ℕ). standing c.args.incumbent.now n c.self.inside.seat.offered c.self.inside.seat.parts) c.meet.ensures.greater
-    ∙ ap (λ (w : IncumbentId). standing w (max c.self.inside.seat.seen seen) c.self.inside.seat.offered c.self.inside.seat.parts) (c.requires.incumbent.0 ∙ sym c.self.invariant.0.seat_incumbent) in
+    let seat : c.meet.new.into ≡ seat_view c.self.inside.seat.incumbent (max c.self.inside.seat.seen seen) c.self.inside.seat.offered c.self.inside.seat.parts =
+    c.meet.ensures.into ∙ ap (λ (n : ℕ). seat_view c.args.incumbent.now n c.self.inside.seat.offered c.self.inside.seat.parts) c.meet.ensures.greater
+    ∙ ap (λ (w : IncumbentId). seat_view w (max c.self.inside.seat.seen seen) c.self.inside.seat.offered c.self.inside.seat.parts) (c.requires.incumbent.0 ∙ sym c.self.invariant.0.seat_incumbent) in
     pool_parts (grown c.self.inside.tree e) c.settle.new.self (keys_after c.self.inside.tree e q.keys (child_key c.args.finding)) r.keys (c.self.inside.journal.items ++ in_journal e ∷ []) c.push_reserved.new.self.items (vec_capacity c.self.inside.journal) (vec_capacity c.push_reserved.new.self) c.self.inside.turns.items c.self.inside.returned.items _ c.meet.new.into
     change followed.keys (c.push_reserved.ensures.items ∙ ap (λ (j : JournalEntry). c.self.inside.journal.items ++ j ∷ []) entry) c.push_reserved.ensures.capacity seat
     ∙ ap (λ (k : Pooled). settled_with k c.args.ticket.worker c.args.ticket.node seen c.args.finding) c.self.view_is

@@ -27,7 +27,7 @@ zones_of rows = map zone_of rows
 abbrev pub operators_of : List Row → List (List ℕ)
 operators_of rows = distinct (map operator_of rows)
 
--- a line is refused as the 65th, for a field that is no name, and for a zone of an earlier line
+-- a line is refused behind `MOST_ZONES` others, for a field that is no name, and for a zone of an earlier line
 abbrev pub zone_checks : List Row → Row → Checks
 zone_checks earlier row =
     (nat_le MOST_ZONES (length earlier), zone_check_number TooManyZones)
@@ -55,8 +55,8 @@ zone_columns = codes "zone,operator"
 abbrev pub zone_grammar : Grammar ZoneBook
 zone_grammar = record { columns = zone_columns; line_checks = zone_checks; file_checks = zone_file_checks; book = zone_book }
 
--- what holds of every book of zones that is read: 1 to 64 zones, each with a name of its own and an operator, which has
--- a name
+-- what holds of every book of zones that is read: 1 to `MOST_ZONES` zones, each with a name of its own and an
+-- operator, which has a name
 pub record IsZoneBook (book : ZoneBook) : Type 0 where
   pub some : 1 ≤ length book.zones
   pub few : length book.zones ≤ MOST_ZONES

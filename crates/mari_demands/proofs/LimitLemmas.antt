@@ -1,5 +1,5 @@
 -- What lines state of the limits of each border in each run.
-use Rattle.std.proofs.Common.{◌≡◌, ◌≢◌, ◌∙◌, ◌+◌, ◌-◌, ◌*◌, ◌/◌, ◌%◌, ◌==◌, ◌<◌, ◌≤◌, ◌⊎◌, ℕ, zero, suc, Bool, true, false, List, [], ◌∷◌, ◌++◌, Option, Some, None, Result, Ok, Err, IfOk, get_or, length, map, arith, refl, ap, sym, inl, inr}
+use Rattle.std.proofs.Common.{◌≡◌, ◌≢◌, ◌∙◌, ◌+◌, ◌-◌, ◌*◌, ◌/◌, ◌%◌, ◌==◌, ◌<◌, ◌≤◌, ◌⊎◌, ℕ, Bool, true, false, List, [], ◌∷◌, ◌++◌, Option, Some, None, Result, Ok, Err, IfOk, get_or, length, map, arith, refl, ap, sym, inl, inr}
 use Rattle.std.specs.Prelude.{is_some, nat_lt, option_map, position, unwrap_or}
 use Rattle.std.specs.List.{find, list_any, range_with_len}
 use Rattle.std.specs.Option.{option_and_then, option_or}
@@ -8,7 +8,7 @@ use Rattle.std.proofs.lemmas.Bool.Decides.{eqb_tells, nat_tests}
 use Rattle.std.proofs.lemmas.Grind.{get_or-set_at}
 use Rattle.std.proofs.lemmas.List.{get_or-set_other, get_or_past}
 use Rattle.std.proofs.lemmas.List.Folds.{find-append}
-use Rattle.std.proofs.lemmas.List.FromFn.{get_or-map-range_with_len, length-map-range_with_len, map-range_with_len_more}
+use Rattle.std.proofs.lemmas.List.FromFn.{get_or-map-range_with_len, length-map-range_with_len}
 use Rattle.std.proofs.lemmas.Nat.{div-mul-add, mod-mul-add}
 use Rattle.mari_rows.specs.Books.{GivesBook, book_in, first_failing}
 use Rattle.mari_rows.specs.Fields.{number_in}
@@ -27,6 +27,7 @@ use Rattle.mari_demands.specs.LimitPairs.{IsLimitTable, limits_in, limits_there,
 use Rattle.mari_demands.specs.Limits.{border_at, is_of, leads, limit_grammar, limit_table, limits_at, name_checks, place_in, stated}
 use Rattle.mari_demands.specs.declared.limits.Limits.{Limits}
 use Rattle.mari_demands.proofs.LimitTables.{place-within}
+use Rattle.mari_units.proofs.Lists.{same_over}
 
 or-none : {X : Type 0} (o : Option X) → option_or o None ≡ o
 or-none None = refl
@@ -34,15 +35,7 @@ or-none (Some x) = refl
 
 -- tables that agree at each of their places
 same-map : {X : Type 0} (f g : ℕ → X) (n : ℕ) → ((k : ℕ) → k < n → f k ≡ g k) → map f (range_with_len 0 n) ≡ map g (range_with_len 0 n)
-same-map f g zero e = refl
-same-map f g (suc n) e =
-    let one : suc n ≡ n + 1 = omega arith in
-    ap (λ k. map f (range_with_len 0 k)) one
-    ∙ map-range_with_len_more f 0 n n (omega arith)
-    ∙ ap (λ w. w ++ f n ∷ []) (same-map f g n (λ k h. e k (omega arith)))
-    ∙ ap (λ x. map g (range_with_len 0 n) ++ x ∷ []) (e n (omega arith))
-    ∙ sym (map-range_with_len_more g 0 n n (omega arith))
-    ∙ ap (λ k. map g (range_with_len 0 k)) (sym one)
+same-map f g n e = same_over f g 0 n (λ k low high. e k (omega (arith, high)))
 
 -- a border that is found is one of the book
 border-below : (borders : List BorderEnds) (from to : Option ℕ)

@@ -1,11 +1,11 @@
 -- The gate word of an activation, marked order by order.
-use Rattle.std.proofs.Common.{◌≡◌, Bool, true, false, ℕ, zero, suc, ◌+◌, ◌<◌, ◌≤◌, List, [], ◌∷◌, ◌++◌, length, map, take, get_or, Option, Some, None, arith, refl, sym, ap, ◌∙◌, subst, not, ◌⊎◌, inl, inr}
+use Rattle.std.proofs.Common.{◌≡◌, Bool, true, false, ℕ, ◌<◌, ◌≤◌, List, [], length, map, take, get_or, Option, Some, None, arith, refl, sym, ap, ◌∙◌, subst, not, ◌⊎◌, inl, inr}
 use mathlib.Core.Bool.{beq}
 use Rattle.std.specs.Prelude.{MatchOption, IfSome, IsTrue, ◌↔◌}
 use Rattle.std.specs.List.{range_with_len}
 use Rattle.std.proofs.lemmas.Bool.{cases_lt}
 use Rattle.std.proofs.lemmas.List.{get_or_past}
-use Rattle.std.proofs.lemmas.List.FromFn.{length-map-range_with_len, map-range_with_len_more}
+use Rattle.std.proofs.lemmas.List.FromFn.{length-map-range_with_len}
 use Rattle.mari_market.specs.declared.activation.Activation.{Activation}
 use Rattle.mari_market.specs.declared.market.Market.{Market}
 use Rattle.mari_market.specs.declared.market.Order.{Order}
@@ -23,6 +23,7 @@ use Rattle.mari_market.proofs.Search.{parents_earlier}
 use Rattle.mari_market.proofs.Words.{begins_own, length-gate_word_of, word_is_feasible}
 use Rattle.mari_gates.proofs.Decisions.{opens-decisions, length-decisions}
 use Rattle.std.proofs.lemmas.Slice.Zip.{AllZip-long}
+use Rattle.mari_units.proofs.Lists.{same_over}
 
 -- a prefix that decides no gate has no bit that is 1
 pub none_set : (x : Prefix) (g : ℕ) → word_of x ≡ [] → IsCleared x → g < 512 → bit_of x g ≡ false
@@ -43,15 +44,7 @@ few_at m os i d v e l = of_gate (get_or os i d).gate (subst (λ (xs : List Order
     of_gate (Some g) f = omega (arith, f.0, v.few_gates)
 
 pub same_map : (f g : ℕ → Bool) (n : ℕ) → ((k : ℕ) → k < n → f k ≡ g k) → map f (range_with_len 0 n) ≡ map g (range_with_len 0 n)
-same_map f g zero e = refl
-same_map f g (suc n) e =
-    let one : suc n ≡ n + 1 = omega arith in
-    ap (λ k. map f (range_with_len 0 k)) one
-    ∙ map-range_with_len_more f 0 n n (omega arith)
-    ∙ ap (λ w. w ++ f n ∷ []) (same_map f g n (λ k h. e k (omega arith)))
-    ∙ ap (λ b. map g (range_with_len 0 n) ++ b ∷ []) (e n (omega arith))
-    ∙ sym (map-range_with_len_more g 0 n n (omega arith))
-    ∙ ap (λ k. map g (range_with_len 0 k)) (sym one)
+same_map f g n e = same_over f g 0 n (λ k low high. e k (omega (arith, high)))
 
 -- ---- the answer
 

@@ -13,7 +13,7 @@ use Rattle.mari_units.specs.Names.{is_name, is_name_byte}
 use Rattle.mari_units.specs.Numbers.{sign_of, printed_cents, printed_euros, printed_ten_thousandths}
 use Rattle.mari_lines.specs.Reading.{Lacks}
 use Rattle.mari_lines.specs.Spelling.{spaced, kind_text}
-use Rattle.mari_lines.proofs.Printed.{own}
+use Rattle.mari_units.proofs.Digits.{own}
 use Rattle.mari_lines.proofs.Splits.{first_split, only_split, some_words}
 
 -- above the space

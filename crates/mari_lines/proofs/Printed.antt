@@ -1,25 +1,19 @@
 -- The number that the digits of a printed number write, and its sign.
-use Rattle.std.proofs.Common.{◌≡◌, ◌<◌, ℕ, suc, ◌+◌, ◌*◌, ◌-◌, ◌/◌, ◌%◌, ◌^◌, Bool, true, false, eqb, List, [], ◌∷◌, ◌++◌, length, fold, ℤ, pos, negsuc, int_lt, refl, sym, ap, ◌∙◌, arith, rules}
+use Rattle.std.proofs.Common.{◌≡◌, ◌<◌, ℕ, suc, ◌+◌, ◌*◌, ◌-◌, ◌/◌, ◌%◌, ◌^◌, Bool, true, false, List, [], ◌∷◌, ◌++◌, fold, ℤ, pos, negsuc, int_lt, refl, sym, ap, ◌∙◌, arith}
 use Rattle.std.specs.Char.{is_ascii_digit}
 use Rattle.std.specs.Int.RustNames.{unsigned_abs}
 use Rattle.std.specs.List.{list_all}
 use Rattle.std.specs.Fmt.{decimal, signed_decimal}
 use Rattle.std.proofs.lemmas.Bool.Decides.{nat_tests}
 use Rattle.std.proofs.lemmas.List.{append-nil}
-use Rattle.std.proofs.lemmas.Str.Parse.{IsNumeralModel, numerals_by_fold}
 use Rattle.std.proofs.lemmas.Fmt.{digits_decimal, digits_value-decimal, decimal_nonempty}
 use Rattle.mari_units.specs.Numbers.{has_minus, sign_of, printed_cents, printed_euros, printed_ten_thousandths}
 use Rattle.mari_lines.specs.Reading.{with_byte, digits_in}
 use Rattle.std.proofs.lemmas.Bool.{and_parts}
+use Rattle.mari_units.proofs.Digits.{AreDigits, own, digit_byte, digits_unsigned}
 
-abbrev pub AreDigits : List ℕ → Type 0
-AreDigits ds = list_all is_ascii_digit ds ≡ true
-
-abbrev pub value_from : ℕ → List ℕ → ℕ
+abbrev value_from : ℕ → List ℕ → ℕ
 value_from a ds = fold (λ n d. 10 * n + (d - 48)) a ds
-
-pub own : IsNumeralModel AreDigits (value_from 0)
-own = numerals_by_fold AreDigits (search rules) value_from (search rules)
 
 only_digits : (a : ℕ) (ds : List ℕ) → AreDigits ds → fold with_byte a ds ≡ value_from a ds
 only_digits a [] e = refl
@@ -32,9 +26,6 @@ from_append a (x ∷ xs) ys = from_append (with_byte a x) xs ys
 -- a printed whole number
 pub digits_in_decimal : (n : ℕ) → n < 2 ^ 64 → digits_in (decimal n) ≡ n
 digits_in_decimal n small = only_digits 0 (decimal n) (digits_decimal own n small) ∙ digits_value-decimal own n small
-
-digit_byte : (x : ℕ) → x < 10 → is_ascii_digit (48 + x) ≡ true
-digit_byte x lt = grind (arith, nat_tests)
 
 next_digit : (n x : ℕ) → x < 10 → with_byte n (48 + x) ≡ 10 * n + x
 next_digit n x lt = rw (digit_byte x lt) (omega arith)
@@ -64,15 +55,8 @@ digits_in_ten_thousandths n small =
     ∙ omega arith
 
 -- no printed number without a sign begins with one
-no_sign : (ds rest : List ℕ) → AreDigits ds → 0 < length ds → has_minus (ds ++ rest) ≡ false
-no_sign [] rest e some = absurd (omega arith)
-no_sign (d ∷ ds) rest e some = let p = (and_parts (is_ascii_digit d) (list_all is_ascii_digit ds) e).0 in not_minus d p
-  where
-    not_minus : (d : ℕ) → is_ascii_digit d ≡ true → eqb d 45 ≡ false
-    not_minus d e = grind (arith, nat_tests)
-
 pub no_minus : (n : ℕ) (rest : List ℕ) → n < 2 ^ 64 → has_minus (decimal n ++ rest) ≡ false
-no_minus n rest small = no_sign (decimal n) rest (digits_decimal own n small) (decimal_nonempty n small)
+no_minus n rest small = (digits_unsigned (decimal n) rest (digits_decimal own n small) (decimal_nonempty n small)).0
 
 abbrev pub Fits63 : ℤ → Type 0
 Fits63 z = unsigned_abs z < 2 ^ 63

@@ -26,7 +26,9 @@ use Rattle.mari_demands.specs.declared.limits.Limits.{Limits}
 use Rattle.mari_remain.specs.Migrated.{limit_record, page_of}
 use Rattle.mari_remain.specs.RunMarket.{ends_at}
 use Rattle.mari_remain.proofs.MigratedBorders.{NoneRepeated, bare, no-way, position-behind, zone-found, zone-plain}
-use Rattle.mari_remain.proofs.PrintedFields.{number-plain, number-read, whole-read}
+use Rattle.mari_remain.proofs.PrintedFields.{number-plain}
+use Rattle.mari_rows.proofs.NumberLemmas.{decimal_in}
+use Rattle.mari_units.proofs.Digits.{decimal_whole}
 use Rattle.mari_remain.proofs.ReadBack.{AreColumns, book-read, five-pass, is_plain_record, page-rows, row-passes}
 use Rattle.mari_units.proofs.Lists.{same_over}
 
@@ -170,7 +172,7 @@ module _ (zones : ZoneBook) (is : IsZoneBook zones) (borders : List BorderEnds) 
     small-back = omega (arith, back p.0 p.1 there.border)
 
     run-read : run_in runs row ≡ Some p.0
-    run-read = number-read 1 runs p.0 small-run there.first there.last
+    run-read = decimal_in 1 runs p.0 small-run there.first there.last
 
     border-read : border_in zones book row ≡ Some p.1
     border-read =
@@ -182,8 +184,8 @@ module _ (zones : ZoneBook) (is : IsZoneBook zones) (borders : List BorderEnds) 
     limits-read : limits_of row ≡ Some (limits p.0 p.1)
     limits-read =
         rw (
-          number-read 0 99999 (limits p.0 p.1).limit small-limit (omega arith) (limit p.0 p.1 there.border),
-          number-read 0 99999 (limits p.0 p.1).back small-back (omega arith) (back p.0 p.1 there.border),
+          decimal_in 0 99999 (limits p.0 p.1).limit small-limit (omega arith) (limit p.0 p.1 there.border),
+          decimal_in 0 99999 (limits p.0 p.1).back small-back (omega arith) (back p.0 p.1 there.border),
         ) refl
 
     key-read : (run border : ℕ) → is_of zones book runs run border row ≡ is_pair run border p
@@ -207,7 +209,7 @@ module _ (zones : ZoneBook) (is : IsZoneBook zones) (borders : List BorderEnds) 
   line-passes done earlier line p there same new =
       let at = row line p there in
       let numbers : (is_some (whole_of (field_of at 0)) && is_some (whole_of (field_of at 3)) && is_some (whole_of (field_of at 4))) ≡ true =
-      rw (whole-read p.0 (small-run line p there), whole-read (limits p.0 p.1).limit (small-limit line p there), whole-read (limits p.0 p.1).back (small-back line p there)) refl in
+      rw (decimal_whole p.0 (small-run line p there), decimal_whole (limits p.0 p.1).limit (small-limit line p there), decimal_whole (limits p.0 p.1).back (small-back line p there)) refl in
       let fresh : list_any (is_of zones book runs (run_at runs at) (border_at zones book at)) earlier ≡ false =
       sym (list_any-map key (is_pair (run_at runs at) (border_at zones book at)) earlier)
       ∙ (λ i. list_any (is_pair (key-of line p there i).0 (key-of line p there i).1) (same i)) ∙ new in

@@ -5,6 +5,7 @@ pub mod FindLemmas
 pub mod FirstLemmas
 pub mod FirstMeaning
 pub mod NameLemmas
+pub mod NumberLemmas
 pub mod PlaceLemmas
 pub mod RecordLemmas
 pub mod RowLemmas

@@ -13,7 +13,7 @@ use Rattle.std.proofs.lemmas.Slice.Eq.{bytes_eq-Decides}
 use Rattle.mari_units.specs.Names.{is_name, is_name_byte}
 use Rattle.mari_scenario.specs.Pages.{bid, group, provider}
 use Rattle.mari_scenario.proofs.FieldBytes.{IsPlain, decimal-plain, joined}
-use Rattle.mari_scenario.proofs.ReadBack.{AreDigits, own}
+use Rattle.mari_units.proofs.Digits.{AreDigits, own}
 
 -- 1 to 16 bytes of names
 abbrev AreNameBytes : List ℕ → Type 0

@@ -21,7 +21,9 @@ use Rattle.mari_scenario.proofs.BidNames.{bid-name, bid-plain, bid_id, ids-diffe
 use Rattle.mari_scenario.proofs.DrawBounds.{draw-lt}
 use Rattle.mari_scenario.proofs.FieldBytes.{IsPlain, decimal-plain}
 use Rattle.mari_scenario.proofs.PlainNumbers.{cents-plain}
-use Rattle.mari_scenario.proofs.ReadBack.{cents-price, cents-within, decimal-in, decimal-whole}
+use Rattle.mari_scenario.proofs.ReadBack.{cents-price, cents-within}
+use Rattle.mari_rows.proofs.NumberLemmas.{decimal_in}
+use Rattle.mari_units.proofs.Digits.{decimal_whole}
 use Rattle.mari_scenario.proofs.Written.{IsLine, line_text}
 use Rattle.mari_scenario.proofs.ZonePage.{the_zones, drawn-known, drawn-plain}
 
@@ -147,9 +149,9 @@ bid-passes x n few = one-line bid_line bid_records (bid_grammar the_zones 96) n 
   rw (
     bid-name (n / 40 + 1) (n % 40 + 1) (omega arith) (omega arith),
     provider-name (turn n) (omega arith),
-    decimal-whole (n / 40 + 1) (omega arith),
-    decimal-whole (least n state) small-least,
-    decimal-whole (greatest state) small-greatest,
+    decimal_whole (n / 40 + 1) (omega arith),
+    decimal_whole (least n state) small-least,
+    decimal_whole (greatest state) small-greatest,
     cents-price (bid_price state) small-price,
     direction-read (is_up state),
     kind-read (is_both state),
@@ -159,7 +161,7 @@ bid-passes x n few = one-line bid_line bid_records (bid_grammar the_zones 96) n 
     (
       rw (drawn-known (zone_number state) (in-zones state)) refl,
       (
-        rw (decimal-in 1 96 (n / 40 + 1) (omega arith) (omega arith) (omega arith)) refl,
+        rw (decimal_in 1 96 (n / 40 + 1) (omega arith) (omega arith) (omega arith)) refl,
         (
           rw (cents-within (bid_price state) (omega (arith, price-small state)), greatest-read, least-read) refl,
           (
@@ -188,10 +190,10 @@ bid-passes x n few = one-line bid_line bid_records (bid_grammar the_zones 96) n 
     small-price = omega (arith, price-small state)
 
     greatest-read : number_in 1 9999 (decimal (greatest state)) ≡ Some (greatest state)
-    greatest-read = decimal-in 1 9999 (greatest state) small-greatest (omega arith) (omega (arith, greatest-small state))
+    greatest-read = decimal_in 1 9999 (greatest state) small-greatest (omega arith) (omega (arith, greatest-small state))
 
     least-read : number_in 0 9999 (decimal (least n state)) ≡ Some (least n state)
-    least-read = decimal-in 0 9999 (least n state) small-least (omega arith) (omega (arith, least-small n state, greatest-small state))
+    least-read = decimal_in 0 9999 (least n state) small-least (omega arith) (omega (arith, least-small n state, greatest-small state))
 
 unfoldable pub the_bids : ℕ → BidBook
 the_bids x = bid_book the_zones 96 (bid_rows 960 x)

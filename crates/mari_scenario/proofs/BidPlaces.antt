@@ -18,7 +18,7 @@ use Rattle.mari_scenario.specs.Pages.{bid, bid_line}
 use Rattle.mari_scenario.proofs.Accepting.{drawn, rows-more}
 use Rattle.mari_scenario.proofs.BidNames.{bid_id}
 use Rattle.mari_scenario.proofs.BidPage.{bid_fields, bid_records, bid_rows, length-rows, new-id, the_bids}
-use Rattle.mari_scenario.proofs.ReadBack.{decimal-in}
+use Rattle.mari_rows.proofs.NumberLemmas.{decimal_in}
 use Rattle.mari_scenario.proofs.ZonePage.{the_zones}
 use Rattle.mari_units.proofs.Lists.{get_front, get_seam}
 
@@ -103,7 +103,7 @@ pub quarter-told : (x k : ℕ) → k < 960 → quarter_of (the_bids x) k ≡ k /
 unfolding the_bids
 quarter-told x k few =
     let found = bid-there (said_bid x) 960 x k few (omega arith) in
-    rw (found.2, decimal-in 1 96 (k / 40 + 1) (omega arith) (omega arith) (omega arith)) refl
+    rw (found.2, decimal_in 1 96 (k / 40 + 1) (omega arith) (omega arith) (omega arith)) refl
 
 -- a bid that isn't every fifth is divisible
 pub divisible : (x k : ℕ) → k < 960 → ((k + 1) % 5 == 0) ≡ false → least_of (the_bids x) k ≡ 0
@@ -111,7 +111,7 @@ unfolding the_bids
 divisible x k few other =
     let found = bid-there (said_bid x) 960 x k few (omega arith) in
     let same : (k % 40 + 1) % 5 ≡ (k + 1) % 5 = omega arith in
-    rw (found.2, same, other, decimal-in 0 9999 0 (omega arith) (omega arith) (omega arith)) refl
+    rw (found.2, same, other, decimal_in 0 9999 0 (omega arith) (omega arith) (omega arith)) refl
 
 pub count-bids : (x : ℕ) → length (the_bids x).bids ≡ 960
 unfolding the_bids

@@ -16,7 +16,7 @@ use Rattle.mari_scenario.proofs.Accepting.{Passes, accepted, drawn, drawn-lines,
 use Rattle.mari_scenario.proofs.DrawBounds.{draw-lt}
 use Rattle.mari_scenario.proofs.FieldBytes.{IsPlain, decimal-plain}
 use Rattle.mari_scenario.proofs.Places.{first-ten}
-use Rattle.mari_scenario.proofs.ReadBack.{decimal-in}
+use Rattle.mari_rows.proofs.NumberLemmas.{decimal_in}
 use Rattle.mari_scenario.proofs.Written.{AreLines, IsLine, lines_text, records-read}
 use Rattle.mari_scenario.proofs.ZonePage.{the_zones}
 
@@ -73,7 +73,7 @@ new-ends x state at = first-ten (λ n. list_any (is_between_same (border_of the_
     refl refl refl refl refl refl refl refl refl refl
 
 limit-read : (n : ℕ) → n < 80 → number_in 0 99999 (decimal (20 + n)) ≡ Some (20 + n)
-limit-read n few = decimal-in 0 99999 (20 + n) (omega arith) (omega arith) (omega arith)
+limit-read n few = decimal_in 0 99999 (20 + n) (omega arith) (omega arith) (omega arith)
 
 border-passes : (x n : ℕ) → n < 10 → Passes border_line border_records (border_grammar the_zones 1) n x
 border-passes x n few = one-line border_line border_records (border_grammar the_zones 1) n x (border_fields n state) refl (λ at. none-fails (border_checks the_zones 1 (border_rows n x) (border_row n state at)) (

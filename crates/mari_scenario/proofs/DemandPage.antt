@@ -19,7 +19,9 @@ use Rattle.mari_scenario.proofs.Accepting.{Passes, accepted, none-fails, one-lin
 use Rattle.mari_scenario.proofs.DrawBounds.{draw-lt}
 use Rattle.mari_scenario.proofs.FieldBytes.{IsPlain, decimal-plain}
 use Rattle.mari_scenario.proofs.PlainNumbers.{cents-plain, signed-plain}
-use Rattle.mari_scenario.proofs.ReadBack.{cents-price, cents-within, decimal-in, decimal-whole, signed-whole}
+use Rattle.mari_scenario.proofs.ReadBack.{cents-price, cents-within, signed-whole}
+use Rattle.mari_rows.proofs.NumberLemmas.{decimal_in}
+use Rattle.mari_units.proofs.Digits.{decimal_whole}
 use Rattle.mari_scenario.proofs.Written.{IsLine, line_text}
 use Rattle.mari_scenario.proofs.ZonePage.{the_zones, zone-known, zone-plain}
 
@@ -115,9 +117,9 @@ room n x state at few =
 
 demand-passes : (x n : ℕ) → n < 192 → Passes demand_line demand_records (demand_grammar the_zones 24) n x
 demand-passes x n few = one-line demand_line demand_records (demand_grammar the_zones 24) n x (demand_fields n state) refl (λ at. none-fails (line_checks the_zones 24 (demand_rows n x) (record { line = at; fields = demand_fields n state })) (
-  rw (decimal-whole (n / 8 + 1) (omega arith), signed-whole (quantity state) (omega (arith, quantity-small state)), price-read (is_elastic state) n state at) refl,
+  rw (decimal_whole (n / 8 + 1) (omega arith), signed-whole (quantity state) (omega (arith, quantity-small state)), price-read (is_elastic state) n state at) refl,
   (
-    rw (decimal-in 1 24 (n / 8 + 1) (omega arith) (omega arith) (omega arith)) refl,
+    rw (decimal_in 1 24 (n / 8 + 1) (omega arith) (omega arith) (omega arith)) refl,
     (
       rw (zone-known (n % 8) (mod-lt n (omega arith))) refl,
       (

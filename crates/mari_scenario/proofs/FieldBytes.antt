@@ -11,7 +11,7 @@ use Rattle.std.proofs.lemmas.Str.{IsUtf8-from_ascii, is_utf8-from_IsUtf8}
 use Rattle.std.proofs.lemmas.Str.Ascii.{IsAscii-cons, IsAscii-nil}
 use Rattle.csv.specs.Writing.{default_writer, needs_byte}
 use Rattle.std.proofs.lemmas.Bool.{and_parts}
-use Rattle.mari_scenario.proofs.ReadBack.{AreDigits, own}
+use Rattle.mari_units.proofs.Digits.{AreDigits, own}
 
 -- a byte from `-` to `z`: a digit, a letter, a point or a minus, but no comma, no quote and no end of a line
 abbrev pub is_field_byte : ℕ → Bool

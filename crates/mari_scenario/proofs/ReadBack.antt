@@ -1,68 +1,30 @@
 -- A printed number is read as itself.
-use Rattle.std.proofs.Common.{◌≡◌, ◌≤◌, ◌<◌, ◌+◌, ◌-◌, ◌*◌, ◌/◌, ◌%◌, ◌^◌, ◌∙◌, ◌==◌, ℕ, suc, Bool, true, false, List, [], ◌∷◌, ◌++◌, Some, None, ℤ, pos, negsuc, neg_ℤ, int_lt, unsigned_abs, decimal, length, take, drop, position, refl, ap, arith, rules, if◌then◌else◌, add-one}
-use Rattle.std.specs.Prelude.{◌&&◌, fold, nat_le, nat_lt, int_le}
+use Rattle.std.proofs.Common.{◌≡◌, ◌≤◌, ◌<◌, ◌+◌, ◌*◌, ◌/◌, ◌%◌, ◌^◌, ◌==◌, ℕ, suc, Bool, true, false, List, [], ◌∷◌, ◌++◌, Some, None, ℤ, pos, negsuc, neg_ℤ, int_lt, unsigned_abs, decimal, length, take, drop, position, refl, ap, arith, if◌then◌else◌, add-one}
+use Rattle.std.specs.Prelude.{◌&&◌, nat_le, nat_lt, int_le}
 use Rattle.std.specs.Char.{is_ascii_digit}
 use Rattle.std.specs.Fmt.{signed_decimal}
 use Rattle.std.specs.List.{list_all, position_or_len}
 use Rattle.std.proofs.lemmas.Bool.Decides.{nat_tests}
 use Rattle.std.proofs.lemmas.Int.{ints}
-use Rattle.std.proofs.lemmas.Fmt.{digits_decimal, digits_value-decimal, decimal_nonempty}
-use Rattle.std.proofs.lemmas.Str.Parse.{IsNumeralModel, numerals_by_fold}
-use Rattle.mari_units.specs.Numbers.{cents_at, has_minus, hundredths_of, natural_of, price_of, printed_cents, value_of_digits, whole_of, without_minus}
+use Rattle.std.proofs.lemmas.Fmt.{digits_decimal, decimal_nonempty}
+use Rattle.mari_units.specs.Numbers.{cents_at, hundredths_of, price_of, printed_cents, whole_of}
 use Rattle.std.proofs.lemmas.Bool.{and_parts}
 use Rattle.mari_rows.specs.Fields.{cents_in, number_in, within_cap}
-
-abbrev pub AreDigits : List ℕ → Type 0
-AreDigits ds = list_all is_ascii_digit ds ≡ true
-
-abbrev value_from : ℕ → List ℕ → ℕ
-value_from a ds = fold (λ n d. 10 * n + (d - 48)) a ds
-
-pub own : IsNumeralModel AreDigits value_of_digits
-own = numerals_by_fold AreDigits (search rules) value_from (search rules)
-
-no-minus : (d : ℕ) → is_ascii_digit d ≡ true → (d == 45) ≡ false
-no-minus d e = grind (arith, nat_tests)
+use Rattle.mari_units.proofs.Digits.{AreDigits, own, digits_unsigned, decimal_natural, decimal_whole, digit_byte}
 
 no-point : (d : ℕ) → is_ascii_digit d ≡ true → (d == 46) ≡ false
 no-point d e = grind (arith, nat_tests)
 
--- digits, whatever stands behind them
-pub digits-unsigned : (ds rest : List ℕ) → AreDigits ds → 0 < length ds → (has_minus (ds ++ rest) ≡ false) × (without_minus (ds ++ rest) ≡ ds ++ rest)
-digits-unsigned [] rest e some = absurd (omega arith)
-digits-unsigned (d ∷ ds) rest e some = let n = no-minus d ((and_parts (is_ascii_digit d) (list_all is_ascii_digit ds) e).0) in (n, rw n refl)
-
-pub digits-natural : (ds : List ℕ) → AreDigits ds → 0 < length ds → natural_of ds ≡ Some (value_of_digits ds)
-digits-natural [] e some = absurd (omega arith)
-digits-natural (d ∷ ds) e some = rw e refl
-
-pub decimal-natural : (n : ℕ) → n < 2 ^ 64 → natural_of (decimal n) ≡ Some n
-decimal-natural n small = digits-natural (decimal n) (digits_decimal own n small) (decimal_nonempty n small) ∙ ap Some (digits_value-decimal own n small)
-
--- a whole number
-pub decimal-whole : (n : ℕ) → n < 2 ^ 64 → whole_of (decimal n) ≡ Some (pos n)
-decimal-whole n small = by (decimal n) (digits_decimal own n small) (decimal_nonempty n small) (decimal-natural n small)
-  where
-    by : (ds : List ℕ) → AreDigits ds → 0 < length ds → natural_of ds ≡ Some n → whole_of ds ≡ Some (pos n)
-    by [] e some is = absurd (omega arith)
-    by (d ∷ ds) e some is = let m = no-minus d ((and_parts (is_ascii_digit d) (list_all is_ascii_digit ds) e).0) in rw (m, is) refl
-
+-- a whole number with its sign
 pub signed-whole : (z : ℤ) → unsigned_abs z < 2 ^ 64 → whole_of (signed_decimal z) ≡ Some z
-signed-whole (pos n) small = decimal-whole n small
-signed-whole (negsuc n) small = rw (decimal-natural (suc n) small) refl
+signed-whole (pos n) small = decimal_whole n small
+signed-whole (negsuc n) small = rw (decimal_natural (suc n) small) refl
 
--- a number from the least to the greatest
-pub decimal-in : (least greatest n : ℕ) → n < 2 ^ 64 → least ≤ n → n ≤ greatest → number_in least greatest (decimal n) ≡ Some n
-decimal-in least greatest n small low high =
-    let a : nat_le least n ≡ true = grind (arith, nat_tests) in
-    let b : nat_le n greatest ≡ true = grind (arith, nat_tests) in
-    rw (decimal-whole n small, a, b) refl
-
--- and one that is not
+-- a number above the greatest
 pub decimal-above : (least greatest n : ℕ) → n < 2 ^ 64 → greatest < n → number_in least greatest (decimal n) ≡ None
 decimal-above least greatest n small above =
     let b : nat_le n greatest ≡ false = grind (arith, nat_tests) in
-    rw (decimal-whole n small, b) (by (nat_le least n))
+    rw (decimal_whole n small, b) (by (nat_le least n))
   where
     by : (a : Bool) → (if a && false then Some n else None) ≡ None
     by true = refl
@@ -100,12 +62,9 @@ past (d ∷ ds) rest b = past ds rest b
 pub behind : (ds rest : List ℕ) (b : ℕ) → drop (length ds + 1) (ds ++ b ∷ rest) ≡ rest
 behind ds rest b = rw (add-one (length ds)) (past ds rest b)
 
-digit-byte : (x : ℕ) → x < 10 → is_ascii_digit (48 + x) ≡ true
-digit-byte x lt = grind (arith, nat_tests)
-
 -- two digits of cents
 pub two-digits : (a b : ℕ) → a < 10 → b < 10 → hundredths_of ((48 + a) ∷ (48 + b) ∷ []) ≡ Some (10 * a + b)
-two-digits a b x y = rw (digit-byte a x, digit-byte b y) (ap Some (omega arith))
+two-digits a b x y = rw (digit_byte a x, digit_byte b y) (ap Some (omega arith))
 
 -- whole euros, a point and two digits
 pub cents-behind : (n : ℕ) → n < 2 ^ 64 → cents_at (position (λ b. b == 46) (decimal (n / 100) ++ 46 ∷ (48 + n % 100 / 10) ∷ (48 + n % 10) ∷ [])) (decimal (n / 100) ++ 46 ∷ (48 + n % 100 / 10) ∷ (48 + n % 10) ∷ []) ≡ Some n
@@ -113,7 +72,7 @@ cents-behind n small =
     let euros = decimal (n / 100) in
     let rest = (48 + n % 100 / 10) ∷ (48 + n % 10) ∷ [] in
     let digits = digits_decimal own (n / 100) (omega arith) in
-    rw (point-at euros rest digits, front euros (46 ∷ rest), behind euros rest 46, decimal-natural (n / 100) (omega arith), two-digits (n % 100 / 10) (n % 10) (omega arith) (omega arith))
+    rw (point-at euros rest digits, front euros (46 ∷ rest), behind euros rest 46, decimal_natural (n / 100) (omega arith), two-digits (n % 100 / 10) (n % 10) (omega arith) (omega arith))
     (ap Some (omega arith))
 
 -- a price
@@ -121,7 +80,7 @@ pub cents-price : (z : ℤ) → unsigned_abs z < 2 ^ 64 → price_of (printed_ce
 cents-price (pos n) small =
     let negative : int_lt (pos n) (pos 0) ≡ false = grind (arith, nat_tests) in
     let euros = decimal (n / 100) in
-    let plain = digits-unsigned euros (46 ∷ (48 + n % 100 / 10) ∷ (48 + n % 10) ∷ []) (digits_decimal own (n / 100) (omega arith)) (decimal_nonempty (n / 100) (omega arith)) in
+    let plain = digits_unsigned euros (46 ∷ (48 + n % 100 / 10) ∷ (48 + n % 10) ∷ []) (digits_decimal own (n / 100) (omega arith)) (decimal_nonempty (n / 100) (omega arith)) in
     rw (negative, plain.0, plain.1, cents-behind n small) refl
 cents-price (negsuc n) small = rw (cents-behind (suc n) small) refl
 

@@ -15,7 +15,9 @@ use Rattle.mari_scenario.specs.Pages.{run_line, runs_at}
 use Rattle.mari_scenario.proofs.Accepting.{Passes, accepted, drawn, none-fails, one-line, rows, rows-length, rows-more}
 use Rattle.mari_scenario.proofs.FieldBytes.{decimal-plain}
 use Rattle.mari_scenario.proofs.PlainNumbers.{cents-plain}
-use Rattle.mari_scenario.proofs.ReadBack.{cents-price, cents-within, decimal-above, decimal-in, decimal-whole}
+use Rattle.mari_scenario.proofs.ReadBack.{cents-price, cents-within, decimal-above}
+use Rattle.mari_rows.proofs.NumberLemmas.{decimal_in}
+use Rattle.mari_units.proofs.Digits.{decimal_whole}
 use Rattle.mari_scenario.proofs.Written.{IsLine}
 use Rattle.mari_scenario.proofs.DrawBounds.{draw-lt}
 
@@ -48,7 +50,7 @@ length-rows : (n x : ℕ) → length (run_rows n x) ≡ n
 length-rows n x = rows-length run_line run_records (λ i x. refl) n x
 
 quarter-of : (n x at : ℕ) → n < 24 → quarter_at 96 (record { line = at; fields = run_fields n x }) ≡ n + 1
-quarter-of n x at few = rw (decimal-in 1 96 (n + 1) (omega arith) (omega arith) (omega arith)) refl
+quarter-of n x at few = rw (decimal_in 1 96 (n + 1) (omega arith) (omega arith) (omega arith)) refl
 
 -- the last of the first runs is in the quarter of its number
 last-of : (n x : ℕ) → n < 24 → last_quarter 96 (run_rows (suc n) x) ≡ Some (n + 1)
@@ -65,7 +67,7 @@ after : (n x at : ℕ) → n < 24 → comes_too_late (Some n) (record { line = a
 unfolding scheduled_word direct_word
 after n x at few =
     let later : nat_lt (n + 1) n ≡ false = grind (arith, nat_tests) in
-    rw (decimal-above n n (n + 1) (omega arith) (omega arith), decimal-whole (n + 1) (omega arith), later) refl
+    rw (decimal-above n n (n + 1) (omega arith) (omega arith), decimal_whole (n + 1) (omega arith), later) refl
 
 not-late : (n x at state : ℕ) → n < 24 → comes_too_late (last_quarter 96 (run_rows n x)) (record { line = at; fields = run_fields n state }) ≡ false
 not-late zero x at state few = refl
@@ -77,11 +79,11 @@ unfolding scheduled_word direct_word
 run-passes x n few = one-line run_line run_records (run_grammar 96) n x (run_fields n state) refl (λ at. none-fails (run_checks 96 (run_rows n x) (record { line = at; fields = run_fields n state })) (
   (let e = length-rows n x in grind (arith, nat_tests)),
   (
-    rw (decimal-whole (n + 1) (omega arith), cents-price (pos (reference state)) (omega (arith, small state))) refl,
+    rw (decimal_whole (n + 1) (omega arith), cents-price (pos (reference state)) (omega (arith, small state))) refl,
     (
-      rw (length-rows n x, decimal-in (n + 1) (n + 1) (n + 1) (omega arith) (omega arith) (omega arith)) (not-late n x at state few),
+      rw (length-rows n x, decimal_in (n + 1) (n + 1) (n + 1) (omega arith) (omega arith) (omega arith)) (not-late n x at state few),
       (
-        rw (decimal-in 1 96 (n + 1) (omega arith) (omega arith) (omega arith)) refl,
+        rw (decimal_in 1 96 (n + 1) (omega arith) (omega arith) (omega arith)) refl,
         (
           rw (cents-within (pos (reference state)) (omega (arith, small state))) refl,
           tt,

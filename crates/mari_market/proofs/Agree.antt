@@ -10,7 +10,8 @@ use Rattle.mari_market.specs.declared.market.Border.{Border}
 use Rattle.mari_market.specs.declared.market.Market.{Market}
 use Rattle.mari_market.specs.declared.activation.Activation.{Activation}
 use Rattle.mari_market.specs.Activation.{is_open}
-use Rattle.mari_market.specs.Consistent.{IsConsistentOrder, IsConsistentBorder, SetsLowerAt, SetsUpperAt, IsLowerBound, IsUpperBound, LeadsBy, Leads}
+use Rattle.mari_market.specs.Along.{LeadsBy, Leads}
+use Rattle.mari_market.specs.Consistent.{IsConsistentOrder, IsConsistentBorder, SetsLowerAt, SetsUpperAt, IsLowerBound, IsUpperBound}
 use Rattle.mari_market.specs.Market.{IsValid, IsValidOrder, IsValidBorder}
 use Rattle.mari_market.specs.Optimal.{IsFeasible, IsConsistent}
 use Rattle.mari_market.specs.Price.{IsPrice, price_at, cap}

@@ -4,8 +4,7 @@ use Rattle.mari_market.specs.declared.along.Along.TheVariants.{Falling}
 use Rattle.mari_market.specs.declared.market.Border.{Border}
 use Rattle.mari_market.specs.declared.market.Market.{Market}
 use Rattle.mari_market.specs.declared.activation.Activation.{Activation}
-use Rattle.mari_market.specs.Along.{LeadsOver, LeadsTo}
-use Rattle.mari_market.specs.Consistent.{LeadsBy, Leads}
+use Rattle.mari_market.specs.Along.{Leads, LeadsBy, LeadsOver, LeadsTo}
 use Rattle.mari_market.proofs.Sums.{AnyZip-map}
 
 falling_by : (y z : ℕ) (b : Border) (f : ℤ) → LeadsBy y z b f → LeadsOver Falling z y b f

@@ -1,6 +1,8 @@
 -- How bounds of prices, and areas, spread along borders.
 use Rattle.std.specs.Prelude.{◌≡◌, ◌⊎◌, ℕ, ℤ, List}
 use Rattle.mari_market.specs.declared.market.Border.{Border}
+use Rattle.mari_market.specs.declared.market.Market.{Market}
+use Rattle.mari_market.specs.declared.activation.Activation.{Activation}
 use Rattle.mari_market.specs.Consistent.{HasRoomOn, HasRoomBack}
 use Rattle.mari_market.specs.Sums.{AnyZip}
 use Rattle.mari_market.specs.declared.along.Along.{Along}
@@ -24,10 +26,18 @@ LeadsBack Rising b f = HasRoomOn b f
 LeadsBack Falling b f = HasRoomBack b f
 LeadsBack Joined b f = IsUncongested b f
 
--- the border leads from zone y to zone z; along rising prices this is LeadsBy
+-- the border leads from zone y to zone z
 abbrev pub LeadsOver : Along → ℕ → ℕ → Border → ℤ → Type 0
 LeadsOver along y z b f = ((b.from ≡ y) × (b.to ≡ z) × LeadsOn along b f) ⊎ ((b.to ≡ y) × (b.from ≡ z) × LeadsBack along b f)
 
 -- some border does
 abbrev pub LeadsTo : Along → List Border → List ℤ → ℕ → ℕ → Type 0
 LeadsTo along bs fs y z = AnyZip (LeadsOver along y z) bs fs
+
+-- the border makes the price of zone z at least that of zone y
+abbrev pub LeadsBy : ℕ → ℕ → Border → ℤ → Type 0
+LeadsBy y z b f = LeadsOver Rising y z b f
+
+-- some border makes the price of zone z at least that of zone y
+abbrev pub Leads : Market → Activation → ℕ → ℕ → Type 0
+Leads m a y z = LeadsTo Rising m.borders a.flow y z

@@ -2,7 +2,8 @@
 
 ghost use Rattle.std.specs.Prelude.{◌≡◌, IsTrue, ◌↔◌};
 ghost use Rattle.std.specs.List.{All};
-ghost use Rattle.mari_market.specs.Consistent.{HasRoomBack, HasRoomOn, LeadsBy, SetsLower, SetsUpper, own_standing};
+ghost use Rattle.mari_market.specs.Along.{LeadsBy};
+ghost use Rattle.mari_market.specs.Consistent.{HasRoomBack, HasRoomOn, SetsLower, SetsUpper, own_standing};
 ghost use Rattle.mari_market.specs.Price.{ArePrices, IsPrice};
 
 use crate::market::{Border, Market, Order, Side};

@@ -9,7 +9,7 @@ use Rattle.mari_market.specs.declared.market.Border.{Border}
 use Rattle.mari_market.specs.declared.market.Market.{Market}
 use Rattle.mari_market.specs.declared.activation.Activation.{Activation}
 use Rattle.mari_market.specs.Conflict.{IsChain, last_of, Contradicts, IsContradiction}
-use Rattle.mari_market.specs.Consistent.{LeadsBy, Leads, IsUpperBound}
+use Rattle.mari_market.specs.Consistent.{IsUpperBound}
 use Rattle.mari_market.specs.Interval.{AreLeastPrices, AreGreatestPrices}
 use Rattle.mari_market.specs.Market.{IsValid, IsValidOrder, IsValidBorder}
 use Rattle.mari_market.specs.Optimal.{IsFeasible, IsConsistent}
@@ -18,7 +18,7 @@ use Rattle.mari_prices.specs.declared.bounds.End.{End}
 use Rattle.mari_prices.specs.declared.bounds.End.TheVariants.{Least, Greatest}
 use Rattle.mari_market.specs.declared.along.Along.TheVariants.{Rising, Falling}
 use Rattle.mari_prices.specs.declared.spread.SettledZone.{SettledZone}
-use Rattle.mari_market.specs.Along.{LeadsTo}
+use Rattle.mari_market.specs.Along.{Leads, LeadsBy, LeadsTo}
 use Rattle.mari_prices.specs.Ends.{along_of, IsEnd, ArePriced, ArePricesOf, AreTrails, AreUncontradicted, IsContradicted, Follows, IsTrailTo}
 use Rattle.mari_prices.specs.Spread.{entry_at, value_in, IsByItself, IsAfter, IsSpreading}
 use Rattle.mari_market.proofs.Agree.{KeepsAll, keeps_consistent, consistent_keeps}

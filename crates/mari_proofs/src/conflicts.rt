@@ -4,7 +4,8 @@ ghost use Rattle.std.specs.Prelude.{◌≡◌, ◌⊎◌, ◌↔◌, ℤ, ◌≤
 ghost use Rattle.std.specs.List.{All, AllZip};
 ghost use Rattle.mari_market.specs.Activation.{gate_word_of};
 ghost use Rattle.mari_market.specs.Conflict.{IsConflict, IsContradiction, IsChain, Contradicts, last_of, IsContradictoryChain, IsChainOf};
-ghost use Rattle.mari_market.specs.Consistent.{LeadsBy, SetsLowerAt, SetsUpperAt, standing_of};
+ghost use Rattle.mari_market.specs.Along.{LeadsBy};
+ghost use Rattle.mari_market.specs.Consistent.{SetsLowerAt, SetsUpperAt, standing_of};
 ghost use Rattle.mari_market.specs.Market.{IsValid, IsValidOrder};
 ghost use Rattle.mari_market.specs.Optimal.{IsFeasible};
 ghost use Rattle.mari_market.specs.Prefix.{word_of, IsFeasiblePrefix};

@@ -2,7 +2,7 @@ use Rattle.std.proofs.Common.{arith, pos, get_or, to_z-of_z, w64, rules, refl}
 use Rattle.std.specs.Prelude.{FitsSigned}
 use Rattle.std.proofs.lemmas.Bool.{both_ways}
 use Rattle.mari_market.specs.declared.market.Border.{Border}
-use Rattle.mari_market.specs.Consistent.{LeadsBy}
+use Rattle.mari_market.specs.Along.{LeadsBy}
 use Rattle.mari_proofs.proofs.Pairs.{nowhere_more}
 use Rattle.mari_proofs.proofs.conflicts.leads.Goals as goal
 use Rattle.mari_market.proofs.Sums.{AnyZip-at}

@@ -1,5 +1,5 @@
 use Rattle.std.proofs.Common.{take}
-use Rattle.mari_market.specs.Consistent.{LeadsBy}
+use Rattle.mari_market.specs.Along.{LeadsBy}
 use Rattle.mari_market.specs.Sums.{AnyZip}
 use Rattle.mari_proofs.proofs.conflicts.leads.Given as goal
 

@@ -1,5 +1,5 @@
 -- The market of a run, behind the blocks that were made before it on the same day.
-use Rattle.std.specs.Prelude.{ℕ, ◌-◌, ◌==◌, ℤ, pos, negsuc, neg_ℤ, ◌+ℤ◌, ◌-ℤ◌, int_lt, unsigned_abs, Bool, List, ◌++◌, Option, Some, None, if◌then◌else◌, filter, length, map, position, slice_index_or, unwrap_or}
+use Rattle.std.specs.Prelude.{ℕ, ◌-◌, ◌==◌, ℤ, pos, negsuc, neg_ℤ, ◌+ℤ◌, ◌-ℤ◌, int_lt, unsigned_abs, List, ◌++◌, Option, Some, None, if◌then◌else◌, filter, length, map, position, slice_index_or, unwrap_or}
 use Rattle.std.specs.List.{range_with_len}
 use Rattle.std.specs.Option.{option_and_then}
 use Rattle.mari_units.specs.declared.Cents.{Cents}

@@ -15,8 +15,8 @@ use Rattle.mari_rows.specs.declared.faults.RowFault.TheVariants.{BadHeader, BadR
 use Rattle.mari_rows.specs.declared.rows.Row.{Row}
 use Rattle.mari_rows.proofs.FirstLemmas.{first_fault-go, first_fault-here}
 
--- what an answer to one more line says, with the refusal at the line: its book with that line, where no check fails, and
--- else the first that fails
+-- what an answer to one more line says, with the refusal at the line: its book with that line, where no check fails,
+-- and else the first that fails
 abbrev pub TakesLineAt : {X : Type 0} → Result X BookFault → ℕ → Option ℕ → (X → Type 0) → Type 0
 TakesLineAt (Ok x) line failing Holds = (failing ≡ None) × Holds x
 TakesLineAt (Err refused.Memory) line failing Holds = ⊤

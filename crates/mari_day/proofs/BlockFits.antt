@@ -31,7 +31,7 @@ use Rattle.mari_progress.specs.Runs.{IsMarketOf}
 use Rattle.mari_day.specs.Assembled.{HasShapes, IsAssembled, IsPriced}
 use Rattle.mari_day.specs.Dated.{IsDated}
 use Rattle.mari_progress.specs.Money.{amount_line, money_line, providers_among}
-use Rattle.mari_progress.specs.Told.{name_at}
+use Rattle.mari_rows.specs.Names.{name_at}
 use Rattle.mari_day.specs.declared.block.Priced.{Priced}
 use Rattle.mari_day.proofs.AreaFits.{areas-fit, greatest-fit, least-fit}
 use Rattle.mari_progress.proofs.Lists.{along-length}

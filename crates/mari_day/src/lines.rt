@@ -8,7 +8,7 @@ ghost use Rattle.mari_lines.specs.declared.line.BidLine.{BidLine as BidLineOf};
 ghost use Rattle.mari_lines.specs.declared.line.BorderLine.{BorderLine as BorderLineOf};
 ghost use Rattle.mari_lines.specs.declared.line.ZoneLine.{ZoneLine as ZoneLineOf};
 ghost use Rattle.mari_settle.specs.Conditions.{LineIsWithin};
-ghost use Rattle.mari_progress.specs.Told.{name_at};
+ghost use Rattle.mari_rows.specs.Names.{name_at};
 ghost use Rattle.mari_progress.specs.Money.{amount_line, money_lines_of};
 
 use mari_prices::Pricing;

@@ -19,6 +19,7 @@ use Rattle.mari_core.proofs.Machines.{grown_market, settling_cut}
 use Rattle.mari_core.proofs.Changes.{length-with_state}
 use Rattle.mari_core.proofs.Journals.{grown_budget, leads_on, leads_above, leads_nowhere}
 use Rattle.mari_core.proofs.Seeds.{seed_by}
+use Rattle.mari_market.specs.Clearing.{IsBudget}
 use Rattle.mari_market.specs.Market.{IsValid}
 use Rattle.mari_market.specs.Relaxation.{IsClosedWelfare}
 use Rattle.mari_incumbent.specs.Incumbent.{IncumbentId, SeatView}

@@ -10,7 +10,7 @@ use Rattle.mari_market.specs.Area.InOneArea.{itself, further}
 use Rattle.mari_market.specs.Market.{IsValid, IsValidBorder}
 use Rattle.mari_market.specs.declared.along.Along.TheVariants.{Joined}
 use Rattle.mari_prices.specs.declared.spread.SettledZone.{SettledZone}
-use Rattle.mari_market.specs.Along.{LeadsTo}
+use Rattle.mari_market.specs.Along.{LeadsOver, LeadsTo}
 use Rattle.mari_prices.specs.Firsts.{ArePlaces, first_in, first_at, AreFirsts, AreNumbered}
 use Rattle.mari_prices.specs.Spread.{entry_at, value_in, IsByItself, IsAfter, SpreadsAlong}
 use Rattle.mari_prices.proofs.Extremes.{entry_within}

@@ -26,7 +26,7 @@ use Rattle.mari_progress.specs.Behind.{also_behind, market_behind}
 use Rattle.mari_progress.specs.Money.{amount_line, money_line, money_lines_of}
 use Rattle.mari_progress.specs.Progress.{AreTotals}
 use Rattle.mari_progress.specs.Totals.{amount_in, amount_over, money_together, operator_totals, provider_total, provider_totals, with_operators}
-use Rattle.mari_progress.specs.Told.{name_at}
+use Rattle.mari_rows.specs.Names.{name_at}
 use Rattle.mari_progress.proofs.Keeping.{no-nets}
 use Rattle.mari_progress.proofs.Lists.{along-length}
 use Rattle.mari_units.proofs.Lists.{same_over}

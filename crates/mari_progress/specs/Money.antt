@@ -13,7 +13,8 @@ use Rattle.mari_remain.specs.declared.market.RunMarket.{RunMarket}
 use Rattle.mari_settle.specs.declared.ledger.OperatorLine.{OperatorLine}
 use Rattle.mari_settle.specs.Ledger.{net_of, operator_lines, provider_amounts, rents_of, scheduled_or}
 use Rattle.mari_settle.specs.Lines.{map_along, nothing}
-use Rattle.mari_progress.specs.Told.{activation_of, name_at, prices_of, rents_told}
+use Rattle.mari_progress.specs.Told.{activation_of, prices_of, rents_told}
+use Rattle.mari_rows.specs.Names.{name_at}
 
 -- an operator's line: its name, its payment, its rent, and the payment less the rent
 abbrev pub money_line : List ℕ → OperatorLine → MoneyLine

@@ -10,7 +10,8 @@ use Rattle.mari_settle.specs.Ledger.{provider_amount, scheduled_or}
 use Rattle.mari_settle.specs.Lines.{map_along, no_line, together}
 use Rattle.mari_progress.specs.Behind.{also_behind, market_behind}
 use Rattle.mari_progress.specs.Money.{money_lines_of}
-use Rattle.mari_progress.specs.Told.{activation_of, name_at, prices_of}
+use Rattle.mari_progress.specs.Told.{activation_of, prices_of}
+use Rattle.mari_rows.specs.Names.{name_at}
 
 -- two lines of one operator together
 abbrev pub money_together : MoneyLine → MoneyLine → MoneyLine

@@ -1,6 +1,6 @@
 use Rattle.std.proofs.Common.{◌≡◌, map, take}
 use Rattle.mari_lines.specs.declared.line.BidLine.{BidLine}
-use Rattle.mari_progress.specs.Told.{name_at}
+use Rattle.mari_rows.specs.Names.{name_at}
 use Rattle.mari_day.proofs.lines.bid_lines.Given as goal
 
 -- the lines of the bids before this one

@@ -79,7 +79,7 @@ meeting_keeps m budget workers incumbent p seen h = record {
   returned_are = h.returned_are;
 }
 
-may_settle_node : (m : Market) (seen : ℕ) (f : Finding) (word : List Bool) (nodes : List TreeNode) (x : ℕ) → slice_get (words_of nodes) x ≡ Some word → MaySettle m seen f (new_node word) → IfSome (slice_get nodes x) (MaySettle m seen f)
+pub may_settle_node : (m : Market) (seen : ℕ) (f : Finding) (word : List Bool) (nodes : List TreeNode) (x : ℕ) → slice_get (words_of nodes) x ≡ Some word → MaySettle m seen f (new_node word) → IfSome (slice_get nodes x) (MaySettle m seen f)
 may_settle_node m seen f word [] x e may = absurd (cc)
 may_settle_node m seen f word (n ∷ ns) zero e may =
     let same : n.word ≡ word = cc in

@@ -29,7 +29,7 @@ use Rattle.mari_progress.specs.Progress.{IsProgress, KeepsPrices}
 use Rattle.mari_progress.specs.Runs.{IsMarketOf, IsNextRun, IsRunOf}
 use Rattle.mari_progress.specs.Told.{activation_of, heading_of}
 use Rattle.mari_progress.proofs.Counts.{published-more, published-same}
-use Rattle.mari_publish.proofs.Counts.{both-kinds}
+use Rattle.mari_publish.proofs.Counts.{both_kinds}
 use Rattle.mari_progress.proofs.Made.{market-of}
 use Rattle.mari_progress.proofs.Past.{next-block, past-published}
 use Rattle.mari_progress.proofs.Scheduling.{keeps-direct, keeps-scheduled, keeps-unpublished}
@@ -88,7 +88,7 @@ module _ (books : Books) (ok : IsAccepted books) (blocks : List Block) (kept : P
             let A : Activation → Type 0 = λ a. IsFeasible settled.made.market a in
             subst A (sym is.adds.activation) (subst M (sym is.adds.market) is.sound.feasible);
         ledgers = adds-up books blocks kept.totals progress.totals b settled is.adds (omega (arith, last, ok.runs.few));
-        few = omega (arith, progress.published, both-kinds blocks, last, ok.runs.few);
+        few = omega (arith, progress.published, both_kinds blocks, last, ok.runs.few);
       }
 
       pub same-market : (run : ℕ) → run ≡ run_behind blocks → settled.made ≡ run_market_of books (before_of books blocks) run

@@ -29,7 +29,7 @@ use Rattle.mari_lines.specs.Ranges.{InRange, IsMoneyLine, Listed}
 use Rattle.mari_publish.specs.Ranges.{HasText}
 use Rattle.mari_publish.specs.Lines.{front_lines}
 use Rattle.mari_publish.specs.Order.{kept_with, one_published, with_item, conflict_item, after_listing, after_growing, full_block, after, grown}
-use Rattle.mari_publish.proofs.Counts.{both-kinds}
+use Rattle.mari_publish.proofs.Counts.{both_kinds}
 use Rattle.mari_lines.proofs.Gathered.{cons_all}
 use Rattle.mari_publish.proofs.Fits.{Fit, has_text}
 use Rattle.mari_publish.proofs.Follows.{if_true, and_true, kept_some, same}
@@ -56,7 +56,7 @@ from_done ls p k s fit = (p, [], whole_has_text ls p k s fit, sym s.lines ∙ sy
 from_totals : (ls : List Line) (p : Publication) (k : Kept) (os : List MoneyLine) (ps : List AmountLine) → Stands ls p k (held.Totals os ps) → Fit ls → Begins ls
 from_totals ls p k os ps s fit =
     let new : Kept = kept_with k held.Done in
-    let c = both-kinds p.blocks in
+    let c = both_kinds p.blocks in
     let range : InRange (line.Done k.counts.published k.counts.unpublished) = (omega (arith, c, s.published, s.runs), omega (arith, c, s.unpublished, s.runs)) in
     then_line ls p k (held.Totals os ps) (line.Done k.counts.published k.counts.unpublished) (new, Some (part.Totals os ps)) s fit range
     (if_true _ (new, Some (part.Totals os ps)) (and_true _ _ (same k.counts.published) (same k.counts.unpublished)))

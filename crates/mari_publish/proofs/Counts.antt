@@ -14,7 +14,7 @@ len_cons : (b : Block) (bs : List Block) → length (b ∷ bs) ≡ length bs + 1
 len_cons b bs = omega arith
 
 -- each block is published or not
-pub both-kinds : (bs : List Block) → published_in bs + unpublished_in bs ≡ length bs
-both-kinds [] = refl
-both-kinds (block.Published b ∷ bs) = left_more _ _ _ (both-kinds bs) ∙ sym (len_cons (block.Published b) bs)
-both-kinds (block.Unpublished heading count ∷ bs) = right_more _ _ _ (both-kinds bs) ∙ sym (len_cons (block.Unpublished heading count) bs)
+pub both_kinds : (bs : List Block) → published_in bs + unpublished_in bs ≡ length bs
+both_kinds [] = refl
+both_kinds (block.Published b ∷ bs) = left_more _ _ _ (both_kinds bs) ∙ sym (len_cons (block.Published b) bs)
+both_kinds (block.Unpublished heading count ∷ bs) = right_more _ _ _ (both_kinds bs) ∙ sym (len_cons (block.Unpublished heading count) bs)

@@ -14,7 +14,7 @@ use Rattle.mari_lines.specs.declared.line.Line.TheVariants as line
 use Rattle.mari_publish.specs.Lines.{item_lines, demand_lines, market_lines, tree_lines, ending_lines, full_lines, block_lines, closing_lines, published_in, unpublished_in, lines_of}
 use Rattle.mari_lines.specs.Ranges.{Between, InRange}
 use Rattle.mari_publish.specs.Ranges.{ItemFits, FullFits, BlockFits, HasText}
-use Rattle.mari_publish.proofs.Counts.{both-kinds}
+use Rattle.mari_publish.proofs.Counts.{both_kinds}
 use Rattle.mari_lines.proofs.Gathered.{head_of, tail_of, cons_all}
 use Rattle.mari_publish.proofs.Whole.{all_front, all_back, IsWithinLimits}
 
@@ -130,7 +130,7 @@ blocks_in_range (b ∷ bs) a = all_join InRange (block_lines b) (flat_map block_
 
 pub lines_in_range : (p : Publication) → HasText p → Fit (lines_of p)
 lines_in_range p h =
-    let c = both-kinds p.blocks in
+    let c = both_kinds p.blocks in
     let runs = h.totals.runs in
     let done : InRange (line.Done (published_in p.blocks) (unpublished_in p.blocks)) = (omega (arith, c, runs), omega (arith, c, runs)) in (
       h.head,

@@ -25,7 +25,7 @@ use Rattle.mari_publish.specs.Order.{after, grown, HasRoom, nothing_read, nothin
 use Rattle.mari_lines.specs.Spelling.{spelling, line_text}
 use Rattle.mari_publish.specs.Texts.{text_of_lines}
 use Rattle.mari_publish.specs.Faults.{IsText, BadLineAt, BadOrderAt, TruncatedAt, IsOutcome}
-use Rattle.mari_publish.proofs.Counts.{both-kinds}
+use Rattle.mari_publish.proofs.Counts.{both_kinds}
 use Rattle.mari_publish.proofs.Fits.{lines_few}
 use Rattle.mari_publish.proofs.Steps.{HeldFits}
 use Rattle.mari_publish.proofs.Whole.{Stands, next, all_push}
@@ -56,7 +56,7 @@ number_fits bytes rest n p k a =
     omega (arith, few, len, is)
 
 pub counts_fit : (bytes rest : List ℕ) (n : ℕ) (p : Publication) (k : Kept) → Progress bytes rest n p k → k.counts.published + k.counts.unpublished ≤ 1000
-counts_fit bytes rest n p k a = let c = both-kinds p.blocks in let s = a.stands in omega (arith, c, s.published, s.unpublished, s.runs)
+counts_fit bytes rest n p k a = let c = both_kinds p.blocks in let s = a.stands in omega (arith, c, s.published, s.unpublished, s.runs)
 
 room_in : (h : Held) (p : Publication) (c : Counts) → c.published + c.unpublished ≡ length p.blocks → HeldFits p h → HasRoom h c
 room_in held.Start p c e f = tt
@@ -69,7 +69,7 @@ room_in (held.Totals os ps) p c e f = tt
 room_in held.Done p c e f = tt
 
 pub has_room : (bytes rest : List ℕ) (n : ℕ) (p : Publication) (k : Kept) → Progress bytes rest n p k → HasRoom k.held k.counts
-has_room bytes rest n p k a = let c = both-kinds p.blocks in let s = a.stands in room_in k.held p k.counts (omega (arith, c, s.published, s.unpublished)) s.fits
+has_room bytes rest n p k a = let c = both_kinds p.blocks in let s = a.stands in room_in k.held p k.counts (omega (arith, c, s.published, s.unpublished)) s.fits
 
 -- one line more
 pub more_text : (before : List Line) (l : Line) (here after : List ℕ) → spelling l ≡ here → text_of_lines before ++ (here ++ 10 ∷ after) ≡ text_of_lines (before ++ l ∷ []) ++ after

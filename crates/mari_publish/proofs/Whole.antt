@@ -18,7 +18,7 @@ use Rattle.mari_publish.specs.declared.held.Kept.{Kept}
 use Rattle.mari_publish.specs.Lines.{item_lines, demand_lines, block_lines, published_in, unpublished_in, front_lines}
 use Rattle.mari_lines.specs.Ranges.{Between}
 use Rattle.mari_publish.specs.Order.{ending_part, after_listing, after_growing, after_ending, after_totals, full_block, keeps, kept_with, one_published, one_unpublished, starts_block, after, grown, lines_so_far}
-use Rattle.mari_publish.proofs.Counts.{both-kinds}
+use Rattle.mari_publish.proofs.Counts.{both_kinds}
 use Rattle.mari_publish.proofs.Steps.{some_if, some_is, ListingFits, HeldFits, Moves, listing_step, growing_step, ending_step, totals_step}
 
 pub all_front : {X : Type 0} (P : X → Type 0) (xs ys : List X) → AllByRecursion P (xs ++ ys) → AllByRecursion P xs
@@ -113,7 +113,7 @@ block_next ls p k new h l b s within room e ep eu = record {
 }
 
 room_of : (ls : List Line) (p : Publication) (k : Kept) (h : Held) → Stands ls p k h → ltb (k.counts.published + k.counts.unpublished) 1000 ≡ true → length p.blocks < 1000
-room_of ls p k h s e = let c = both-kinds p.blocks in let lt = ltb-true (k.counts.published + k.counts.unpublished) 1000 e in omega (arith, c, lt, s.published, s.unpublished)
+room_of ls p k h s e = let c = both_kinds p.blocks in let lt = ltb-true (k.counts.published + k.counts.unpublished) 1000 e in omega (arith, c, lt, s.published, s.unpublished)
 
 between_step : (ls : List Line) (p : Publication) (k : Kept) (l : Line) (x : Kept × Option Part) → Stands ls p k held.Between → starts_block k l ≡ Some x → Next ls p l x
 between_step ls p k (line.Run h) x s e =

@@ -191,7 +191,7 @@ fn published_in(blocks: &[Block]) -> u32
 }
 
 /// How many are not.
-#[tactic(auto, using(crate::proofs::Counts::counted))]
+#[tactic(auto, using(crate::proofs::Counts::both_kinds))]
 fn unpublished_in(blocks: &[Block]) -> u32
     requires { length blocks.now ≤ MOST_RUNS }
     ensures { result ≡ unpublished_of blocks.now }

@@ -31,7 +31,7 @@ use Rattle.mari_progress.specs.Money.{amount_line, money_lines_of}
 use Rattle.mari_progress.specs.Told.{heading_of}
 use Rattle.mari_progress.specs.Totals.{operator_totals, provider_totals}
 use Rattle.mari_check.proofs.Least.{least-is, none-first}
-use Rattle.mari_publish.proofs.Counts.{both-kinds}
+use Rattle.mari_publish.proofs.Counts.{both_kinds}
 use Rattle.mari_progress.proofs.Sums.{provider-lines}
 use Rattle.mari_check.proofs.Zips.{refuted}
 
@@ -39,14 +39,14 @@ use Rattle.mari_check.proofs.Zips.{refuted}
 
 module _ (books : Books) (ok : IsAccepted books) (blocks : List Block) (kept : DayCheck) (checked : IsChecked books blocks kept) where
   pub few-runs : kept.progress.published + kept.unpublished ≤ 1000
-  few-runs = omega (arith, checked.progress.published, checked.unpublished, both-kinds blocks, checked.progress.few, ok.runs.few)
+  few-runs = omega (arith, checked.progress.published, checked.unpublished, both_kinds blocks, checked.progress.few, ok.runs.few)
 
   pub few-others : kept.unpublished ≤ 1000
   few-others = omega (arith, few-runs)
 
   module _ (run : ℕ) (is : run ≡ kept.progress.published + kept.unpublished + 1) where
     pub behind-is : run ≡ run_behind blocks
-    behind-is = omega (arith, is, checked.progress.published, checked.unpublished, both-kinds blocks)
+    behind-is = omega (arith, is, checked.progress.published, checked.unpublished, both_kinds blocks)
 
     -- there is no run behind the last
     pub none-next : (told : Heading) → length books.runs.runs < run → (false ≡ true) ↔ IsNextHeading books blocks told
@@ -179,14 +179,14 @@ module _ (books : Books) (p : Publication) (head : HasHead books p) (kept : DayC
         inr (inr (inl (record {
           head = head;
           blocks = free-of p.blocks checked.free;
-          missing = omega (arith, less, checked.progress.published, checked.unpublished, both-kinds p.blocks);
-          run_is = omega (arith, is, checked.progress.published, checked.unpublished, both-kinds p.blocks);
+          missing = omega (arith, less, checked.progress.published, checked.unpublished, both_kinds p.blocks);
+          run_is = omega (arith, is, checked.progress.published, checked.unpublished, both_kinds p.blocks);
           number_is = e;
         })))
 
     module _ (runs : ℕ) (all : runs ≡ length books.runs.runs) (full : runs ≤ kept.progress.published + kept.unpublished) where
       every : length p.blocks ≡ length books.runs.runs
-      every = omega (arith, all, full, checked.progress.few, checked.progress.published, checked.unpublished, both-kinds p.blocks)
+      every = omega (arith, all, full, checked.progress.few, checked.progress.published, checked.unpublished, both_kinds p.blocks)
 
       pub other-totals : (number : ℕ) → (HasTotals books p → ⊥) → number ≡ 12 → IsFirstFault books p runs number
       other-totals number differ e = inr (inr (inr (record { head = head; blocks = free-of p.blocks checked.free; every = every; differ = differ; run_is = all; number_is = e })))

@@ -13,7 +13,7 @@ use Rattle.mari_publish.specs.declared.publication.Part.{Part}
 use Rattle.mari_publish.specs.declared.publication.Part.TheVariants as part
 use Rattle.mari_publish.specs.declared.publication.Publication.{Publication}
 use Rattle.mari_publish.specs.Pieces.{ComeState, Gives, HasPart, ComesFrom, front_parts, parts_of, parts_so_far}
-use Rattle.mari_publish.proofs.Counts.{both-kinds}
+use Rattle.mari_publish.proofs.Counts.{both_kinds}
 use Rattle.mari_publish.proofs.Pieces.{counts_of}
 use Rattle.mari_lines.specs.declared.line.Line.{Line}
 use Rattle.mari_remain.specs.declared.books.Books.{Books}
@@ -94,7 +94,7 @@ at-most _ n l = omega (arith, l)
 
 counts : (lines : List Line) (parts : List Part) (k : Kept) → Gives lines parts k → length parts ≡ count_of k
 counts lines parts k g =
-    let both : length g.so_far.blocks ≡ k.counts.published + k.counts.unpublished = omega (arith, both-kinds g.so_far.blocks, g.published, g.unpublished) in
+    let both : length g.so_far.blocks ≡ k.counts.published + k.counts.unpublished = omega (arith, both_kinds g.so_far.blocks, g.published, g.unpublished) in
     ap length g.given ∙ so-many g.so_far k.held ∙ ap (count_in k.held) both
 
 -- each part leaves room for one less

@@ -20,7 +20,7 @@ use Rattle.mari_day.specs.Stepped.{BrokeOff, Closes, IsDayOf, Stepped, Stopped, 
 use Rattle.mari_day.specs.declared.step.Stop.TheVariants.{Sink, Memory as NoMemory}
 use Rattle.mari_progress.specs.declared.progress.Progress.{Progress}
 use Rattle.mari_day.specs.declared.step.Stop.{Stop}
-use Rattle.mari_publish.proofs.Counts.{both-kinds}
+use Rattle.mari_publish.proofs.Counts.{both_kinds}
 use Rattle.mari_day.proofs.Progressing.{part-more}
 
 -- the first line of a text
@@ -131,7 +131,7 @@ module _ (books : Books) (budget : ℕ) where
     pub day-written : (after : Option (List ℕ)) (u : Unit {0}) → count ≡ length books.runs.runs → Closes books budget first.blocks mid after (Ok u)
         → (kept.published ≤ length books.runs.runs) × WroteWholeDay books budget kept.published (length books.runs.runs - kept.published) before after
     day-written after u all (p, is, e) =
-        let both = both-kinds first.blocks in
+        let both = both_kinds first.blocks in
         let few : published_in first.blocks ≡ kept.published = sym first.progress.kept.published in (
           omega (arith, both, few, first.counted, all),
           record {

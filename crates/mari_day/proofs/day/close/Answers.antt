@@ -1,5 +1,5 @@
 use Rattle.std.proofs.Common.{◌∙◌, arith}
-use Rattle.mari_publish.proofs.Counts.{both-kinds}
+use Rattle.mari_publish.proofs.Counts.{both_kinds}
 use Rattle.mari_progress.proofs.Sums.{one-each-provider}
 use Rattle.mari_day.proofs.BlockFits.{have-nets}
 use Rattle.mari_day.proofs.Days.{day-of-blocks, is-day, operators-fit, providers-fit, sums-halves}
@@ -22,7 +22,7 @@ total_lines-requires-clause-one_each g c =
 pub overflow_sub-unpublished : goal.overflow_sub-unpublished
 overflow_sub-unpublished g c =
     let s = c.requires.stands in
-    omega (arith, c.run_count.ensures, s.3, s.2.kept.published, both-kinds s.1)
+    omega (arith, c.run_count.ensures, s.3, s.2.kept.published, both_kinds s.1)
 
 pub closing_text-requires-clause-operators : goal.closing_text-requires-clause-operators
 closing_text-requires-clause-operators g c =
@@ -38,7 +38,7 @@ pub returns-clause-closes : goal.returns-clause-closes
 returns-clause-closes g c = λ budget blocks range progress every.
     let books = c.args.books.now in
     let p = day-of-blocks books c.requires.accepted c.requires.dated budget range blocks c.args.progress.now progress every in
-    let both = both-kinds blocks in
+    let both = both_kinds blocks in
     closes-by books budget blocks _ _ _ c.write_text.result c.write_text.ensures.whole c.write_text.ensures.part c.write_text.ensures.error p
     (is-day books c.requires.accepted c.requires.dated budget range blocks c.args.progress.now progress every)
     (c.deref-3.ensures.value ∙ c.in_ok-text.ensures ∙ closing-text p _ _ _ _ (c.deref.ensures.value ∙ rw c.as_slice.ensures at c.in_ok-operators.ensures) (c.deref-2.ensures.value ∙ rw c.as_slice-2.ensures at c.in_ok-providers.ensures) progress.kept.published

@@ -83,6 +83,6 @@ pub conflict_test : (m : Market) (x : Prefix) (k : ConflictRecord) (ps : List Ce
 conflict_test m x k ps zs answer same_ps same_zs w p t =
     let own : IsTrue answer ↔ IsContradictoryChain m k.activation k.chain = subst (λ (ys : List ℕ). IsTrue answer ↔ IsContradictoryChain m k.activation ys) same_zs t in
     let tight : AreTightPotentials m k.activation k.potentials.cents = subst (λ (qs : List Cents). AreTightPotentials m k.activation qs) same_ps p in (
-      λ yes. let r = own.0 yes in record { gates = w.gates; feasible = w.feasible; prices = tight.prices; tight = tight.tight; short = r.short; zones = r.zones; chain = r.chain },
-      λ c. own.1 (record { short = c.short; zones = c.zones; chain = c.chain }),
+      λ yes. record { gates = w.gates; feasible = w.feasible; prices = tight.prices; tight = tight.tight; chain = own.0 yes },
+      λ c. own.1 c.chain,
     )

@@ -2,14 +2,14 @@
 
 ghost use Rattle.std.specs.Prelude.{◌≡◌, ◌⊎◌, ◌↔◌, ℤ, ◌≤ℤ◌, ◌<ℤ◌, ◌≤◌, ◌<◌, length, IsTrue};
 ghost use Rattle.std.specs.List.{All, AllZip};
+ghost use Rattle.mari_market.specs.declared.along.Along.TheVariants.{Rising};
 ghost use Rattle.mari_market.specs.Activation.{gate_word_of};
 ghost use Rattle.mari_market.specs.Conflict.{IsConflict, IsContradiction, IsChain, Contradicts, last_of, IsContradictoryChain, IsChainOf};
-ghost use Rattle.mari_market.specs.Along.{LeadsBy};
+ghost use Rattle.mari_market.specs.Along.{LeadsTo};
 ghost use Rattle.mari_market.specs.Consistent.{SetsLowerAt, SetsUpperAt, standing_of};
 ghost use Rattle.mari_market.specs.Market.{IsValid, IsValidOrder};
 ghost use Rattle.mari_market.specs.Optimal.{IsFeasible};
 ghost use Rattle.mari_market.specs.Prefix.{word_of, IsFeasiblePrefix};
-ghost use Rattle.mari_market.specs.Sums.{AnyZip};
 ghost use Rattle.mari_proofs.specs.Conflicts.{decides, HasDecidedGate, RunsAsDecided, IsOfWord, AreTightPotentials, IsGreatestLower, IsLeastUpper};
 
 use crate::tightness::is_tight;
@@ -70,7 +70,7 @@ fn standing_at(prefix: &Prefix, order: &Order) -> Standing
 /// Whether some border makes the price of the second zone at least that of the first.
 fn leads(borders: &[Border], flow: &[i64], first: u32, second: u32) -> bool
     requires { length flow.now ≡ length borders.now }
-    ensures { IsTrue result ↔ AnyZip (LeadsBy first second) borders.now flow.now }
+    ensures { IsTrue result ↔ LeadsTo Rising borders.now flow.now first second }
 {
     for (i, border) in borders.iter().enumerate() {
         if border.leads(flow[i], first, second) {

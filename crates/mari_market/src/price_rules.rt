@@ -6,6 +6,7 @@ ghost use Rattle.mari_market.specs.Along.{LeadsBy};
 ghost use Rattle.mari_market.specs.Consistent.{HasRoomBack, HasRoomOn, SetsLower, SetsUpper, own_standing};
 ghost use Rattle.mari_market.specs.Price.{ArePrices, IsPrice};
 
+use crate::along::Along;
 use crate::market::{Border, Market, Order, Side};
 use mari_units::{CAP, Cents};
 
@@ -83,8 +84,8 @@ impl Border {
     pub fn leads(&self, flow: i64, first: u32, second: u32) -> bool
         ensures { IsTrue result ↔ LeadsBy first second self.now flow }
     {
-        (self.from == first && self.to == second && self.has_room_back(flow))
-            || (self.to == first && self.from == second && self.has_room_on(flow))
+        (self.from == first && self.to == second && Along::Rising.leads_on(self, flow))
+            || (self.to == first && self.from == second && Along::Rising.leads_back(self, flow))
     }
 }
 

@@ -4,7 +4,7 @@ ghost use Rattle.std.specs.Prelude.{◌≡◌, IsTrue, ◌↔◌};
 ghost use Rattle.std.specs.List.{All};
 ghost use Rattle.mari_market.specs.Along.{LeadsBy};
 ghost use Rattle.mari_market.specs.Consistent.{HasRoomBack, HasRoomOn, SetsLower, SetsUpper, own_standing};
-ghost use Rattle.mari_market.specs.Price.{ArePrices, IsPrice};
+ghost use Rattle.mari_market.specs.Price.{ArePrices, IsCapped, IsPrice};
 
 use crate::along::Along;
 use crate::market::{Border, Market, Order, Side};
@@ -98,7 +98,7 @@ pub(crate) fn is_price(price: Cents) -> bool
 
 /// Whether each price lies from the negative of the cap to the cap.
 fn all_within_cap(prices: &[Cents]) -> bool
-    ensures { IsTrue result ↔ All (λ c. IsPrice c.0) prices.now }
+    ensures { IsTrue result ↔ All IsCapped prices.now }
 {
     prices.iter().all(|price| is_price(*price))
 }

@@ -21,9 +21,9 @@ use Rattle.mari_check.specs.declared.ends.End.{End}
 use Rattle.mari_check.specs.declared.ends.End.TheVariants.{Greatest, Least}
 use Rattle.mari_market.specs.declared.along.Along.TheVariants.{Falling, Rising}
 use Rattle.mari_check.specs.Ends.{AreEndPrices, ArePricesOf, IsBoundBy, IsTightest, SetsAt, along_of}
-use Rattle.mari_check.specs.Spread.{HasSource, IsSpread, Reaches}
-use Rattle.mari_market.specs.Along.{LeadsTo}
-use Rattle.mari_check.specs.Spread.Reaches.{further, itself}
+use Rattle.mari_check.specs.Spread.{HasSource, IsSpread}
+use Rattle.mari_market.specs.Along.{LeadsTo, Reaches}
+use Rattle.mari_market.specs.Along.Reaches.{further, itself}
 use Rattle.mari_market.proofs.Agree.{KeepsAll, keeps_consistent}
 use Rattle.mari_market.proofs.Standings.{OneStanding, one_standing}
 use Rattle.mari_market.proofs.Leading.{falling_spreads, falling_from}

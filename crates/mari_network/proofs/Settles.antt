@@ -18,7 +18,8 @@ use Rattle.mari_market.specs.Bounds.{Span}
 use Rattle.mari_market.specs.Market.{IsValid}
 use Rattle.mari_market.specs.Price.{price_at, IsPrice}
 use Rattle.mari_network.specs.declared.slots.Slot.{Slot}
-use Rattle.mari_network.specs.Slots.{beyond, amount_at, IsWithinSlot, IsRunning}
+use Rattle.mari_network.specs.declared.slots.TheConstants.{BEYOND}
+use Rattle.mari_network.specs.Slots.{amount_at, IsWithinSlot, IsRunning}
 use Rattle.mari_network.specs.Levels.{AreTight}
 use Rattle.mari_network.specs.declared.optimum.Solved.{Solved}
 use Rattle.mari_network.specs.declared.network.Network.{Network as NetworkRecord}
@@ -98,16 +99,16 @@ not_less a b e = grind (arith, ints)
 is_less : (a b : ℤ) → lt_z a b ≡ true → a <ℤ b
 is_less a b e = grind (arith, ints)
 
-lowest : (n : ℕ) (p : ℕ → ℤ) (zones : List ℕ) → ((z : ℕ) → z < n → is_in zones z ≡ is_inside Out (p z)) → AreLowest n beyond p (is_in zones)
+lowest : (n : ℕ) (p : ℕ → ℤ) (zones : List ℕ) → ((z : ℕ) → z < n → is_in zones z ≡ is_inside Out (p z)) → AreLowest n BEYOND p (is_in zones)
 lowest n p zones h = record {
-  yes = λ z l e. not_less (neg_ℤ beyond) (p z) (not_true (lt_z (neg_ℤ beyond) (p z)) (sym (h z l) ∙ e));
-  no = λ z l e. is_less (neg_ℤ beyond) (p z) (not_false (lt_z (neg_ℤ beyond) (p z)) (sym (h z l) ∙ e));
+  yes = λ z l e. not_less (neg_ℤ BEYOND) (p z) (not_true (lt_z (neg_ℤ BEYOND) (p z)) (sym (h z l) ∙ e));
+  no = λ z l e. is_less (neg_ℤ BEYOND) (p z) (not_false (lt_z (neg_ℤ BEYOND) (p z)) (sym (h z l) ∙ e));
 }
 
-highest : (n : ℕ) (p : ℕ → ℤ) (zones : List ℕ) → ((z : ℕ) → z < n → is_in zones z ≡ is_inside In (p z)) → AreHighest n beyond p (is_in zones)
+highest : (n : ℕ) (p : ℕ → ℤ) (zones : List ℕ) → ((z : ℕ) → z < n → is_in zones z ≡ is_inside In (p z)) → AreHighest n BEYOND p (is_in zones)
 highest n p zones h = record {
-  yes = λ z l e. not_less (p z) beyond (not_true (lt_z (p z) beyond) (sym (h z l) ∙ e));
-  no = λ z l e. is_less (p z) beyond (not_false (lt_z (p z) beyond) (sym (h z l) ∙ e));
+  yes = λ z l e. not_less (p z) BEYOND (not_true (lt_z (p z) BEYOND) (sym (h z l) ∙ e));
+  no = λ z l e. is_less (p z) BEYOND (not_false (lt_z (p z) BEYOND) (sym (h z l) ∙ e));
 }
 
 -- where something stands in for an order, the zones of the least prices, or of the greatest, are a cut

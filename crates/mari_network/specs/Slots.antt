@@ -7,10 +7,6 @@ use Rattle.mari_market.specs.Activation.{IsWithinLimits, carried_out}
 use Rattle.mari_network.specs.declared.slots.Slot.{Slot}
 use Rattle.mari_network.specs.declared.slots.TheConstants.{BEYOND}
 
--- a price above that of every order
-abbrev pub beyond : ℤ
-beyond = BEYOND
-
 -- how far from 0 the bounds of a slot are at most
 abbrev pub most_room : ℕ
 most_room = 2 ^ 40
@@ -71,5 +67,5 @@ pub record IsTightSlot (p : ℕ → ℤ) (s : Slot) (x : ℤ) : Type 0 where
 pub record IsSmallSlot (s : Slot) : Type 0 where
   pub low : neg_ℤ (pos most_room) ≤ℤ s.low
   pub high : s.high ≤ℤ pos most_room
-  pub cheap : neg_ℤ beyond ≤ℤ s.price
-  pub dear : s.price ≤ℤ beyond
+  pub cheap : neg_ℤ BEYOND ≤ℤ s.price
+  pub dear : s.price ≤ℤ BEYOND

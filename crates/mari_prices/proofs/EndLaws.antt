@@ -13,7 +13,8 @@ use Rattle.mari_market.specs.Consistent.{IsUpperBound}
 use Rattle.mari_market.specs.Interval.{AreLeastPrices, AreGreatestPrices}
 use Rattle.mari_market.specs.Market.{IsValid, IsValidOrder, IsValidBorder}
 use Rattle.mari_market.specs.Optimal.{IsFeasible, IsConsistent}
-use Rattle.mari_market.specs.Price.{IsPrice, price_at, cap}
+use Rattle.mari_units.specs.declared.numbers.TheConstants.{CAP}
+use Rattle.mari_market.specs.Price.{IsPrice, price_at}
 use Rattle.mari_prices.specs.declared.bounds.End.{End}
 use Rattle.mari_prices.specs.declared.bounds.End.TheVariants.{Least, Greatest}
 use Rattle.mari_market.specs.declared.along.Along.TheVariants.{Rising, Falling}
@@ -50,7 +51,7 @@ priced end m a bounds xs v e = record {
       let own = own_price end m a bounds xs z v e there in
       record {
         low = omega (arith, ints, own.low, e.spread.spreading.above z s k);
-        high = spread_least (LeadsTo (along_of end) m.borders a.flow) (value_in bounds) (λ _. cap) xs e.spread.spreading (λ y h. (own_price end m a bounds xs y v e (omega (arith, h, e.one_each))).high) (λ x y h. omega (arith, ints)) z s k;
+        high = spread_least (LeadsTo (along_of end) m.borders a.flow) (value_in bounds) (λ _. CAP) xs e.spread.spreading (λ y h. (own_price end m a bounds xs y v e (omega (arith, h, e.one_each))).high) (λ x y h. omega (arith, ints)) z s k;
       };
 }
 

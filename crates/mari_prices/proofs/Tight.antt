@@ -5,7 +5,7 @@ use Rattle.std.specs.Int.{int_max}
 use Rattle.std.proofs.lemmas.List.{take_all}
 use Rattle.std.proofs.lemmas.Bool.{cases_eq}
 use Rattle.mari_market.specs.declared.market.Order.{Order}
-use Rattle.mari_market.specs.Price.{cap}
+use Rattle.mari_units.specs.declared.numbers.TheConstants.{CAP}
 use Rattle.mari_market.specs.Sums.{AnyZip}
 use Rattle.mari_prices.specs.declared.bounds.End.{End}
 use Rattle.mari_prices.specs.Spread.{value_in}
@@ -14,7 +14,7 @@ use Rattle.mari_market.specs.Consistent.{own_standing}
 use Rattle.mari_market.proofs.Sums.{AnyZip_cases, AnyZip_kept, AnyZip_new}
 
 -- no order yet
-pub tightest_none : (end : End) (os : List Order) (qs : List ℕ) (z : ℕ) (c : ℤ) → c ≡ neg_ℤ cap → IsTightest end (take 0 os) (take 0 qs) z c
+pub tightest_none : (end : End) (os : List Order) (qs : List ℕ) (z : ℕ) (c : ℤ) → c ≡ neg_ℤ CAP → IsTightest end (take 0 os) (take 0 qs) z c
 tightest_none end os qs z c e = record { bound = inl e; tightest = λ d b. none d b }
   where
     none : (d : ℤ) → IsBoundBy end (take 0 os) (take 0 qs) z d → d ≤ℤ c

@@ -8,7 +8,7 @@ use Rattle.mari_market.specs.declared.market.Order.{Order}
 use Rattle.mari_market.specs.declared.market.Market.{Market}
 use Rattle.mari_market.specs.declared.activation.Activation.{Activation}
 use Rattle.mari_market.specs.declared.certificate.CutSide.TheVariants.{Out, In}
-use Rattle.mari_market.specs.Sums.{int_sum, sum_along}
+use Rattle.mari_market.specs.Sums.{int_sum, sum_along, int_at}
 use Rattle.mari_market.specs.Cut.{is_in, CannotBalance}
 use Rattle.mari_market.specs.Activation.{IsWithinLimits}
 use Rattle.mari_market.specs.Bounds.{Span}
@@ -16,7 +16,7 @@ use Rattle.mari_market.specs.Market.{IsValid, IsValidOrder}
 use Rattle.mari_market.specs.Price.{price_at}
 use Rattle.mari_network.specs.declared.slots.Slot.{Slot}
 use Rattle.mari_network.specs.declared.slots.TheConstants.{BEYOND}
-use Rattle.mari_network.specs.Slots.{no_slot, amount_at, slot_into, IsWithinSlot, IsTightSlot, IsRunning}
+use Rattle.mari_network.specs.Slots.{no_slot, slot_into, IsWithinSlot, IsTightSlot, IsRunning}
 use Rattle.mari_network.specs.Levels.{AreTight}
 use Rattle.mari_market.specs.Consistent.{IsConsistentFlow}
 use Rattle.mari_network.specs.Orders.{no_order, slot_of, slots_of, IsExtra, ArePuts, capped}
@@ -64,7 +64,7 @@ runs bounds m more xs fs p e =
     })
 
 -- where nothing stands in, the orders' amounts are the relaxed optimum
-pub ends_solved : (bounds : Order → Span) (m : Market) (more : List Slot) (a : Activation) (ps : List Cents) (p : ℕ → ℤ) (xs : List ℤ) → Ends bounds m more xs a.flow p → ArePuts m.orders (take (length (slots_of bounds m.orders)) xs) a.mw → ((z : ℕ) → z < m.zones → price_at ps z ≡ capped (p z)) → ((j : ℕ) → j < length (drop (length (slots_of bounds m.orders)) xs) → amount_at xs (length (slots_of bounds m.orders) + j) ≡ pos 0) → IsOptimum bounds m a ps
+pub ends_solved : (bounds : Order → Span) (m : Market) (more : List Slot) (a : Activation) (ps : List Cents) (p : ℕ → ℤ) (xs : List ℤ) → Ends bounds m more xs a.flow p → ArePuts m.orders (take (length (slots_of bounds m.orders)) xs) a.mw → ((z : ℕ) → z < m.zones → price_at ps z ≡ capped (p z)) → ((j : ℕ) → j < length (drop (length (slots_of bounds m.orders)) xs) → int_at xs (length (slots_of bounds m.orders) + j) ≡ pos 0) → IsOptimum bounds m a ps
 ends_solved bounds m more a ps p xs e puts prices none =
     let reals = slots_of bounds m.orders in
     let all = runs bounds m more xs a.flow p e in
@@ -101,7 +101,7 @@ shortfall_is_cut_in : (bounds : Order → Span) (m : Market) (zones : List ℕ) 
 shortfall_is_cut_in bounds m zones h = omega (arith, ints, h, int_sum_map (most_in_slot (is_in zones)) (λ o. slot_of (bounds o) o) m.orders)
 
 -- where something is taken away, the zones of the least price are a cut
-pub ends_cut_out : (bounds : Order → Span) (m : Market) (more : List Slot) (xs fs : List ℤ) (p : ℕ → ℤ) (zones : List ℕ) (j : ℕ) → Ends bounds m more xs fs p → AreLowest m.zones BEYOND p (is_in zones) → j < length more → amount_at xs (length (slots_of bounds m.orders) + j) <ℤ pos 0 → CannotBalance bounds m Out zones
+pub ends_cut_out : (bounds : Order → Span) (m : Market) (more : List Slot) (xs fs : List ℤ) (p : ℕ → ℤ) (zones : List ℕ) (j : ℕ) → Ends bounds m more xs fs p → AreLowest m.zones BEYOND p (is_in zones) → j < length more → int_at xs (length (slots_of bounds m.orders) + j) <ℤ pos 0 → CannotBalance bounds m Out zones
 ends_cut_out bounds m more xs fs p zones j e low there short =
     let reals = slots_of bounds m.orders in
     let all = runs bounds m more xs fs p e in
@@ -115,7 +115,7 @@ ends_cut_out bounds m more xs fs p zones j e low there short =
     (subst (λ (x : ℤ). x <ℤ pos 0) (sym (at_drop (length (slots_of bounds m.orders)) xs j (pos 0))) short))
 
 -- where something is given, the zones of the greatest price are
-pub ends_cut_in : (bounds : Order → Span) (m : Market) (more : List Slot) (xs fs : List ℤ) (p : ℕ → ℤ) (zones : List ℕ) (j : ℕ) → Ends bounds m more xs fs p → AreHighest m.zones BEYOND p (is_in zones) → j < length more → pos 0 <ℤ amount_at xs (length (slots_of bounds m.orders) + j) → CannotBalance bounds m In zones
+pub ends_cut_in : (bounds : Order → Span) (m : Market) (more : List Slot) (xs fs : List ℤ) (p : ℕ → ℤ) (zones : List ℕ) (j : ℕ) → Ends bounds m more xs fs p → AreHighest m.zones BEYOND p (is_in zones) → j < length more → pos 0 <ℤ int_at xs (length (slots_of bounds m.orders) + j) → CannotBalance bounds m In zones
 ends_cut_in bounds m more xs fs p zones j e high there short =
     let all = runs bounds m more xs fs p e in
     let first = zip_first (RunsSlot m.zones p) (slots_of bounds m.orders) more xs all in

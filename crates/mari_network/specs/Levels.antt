@@ -5,7 +5,8 @@ use Rattle.mari_market.specs.declared.market.Border.{Border}
 use Rattle.mari_market.specs.Consistent.{IsConsistentFlow}
 use Rattle.mari_network.specs.declared.slots.Slot.{Slot}
 use Rattle.mari_network.specs.declared.slots.TheConstants.{BEYOND}
-use Rattle.mari_network.specs.Slots.{slot_at, zone_of, price_of, amount_at, CanLess, CanMore, IsTightSlot}
+use Rattle.mari_market.specs.Sums.{int_at}
+use Rattle.mari_network.specs.Slots.{slot_at, zone_of, price_of, CanLess, CanMore, IsTightSlot}
 use Rattle.mari_network.specs.Chain.{tail_of, head_of, room_of}
 use Rattle.mari_network.specs.Spread.{is_marked, AreClosed}
 
@@ -25,5 +26,5 @@ pub record AreLevels (slots : List Slot) (bs : List Border) (xs fs : List ℤ) (
 
 -- each slot and each flow is tight
 pub record AreTight (slots : List Slot) (bs : List Border) (xs fs : List ℤ) (p : ℕ → ℤ) : Type 0 where
-  pub slots_tight : (k : ℕ) → k < length slots → IsTightSlot p (slot_at slots k) (amount_at xs k)
+  pub slots_tight : (k : ℕ) → k < length slots → IsTightSlot p (slot_at slots k) (int_at xs k)
   pub flows_tight : AllZip (IsConsistentFlow p) bs fs

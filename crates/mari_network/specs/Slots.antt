@@ -2,7 +2,7 @@
 use Rattle.std.specs.Prelude.{◌≡◌, ◌==◌, if◌then◌else◌, ℕ, ◌<◌, ◌^◌, ℤ, pos, ◌*ℤ◌, neg_ℤ, ◌≤ℤ◌, ◌<ℤ◌, List, length, slice_index_or}
 use Rattle.std.specs.List.{AllZip}
 use Rattle.mari_market.specs.declared.market.Border.{Border}
-use Rattle.mari_market.specs.Sums.{sum_along}
+use Rattle.mari_market.specs.Sums.{sum_along, int_at}
 use Rattle.mari_market.specs.Activation.{IsWithinLimits, carried_out}
 use Rattle.mari_network.specs.declared.slots.Slot.{Slot}
 use Rattle.mari_network.specs.declared.slots.TheConstants.{BEYOND}
@@ -22,9 +22,6 @@ zone_of slots k = (slot_at slots k).zone
 
 abbrev pub price_of : List Slot → ℕ → ℤ
 price_of slots k = (slot_at slots k).price
-
-abbrev pub amount_at : List ℤ → ℕ → ℤ
-amount_at xs i = slice_index_or xs i (pos 0)
 
 -- a number counted in one zone alone
 abbrev pub at_zone : ℕ → ℕ → ℤ → ℤ
@@ -52,11 +49,11 @@ pub record IsRunning (zones : ℕ) (slots : List Slot) (bs : List Border) (xs fs
 
 -- a slot that may put in less
 abbrev pub CanLess : List Slot → List ℤ → ℕ → Type 0
-CanLess slots xs k = (k < length slots) × ((slot_at slots k).low <ℤ amount_at xs k)
+CanLess slots xs k = (k < length slots) × ((slot_at slots k).low <ℤ int_at xs k)
 
 -- a slot that may put in more
 abbrev pub CanMore : List Slot → List ℤ → ℕ → Type 0
-CanMore slots xs k = (k < length slots) × (amount_at xs k <ℤ (slot_at slots k).high)
+CanMore slots xs k = (k < length slots) × (int_at xs k <ℤ (slot_at slots k).high)
 
 -- an amount above its least doesn't lose, and one below its greatest would not gain
 pub record IsTightSlot (p : ℕ → ℤ) (s : Slot) (x : ℤ) : Type 0 where

@@ -32,8 +32,8 @@ abbrev pub slot_into : ℕ → Slot → ℤ → ℤ
 slot_into z s x = at_zone z s.zone x
 
 -- what an amount of a slot adds to the welfare
-abbrev pub worth : Slot → ℤ → ℤ
-worth s x = neg_ℤ (s.price *ℤ x)
+abbrev pub slot_gain : Slot → ℤ → ℤ
+slot_gain s x = neg_ℤ (s.price *ℤ x)
 
 pub record IsWithinSlot (s : Slot) (x : ℤ) : Type 0 where
   pub least : s.low ≤ℤ x

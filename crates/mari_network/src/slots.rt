@@ -3,7 +3,7 @@
 ghost use Rattle.std.specs.Prelude.{◌≡◌, ℕ, ℤ, pos, ◌+ℤ◌, ◌-ℤ◌, ◌*ℤ◌, ◌≤ℤ◌, ◌<◌, length, slice_set, neg_ℤ, IfOk, ◌++◌};
 ghost use Rattle.std.specs.List.{AllZip};
 ghost use Rattle.mari_market.specs.Sums.{sum_along, int_at};
-ghost use Rattle.mari_network.specs.Slots.{slot_at, at_zone, slot_into, worth, IsWithinSlot, IsSmallSlot};
+ghost use Rattle.mari_network.specs.Slots.{slot_at, at_zone, slot_into, slot_gain, IsWithinSlot, IsSmallSlot};
 ghost use Rattle.mari_network.specs.Orders.{slot_of, slots_of, AreOrderSlots};
 ghost use Rattle.mari_market.specs.Bounds.{Span};
 ghost use Rattle.mari_market.specs.Market.{IsValid};
@@ -41,7 +41,7 @@ pub fn move_amount(slots: &[Slot], amounts: &mut [i64], at: usize, more: i64)
 
     // What that does to a zone's sum, and to what all is worth.
     ensures into { (z : ℕ) → sum_along (slot_into z) slots.now amounts.new ≡ sum_along (slot_into z) slots.now amounts.old +ℤ at_zone z (slot_at slots.now at).zone more }
-    ensures worth { sum_along worth slots.now amounts.new ≡ sum_along worth slots.now amounts.old -ℤ ((slot_at slots.now at).price *ℤ more) }
+    ensures worth { sum_along slot_gain slots.now amounts.new ≡ sum_along slot_gain slots.now amounts.old -ℤ ((slot_at slots.now at).price *ℤ more) }
 {
     let now = amounts[at];
     amounts[at] = now + more;

@@ -268,7 +268,12 @@ fn are_zones(chain: &[u32], count: u32) -> bool
 }
 
 /// Whether a chain has no more zones than there are, all of them there, and its prices contradict each other.
-fn is_refutation(market: &Market, prefix: &Prefix, activation: &Activation, chain: &[u32]) -> bool
+fn is_contradictory_chain(
+    market: &Market,
+    prefix: &Prefix,
+    activation: &Activation,
+    chain: &[u32],
+) -> bool
     requires market { IsValid market.now }
     requires activation { IsOfWord market.now prefix.now activation.now }
     ensures { IsTrue result ↔ IsContradictoryChain market.now activation.now chain.now }
@@ -292,5 +297,5 @@ pub(crate) fn is_conflict(market: &Market, prefix: &Prefix, conflict: &Conflict)
     if !has_tight_potentials(market, prefix, activation, potentials) {
         return false;
     }
-    is_refutation(market, prefix, activation, conflict.chain.as_slice())
+    is_contradictory_chain(market, prefix, activation, conflict.chain.as_slice())
 }

@@ -13,7 +13,8 @@ use Rattle.mari_market.specs.Activation.{is_open}
 use Rattle.mari_market.specs.Consistent.{IsLowerBound, IsUpperBound, SetsLower, SetsLowerAt, SetsUpper, SetsUpperAt}
 use Rattle.mari_market.specs.Market.{IsValid, IsValidOrder}
 use Rattle.mari_market.specs.Optimal.{IsConsistent, IsFeasible}
-use Rattle.mari_market.specs.Price.{IsPrice, cap, price_at}
+use Rattle.mari_units.specs.declared.numbers.TheConstants.{CAP}
+use Rattle.mari_market.specs.Price.{IsPrice, price_at}
 use Rattle.mari_market.specs.Sums.{AnyZip}
 use Rattle.mari_market.proofs.Conflicts.{leads_sound, lower_kept, price_in_cap, upper_kept}
 use Rattle.mari_market.proofs.Sums.{AnyZip-with}
@@ -21,9 +22,9 @@ use Rattle.mari_check.specs.declared.ends.End.{End}
 use Rattle.mari_check.specs.declared.ends.End.TheVariants.{Greatest, Least}
 use Rattle.mari_market.specs.declared.along.Along.TheVariants.{Falling, Rising}
 use Rattle.mari_check.specs.Ends.{AreEndPrices, ArePricesOf, IsBoundBy, IsTightest, SetsAt, along_of}
-use Rattle.mari_check.specs.Spread.{HasSource, IsSpread, Reaches}
-use Rattle.mari_market.specs.Along.{LeadsTo}
-use Rattle.mari_check.specs.Spread.Reaches.{further, itself}
+use Rattle.mari_check.specs.Spread.{HasSource, IsSpread}
+use Rattle.mari_market.specs.Along.{LeadsTo, Reaches}
+use Rattle.mari_market.specs.Along.Reaches.{further, itself}
 use Rattle.mari_market.proofs.Agree.{KeepsAll, keeps_consistent}
 use Rattle.mari_market.proofs.Standings.{OneStanding, one_standing}
 use Rattle.mari_market.proofs.Leading.{falling_spreads, falling_from}
@@ -31,24 +32,24 @@ use Rattle.mari_market.proofs.Leading.{falling_spreads, falling_from}
 module _ (m : Market) (a : Activation) (v : IsValid m) (f : IsFeasible m a) where
   -- ---- bounds, as the definitions have them and by their heights
 
-  lower-height : (z : ℕ) (c : ℤ) (n : ℕ) → pos n ≡ c +ℤ cap → IsLowerBound m a z c → IsBoundBy Least m.orders a.mw z n
+  lower-height : (z : ℕ) (c : ℤ) (n : ℕ) → pos n ≡ c +ℤ CAP → IsLowerBound m a z c → IsBoundBy Least m.orders a.mw z n
   lower-height z c n e (inl h) = inl (omega (arith, ints, e, h))
   lower-height z c n e (inr s) = inr (AnyZip-with (OneStanding m a) (SetsLowerAt (is_open m a) z c) (SetsAt Least z n)
       (λ o q is h. record { zone = h.zone; height = omega (arith, ints, e, h.price); sets = subst (λ (s : Standing). SetsLower s o.side o.greatest q) (sym is) h.sets }) m.orders a.mw (one_standing m a v f) s)
 
-  lower-from : (z n : ℕ) → IsBoundBy Least m.orders a.mw z n → IsLowerBound m a z (pos n -ℤ cap)
+  lower-from : (z n : ℕ) → IsBoundBy Least m.orders a.mw z n → IsLowerBound m a z (pos n -ℤ CAP)
   lower-from z n (inl h) = inl (omega (arith, ints, h))
-  lower-from z n (inr s) = inr (AnyZip-with (OneStanding m a) (SetsAt Least z n) (SetsLowerAt (is_open m a) z (pos n -ℤ cap))
+  lower-from z n (inr s) = inr (AnyZip-with (OneStanding m a) (SetsAt Least z n) (SetsLowerAt (is_open m a) z (pos n -ℤ CAP))
       (λ o q is h. record { zone = h.zone; price = omega (arith, ints, h.height); sets = subst (λ (s : Standing). SetsLower s o.side o.greatest q) is h.sets }) m.orders a.mw (one_standing m a v f) s)
 
-  upper-height : (z : ℕ) (c : ℤ) (n : ℕ) → pos n ≡ cap -ℤ c → IsUpperBound m a z c → IsBoundBy Greatest m.orders a.mw z n
+  upper-height : (z : ℕ) (c : ℤ) (n : ℕ) → pos n ≡ CAP -ℤ c → IsUpperBound m a z c → IsBoundBy Greatest m.orders a.mw z n
   upper-height z c n e (inl h) = inl (omega (arith, ints, e, h))
   upper-height z c n e (inr s) = inr (AnyZip-with (OneStanding m a) (SetsUpperAt (is_open m a) z c) (SetsAt Greatest z n)
       (λ o q is h. record { zone = h.zone; height = omega (arith, ints, e, h.price); sets = subst (λ (s : Standing). SetsUpper s o.side o.greatest q) (sym is) h.sets }) m.orders a.mw (one_standing m a v f) s)
 
-  upper-from : (z n : ℕ) → IsBoundBy Greatest m.orders a.mw z n → IsUpperBound m a z (cap -ℤ pos n)
+  upper-from : (z n : ℕ) → IsBoundBy Greatest m.orders a.mw z n → IsUpperBound m a z (CAP -ℤ pos n)
   upper-from z n (inl h) = inl (omega (arith, ints, h))
-  upper-from z n (inr s) = inr (AnyZip-with (OneStanding m a) (SetsAt Greatest z n) (SetsUpperAt (is_open m a) z (cap -ℤ pos n))
+  upper-from z n (inr s) = inr (AnyZip-with (OneStanding m a) (SetsAt Greatest z n) (SetsUpperAt (is_open m a) z (CAP -ℤ pos n))
       (λ o q is h. record { zone = h.zone; price = omega (arith, ints, h.height); sets = subst (λ (s : Standing). SetsUpper s o.side o.greatest q) is h.sets }) m.orders a.mw (one_standing m a v f) s)
 
   -- bounds are prices
@@ -82,15 +83,15 @@ module _ (m : Market) (a : Activation) (v : IsValid m) (f : IsFeasible m a) wher
     fall-along y _ (further x z r l) = omega (arith, ints, fall-along y x r, leads_sound m a qs z x agrees.borders (falling_from m a z x l))
 
     -- no consistent price is lower than that of the least height, nor higher than that of the greatest
-    no-lower : (bounds vs : List ℕ) (z : ℕ) → ((y : ℕ) → y < length bounds → IsTightest Least m.orders a.mw y bounds) → HasSource (LeadsTo Rising m.borders a.flow) bounds vs z → (pos (slice_index vs z) -ℤ cap) ≤ℤ price_at qs z
+    no-lower : (bounds vs : List ℕ) (z : ℕ) → ((y : ℕ) → y < length bounds → IsTightest Least m.orders a.mw y bounds) → HasSource (LeadsTo Rising m.borders a.flow) bounds vs z → (pos (slice_index vs z) -ℤ CAP) ≤ℤ price_at qs z
     no-lower bounds vs z t s =
         let own = lower-from s.from (slice_index bounds s.from) (t s.from s.there).bound in
-        omega (arith, ints, s.value, lower_kept m a qs s.from (pos (slice_index bounds s.from) -ℤ cap) (price_in_cap m qs agrees.prices s.from) agrees.orders own, rise-along s.from z s.reaches)
+        omega (arith, ints, s.value, lower_kept m a qs s.from (pos (slice_index bounds s.from) -ℤ CAP) (price_in_cap m qs agrees.prices s.from) agrees.orders own, rise-along s.from z s.reaches)
 
-    no-higher : (bounds vs : List ℕ) (z : ℕ) → ((y : ℕ) → y < length bounds → IsTightest Greatest m.orders a.mw y bounds) → HasSource (LeadsTo Falling m.borders a.flow) bounds vs z → price_at qs z ≤ℤ (cap -ℤ pos (slice_index vs z))
+    no-higher : (bounds vs : List ℕ) (z : ℕ) → ((y : ℕ) → y < length bounds → IsTightest Greatest m.orders a.mw y bounds) → HasSource (LeadsTo Falling m.borders a.flow) bounds vs z → price_at qs z ≤ℤ (CAP -ℤ pos (slice_index vs z))
     no-higher bounds vs z t s =
         let own = upper-from s.from (slice_index bounds s.from) (t s.from s.there).bound in
-        omega (arith, ints, s.value, upper_kept m a qs s.from (cap -ℤ pos (slice_index bounds s.from)) (price_in_cap m qs agrees.prices s.from) agrees.orders own, fall-along s.from z s.reaches)
+        omega (arith, ints, s.value, upper_kept m a qs s.from (CAP -ℤ pos (slice_index bounds s.from)) (price_in_cap m qs agrees.prices s.from) agrees.orders own, fall-along s.from z s.reaches)
 
   -- ---- where some prices are consistent, so are those of either end
 
@@ -100,8 +101,8 @@ module _ (m : Market) (a : Activation) (v : IsValid m) (f : IsFeasible m a) wher
       one_each = omega (arith, p.one_each, s.one_each, long);
       lower = λ z c l b.
           let c_price = lower-price z c b in
-          let n : ℕ = unsigned_abs (c +ℤ cap) in
-          let high : pos n ≡ c +ℤ cap = omega (arith, ints, c_price.low) in
+          let n : ℕ = unsigned_abs (c +ℤ CAP) in
+          let high : pos n ≡ c +ℤ CAP = omega (arith, ints, c_price.low) in
           omega (arith, ints, (t z (omega (arith, l, long))).tightest n (lower-height z c n high b), s.above z, p.each z (omega (arith, l, long, s.one_each)), high);
       upper = λ z c l b.
           omega (arith, ints, no-lower qs agrees bounds vs z t (s.source z (omega (arith, l, long))), upper_kept m a qs z c (price_in_cap m qs agrees.prices z) agrees.orders b, p.each z (omega (arith, l, long, s.one_each)));
@@ -115,8 +116,8 @@ module _ (m : Market) (a : Activation) (v : IsValid m) (f : IsFeasible m a) wher
           omega (arith, ints, no-higher qs agrees bounds vs z t (s.source z (omega (arith, l, long))), lower_kept m a qs z c (price_in_cap m qs agrees.prices z) agrees.orders b, p.each z (omega (arith, l, long, s.one_each)));
       upper = λ z c l b.
           let c_price = upper-price z c b in
-          let n : ℕ = unsigned_abs (cap -ℤ c) in
-          let low : pos n ≡ cap -ℤ c = omega (arith, ints, c_price.high) in
+          let n : ℕ = unsigned_abs (CAP -ℤ c) in
+          let low : pos n ≡ CAP -ℤ c = omega (arith, ints, c_price.high) in
           omega (arith, ints, (t z (omega (arith, l, long))).tightest n (upper-height z c n low b), s.above z, p.each z (omega (arith, l, long, s.one_each)), low);
       rises = λ y z k l r. omega (arith, ints, s.rises z y (falling_spreads m a y z r), p.each y (omega (arith, k, long, s.one_each)), p.each z (omega (arith, l, long, s.one_each)));
     }

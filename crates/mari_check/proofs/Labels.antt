@@ -4,24 +4,14 @@ use Rattle.std.specs.Prelude.{slice_index}
 use Rattle.std.specs.List.{range_with_len}
 use Rattle.mari_market.specs.declared.activation.Activation.{Activation}
 use Rattle.mari_market.specs.declared.market.Market.{Market}
-use Rattle.mari_market.specs.Area.{AreAreas, InOneArea}
-use Rattle.mari_market.specs.Area.InOneArea.{further, itself}
-use Rattle.mari_market.specs.declared.along.Along.TheVariants.{Joined}
+use Rattle.mari_market.specs.Along.Reaches.{further, itself}
+use Rattle.mari_market.specs.Area.{AreAreas, InOneArea, Joins}
 use Rattle.mari_check.specs.Areas.{AgreeAt, AreNumbered}
-use Rattle.mari_check.specs.Spread.{IsSpread, Reaches}
-use Rattle.mari_market.specs.Along.{LeadsTo}
-use Rattle.mari_check.specs.Spread.Reaches.{further as leads-on, itself as starts}
+use Rattle.mari_check.specs.Spread.{IsSpread}
 use Rattle.mari_market.proofs.Joins.{joins_other, area_on, area_back}
 
 module _ (m : Market) (a : Activation) where
-  abbrev Lead : ℕ → ℕ → Type 0
-  Lead y z = LeadsTo Joined m.borders a.flow y z
-
-  reached : (y z : ℕ) → Reaches Lead y z → InOneArea m a y z
-  reached y _ starts = itself
-  reached y _ (leads-on x z r l) = further x z (reached y x r) l
-
-  module _ (own labels : List ℕ) (s : IsSpread Lead own labels) (places : (z : ℕ) → z < length own → slice_index own z ≡ z) where
+  module _ (own labels : List ℕ) (s : IsSpread (Joins m a) own labels) (places : (z : ℕ) → z < length own → slice_index own z ≡ z) where
     same-label : (y z : ℕ) → InOneArea m a y z → slice_index labels y ≡ slice_index labels z
     same-label y _ itself = refl
     same-label y _ (further w z k j) = omega (arith, same-label y w k, s.rises w z j, s.rises z w (joins_other m a w z j))
@@ -31,7 +21,7 @@ module _ (m : Market) (a : Activation) where
         let p = s.source y ly in
         let q = s.source z lz in
         let same : p.from ≡ q.from = sym (places p.from p.there) ∙ sym p.value ∙ e ∙ q.value ∙ places q.from q.there in
-        area_on m a y p.from z (area_back m a p.from y (reached p.from y p.reaches)) (subst (λ (x : ℕ). InOneArea m a x z) (sym same) (reached q.from z q.reaches))
+        area_on m a y p.from z (area_back m a p.from y p.reaches) (subst (λ (x : ℕ). InOneArea m a x z) (sym same) q.reaches)
 
     pub areas-by-labels : (areas : List ℕ) → length own ≡ m.zones → length areas ≡ m.zones → ((zone : ℕ) → zone < length areas → AgreeAt areas labels zone) → AreNumbered areas → AreAreas m a areas
     areas-by-labels areas long many agree numbered = record {

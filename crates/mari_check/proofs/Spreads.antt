@@ -7,9 +7,9 @@ use Rattle.mari_market.specs.declared.market.Border.{Border}
 use Rattle.mari_market.proofs.Sums.{AnyZip-at, AnyZip-meets}
 use Rattle.mari_market.proofs.Lists.{AllZip_more}
 use Rattle.mari_market.specs.declared.along.Along.{Along}
-use Rattle.mari_check.specs.Spread.{AreSmall, HasSource, IsClosed, IsClosedOver, IsRaiseIf, IsSpread, Reaches, Spreads, most_value, room_of}
-use Rattle.mari_market.specs.Along.{LeadsBack, LeadsOn, LeadsOver, LeadsTo}
-use Rattle.mari_check.specs.Spread.Reaches.{further, itself}
+use Rattle.mari_check.specs.Spread.{AreSmall, HasSource, IsClosed, IsClosedOver, IsRaiseIf, IsSpread, Spreads, most_value, room_of}
+use Rattle.mari_market.specs.Along.{LeadsBack, LeadsOn, LeadsOver, LeadsTo, Reaches}
+use Rattle.mari_market.specs.Along.Reaches.{further, itself}
 use Rattle.mari_check.specs.Spread.Spreads.{raised, unchanged}
 
 pub spreads-on : (lead : ℕ → ℕ → Type 0) (xs ys zs : List ℕ) → Spreads lead xs ys → Spreads lead ys zs → Spreads lead xs zs

@@ -1,6 +1,6 @@
 -- The numbers of areas, held against labels that the zones of one area share.
 use Rattle.std.specs.Prelude.{◌≡◌, ◌<◌, ◌≤◌, ◌↔◌, ℕ, List, length, slice_index}
-use Rattle.mari_market.specs.Area.{area_at}
+use Rattle.mari_market.specs.Area.{HasBefore, area_at}
 
 -- two zones have one number exactly where they have one label
 abbrev pub AreAlike : (areas labels : List ℕ) → (zone other : ℕ) → Type 0
@@ -9,10 +9,6 @@ AreAlike areas labels zone other = (area_at areas zone ≡ area_at areas other) 
 -- a zone has one number with exactly the zones that have its label
 abbrev pub AgreeAt : (areas labels : List ℕ) → ℕ → Type 0
 AgreeAt areas labels zone = (other : ℕ) → other < length areas → AreAlike areas labels zone other
-
--- a number is that of a zone no later than this one
-abbrev pub HasBefore : (areas : List ℕ) → (zone number : ℕ) → Type 0
-HasBefore areas zone number = (y : ℕ) × (y ≤ zone) × (area_at areas y ≡ number)
 
 -- a zone's number is at least 1, and each number up to it is that of a zone no later
 pub record IsNumbered (areas : List ℕ) (zone : ℕ) : Type 0 where

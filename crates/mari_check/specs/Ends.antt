@@ -8,7 +8,8 @@ use Rattle.mari_market.specs.declared.market.Side.{Side}
 use Rattle.mari_market.specs.declared.price_rules.Standing.{Standing}
 use Rattle.mari_market.specs.Consistent.{SetsLower, SetsUpper, own_standing}
 use Rattle.mari_market.specs.Interval.{AreGreatestPrices, AreLeastPrices}
-use Rattle.mari_market.specs.Price.{cap, price_at}
+use Rattle.mari_units.specs.declared.numbers.TheConstants.{CAP}
+use Rattle.mari_market.specs.Price.{price_at}
 use Rattle.mari_market.specs.Sums.{AnyZip}
 use Rattle.mari_check.specs.declared.ends.End.{End}
 use Rattle.mari_check.specs.declared.ends.End.TheVariants.{Greatest, Least}
@@ -17,8 +18,8 @@ use Rattle.mari_market.specs.declared.along.Along.TheVariants.{Falling, Rising}
 
 -- how far a price lies above the least price that there may be, or at the greatest end below the greatest
 abbrev pub IsHeight : End → ℤ → ℕ → Type 0
-IsHeight Least c n = pos n ≡ c +ℤ cap
-IsHeight Greatest c n = pos n ≡ cap -ℤ c
+IsHeight Least c n = pos n ≡ c +ℤ CAP
+IsHeight Greatest c n = pos n ≡ CAP -ℤ c
 
 -- how bounds spread
 abbrev pub along_of : End → Along

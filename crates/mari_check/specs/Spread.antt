@@ -3,7 +3,7 @@ use Rattle.std.specs.Prelude.{◌≡◌, ◌+◌, ◌-◌, ◌*◌, ◌<◌, ◌
 use Rattle.std.specs.List.{All, AllZip}
 use Rattle.mari_units.specs.declared.numbers.TheConstants.{CAP}
 use Rattle.mari_market.specs.declared.market.Border.{Border}
-use Rattle.mari_market.specs.Along.{LeadsOver}
+use Rattle.mari_market.specs.Along.{LeadsOver, Reaches}
 use Rattle.mari_market.specs.declared.along.Along.{Along}
 
 -- no value is above the distance from the least price there may be to the greatest, in cents
@@ -39,11 +39,6 @@ IsClosedOver along vs b f = (y z : ℕ) → LeadsOver along y z b f → slice_in
 
 abbrev pub IsClosed : Along → List ℕ → List Border → List ℤ → Type 0
 IsClosed along vs bs fs = AllZip (IsClosedOver along vs) bs fs
-
--- a zone leads to another, directly or through others
-pub data Reaches (lead : ℕ → ℕ → Type 0) (y : ℕ) : ℕ → Type 0 where
-  itself : Reaches lead y y
-  further : (x z : ℕ) → Reaches lead y x → lead x z → Reaches lead y z
 
 -- a zone's value is the own value of a zone that leads to it
 pub record HasSource (lead : ℕ → ℕ → Type 0) (own vs : List ℕ) (z : ℕ) : Type 0 where

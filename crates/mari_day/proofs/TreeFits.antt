@@ -94,8 +94,8 @@ module _ (m : Market) (v : IsValid m) where
   leaf-fits cutoff word (Bound ps) h = (prices-fit ps.cents h.prices, tt)
   leaf-fits cutoff word (Cut cut) h = (cut-fits word cut h, tt)
   leaf-fits cutoff word (Conflict k) h =
-      let zones : All IsZone k.chain = All-weaker (λ z. z < m.zones) IsZone (λ z l. omega (arith, l, v.zones.1)) k.chain h.zones in (
-        ((chain-some k.activation k.chain h.chain, omega (arith, h.short, v.zones.1)), zones),
+      let zones : All IsZone k.chain = All-weaker (λ z. z < m.zones) IsZone (λ z l. omega (arith, l, v.zones.1)) k.chain h.chain.zones in (
+        ((chain-some k.activation k.chain h.chain.chain, omega (arith, h.chain.short, v.zones.1)), zones),
         (prices-fit k.potentials.cents h.prices, (flows-fit k.activation h.feasible, (mws-fit k.activation h.feasible, tt))),
       )
 

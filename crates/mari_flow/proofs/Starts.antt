@@ -9,7 +9,8 @@ use Rattle.mari_market.specs.declared.market.Border.{Border}
 use Rattle.mari_market.specs.Sums.{sum_along}
 use Rattle.mari_market.specs.Activation.{carried_out}
 use Rattle.mari_network.specs.declared.slots.Slot.{Slot}
-use Rattle.mari_network.specs.Slots.{beyond, no_slot, slot_at, slot_into, IsWithinSlot, IsRunning}
+use Rattle.mari_network.specs.declared.slots.TheConstants.{BEYOND}
+use Rattle.mari_network.specs.Slots.{no_slot, slot_at, slot_into, IsWithinSlot, IsRunning}
 use Rattle.mari_network.specs.Orders.{IsExtra, IsOrderSlot}
 use Rattle.mari_network.specs.Fits.{IsNetworkSlot}
 use Rattle.mari_flow.specs.Starts.{extra_if, extra_of, lows, offsets, extras}
@@ -23,9 +24,9 @@ none_out z b f e = omega (arith, ints, if_none (b.from == z) f e, if_none (b.to 
 
 pub record ExtraFits (s e : Slot) : Type 0 where
   pub zone : e.zone ≡ s.zone
-  pub kind : IsExtra beyond e
+  pub kind : IsExtra BEYOND e
   pub within : IsWithinSlot e (neg_ℤ s.low)
-  pub floor : neg_ℤ beyond ≤ℤ e.price
+  pub floor : neg_ℤ BEYOND ≤ℤ e.price
 
 extra_case : (b : Bool) (s : Slot) → (b ≡ true → s.low <ℤ pos 0) → (b ≡ false → pos 0 ≤ℤ s.low) → ExtraFits s (extra_if b s)
 extra_case true s l h = record { zone = refl; kind = inr (refl, refl); within = record { least = omega (arith, ints, l refl); most = omega (arith, ints) }; floor = omega (arith, ints) }
@@ -70,10 +71,10 @@ starts_running n slots bs fs a e none =
     }
 
 -- what stands in is among what may
-pub extras_extra : (slots : List Slot) → All (IsExtra beyond) (extras slots)
+pub extras_extra : (slots : List Slot) → All (IsExtra BEYOND) (extras slots)
 extras_extra slots = λ k d l.
     let there : k < length slots = omega (arith, length-map slots extra_of, l) in
-    subst (λ (s : Slot). IsExtra beyond s) (sym (map_at extra_of slots k no_slot d there)) (extra_fits (slot_at slots k)).kind
+    subst (λ (s : Slot). IsExtra BEYOND s) (sym (map_at extra_of slots k no_slot d there)) (extra_fits (slot_at slots k)).kind
 
 extra_network : (b : Bool) (n : ℕ) (s : Slot) → (b ≡ true → s.low <ℤ pos 0) → (b ≡ false → pos 0 ≤ℤ s.low) → IsOrderSlot n s → IsNetworkSlot n (extra_if b s)
 extra_network true n s l h f = record { zone = f.zone; small = record { low = omega (arith, ints); high = omega (arith, ints, f.low); cheap = omega (arith, ints); dear = omega (arith, ints) } }

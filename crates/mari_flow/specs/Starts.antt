@@ -2,12 +2,12 @@
 use Rattle.std.specs.Prelude.{Bool, true, false, List, ℤ, pos, neg_ℤ, map}
 use lib.Signed.{lt_z}
 use Rattle.mari_network.specs.declared.slots.Slot.{Slot}
-use Rattle.mari_network.specs.Slots.{beyond}
+use Rattle.mari_network.specs.declared.slots.TheConstants.{BEYOND}
 
 -- what can take away, or give, the least that a slot puts in
 abbrev pub extra_if : Bool → Slot → Slot
-extra_if true s = record { zone = s.zone; price = beyond; low = pos 0; high = neg_ℤ s.low }
-extra_if false s = record { zone = s.zone; price = neg_ℤ beyond; low = neg_ℤ s.low; high = pos 0 }
+extra_if true s = record { zone = s.zone; price = BEYOND; low = pos 0; high = neg_ℤ s.low }
+extra_if false s = record { zone = s.zone; price = neg_ℤ BEYOND; low = neg_ℤ s.low; high = pos 0 }
 
 abbrev pub extra_of : Slot → Slot
 extra_of s = extra_if (lt_z s.low (pos 0)) s

@@ -1,9 +1,8 @@
 //! The gate word of an activation, and the order of gate words.
 
 ghost use Rattle.std.specs.Prelude.{◌≡◌, ◌↔◌, ◌||◌, ◌<◌, ◌≤◌, ℕ, length, IfSome, IsTrue};
-ghost use Rattle.mari_market.specs.Activation.{gate_word_of};
+ghost use Rattle.mari_market.specs.Activation.{gate_word_of, is_run_of};
 ghost use Rattle.mari_market.specs.First.{ComesBefore};
-ghost use Rattle.mari_market.specs.GateRuns.{is_run_of};
 ghost use Rattle.mari_market.specs.Market.{IsValid};
 ghost use Rattle.mari_market.specs.Optimal.{IsFeasible};
 ghost use Rattle.mari_market.specs.Prefix.{bit_of, word_of, IsFeasiblePrefix, IsCleared};

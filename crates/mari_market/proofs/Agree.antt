@@ -14,7 +14,8 @@ use Rattle.mari_market.specs.Along.{LeadsBy, Leads}
 use Rattle.mari_market.specs.Consistent.{IsConsistentOrder, IsConsistentBorder, SetsLowerAt, SetsUpperAt, IsLowerBound, IsUpperBound}
 use Rattle.mari_market.specs.Market.{IsValid, IsValidOrder, IsValidBorder}
 use Rattle.mari_market.specs.Optimal.{IsFeasible, IsConsistent}
-use Rattle.mari_market.specs.Price.{IsPrice, price_at, cap}
+use Rattle.mari_units.specs.declared.numbers.TheConstants.{CAP}
+use Rattle.mari_market.specs.Price.{IsPrice, price_at}
 use Rattle.mari_market.specs.Sums.{AnyZip}
 use Rattle.mari_market.proofs.Conflicts.{lower_kept, upper_kept, leads_sound, price_in_cap}
 use Rattle.mari_market.proofs.Sums.{AnyZip-map}
@@ -59,8 +60,8 @@ keeps_consistent m a ps v f k = record {
   prices = record {
     one_each = k.one_each;
     capped = λ z d l.
-        let low = k.lower z (neg_ℤ cap) (omega (arith, k.one_each)) (inl refl) in
-        let high = k.upper z cap (omega (arith, k.one_each)) (inl refl) in
+        let low = k.lower z (neg_ℤ CAP) (omega (arith, k.one_each)) (inl refl) in
+        let high = k.upper z CAP (omega (arith, k.one_each)) (inl refl) in
         subst (λ (c : Cents). IsPrice c.0) (get_or_default ps z (record { 0 = pos 0 }) d l) (record { low = low; high = high });
   };
   orders = each_pair (IsValidOrder m.zones (length m.gates)) (IsConsistentOrder (is_open m a) ps) m.orders a.mw (AllZip-long _ m.orders a.mw f.orders) v.orders (λ o q h s. order_agrees m a ps o q k h s);

@@ -6,7 +6,7 @@ use Rattle.mari_market.specs.declared.market.Market.{Market}
 use Rattle.mari_market.specs.declared.activation.Activation.{Activation}
 use Rattle.mari_market.specs.Along.{LeadsOver}
 use Rattle.mari_market.specs.Area.{Joins, InOneArea}
-use Rattle.mari_market.specs.Area.InOneArea.{itself, further}
+use Rattle.mari_market.specs.Along.Reaches.{itself, further}
 use Rattle.mari_market.proofs.Sums.{AnyZip-map}
 
 joins_back : (y z : ℕ) (b : Border) (f : ℤ) → LeadsOver Joined y z b f → LeadsOver Joined z y b f

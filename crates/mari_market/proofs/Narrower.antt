@@ -18,7 +18,7 @@ use Rattle.mari_market.specs.declared.certificate.Leaf.TheVariants.{Bound, Cut, 
 use Rattle.mari_market.specs.Bounds.{Span, GateState, gated_span, span_of}
 use Rattle.mari_market.specs.Bounds.GateState.{Open, Closed, Free}
 use Rattle.mari_market.specs.Cut.{is_in, least_put, most_put, least_of, most_of, CannotBalance}
-use Rattle.mari_market.specs.Dual.{gap_of, best_within, best_order, dual_value_of}
+use Rattle.mari_market.specs.Dual.{gain_per_mw, best_within, best_order, dual_value_of}
 use Rattle.mari_market.specs.Gates.{group_of, parent_of}
 use Rattle.mari_market.specs.Market.{IsValid, IsValidOrder}
 use Rattle.mari_market.specs.Prefix.{opens_in, is_group, group_taken, is_taken, is_closed, below_parent, undecided, decided, state_within, state_of, bounds_of_word, parent_opens, may_open}
@@ -169,7 +169,7 @@ best_narrower gap s t n =
 
 dual_narrower : (m : Market) (up low : Order → Span) (ps : List Cents) → IsValid m → ((o : Order) → IsValidOrder m.zones (length m.gates) o → IsNarrower (up o) (low o)) → dual_value_of low m ps ≤ℤ dual_value_of up m ps
 dual_narrower m up low ps v n =
-    let orders = int_sum-le (best_order low ps) (best_order up ps) (IsValidOrder m.zones (length m.gates)) (λ o k. best_narrower (gap_of o.side o.price.0 (price_at ps o.zone)) (up o) (low o) (n o k)) m.orders v.orders in
+    let orders = int_sum-le (best_order low ps) (best_order up ps) (IsValidOrder m.zones (length m.gates)) (λ o k. best_narrower (gain_per_mw o.side o.price.0 (price_at ps o.zone)) (up o) (low o) (n o k)) m.orders v.orders in
     omega (arith, ints, orders)
 
 least_rises : (side : Side) (s t : Span) → IsNarrower s t → least_put side s ≤ℤ least_put side t

@@ -41,3 +41,8 @@ LeadsBy y z b f = LeadsOver Rising y z b f
 -- some border makes the price of zone z at least that of zone y
 abbrev pub Leads : Market → Activation → ℕ → ℕ → Type 0
 Leads m a y z = LeadsTo Rising m.borders a.flow y z
+
+-- a zone leads to itself, and to another directly or through others
+pub data Reaches (lead : ℕ → ℕ → Type 0) (y : ℕ) : ℕ → Type 0 where
+  itself : Reaches lead y y
+  further : (x z : ℕ) → Reaches lead y x → lead x z → Reaches lead y z

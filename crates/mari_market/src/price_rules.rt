@@ -4,8 +4,9 @@ ghost use Rattle.std.specs.Prelude.{◌≡◌, IsTrue, ◌↔◌};
 ghost use Rattle.std.specs.List.{All};
 ghost use Rattle.mari_market.specs.Along.{LeadsBy};
 ghost use Rattle.mari_market.specs.Consistent.{HasRoomBack, HasRoomOn, SetsLower, SetsUpper, own_standing};
-ghost use Rattle.mari_market.specs.Price.{ArePrices, IsPrice};
+ghost use Rattle.mari_market.specs.Price.{ArePrices, IsCapped, IsPrice};
 
+use crate::along::Along;
 use crate::market::{Border, Market, Order, Side};
 use mari_units::{CAP, Cents};
 
@@ -83,8 +84,8 @@ impl Border {
     pub fn leads(&self, flow: i64, first: u32, second: u32) -> bool
         ensures { IsTrue result ↔ LeadsBy first second self.now flow }
     {
-        (self.from == first && self.to == second && self.has_room_back(flow))
-            || (self.to == first && self.from == second && self.has_room_on(flow))
+        (self.from == first && self.to == second && Along::Rising.leads_on(self, flow))
+            || (self.to == first && self.from == second && Along::Rising.leads_back(self, flow))
     }
 }
 
@@ -97,7 +98,7 @@ pub(crate) fn is_price(price: Cents) -> bool
 
 /// Whether each price lies from the negative of the cap to the cap.
 fn all_within_cap(prices: &[Cents]) -> bool
-    ensures { IsTrue result ↔ All (λ c. IsPrice c.0) prices.now }
+    ensures { IsTrue result ↔ All IsCapped prices.now }
 {
     prices.iter().all(|price| is_price(*price))
 }

@@ -3,7 +3,7 @@
 ghost use Rattle.std.specs.Prelude.{◌≡◌, ◌↔◌, ◌<◌, ◌≤◌, ℕ, IsTrue, Some, length, Any};
 ghost use Rattle.std.specs.List.{All};
 ghost use Rattle.mari_market.specs.declared.market.Order.{Order};
-ghost use Rattle.mari_market.specs.Gates.{parent_of};
+ghost use Rattle.mari_market.specs.Gates.{HasEarlierParent};
 ghost use Rattle.mari_market.specs.Market.{IsValid, IsValidOrder, IsValidBorder, IsValidGate, GateFits};
 ghost use Rattle.mari_market.specs.Price.{IsPrice};
 
@@ -68,7 +68,7 @@ fn is_used(gate: u32, orders: &[Order]) -> bool
 /// Whether the gate's parent, if it has one, stands before it.
 fn parent_stands_before(gates: &[GateInfo], gate: usize) -> bool
     requires { gate < length gates.now }
-    ensures { IsTrue result ↔ ((h : ℕ) → parent_of gates.now gate ≡ Some h → h < gate) }
+    ensures { IsTrue result ↔ HasEarlierParent gates.now gate }
 {
     match gates[gate].parent {
         None => true,

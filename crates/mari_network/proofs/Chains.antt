@@ -3,14 +3,14 @@ use Rattle.std.proofs.Common.{◌≡◌, ◌==◌, ◌≢◌, if◌then◌else�
 use Rattle.std.proofs.lemmas.Int.{ints}
 use Rattle.std.specs.List.{AllZip}
 use Rattle.mari_market.specs.declared.market.Border.{Border}
-use Rattle.mari_market.specs.Sums.{sum_along}
+use Rattle.mari_market.specs.Sums.{sum_along, int_at}
 use Rattle.mari_market.specs.Activation.{IsWithinLimits, carried_out}
 use Rattle.mari_market.proofs.Sums.{sum_along-set, AllZip-set, AllZip-at}
 use Rattle.mari_market.proofs.Ints.{mul-add_z, mul-neg_z, pos_mul_lt}
 use Rattle.mari_market.proofs.Duality.{pushed, if_sum}
 use Rattle.mari_network.specs.declared.slots.Slot.{Slot}
 use Rattle.mari_network.specs.declared.chain.Hop.{Hop}
-use Rattle.mari_network.specs.Slots.{slot_at, no_slot, amount_at, at_zone, slot_into, worth, IsWithinSlot}
+use Rattle.mari_network.specs.Slots.{slot_at, no_slot, at_zone, slot_into, slot_gain, IsWithinSlot}
 use Rattle.mari_network.specs.Network.{no_border, border_at}
 use Rattle.mari_network.specs.Chain.{hop_at, tail_of, head_of, room_of, more_flow, hop_room, IsHop, HasRoom}
 use Rattle.mari_network.specs.Chain.HasRoom.{begins, goes_on}
@@ -25,14 +25,14 @@ if_none false f e = refl
 
 -- ---- an amount
 
-pub moved_within : (slots : List Slot) (xs : List ℤ) (i : ℕ) (d : ℤ) → i < length slots → IsWithinSlot (slot_at slots i) (amount_at xs i +ℤ d) → AllZip IsWithinSlot slots xs → AllZip IsWithinSlot slots (set xs i (amount_at xs i +ℤ d))
-moved_within slots xs i d h w a = AllZip-set IsWithinSlot slots xs i (amount_at xs i +ℤ d) no_slot h w a
+pub moved_within : (slots : List Slot) (xs : List ℤ) (i : ℕ) (d : ℤ) → i < length slots → IsWithinSlot (slot_at slots i) (int_at xs i +ℤ d) → AllZip IsWithinSlot slots xs → AllZip IsWithinSlot slots (set xs i (int_at xs i +ℤ d))
+moved_within slots xs i d h w a = AllZip-set IsWithinSlot slots xs i (int_at xs i +ℤ d) no_slot h w a
 
-pub moved_into : (z : ℕ) (slots : List Slot) (xs : List ℤ) (i : ℕ) (d : ℤ) → i < length slots → i < length xs → sum_along (slot_into z) slots (set xs i (amount_at xs i +ℤ d)) ≡ sum_along (slot_into z) slots xs +ℤ at_zone z (slot_at slots i).zone d
-moved_into z slots xs i d h l = omega (arith, ints, sum_along-set (slot_into z) slots xs i (amount_at xs i +ℤ d) no_slot (pos 0) h l, if_sum ((slot_at slots i).zone == z) (amount_at xs i) d)
+pub moved_into : (z : ℕ) (slots : List Slot) (xs : List ℤ) (i : ℕ) (d : ℤ) → i < length slots → i < length xs → sum_along (slot_into z) slots (set xs i (int_at xs i +ℤ d)) ≡ sum_along (slot_into z) slots xs +ℤ at_zone z (slot_at slots i).zone d
+moved_into z slots xs i d h l = omega (arith, ints, sum_along-set (slot_into z) slots xs i (int_at xs i +ℤ d) no_slot (pos 0) h l, if_sum ((slot_at slots i).zone == z) (int_at xs i) d)
 
-pub moved_worth : (slots : List Slot) (xs : List ℤ) (i : ℕ) (d : ℤ) → i < length slots → i < length xs → sum_along worth slots (set xs i (amount_at xs i +ℤ d)) ≡ sum_along worth slots xs -ℤ ((slot_at slots i).price *ℤ d)
-moved_worth slots xs i d h l = omega (arith, ints, sum_along-set worth slots xs i (amount_at xs i +ℤ d) no_slot (pos 0) h l, mul-add_z (slot_at slots i).price (amount_at xs i) d)
+pub moved_worth : (slots : List Slot) (xs : List ℤ) (i : ℕ) (d : ℤ) → i < length slots → i < length xs → sum_along slot_gain slots (set xs i (int_at xs i +ℤ d)) ≡ sum_along slot_gain slots xs -ℤ ((slot_at slots i).price *ℤ d)
+moved_worth slots xs i d h l = omega (arith, ints, sum_along-set slot_gain slots xs i (int_at xs i +ℤ d) no_slot (pos 0) h l, mul-add_z (slot_at slots i).price (int_at xs i) d)
 
 -- ---- a flow
 

@@ -5,7 +5,8 @@ use Rattle.std.specs.List.{AllZip}
 use Rattle.mari_market.specs.declared.market.Border.{Border}
 use Rattle.mari_network.specs.declared.slots.Slot.{Slot}
 use Rattle.mari_network.specs.declared.chain.Hop.{Hop}
-use Rattle.mari_network.specs.Slots.{beyond, zone_of, price_of}
+use Rattle.mari_network.specs.declared.slots.TheConstants.{BEYOND}
+use Rattle.mari_network.specs.Slots.{zone_of, price_of}
 use Rattle.mari_network.specs.Chain.{tail_of, head_of, room_of, hop_at}
 use Rattle.mari_network.specs.Spread.{is_marked, AreClosed, Keeps, IsSpread}
 use Rattle.mari_network.specs.Margins.{IsDearest, NoneLess, IsCheaper, NoneCheaper}
@@ -37,7 +38,7 @@ ordered_more [] (f ∷ fs) old marked p q v l e top a b o = absurd a
 ordered_more (b ∷ bs) [] old marked p q v l e top a c o = absurd a
 
 -- a stage that finds no cheaper slot
-pub levels_more : (slots : List Slot) (bs : List Border) (xs fs : List ℤ) (old marked : List Bool) (p q : ℕ → ℤ) (i : ℕ) → AreLevels slots bs xs fs old p → IsDearest slots xs old i → neg_ℤ beyond ≤ℤ price_of slots i → IsLevel old p q (price_of slots i) → Keeps old marked → length marked ≡ length old → AreClosed bs fs marked → NoneCheaper slots xs marked (price_of slots i) → AreLevels slots bs xs fs marked q
+pub levels_more : (slots : List Slot) (bs : List Border) (xs fs : List ℤ) (old marked : List Bool) (p q : ℕ → ℤ) (i : ℕ) → AreLevels slots bs xs fs old p → IsDearest slots xs old i → neg_ℤ BEYOND ≤ℤ price_of slots i → IsLevel old p q (price_of slots i) → Keeps old marked → length marked ≡ length old → AreClosed bs fs marked → NoneCheaper slots xs marked (price_of slots i) → AreLevels slots bs xs fs marked q
 levels_more slots bs xs fs old marked p q i a d low l keeps e closed none = record {
   closed = closed;
   ordered = ordered_more bs fs old marked p q (price_of slots i) l e (λ z m. a.later z i m d.less d.unmarked) a.closed closed a.ordered;
@@ -87,7 +88,7 @@ low_at old p q floor l low z h = elim (marked_or (is_marked old z)) [
 ]
 
 -- where no slot is left, all is tight
-pub levels_tight : (slots : List Slot) (bs : List Border) (xs fs : List ℤ) (old : List Bool) (p q : ℕ → ℤ) → AreLevels slots bs xs fs old p → IsLevel old p q (neg_ℤ beyond) → NoneLess slots xs old → ((k : ℕ) → k < length slots → zone_of slots k < length old) → ((k : ℕ) → k < length slots → neg_ℤ beyond ≤ℤ price_of slots k) → AllZip (λ b f. (b.from < length old) × (b.to < length old)) bs fs → AreTight slots bs xs fs q
+pub levels_tight : (slots : List Slot) (bs : List Border) (xs fs : List ℤ) (old : List Bool) (p q : ℕ → ℤ) → AreLevels slots bs xs fs old p → IsLevel old p q (neg_ℤ BEYOND) → NoneLess slots xs old → ((k : ℕ) → k < length slots → zone_of slots k < length old) → ((k : ℕ) → k < length slots → neg_ℤ BEYOND ≤ℤ price_of slots k) → AllZip (λ b f. (b.from < length old) × (b.to < length old)) bs fs → AreTight slots bs xs fs q
 levels_tight slots bs xs fs old p q a l none zones prices ends = record {
   slots_tight = λ k h. record {
     less = λ r. elim (marked_or (is_marked old (zone_of slots k))) [
@@ -99,7 +100,7 @@ levels_tight slots bs xs fs old p q a l none zones prices ends = record {
       | inr m ↦ omega (arith, ints, l.level (zone_of slots k) m (zones k h), prices k h)
     ];
   };
-  flows_tight = tight_over bs fs old p q (neg_ℤ beyond) l (λ z h. low_at old p q (neg_ℤ beyond) l a.floored z h) ends a.closed a.ordered;
+  flows_tight = tight_over bs fs old p q (neg_ℤ BEYOND) l (λ z h. low_at old p q (neg_ℤ BEYOND) l a.floored z h) ends a.closed a.ordered;
 }
 
 closed_none : (bs : List Border) (fs : List ℤ) (marked : List Bool) → length bs ≡ length fs → ((z : ℕ) → is_marked marked z ≡ false) → AreClosed bs fs marked

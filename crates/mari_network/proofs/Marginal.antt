@@ -6,7 +6,8 @@ use Rattle.std.proofs.lemmas.Bool.{cases_lt}
 use Rattle.std.proofs.lemmas.List.{get_or_append_left, get_or_push, length_push}
 use Rattle.mari_network.specs.declared.slots.Slot.{Slot}
 use Rattle.mari_network.specs.declared.margins.Margin.{Margin}
-use Rattle.mari_network.specs.Slots.{slot_at, zone_of, price_of, amount_at, CanLess, CanMore}
+use Rattle.mari_market.specs.Sums.{int_at}
+use Rattle.mari_network.specs.Slots.{slot_at, zone_of, price_of, CanLess, CanMore}
 use Rattle.mari_network.specs.Network.{place_at, AreMembers}
 use Rattle.mari_network.specs.Spread.{is_marked}
 use Rattle.mari_network.specs.Margins.{no_margin, dearest_at, cheapest_at, IsAbove, IsBelow, IsDearestAmong, IsCheapestAmong, IsMarginOf, AreMargins, IsDearest, NoneLess, IsCheaper, NoneCheaper, IsDearestOf}
@@ -75,7 +76,7 @@ margin_is slots xs z places m a d c = record {
 }
 
 -- the marginal slots of a zone whose slots' amounts stay
-pub margin_stays : (slots : List Slot) (old new : List ℤ) (z : ℕ) (m : Margin) → ((k : ℕ) → zone_of slots k ≡ z → amount_at new k ≡ amount_at old k) → IsMarginOf slots old z m → IsMarginOf slots new z m
+pub margin_stays : (slots : List Slot) (old new : List ℤ) (z : ℕ) (m : Margin) → ((k : ℕ) → zone_of slots k ≡ z → int_at new k ≡ int_at old k) → IsMarginOf slots old z m → IsMarginOf slots new z m
 margin_stays slots old new z m same a = record {
   dearest = record {
     one = λ i e. let o = a.dearest.one i e in ((o.0.0, subst (λ (x : ℤ). (slot_at slots i).low <ℤ x) (sym (same i o.1)) o.0.1), o.1);

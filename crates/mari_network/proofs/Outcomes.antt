@@ -8,14 +8,15 @@ use Rattle.mari_market.specs.declared.market.Order.{Order}
 use Rattle.mari_market.specs.declared.market.Market.{Market}
 use Rattle.mari_market.specs.declared.activation.Activation.{Activation}
 use Rattle.mari_market.specs.declared.certificate.CutSide.TheVariants.{Out, In}
-use Rattle.mari_market.specs.Sums.{int_sum, sum_along}
+use Rattle.mari_market.specs.Sums.{int_sum, sum_along, int_at}
 use Rattle.mari_market.specs.Cut.{is_in, CannotBalance}
 use Rattle.mari_market.specs.Activation.{IsWithinLimits}
 use Rattle.mari_market.specs.Bounds.{Span}
 use Rattle.mari_market.specs.Market.{IsValid, IsValidOrder}
 use Rattle.mari_market.specs.Price.{price_at}
 use Rattle.mari_network.specs.declared.slots.Slot.{Slot}
-use Rattle.mari_network.specs.Slots.{beyond, no_slot, amount_at, slot_into, IsWithinSlot, IsTightSlot, IsRunning}
+use Rattle.mari_network.specs.declared.slots.TheConstants.{BEYOND}
+use Rattle.mari_network.specs.Slots.{no_slot, slot_into, IsWithinSlot, IsTightSlot, IsRunning}
 use Rattle.mari_network.specs.Levels.{AreTight}
 use Rattle.mari_market.specs.Consistent.{IsConsistentFlow}
 use Rattle.mari_network.specs.Orders.{no_order, slot_of, slots_of, IsExtra, ArePuts, capped}
@@ -37,17 +38,17 @@ into_none z [] ws h = refl
 into_none z (s ∷ ss) [] h = refl
 into_none z (s ∷ ss) (w ∷ ws) h = omega (arith, ints, into_none z ss ws (λ k l. h (suc k) (omega arith)), if_none (s.zone == z) w (h 0 (omega arith)))
 
-reals_real : (bounds : Order → Span) (n gates : ℕ) (os : List Order) → All (IsValidOrder n gates) os → All (IsReal beyond) (slots_of bounds os)
+reals_real : (bounds : Order → Span) (n gates : ℕ) (os : List Order) → All (IsValidOrder n gates) os → All (IsReal BEYOND) (slots_of bounds os)
 reals_real bounds n gates os v = λ k d l.
     let there : k < length os = omega (arith, length-map os (λ (o : Order). slot_of (bounds o) o), l) in
     let o_valid = v k no_order there in
-    subst (λ (s : Slot). IsReal beyond s) (sym (map_at (λ (o : Order). slot_of (bounds o) o) os k no_order d there))
+    subst (λ (s : Slot). IsReal BEYOND s) (sym (map_at (λ (o : Order). slot_of (bounds o) o) os k no_order d there))
     (record { above = omega (arith, ints, o_valid.price.low); below = omega (arith, ints, o_valid.price.high) })
 
 -- what is known where a run ends
 pub record Ends (bounds : Order → Span) (m : Market) (more : List Slot) (xs fs : List ℤ) (p : ℕ → ℤ) : Type 0 where
   pub valid : IsValid m
-  pub others : All (IsExtra beyond) more
+  pub others : All (IsExtra BEYOND) more
   pub zones : All (λ (s : Slot). s.zone < m.zones) (slots_of bounds m.orders ++ more)
   pub running : IsRunning m.zones (slots_of bounds m.orders ++ more) m.borders xs fs
   pub tight : AreTight (slots_of bounds m.orders ++ more) m.borders xs fs p
@@ -63,7 +64,7 @@ runs bounds m more xs fs p e =
     })
 
 -- where nothing stands in, the orders' amounts are the relaxed optimum
-pub ends_solved : (bounds : Order → Span) (m : Market) (more : List Slot) (a : Activation) (ps : List Cents) (p : ℕ → ℤ) (xs : List ℤ) → Ends bounds m more xs a.flow p → ArePuts m.orders (take (length (slots_of bounds m.orders)) xs) a.mw → ((z : ℕ) → z < m.zones → price_at ps z ≡ capped (p z)) → ((j : ℕ) → j < length (drop (length (slots_of bounds m.orders)) xs) → amount_at xs (length (slots_of bounds m.orders) + j) ≡ pos 0) → IsOptimum bounds m a ps
+pub ends_solved : (bounds : Order → Span) (m : Market) (more : List Slot) (a : Activation) (ps : List Cents) (p : ℕ → ℤ) (xs : List ℤ) → Ends bounds m more xs a.flow p → ArePuts m.orders (take (length (slots_of bounds m.orders)) xs) a.mw → ((z : ℕ) → z < m.zones → price_at ps z ≡ capped (p z)) → ((j : ℕ) → j < length (drop (length (slots_of bounds m.orders)) xs) → int_at xs (length (slots_of bounds m.orders) + j) ≡ pos 0) → IsOptimum bounds m a ps
 ends_solved bounds m more a ps p xs e puts prices none =
     let reals = slots_of bounds m.orders in
     let all = runs bounds m more xs a.flow p e in
@@ -100,28 +101,28 @@ shortfall_is_cut_in : (bounds : Order → Span) (m : Market) (zones : List ℕ) 
 shortfall_is_cut_in bounds m zones h = omega (arith, ints, h, int_sum_map (most_in_slot (is_in zones)) (λ o. slot_of (bounds o) o) m.orders)
 
 -- where something is taken away, the zones of the least price are a cut
-pub ends_cut_out : (bounds : Order → Span) (m : Market) (more : List Slot) (xs fs : List ℤ) (p : ℕ → ℤ) (zones : List ℕ) (j : ℕ) → Ends bounds m more xs fs p → AreLowest m.zones beyond p (is_in zones) → j < length more → amount_at xs (length (slots_of bounds m.orders) + j) <ℤ pos 0 → CannotBalance bounds m Out zones
+pub ends_cut_out : (bounds : Order → Span) (m : Market) (more : List Slot) (xs fs : List ℤ) (p : ℕ → ℤ) (zones : List ℕ) (j : ℕ) → Ends bounds m more xs fs p → AreLowest m.zones BEYOND p (is_in zones) → j < length more → int_at xs (length (slots_of bounds m.orders) + j) <ℤ pos 0 → CannotBalance bounds m Out zones
 ends_cut_out bounds m more xs fs p zones j e low there short =
     let reals = slots_of bounds m.orders in
     let all = runs bounds m more xs fs p e in
     let first = zip_first (RunsSlot m.zones p) (slots_of bounds m.orders) more xs all in
     let rest = zip_rest (RunsSlot m.zones p) (slots_of bounds m.orders) more xs all in
     shortfall_is_cut_out bounds m zones
-    (shortfall_out m.zones beyond p (is_in zones) (slots_of bounds m.orders) more (take (length (slots_of bounds m.orders)) xs) (drop (length (slots_of bounds m.orders)) xs) m.borders fs j no_slot (omega (arith, ints)) low
-    first (all_zip (IsReal beyond) (slots_of bounds m.orders) (take (length (slots_of bounds m.orders)) xs) (zip_long (RunsSlot m.zones p) (slots_of bounds m.orders) (take (length (slots_of bounds m.orders)) xs) first) (reals_real bounds m.zones (length m.gates) m.orders e.valid.orders))
-    rest (all_zip (IsExtra beyond) more (drop (length (slots_of bounds m.orders)) xs) (zip_long (RunsSlot m.zones p) more (drop (length (slots_of bounds m.orders)) xs) rest) e.others)
+    (shortfall_out m.zones BEYOND p (is_in zones) (slots_of bounds m.orders) more (take (length (slots_of bounds m.orders)) xs) (drop (length (slots_of bounds m.orders)) xs) m.borders fs j no_slot (omega (arith, ints)) low
+    first (all_zip (IsReal BEYOND) (slots_of bounds m.orders) (take (length (slots_of bounds m.orders)) xs) (zip_long (RunsSlot m.zones p) (slots_of bounds m.orders) (take (length (slots_of bounds m.orders)) xs) first) (reals_real bounds m.zones (length m.gates) m.orders e.valid.orders))
+    rest (all_zip (IsExtra BEYOND) more (drop (length (slots_of bounds m.orders)) xs) (zip_long (RunsSlot m.zones p) more (drop (length (slots_of bounds m.orders)) xs) rest) e.others)
     (flow_runs bounds m more xs fs p e) (ends_paid bounds m more xs fs p (λ z. counts (is_in zones z)) e) there
     (subst (λ (x : ℤ). x <ℤ pos 0) (sym (at_drop (length (slots_of bounds m.orders)) xs j (pos 0))) short))
 
 -- where something is given, the zones of the greatest price are
-pub ends_cut_in : (bounds : Order → Span) (m : Market) (more : List Slot) (xs fs : List ℤ) (p : ℕ → ℤ) (zones : List ℕ) (j : ℕ) → Ends bounds m more xs fs p → AreHighest m.zones beyond p (is_in zones) → j < length more → pos 0 <ℤ amount_at xs (length (slots_of bounds m.orders) + j) → CannotBalance bounds m In zones
+pub ends_cut_in : (bounds : Order → Span) (m : Market) (more : List Slot) (xs fs : List ℤ) (p : ℕ → ℤ) (zones : List ℕ) (j : ℕ) → Ends bounds m more xs fs p → AreHighest m.zones BEYOND p (is_in zones) → j < length more → pos 0 <ℤ int_at xs (length (slots_of bounds m.orders) + j) → CannotBalance bounds m In zones
 ends_cut_in bounds m more xs fs p zones j e high there short =
     let all = runs bounds m more xs fs p e in
     let first = zip_first (RunsSlot m.zones p) (slots_of bounds m.orders) more xs all in
     let rest = zip_rest (RunsSlot m.zones p) (slots_of bounds m.orders) more xs all in
     shortfall_is_cut_in bounds m zones
-    (shortfall_in m.zones beyond p (is_in zones) (slots_of bounds m.orders) more (take (length (slots_of bounds m.orders)) xs) (drop (length (slots_of bounds m.orders)) xs) m.borders fs j no_slot (omega (arith, ints)) high
-    first (all_zip (IsReal beyond) (slots_of bounds m.orders) (take (length (slots_of bounds m.orders)) xs) (zip_long (RunsSlot m.zones p) (slots_of bounds m.orders) (take (length (slots_of bounds m.orders)) xs) first) (reals_real bounds m.zones (length m.gates) m.orders e.valid.orders))
-    rest (all_zip (IsExtra beyond) more (drop (length (slots_of bounds m.orders)) xs) (zip_long (RunsSlot m.zones p) more (drop (length (slots_of bounds m.orders)) xs) rest) e.others)
+    (shortfall_in m.zones BEYOND p (is_in zones) (slots_of bounds m.orders) more (take (length (slots_of bounds m.orders)) xs) (drop (length (slots_of bounds m.orders)) xs) m.borders fs j no_slot (omega (arith, ints)) high
+    first (all_zip (IsReal BEYOND) (slots_of bounds m.orders) (take (length (slots_of bounds m.orders)) xs) (zip_long (RunsSlot m.zones p) (slots_of bounds m.orders) (take (length (slots_of bounds m.orders)) xs) first) (reals_real bounds m.zones (length m.gates) m.orders e.valid.orders))
+    rest (all_zip (IsExtra BEYOND) more (drop (length (slots_of bounds m.orders)) xs) (zip_long (RunsSlot m.zones p) more (drop (length (slots_of bounds m.orders)) xs) rest) e.others)
     (flow_runs bounds m more xs fs p e) (ends_paid bounds m more xs fs p (λ z. counts (is_in zones z)) e) there
     (subst (λ (x : ℤ). pos 0 <ℤ x) (sym (at_drop (length (slots_of bounds m.orders)) xs j (pos 0))) short))

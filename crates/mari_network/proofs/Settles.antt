@@ -18,7 +18,9 @@ use Rattle.mari_market.specs.Bounds.{Span}
 use Rattle.mari_market.specs.Market.{IsValid}
 use Rattle.mari_market.specs.Price.{price_at, IsPrice}
 use Rattle.mari_network.specs.declared.slots.Slot.{Slot}
-use Rattle.mari_network.specs.Slots.{beyond, amount_at, IsWithinSlot, IsRunning}
+use Rattle.mari_network.specs.declared.slots.TheConstants.{BEYOND}
+use Rattle.mari_market.specs.Sums.{int_at}
+use Rattle.mari_network.specs.Slots.{IsWithinSlot, IsRunning}
 use Rattle.mari_network.specs.Levels.{AreTight}
 use Rattle.mari_network.specs.declared.optimum.Solved.{Solved}
 use Rattle.mari_network.specs.declared.network.Network.{Network as NetworkRecord}
@@ -46,7 +48,7 @@ zip_can (o ∷ os) [] xs a b = absurd a
 zip_can (o ∷ os) (s ∷ ss) [] a b = absurd b
 
 -- what is known where a run ends, of the market's borders and of the slots within the spans
-ends : (spans : Order → Span) (m : Market) (more : List Slot) (n : NetworkRecord) (xs fs prices : List ℤ) → AreSlotsOf spans m more n.slots.now → IsValid m → IsNetwork n → IsNetworkOf m n → Runs n xs fs → AreTightPrices n xs fs prices → Ends spans m more xs fs (amount_at prices)
+ends : (spans : Order → Span) (m : Market) (more : List Slot) (n : NetworkRecord) (xs fs prices : List ℤ) → AreSlotsOf spans m more n.slots.now → IsValid m → IsNetwork n → IsNetworkOf m n → Runs n xs fs → AreTightPrices n xs fs prices → Ends spans m more xs fs (int_at prices)
 ends spans m more n xs fs prices e v network same runs tight = record {
   valid = v;
   others = e.others;
@@ -54,20 +56,20 @@ ends spans m more n xs fs prices e v network same runs tight = record {
   running = subst (λ (ss : List Slot). IsRunning m.zones ss m.borders xs fs) e.made
       (subst (λ (bs : List Border). IsRunning m.zones n.slots.now bs xs fs) same.borders
       (subst (λ (k : ℕ). IsRunning k n.slots.now n.borders.now xs fs) same.zones runs));
-  tight = subst (λ (ss : List Slot). AreTight ss m.borders xs fs (amount_at prices)) e.made
-      (subst (λ (bs : List Border). AreTight n.slots.now bs xs fs (amount_at prices)) same.borders tight.tight);
+  tight = subst (λ (ss : List Slot). AreTight ss m.borders xs fs (int_at prices)) e.made
+      (subst (λ (bs : List Border). AreTight n.slots.now bs xs fs (int_at prices)) same.borders tight.tight);
 }
 
 -- where nothing stands in for an order, the orders' amounts are the relaxed optimum
 pub answer_optimum : (spans : Order → Span) (m : Market) (more : List Slot) (n : NetworkRecord) (s : Solved) (xs fs prices : List ℤ) → AreSlotsOf spans m more n.slots.now → IsValid m → IsNetwork n → IsNetworkOf m n → Runs n xs fs → AreTightPrices n xs fs prices
-    → s.activation.flow ≡ fs → ArePuts m.orders (take (length m.orders) xs) s.activation.mw → s.potentials.cents ≡ map capped_cents prices → pos s.welfare ≡ int_max (pos 0) (welfare_of m s.activation) → ((k : ℕ) → length m.orders ≤ k → k < length xs → amount_at xs k ≡ pos 0)
+    → s.activation.flow ≡ fs → ArePuts m.orders (take (length m.orders) xs) s.activation.mw → s.potentials.cents ≡ map capped_cents prices → pos s.welfare ≡ int_max (pos 0) (welfare_of m s.activation) → ((k : ℕ) → length m.orders ≤ k → k < length xs → int_at xs k ≡ pos 0)
     → IsSolution spans m s
 answer_optimum spans m more n s xs fs prices e v network same runs tight flow puts made stated none =
     let reals : length (slots_of spans m.orders) ≡ length m.orders = length-map m.orders (λ (o : Order). slot_of (spans o) o) in
     let long : length prices ≡ m.zones = tight.one_each ∙ same.zones in
     let best : IsOptimum spans m s.activation s.potentials.cents =
-    ends_solved spans m more s.activation s.potentials.cents (amount_at prices) xs
-    (subst (λ (gs : List ℤ). Ends spans m more xs gs (amount_at prices)) (sym flow) (ends spans m more n xs fs prices e v network same runs tight))
+    ends_solved spans m more s.activation s.potentials.cents (int_at prices) xs
+    (subst (λ (gs : List ℤ). Ends spans m more xs gs (int_at prices)) (sym flow) (ends spans m more n xs fs prices e v network same runs tight))
     (subst (λ (k : ℕ). ArePuts m.orders (take k xs) s.activation.mw) (sym reals) puts)
     (λ z l. let there : z < length prices = omega arith in
     ap (λ (cs : List Cents). price_at cs z) made ∙ ap (λ (c : Cents). c.0) (map_at capped_cents prices z (pos 0) (record { 0 = pos 0 }) there))
@@ -98,21 +100,21 @@ not_less a b e = grind (arith, ints)
 is_less : (a b : ℤ) → lt_z a b ≡ true → a <ℤ b
 is_less a b e = grind (arith, ints)
 
-lowest : (n : ℕ) (p : ℕ → ℤ) (zones : List ℕ) → ((z : ℕ) → z < n → is_in zones z ≡ is_inside Out (p z)) → AreLowest n beyond p (is_in zones)
+lowest : (n : ℕ) (p : ℕ → ℤ) (zones : List ℕ) → ((z : ℕ) → z < n → is_in zones z ≡ is_inside Out (p z)) → AreLowest n BEYOND p (is_in zones)
 lowest n p zones h = record {
-  yes = λ z l e. not_less (neg_ℤ beyond) (p z) (not_true (lt_z (neg_ℤ beyond) (p z)) (sym (h z l) ∙ e));
-  no = λ z l e. is_less (neg_ℤ beyond) (p z) (not_false (lt_z (neg_ℤ beyond) (p z)) (sym (h z l) ∙ e));
+  yes = λ z l e. not_less (neg_ℤ BEYOND) (p z) (not_true (lt_z (neg_ℤ BEYOND) (p z)) (sym (h z l) ∙ e));
+  no = λ z l e. is_less (neg_ℤ BEYOND) (p z) (not_false (lt_z (neg_ℤ BEYOND) (p z)) (sym (h z l) ∙ e));
 }
 
-highest : (n : ℕ) (p : ℕ → ℤ) (zones : List ℕ) → ((z : ℕ) → z < n → is_in zones z ≡ is_inside In (p z)) → AreHighest n beyond p (is_in zones)
+highest : (n : ℕ) (p : ℕ → ℤ) (zones : List ℕ) → ((z : ℕ) → z < n → is_in zones z ≡ is_inside In (p z)) → AreHighest n BEYOND p (is_in zones)
 highest n p zones h = record {
-  yes = λ z l e. not_less (p z) beyond (not_true (lt_z (p z) beyond) (sym (h z l) ∙ e));
-  no = λ z l e. is_less (p z) beyond (not_false (lt_z (p z) beyond) (sym (h z l) ∙ e));
+  yes = λ z l e. not_less (p z) BEYOND (not_true (lt_z (p z) BEYOND) (sym (h z l) ∙ e));
+  no = λ z l e. is_less (p z) BEYOND (not_false (lt_z (p z) BEYOND) (sym (h z l) ∙ e));
 }
 
 -- where something stands in for an order, the zones of the least prices, or of the greatest, are a cut
 pub answer_cut : (spans : Order → Span) (m : Market) (more : List Slot) (n : NetworkRecord) (xs fs prices : List ℤ) (side : CutSide) (cut : CutRecord) (i : ℕ) → AreSlotsOf spans m more n.slots.now → IsValid m → IsNetwork n → IsNetworkOf m n → Runs n xs fs → AreTightPrices n xs fs prices
-    → cut.side ≡ side → IsRising 0 (length prices) cut.zones → ((z : ℕ) → z < length prices → is_in cut.zones z ≡ is_inside side (amount_at prices z)) → length m.orders ≤ i → i < length xs → amount_at xs i ≢ pos 0 → (amount_at xs i <ℤ pos 0 → side ≡ Out) → (pos 0 ≤ℤ amount_at xs i → side ≡ In)
+    → cut.side ≡ side → IsRising 0 (length prices) cut.zones → ((z : ℕ) → z < length prices → is_in cut.zones z ≡ is_inside side (int_at prices z)) → length m.orders ≤ i → i < length xs → int_at xs i ≢ pos 0 → (int_at xs i <ℤ pos 0 → side ≡ Out) → (pos 0 ≤ℤ int_at xs i → side ≡ In)
     → IsCut spans m cut
 answer_cut spans m more n xs fs prices side cut i e v network same runs tight named rising inside from below nonzero out into =
     let reals : length (slots_of spans m.orders) ≡ length m.orders = length-map m.orders (λ (o : Order). slot_of (spans o) o) in
@@ -124,13 +126,13 @@ answer_cut spans m more n xs fs prices side cut i e v network same runs tight na
     record {
       zones = subst (λ (k : ℕ). IsRising 0 k cut.zones) long rising;
       side = subst (λ (s : CutSide). CannotBalance spans m s cut.zones) (sym named)
-          (by_lt_z (amount_at xs i) (pos 0)
+          (by_lt_z (int_at xs i) (pos 0)
           (λ l. subst (λ (s : CutSide). CannotBalance spans m s cut.zones) (sym (out l))
-          (ends_cut_out spans m more xs fs (amount_at prices) cut.zones (i - length (slots_of spans m.orders)) end
-          (lowest m.zones (amount_at prices) cut.zones (λ z h. subst (λ (s : CutSide). is_in cut.zones z ≡ is_inside s (amount_at prices z)) (out l) (inside z (omega arith)))) there
-          (subst (λ (k : ℕ). amount_at xs k <ℤ pos 0) (sym place) l)))
+          (ends_cut_out spans m more xs fs (int_at prices) cut.zones (i - length (slots_of spans m.orders)) end
+          (lowest m.zones (int_at prices) cut.zones (λ z h. subst (λ (s : CutSide). is_in cut.zones z ≡ is_inside s (int_at prices z)) (out l) (inside z (omega arith)))) there
+          (subst (λ (k : ℕ). int_at xs k <ℤ pos 0) (sym place) l)))
           (λ l. subst (λ (s : CutSide). CannotBalance spans m s cut.zones) (sym (into l))
-          (ends_cut_in spans m more xs fs (amount_at prices) cut.zones (i - length (slots_of spans m.orders)) end
-          (highest m.zones (amount_at prices) cut.zones (λ z h. subst (λ (s : CutSide). is_in cut.zones z ≡ is_inside s (amount_at prices z)) (into l) (inside z (omega arith)))) there
-          (subst (λ (k : ℕ). pos 0 <ℤ amount_at xs k) (sym place) (by_lt_z (pos 0) (amount_at xs i) (λ r. r) (λ r. absurd (nonzero (omega (arith, ints)))))))));
+          (ends_cut_in spans m more xs fs (int_at prices) cut.zones (i - length (slots_of spans m.orders)) end
+          (highest m.zones (int_at prices) cut.zones (λ z h. subst (λ (s : CutSide). is_in cut.zones z ≡ is_inside s (int_at prices z)) (into l) (inside z (omega arith)))) there
+          (subst (λ (k : ℕ). pos 0 <ℤ int_at xs k) (sym place) (by_lt_z (pos 0) (int_at xs i) (λ r. r) (λ r. absurd (nonzero (omega (arith, ints)))))))));
     }

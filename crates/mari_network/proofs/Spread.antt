@@ -7,7 +7,7 @@ use Rattle.std.proofs.lemmas.List.Elements.{All-contains}
 use Rattle.mari_market.specs.declared.market.Border.{Border}
 use Rattle.mari_network.specs.declared.chain.Hop.{Hop}
 use Rattle.mari_network.specs.Network.{no_border, border_at, Meets, AreMeeting}
-use Rattle.mari_network.specs.Slots.{amount_at}
+use Rattle.mari_market.specs.Sums.{int_at}
 use Rattle.mari_network.proofs.Lists.{zip_of}
 use Rattle.mari_network.specs.Chain.{no_hop, hop_at, tail_of, head_of, hop_room, IsHop, HasRoom}
 use Rattle.mari_network.specs.Chain.HasRoom.{begins, goes_on}
@@ -187,6 +187,6 @@ head_meets true b y e = inr e
 head_meets false b y e = inl e
 
 -- it is enough to look at the borders that meet a zone
-pub all_into : (bs : List Border) (fs : List ℤ) (marked : List Bool) (y : ℕ) (places : List ℕ) → length bs ≡ length fs → AreMeeting bs y places → All (λ i. MarkedInto marked y (border_at bs i) (amount_at fs i)) places → AllZip (MarkedInto marked y) bs fs
+pub all_into : (bs : List Border) (fs : List ℤ) (marked : List Bool) (y : ℕ) (places : List ℕ) → length bs ≡ length fs → AreMeeting bs y places → All (λ i. MarkedInto marked y (border_at bs i) (int_at fs i)) places → AllZip (MarkedInto marked y) bs fs
 all_into bs fs marked y places e m a = zip_of (MarkedInto marked y) bs fs no_border (pos 0) e
-    (λ k l forth r h. All-contains (λ i. MarkedInto marked y (border_at bs i) (amount_at fs i)) places k a (m.all k l (head_meets forth (border_at bs k) y h)) forth r h)
+    (λ k l forth r h. All-contains (λ i. MarkedInto marked y (border_at bs i) (int_at fs i)) places k a (m.all k l (head_meets forth (border_at bs k) y h)) forth r h)

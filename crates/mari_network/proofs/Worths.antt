@@ -7,13 +7,13 @@ use Rattle.mari_market.specs.Sums.{int_sum, sum_along}
 use Rattle.mari_market.proofs.Sums.{sum_along-le}
 use Rattle.mari_market.proofs.Ints.{between, neg-mul_z}
 use Rattle.mari_network.specs.declared.slots.Slot.{Slot}
-use Rattle.mari_network.specs.Slots.{worth, IsWithinSlot}
+use Rattle.mari_network.specs.Slots.{slot_gain, IsWithinSlot}
 
 abbrev best_worth : Slot → ℤ
 best_worth s = int_max (neg_ℤ s.price *ℤ s.low) (neg_ℤ s.price *ℤ s.high)
 
-worth_bounded : (slots : List Slot) (xs : List ℤ) → AllZip IsWithinSlot slots xs → sum_along worth slots xs ≤ℤ int_sum best_worth slots
-worth_bounded slots xs a = sum_along-le worth best_worth IsWithinSlot
+worth_bounded : (slots : List Slot) (xs : List ℤ) → AllZip IsWithinSlot slots xs → sum_along slot_gain slots xs ≤ℤ int_sum best_worth slots
+worth_bounded slots xs a = sum_along-le slot_gain best_worth IsWithinSlot
     (λ s x w. omega (arith, ints, between (neg_ℤ s.price) s.low x s.high w.least w.most, neg-mul_z s.price x)) slots xs a
 
 -- a whole number, or 0 where it is negative
@@ -31,7 +31,7 @@ nearer bound old new h l = nat_rises (bound -ℤ new) (bound -ℤ old) (omega (a
 
 -- by how much the worth can rise at most
 abbrev pub room_left : List Slot → List ℤ → ℕ
-room_left slots xs = nat_of (int_sum best_worth slots -ℤ sum_along worth slots xs)
+room_left slots xs = nat_of (int_sum best_worth slots -ℤ sum_along slot_gain slots xs)
 
-pub room_falls : (slots : List Slot) (old new : List ℤ) → sum_along worth slots old <ℤ sum_along worth slots new → AllZip IsWithinSlot slots new → room_left slots new < room_left slots old
-room_falls slots old new h a = nearer (int_sum best_worth slots) (sum_along worth slots old) (sum_along worth slots new) h (worth_bounded slots new a)
+pub room_falls : (slots : List Slot) (old new : List ℤ) → sum_along slot_gain slots old <ℤ sum_along slot_gain slots new → AllZip IsWithinSlot slots new → room_left slots new < room_left slots old
+room_falls slots old new h a = nearer (int_sum best_worth slots) (sum_along slot_gain slots old) (sum_along slot_gain slots new) h (worth_bounded slots new a)

@@ -13,7 +13,7 @@ use Rattle.mari_market.specs.Activation.{put_in}
 use Rattle.mari_market.specs.Bounds.{Span}
 use Rattle.mari_market.specs.Cut.{least_put, most_put}
 use Rattle.mari_network.specs.declared.slots.Slot.{Slot}
-use Rattle.mari_network.specs.Slots.{beyond}
+use Rattle.mari_network.specs.declared.slots.TheConstants.{BEYOND}
 use Rattle.mari_units.specs.declared.numbers.TheConstants.{CAP}
 use Rattle.mari_units.specs.declared.limits.TheConstants.{MOST_MW}
 
@@ -50,8 +50,8 @@ capped_cents p = record { 0 = capped p }
 
 -- whether a zone of this price is in the cut: the least prices for a surplus, the greatest for a deficit
 abbrev pub is_inside : CutSide → ℤ → Bool
-is_inside Out p = not (lt_z (neg_ℤ beyond) p)
-is_inside In p = not (lt_z p beyond)
+is_inside Out p = not (lt_z (neg_ℤ BEYOND) p)
+is_inside In p = not (lt_z p BEYOND)
 
 -- an amount that some quantity of the side puts in
 abbrev pub CanPut : Side → ℤ → Type 0

@@ -3,15 +3,16 @@ use Rattle.std.specs.Prelude.{◌≡◌, ℕ, ◌<◌, ℤ, neg_ℤ, ◌≤ℤ�
 use Rattle.mari_network.specs.declared.network.Network.{Network as NetworkRecord}
 use Rattle.mari_network.specs.declared.search.Found.{Found}
 use Rattle.mari_network.specs.declared.search.Found.TheVariants.{Improving, Tight}
-use Rattle.mari_network.specs.Slots.{beyond, amount_at}
+use Rattle.mari_network.specs.declared.slots.TheConstants.{BEYOND}
+use Rattle.mari_market.specs.Sums.{int_at}
 use Rattle.mari_network.specs.Chain.{IsImproving}
 use Rattle.mari_network.specs.Levels.{AreTight}
 
 -- a price for each zone, at least the least of all, and all tight
 pub record AreTightPrices (n : NetworkRecord) (xs fs prices : List ℤ) : Type 0 where
   pub one_each : length prices ≡ length n.meeting.items
-  pub least : (z : ℕ) → z < length prices → neg_ℤ beyond ≤ℤ amount_at prices z
-  pub tight : AreTight n.slots.now n.borders.now xs fs (amount_at prices)
+  pub least : (z : ℕ) → z < length prices → neg_ℤ BEYOND ≤ℤ int_at prices z
+  pub tight : AreTight n.slots.now n.borders.now xs fs (int_at prices)
 
 -- an improving chain, or tight prices
 abbrev pub IsFound : NetworkRecord → (amounts flows : List ℤ) → Found → Type 0

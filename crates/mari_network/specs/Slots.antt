@@ -2,14 +2,10 @@
 use Rattle.std.specs.Prelude.{◌≡◌, ◌==◌, if◌then◌else◌, ℕ, ◌<◌, ◌^◌, ℤ, pos, ◌*ℤ◌, neg_ℤ, ◌≤ℤ◌, ◌<ℤ◌, List, length, slice_index_or}
 use Rattle.std.specs.List.{AllZip}
 use Rattle.mari_market.specs.declared.market.Border.{Border}
-use Rattle.mari_market.specs.Sums.{sum_along}
+use Rattle.mari_market.specs.Sums.{sum_along, int_at}
 use Rattle.mari_market.specs.Activation.{IsWithinLimits, carried_out}
 use Rattle.mari_network.specs.declared.slots.Slot.{Slot}
 use Rattle.mari_network.specs.declared.slots.TheConstants.{BEYOND}
-
--- a price above that of every order
-abbrev pub beyond : ℤ
-beyond = BEYOND
 
 -- how far from 0 the bounds of a slot are at most
 abbrev pub most_room : ℕ
@@ -27,9 +23,6 @@ zone_of slots k = (slot_at slots k).zone
 abbrev pub price_of : List Slot → ℕ → ℤ
 price_of slots k = (slot_at slots k).price
 
-abbrev pub amount_at : List ℤ → ℕ → ℤ
-amount_at xs i = slice_index_or xs i (pos 0)
-
 -- a number counted in one zone alone
 abbrev pub at_zone : ℕ → ℕ → ℤ → ℤ
 at_zone z y d = if y == z then d else pos 0
@@ -39,8 +32,8 @@ abbrev pub slot_into : ℕ → Slot → ℤ → ℤ
 slot_into z s x = at_zone z s.zone x
 
 -- what an amount of a slot adds to the welfare
-abbrev pub worth : Slot → ℤ → ℤ
-worth s x = neg_ℤ (s.price *ℤ x)
+abbrev pub slot_gain : Slot → ℤ → ℤ
+slot_gain s x = neg_ℤ (s.price *ℤ x)
 
 pub record IsWithinSlot (s : Slot) (x : ℤ) : Type 0 where
   pub least : s.low ≤ℤ x
@@ -56,11 +49,11 @@ pub record IsRunning (zones : ℕ) (slots : List Slot) (bs : List Border) (xs fs
 
 -- a slot that may put in less
 abbrev pub CanLess : List Slot → List ℤ → ℕ → Type 0
-CanLess slots xs k = (k < length slots) × ((slot_at slots k).low <ℤ amount_at xs k)
+CanLess slots xs k = (k < length slots) × ((slot_at slots k).low <ℤ int_at xs k)
 
 -- a slot that may put in more
 abbrev pub CanMore : List Slot → List ℤ → ℕ → Type 0
-CanMore slots xs k = (k < length slots) × (amount_at xs k <ℤ (slot_at slots k).high)
+CanMore slots xs k = (k < length slots) × (int_at xs k <ℤ (slot_at slots k).high)
 
 -- an amount above its least doesn't lose, and one below its greatest would not gain
 pub record IsTightSlot (p : ℕ → ℤ) (s : Slot) (x : ℤ) : Type 0 where
@@ -71,5 +64,5 @@ pub record IsTightSlot (p : ℕ → ℤ) (s : Slot) (x : ℤ) : Type 0 where
 pub record IsSmallSlot (s : Slot) : Type 0 where
   pub low : neg_ℤ (pos most_room) ≤ℤ s.low
   pub high : s.high ≤ℤ pos most_room
-  pub cheap : neg_ℤ beyond ≤ℤ s.price
-  pub dear : s.price ≤ℤ beyond
+  pub cheap : neg_ℤ BEYOND ≤ℤ s.price
+  pub dear : s.price ≤ℤ BEYOND

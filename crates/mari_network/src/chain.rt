@@ -2,9 +2,9 @@
 
 ghost use Rattle.std.specs.Prelude.{◌≡◌, ◌≢◌, true, false, ℕ, ℤ, pos, ◌+ℤ◌, ◌-ℤ◌, ◌≤ℤ◌, ◌<ℤ◌, ◌<◌, length, slice_set, slice_index_or};
 ghost use Rattle.std.specs.List.{AllZip};
-ghost use Rattle.mari_market.specs.Sums.{sum_along};
+ghost use Rattle.mari_market.specs.Sums.{sum_along, int_at};
 ghost use Rattle.mari_market.specs.Activation.{IsWithinLimits, carried_out};
-ghost use Rattle.mari_network.specs.Slots.{slot_at, amount_at, at_zone, worth};
+ghost use Rattle.mari_network.specs.Slots.{slot_at, at_zone, slot_gain};
 ghost use Rattle.mari_network.specs.Network.{border_at, IsNetwork, Runs};
 ghost use Rattle.mari_network.specs.Chain.{hop_at, hop_room, room_of, head_of, tail_of, more_flow, HasRoom, IsTrace, IsImproving};
 
@@ -162,8 +162,8 @@ fn most_along(network: &Network, amounts: &[i64], flows: &[i64], chain: &Chain) 
 
     // At least a MW, which both slots and every hop have room for.
     ensures some { pos 1 ≤ℤ result }
-    ensures sink { result ≤ℤ (amount_at amounts.now chain.now.sink -ℤ (slot_at network.now.slots.now chain.now.sink).low) }
-    ensures source { result ≤ℤ ((slot_at network.now.slots.now chain.now.source).high -ℤ amount_at amounts.now chain.now.source) }
+    ensures sink { result ≤ℤ (int_at amounts.now chain.now.sink -ℤ (slot_at network.now.slots.now chain.now.sink).low) }
+    ensures source { result ≤ℤ ((slot_at network.now.slots.now chain.now.source).high -ℤ int_at amounts.now chain.now.source) }
     ensures room { HasRoom network.now.borders.now flows.now chain.now.hops.items result chain.now.at }
 {
     let below = room_below(network.slots[chain.sink], amounts[chain.sink]);
@@ -183,8 +183,8 @@ pub fn improve(network: &Network, amounts: &mut [i64], flows: &mut [i64], chain:
     requires runs { Runs network.now amounts.old flows.old }
     requires chain { IsImproving network.now amounts.old flows.old chain.now }
     ensures runs { Runs network.now amounts.new flows.new }
-    ensures others { (k : ℕ) → k ≢ chain.now.sink → k ≢ chain.now.source → amount_at amounts.new k ≡ amount_at amounts.old k }
-    ensures rises { sum_along worth network.now.slots.now amounts.old <ℤ sum_along worth network.now.slots.now amounts.new }
+    ensures others { (k : ℕ) → k ≢ chain.now.sink → k ≢ chain.now.source → int_at amounts.new k ≡ int_at amounts.old k }
+    ensures rises { sum_along slot_gain network.now.slots.now amounts.old <ℤ sum_along slot_gain network.now.slots.now amounts.new }
 {
     let more = most_along(network, amounts, flows, chain);
     carry(network.borders, flows, &chain.hops, chain.at, more);

@@ -3,11 +3,10 @@
 ghost use Rattle.std.specs.Prelude.{◌≡◌, ◌≢◌, ℕ, pos, neg_ℤ, ◌≤ℤ◌, ◌*ℤ◌, ◌<◌, ◌≤◌, ◌*◌, length, IfOk, MatchOption, map, take};
 ghost use Rattle.std.specs.Int.{int_max};
 ghost use Rattle.std.specs.List.{All, AllZip};
-ghost use Rattle.mari_market.specs.Sums.{sum_along};
+ghost use Rattle.mari_market.specs.Sums.{sum_along, int_at};
 ghost use Rattle.mari_market.specs.Activation.{put_in, order_gain};
 ghost use Rattle.mari_market.specs.Price.{IsPrice};
 ghost use Rattle.mari_market.specs.Cut.{is_in, IsRising};
-ghost use Rattle.mari_network.specs.Slots.{amount_at};
 ghost use Rattle.mari_network.specs.Orders.{capped_cents, is_inside, CanPut, ArePuts};
 
 use crate::slots::BEYOND;
@@ -17,7 +16,7 @@ use std::alloc::{AllocError, Global};
 
 /// The first amount from a place on that is not 0.
 pub fn first_short(amounts: &[i64], from: usize) -> Option<usize>
-    ensures { MatchOption result ((k : ℕ) → from ≤ k → k < length amounts.now → amount_at amounts.now k ≡ pos 0) (λ k. (from ≤ k) × (k < length amounts.now) × (amount_at amounts.now k ≢ pos 0)) }
+    ensures { MatchOption result ((k : ℕ) → from ≤ k → k < length amounts.now → int_at amounts.now k ≡ pos 0) (λ k. (from ≤ k) × (k < length amounts.now) × (int_at amounts.now k ≢ pos 0)) }
 {
     for i in from..amounts.len() {
         if amounts[i] != 0 {
@@ -72,7 +71,7 @@ fn is_in_cut(side: CutSide, price: i64) -> bool
 pub fn cut_zones(alloc: Global, side: CutSide, prices: &[i64]) -> Result<Vec<u32>, AllocError>
     requires { length prices.now ≤ MOST_ZONES }
     ensures rising { IfOk result (λ v. IsRising 0 (length prices.now) v.items) }
-    ensures inside { IfOk result (λ v. (z : ℕ) → z < length prices.now → is_in v.items z ≡ is_inside side (amount_at prices.now z)) }
+    ensures inside { IfOk result (λ v. (z : ℕ) → z < length prices.now → is_in v.items z ≡ is_inside side (int_at prices.now z)) }
 {
     let mut zones = Vec::new(alloc);
     for z in 0..prices.len() {

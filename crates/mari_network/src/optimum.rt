@@ -9,7 +9,7 @@ ghost use Rattle.mari_market.specs.Bounds.{Span};
 ghost use Rattle.mari_market.specs.Cut.{is_in, IsRising};
 ghost use Rattle.mari_market.specs.Market.{IsValid};
 ghost use Rattle.mari_network.specs.declared.optimum.SolveFault.TheVariants.{Memory as NoMemory};
-ghost use Rattle.mari_network.specs.Slots.{amount_at};
+ghost use Rattle.mari_market.specs.Sums.{int_at};
 ghost use Rattle.mari_network.specs.Network.{IsNetwork, Runs};
 ghost use Rattle.mari_network.specs.Orders.{capped_cents, is_inside, ArePuts, CanPut};
 ghost use Rattle.mari_network.specs.declared.slots.Slot.{Slot};
@@ -110,7 +110,7 @@ fn cut_from(alloc: Global, side: CutSide, prices: &[i64]) -> Result<Cut, AllocEr
     requires { length prices.now ≤ MOST_ZONES }
     ensures side { IfOk result (λ cut. cut.side ≡ side) }
     ensures rising { IfOk result (λ cut. IsRising 0 (length prices.now) cut.zones) }
-    ensures inside { IfOk result (λ cut. (z : ℕ) → z < length prices.now → is_in cut.zones z ≡ is_inside side (amount_at prices.now z)) }
+    ensures inside { IfOk result (λ cut. (z : ℕ) → z < length prices.now → is_in cut.zones z ≡ is_inside side (int_at prices.now z)) }
 {
     let zones = cut_zones(alloc, side, prices)?;
     Ok(Cut {

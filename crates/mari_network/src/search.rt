@@ -3,7 +3,7 @@
 ghost use Rattle.std.specs.Prelude.{◌≡◌, ℕ, ℤ, pos, ◌<ℤ◌, ◌≤ℤ◌, ◌+◌, ◌<◌, ◌≤◌, true, false, Bool, List, length, OnOk, IfOk, MatchOption};
 ghost use Rattle.std.specs.List.{All, AllZip};
 ghost use Rattle.mari_market.specs.Activation.{IsWithinLimits};
-ghost use Rattle.mari_network.specs.Slots.{amount_at};
+ghost use Rattle.mari_market.specs.Sums.{int_at};
 ghost use Rattle.mari_network.specs.Network.{border_at, IsNetwork, Runs};
 ghost use Rattle.mari_market.specs.Market.{IsBetween};
 ghost use Rattle.mari_network.specs.Chain.{hop_at, hop_of, head_of, tail_of, room_of, IsImproving};
@@ -83,7 +83,7 @@ fn reach_over(
     ensures more { length hops.old.items ≤ length hops.new.items }
 
     // By this border nothing comes from a zone that isn't marked.
-    ensures into { OnOk result (pos 0 <ℤ room_of hop.forth (border_at borders.now hop.border) (amount_at flows.now hop.border) → head_of hop.forth (border_at borders.now hop.border) ≡ (hop_at hops.old.items hop.before).zone → is_marked marked.new hop.zone ≡ true) }
+    ensures into { OnOk result (pos 0 <ℤ room_of hop.forth (border_at borders.now hop.border) (int_at flows.now hop.border) → head_of hop.forth (border_at borders.now hop.border) ≡ (hop_at hops.old.items hop.before).zone → is_marked marked.new hop.zone ≡ true) }
 {
     let zone = hops[hop.before].zone;
     if !is_new(
@@ -205,8 +205,8 @@ fn spread(
 /// Gives each zone that is not marked this price.
 fn level(prices: &mut [i64], marked: &[bool], price: i64)
     requires { length prices.old ≡ length marked.now }
-    ensures keep { (z : ℕ) → is_marked marked.now z ≡ true → amount_at prices.new z ≡ amount_at prices.old z }
-    ensures level { (z : ℕ) → is_marked marked.now z ≡ false → z < length marked.now → amount_at prices.new z ≡ price }
+    ensures keep { (z : ℕ) → is_marked marked.now z ≡ true → int_at prices.new z ≡ int_at prices.old z }
+    ensures level { (z : ℕ) → is_marked marked.now z ≡ false → z < length marked.now → int_at prices.new z ≡ price }
 {
     for z in 0..marked.len() {
         if !marked[z] {

@@ -2,8 +2,8 @@
 
 ghost use Rattle.std.specs.Prelude.{◌≡◌, ℕ, ℤ, pos, ◌+ℤ◌, ◌-ℤ◌, ◌*ℤ◌, ◌≤ℤ◌, ◌<◌, length, slice_set, neg_ℤ, IfOk, ◌++◌};
 ghost use Rattle.std.specs.List.{AllZip};
-ghost use Rattle.mari_market.specs.Sums.{sum_along};
-ghost use Rattle.mari_network.specs.Slots.{slot_at, amount_at, at_zone, slot_into, worth, IsWithinSlot, IsSmallSlot};
+ghost use Rattle.mari_market.specs.Sums.{sum_along, int_at};
+ghost use Rattle.mari_network.specs.Slots.{slot_at, at_zone, slot_into, slot_gain, IsWithinSlot, IsSmallSlot};
 ghost use Rattle.mari_network.specs.Orders.{slot_of, slots_of, AreOrderSlots};
 ghost use Rattle.mari_market.specs.Bounds.{Span};
 ghost use Rattle.mari_market.specs.Market.{IsValid};
@@ -33,15 +33,15 @@ pub fn move_amount(slots: &[Slot], amounts: &mut [i64], at: usize, more: i64)
     requires at { at < length slots.now }
     requires lengths { length amounts.old ≡ length slots.now }
     requires small { IsSmallSlot (slot_at slots.now at) }
-    requires moved { IsWithinSlot (slot_at slots.now at) (amount_at amounts.old at +ℤ more) }
+    requires moved { IsWithinSlot (slot_at slots.now at) (int_at amounts.old at +ℤ more) }
 
     // One amount changes, and none leaves its slot's bounds.
-    ensures moved { amounts.new ≡ slice_set amounts.old at (amount_at amounts.old at +ℤ more) }
+    ensures moved { amounts.new ≡ slice_set amounts.old at (int_at amounts.old at +ℤ more) }
     ensures within { AllZip IsWithinSlot slots.now amounts.old → AllZip IsWithinSlot slots.now amounts.new }
 
     // What that does to a zone's sum, and to what all is worth.
     ensures into { (z : ℕ) → sum_along (slot_into z) slots.now amounts.new ≡ sum_along (slot_into z) slots.now amounts.old +ℤ at_zone z (slot_at slots.now at).zone more }
-    ensures worth { sum_along worth slots.now amounts.new ≡ sum_along worth slots.now amounts.old -ℤ ((slot_at slots.now at).price *ℤ more) }
+    ensures worth { sum_along slot_gain slots.now amounts.new ≡ sum_along slot_gain slots.now amounts.old -ℤ ((slot_at slots.now at).price *ℤ more) }
 {
     let now = amounts[at];
     amounts[at] = now + more;

@@ -67,9 +67,7 @@ holds m word s chain v n bad = let h = n.optimum in record {
   feasible = last_feasible m word s v n;
   prices = h.potentials;
   tight = decided_tight m s.activation word s.potentials.cents v n.full h.within h.tight;
-  short = bad.short;
-  zones = bad.zones;
-  chain = bad.chain;
+  chain = bad;
 }
 
 pub last_conflict : (m : Market) (word : List Bool) (s : Solved) (chain : List ℕ) → IsValid m → IsLastNode m word s → IsContradictoryChain m s.activation chain → IsRelaxedFinding m word (conflict_found s chain)

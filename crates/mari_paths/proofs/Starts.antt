@@ -8,7 +8,8 @@ use Rattle.mari_market.specs.declared.market.Border.{Border}
 use Rattle.mari_market.specs.Sums.{sum_along}
 use Rattle.mari_market.specs.Activation.{IsWithinLimits}
 use Rattle.mari_network.specs.declared.slots.Slot.{Slot}
-use Rattle.mari_network.specs.Slots.{beyond, slot_into, IsWithinSlot, IsRunning}
+use Rattle.mari_network.specs.declared.slots.TheConstants.{BEYOND}
+use Rattle.mari_network.specs.Slots.{slot_into, IsWithinSlot, IsRunning}
 use Rattle.mari_network.specs.Orders.{IsExtra}
 use Rattle.mari_paths.specs.Starts.{stand_in_if, stand_in_of, stand_ins, IsNear, AreShort}
 use Rattle.mari_network.specs.Fits.{IsNetworkSlot}
@@ -18,7 +19,7 @@ use Rattle.mari_network.proofs.Shortfalls.{sum_along-append}
 -- what is known of what stands in for a shortage of a zone
 pub record StandsIn (z : ℕ) (d : ℤ) (s : Slot) : Type 0 where
   pub zone : s.zone ≡ z
-  pub kind : IsExtra beyond s
+  pub kind : IsExtra BEYOND s
   pub within : IsWithinSlot s d
   pub network : (n : ℕ) → z < n → IsNear 700000000 d → IsNetworkSlot n s
 
@@ -43,9 +44,9 @@ stand_ins_within : (z : ℕ) (short : List ℤ) → AllZip IsWithinSlot (stand_i
 stand_ins_within z [] = tt
 stand_ins_within z (d ∷ ds) = ((stands_in z d).within, stand_ins_within (z + 1) ds)
 
-pub stand_ins_extra : (z : ℕ) (short : List ℤ) → All (IsExtra beyond) (stand_ins z short)
+pub stand_ins_extra : (z : ℕ) (short : List ℤ) → All (IsExtra BEYOND) (stand_ins z short)
 stand_ins_extra z [] = λ k d l. absurd (omega arith)
-stand_ins_extra z (d ∷ ds) = All-cons (IsExtra beyond) (stand_in_of z d) (stand_ins (z + 1) ds) (stands_in z d).kind (stand_ins_extra (z + 1) ds)
+stand_ins_extra z (d ∷ ds) = All-cons (IsExtra BEYOND) (stand_in_of z d) (stand_ins (z + 1) ds) (stands_in z d).kind (stand_ins_extra (z + 1) ds)
 
 pub stand_ins_network : (n z : ℕ) (short : List ℤ) → z + length short ≤ n → All (IsNear 700000000) short → All (IsNetworkSlot n) (stand_ins z short)
 stand_ins_network n z [] l a = λ k d h. absurd (omega arith)

@@ -3,7 +3,7 @@ use Rattle.std.specs.Prelude.{◌≡◌, ◌⊎◌, Bool, true, false, ℤ, pos,
 use lib.Signed.{lt_z}
 use Rattle.mari_market.specs.Sums.{int_sum}
 use Rattle.mari_network.specs.declared.slots.Slot.{Slot}
-use Rattle.mari_network.specs.Slots.{beyond}
+use Rattle.mari_network.specs.declared.slots.TheConstants.{BEYOND}
 
 abbrev pub run_if : Bool → Slot → ℤ
 run_if true s = s.high
@@ -15,5 +15,5 @@ run_at p s = run_if (lt_z s.price p) s
 
 -- at the price no more is put in than taken, and a cent above it more, between the prices that no order reaches
 pub record IsBalancing (slots : List Slot) (p : ℤ) : Type 0 where
-  pub here : (p ≡ neg_ℤ beyond) ⊎ (int_sum (run_at p) slots ≤ℤ pos 0)
-  pub above : (p +ℤ pos 1 ≡ beyond) ⊎ (pos 0 <ℤ int_sum (run_at (p +ℤ pos 1)) slots)
+  pub here : (p ≡ neg_ℤ BEYOND) ⊎ (int_sum (run_at p) slots ≤ℤ pos 0)
+  pub above : (p +ℤ pos 1 ≡ BEYOND) ⊎ (pos 0 <ℤ int_sum (run_at (p +ℤ pos 1)) slots)

@@ -2,10 +2,11 @@
 use Rattle.std.specs.Prelude.{◌≡◌, Bool, true, false, ℕ, ◌+◌, ◌<◌, ◌≤◌, ℤ, pos, ◌-ℤ◌, neg_ℤ, ◌≤ℤ◌, List, [], ◌∷◌, length}
 use lib.Signed.{lt_z}
 use Rattle.mari_market.specs.declared.market.Border.{Border}
-use Rattle.mari_market.specs.Sums.{sum_along}
+use Rattle.mari_market.specs.Sums.{sum_along, int_at}
 use Rattle.mari_market.specs.Activation.{carried_out}
 use Rattle.mari_network.specs.declared.slots.Slot.{Slot}
-use Rattle.mari_network.specs.Slots.{beyond, amount_at, slot_into}
+use Rattle.mari_network.specs.declared.slots.TheConstants.{BEYOND}
+use Rattle.mari_network.specs.Slots.{slot_into}
 use Rattle.mari_units.specs.declared.limits.TheConstants.{MOST_FLOW}
 
 -- the least of a slot is at most its greatest
@@ -23,8 +24,8 @@ AreSmallLimits b = (b.limit ≤ MOST_FLOW) × (b.back ≤ MOST_FLOW)
 
 -- what gives a zone what it is short of, or takes away what it has too much
 abbrev pub stand_in_if : Bool → ℕ → ℤ → Slot
-stand_in_if true z d = record { zone = z; price = neg_ℤ beyond; low = d; high = pos 0 }
-stand_in_if false z d = record { zone = z; price = beyond; low = pos 0; high = d }
+stand_in_if true z d = record { zone = z; price = neg_ℤ BEYOND; low = d; high = pos 0 }
+stand_in_if false z d = record { zone = z; price = BEYOND; low = pos 0; high = d }
 
 abbrev pub stand_in_of : ℕ → ℤ → Slot
 stand_in_of z d = stand_in_if (lt_z d (pos 0)) z d
@@ -37,4 +38,4 @@ stand_ins z (d ∷ ds) = stand_in_of z d ∷ stand_ins (z + 1) ds
 -- what each zone is short of: what borders carry out less what slots put in
 pub record AreShort (zones : ℕ) (slots : List Slot) (bs : List Border) (xs fs short : List ℤ) : Type 0 where
   pub long : length short ≡ zones
-  pub each : (z : ℕ) → z < zones → amount_at short z ≡ sum_along (carried_out z) bs fs -ℤ sum_along (slot_into z) slots xs
+  pub each : (z : ℕ) → z < zones → int_at short z ≡ sum_along (carried_out z) bs fs -ℤ sum_along (slot_into z) slots xs

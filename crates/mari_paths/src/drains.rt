@@ -8,7 +8,7 @@ ghost use Rattle.mari_network.specs.Chain.{hop_at, HasRoom, IsImproving};
 ghost use Rattle.mari_paths.specs.Drains.{AreHops, AreEnds};
 ghost use Rattle.mari_network.specs.Margins.{dearest_at, cheapest_at, AreMargins};
 ghost use Rattle.mari_network.specs.Network.{IsNetwork, Runs};
-ghost use Rattle.mari_network.specs.Slots.{price_of, worth};
+ghost use Rattle.mari_network.specs.Slots.{slot_gain};
 
 use mari_network::{Chain, Hop, Margin, Network, Slot, has_room, improve, refresh};
 
@@ -119,7 +119,7 @@ fn push_along(
     // The same of what runs then, and that it is better.
     ensures runs { Runs network.now amounts.new flows.new }
     ensures margins { AreMargins network.now.slots.now amounts.new (length network.now.meeting.items) (length network.now.slots.now) margins.new }
-    ensures rises { sum_along worth network.now.slots.now amounts.old <ℤ sum_along worth network.now.slots.now amounts.new }
+    ensures rises { sum_along slot_gain network.now.slots.now amounts.old <ℤ sum_along slot_gain network.now.slots.now amounts.new }
 {
     improve(network, amounts, flows, chain);
     refresh(
@@ -154,7 +154,7 @@ pub fn drain(
     // The same of what runs then, and that it is better.
     ensures runs { Runs network.now amounts.new flows.new }
     ensures margins { AreMargins network.now.slots.now amounts.new (length network.now.meeting.items) (length network.now.slots.now) margins.new }
-    ensures rises { sum_along worth network.now.slots.now amounts.old <ℤ sum_along worth network.now.slots.now amounts.new }
+    ensures rises { sum_along slot_gain network.now.slots.now amounts.old <ℤ sum_along slot_gain network.now.slots.now amounts.new }
 {
     let price = network.slots[chain.sink].price;
     push_along(network, amounts, flows, margins, chain);

@@ -3,11 +3,11 @@
 
 ghost use Rattle.std.specs.Prelude.{◌≡◌, ◌<◌, ◌≤◌, ℕ, pos, neg_ℤ, ◌+ℤ◌, ◌-ℤ◌, ◌++◌, length, slice_set, IfOk, OnOk};
 ghost use Rattle.std.specs.List.{All, AllZip};
-ghost use Rattle.mari_market.specs.Sums.{sum_along};
+ghost use Rattle.mari_market.specs.Sums.{sum_along, int_at};
 ghost use Rattle.mari_market.specs.Activation.{IsWithinLimits, carried_out};
 ghost use Rattle.mari_market.specs.Market.{IsValid, IsBetween};
 ghost use Rattle.mari_network.specs.Orders.{IsOrderSlot, AreOrderSlots};
-ghost use Rattle.mari_network.specs.Slots.{amount_at, slot_into, IsSmallSlot, IsWithinSlot};
+ghost use Rattle.mari_network.specs.Slots.{slot_into, IsSmallSlot, IsWithinSlot};
 ghost use Rattle.mari_paths.specs.Starts.{stand_in_of, stand_ins, IsOrdered, IsNear, AreSmallLimits, AreShort};
 
 use crate::merit::{amounts_at, balancing_price};
@@ -113,9 +113,9 @@ pub fn first_run(
 /// Adds to what a zone is short of.
 fn add_at(short: &mut [i64], zone: usize, more: i64)
     requires zone { zone < length short.old }
-    requires before { IsNear 900000000 (amount_at short.old zone) }
+    requires before { IsNear 900000000 (int_at short.old zone) }
     requires more { IsNear 200000 more }
-    ensures { short.new ≡ slice_set short.old zone (amount_at short.old zone +ℤ more) }
+    ensures { short.new ≡ slice_set short.old zone (int_at short.old zone +ℤ more) }
 {
     let now = short[zone];
     short[zone] = now + more;
@@ -124,9 +124,9 @@ fn add_at(short: &mut [i64], zone: usize, more: i64)
 /// Takes from what a zone is short of.
 fn take_at(short: &mut [i64], zone: usize, less: i64)
     requires zone { zone < length short.old }
-    requires before { IsNear 900000000 (amount_at short.old zone) }
+    requires before { IsNear 900000000 (int_at short.old zone) }
     requires less { IsNear 200000 less }
-    ensures { short.new ≡ slice_set short.old zone (amount_at short.old zone -ℤ less) }
+    ensures { short.new ≡ slice_set short.old zone (int_at short.old zone -ℤ less) }
 {
     let now = short[zone];
     short[zone] = now - less;
@@ -135,10 +135,10 @@ fn take_at(short: &mut [i64], zone: usize, less: i64)
 /// Adds to what zones are short of what a border carries out of them.
 fn carry_out(short: &mut [i64], border: &Border, flow: i64)
     requires ends { IsBetween (length short.old) border.now }
-    requires near { (z : ℕ) → IsNear 800000000 (amount_at short.old z) }
+    requires near { (z : ℕ) → IsNear 800000000 (int_at short.old z) }
     requires flow { IsNear 200000 flow }
     ensures long { length short.new ≡ length short.old }
-    ensures each { (z : ℕ) → amount_at short.new z ≡ amount_at short.old z +ℤ carried_out z border.now flow }
+    ensures each { (z : ℕ) → int_at short.new z ≡ int_at short.old z +ℤ carried_out z border.now flow }
 {
     add_at(short, border.from as usize, flow);
     take_at(short, border.to as usize, flow);
@@ -150,12 +150,12 @@ fn take_amounts(short: &mut [i64], slots: &[Slot], amounts: &[i64])
     requires few { length slots.now ≤ MOST_ORDERS }
     requires slots { All (IsOrderSlot (length short.old)) slots.now }
     requires within { AllZip IsWithinSlot slots.now amounts.now }
-    requires none { (z : ℕ) → amount_at short.old z ≡ pos 0 }
+    requires none { (z : ℕ) → int_at short.old z ≡ pos 0 }
 
     // So much each zone is short then, and flows can still be added.
     ensures long { length short.new ≡ length short.old }
-    ensures near { (z : ℕ) → IsNear 500000000 (amount_at short.new z) }
-    ensures each { (z : ℕ) → amount_at short.new z ≡ neg_ℤ (sum_along (slot_into z) slots.now amounts.now) }
+    ensures near { (z : ℕ) → IsNear 500000000 (int_at short.new z) }
+    ensures each { (z : ℕ) → int_at short.new z ≡ neg_ℤ (sum_along (slot_into z) slots.now amounts.now) }
 {
     for (i, slot) in slots.iter().enumerate() {
         take_at(short, slot.zone as usize, amounts[i]);
@@ -171,12 +171,12 @@ fn add_flows(short: &mut [i64], borders: &[Border], flows: &[i64])
     requires within { AllZip IsWithinLimits borders.now flows.now }
 
     // What the slots left.
-    requires near { (z : ℕ) → IsNear 500000000 (amount_at short.old z) }
+    requires near { (z : ℕ) → IsNear 500000000 (int_at short.old z) }
 
     // So much each zone is short then, and no number runs over.
     ensures long { length short.new ≡ length short.old }
-    ensures near { (z : ℕ) → IsNear 700000000 (amount_at short.new z) }
-    ensures each { (z : ℕ) → amount_at short.new z ≡ amount_at short.old z +ℤ sum_along (carried_out z) borders.now flows.now }
+    ensures near { (z : ℕ) → IsNear 700000000 (int_at short.new z) }
+    ensures each { (z : ℕ) → int_at short.new z ≡ int_at short.old z +ℤ sum_along (carried_out z) borders.now flows.now }
 {
     for (i, border) in borders.iter().enumerate() {
         carry_out(short, border, flows[i]);
@@ -195,7 +195,7 @@ pub fn shortages(
     requires slots { AreOrderSlots market.now.zones market.now.orders slots.now }
     requires amounts { AllZip IsWithinSlot slots.now amounts.now }
     requires flows { AllZip IsWithinLimits market.now.borders flows.now }
-    ensures near { IfOk result (λ v. (z : ℕ) → IsNear 700000000 (amount_at v.items z)) }
+    ensures near { IfOk result (λ v. (z : ℕ) → IsNear 700000000 (int_at v.items z)) }
     ensures short { IfOk result (λ v. AreShort market.now.zones slots.now market.now.borders amounts.now flows.now v.items) }
 {
     let mut short = vec![in alloc; 0i64; market.zones as usize]?;

@@ -6,13 +6,14 @@ use Rattle.mari_market.specs.declared.market.Border.{Border}
 use Rattle.mari_market.specs.declared.market.Market.{Market}
 use Rattle.mari_market.specs.declared.activation.Activation.{Activation}
 use Rattle.mari_market.specs.Area.{Joins, InOneArea, AreAreas, area_at}
-use Rattle.mari_market.specs.Area.InOneArea.{itself, further}
+use Rattle.mari_market.specs.Along.Reaches.{itself, further}
 use Rattle.mari_market.specs.Market.{IsValid, IsValidBorder}
 use Rattle.mari_market.specs.declared.along.Along.TheVariants.{Joined}
 use Rattle.mari_prices.specs.declared.spread.SettledZone.{SettledZone}
 use Rattle.mari_market.specs.Along.{LeadsOver, LeadsTo}
 use Rattle.mari_prices.specs.Firsts.{ArePlaces, first_in, first_at, AreFirsts, AreNumbered}
-use Rattle.mari_prices.specs.Spread.{entry_at, value_in, IsByItself, IsAfter, SpreadsAlong}
+use Rattle.mari_market.specs.Sums.{int_at}
+use Rattle.mari_prices.specs.Spread.{entry_at, IsByItself, IsAfter, SpreadsAlong}
 use Rattle.mari_prices.proofs.Extremes.{entry_within}
 use Rattle.mari_prices.proofs.Spreads.{AnyZip-of}
 use Rattle.mari_market.proofs.Joins.{joins_other, area_on, area_back}
@@ -44,12 +45,12 @@ record HasFirst (m : Market) (a : Activation) (z : ℕ) (s : SettledZone) : Type
 has_first : (m : Market) (a : Activation) (values : List ℤ) (xs : List (Option SettledZone)) → AreSpread m a values xs → (n z : ℕ) (s : SettledZone) → s.depth ≤ n → entry_at xs z ≡ Some s → HasFirst m a z s
 has_first m a values xs h zero z s d e = by_source (h.spread.spreading.source z s e)
   where
-    by_source : IsByItself (value_in values) z s ⊎ IsAfter (LeadsTo Joined m.borders a.flow) xs z s → HasFirst m a z s
+    by_source : IsByItself (int_at values) z s ⊎ IsAfter (LeadsTo Joined m.borders a.flow) xs z s → HasFirst m a z s
     by_source (inl f) = absurd (omega (arith, f.depth))
     by_source (inr k) = absurd (omega (arith, k.depth))
 has_first m a values xs h (suc n) z s d e = by_source (h.spread.spreading.source z s e) (λ y t l k. has_first m a values xs h n y t l k)
   where
-    by_source : IsByItself (value_in values) z s ⊎ IsAfter (LeadsTo Joined m.borders a.flow) xs z s → ((y : ℕ) (t : SettledZone) → t.depth ≤ n → entry_at xs y ≡ Some t → HasFirst m a y t) → HasFirst m a z s
+    by_source : IsByItself (int_at values) z s ⊎ IsAfter (LeadsTo Joined m.borders a.flow) xs z s → ((y : ℕ) (t : SettledZone) → t.depth ≤ n → entry_at xs y ≡ Some t → HasFirst m a y t) → HasFirst m a z s
     by_source (inl f) before = record {
       first = z;
       there = omega (arith, entry_within xs z s e, h.one_each);
@@ -104,7 +105,7 @@ firsts m a values xs v h = record {
       let s = h.spread.settled z l in
       let f = has_first m a values xs h s.0.depth z s.0 (omega arith) s.1 in
       let at : first_at xs z ≡ f.first = ap first_in s.1 ∙ ap unsigned_abs f.value ∙ abs_neg f.first in
-      let own : value_in values z ≡ neg_ℤ (pos z) = h.places z (omega (arith, l, h.one_each, h.values_each)) in
+      let own : int_at values z ≡ neg_ℤ (pos z) = h.places z (omega (arith, l, h.one_each, h.values_each)) in
       omega (arith, at, not_above f.first z s.0.value (subst (λ (x : ℤ). x ≤ℤ s.0.value) own (h.spread.spreading.above z s.0 s.1)) f.value);
   own = λ z l.
       let there : z < m.zones = omega (arith, l, h.one_each) in

@@ -13,14 +13,16 @@ use Rattle.mari_market.specs.Consistent.{IsUpperBound}
 use Rattle.mari_market.specs.Interval.{AreLeastPrices, AreGreatestPrices}
 use Rattle.mari_market.specs.Market.{IsValid, IsValidOrder, IsValidBorder}
 use Rattle.mari_market.specs.Optimal.{IsFeasible, IsConsistent}
-use Rattle.mari_market.specs.Price.{IsPrice, price_at, cap}
+use Rattle.mari_units.specs.declared.numbers.TheConstants.{CAP}
+use Rattle.mari_market.specs.Price.{IsPrice, price_at}
 use Rattle.mari_prices.specs.declared.bounds.End.{End}
 use Rattle.mari_prices.specs.declared.bounds.End.TheVariants.{Least, Greatest}
 use Rattle.mari_market.specs.declared.along.Along.TheVariants.{Rising, Falling}
 use Rattle.mari_prices.specs.declared.spread.SettledZone.{SettledZone}
 use Rattle.mari_market.specs.Along.{Leads, LeadsBy, LeadsTo}
 use Rattle.mari_prices.specs.Ends.{along_of, IsEnd, ArePriced, ArePricesOf, AreTrails, AreUncontradicted, IsContradicted, Follows, IsTrailTo}
-use Rattle.mari_prices.specs.Spread.{entry_at, value_in, IsByItself, IsAfter, IsSpreading}
+use Rattle.mari_market.specs.Sums.{int_at}
+use Rattle.mari_prices.specs.Spread.{entry_at, IsByItself, IsAfter, IsSpreading}
 use Rattle.mari_market.proofs.Agree.{KeepsAll, keeps_consistent, consistent_keeps}
 use Rattle.mari_prices.proofs.Extremes.{entry_within, spread_least}
 use Rattle.mari_prices.proofs.Spreads.{AnyZip-of, lower_spreads, lower_from, upper_spreads, upper_from, bound_price}
@@ -39,8 +41,8 @@ prices_of_orders m v = All-weaker (IsValidOrder m.zones (length m.gates)) (λ (o
 
 -- ---- values are prices
 
-own_price : (end : End) (m : Market) (a : Activation) (bounds : List ℤ) (xs : List (Option SettledZone)) (z : ℕ) → IsValid m → IsEnd end m a bounds xs → z < m.zones → IsPrice (value_in bounds z)
-own_price end m a bounds xs z v e l = bound_price end m.orders a.mw z (value_in bounds z) (prices_of_orders m v) (e.tightest z l).bound
+own_price : (end : End) (m : Market) (a : Activation) (bounds : List ℤ) (xs : List (Option SettledZone)) (z : ℕ) → IsValid m → IsEnd end m a bounds xs → z < m.zones → IsPrice (int_at bounds z)
+own_price end m a bounds xs z v e l = bound_price end m.orders a.mw z (int_at bounds z) (prices_of_orders m v) (e.tightest z l).bound
 
 pub priced : (end : End) (m : Market) (a : Activation) (bounds : List ℤ) (xs : List (Option SettledZone)) → IsValid m → IsEnd end m a bounds xs → ArePriced xs
 priced end m a bounds xs v e = record {
@@ -50,7 +52,7 @@ priced end m a bounds xs v e = record {
       let own = own_price end m a bounds xs z v e there in
       record {
         low = omega (arith, ints, own.low, e.spread.spreading.above z s k);
-        high = spread_least (LeadsTo (along_of end) m.borders a.flow) (value_in bounds) (λ _. cap) xs e.spread.spreading (λ y h. (own_price end m a bounds xs y v e (omega (arith, h, e.one_each))).high) (λ x y h. omega (arith, ints)) z s k;
+        high = spread_least (LeadsTo (along_of end) m.borders a.flow) (int_at bounds) (λ _. CAP) xs e.spread.spreading (λ y h. (own_price end m a bounds xs y v e (omega (arith, h, e.one_each))).high) (λ x y h. omega (arith, ints)) z s k;
       };
 }
 
@@ -60,15 +62,15 @@ bounds_priced end m a bounds xs v e = All-from_get_or IsPrice bounds (pos 0) (λ
 -- ---- values are extreme
 
 pub least_value : (m : Market) (a : Activation) (bounds : List ℤ) (xs : List (Option SettledZone)) (ps : List Cents) → IsValid m → IsFeasible m a → IsEnd Least m a bounds xs → KeepsAll m a ps → (z : ℕ) (s : SettledZone) → entry_at xs z ≡ Some s → s.value ≤ℤ price_at ps z
-least_value m a bounds xs ps v f e k z s h = spread_least (LeadsTo Rising m.borders a.flow) (value_in bounds) (price_at ps) xs e.spread.spreading
-    (λ y l. let there : y < m.zones = omega (arith, l, e.one_each) in k.lower y (value_in bounds y) there (lower_from m a y (value_in bounds y) v f (e.tightest y there).bound))
+least_value m a bounds xs ps v f e k z s h = spread_least (LeadsTo Rising m.borders a.flow) (int_at bounds) (price_at ps) xs e.spread.spreading
+    (λ y l. let there : y < m.zones = omega (arith, l, e.one_each) in k.lower y (int_at bounds y) there (lower_from m a y (int_at bounds y) v f (e.tightest y there).bound))
     (λ x y l. let w = leads_within m a x y v l in k.rises x y w.0 w.1 l) z s h
 
 pub greatest_value : (m : Market) (a : Activation) (bounds : List ℤ) (xs : List (Option SettledZone)) (ps : List Cents) → IsValid m → IsFeasible m a → IsEnd Greatest m a bounds xs → KeepsAll m a ps → (z : ℕ) (s : SettledZone) → entry_at xs z ≡ Some s → s.value ≤ℤ neg_ℤ (price_at ps z)
-greatest_value m a bounds xs ps v f e k z s h = spread_least (LeadsTo Falling m.borders a.flow) (value_in bounds) (λ y. neg_ℤ (price_at ps y)) xs e.spread.spreading
+greatest_value m a bounds xs ps v f e k z s h = spread_least (LeadsTo Falling m.borders a.flow) (int_at bounds) (λ y. neg_ℤ (price_at ps y)) xs e.spread.spreading
     (λ y l.
     let there : y < m.zones = omega (arith, l, e.one_each) in
-    let at : price_at ps y ≤ℤ neg_ℤ (value_in bounds y) = k.upper y (neg_ℤ (value_in bounds y)) there (upper_from m a y (value_in bounds y) v f (e.tightest y there).bound) in
+    let at : price_at ps y ≤ℤ neg_ℤ (int_at bounds y) = k.upper y (neg_ℤ (int_at bounds y)) there (upper_from m a y (int_at bounds y) v f (e.tightest y there).bound) in
     omega (arith, ints))
     (λ x y l.
     let r = falling_from m a y x l in
@@ -150,7 +152,7 @@ pub contradicted_none : (m : Market) (a : Activation) (bounds uppers : List ℤ)
 contradicted_none m a bounds uppers xs ys z ps v f e g h c =
     let k = consistent_keeps m a ps c in
     let there : z < m.zones = omega (arith, entry_within xs z h.entry h.settled, e.one_each) in
-    let at : price_at ps z ≤ℤ neg_ℤ (value_in uppers z) = k.upper z (neg_ℤ (value_in uppers z)) there (upper_from m a z (value_in uppers z) v f (g.tightest z there).bound) in
+    let at : price_at ps z ≤ℤ neg_ℤ (int_at uppers z) = k.upper z (neg_ℤ (int_at uppers z)) there (upper_from m a z (int_at uppers z) v f (g.tightest z there).bound) in
     omega (arith, ints, h.above, least_value m a bounds xs ps v f e k z h.entry h.settled)
 
 pub trails : (lead : ℕ → ℕ → Type 0) (own : ℕ → ℤ) (xs : List (Option SettledZone)) → IsSpreading lead own xs → ((z : ℕ) → z < length xs → (s : SettledZone) × (entry_at xs z ≡ Some s)) → AreTrails xs
@@ -189,7 +191,7 @@ carries m a bounds xs z [] s e f k = record {
 }
 carries m a bounds xs z (y ∷ ys) s e f k =
     let b = f.0 in
-    let after = after_of (LeadsTo Rising m.borders a.flow) (value_in bounds) xs y z b.entry b.previous (e.spread.spreading.source y b.entry b.settled) in
+    let after = after_of (LeadsTo Rising m.borders a.flow) (int_at bounds) xs y z b.entry b.previous (e.spread.spreading.source y b.entry b.settled) in
     let more = carries m a bounds xs y ys b.entry e f.1 b.settled in
     record {
       chain = (after.0, more.chain);
@@ -212,13 +214,13 @@ trail_contradicts m a bounds uppers xs ys last chain v f e g h t =
     let first_there : t.first < m.zones = omega (arith, entry_within xs t.first t.entry t.settled, e.one_each) in
     let last_there : last < m.zones = omega (arith, entry_within xs last h.entry h.settled, e.one_each) in
     let value : h.entry.value ≡ t.entry.value = all.value h.entry (subst (λ (x : ℕ). entry_at xs x ≡ Some h.entry) (sym t.trail.ends) h.settled) in
-    let own : t.entry.value ≡ value_in bounds t.first = first_value (LeadsTo Rising m.borders a.flow) (value_in bounds) xs t.first t.entry t.start (e.spread.spreading.source t.first t.entry t.settled) in
-    let upper : IsUpperBound m a (last_of t.first t.trail.rest) (neg_ℤ (value_in uppers last)) =
-    subst (λ (x : ℕ). IsUpperBound m a x (neg_ℤ (value_in uppers last))) (sym t.trail.ends) (upper_from m a last (value_in uppers last) v f (g.tightest last last_there).bound) in
+    let own : t.entry.value ≡ int_at bounds t.first = first_value (LeadsTo Rising m.borders a.flow) (int_at bounds) xs t.first t.entry t.start (e.spread.spreading.source t.first t.entry t.settled) in
+    let upper : IsUpperBound m a (last_of t.first t.trail.rest) (neg_ℤ (int_at uppers last)) =
+    subst (λ (x : ℕ). IsUpperBound m a x (neg_ℤ (int_at uppers last))) (sym t.trail.ends) (upper_from m a last (int_at uppers last) v f (g.tightest last last_there).bound) in
     let contradicts : Contradicts m a t.first (last_of t.first t.trail.rest) = record {
-      low = value_in bounds t.first;
-      high = neg_ℤ (value_in uppers last);
-      lower = lower_from m a t.first (value_in bounds t.first) v f (e.tightest t.first first_there).bound;
+      low = int_at bounds t.first;
+      high = neg_ℤ (int_at uppers last);
+      lower = lower_from m a t.first (int_at bounds t.first) v f (e.tightest t.first first_there).bound;
       upper = upper;
       above = omega (arith, ints, h.above, value, own);
     } in

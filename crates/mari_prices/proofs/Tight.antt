@@ -5,16 +5,15 @@ use Rattle.std.specs.Int.{int_max}
 use Rattle.std.proofs.lemmas.List.{take_all}
 use Rattle.std.proofs.lemmas.Bool.{cases_eq}
 use Rattle.mari_market.specs.declared.market.Order.{Order}
-use Rattle.mari_market.specs.Price.{cap}
-use Rattle.mari_market.specs.Sums.{AnyZip}
+use Rattle.mari_units.specs.declared.numbers.TheConstants.{CAP}
+use Rattle.mari_market.specs.Sums.{AnyZip, int_at}
 use Rattle.mari_prices.specs.declared.bounds.End.{End}
-use Rattle.mari_prices.specs.Spread.{value_in}
 use Rattle.mari_prices.specs.Tightest.{SetsAt, SetsAtEnd, IsBoundBy, IsTightest, IsRaised, signed}
 use Rattle.mari_market.specs.Consistent.{own_standing}
 use Rattle.mari_market.proofs.Sums.{AnyZip_cases, AnyZip_kept, AnyZip_new}
 
 -- no order yet
-pub tightest_none : (end : End) (os : List Order) (qs : List ℕ) (z : ℕ) (c : ℤ) → c ≡ neg_ℤ cap → IsTightest end (take 0 os) (take 0 qs) z c
+pub tightest_none : (end : End) (os : List Order) (qs : List ℕ) (z : ℕ) (c : ℤ) → c ≡ neg_ℤ CAP → IsTightest end (take 0 os) (take 0 qs) z c
 tightest_none end os qs z c e = record { bound = inl e; tightest = λ d b. none d b }
   where
     none : (d : ℤ) → IsBoundBy end (take 0 os) (take 0 qs) z d → d ≤ℤ c
@@ -49,12 +48,12 @@ elsewhere : (end : End) (o : Order) (q z : ℕ) (old : ℤ) → (z ≡ o.zone �
 elsewhere end o q z old apart = record { kept = omega (arith, ints); met = λ c s. absurd (apart (sym s.zone)); from = inl refl }
 
 -- and raises its own zone's bound
-pub raised_at : (end : End) (o : Order) (q : ℕ) (values : List ℤ) (new : ℤ) → o.zone < length values → IsRaised end o q o.zone (value_in values o.zone) new → (z : ℕ) → IsRaised end o q z (value_in values z) (value_in (set values o.zone new) z)
+pub raised_at : (end : End) (o : Order) (q : ℕ) (values : List ℤ) (new : ℤ) → o.zone < length values → IsRaised end o q o.zone (int_at values o.zone) new → (z : ℕ) → IsRaised end o q z (int_at values z) (int_at (set values o.zone new) z)
 raised_at end o q values new h r z = elim (cases_eq z o.zone) [
   | inl same ↦
       let at : get_or (set values o.zone new) o.zone (pos 0) ≡ new = get_or-set_same values o.zone new (pos 0) h in
-      subst (λ (x : ℕ). IsRaised end o q x (value_in values x) (value_in (set values o.zone new) x)) (sym same) (subst (λ (v : ℤ). IsRaised end o q o.zone (value_in values o.zone) v) (sym at) r)
-  | inr other ↦ subst (λ (v : ℤ). IsRaised end o q z (value_in values z) v) (sym (get_or-set_other values o.zone z new (pos 0) other)) (elsewhere end o q z (value_in values z) other)
+      subst (λ (x : ℕ). IsRaised end o q x (int_at values x) (int_at (set values o.zone new) x)) (sym same) (subst (λ (v : ℤ). IsRaised end o q o.zone (int_at values o.zone) v) (sym at) r)
+  | inr other ↦ subst (λ (v : ℤ). IsRaised end o q z (int_at values z) v) (sym (get_or-set_other values o.zone z new (pos 0) other)) (elsewhere end o q z (int_at values z) other)
 ]
 
 -- the greater of the old bound and the order's

@@ -10,7 +10,8 @@ use Rattle.mari_market.specs.declared.along.Along.TheVariants.{Rising, Falling}
 use Rattle.mari_prices.specs.declared.bounds.End.{End}
 use Rattle.mari_prices.specs.declared.bounds.End.TheVariants.{Least, Greatest}
 use Rattle.mari_prices.specs.declared.spread.SettledZone.{SettledZone}
-use Rattle.mari_prices.specs.Spread.{entry_at, value_in, SpreadsAlong}
+use Rattle.mari_market.specs.Sums.{int_at}
+use Rattle.mari_prices.specs.Spread.{entry_at, SpreadsAlong}
 use Rattle.mari_prices.specs.Tightest.{IsTightest, signed}
 
 -- how an end's bounds spread
@@ -22,7 +23,7 @@ along_of Greatest = Falling
 pub record IsEnd (end : End) (m : Market) (a : Activation) (bounds : List ℤ) (xs : List (Option SettledZone)) : Type 0 where
   pub bounds_each : length bounds ≡ m.zones
   pub one_each : length xs ≡ m.zones
-  pub tightest : (z : ℕ) → z < m.zones → IsTightest end m.orders a.mw z (value_in bounds z)
+  pub tightest : (z : ℕ) → z < m.zones → IsTightest end m.orders a.mw z (int_at bounds z)
   pub spread : SpreadsAlong (along_of end) m.borders a.flow bounds xs
 
 -- every zone is settled, with a price or one with its sign turned
@@ -39,11 +40,11 @@ pub record ArePricesOf (end : End) (xs : List (Option SettledZone)) (ps : List C
 pub record IsContradicted (xs : List (Option SettledZone)) (uppers : List ℤ) (z : ℕ) : Type 0 where
   pub entry : SettledZone
   pub settled : entry_at xs z ≡ Some entry
-  pub above : neg_ℤ (value_in uppers z) <ℤ entry.value
+  pub above : neg_ℤ (int_at uppers z) <ℤ entry.value
 
 -- no zone is
 abbrev pub AreUncontradicted : ℕ → List (Option SettledZone) → List ℤ → Type 0
-AreUncontradicted n xs uppers = (z : ℕ) (s : SettledZone) → z < n → entry_at xs z ≡ Some s → s.value ≤ℤ neg_ℤ (value_in uppers z)
+AreUncontradicted n xs uppers = (z : ℕ) (s : SettledZone) → z < n → entry_at xs z ≡ Some s → s.value ≤ℤ neg_ℤ (int_at uppers z)
 
 -- the second zone was settled by the first
 pub record IsBefore (xs : List (Option SettledZone)) (z y : ℕ) : Type 0 where

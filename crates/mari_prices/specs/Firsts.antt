@@ -2,11 +2,12 @@
 use Rattle.std.specs.Prelude.{◌≡◌, ℕ, ◌<◌, ◌≤◌, ℤ, pos, neg_ℤ, List, Option, Some, None, length, unsigned_abs}
 use Rattle.mari_market.specs.Area.{area_at}
 use Rattle.mari_prices.specs.declared.spread.SettledZone.{SettledZone}
-use Rattle.mari_prices.specs.Spread.{entry_at, value_in}
+use Rattle.mari_market.specs.Sums.{int_at}
+use Rattle.mari_prices.specs.Spread.{entry_at}
 
 -- each zone's own value is its number, with the sign turned, so that the first zone has the greatest
 abbrev pub ArePlaces : List ℤ → Type 0
-ArePlaces values = (z : ℕ) → z < length values → value_in values z ≡ neg_ℤ (pos z)
+ArePlaces values = (z : ℕ) → z < length values → int_at values z ≡ neg_ℤ (pos z)
 
 -- the zone whose value this is
 abbrev pub first_in : Option SettledZone → ℕ

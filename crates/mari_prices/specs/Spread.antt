@@ -1,10 +1,11 @@
 -- Values that spread from zone to zone: each zone gets the greatest value of the zones that lead to it.
-use Rattle.std.specs.Prelude.{◌≡◌, ◌⊎◌, ◌+◌, ℕ, ◌<◌, ◌≤◌, ℤ, pos, ◌≤ℤ◌, List, [], ◌∷◌, Option, Some, None, length, slice_index_or}
+use Rattle.std.specs.Prelude.{◌≡◌, ◌⊎◌, ◌+◌, ℕ, ◌<◌, ◌≤◌, ℤ, ◌≤ℤ◌, List, [], ◌∷◌, Option, Some, None, length, slice_index_or}
 use Rattle.mari_units.specs.declared.limits.TheConstants.{MOST_ZONES}
 use Rattle.mari_market.specs.declared.market.Border.{Border}
 use Rattle.mari_market.specs.declared.along.Along.{Along}
 use Rattle.mari_prices.specs.declared.spread.SettledZone.{SettledZone}
 use Rattle.mari_market.specs.Along.{LeadsOver, LeadsTo}
+use Rattle.mari_market.specs.Sums.{int_at}
 
 -- what is known of a zone
 abbrev pub entry_at : List (Option SettledZone) → ℕ → Option SettledZone
@@ -19,9 +20,6 @@ abbrev pub free_zones : List (Option SettledZone) → ℕ
 free_zones [] = 0
 free_zones (None ∷ xs) = free_zones xs + 1
 free_zones (Some s ∷ xs) = free_zones xs
-
-abbrev pub value_in : List ℤ → ℕ → ℤ
-value_in values z = slice_index_or values z (pos 0)
 
 -- the zone was settled by its own value
 pub record IsByItself (own : ℕ → ℤ) (z : ℕ) (s : SettledZone) : Type 0 where
@@ -83,7 +81,7 @@ IsNext lead own xs z s = IsLed lead xs z s ⊎ IsStart lead own xs z s
 
 -- each zone's value spreads along the borders
 abbrev pub SpreadsAlong : Along → List Border → List ℤ → List ℤ → List (Option SettledZone) → Type 0
-SpreadsAlong along bs fs values xs = IsSpread (LeadsTo along bs fs) (value_in values) xs
+SpreadsAlong along bs fs values xs = IsSpread (LeadsTo along bs fs) (int_at values) xs
 
 -- the second zone is free and gets what the first, settled one has
 pub record IsPassed (xs : List (Option SettledZone)) (from to : ℕ) (s : SettledZone) : Type 0 where

@@ -4,7 +4,7 @@ use Rattle.mari_market.specs.declared.market.Side.{Side}
 use Rattle.mari_market.specs.declared.market.Order.{Order}
 use Rattle.mari_market.specs.declared.price_rules.Standing.{Standing}
 use Rattle.mari_market.specs.Consistent.{SetsLower, SetsUpper, own_standing}
-use Rattle.mari_market.specs.Price.{cap}
+use Rattle.mari_units.specs.declared.numbers.TheConstants.{CAP}
 use Rattle.mari_market.specs.Sums.{AnyZip}
 use Rattle.mari_prices.specs.declared.bounds.End.{End}
 use Rattle.mari_prices.specs.declared.bounds.End.TheVariants.{Least, Greatest}
@@ -26,7 +26,7 @@ pub record SetsAt (end : End) (z : ℕ) (c : ℤ) (o : Order) (q : ℕ) : Type 0
 
 -- c bounds the zone's price: by the cap, or by an order
 abbrev pub IsBoundBy : End → List Order → List ℕ → ℕ → ℤ → Type 0
-IsBoundBy end os qs z c = (c ≡ neg_ℤ cap) ⊎ AnyZip (SetsAt end z c) os qs
+IsBoundBy end os qs z c = (c ≡ neg_ℤ CAP) ⊎ AnyZip (SetsAt end z c) os qs
 
 -- and no other bound is tighter
 pub record IsTightest (end : End) (os : List Order) (qs : List ℕ) (z : ℕ) (c : ℤ) : Type 0 where

@@ -3,7 +3,7 @@
 ghost use Rattle.std.specs.Prelude.{◌≡◌, ◌<◌, ◌≤◌, ℕ, length, IfOk, IsTrue, ◌↔◌};
 ghost use Rattle.std.specs.List.{All};
 ghost use Rattle.mari_market.specs.Price.{IsPrice};
-ghost use Rattle.mari_prices.specs.Spread.{value_in};
+ghost use Rattle.mari_market.specs.Sums.{int_at};
 ghost use Rattle.mari_prices.specs.Tightest.{IsRaised, IsTightest, SetsAtEnd, signed};
 ghost use Rattle.mari_market.specs.Consistent.{own_standing};
 
@@ -67,7 +67,7 @@ pub(crate) fn tightest(
     requires zones { All (λ o. o.zone < zones) orders.now }
     requires prices { All (λ o. IsPrice o.price.0) orders.now }
     ensures one_each { IfOk result (λ v. length v.items ≡ zones) }
-    ensures tightest { IfOk result (λ v. (z : ℕ) → z < zones → IsTightest end orders.now mw.now z (value_in v.items z)) }
+    ensures tightest { IfOk result (λ v. (z : ℕ) → z < zones → IsTightest end orders.now mw.now z (int_at v.items z)) }
 {
     let mut bounds = vec![in alloc; -CAP; zones as usize]?;
     for (i, order) in orders.iter().enumerate() {

@@ -4,7 +4,8 @@ ghost use Rattle.std.specs.Prelude.{◌≡◌, ◌⊎◌, ◌≤◌, ◌<◌, �
 ghost use Rattle.std.specs.Option.{IfNone};
 ghost use Rattle.std.specs.List.{All};
 ghost use Rattle.mari_market.specs.Along.{LeadsTo};
-ghost use Rattle.mari_prices.specs.Spread.{AreShort, IsGreatestBefore, IsLed, IsLedOver, IsNext, IsNotPassed, IsPassed, NoneFreeBefore, NoneLed, NoneOver, SpreadsAlong, value_in};
+ghost use Rattle.mari_market.specs.Sums.{int_at};
+ghost use Rattle.mari_prices.specs.Spread.{AreShort, IsGreatestBefore, IsLed, IsLedOver, IsNext, IsNotPassed, IsPassed, NoneFreeBefore, NoneLed, NoneOver, SpreadsAlong};
 
 use mari_market::{Along, Border};
 use mari_units::MOST_ZONES;
@@ -111,8 +112,8 @@ fn greater(values: &[i64], best: Option<u32>, zone: u32) -> u32
     requires zone { zone < length values.now }
     requires best { IfSome best (λ z. z < length values.now) }
     ensures one { (result ≡ zone) ⊎ (best ≡ Some result) }
-    ensures zone { value_in values.now zone ≤ℤ value_in values.now result }
-    ensures best { IfSome best (λ z. value_in values.now z ≤ℤ value_in values.now result) }
+    ensures zone { int_at values.now zone ≤ℤ int_at values.now result }
+    ensures best { IfSome best (λ z. int_at values.now z ≤ℤ int_at values.now result) }
 {
     match best {
         Some(best) if values[best as usize] >= values[zone as usize] => best,
@@ -124,7 +125,7 @@ fn greater(values: &[i64], best: Option<u32>, zone: u32) -> u32
 fn greatest_free(settled: &[Option<SettledZone>], values: &[i64]) -> Option<u32>
     requires lengths { length values.now ≡ length settled.now }
     requires few { length settled.now ≤ MOST_ZONES }
-    ensures { MatchOption result (NoneFreeBefore (length settled.now) settled.now) (IsGreatestBefore (length settled.now) (value_in values.now) settled.now) }
+    ensures { MatchOption result (NoneFreeBefore (length settled.now) settled.now) (IsGreatestBefore (length settled.now) (int_at values.now) settled.now) }
 {
     let mut best = None;
     for (zone, entry) in settled.iter().enumerate() {
@@ -154,7 +155,7 @@ fn next(
 
     // That all are settled, or which is next.
     ensures none { IfNone result (NoneFreeBefore (length settled.now) settled.now) }
-    ensures some { IfSome result (λ p. IsNext (LeadsTo along borders.now flow.now) (value_in values.now) settled.now p.0 p.1) }
+    ensures some { IfSome result (λ p. IsNext (LeadsTo along borders.now flow.now) (int_at values.now) settled.now p.0 p.1) }
 {
     if let Some(next) = next_led(settled, borders, flow, along) {
         return Some(next);

@@ -21,7 +21,7 @@ use Rattle.mari_market.proofs.Search.{parents_earlier}
 use Rattle.mari_market.proofs.Sums.{AllZip-both, AllZip-with}
 use Rattle.mari_gates.proofs.Decisions.{opens-decisions}
 use Rattle.mari_gates.proofs.GateTable.{state_decided}
-use Rattle.mari_proofs.specs.Conflicts.{decides, IsOfWord, IsGreatestLower, IsLeastUpper, AreTightPotentials}
+use Rattle.mari_proofs.specs.Conflicts.{opens_gate, IsOfWord, IsGreatestLower, IsLeastUpper, AreTightPotentials}
 use Rattle.mari_proofs.proofs.GateWords.{opens_as_decided, open_at, length_of_word}
 
 -- the test of a chain
@@ -36,12 +36,12 @@ bounds_test m a first last upper lower answer u l t = (
 )
 
 -- the test of the two bounds
-pub contradiction_test : (m : Market) (x : Prefix) (a : Activation) (os : List Order) (qs : List ℕ) (first last : ℕ) (upper lower : ℤ) (answer : Bool) → IsValid m → IsOfWord m x a → os ≡ m.orders → qs ≡ a.mw → IsLeastUpper (decides x) last os qs upper → IsGreatestLower (decides x) first os qs lower → (IsTrue answer ↔ (upper <ℤ lower)) → IsTrue answer ↔ Contradicts m a first last
+pub contradiction_test : (m : Market) (x : Prefix) (a : Activation) (os : List Order) (qs : List ℕ) (first last : ℕ) (upper lower : ℤ) (answer : Bool) → IsValid m → IsOfWord m x a → os ≡ m.orders → qs ≡ a.mw → IsLeastUpper (opens_gate x) last os qs upper → IsGreatestLower (opens_gate x) first os qs lower → (IsTrue answer ↔ (upper <ℤ lower)) → IsTrue answer ↔ Contradicts m a first last
 contradiction_test m x a os qs first last upper lower answer v w same_os same_qs u l t =
-    let opens : decides x ≡ is_open m a = sym (opens_as_decided m x a v w.gates) in
+    let opens : opens_gate x ≡ is_open m a = sym (opens_as_decided m x a v w.gates) in
     bounds_test m a first last upper lower answer
-    (subst (λ (f : ℕ → Bool). IsLeastUpper f last m.orders a.mw upper) opens (subst (λ (ys : List ℕ). IsLeastUpper (decides x) last m.orders ys upper) same_qs (subst (λ (xs : List Order). IsLeastUpper (decides x) last xs qs upper) same_os u)))
-    (subst (λ (f : ℕ → Bool). IsGreatestLower f first m.orders a.mw lower) opens (subst (λ (ys : List ℕ). IsGreatestLower (decides x) first m.orders ys lower) same_qs (subst (λ (xs : List Order). IsGreatestLower (decides x) first xs qs lower) same_os l)))
+    (subst (λ (f : ℕ → Bool). IsLeastUpper f last m.orders a.mw upper) opens (subst (λ (ys : List ℕ). IsLeastUpper (opens_gate x) last m.orders ys upper) same_qs (subst (λ (xs : List Order). IsLeastUpper (opens_gate x) last xs qs upper) same_os u)))
+    (subst (λ (f : ℕ → Bool). IsGreatestLower f first m.orders a.mw lower) opens (subst (λ (ys : List ℕ). IsGreatestLower (opens_gate x) first m.orders ys lower) same_qs (subst (λ (xs : List Order). IsGreatestLower (opens_gate x) first xs qs lower) same_os l)))
     t
 
 -- an order's bounds at a word that decides every gate are those of each feasible activation of that word
@@ -83,6 +83,6 @@ pub conflict_test : (m : Market) (x : Prefix) (k : ConflictRecord) (ps : List Ce
 conflict_test m x k ps zs answer same_ps same_zs w p t =
     let own : IsTrue answer ↔ IsContradictoryChain m k.activation k.chain = subst (λ (ys : List ℕ). IsTrue answer ↔ IsContradictoryChain m k.activation ys) same_zs t in
     let tight : AreTightPotentials m k.activation k.potentials.cents = subst (λ (qs : List Cents). AreTightPotentials m k.activation qs) same_ps p in (
-      λ yes. let r = own.0 yes in record { gates = w.gates; feasible = w.feasible; prices = tight.prices; tight = tight.tight; short = r.short; zones = r.zones; chain = r.chain },
-      λ c. own.1 (record { short = c.short; zones = c.zones; chain = c.chain }),
+      λ yes. record { gates = w.gates; feasible = w.feasible; prices = tight.prices; tight = tight.tight; chain = own.0 yes },
+      λ c. own.1 c.chain,
     )

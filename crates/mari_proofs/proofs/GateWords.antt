@@ -21,7 +21,7 @@ use Rattle.mari_market.proofs.Sums.{AllZip-both, AllZip-with, AllZip-at}
 use Rattle.mari_gates.proofs.Decisions.{opens-decisions}
 use Rattle.mari_gates.proofs.GateWords.{same_map}
 use Rattle.mari_welfare.proofs.Open.{runs_here}
-use Rattle.mari_proofs.specs.Conflicts.{decides, RunsAsDecided, HasDecidedGate}
+use Rattle.mari_proofs.specs.Conflicts.{opens_gate, RunsAsDecided, HasDecidedGate}
 use Rattle.mari_market.proofs.Conflicts.{none_past}
 use Rattle.std.specs.Cmp.Derive.{both_true}
 use Rattle.std.proofs.lemmas.Slice.Zip.{AllZip-long}
@@ -66,24 +66,24 @@ same_tests false true f g = g refl
 same_tests false false f g = refl
 
 -- where each order runs exactly where its gate is decided open, the gate word is the prefix's
-pub word_where_run : (m : Market) (x : Prefix) (a : Activation) → IsValid m → x.length ≡ length m.gates → AllZip (λ (o : Order) q. RunsAsDecided (decides x) o.gate q) m.orders a.mw → gate_word_of m a ≡ word_of x
+pub word_where_run : (m : Market) (x : Prefix) (a : Activation) → IsValid m → x.length ≡ length m.gates → AllZip (λ (o : Order) q. RunsAsDecided (opens_gate x) o.gate q) m.orders a.mw → gate_word_of m a ≡ word_of x
 word_where_run m x a v full run =
     same_map (is_open m a) (bit_of x) (length m.gates) each ∙ ap (λ n. map (bit_of x) (range_with_len 0 n)) (sym full)
   where
     each : (g : ℕ) → g < length m.gates → is_open m a g ≡ bit_of x g
     each g h = same_tests (is_open m a g) (bit_of x g)
-        (λ e. sym (opens-decisions x x.length g (omega arith)) ∙ runs_open (decides x) g m.orders a.mw run e)
-        (λ e. open_runs (decides x) g m.orders a.mw (AllZip-long (λ (o : Order) q. RunsAsDecided (decides x) o.gate q) m.orders a.mw run) (v.gates g h).used run (opens-decisions x x.length g (omega arith) ∙ e))
+        (λ e. sym (opens-decisions x x.length g (omega arith)) ∙ runs_open (opens_gate x) g m.orders a.mw run e)
+        (λ e. open_runs (opens_gate x) g m.orders a.mw (AllZip-long (λ (o : Order) q. RunsAsDecided (opens_gate x) o.gate q) m.orders a.mw run) (v.gates g h).used run (opens-decisions x x.length g (omega arith) ∙ e))
 
 -- the gates of an activation of that word are open as the prefix decides
-pub open_at : (m : Market) (x : Prefix) (a : Activation) (g : ℕ) → g < length m.gates → gate_word_of m a ≡ word_of x → is_open m a g ≡ decides x g
+pub open_at : (m : Market) (x : Prefix) (a : Activation) (g : ℕ) → g < length m.gates → gate_word_of m a ≡ word_of x → is_open m a g ≡ opens_gate x g
 open_at m x a g h e =
     sym (get_or-map-range_with_len (is_open m a) 0 (length m.gates) g g false h (omega arith)) ∙ ap (λ (w : List Bool). opens_in w g) e
 
 pub length_of_word : (m : Market) (x : Prefix) (a : Activation) → gate_word_of m a ≡ word_of x → x.length ≡ length m.gates
 length_of_word m x a e = sym (length-map-range_with_len (bit_of x) 0 x.length) ∙ sym (ap length e) ∙ length-map-range_with_len (is_open m a) 0 (length m.gates)
 
-pub opens_as_decided : (m : Market) (x : Prefix) (a : Activation) → IsValid m → gate_word_of m a ≡ word_of x → is_open m a ≡ decides x
+pub opens_as_decided : (m : Market) (x : Prefix) (a : Activation) → IsValid m → gate_word_of m a ≡ word_of x → is_open m a ≡ opens_gate x
 opens_as_decided m x a v e = fun_ext (λ g. elim (cases_lt g (length m.gates)) [
   | inl l ↦ open_at m x a g l e
   | inr l ↦ none_past m.zones (length m.gates) g m.orders a.mw v.orders l ∙ sym (get_or_past (word_of x) g false (omega (arith, length_of_word m x a e, length-map-range_with_len (bit_of x) 0 x.length)))
@@ -98,7 +98,7 @@ runs_within opens n None o q f w = tt
 runs_within opens n (Some g) o q f w = within_test (opens g) o q f.1 w
 
 -- a feasible activation of the prefix's word runs as the prefix decides
-pub run_where_word : (m : Market) (x : Prefix) (a : Activation) → IsValid m → IsFeasible m a → gate_word_of m a ≡ word_of x → AllZip (λ (o : Order) q. RunsAsDecided (decides x) o.gate q) m.orders a.mw
+pub run_where_word : (m : Market) (x : Prefix) (a : Activation) → IsValid m → IsFeasible m a → gate_word_of m a ≡ word_of x → AllZip (λ (o : Order) q. RunsAsDecided (opens_gate x) o.gate q) m.orders a.mw
 run_where_word m x a v f e =
     let both = AllZip-with (IsValidOrder m.zones (length m.gates)) (λ o q. IsWithin (own_bounds m a o) q) m.orders a.mw v.orders f.orders in
     subst (λ (opens : ℕ → Bool). AllZip (λ (o : Order) q. RunsAsDecided opens o.gate q) m.orders a.mw) (opens_as_decided m x a v e)
@@ -115,14 +115,14 @@ pub lengths_read : {X Y : Type 0} (P : X → Y → Type 0) (xs os : List X) (ys 
 lengths_read P xs os ys qs a e f = ap length f ∙ AllZip-long P xs ys a ∙ sym (ap length e)
 
 -- the test of the gate word
-pub word_test : (m : Market) (x : Prefix) (a : Activation) (os : List Order) (qs : List ℕ) (answer : Bool) → IsValid m → IsFeasible m a → x.length ≡ length m.gates → os ≡ m.orders → qs ≡ a.mw → (IsTrue answer ↔ AllZip (λ (o : Order) q. RunsAsDecided (decides x) o.gate q) os qs) → IsTrue answer ↔ (gate_word_of m a ≡ word_of x)
+pub word_test : (m : Market) (x : Prefix) (a : Activation) (os : List Order) (qs : List ℕ) (answer : Bool) → IsValid m → IsFeasible m a → x.length ≡ length m.gates → os ≡ m.orders → qs ≡ a.mw → (IsTrue answer ↔ AllZip (λ (o : Order) q. RunsAsDecided (opens_gate x) o.gate q) os qs) → IsTrue answer ↔ (gate_word_of m a ≡ word_of x)
 word_test m x a os qs answer v f full same_os same_qs t = (
   λ yes. word_where_run m x a v full (there (t.0 yes)),
   λ e. t.1 (here (run_where_word m x a v f e)),
 )
   where
-    there : AllZip (λ (o : Order) q. RunsAsDecided (decides x) o.gate q) os qs → AllZip (λ (o : Order) q. RunsAsDecided (decides x) o.gate q) m.orders a.mw
-    there g = subst (λ (ys : List ℕ). AllZip (λ (o : Order) q. RunsAsDecided (decides x) o.gate q) m.orders ys) same_qs (subst (λ (xs : List Order). AllZip (λ (o : Order) q. RunsAsDecided (decides x) o.gate q) xs qs) same_os g)
+    there : AllZip (λ (o : Order) q. RunsAsDecided (opens_gate x) o.gate q) os qs → AllZip (λ (o : Order) q. RunsAsDecided (opens_gate x) o.gate q) m.orders a.mw
+    there g = subst (λ (ys : List ℕ). AllZip (λ (o : Order) q. RunsAsDecided (opens_gate x) o.gate q) m.orders ys) same_qs (subst (λ (xs : List Order). AllZip (λ (o : Order) q. RunsAsDecided (opens_gate x) o.gate q) xs qs) same_os g)
 
-    here : AllZip (λ (o : Order) q. RunsAsDecided (decides x) o.gate q) m.orders a.mw → AllZip (λ (o : Order) q. RunsAsDecided (decides x) o.gate q) os qs
-    here g = subst (λ (ys : List ℕ). AllZip (λ (o : Order) q. RunsAsDecided (decides x) o.gate q) os ys) (sym same_qs) (subst (λ (xs : List Order). AllZip (λ (o : Order) q. RunsAsDecided (decides x) o.gate q) xs a.mw) (sym same_os) g)
+    here : AllZip (λ (o : Order) q. RunsAsDecided (opens_gate x) o.gate q) m.orders a.mw → AllZip (λ (o : Order) q. RunsAsDecided (opens_gate x) o.gate q) os qs
+    here g = subst (λ (ys : List ℕ). AllZip (λ (o : Order) q. RunsAsDecided (opens_gate x) o.gate q) os ys) (sym same_qs) (subst (λ (xs : List Order). AllZip (λ (o : Order) q. RunsAsDecided (opens_gate x) o.gate q) xs a.mw) (sym same_os) g)

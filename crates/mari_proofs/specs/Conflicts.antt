@@ -14,8 +14,8 @@ use Rattle.mari_market.specs.Prefix.{word_of, opens_in}
 use Rattle.mari_market.specs.Price.{ArePrices}
 
 -- whether the prefix decides the gate as open
-abbrev pub decides : Prefix → ℕ → Bool
-decides x g = opens_in (word_of x) g
+abbrev pub opens_gate : Prefix → ℕ → Bool
+opens_gate x g = opens_in (word_of x) g
 
 -- the order's gate, if it has one, is one of the first n
 abbrev pub HasDecidedGate : ℕ → Order → Type 0

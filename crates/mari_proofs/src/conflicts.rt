@@ -2,15 +2,15 @@
 
 ghost use Rattle.std.specs.Prelude.{◌≡◌, ◌⊎◌, ◌↔◌, ℤ, ◌≤ℤ◌, ◌<ℤ◌, ◌≤◌, ◌<◌, length, IsTrue};
 ghost use Rattle.std.specs.List.{All, AllZip};
+ghost use Rattle.mari_market.specs.declared.along.Along.TheVariants.{Rising};
 ghost use Rattle.mari_market.specs.Activation.{gate_word_of};
 ghost use Rattle.mari_market.specs.Conflict.{IsConflict, IsContradiction, IsChain, Contradicts, last_of, IsContradictoryChain, IsChainOf};
-ghost use Rattle.mari_market.specs.Along.{LeadsBy};
+ghost use Rattle.mari_market.specs.Along.{LeadsTo};
 ghost use Rattle.mari_market.specs.Consistent.{SetsLowerAt, SetsUpperAt, standing_of};
 ghost use Rattle.mari_market.specs.Market.{IsValid, IsValidOrder};
 ghost use Rattle.mari_market.specs.Optimal.{IsFeasible};
 ghost use Rattle.mari_market.specs.Prefix.{word_of, IsFeasiblePrefix};
-ghost use Rattle.mari_market.specs.Sums.{AnyZip};
-ghost use Rattle.mari_proofs.specs.Conflicts.{decides, HasDecidedGate, RunsAsDecided, IsOfWord, AreTightPotentials, IsGreatestLower, IsLeastUpper};
+ghost use Rattle.mari_proofs.specs.Conflicts.{opens_gate, HasDecidedGate, RunsAsDecided, IsOfWord, AreTightPotentials, IsGreatestLower, IsLeastUpper};
 
 use crate::tightness::is_tight;
 use mari_gates::{opens, states_at};
@@ -22,7 +22,7 @@ use mari_welfare::is_feasible;
 fn is_open(prefix: &Prefix, gate: u32) -> bool
     requires gate { gate < prefix.now.length }
     requires few { prefix.now.length ≤ MOST_GATES }
-    ensures { result ≡ decides prefix.now gate }
+    ensures { result ≡ opens_gate prefix.now gate }
 {
     opens(prefix, gate)
 }
@@ -31,7 +31,7 @@ fn is_open(prefix: &Prefix, gate: u32) -> bool
 fn runs_as_decided(prefix: &Prefix, order: &Order, mw: u32) -> bool
     requires gate { HasDecidedGate prefix.now.length order.now }
     requires few { prefix.now.length ≤ MOST_GATES }
-    ensures { IsTrue result ↔ RunsAsDecided (decides prefix.now) order.now.gate mw }
+    ensures { IsTrue result ↔ RunsAsDecided (opens_gate prefix.now) order.now.gate mw }
 {
     match order.gate {
         None => true,
@@ -44,7 +44,7 @@ fn run_as_decided(prefix: &Prefix, orders: &[Order], mw: &[u32]) -> bool
     requires lengths { length mw.now ≡ length orders.now }
     requires orders { All (HasDecidedGate prefix.now.length) orders.now }
     requires few { prefix.now.length ≤ MOST_GATES }
-    ensures { IsTrue result ↔ AllZip (λ o q. RunsAsDecided (decides prefix.now) o.gate q) orders.now mw.now }
+    ensures { IsTrue result ↔ AllZip (λ o q. RunsAsDecided (opens_gate prefix.now) o.gate q) orders.now mw.now }
 {
     for (i, order) in orders.iter().enumerate() {
         if !runs_as_decided(prefix, order, mw[i]) {
@@ -58,7 +58,7 @@ fn run_as_decided(prefix: &Prefix, orders: &[Order], mw: &[u32]) -> bool
 fn standing_at(prefix: &Prefix, order: &Order) -> Standing
     requires gate { HasDecidedGate prefix.now.length order.now }
     requires few { prefix.now.length ≤ MOST_GATES }
-    ensures { result ≡ standing_of (decides prefix.now) order.now.gate }
+    ensures { result ≡ standing_of (opens_gate prefix.now) order.now.gate }
 {
     match order.gate {
         None => Standing::Plain,
@@ -70,7 +70,7 @@ fn standing_at(prefix: &Prefix, order: &Order) -> Standing
 /// Whether some border makes the price of the second zone at least that of the first.
 fn leads(borders: &[Border], flow: &[i64], first: u32, second: u32) -> bool
     requires { length flow.now ≡ length borders.now }
-    ensures { IsTrue result ↔ AnyZip (LeadsBy first second) borders.now flow.now }
+    ensures { IsTrue result ↔ LeadsTo Rising borders.now flow.now first second }
 {
     for (i, border) in borders.iter().enumerate() {
         if border.leads(flow[i], first, second) {
@@ -111,8 +111,8 @@ fn raised(prefix: &Prefix, order: &Order, mw: u32, zone: u32, bound: i64) -> i64
     requires gate { HasDecidedGate prefix.now.length order.now }
     requires few { prefix.now.length ≤ MOST_GATES }
     ensures least { bound ≤ℤ result }
-    ensures above { (c : ℤ) → SetsLowerAt (decides prefix.now) zone c order.now mw → c ≤ℤ result }
-    ensures reached { (result ≡ bound) ⊎ SetsLowerAt (decides prefix.now) zone result order.now mw }
+    ensures above { (c : ℤ) → SetsLowerAt (opens_gate prefix.now) zone c order.now mw → c ≤ℤ result }
+    ensures reached { (result ≡ bound) ⊎ SetsLowerAt (opens_gate prefix.now) zone result order.now mw }
 {
     let standing = standing_at(prefix, order);
     if order.zone == zone && bound < order.price.0 && order.sets_lower(standing, mw) {
@@ -127,8 +127,8 @@ fn lowered(prefix: &Prefix, order: &Order, mw: u32, zone: u32, bound: i64) -> i6
     requires gate { HasDecidedGate prefix.now.length order.now }
     requires few { prefix.now.length ≤ MOST_GATES }
     ensures greatest { result ≤ℤ bound }
-    ensures below { (c : ℤ) → SetsUpperAt (decides prefix.now) zone c order.now mw → result ≤ℤ c }
-    ensures reached { (result ≡ bound) ⊎ SetsUpperAt (decides prefix.now) zone result order.now mw }
+    ensures below { (c : ℤ) → SetsUpperAt (opens_gate prefix.now) zone c order.now mw → result ≤ℤ c }
+    ensures reached { (result ≡ bound) ⊎ SetsUpperAt (opens_gate prefix.now) zone result order.now mw }
 {
     let standing = standing_at(prefix, order);
     if order.zone == zone && order.price.0 < bound && order.sets_upper(standing, mw) {
@@ -143,7 +143,7 @@ fn greatest_lower(prefix: &Prefix, orders: &[Order], mw: &[u32], zone: u32) -> i
     requires lengths { length mw.now ≡ length orders.now }
     requires orders { All (HasDecidedGate prefix.now.length) orders.now }
     requires few { prefix.now.length ≤ MOST_GATES }
-    ensures { IsGreatestLower (decides prefix.now) zone orders.now mw.now result }
+    ensures { IsGreatestLower (opens_gate prefix.now) zone orders.now mw.now result }
 {
     let mut bound = -CAP;
     for (i, order) in orders.iter().enumerate() {
@@ -157,7 +157,7 @@ fn least_upper(prefix: &Prefix, orders: &[Order], mw: &[u32], zone: u32) -> i64
     requires lengths { length mw.now ≡ length orders.now }
     requires orders { All (HasDecidedGate prefix.now.length) orders.now }
     requires few { prefix.now.length ≤ MOST_GATES }
-    ensures { IsLeastUpper (decides prefix.now) zone orders.now mw.now result }
+    ensures { IsLeastUpper (opens_gate prefix.now) zone orders.now mw.now result }
 {
     let mut bound = CAP;
     for (i, order) in orders.iter().enumerate() {
@@ -268,7 +268,12 @@ fn are_zones(chain: &[u32], count: u32) -> bool
 }
 
 /// Whether a chain has no more zones than there are, all of them there, and its prices contradict each other.
-fn is_refutation(market: &Market, prefix: &Prefix, activation: &Activation, chain: &[u32]) -> bool
+fn is_contradictory_chain(
+    market: &Market,
+    prefix: &Prefix,
+    activation: &Activation,
+    chain: &[u32],
+) -> bool
     requires market { IsValid market.now }
     requires activation { IsOfWord market.now prefix.now activation.now }
     ensures { IsTrue result ↔ IsContradictoryChain market.now activation.now chain.now }
@@ -292,5 +297,5 @@ pub(crate) fn is_conflict(market: &Market, prefix: &Prefix, conflict: &Conflict)
     if !has_tight_potentials(market, prefix, activation, potentials) {
         return false;
     }
-    is_refutation(market, prefix, activation, conflict.chain.as_slice())
+    is_contradictory_chain(market, prefix, activation, conflict.chain.as_slice())
 }

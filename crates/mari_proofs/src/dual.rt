@@ -6,7 +6,7 @@ ghost use Rattle.std.specs.List.{All};
 ghost use Rattle.mari_market.specs.declared.activation.Activation.{Activation};
 ghost use Rattle.mari_market.specs.Activation.{welfare_of};
 ghost use Rattle.mari_market.specs.Bounds.{span_in};
-ghost use Rattle.mari_market.specs.Dual.{gap_of, dual_value_of, IsTight, best_trade, best_border, best_order};
+ghost use Rattle.mari_market.specs.Dual.{gain_per_mw, dual_value_of, IsTight, best_trade, best_border, best_order};
 ghost use Rattle.mari_market.specs.Market.{IsValid, IsValidOrder, IsValidBorder};
 ghost use Rattle.mari_market.specs.Prefix.{bounds_at, IsFeasiblePrefix};
 ghost use Rattle.mari_market.specs.Price.{IsCapped, IsPrice, ArePrices, price_at};
@@ -34,7 +34,7 @@ fn amount(gap: i64, mw: u32) -> i128
 fn gap(order: &Order, potential: Cents) -> i64
     requires order { IsPrice order.now.price.0 }
     requires potential { IsPrice potential.0 }
-    ensures gap { result ≡ gap_of order.now.side order.now.price.0 potential.0 }
+    ensures gap { result ≡ gain_per_mw order.now.side order.now.price.0 potential.0 }
     ensures low { neg_ℤ (pos 20000000) ≤ℤ result }
     ensures high { result ≤ℤ pos 20000000 }
 {

@@ -7,8 +7,7 @@ use Rattle.std.specs.List.{All}
 use Rattle.mari_market.specs.declared.market.Order.{Order}
 use Rattle.mari_market.specs.declared.market.Market.{Market}
 use Rattle.mari_market.specs.Market.{IsValid, IsValidOrder}
-use Rattle.mari_market.specs.Activation.{runs_gate}
-use Rattle.mari_market.specs.GateRuns.{is_run_of}
+use Rattle.mari_market.specs.Activation.{is_run_of, runs_gate}
 use Rattle.mari_welfare.specs.Gates.{IsOfFewGates}
 
 -- a list of one value reads as that value everywhere, where that is what it reads as past its end

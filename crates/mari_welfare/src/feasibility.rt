@@ -6,9 +6,8 @@ ghost use Rattle.mari_market.specs.Activation.{HasLengths, IsWithinLimits, carri
 ghost use Rattle.mari_market.specs.Bounds.{IsWithin, bounds_by};
 ghost use Rattle.mari_market.specs.Market.{IsValid};
 ghost use Rattle.mari_market.specs.Optimal.{IsFeasible};
-ghost use Rattle.mari_market.specs.Sums.{sum_along};
+ghost use Rattle.mari_market.specs.Sums.{sum_along, int_at};
 ghost use Rattle.mari_market.specs.Prefix.{opens_in};
-ghost use Rattle.mari_welfare.specs.Balance.{left_in};
 ghost use Rattle.mari_welfare.specs.Parts.{OrdersAndGatesFit, BordersAndZonesFit};
 
 use crate::gates::{OpenGates, keep_gate_rules};
@@ -62,9 +61,9 @@ fn flows_fit(borders: &[Border], flow: &[i64]) -> bool
 /// Adds to what is left over in a zone.
 fn add_to(left: &mut [i128; MOST_ZONES], zone: u32, mw: i128)
     requires zone { zone < MOST_ZONES }
-    requires so_far { unsigned_abs (left_in left.old zone) ≤ 2 ^ 80 }
+    requires so_far { unsigned_abs (int_at left.old zone) ≤ 2 ^ 80 }
     requires mw { unsigned_abs mw ≤ 2 ^ 64 }
-    ensures { (z : ℕ) → left_in left.new z ≡ left_in left.old z +ℤ (if zone == z then mw else pos 0) }
+    ensures { (z : ℕ) → int_at left.new z ≡ int_at left.old z +ℤ (if zone == z then mw else pos 0) }
 {
     left[zone as usize] += mw;
 }
@@ -85,8 +84,8 @@ fn net_injections(orders: &[Order], mw: &[u32]) -> [i128; MOST_ZONES]
     requires few { length orders.now ≤ MOST_ORDERS }
     requires lengths { length mw.now ≡ length orders.now }
     requires zones { All (λ o. o.zone < MOST_ZONES) orders.now }
-    ensures value { (z : ℕ) → left_in result z ≡ sum_along (put_into z) orders.now mw.now }
-    ensures small { (z : ℕ) → unsigned_abs (left_in result z) ≤ 2 ^ 48 }
+    ensures value { (z : ℕ) → int_at result z ≡ sum_along (put_into z) orders.now mw.now }
+    ensures small { (z : ℕ) → unsigned_abs (int_at result z) ≤ 2 ^ 48 }
 {
     let mut left = [0; MOST_ZONES];
     for (i, order) in orders.iter().enumerate() {
@@ -99,9 +98,9 @@ fn net_injections(orders: &[Order], mw: &[u32]) -> [i128; MOST_ZONES]
 fn carry(left: &mut [i128; MOST_ZONES], border: &Border, flow: i64)
     requires from { border.now.from < MOST_ZONES }
     requires to { border.now.to < MOST_ZONES }
-    requires so_far { (z : ℕ) → unsigned_abs (left_in left.old z) ≤ 2 ^ 79 }
-    ensures carried { (z : ℕ) → left_in left.new z ≡ left_in left.old z -ℤ carried_out z border.now flow }
-    ensures small { (z : ℕ) → unsigned_abs (left_in left.new z) ≤ unsigned_abs (left_in left.old z) + 2 ^ 65 }
+    requires so_far { (z : ℕ) → unsigned_abs (int_at left.old z) ≤ 2 ^ 79 }
+    ensures carried { (z : ℕ) → int_at left.new z ≡ int_at left.old z -ℤ carried_out z border.now flow }
+    ensures small { (z : ℕ) → unsigned_abs (int_at left.new z) ≤ unsigned_abs (int_at left.old z) + 2 ^ 65 }
 {
     add_to(left, border.from, -i128::from(flow));
     add_to(left, border.to, i128::from(flow));
@@ -112,8 +111,8 @@ fn take_outflows(left: &mut [i128; MOST_ZONES], borders: &[Border], flow: &[i64]
     requires few { length borders.now ≤ MOST_BORDERS }
     requires lengths { length flow.now ≡ length borders.now }
     requires ends { All (λ b. (b.from < MOST_ZONES) × (b.to < MOST_ZONES)) borders.now }
-    requires small { (z : ℕ) → unsigned_abs (left_in left.old z) ≤ 2 ^ 48 }
-    ensures { (z : ℕ) → left_in left.new z ≡ left_in left.old z -ℤ sum_along (carried_out z) borders.now flow.now }
+    requires small { (z : ℕ) → unsigned_abs (int_at left.old z) ≤ 2 ^ 48 }
+    ensures { (z : ℕ) → int_at left.new z ≡ int_at left.old z -ℤ sum_along (carried_out z) borders.now flow.now }
 {
     for (i, border) in borders.iter().enumerate() {
         carry(left, border, flow[i]);
@@ -123,7 +122,7 @@ fn take_outflows(left: &mut [i128; MOST_ZONES], borders: &[Border], flow: &[i64]
 /// Whether nothing is left over in the first zones.
 fn is_nothing_left(left: &[i128; MOST_ZONES], zones: u32) -> bool
     requires { zones ≤ MOST_ZONES }
-    ensures { IsTrue result ↔ ((z : ℕ) → z < zones → left_in left.now z ≡ pos 0) }
+    ensures { IsTrue result ↔ ((z : ℕ) → z < zones → int_at left.now z ≡ pos 0) }
 {
     for zone in 0..zones {
         if left[zone as usize] != 0 {

@@ -2,8 +2,7 @@
 
 ghost use Rattle.std.specs.Prelude.{◌≡◌, ◌||◌, ◌<◌, ◌≤◌, ℕ, false, length, IsTrue, IfSome, ◌↔◌};
 ghost use Rattle.std.specs.List.{All};
-ghost use Rattle.mari_market.specs.Activation.{runs_gate};
-ghost use Rattle.mari_market.specs.GateRuns.{is_run_of};
+ghost use Rattle.mari_market.specs.Activation.{is_run_of, runs_gate};
 ghost use Rattle.mari_market.specs.Gates.{KeepsGateRules, group_of as group_of_gate, parent_of as parent_of_gate};
 ghost use Rattle.mari_welfare.specs.Gates.{HasOpenParent, IsAlone, IsAloneIn, IsRival, IsOfFewGates, KeepsRulesAt};
 ghost use Rattle.mari_market.specs.Prefix.{opens_in};

@@ -1,5 +1,5 @@
 use Rattle.std.proofs.Common.{◌≡◌, ◌-◌, ◌+◌, arith, below_more, refl, subst}
-use Rattle.mari_check.specs.Areas.{HasBefore}
+use Rattle.mari_market.specs.Area.{HasBefore}
 use Rattle.mari_check.proofs.areas.is_numbered.Goals as goal
 
 pub loop-below-preserved : goal.loop-below-preserved

@@ -1,5 +1,5 @@
 use Rattle.std.proofs.Common.{ℕ, ◌+◌, ◌<◌}
-use Rattle.mari_check.specs.Areas.{HasBefore}
+use Rattle.mari_market.specs.Area.{HasBefore}
 use Rattle.mari_check.proofs.areas.is_numbered.Given as goal
 
 abbrev pub invariant-loop-below : goal.invariant-loop-below

@@ -1,6 +1,7 @@
 use Rattle.std.proofs.Common.{List, length, take, to_z-of_z, ap, rules, FitsSigned, w64, arith}
 use Rattle.mari_market.specs.declared.market.Order.{Order}
-use Rattle.mari_network.specs.Slots.{amount_at, IsWithinSlot}
+use Rattle.mari_market.specs.Sums.{int_at}
+use Rattle.mari_network.specs.Slots.{IsWithinSlot}
 use Rattle.mari_network.proofs.Lists.{zip_take}
 use Rattle.mari_network.proofs.Settles.{zip_can, answer_optimum, answer_cut}
 use Rattle.mari_network.proofs.optimum.answer.Goals as goal
@@ -21,7 +22,7 @@ returns-in_ok-solved_from-in-None c = λ spans more e.
 pub returns-in_ok-cut-in-Some : goal.returns-in_ok-cut-in-Some
 returns-in_ok-cut-in-Some c = λ spans more e.
     let n = ap (λ (os : List Order). length os) c.as_slice.ensures in
-    let fits : FitsSigned w64 (amount_at c.args.amounts.now c.in-Some.short) = search rules in
+    let fits : FitsSigned w64 (int_at c.args.amounts.now c.in-Some.short) = search rules in
     answer_cut spans c.args.market.now more c.args.network.now c.args.amounts.now c.args.flows.now c.args.prices.now c.side_of.result c.in_ok-cut-in-Some.cut c.in-Some.short e c.requires.market c.requires.network c.requires.same c.requires.runs c.requires.tight
     c.in_ok-cut-in-Some.ensures.side
     c.in_ok-cut-in-Some.ensures.rising c.in_ok-cut-in-Some.ensures.inside

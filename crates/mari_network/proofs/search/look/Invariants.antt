@@ -1,6 +1,6 @@
 use Rattle.std.proofs.Common.{◌≡◌, ℕ, ◌<◌, ◌≤◌, Bool, List, length, take}
 use Rattle.std.specs.List.{All}
-use Rattle.mari_network.specs.Slots.{amount_at}
+use Rattle.mari_market.specs.Sums.{int_at}
 use Rattle.mari_network.specs.Network.{border_at}
 use Rattle.mari_network.specs.Chain.{hop_at}
 use Rattle.mari_network.specs.Spread.{IsSpread, MarkedInto, Keeps}
@@ -12,5 +12,5 @@ invariant-loop-border l = record {
   keeps : Keeps l.fn.marked l.marked;
   stay : (k : ℕ) → k < length l.fn.hops.items → hop_at l.hops.items k ≡ hop_at l.fn.hops.items k;
   more : length l.fn.hops.items ≤ length l.hops.items;
-  into : All (λ i. MarkedInto l.marked (hop_at l.fn.hops.items l.at).zone (border_at l.network.borders.now i) (amount_at l.flows i)) (take l.border-index l.places);
+  into : All (λ i. MarkedInto l.marked (hop_at l.fn.hops.items l.at).zone (border_at l.network.borders.now i) (int_at l.flows i)) (take l.border-index l.places);
 }

@@ -1,6 +1,6 @@
 use Rattle.std.proofs.Common.{length, ◌<ℤ◌}
 use Rattle.mari_market.specs.Sums.{sum_along}
-use Rattle.mari_network.specs.Slots.{worth}
+use Rattle.mari_network.specs.Slots.{slot_gain}
 use Rattle.mari_network.specs.Margins.{AreMargins}
 use Rattle.mari_network.specs.Network.{Runs}
 use Rattle.mari_paths.specs.Drains.{AreHops}
@@ -12,7 +12,7 @@ invariant-loop-amounts l = record {
   runs : Runs l.network l.amounts l.flows;
   margins : AreMargins l.network.slots.now l.amounts (length l.network.meeting.items) (length l.network.slots.now) l.margins;
   hops : AreHops (length l.network.meeting.items) l.network.borders.now l.chain.hops.items;
-  rises : sum_along worth l.network.slots.now l.fn.amounts <ℤ sum_along worth l.network.slots.now l.amounts;
+  rises : sum_along slot_gain l.network.slots.now l.fn.amounts <ℤ sum_along slot_gain l.network.slots.now l.amounts;
 }
 
 abbrev pub decreases-loop-amounts : goal.decreases-loop-amounts

@@ -7,7 +7,7 @@ use Rattle.mari_market.specs.declared.along.Along.TheVariants.{Rising}
 use Rattle.mari_prices.specs.declared.spread.SettledZone.{SettledZone}
 use Rattle.mari_market.specs.Along.{LeadsTo}
 use Rattle.mari_prices.specs.Ends.{IsEnd, ArePriced, ArePricesOf, AreTrails, AreUncontradicted, IsContradicted, IsTrailTo}
-use Rattle.mari_prices.specs.Spread.{value_in}
+use Rattle.mari_market.specs.Sums.{int_at}
 use Rattle.mari_market.proofs.Agree.{keeps_consistent}
 use Rattle.mari_prices.proofs.EndLaws.{priced, bounds_priced, least_keeps, greatest_keeps, are_least, are_greatest, contradicted_none, trails, trail_contradicts}
 use Rattle.mari_prices.proofs.intervals.price_test.Goals as goal
@@ -27,7 +27,7 @@ contradicted-requires-clause-uppers c = subst (All IsPrice) (sym c.deref-2.ensur
 pub chain_to-requires-clause-trails : goal.chain_to-requires-clause-trails
 chain_to-requires-clause-trails c =
     let e : IsEnd Least c.args.market.now c.args.activation.now c.in_ok-least.least.bounds.items c.in_ok-least.least.settled.items = c.in_ok-least.ensures in
-    subst AreTrails (sym c.deref-in-Some.ensures.value) (trails (LeadsTo Rising c.args.market.now.borders c.args.activation.now.flow) (value_in c.in_ok-least.least.bounds.items) c.in_ok-least.least.settled.items e.spread.spreading e.spread.settled)
+    subst AreTrails (sym c.deref-in-Some.ensures.value) (trails (LeadsTo Rising c.args.market.now.borders c.args.activation.now.flow) (int_at c.in_ok-least.least.bounds.items) c.in_ok-least.least.settled.items e.spread.spreading e.spread.settled)
 
 pub returns-in-Some-clause-none : goal.returns-in-Some-clause-none
 returns-in-Some-clause-none c = λ ps h.

@@ -1,7 +1,7 @@
 use Rattle.std.proofs.Common.{◌^◌, arith, ◌==◌, ◌≡◌, pos, neg_ℤ, ◌-ℤ◌, to_z, of_z}
 use Rattle.std.specs.Int.{w128}
 use Rattle.std.proofs.lemmas.Int.{ints}
-use Rattle.mari_welfare.specs.Balance.{left_in}
+use Rattle.mari_market.specs.Sums.{int_at}
 use Rattle.mari_welfare.proofs.Balance.{carry_step, carry_small}
 use Rattle.mari_welfare.proofs.feasibility.carry.Goals as goal
 
@@ -14,5 +14,5 @@ returns-clause-carried c z =
 pub returns-clause-small : goal.returns-clause-small
 returns-clause-small c z =
     let b = c.args.border.now in
-    let small = carry_small (b.from == z) (b.to == z) (left_in c.args.left.now z) (left_in c.add_to-2.new.left z) c.args.flow (2 ^ 63) (omega (arith, ints)) (returns-clause-carried c z) in
+    let small = carry_small (b.from == z) (b.to == z) (int_at c.args.left.now z) (int_at c.add_to-2.new.left z) c.args.flow (2 ^ 63) (omega (arith, ints)) (returns-clause-carried c z) in
     omega (arith, small)

@@ -3,13 +3,9 @@ use Rattle.std.specs.Prelude.{◌≡◌, ◌≤◌, ℕ, IfSome}
 use Rattle.mari_market.specs.declared.market.Market.{Market}
 use Rattle.mari_market.specs.declared.finding.Finding.{Finding}
 use Rattle.mari_core.specs.Machine.{IsBest}
-use Rattle.mari_incumbent.specs.Incumbent.{IncumbentId, SeatView}
+use Rattle.mari_incumbent.specs.Incumbent.{IncumbentId}
 use Rattle.mari_workers.specs.declared.worker.Worked.{Worked}
 use Rattle.mari_workers.specs.Alone.{best_in}
-
--- a seat of the incumbent, of one part, by which nothing was offered
-abbrev pub IsFresh : IncumbentId → SeatView → Type 0
-IsFresh incumbent seat = (seat.incumbent ≡ incumbent) × (seat.parts ≡ 1) × (seat.offered ≡ incumbent.first)
 
 -- a seat of the incumbent, and the best of what was offered by it: none exactly where nothing was
 pub record Holds (m : Market) (incumbent : IncumbentId) (w : Worked) : Type 0 where

@@ -2,7 +2,7 @@
 
 ghost use Rattle.std.specs.Prelude.{◌≡◌, ℕ, ◌+◌, ◌-◌, ◌<◌, ◌≤◌, pos, true, false, IfOk, OnOk, slice_index_or, vec_len};
 ghost use Rattle.mari_core.specs.Machine.{IsBest};
-ghost use Rattle.mari_incumbent.specs.Incumbent.{seat_view};
+ghost use Rattle.mari_incumbent.specs.Incumbent.{seat_view, IsFresh};
 ghost use Rattle.mari_market.specs.Activation.{gate_word_of};
 ghost use Rattle.mari_market.specs.Clearing.{Clears, IsBudget, IsWorkerCount};
 ghost use Rattle.mari_market.specs.Finding.{IsAttained};
@@ -11,7 +11,7 @@ ghost use Rattle.mari_market.specs.Relaxation.{all_closed, IsClosedWelfare};
 ghost use Rattle.mari_pool.specs.Taking.{IsIdle};
 ghost use Rattle.mari_workers.specs.Refine.{MayRefine};
 ghost use Rattle.mari_workers.specs.Together.{IsSeated};
-ghost use Rattle.mari_workers.specs.Worked.{Holds, IsFresh, IsWorked};
+ghost use Rattle.mari_workers.specs.Worked.{Holds, IsWorked};
 
 use crate::first::first_of;
 use crate::refining::refine;

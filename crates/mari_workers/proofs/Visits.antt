@@ -7,6 +7,7 @@ use Rattle.std.proofs.lemmas.Int.{ints, clamps}
 use Rattle.std.proofs.lemmas.List.{length-map}
 use Rattle.std.proofs.lemmas.Option.{slice_get-get_or, slice_get-map, slice_get_within}
 use Rattle.std.proofs.lemmas.List.Sorted.{length_permutation}
+use Rattle.mari_units.specs.Lists.{greatest_by}
 use Rattle.mari_market.specs.declared.certificate.Leaf.{Leaf}
 use Rattle.mari_market.specs.declared.certificate.Conflict.{Conflict as ConflictRecord}
 use Rattle.mari_market.specs.declared.finding.Attained.{Attained}
@@ -28,7 +29,7 @@ use Rattle.mari_core.specs.declared.node.NodeState.TheVariants.{Untaken, Taken, 
 use Rattle.mari_core.specs.declared.search.Actor.{Actor}
 use Rattle.mari_core.specs.Growth.{Entry, Grown, MaySettle, IsReached, children_at, closing_leaf, grown, settling_by, take_refused, return_refused, seed, with_state}
 use Rattle.mari_core.specs.Growth.Entry.{Take, Close, Branch, Full, GiveBack}
-use Rattle.mari_core.specs.Machine.{Machine, after, by_actor, greatest, offering, refusal, seen_by, IsProper, KeepsFacts}
+use Rattle.mari_core.specs.Machine.{Machine, after, by_actor, offering, refusal, seen_by, IsProper, KeepsFacts}
 use Rattle.mari_core.specs.Nodes.{TreeNode, branch_of, in_state, new_node, state_at, words_of}
 use Rattle.mari_core.specs.Preorder.{shape_of}
 use Rattle.mari_core.proofs.Changes.{IsAt, length-with_state, node_at, state_same}
@@ -368,7 +369,7 @@ start_under_way m s q budget e facts closed more =
 
 -- ---- the end of a search
 
-above_first : (w : ℕ) (actors : List Actor) → w ≤ greatest w actors
+above_first : (w : ℕ) (actors : List Actor) → w ≤ greatest_by (λ (a : Actor). a.offered) w actors
 above_first w [] = omega arith
 above_first w (a ∷ others) = omega (arith, above_first w others)
 

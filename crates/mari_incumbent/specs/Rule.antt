@@ -23,7 +23,7 @@ pub record Fits (first all incumbent : ℕ) (v : View) : Type 0 where
 
 -- the rule over one incumbent and all views: the incumbent is at least what each saw; it is the greatest of the first
 -- number and all that was offered; the parts sum to those of the start; and a view fits with its parts or without
-pub record Kept (first all : ℕ) (words : List ℕ) (views : List View) : Type 0 where
+pub record KeepsRule (first all : ℕ) (words : List ℕ) (views : List View) : Type 0 where
   pub incumbent : ℕ
   pub words_are : words ≡ incumbent ∷ []
   pub each : (id : ℕ) (v : View) → get_elem? views id ≡ some v → Fits first all incumbent v
@@ -32,7 +32,7 @@ pub record Kept (first all : ℕ) (words : List ℕ) (views : List View) : Type 
 
 -- the rule as a fact about the table
 abbrev pub Holds : ℕ → ℕ → State (Unit {0}) View → Type 0
-Holds first all s = Kept first all s.words s.views
+Holds first all s = KeepsRule first all s.words s.views
 
 -- one load
 abbrev pub Looks : Step (Unit {0}) → Me (Unit {0}) View → ℕ → Me (Unit {0}) View → Type 0

@@ -8,13 +8,13 @@ use Rattle.mari_workers.specs.declared.worker.Worked.{Worked}
 use Rattle.mari_workers.specs.Alone.{best_in}
 
 -- a seat of the incumbent, and the best of what was offered by it: none exactly where nothing was
-pub record Holds (m : Market) (incumbent : IncumbentId) (w : Worked) : Type 0 where
+pub record HoldsBest (m : Market) (incumbent : IncumbentId) (w : Worked) : Type 0 where
   pub incumbent_is : w.seat.incumbent ≡ incumbent
   pub best : IsBest m incumbent.first w.seat.offered w.best
 
 -- the same with one part, as a worker hands it back
 abbrev pub IsWorked : Market → IncumbentId → Worked → Type 0
-IsWorked m incumbent w = Holds m incumbent w × (w.seat.parts ≡ 1)
+IsWorked m incumbent w = HoldsBest m incumbent w × (w.seat.parts ≡ 1)
 
 -- what a finding has was seen
 abbrev pub IsSeen : ℕ → Finding → Type 0

@@ -29,8 +29,8 @@ pub record Pooled : Type 0 where
   pub seat : SeatView
 
 -- at the start the empty word waits, with the greatest key
-abbrev pub started : Market → ℕ → ℕ → ℕ → SeatView → Pooled
-started m budget workers room seat = record { tree = seed m budget; keys = first_key ∷ []; journal = []; room = room; turns = replicate budget 0; returned = replicate (workers + 1) false; seat = seat }
+abbrev pub new_pool : Market → ℕ → ℕ → ℕ → SeatView → Pooled
+new_pool m budget workers room seat = record { tree = seed m budget; keys = first_key ∷ []; journal = []; room = room; turns = replicate budget 0; returned = replicate (workers + 1) false; seat = seat }
 
 -- ---- the journal's room
 

@@ -12,7 +12,7 @@ ghost use Rattle.mari_market.specs.Market.{IsValid};
 ghost use Rattle.mari_market.specs.Prefix.{word_of};
 ghost use Rattle.mari_market.specs.Relaxation.{IsClosedWelfare};
 ghost use Rattle.mari_market.specs.Tree.{TreeHolds};
-ghost use Rattle.mari_pool.specs.Pooled.{started, IsPool, IsTakenAt, settled_with, answer_of, giving_back, entered, entered_by, returns_of, put_back_from, roomy, owed, taken_among};
+ghost use Rattle.mari_pool.specs.Pooled.{new_pool, IsPool, IsTakenAt, settled_with, answer_of, giving_back, entered, entered_by, returns_of, put_back_from, roomy, owed, taken_among};
 ghost use Rattle.mari_pool.specs.Taking.{Takes, IsOpenAt};
 ghost use Rattle.mari_pool.specs.declared.ticket.Settled.TheVariants.{Stale};
 
@@ -85,7 +85,7 @@ impl<'m, N: SearchName> Pool<'m, N> {
         requires closed { IsClosedWelfare market.now (pos N.incumbent.first) }
 
         // The start, with a journal that will never need more memory.
-        ensures pool { IfOk result (λ p. p ≡ started market.now budget workers p.room seat) }
+        ensures pool { IfOk result (λ p. p ≡ new_pool market.now budget workers p.room seat) }
         ensures room { IfOk result (λ p. 2 * budget + 2 * workers + 2 ≤ p.room) }
     {
         let tree = Growth::start(alloc, market, budget)?;

@@ -6,6 +6,7 @@ use Rattle.std.proofs.lemmas.Int.{ints}
 use Rattle.std.proofs.lemmas.Bool.Decides.{nat_tests}
 use Rattle.std.proofs.lemmas.List.Elements.{All-append, All-cons, All-nil, All-head, All-tail}
 use Rattle.std.proofs.lemmas.Option.{slice_get-get_or, slice_get_read}
+use Rattle.mari_units.specs.Lists.{greatest_by}
 use Rattle.mari_market.specs.declared.market.Market.{Market}
 use Rattle.mari_market.specs.declared.certificate.Leaf.{Leaf}
 use Rattle.mari_market.specs.declared.finding.Attained.{Attained}
@@ -21,7 +22,7 @@ use Rattle.mari_core.specs.declared.node.NodeState.TheVariants.{Untaken, Taken, 
 use Rattle.mari_core.specs.Nodes.{TreeNode, new_node, in_state, changed, branch_of}
 use Rattle.mari_core.specs.Growth.{Grown, Entry, MaySettle, grown, settling, settling_by, closing_leaf, children_at, IsGrowth, AreCutAt, IsCutAt, IsEntryCutAt, IsCutoff, IsRefusal, IsAnswer}
 use Rattle.mari_core.specs.Growth.Entry.{Take, Close, Branch, Full, GiveBack}
-use Rattle.mari_core.specs.Machine.{Machine, started, new_actor, seeing, offering, by_actor, greatest, seen_by, after, IsProper, KeepsFacts, IsActor, IsBest, best_or, best_of}
+use Rattle.mari_core.specs.Machine.{Machine, started, new_actor, seeing, offering, by_actor, seen_by, after, IsProper, KeepsFacts, IsActor, IsBest, best_or, best_of}
 use Rattle.mari_market.specs.declared.clearing.Clearing.{Clearing}
 use Rattle.mari_market.specs.Activation.{welfare_of}
 use Rattle.mari_market.specs.Clearing.{IsBudget, IsOptimalClearing}
@@ -41,12 +42,12 @@ pub record IsSomeActor (actors : List Actor) (k : ℕ) : Type 0 where
   pub there : slice_get actors k ≡ Some actor
 
 -- what a change leaves of the offers, it leaves of the greatest
-greatest_same : (f : Actor → Actor) → ((a : Actor) → (f a).offered ≡ a.offered) → (w : ℕ) (actors : List Actor) (k : ℕ) → greatest w (changed f actors k) ≡ greatest w actors
+greatest_same : (f : Actor → Actor) → ((a : Actor) → (f a).offered ≡ a.offered) → (w : ℕ) (actors : List Actor) (k : ℕ) → greatest_by (λ (x : Actor). x.offered) w (changed f actors k) ≡ greatest_by (λ (x : Actor). x.offered) w actors
 greatest_same f h w [] k = refl
-greatest_same f h w (a ∷ others) zero = ap (λ (o : ℕ). max o (greatest w others)) (h a)
+greatest_same f h w (a ∷ others) zero = ap (λ (o : ℕ). max o (greatest_by (λ (x : Actor). x.offered) w others)) (h a)
 greatest_same f h w (a ∷ others) (suc k) = ap (λ (g : ℕ). max a.offered g) (greatest_same f h w others k)
 
-greatest_above : (w : ℕ) (actors : List Actor) → w ≤ greatest w actors
+greatest_above : (w : ℕ) (actors : List Actor) → w ≤ greatest_by (λ (x : Actor). x.offered) w actors
 greatest_above w [] = omega arith
 greatest_above w (a ∷ others) = omega (arith, greatest_above w others)
 
@@ -60,7 +61,7 @@ offered_is incumbent attained a = by_test (nat_lt a.offered attained.welfare) re
     by_test true e = grind (arith, nat_tests)
     by_test false e = grind (arith, nat_tests)
 
-greatest_offered : (incumbent : ℕ) (attained : Attained) (w : ℕ) (actors : List Actor) (k : ℕ) → k < length actors → greatest w (changed (offering incumbent attained) actors k) ≡ max (greatest w actors) attained.welfare
+greatest_offered : (incumbent : ℕ) (attained : Attained) (w : ℕ) (actors : List Actor) (k : ℕ) → k < length actors → greatest_by (λ (x : Actor). x.offered) w (changed (offering incumbent attained) actors k) ≡ max (greatest_by (λ (x : Actor). x.offered) w actors) attained.welfare
 greatest_offered incumbent attained w [] k l = absurd (omega arith)
 greatest_offered incumbent attained w (a ∷ others) zero l = omega (arith, offered_is incumbent attained a)
 greatest_offered incumbent attained w (a ∷ others) (suc k) l = omega (arith, greatest_offered incumbent attained w others k (omega arith))
@@ -196,7 +197,7 @@ replicated : (m : Market) (w : ℕ) (n : ℕ) → All (IsActor m w w) (replicate
 replicated m w zero = All-nil (IsActor m w w)
 replicated m w (suc n) = All-cons (IsActor m w w) (new_actor w) (replicate n (new_actor w)) (record { above = omega arith; below = omega arith; best = refl }) (replicated m w n)
 
-greatest_new : (w n : ℕ) → w ≡ greatest w (replicate n (new_actor w))
+greatest_new : (w n : ℕ) → w ≡ greatest_by (λ (x : Actor). x.offered) w (replicate n (new_actor w))
 greatest_new w zero = refl
 greatest_new w (suc n) = omega (arith, greatest_new w n)
 
@@ -260,13 +261,13 @@ other_by_test a b e h = grind (arith, nat_tests)
 rest_is_greatest : (incumbent offered g : ℕ) → incumbent ≡ max offered g → (offered ≡ incumbent → ⊥) → incumbent ≡ g
 rest_is_greatest incumbent offered g e n = omega (arith, e, n)
 
-best_among : (m : Market) (incumbent seen : ℕ) (first : Attained) (actors : List Actor) → IsBestOf m first.welfare first → All (IsActor m first.welfare seen) actors → incumbent ≡ greatest first.welfare actors → IsBestOf m incumbent (best_of incumbent first actors)
+best_among : (m : Market) (incumbent seen : ℕ) (first : Attained) (actors : List Actor) → IsBestOf m first.welfare first → All (IsActor m first.welfare seen) actors → incumbent ≡ greatest_by (λ (x : Actor). x.offered) first.welfare actors → IsBestOf m incumbent (best_of incumbent first actors)
 best_among m incumbent seen first [] f h e = record { attained = f.attained; welfare_is = sym e }
 best_among m incumbent seen first (a ∷ others) f h e = by_test (a.offered == incumbent) refl (best_among m incumbent seen first others f (All-tail (IsActor m first.welfare seen) a others h))
   where
-    by_test : (b : Bool) → (a.offered == incumbent) ≡ b → (incumbent ≡ greatest first.welfare others → IsBestOf m incumbent (best_of incumbent first others)) → IsBestOf m incumbent (if b then best_or first a.best else best_of incumbent first others)
+    by_test : (b : Bool) → (a.offered == incumbent) ≡ b → (incumbent ≡ greatest_by (λ (x : Actor). x.offered) first.welfare others → IsBestOf m incumbent (best_of incumbent first others)) → IsBestOf m incumbent (if b then best_or first a.best else best_of incumbent first others)
     by_test true is rest = best_of_actor m incumbent first a.offered a.best f (eqb-true a.offered incumbent is) (All-head (IsActor m first.welfare seen) a others h).best
-    by_test false is rest = rest (rest_is_greatest incumbent a.offered (greatest first.welfare others) e (other_by_test a.offered incumbent is))
+    by_test false is rest = rest (rest_is_greatest incumbent a.offered (greatest_by (λ (x : Actor). x.offered) first.welfare others) e (other_by_test a.offered incumbent is))
 
 pub best_is : (s : Machine) → KeepsFacts s → IsBestOf s.tree.market s.incumbent (best_of s.incumbent s.first s.actors)
 best_is s h = best_among s.tree.market s.incumbent s.incumbent s.first s.actors (record { attained = h.attained; welfare_is = refl }) h.actors_are h.incumbent_is

@@ -3,6 +3,7 @@
 -- Its tree is read on in `Growth` (how nodes are taken, closed, branched and given back) and `Preorder`; an event is
 -- what one actor does in one step.
 use Rattle.std.specs.Prelude.{◌≡◌, ℕ, ◌≤◌, ◌<◌, ◌==◌, pos, max, nat_lt, if◌then◌else◌, List, [], ◌∷◌, length, replicate, Option, Some, None, slice_get, IfSome, ⊤, All}
+use Rattle.mari_units.specs.Lists.{greatest_by}
 use Rattle.mari_market.specs.declared.market.Market.{Market}
 use Rattle.mari_market.specs.declared.finding.Attained.{Attained}
 use Rattle.mari_market.specs.Finding.{IsAttained}
@@ -93,11 +94,6 @@ IsProper s (GiveBack k x) = ⊤
 
 -- ---- what every event keeps
 
--- the greatest of a welfare and all that was offered
-abbrev pub greatest : ℕ → List Actor → ℕ
-greatest welfare [] = welfare
-greatest welfare (a ∷ others) = max a.offered (greatest welfare others)
-
 -- the best that an actor has: none exactly where it offered no more than the first welfare, and else an admissible
 -- activation of the welfare that it offered
 abbrev pub IsBest : Market → ℕ → ℕ → Option Attained → Type 0
@@ -118,7 +114,7 @@ pub record KeepsFacts (s : Machine) : Type 0 where
   pub cutoffs : AreCutAt s.incumbent s.tree.nodes
   pub attained : IsAttained s.tree.market s.first
   pub closed : IsClosedWelfare s.tree.market (pos s.first.welfare)
-  pub incumbent_is : s.incumbent ≡ greatest s.first.welfare s.actors
+  pub incumbent_is : s.incumbent ≡ greatest_by (λ (a : Actor). a.offered) s.first.welfare s.actors
   pub some_actor : 1 ≤ length s.actors
   pub actors_are : All (IsActor s.tree.market s.first.welfare s.incumbent) s.actors
 

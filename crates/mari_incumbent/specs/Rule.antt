@@ -3,16 +3,12 @@ use Rattle.std.specs.Prelude.{◌≡◌, ℕ, ◌+◌, ◌-◌, ◌<◌, ◌≤�
 use mathlib.Core.Option.{some}
 use lib.ListN.{get_elem?}
 use Rattle.atomic_table.specs.Table.{State, Step, Me}
+use Rattle.mari_units.specs.Lists.{greatest_by}
 use Rattle.mari_incumbent.specs.declared.rule.View.{View}
 
 -- what a seat knows: the incumbent's first number, the parts of all seats, what it saw and offered, and its parts
 abbrev pub view_of : ℕ → ℕ → ℕ → ℕ → ℕ → View
 view_of first all seen offered parts = record { first = first; all = all; seen = seen; offered = offered; parts = parts }
-
--- the greatest of the first number and all that was offered
-abbrev pub greatest : ℕ → List View → ℕ
-greatest first [] = first
-greatest first (v ∷ vs) = max v.offered (greatest first vs)
 
 -- the parts of all views
 abbrev pub total : List View → ℕ
@@ -27,16 +23,16 @@ pub record Fits (first all incumbent : ℕ) (v : View) : Type 0 where
 
 -- the rule over one incumbent and all views: the incumbent is at least what each saw; it is the greatest of the first
 -- number and all that was offered; the parts sum to those of the start; and a view fits with its parts or without
-pub record Kept (first all : ℕ) (words : List ℕ) (views : List View) : Type 0 where
+pub record KeepsRule (first all : ℕ) (words : List ℕ) (views : List View) : Type 0 where
   pub incumbent : ℕ
   pub words_are : words ≡ incumbent ∷ []
   pub each : (id : ℕ) (v : View) → get_elem? views id ≡ some v → Fits first all incumbent v
-  pub is_greatest : incumbent ≡ greatest first views
+  pub is_greatest : incumbent ≡ greatest_by (λ (v : View). v.offered) first views
   pub is_whole : total views ≡ all
 
 -- the rule as a fact about the table
 abbrev pub Holds : ℕ → ℕ → State (Unit {0}) View → Type 0
-Holds first all s = Kept first all s.words s.views
+Holds first all s = KeepsRule first all s.words s.views
 
 -- one load
 abbrev pub Looks : Step (Unit {0}) → Me (Unit {0}) View → ℕ → Me (Unit {0}) View → Type 0

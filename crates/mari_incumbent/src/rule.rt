@@ -15,9 +15,9 @@ pub struct View {
 pub struct Law;
 
 impl TableRule<(), View, (u64, u64)> for Law {
-    ghost use Rattle.mari_incumbent.specs.Rule.{Kept, view_of};
+    ghost use Rattle.mari_incumbent.specs.Rule.{KeepsRule, view_of};
 
-    ghost holds = { λ k s. Kept k.0 k.1 s.words s.views };
+    ghost holds = { λ k s. KeepsRule k.0 k.1 s.words s.views };
 
     ghost first = { λ k. view_of k.0 k.1 k.0 k.0 k.1 };
 }

@@ -22,7 +22,7 @@ use Rattle.mari_core.proofs.Seeds.{seed_by}
 use Rattle.mari_market.specs.Clearing.{IsBudget}
 use Rattle.mari_market.specs.Market.{IsValid}
 use Rattle.mari_market.specs.Relaxation.{IsClosedWelfare}
-use Rattle.mari_incumbent.specs.Incumbent.{IncumbentId, SeatView}
+use Rattle.mari_incumbent.specs.Incumbent.{IncumbentId, SeatView, IsFresh}
 use Rattle.mari_pool.specs.Pooled.{Pooled, IsPool, unreturned, owed, keys_after, meeting, settled_with, answer_of}
 use Rattle.mari_pool.specs.Queued.{first_key, child_key}
 use Rattle.mari_pool.proofs.Queues.{made}
@@ -45,9 +45,7 @@ entry_keeps_by m budget workers incumbent p e keys turns returned h may room cut
   leads = leads_on p.journal p.seat.seen p.tree e h.leads may cut;
   keys_are = ks;
   closed = h.closed;
-  seat_incumbent = h.seat_incumbent;
-  seat_parts = h.seat_parts;
-  seat_offered = h.seat_offered;
+  fresh = h.fresh;
   room_is = omega (arith, room, length-append p.journal (in_journal e ∷ []));
   turns_are = t ∙ h.turns_are;
   returned_are = r ∙ h.returned_are;
@@ -71,9 +69,7 @@ meeting_keeps m budget workers incumbent p seen h = record {
   leads = leads_above p.journal p.seat.seen (max p.seat.seen seen) p.tree (omega arith) h.leads;
   keys_are = h.keys_are;
   closed = h.closed;
-  seat_incumbent = h.seat_incumbent;
-  seat_parts = h.seat_parts;
-  seat_offered = h.seat_offered;
+  fresh = h.fresh;
   room_is = h.room_is;
   turns_are = h.turns_are;
   returned_are = h.returned_are;
@@ -148,8 +144,8 @@ answer_full g (GiveBack k x) a b c e = absurd (cc)
 
 -- ---- the start
 
-pub start_keeps : (m n : Market) (b budget w workers : ℕ) (incumbent : IncumbentId) (t : Grown) (ks : List ℕ) (j : List JournalEntry) (room : ℕ) (turns : List ℕ) (returned : List Bool) (seat : SeatView) → m ≡ n → b ≡ budget → w ≡ workers → IsValid m → IsBudget b → seat.incumbent ≡ incumbent → seat.parts ≡ 1 → seat.offered ≡ incumbent.first → IsClosedWelfare m (pos incumbent.first) → t ≡ seed m b → ks ≡ first_key ∷ [] → j ≡ [] → 2 * b + 2 * w + 2 ≤ room → turns ≡ replicate b 0 → returned ≡ replicate (w + 1) false → IsPool n budget workers incumbent (pool_of t ks j room turns returned seat)
-start_keeps m n b budget w workers incumbent t ks j room turns returned seat em eb ew valid few sw sp so closed et ek ej er eturns ereturned =
+pub start_keeps : (m n : Market) (b budget w workers : ℕ) (incumbent : IncumbentId) (t : Grown) (ks : List ℕ) (j : List JournalEntry) (room : ℕ) (turns : List ℕ) (returned : List Bool) (seat : SeatView) → m ≡ n → b ≡ budget → w ≡ workers → IsValid m → IsBudget b → IsFresh incumbent seat → IsClosedWelfare m (pos incumbent.first) → t ≡ seed m b → ks ≡ first_key ∷ [] → j ≡ [] → 2 * b + 2 * w + 2 ≤ room → turns ≡ replicate b 0 → returned ≡ replicate (w + 1) false → IsPool n budget workers incumbent (pool_of t ks j room turns returned seat)
+start_keeps m n b budget w workers incumbent t ks j room turns returned seat em eb ew valid few fresh closed et ek ej er eturns ereturned =
     subst (λ (k : Market). IsPool k budget workers incumbent (pool_of t ks j room turns returned seat)) em (rw (et, ek, ej, eturns, ereturned) (record {
       market_is = refl;
       budget_is = eb;
@@ -157,9 +153,7 @@ start_keeps m n b budget w workers incumbent t ks j room turns returned seat em 
       leads = leads_nowhere seat.seen m b;
       keys_are = refl;
       closed = closed;
-      seat_incumbent = sw;
-      seat_parts = sp;
-      seat_offered = so;
+      fresh = fresh;
       room_is = omega (arith, unreturned_all (w + 1), er, few.0);
       turns_are = length-replicate b 0 ∙ eb;
       returned_are = length-replicate (w + 1) false ∙ ap (λ (k : ℕ). k + 1) ew;

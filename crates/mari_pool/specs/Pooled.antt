@@ -9,7 +9,7 @@ use Rattle.mari_core.specs.declared.journal.JournalEntry.{JournalEntry}
 use Rattle.mari_core.specs.Nodes.{TreeNode, words_of, state_at}
 use Rattle.mari_core.specs.Growth.{Grown, Entry, seed, grown, grown_by, settling, in_journal, IsGrowth, JournalLeadsTo}
 use Rattle.mari_core.specs.Growth.Entry.{Take, Close, Branch, Full, GiveBack}
-use Rattle.mari_incumbent.specs.Incumbent.{IncumbentId, SeatView, seat_view}
+use Rattle.mari_incumbent.specs.Incumbent.{IncumbentId, SeatView, seat_view, IsFresh}
 use Rattle.mari_pool.specs.Queued.{first_key, child_key}
 use Rattle.mari_pool.specs.declared.ticket.Settled.{Settled}
 use Rattle.mari_pool.specs.declared.ticket.Settled.TheVariants as settled
@@ -29,8 +29,8 @@ pub record Pooled : Type 0 where
   pub seat : SeatView
 
 -- at the start the empty word waits, with the greatest key
-abbrev pub started : Market → ℕ → ℕ → ℕ → SeatView → Pooled
-started m budget workers room seat = record { tree = seed m budget; keys = first_key ∷ []; journal = []; room = room; turns = replicate budget 0; returned = replicate (workers + 1) false; seat = seat }
+abbrev pub new_pool : Market → ℕ → ℕ → ℕ → SeatView → Pooled
+new_pool m budget workers room seat = record { tree = seed m budget; keys = first_key ∷ []; journal = []; room = room; turns = replicate budget 0; returned = replicate (workers + 1) false; seat = seat }
 
 -- ---- the journal's room
 
@@ -80,9 +80,7 @@ pub record IsPool (m : Market) (budget workers : ℕ) (incumbent : IncumbentId) 
   pub leads : JournalLeadsTo p.journal p.seat.seen p.tree
   pub keys_are : length p.keys ≡ length p.tree.nodes
   pub closed : IsClosedWelfare m (pos incumbent.first)
-  pub seat_incumbent : p.seat.incumbent ≡ incumbent
-  pub seat_parts : p.seat.parts ≡ 1
-  pub seat_offered : p.seat.offered ≡ incumbent.first
+  pub fresh : IsFresh incumbent p.seat
   pub room_is : length p.journal + owed p.tree p.returned ≤ p.room
   pub turns_are : length p.turns ≡ budget
   pub returned_are : length p.returned ≡ workers + 1

@@ -6,12 +6,13 @@ ghost use Rattle.mari_core.specs.Growth.{settling, IsGrowth, MaySettle};
 ghost use Rattle.mari_core.specs.Growth.Entry.{GiveBack};
 ghost use Rattle.mari_core.specs.Nodes.{new_node, state_at};
 ghost use Rattle.mari_core.specs.Preorder.{IsPart, IsTree, shape_of};
+ghost use Rattle.mari_incumbent.specs.Incumbent.{IsFresh};
 ghost use Rattle.mari_market.specs.Clearing.{IsSpent, ArePartsOfSearch, IsBudget, IsWorkerCount};
 ghost use Rattle.mari_market.specs.Market.{IsValid};
 ghost use Rattle.mari_market.specs.Prefix.{word_of};
 ghost use Rattle.mari_market.specs.Relaxation.{IsClosedWelfare};
 ghost use Rattle.mari_market.specs.Tree.{TreeHolds};
-ghost use Rattle.mari_pool.specs.Pooled.{started, IsPool, IsTakenAt, settled_with, answer_of, giving_back, entered, entered_by, returns_of, put_back_from, roomy, owed, taken_among};
+ghost use Rattle.mari_pool.specs.Pooled.{new_pool, IsPool, IsTakenAt, settled_with, answer_of, giving_back, entered, entered_by, returns_of, put_back_from, roomy, owed, taken_among};
 ghost use Rattle.mari_pool.specs.Taking.{Takes, IsOpenAt};
 ghost use Rattle.mari_pool.specs.declared.ticket.Settled.TheVariants.{Stale};
 
@@ -80,11 +81,11 @@ impl<'m, N: SearchName> Pool<'m, N> {
         requires workers { IsWorkerCount workers }
 
         // The pool's own seat, by which nothing was offered.
-        requires seat { (seat.incumbent ≡ N.incumbent) × (seat.parts ≡ 1) × (seat.offered ≡ N.incumbent.first) }
+        requires seat { IsFresh N.incumbent seat }
         requires closed { IsClosedWelfare market.now (pos N.incumbent.first) }
 
         // The start, with a journal that will never need more memory.
-        ensures pool { IfOk result (λ p. p ≡ started market.now budget workers p.room seat) }
+        ensures pool { IfOk result (λ p. p ≡ new_pool market.now budget workers p.room seat) }
         ensures room { IfOk result (λ p. 2 * budget + 2 * workers + 2 ≤ p.room) }
     {
         let tree = Growth::start(alloc, market, budget)?;
@@ -333,7 +334,7 @@ impl<'m, N: SearchName> Pool<'m, N> {
     /// The pool's own seat.
     pub fn into_seat(self) -> Seat
         ensures seat { result ≡ self.entry.seat }
-        ensures fresh { (result.incumbent ≡ N.incumbent) × (result.parts ≡ 1) × (result.offered ≡ N.incumbent.first) }
+        ensures fresh { IsFresh N.incumbent result }
     {
         let Pool { seat, .. } = self;
         seat

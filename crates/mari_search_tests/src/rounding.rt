@@ -1,9 +1,9 @@
 //! What a relaxed optimum comes to by rounding, as a worker offers it.
 
 ghost use Rattle.std.specs.Prelude.{◌≡◌, pos};
+ghost use Rattle.mari_incumbent.specs.Incumbent.{IsFresh};
 ghost use Rattle.mari_market.specs.Market.{IsValid};
 ghost use Rattle.mari_market.specs.Relaxation.{IsClosedWelfare};
-ghost use Rattle.mari_workers.specs.Worked.{IsFresh};
 
 use crate::small::{DOWN, MarketRow, UP, activation_of, market_of, opened};
 use mari_incumbent::{Incumbent, Seat};

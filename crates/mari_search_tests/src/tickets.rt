@@ -1,10 +1,10 @@
 //! Which node the pool gives next, tickets for nodes that are given back, and tickets that are stale.
 
 ghost use Rattle.std.specs.Prelude.{◌≡◌, ◌≤◌, pos};
+ghost use Rattle.mari_incumbent.specs.Incumbent.{IsFresh};
 ghost use Rattle.mari_market.specs.Clearing.{IsBudget, IsWorkerCount};
 ghost use Rattle.mari_market.specs.Market.{IsValid};
 ghost use Rattle.mari_market.specs.Relaxation.{IsClosedWelfare};
-ghost use Rattle.mari_workers.specs.Worked.{IsFresh};
 
 use crate::searches::one_of;
 use crate::small::{DOWN, MarketRow, OVERSIZED, UP, market_of};

@@ -35,7 +35,7 @@ use Rattle.mari_workers.specs.declared.refining.Aim.{Aim}
 use Rattle.mari_workers.specs.declared.refining.Turn.{Turn}
 use Rattle.mari_workers.specs.declared.refining.Turn.TheVariants.{On, Full, Yield}
 use Rattle.mari_workers.specs.declared.refining.Walk.{Walk}
-use Rattle.mari_workers.specs.Refine.{ended, ClosesAtClosed, IsCrowdedAt, IsFoundAt, IsLastTurn, IsNewLeaf, IsOldLeaf, IsWalk, MayRefine}
+use Rattle.mari_workers.specs.Refine.{ended, ClosesAtClosed, IsCrowdedAt, IsFoundAt, IsLastTurn, IsNewLeaf, IsOldLeaf, IsTreeWalk, MayRefine}
 use Rattle.mari_workers.proofs.TreeWalks.{behind_is_late, leaves_map, parts_join, search_parts, waiting_late}
 
 -- ---- an activation is the first
@@ -52,7 +52,7 @@ clears_by m budget w gates a items v adm e g t l =
     }
 
 -- at its end the walk holds for the gate word that it began with
-pub ended_clears : (m : Market) (aim : Aim) (a : Activation) (done left : List TreeItem) → IsValid m → IsAdmissible m a → welfare_of m a ≡ pos aim.welfare → gate_word_of m a ≡ word_of aim.word → IsWalk m aim done left None → IsClearing m aim.budget (record { activation = a; welfare = aim.welfare; tree = done })
+pub ended_clears : (m : Market) (aim : Aim) (a : Activation) (done left : List TreeItem) → IsValid m → IsAdmissible m a → welfare_of m a ≡ pos aim.welfare → gate_word_of m a ≡ word_of aim.word → IsTreeWalk m aim done left None → IsClearing m aim.budget (record { activation = a; welfare = aim.welfare; tree = done })
 ended_clears m aim a done left v adm e g h =
     clears_by m aim.budget aim.welfare (word_of aim.word) a done v adm e g
     (AreParts-map m (IsNewLeaf m aim.welfare (word_of aim.word)) (LeafHoldsFor m (pos aim.welfare) (word_of aim.word)) (λ word leaf k. k.holds) ([] ∷ []) done

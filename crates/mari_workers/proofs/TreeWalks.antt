@@ -28,7 +28,7 @@ use Rattle.mari_core.proofs.Children.{child_is_node}
 use Rattle.mari_proofs.specs.Places.{LeavesWords}
 use Rattle.mari_proofs.proofs.TreeWalk.{leaves_append}
 use Rattle.mari_workers.specs.declared.refining.Aim.{Aim}
-use Rattle.mari_workers.specs.Refine.{IsAim, IsAtLeaf, IsCrowdedAt, IsNewLeaf, IsOldLeaf, IsToBranch, IsWalk}
+use Rattle.mari_workers.specs.Refine.{IsAim, IsAtLeaf, IsCrowdedAt, IsNewLeaf, IsOldLeaf, IsToBranch, IsTreeWalk}
 
 -- ---- parts of a tree
 
@@ -145,7 +145,7 @@ popped : (left : List TreeItem) (item : TreeItem) → reverse (left ++ item ∷ 
 popped left item = reverse-append left (item ∷ [])
 
 -- a branch is taken as it is
-pub branch_done : (m : Market) (aim : Aim) (x y : Prefix) (done left more : List TreeItem) → IsFeasiblePrefix m y → word_of y ≡ word_of x ++ false ∷ [] → IsWalk m aim done more (Some x) → more ≡ left ++ Branch ∷ [] → IsWalk m aim (done ++ Branch ∷ []) left (Some y)
+pub branch_done : (m : Market) (aim : Aim) (x y : Prefix) (done left more : List TreeItem) → IsFeasiblePrefix m y → word_of y ≡ word_of x ++ false ∷ [] → IsTreeWalk m aim done more (Some x) → more ≡ left ++ Branch ∷ [] → IsTreeWalk m aim (done ++ Branch ∷ []) left (Some y)
 branch_done m aim x y done left more f child h e =
     let rest : AreParts m (IsOldLeaf m aim.welfare) (left_at m.gates (Some x)) (Branch ∷ reverse left) = subst (AreParts m (IsOldLeaf m aim.welfare) (left_at m.gates (Some x))) (ap reverse e ∙ popped left Branch) h.behind in
     let there : left_at m.gates (Some y) ≡ children m.gates (word_of x) ++ waiting_after m.gates (word_of x) = first_child m.gates x y child in
@@ -157,11 +157,11 @@ branch_done m aim x y done left more f child h e =
     }
 
 -- what a branch says of its prefix
-pub branch_room : (m : Market) (aim : Aim) (x : Prefix) (done left more : List TreeItem) → IsWalk m aim done more (Some x) → more ≡ left ++ Branch ∷ [] → length (word_of x) < length m.gates
+pub branch_room : (m : Market) (aim : Aim) (x : Prefix) (done left more : List TreeItem) → IsTreeWalk m aim done more (Some x) → more ≡ left ++ Branch ∷ [] → length (word_of x) < length m.gates
 branch_room m aim x done left more h e = let rest : AreParts m (IsOldLeaf m aim.welfare) (left_at m.gates (Some x)) (Branch ∷ reverse left) = subst (AreParts m (IsOldLeaf m aim.welfare) (left_at m.gates (Some x))) (ap reverse e ∙ popped left Branch) h.behind in rest.0
 
 -- a leaf is taken out
-pub at_leaf : (m : Market) (aim : Aim) (x : Prefix) (leaf : LeafRecord) (done left more : List TreeItem) → IsWalk m aim done more (Some x) → more ≡ left ++ Leaf leaf ∷ [] → IsAtLeaf m aim x leaf done left
+pub at_leaf : (m : Market) (aim : Aim) (x : Prefix) (leaf : LeafRecord) (done left more : List TreeItem) → IsTreeWalk m aim done more (Some x) → more ≡ left ++ Leaf leaf ∷ [] → IsAtLeaf m aim x leaf done left
 at_leaf m aim x leaf done left more h e = record {
   before = h.before;
   behind = subst (AreParts m (IsOldLeaf m aim.welfare) (left_at m.gates (Some x))) (ap reverse e ∙ popped left (Leaf leaf)) h.behind;
@@ -170,7 +170,7 @@ at_leaf m aim x leaf done left more h e = record {
 }
 
 -- a leaf that holds for the gate word takes its place
-pub leaf_done : (m : Market) (aim : Aim) (x : Prefix) (old leaf : LeafRecord) (done left : List TreeItem) (next : Option Prefix) → IsAtLeaf m aim x old done left → LeafHoldsFor m (pos aim.welfare) (word_of aim.word) (word_of x) leaf → left_at m.gates next ≡ waiting_after m.gates (word_of x) → IfSome next (IsFeasiblePrefix m) → IsWalk m aim (done ++ Leaf leaf ∷ []) left next
+pub leaf_done : (m : Market) (aim : Aim) (x : Prefix) (old leaf : LeafRecord) (done left : List TreeItem) (next : Option Prefix) → IsAtLeaf m aim x old done left → LeafHoldsFor m (pos aim.welfare) (word_of aim.word) (word_of x) leaf → left_at m.gates next ≡ waiting_after m.gates (word_of x) → IfSome next (IsFeasiblePrefix m) → IsTreeWalk m aim (done ++ Leaf leaf ∷ []) left next
 leaf_done m aim x old leaf done left next h k there f = record {
   before = item_done m (IsNewLeaf m aim.welfare (word_of aim.word)) done (Leaf leaf) (left_at m.gates (Some x)) (left_at m.gates next) h.before (record { holds = k; node = h.behind.0.node }, sym there);
   behind = subst (λ (ws : List (List Bool)). AreParts m (IsOldLeaf m aim.welfare) ws (reverse left)) (sym there) h.behind.1;
@@ -179,7 +179,7 @@ leaf_done m aim x old leaf done left next h k there f = record {
 }
 
 -- a leaf that holds at the welfare is put back
-pub put_back : (m : Market) (aim : Aim) (x : Prefix) (old leaf : LeafRecord) (done left more : List TreeItem) → IsAtLeaf m aim x old done left → LeafHolds m (pos aim.welfare) (word_of x) leaf → more ≡ left ++ Leaf leaf ∷ [] → IsWalk m aim done more (Some x)
+pub put_back : (m : Market) (aim : Aim) (x : Prefix) (old leaf : LeafRecord) (done left more : List TreeItem) → IsAtLeaf m aim x old done left → LeafHolds m (pos aim.welfare) (word_of x) leaf → more ≡ left ++ Leaf leaf ∷ [] → IsTreeWalk m aim done more (Some x)
 put_back m aim x old leaf done left more h k e = record {
   before = h.before;
   behind = subst (AreParts m (IsOldLeaf m aim.welfare) (left_at m.gates (Some x))) (sym (ap reverse e ∙ popped left (Leaf leaf))) (record { holds = k; node = h.behind.0.node }, h.behind.1);
@@ -239,7 +239,7 @@ children_count word false = refl
 -- a leaf that branches
 pub leaf_branched : (m : Market) (aim : Aim) (x y : Prefix) (old leaf : LeafRecord) (may : Bool) (done left more : List TreeItem) → IsValid m → IsAim m aim → IsAtLeaf m aim x old done left → IsToBranch m aim.welfare (word_of aim.word) (word_of x) leaf
     → IsFeasibleWord m.gates (word_of x ++ false ∷ []) → (may ≡ true → IsFeasibleWord m.gates (word_of x ++ true ∷ [])) → children m.gates (word_of x) ≡ (word_of x ++ false ∷ []) ∷ (if may then (word_of x ++ true ∷ []) ∷ [] else [])
-    → IsFeasiblePrefix m y → word_of y ≡ word_of x ++ false ∷ [] → more ≡ left ++ child_leaves leaf may → length done + length left + 1 + (if may then 2 else 1) ≤ aim.budget → IsWalk m aim (done ++ Branch ∷ []) more (Some y)
+    → IsFeasiblePrefix m y → word_of y ≡ word_of x ++ false ∷ [] → more ≡ left ++ child_leaves leaf may → length done + length left + 1 + (if may then 2 else 1) ≤ aim.budget → IsTreeWalk m aim (done ++ Branch ∷ []) more (Some y)
 leaf_branched m aim x y old leaf may done left more v k h t f g kids fy child e fits =
     let there : left_at m.gates (Some y) ≡ children m.gates (word_of x) ++ waiting_after m.gates (word_of x) = first_child m.gates x y child in
     let below = child_parts m aim (word_of x) leaf may (waiting_after m.gates (word_of x)) (reverse left) v k t h.behind.0.node f g h.behind.1 in

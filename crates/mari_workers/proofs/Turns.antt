@@ -19,7 +19,7 @@ use Rattle.mari_gates.specs.Preorder.{left_at, waiting_after}
 use Rattle.mari_gates.proofs.Decisions.{length-decisions}
 use Rattle.mari_proofs.specs.Places.{LeavesWords}
 use Rattle.mari_workers.specs.declared.refining.Aim.{Aim}
-use Rattle.mari_workers.specs.Refine.{IsAim, IsAtLeaf, IsNewLeaf, IsOldLeaf, IsToBranch, IsWalk, MayRefine}
+use Rattle.mari_workers.specs.Refine.{IsAim, IsAtLeaf, IsNewLeaf, IsOldLeaf, IsToBranch, IsTreeWalk, MayRefine}
 use Rattle.mari_workers.proofs.TreeWalks.{branch_done, branch_room, child_leaves, leaf_branched, leaf_done, old_leaves, some_behind}
 
 -- the next prefix is the closed child of this one
@@ -35,20 +35,20 @@ room_of m x v l = omega (arith, l, length-decisions x x.length, v.few_gates)
 
 -- ---- a branch of the tree
 
-pub turned_branch : (m : Market) (aim : Aim) (x : Prefix) (done left new_done new_left more : List TreeItem) (next : Option Prefix) → IsWalk m aim done more (Some x) → more ≡ left ++ Branch ∷ [] → new_done ≡ done ++ Branch ∷ [] → new_left ≡ left → IsDescended x next → IsWalk m aim new_done new_left next × (length new_done ≡ length done + 1)
+pub turned_branch : (m : Market) (aim : Aim) (x : Prefix) (done left new_done new_left more : List TreeItem) (next : Option Prefix) → IsTreeWalk m aim done more (Some x) → more ≡ left ++ Branch ∷ [] → new_done ≡ done ++ Branch ∷ [] → new_left ≡ left → IsDescended x next → IsTreeWalk m aim new_done new_left next × (length new_done ≡ length done + 1)
 turned_branch m aim x done left new_done new_left more None h e d l n = absurd n
 turned_branch m aim x done left new_done new_left more (Some y) h e d l n =
     let f : IsFeasibleWord m.gates (word_of x ++ false ∷ []) = closed_child m.gates (word_of x) h.feasible.word (branch_room m aim x done left more h e) in
-    let walk : IsWalk m aim (done ++ Branch ∷ []) left (Some y) = branch_done m aim x y done left more (descended_feasible m x y f n.0 n.1) n.0 h e in (
-      subst (λ (ls : List TreeItem). IsWalk m aim new_done ls (Some y)) (sym l) (subst (λ (ds : List TreeItem). IsWalk m aim ds left (Some y)) (sym d) walk),
+    let walk : IsTreeWalk m aim (done ++ Branch ∷ []) left (Some y) = branch_done m aim x y done left more (descended_feasible m x y f n.0 n.1) n.0 h e in (
+      subst (λ (ls : List TreeItem). IsTreeWalk m aim new_done ls (Some y)) (sym l) (subst (λ (ds : List TreeItem). IsTreeWalk m aim ds left (Some y)) (sym d) walk),
       ap length d ∙ omega (arith, length-append done (Branch ∷ [])),
     )
 
 -- ---- a leaf that stays
 
-pub turned_leaf : (m : Market) (aim : Aim) (x : Prefix) (old leaf : LeafRecord) (done left new_done : List TreeItem) (next : Option Prefix) → IsAtLeaf m aim x old done left → LeafHoldsFor m (pos aim.welfare) (word_of aim.word) (word_of x) leaf → left_at m.gates next ≡ waiting_after m.gates (word_of x) → IfSome next (IsFeasiblePrefix m) → new_done ≡ done ++ Leaf leaf ∷ [] → IsWalk m aim new_done left next × (length new_done ≡ length done + 1)
+pub turned_leaf : (m : Market) (aim : Aim) (x : Prefix) (old leaf : LeafRecord) (done left new_done : List TreeItem) (next : Option Prefix) → IsAtLeaf m aim x old done left → LeafHoldsFor m (pos aim.welfare) (word_of aim.word) (word_of x) leaf → left_at m.gates next ≡ waiting_after m.gates (word_of x) → IfSome next (IsFeasiblePrefix m) → new_done ≡ done ++ Leaf leaf ∷ [] → IsTreeWalk m aim new_done left next × (length new_done ≡ length done + 1)
 turned_leaf m aim x old leaf done left new_done next h k there f e = (
-  subst (λ (ds : List TreeItem). IsWalk m aim ds left next) (sym e) (leaf_done m aim x old leaf done left next h k there f),
+  subst (λ (ds : List TreeItem). IsTreeWalk m aim ds left next) (sym e) (leaf_done m aim x old leaf done left next h k there f),
   ap length e ∙ omega (arith, length-append done (Leaf leaf ∷ [])),
 )
 
@@ -56,10 +56,10 @@ turned_leaf m aim x old leaf done left new_done next h k there f e = (
 
 pub turned_branched : (m : Market) (aim : Aim) (x : Prefix) (old leaf : LeafRecord) (may : Bool) (done left new_done new_left : List TreeItem) (next : Option Prefix) → IsValid m → IsAim m aim → IsAtLeaf m aim x old done left → IsToBranch m aim.welfare (word_of aim.word) (word_of x) leaf
     → IsFeasibleWord m.gates (word_of x ++ false ∷ []) → (may ≡ true → IsFeasibleWord m.gates (word_of x ++ true ∷ [])) → children m.gates (word_of x) ≡ (word_of x ++ false ∷ []) ∷ (if may then (word_of x ++ true ∷ []) ∷ [] else [])
-    → length done + length left + 1 + (if may then 2 else 1) ≤ aim.budget → new_done ≡ done ++ Branch ∷ [] → new_left ≡ left ++ child_leaves leaf may → IsDescended x next → IsWalk m aim new_done new_left next × (length new_done ≡ length done + 1)
+    → length done + length left + 1 + (if may then 2 else 1) ≤ aim.budget → new_done ≡ done ++ Branch ∷ [] → new_left ≡ left ++ child_leaves leaf may → IsDescended x next → IsTreeWalk m aim new_done new_left next × (length new_done ≡ length done + 1)
 turned_branched m aim x old leaf may done left new_done new_left None v k h t f g kids fits d l n = absurd n
 turned_branched m aim x old leaf may done left new_done new_left (Some y) v k h t f g kids fits d l n = (
-  subst (λ (ds : List TreeItem). IsWalk m aim ds new_left (Some y)) (sym d) (leaf_branched m aim x y old leaf may done left new_left v k h t f g kids (descended_feasible m x y f n.0 n.1) n.0 l fits),
+  subst (λ (ds : List TreeItem). IsTreeWalk m aim ds new_left (Some y)) (sym d) (leaf_branched m aim x y old leaf may done left new_left v k h t f g kids (descended_feasible m x y f n.0 n.1) n.0 l fits),
   ap length d ∙ omega (arith, length-append done (Branch ∷ [])),
 )
 
@@ -80,7 +80,7 @@ nothing_opened : (gates : List Rattle.mari_market.specs.declared.market.GateInfo
 nothing_opened gates = record { decided = omega arith; rules = record { parents = λ g h e p. absurd (cc); groups = λ g h k e f p q. absurd (cc) } }
 
 -- the walk at its start
-pub walk_started : (m : Market) (aim : Aim) (budget : ℕ) (found : Clearing) (done left : List TreeItem) (next : Option Prefix) → MayRefine m budget found → aim.welfare ≡ found.welfare → aim.budget ≡ budget → done ≡ [] → reverse left ≡ found.tree → IsSomeAnd next (λ x. (word_of x ≡ []) × IsCleared x) → IsWalk m aim done left next
+pub walk_started : (m : Market) (aim : Aim) (budget : ℕ) (found : Clearing) (done left : List TreeItem) (next : Option Prefix) → MayRefine m budget found → aim.welfare ≡ found.welfare → aim.budget ≡ budget → done ≡ [] → reverse left ≡ found.tree → IsSomeAnd next (λ x. (word_of x ≡ []) × IsCleared x) → IsTreeWalk m aim done left next
 walk_started m aim budget found done left None h w b d l n = absurd n
 walk_started m aim budget found done left (Some x) h w b d l n =
     let all : AreParts m (IsOldLeaf m aim.welfare) ([] ∷ []) found.tree = old_leaves m aim.welfare ([] ∷ []) found.tree (subst (λ (u : ℕ). AreParts m (LeafHolds m (pos u)) ([] ∷ []) found.tree) (sym w) h.clearing.tree) h.nodes in
@@ -93,5 +93,5 @@ walk_started m aim budget found done left (Some x) h w b d l n =
     }
 
 -- a walk at a prefix has an item left, so less is done than the budget
-pub not_done : (m : Market) (aim : Aim) (x : Prefix) (done left : List TreeItem) → IsWalk m aim done left (Some x) → length done < aim.budget
+pub not_done : (m : Market) (aim : Aim) (x : Prefix) (done left : List TreeItem) → IsTreeWalk m aim done left (Some x) → length done < aim.budget
 not_done m aim x done left h = omega (arith, h.within, length-reverse left, some_behind m (IsOldLeaf m aim.welfare) (word_of x) (waiting_after m.gates (word_of x)) (reverse left) h.behind)

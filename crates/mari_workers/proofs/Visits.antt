@@ -7,6 +7,7 @@ use Rattle.std.proofs.lemmas.Int.{ints, clamps}
 use Rattle.std.proofs.lemmas.List.{length-map}
 use Rattle.std.proofs.lemmas.Option.{slice_get-get_or, slice_get-map, slice_get_within}
 use Rattle.std.proofs.lemmas.List.Sorted.{length_permutation}
+use Rattle.mari_units.specs.Lists.{greatest_by}
 use Rattle.mari_market.specs.declared.certificate.Leaf.{Leaf}
 use Rattle.mari_market.specs.declared.certificate.Conflict.{Conflict as ConflictRecord}
 use Rattle.mari_market.specs.declared.finding.Attained.{Attained}
@@ -28,7 +29,7 @@ use Rattle.mari_core.specs.declared.node.NodeState.TheVariants.{Untaken, Taken, 
 use Rattle.mari_core.specs.declared.search.Actor.{Actor}
 use Rattle.mari_core.specs.Growth.{Entry, Grown, MaySettle, IsReached, children_at, closing_leaf, grown, settling_by, take_refused, return_refused, seed, with_state}
 use Rattle.mari_core.specs.Growth.Entry.{Take, Close, Branch, Full, GiveBack}
-use Rattle.mari_core.specs.Machine.{Machine, after, by_actor, greatest, offering, refusal, seen_by, IsProper, KeepsFacts}
+use Rattle.mari_core.specs.Machine.{Machine, after, by_actor, offering, refusal, seen_by, IsProper, KeepsFacts}
 use Rattle.mari_core.specs.Nodes.{TreeNode, branch_of, in_state, new_node, state_at, words_of}
 use Rattle.mari_core.specs.Preorder.{shape_of}
 use Rattle.mari_core.proofs.Changes.{IsAt, length-with_state, node_at, state_same}
@@ -39,7 +40,7 @@ use Rattle.mari_pool.specs.Queued.{Queued, no_nodes, first_key, LeavesFirst, IsI
 use Rattle.mari_pool.proofs.Keeps.{grown_longer}
 use Rattle.mari_pool.proofs.Queues.{first_waits, length_waiting, made, none_waits, queue_done, queue_more, queue_start, queue_taken, state_same_as, untaken_few, branch_done}
 use Rattle.mari_pool.proofs.Rooms.{branch_untaken, taken-append, taken_new, taken_state}
-use Rattle.mari_workers.specs.Alone.{after_offer, best_in, IsAtNode, IsDone, IsUnderWay, IsVisited}
+use Rattle.mari_workers.specs.Alone.{after_offer, best_in, IsAtNode, IsFinished, IsUnderWay, IsVisited}
 use Rattle.mari_workers.specs.Refine.{MayRefine}
 
 -- ---- the tree
@@ -265,7 +266,7 @@ settle_allowed m old t x word finding u e f is facts =
 -- ---- the end
 
 -- where the queue is empty, no node waits and none is taken
-pub done_by : (m : Market) (s : Machine) (q r : Queued) → IsUnderWay m s q → IsIdleQueue q r → IsDone s
+pub done_by : (m : Market) (s : Machine) (q r : Queued) → IsUnderWay m s q → IsIdleQueue q r → IsFinished s
 done_by m s q r u idle = record {
   facts = u.facts;
   none_waits = none_waits s.tree.nodes q u.queue idle.0;
@@ -368,12 +369,12 @@ start_under_way m s q budget e facts closed more =
 
 -- ---- the end of a search
 
-above_first : (w : ℕ) (actors : List Actor) → w ≤ greatest w actors
+above_first : (w : ℕ) (actors : List Actor) → w ≤ greatest_by (λ (a : Actor). a.offered) w actors
 above_first w [] = omega arith
 above_first w (a ∷ others) = omega (arith, above_first w others)
 
 -- what a search comes to may be refined
-pub may_refine : (s : Machine) (c : Clearing) → IsDone s → IsOptimalClearing s.tree.market s.tree.budget c → c.welfare ≡ s.incumbent → (s.incumbent ≡ s.first.welfare → c.activation ≡ s.first.activation) → ArePartsOfSearch s.tree.market ([] ∷ []) (map shape_of c.tree) → MayRefine s.tree.market s.tree.budget c
+pub may_refine : (s : Machine) (c : Clearing) → IsFinished s → IsOptimalClearing s.tree.market s.tree.budget c → c.welfare ≡ s.incumbent → (s.incumbent ≡ s.first.welfare → c.activation ≡ s.first.activation) → ArePartsOfSearch s.tree.market ([] ∷ []) (map shape_of c.tree) → MayRefine s.tree.market s.tree.budget c
 may_refine s c done clearing w first parts = record {
   clearing = clearing;
   nodes = parts;

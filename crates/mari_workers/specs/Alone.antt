@@ -26,7 +26,7 @@ pub record IsUnderWay (m : Market) (s : Machine) (q : Queued) : Type 0 where
   pub from_closed : gate_word_of m s.first.activation ≡ all_closed m
 
 -- a search in which no node waits and none is taken; it began with an activation that opens no gate
-pub record IsDone (s : Machine) : Type 0 where
+pub record IsFinished (s : Machine) : Type 0 where
   pub facts : KeepsFacts s
   pub none_waits : NoneWaits s.tree.nodes
   pub none_taken : taken_among s.tree.nodes ≡ 0

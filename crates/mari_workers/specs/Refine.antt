@@ -113,7 +113,7 @@ pub record IsOldLeaf (m : Market) (w : ℕ) (word : List Bool) (leaf : LeafRecor
 
 -- a walk through a tree: the items so far are parts of it that hold for the gate word, and those that are left, the
 -- next at the end, are the parts of the next prefix and of the words that wait behind it, and hold at the welfare
-pub record IsWalk (m : Market) (aim : Aim) (done left : List TreeItem) (next : Option Prefix) : Type 0 where
+pub record IsTreeWalk (m : Market) (aim : Aim) (done left : List TreeItem) (next : Option Prefix) : Type 0 where
   pub before : LeavesWords m (IsNewLeaf m aim.welfare (word_of aim.word)) ([] ∷ []) done (left_at m.gates next)
   pub behind : AreParts m (IsOldLeaf m aim.welfare) (left_at m.gates next) (reverse left)
   pub feasible : IfSome next (IsFeasiblePrefix m)
@@ -128,7 +128,7 @@ pub record IsAtLeaf (m : Market) (aim : Aim) (x : Prefix) (leaf : LeafRecord) (d
 
 -- at the next prefix a promising leaf, which would hold at each of its children, can't branch within the budget
 pub record IsCrowdedAt (m : Market) (aim : Aim) (x : Prefix) (done left : List TreeItem) : Type 0 where
-  pub walk : IsWalk m aim done left (Some x)
+  pub walk : IsTreeWalk m aim done left (Some x)
   pub leaf : LeafRecord
   pub rest : List TreeItem
   pub left_is : reverse left ≡ Leaf leaf ∷ rest
@@ -139,7 +139,7 @@ pub record IsCrowdedAt (m : Market) (aim : Aim) (x : Prefix) (done left : List T
 
 -- at the next prefix, which decides every gate, an activation of the welfare is found, and that gate word is early
 pub record IsFoundAt (m : Market) (aim : Aim) (x : Prefix) (done left : List TreeItem) (a : Activation) : Type 0 where
-  pub walk : IsWalk m aim done left (Some x)
+  pub walk : IsTreeWalk m aim done left (Some x)
   pub early : IsEarly (word_of aim.word) (word_of x)
   pub admissible : IsAdmissible m a
   pub welfare : welfare_of m a ≡ pos aim.welfare
@@ -147,13 +147,13 @@ pub record IsFoundAt (m : Market) (aim : Aim) (x : Prefix) (done left : List Tre
 
 -- what one turn at a prefix does: one item more is done, or the budget is spent, or an earlier activation is found
 abbrev pub IsTurn : Market → Aim → Prefix → ℕ → Walk → Turn → Type 0
-IsTurn m aim x count walk On = IsWalk m aim walk.done.items walk.left.items walk.next × (length walk.done.items ≡ count + 1)
+IsTurn m aim x count walk On = IsTreeWalk m aim walk.done.items walk.left.items walk.next × (length walk.done.items ≡ count + 1)
 IsTurn m aim x count walk Full = IsCrowdedAt m aim x walk.done.items walk.left.items
 IsTurn m aim x count walk (Yield a) = IsFoundAt m aim x walk.done.items walk.left.items a
 
 -- what the last turn of a walk comes to: no prefix is left, or the budget is spent, or an earlier activation is found
 abbrev pub IsLastTurn : Market → Aim → Walk → Turn → Type 0
-IsLastTurn m aim walk On = IsWalk m aim walk.done.items walk.left.items None
+IsLastTurn m aim walk On = IsTreeWalk m aim walk.done.items walk.left.items None
 IsLastTurn m aim walk Full = (x : Prefix) × IsCrowdedAt m aim x walk.done.items walk.left.items
 IsLastTurn m aim walk (Yield a) = (x : Prefix) × IsFoundAt m aim x walk.done.items walk.left.items a
 

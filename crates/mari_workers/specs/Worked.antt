@@ -3,22 +3,18 @@ use Rattle.std.specs.Prelude.{◌≡◌, ◌≤◌, ℕ, IfSome}
 use Rattle.mari_market.specs.declared.market.Market.{Market}
 use Rattle.mari_market.specs.declared.finding.Finding.{Finding}
 use Rattle.mari_core.specs.Machine.{IsBest}
-use Rattle.mari_incumbent.specs.Incumbent.{IncumbentId, SeatView}
+use Rattle.mari_incumbent.specs.Incumbent.{IncumbentId}
 use Rattle.mari_workers.specs.declared.worker.Worked.{Worked}
 use Rattle.mari_workers.specs.Alone.{best_in}
 
--- a seat of the incumbent, of one part, by which nothing was offered
-abbrev pub IsFresh : IncumbentId → SeatView → Type 0
-IsFresh incumbent seat = (seat.incumbent ≡ incumbent) × (seat.parts ≡ 1) × (seat.offered ≡ incumbent.first)
-
 -- a seat of the incumbent, and the best of what was offered by it: none exactly where nothing was
-pub record Holds (m : Market) (incumbent : IncumbentId) (w : Worked) : Type 0 where
+pub record HoldsBest (m : Market) (incumbent : IncumbentId) (w : Worked) : Type 0 where
   pub incumbent_is : w.seat.incumbent ≡ incumbent
   pub best : IsBest m incumbent.first w.seat.offered w.best
 
 -- the same with one part, as a worker hands it back
 abbrev pub IsWorked : Market → IncumbentId → Worked → Type 0
-IsWorked m incumbent w = Holds m incumbent w × (w.seat.parts ≡ 1)
+IsWorked m incumbent w = HoldsBest m incumbent w × (w.seat.parts ≡ 1)
 
 -- what a finding has was seen
 abbrev pub IsSeen : ℕ → Finding → Type 0

@@ -9,7 +9,7 @@ ghost use Rattle.mari_market.specs.Finding.{IsAttained};
 ghost use Rattle.mari_market.specs.Market.{IsValid};
 ghost use Rattle.mari_market.specs.Prefix.{word_of, IsFeasiblePrefix};
 ghost use Rattle.mari_pool.specs.Queued.{IsMore};
-ghost use Rattle.mari_workers.specs.Alone.{best_in, after_offer, IsAtNode, IsDone, IsUnderWay, IsVisited};
+ghost use Rattle.mari_workers.specs.Alone.{best_in, after_offer, IsAtNode, IsFinished, IsUnderWay, IsVisited};
 ghost use Rattle.mari_workers.specs.Refine.{IsSearched};
 
 use crate::first::first_of;
@@ -163,7 +163,7 @@ fn visit_all(
     start: &mut Option<Activation>,
 ) -> Result<bool, Memory>
     requires { IsUnderWay market.now search.old queue.old }
-    ensures closed { IfOk result (λ closed. closed ≡ true → IsDone search.new) }
+    ensures closed { IfOk result (λ closed. closed ≡ true → IsFinished search.new) }
     ensures spent { IfOk result (λ closed. closed ≡ false → search.new.tree.full ≡ true) }
     ensures market { OnOk result (search.new.tree.market ≡ market.now) }
     ensures budget { OnOk result (search.new.tree.budget ≡ search.old.tree.budget) }
@@ -186,7 +186,7 @@ fn visit_all(
 
 /// The optimal clearing of a search whose nodes are all branched or closed. It may be refined.
 fn published(alloc: Global, search: Search<'_>) -> Result<Cleared, Memory>
-    requires { IsDone search }
+    requires { IsFinished search }
     ensures { IfOk result (IsSearched search.entry.tree.market search.entry.tree.budget) }
 {
     match search.finish(alloc) {

@@ -7,7 +7,7 @@ ghost use Rattle.mari_market.specs.Market.{IsValid};
 ghost use Rattle.mari_market.specs.Prefix.{word_of, IsFeasiblePrefix, IsCleared};
 ghost use Rattle.mari_market.specs.Tree.{LeafHolds};
 ghost use Rattle.mari_workers.specs.Alone.{best_in, without_best};
-ghost use Rattle.mari_workers.specs.Refine.{ended, fate_by, unbounded, ClosesAtClosed, IsAim, IsAtLeaf, IsFate, IsLastTurn, IsToBranch, IsTurn, IsWalk, MayRefine};
+ghost use Rattle.mari_workers.specs.Refine.{ended, fate_by, unbounded, ClosesAtClosed, IsAim, IsAtLeaf, IsFate, IsLastTurn, IsToBranch, IsTreeWalk, IsTurn, MayRefine};
 
 use mari_core::closing_leaf;
 use mari_gates::{child_of, comes_before, empty_prefix, gate_word, may_branch_up, next_after};
@@ -234,7 +234,7 @@ impl Walk {
     ) -> Result<Turn, Memory>
         requires market { IsValid market.now }
         requires aim { IsAim market.now aim.now }
-        requires walk { IsWalk market.now aim.now self.old.done.items self.old.left.items (Some prefix.now) }
+        requires walk { IsTreeWalk market.now aim.now self.old.done.items self.old.left.items (Some prefix.now) }
         ensures { IfOk result (IsTurn market.now aim.now prefix.now (length self.old.done.items) self.new) }
     {
         match self.left.pop() {
@@ -287,7 +287,7 @@ fn shapes_of(alloc: Global, tree: &[TreeItem]) -> Result<Vec<PartItem>, Memory>
 fn walked(alloc: Global, market: &Market, aim: &Aim, walk: &mut Walk) -> Result<Turn, Memory>
     requires market { IsValid market.now }
     requires aim { IsAim market.now aim.now }
-    requires walk { IsWalk market.now aim.now walk.old.done.items walk.old.left.items walk.old.next }
+    requires walk { IsTreeWalk market.now aim.now walk.old.done.items walk.old.left.items walk.old.next }
     ensures { IfOk result (IsLastTurn market.now aim.now walk.new) }
 {
     while let Some(prefix) = walk.next {

@@ -2,7 +2,7 @@
 
 ghost use Rattle.std.specs.Prelude.{◌≡◌, ℕ, ◌+◌, ◌-◌, ◌<◌, ◌≤◌, pos, true, false, IfOk, OnOk, slice_index_or, vec_len};
 ghost use Rattle.mari_core.specs.Machine.{IsBest};
-ghost use Rattle.mari_incumbent.specs.Incumbent.{seat_view};
+ghost use Rattle.mari_incumbent.specs.Incumbent.{seat_view, IsFresh};
 ghost use Rattle.mari_market.specs.Activation.{gate_word_of};
 ghost use Rattle.mari_market.specs.Clearing.{Clears, IsBudget, IsWorkerCount};
 ghost use Rattle.mari_market.specs.Finding.{IsAttained};
@@ -11,7 +11,7 @@ ghost use Rattle.mari_market.specs.Relaxation.{all_closed, IsClosedWelfare};
 ghost use Rattle.mari_pool.specs.Taking.{IsIdle};
 ghost use Rattle.mari_workers.specs.Refine.{MayRefine};
 ghost use Rattle.mari_workers.specs.Together.{IsSeated};
-ghost use Rattle.mari_workers.specs.Worked.{Holds, IsFresh, IsWorked};
+ghost use Rattle.mari_workers.specs.Worked.{HoldsBest, IsWorked};
 
 use crate::first::first_of;
 use crate::refining::refine;
@@ -86,9 +86,9 @@ fn run_all<'m, N: SearchName + Send + Sync, G: Turnstile, R: Threads + Wait + Sy
 
 /// Joins a worker's seat, and keeps the better best.
 fn take_in(market: &Market, incumbent: &Incumbent, mine: &mut Worked, other: Worked)
-    requires mine { Holds market.now incumbent.now mine.old }
-    requires other { Holds market.now incumbent.now other }
-    ensures mine { Holds market.now incumbent.now mine.new }
+    requires mine { HoldsBest market.now incumbent.now mine.old }
+    requires other { HoldsBest market.now incumbent.now other }
+    ensures mine { HoldsBest market.now incumbent.now mine.new }
     ensures parts { mine.new.seat.parts ≡ mine.old.seat.parts + other.seat.parts }
 {
     let Worked { seat, best } = other;
@@ -100,9 +100,9 @@ fn take_in(market: &Market, incumbent: &Incumbent, mine: &mut Worked, other: Wor
 
 /// Joins the seats of all workers, and keeps the best of all.
 fn gather(market: &Market, incumbent: &Incumbent, mine: &mut Worked, mut worked: Vec<Worked>)
-    requires mine { Holds market.now incumbent.now mine.old }
+    requires mine { HoldsBest market.now incumbent.now mine.old }
     requires worked { (i : ℕ) (d : _) → i < vec_len worked → IsWorked market.now incumbent.now (slice_index_or worked.items i d) }
-    ensures mine { Holds market.now incumbent.now mine.new }
+    ensures mine { HoldsBest market.now incumbent.now mine.new }
     ensures parts { mine.new.seat.parts ≡ mine.old.seat.parts + vec_len worked }
 {
     while let Some(one) = worked.pop() {
@@ -126,8 +126,8 @@ fn settle_rest<'m, N: SearchName, R: Wait>(
     requires incumbent { incumbent.now ≡ N.incumbent }
 
     // What this worker has, before and after.
-    requires mine { Holds N.market N.incumbent mine.old }
-    ensures mine { Holds N.market N.incumbent mine.new }
+    requires mine { HoldsBest N.market N.incumbent mine.old }
+    ensures mine { HoldsBest N.market N.incumbent mine.new }
     ensures parts { mine.new.seat.parts ≡ mine.old.seat.parts }
 
     // What the answer says of the pool.
@@ -169,7 +169,7 @@ fn published<'m, N: SearchName>(
     // The search is the one of the name, and all its seats but the pool's are in this one.
     requires market { IsValid N.market }
     requires incumbent { incumbent ≡ N.incumbent }
-    requires mine { Holds N.market N.incumbent mine }
+    requires mine { HoldsBest N.market N.incumbent mine }
     requires parts { mine.seat.parts + 1 ≡ N.incumbent.all }
 
     // The best activation with every gate closed.
@@ -222,11 +222,11 @@ fn run_workers<'m, N: SearchName + Send + Sync, G: Turnstile, R: Threads + Wait 
     requires incumbent { incumbent.now ≡ N.incumbent }
 
     // A part of this seat for each worker, and one more.
-    requires mine { Holds N.market N.incumbent mine.old }
+    requires mine { HoldsBest N.market N.incumbent mine.old }
     requires parts { workers < mine.old.seat.parts }
 
     // What this thread has then, with all parts back.
-    ensures mine { OnOk result (Holds N.market N.incumbent mine.new) }
+    ensures mine { OnOk result (HoldsBest N.market N.incumbent mine.new) }
     ensures parts { OnOk result (mine.new.seat.parts ≡ mine.old.seat.parts) }
 {
     let seated = seated_of(alloc, incumbent, &mut mine.seat, workers)?;
@@ -259,11 +259,11 @@ fn run<'m, N: SearchName + Send + Sync, G: Turnstile, R: Threads + Wait + Sync>(
     requires incumbent { incumbent.now ≡ N.incumbent }
     requires pooled { IsFresh N.incumbent pooled }
     requires closed { IsClosedWelfare market.now (pos N.incumbent.first) }
-    requires mine { Holds N.market N.incumbent mine.old }
+    requires mine { HoldsBest N.market N.incumbent mine.old }
     requires parts { workers < mine.old.seat.parts }
 
     // What this thread has then, with all parts back but the pool's.
-    ensures mine { OnOk result (Holds N.market N.incumbent mine.new) }
+    ensures mine { OnOk result (HoldsBest N.market N.incumbent mine.new) }
     ensures parts { OnOk result (mine.new.seat.parts ≡ mine.old.seat.parts) }
 
     // What is told of the pool.

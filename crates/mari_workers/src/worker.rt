@@ -3,11 +3,12 @@
 ghost use Rattle.std.specs.Prelude.{◌≡◌, ◌<◌, ◌≤◌, IfOk, IfSome, OnOk};
 ghost use Rattle.mari_core.specs.Growth.{MaySettle};
 ghost use Rattle.mari_core.specs.Nodes.{new_node};
+ghost use Rattle.mari_incumbent.specs.Incumbent.{IsFresh};
 ghost use Rattle.mari_market.specs.Finding.{IsAttained, IsFinding};
 ghost use Rattle.mari_market.specs.Market.{IsValid};
 ghost use Rattle.mari_market.specs.Prefix.{word_of, IsFeasiblePrefix};
 ghost use Rattle.mari_workers.specs.Alone.{best_in};
-ghost use Rattle.mari_workers.specs.Worked.{Holds, IsFresh, IsSeen};
+ghost use Rattle.mari_workers.specs.Worked.{HoldsBest, IsSeen};
 
 use crate::alone::{best_of, copy_of};
 use crate::rounding::best_rounded;
@@ -34,9 +35,9 @@ fn offer(
     worked: &mut Worked,
     attained: &Attained,
 ) -> Result<(), Memory>
-    requires holds { Holds market.now incumbent.now worked.old }
+    requires holds { HoldsBest market.now incumbent.now worked.old }
     requires attained { IsAttained market.now attained.now }
-    ensures holds { Holds market.now incumbent.now worked.new }
+    ensures holds { HoldsBest market.now incumbent.now worked.new }
     ensures parts { worked.new.seat.parts ≡ worked.old.seat.parts }
     ensures seen { OnOk result (attained.now.welfare ≤ worked.new.seat.seen) }
 {
@@ -56,9 +57,9 @@ fn offer_found(
     worked: &mut Worked,
     finding: &Finding,
 ) -> Result<(), Memory>
-    requires holds { Holds market.now incumbent.now worked.old }
+    requires holds { HoldsBest market.now incumbent.now worked.old }
     requires attained { IfSome (best_in finding.now) (IsAttained market.now) }
-    ensures holds { Holds market.now incumbent.now worked.new }
+    ensures holds { HoldsBest market.now incumbent.now worked.new }
     ensures parts { worked.new.seat.parts ≡ worked.old.seat.parts }
     ensures seen { OnOk result (IsSeen worked.new.seat.seen finding.now) }
 {
@@ -77,8 +78,8 @@ fn offer_rounded(
     start: &mut Option<Activation>,
 ) -> Result<(), Memory>
     requires market { IsValid market.now }
-    requires holds { Holds market.now incumbent.now worked.old }
-    ensures holds { Holds market.now incumbent.now worked.new }
+    requires holds { HoldsBest market.now incumbent.now worked.old }
+    ensures holds { HoldsBest market.now incumbent.now worked.new }
     ensures parts { worked.new.seat.parts ≡ worked.old.seat.parts }
 {
     match best_rounded(alloc, market, start)? {
@@ -100,8 +101,8 @@ pub(crate) fn visit<G: Turnstile>(
 ) -> Result<Finding, Memory>
     requires market { IsValid market.now }
     requires prefix { IsFeasiblePrefix market.now prefix.now }
-    requires holds { Holds market.now incumbent.now worked.old }
-    ensures holds { Holds market.now incumbent.now worked.new }
+    requires holds { HoldsBest market.now incumbent.now worked.old }
+    ensures holds { HoldsBest market.now incumbent.now worked.new }
     ensures parts { worked.new.seat.parts ≡ worked.old.seat.parts }
     ensures may { IfOk result (λ finding. MaySettle market.now worked.new.seat.seen finding (new_node (word_of prefix.now))) }
 {
@@ -131,7 +132,7 @@ pub fn work<'m, N: SearchName, G: Turnstile, R: Wait>(
     requires worker { worker < N.workers }
     requires incumbent { incumbent.now ≡ N.incumbent }
     requires seat { IsFresh N.incumbent seat }
-    ensures holds { Holds N.market N.incumbent result }
+    ensures holds { HoldsBest N.market N.incumbent result }
     ensures parts { result.seat.parts ≡ 1 }
 {
     let mut worked = Worked { seat, best: None };

@@ -1,6 +1,6 @@
 use Rattle.std.proofs.Common.{length, subst, Option}
 use Rattle.mari_market.specs.declared.prefix.Prefix.{Prefix}
-use Rattle.mari_workers.specs.Refine.{IsTurn, IsWalk}
+use Rattle.mari_workers.specs.Refine.{IsTreeWalk, IsTurn}
 use Rattle.mari_workers.proofs.refining.walked.Goals as goal
 
 pub returns-in-Full : goal.returns-in-Full
@@ -12,4 +12,4 @@ returns-in-Yield c = (c.in-Some.prefix, subst (IsTurn c.args.market.now c.args.a
 pub returns : goal.returns
 returns c =
     let walk = c.loop-walk.walk in
-    subst (λ (next : Option Prefix). IsWalk c.args.market.now c.args.aim.now walk.done.items walk.left.items next) c.in_default.is c.loop-walk.invariant
+    subst (λ (next : Option Prefix). IsTreeWalk c.args.market.now c.args.aim.now walk.done.items walk.left.items next) c.in_default.is c.loop-walk.invariant

@@ -26,7 +26,7 @@ returns g c =
     let is : unwrap_or c.args.mine.best c.args.first ≡ a = sym c.unwrap_or-best.ensures in
     let attained : IsAttained m a = subst (IsAttained m) is best.0 in
     let offered : c.close-welfare.result ≡ max c.args.mine.seat.offered c.into_seat.result.offered = c.close-welfare.ensures.offered ∙ ap (λ (s : SeatView). s.offered) c.join.ensures in
-    let welfare : c.close-welfare.result ≡ a.welfare = omega (arith, offered, c.into_seat.ensures.fresh, best.2, best.1, ap (λ (b : Attained). b.welfare) is) in
+    let welfare : c.close-welfare.result ≡ a.welfare = omega (arith, offered, c.into_seat.ensures.fresh.2, best.2, best.1, ap (λ (b : Attained). b.welfare) is) in
     let seen : c.close-welfare.result ≡ max c.args.mine.seat.seen c.into_seat.result.seen = c.close-welfare.ensures.seen ∙ ap (λ (s : SeatView). s.seen) c.join.ensures in
     let above : c.args.pool.seat.seen ≤ c.close-welfare.result = omega (arith, seen, ap (λ (s : SeatView). s.seen) c.into_seat.ensures.seat) in
     refinable m g.N.SearchName.budget incumbent.first c.args.mine.seat.offered c.args.mine.best c.args.first _

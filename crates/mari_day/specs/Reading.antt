@@ -25,12 +25,12 @@ use Rattle.mari_day.specs.declared.reading.BooksFault.TheVariants as why
 use Rattle.mari_calendar.specs.Midnights.{◌>>>◌}
 use Rattle.mari_day.specs.CalendarPage.{calendar_day_in}
 use Rattle.mari_day.specs.Fetching.{HasFiles, SomeFetched}
-use Rattle.mari_day.specs.Files.{files_in, number_of, page_of, first_gap, AreHeld, Gap, IsFileNumber}
+use Rattle.mari_day.specs.Files.{files_in, file_number, page_of, first_gap, AreHeld, Gap, IsFileNumber}
 use Rattle.mari_day.specs.Files.Gap.{NotHeld, OverLimit}
 
 -- the refusal of a file at a line, by the number of the check that fails
 abbrev pub refusal_at : File → (line number : ℕ) → Refusal
-refusal_at file line number = record { file = number_of file; line = line; number = number }
+refusal_at file line number = record { file = file_number file; line = line; number = number }
 
 -- the book of a file, or its refusal, which names the file; no page's book wants memory
 abbrev pub of_file : {Book : Type 0} → File → Result Book BookFault → Result Book Refusal
@@ -80,7 +80,7 @@ pub record HasRefusal (pages : Pages) (folder : List ℕ) (refusal : Refusal) : 
 -- the page of the file of this number is the first of the folder that can't be had, and this is why
 pub record HasGap (pages : Pages) (folder : List ℕ) (number : ℕ) (gap : Gap) : Type 0 where
   pub file : File
-  pub numbered : number ≡ number_of file
+  pub numbered : number ≡ file_number file
   pub first : first_gap pages folder (files_in pages folder) ≡ Some (record { file = file; gap = gap })
 
 -- what reading says of the pages, where they are told

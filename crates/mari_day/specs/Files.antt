@@ -2,7 +2,7 @@
 use Rattle.std.specs.Prelude.{slice_index_or, ℕ, nat_lt, ◌==◌, ◌≡◌, ◌≢◌, ◌≤◌, List, [], ◌∷◌, ◌++◌, length, map, Option, Some, None, if◌then◌else◌}
 use lib.Chars.{codes}
 use Rattle.mari_units.specs.declared.limits.TheConstants.{MOST_PAGE}
-use Rattle.mari_io.specs.Outside.{Pages, page_of as page_named}
+use Rattle.mari_io.specs.Outside.{Pages, page_of}
 use Rattle.mari_zones.specs.Borders.{version_in}
 use Rattle.mari_day.specs.declared.files.File.{File}
 use Rattle.mari_day.specs.declared.files.TheConstants.{PUBLICATION}
@@ -82,8 +82,8 @@ abbrev pub file_named : ℕ → List ℕ
 file_named number = name_or_publication (file_with number)
 
 -- a file's page among the pages of its folder
-abbrev pub page_of : List (List ℕ) → File → List ℕ
-page_of pages file = slice_index_or pages (place_of file) []
+abbrev pub page_among : List (List ℕ) → File → List ℕ
+page_among pages file = slice_index_or pages (place_of file) []
 
 -- the path in a folder of the file of this name
 abbrev pub path_in : (folder name : List ℕ) → List ℕ
@@ -95,7 +95,7 @@ path_of folder file = path_in folder (name_of file)
 
 -- the page of a folder's file
 abbrev pub page_in : Pages → List ℕ → File → Option (List ℕ)
-page_in pages folder file = page_named pages (path_of folder file)
+page_in pages folder file = page_of pages (path_of folder file)
 
 -- the version of a folder's files, which its page of borders tells
 abbrev pub version_by : Option (List ℕ) → ℕ

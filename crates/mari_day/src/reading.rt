@@ -15,7 +15,7 @@ ghost use Rattle.mari_demands.specs.Runs.{run_grammar, IsRunBook};
 ghost use Rattle.mari_remain.specs.Accepted.{IsAccepted};
 ghost use Rattle.mari_day.specs.CalendarPage.{calendar_day_in, IsCalendarDay};
 ghost use Rattle.mari_day.specs.Dated.{IsDated};
-ghost use Rattle.mari_day.specs.Files.{page_of, IsFileNumber};
+ghost use Rattle.mari_day.specs.Files.{page_among, IsFileNumber};
 ghost use Rattle.mari_day.specs.Reading.{books_at, limits_at, of_file, refusal_at, BooksTell, FetchesFiles, IsFetchFault, NamesAFile, Reads};
 ghost use Rattle.mari_day.specs.Refusals.{RefusesByCheck};
 
@@ -70,7 +70,7 @@ fn named<T: Drop>(file: File, read: Result<T, BookFault>) -> Result<T, BooksFaul
 
 /// Reads the day and its calendar.
 fn read_day(alloc: Global, folder: &Folder) -> Result<CalendarDay, BooksFault>
-    ensures reads { Reads result (of_file File.Day (calendar_day_in (page_of folder.now File.Day))) }
+    ensures reads { Reads result (of_file File.Day (calendar_day_in (page_among folder.now File.Day))) }
     ensures file { NamesAFile result }
     ensures facts { IfOk result IsCalendarDay }
 {
@@ -79,7 +79,7 @@ fn read_day(alloc: Global, folder: &Folder) -> Result<CalendarDay, BooksFault>
 
 /// Reads the zones.
 fn read_zones(alloc: Global, folder: &Folder) -> Result<ZoneBook, BooksFault>
-    ensures reads { Reads result (of_file File.Zones (book_in zone_grammar (page_of folder.now File.Zones))) }
+    ensures reads { Reads result (of_file File.Zones (book_in zone_grammar (page_among folder.now File.Zones))) }
     ensures file { NamesAFile result }
     ensures facts { IfOk result IsZoneBook }
 {
@@ -88,7 +88,7 @@ fn read_zones(alloc: Global, folder: &Folder) -> Result<ZoneBook, BooksFault>
 
 /// Reads the borders between the zones.
 fn read_borders(alloc: Global, folder: &Folder, zones: &ZoneBook) -> Result<BorderBook, BooksFault>
-    ensures reads { Reads result (of_file File.Borders (borders_in zones.now (page_of folder.now File.Borders))) }
+    ensures reads { Reads result (of_file File.Borders (borders_in zones.now (page_among folder.now File.Borders))) }
     ensures file { NamesAFile result }
     ensures facts { IfOk result (IsBorderBook zones.now) }
 {
@@ -105,7 +105,7 @@ fn read_bids(
     zones: &ZoneBook,
     quarters: u32,
 ) -> Result<BidBook, BooksFault>
-    ensures reads { Reads result (of_file File.Bids (book_in (bid_grammar zones.now quarters) (page_of folder.now File.Bids))) }
+    ensures reads { Reads result (of_file File.Bids (book_in (bid_grammar zones.now quarters) (page_among folder.now File.Bids))) }
     ensures file { NamesAFile result }
     ensures facts { IfOk result (IsBidBook zones.now quarters) }
 {
@@ -117,7 +117,7 @@ fn read_bids(
 
 /// Reads the links between the bids.
 fn read_links(alloc: Global, folder: &Folder, bids: &BidBook) -> Result<LinkBook, BooksFault>
-    ensures reads { Reads result (of_file File.Links (book_in (link_grammar bids.now) (page_of folder.now File.Links))) }
+    ensures reads { Reads result (of_file File.Links (book_in (link_grammar bids.now) (page_among folder.now File.Links))) }
     ensures file { NamesAFile result }
     ensures facts { IfOk result (IsLinkBook bids.now) }
 {
@@ -129,7 +129,7 @@ fn read_links(alloc: Global, folder: &Folder, bids: &BidBook) -> Result<LinkBook
 
 /// Reads the runs.
 fn read_runs(alloc: Global, folder: &Folder, quarters: u32) -> Result<RunBook, BooksFault>
-    ensures reads { Reads result (of_file File.Runs (book_in (run_grammar quarters) (page_of folder.now File.Runs))) }
+    ensures reads { Reads result (of_file File.Runs (book_in (run_grammar quarters) (page_among folder.now File.Runs))) }
     ensures file { NamesAFile result }
     ensures facts { IfOk result (IsRunBook quarters) }
 {
@@ -147,7 +147,7 @@ fn read_demands(
     zones: &ZoneBook,
 ) -> Result<DemandBook, BooksFault>
     requires { length runs.now.runs ≤ MOST_RUNS }
-    ensures reads { Reads result (of_file File.Demands (book_in (demand_grammar zones.now (length runs.now.runs)) (page_of folder.now File.Demands))) }
+    ensures reads { Reads result (of_file File.Demands (book_in (demand_grammar zones.now (length runs.now.runs)) (page_among folder.now File.Demands))) }
     ensures file { NamesAFile result }
     ensures facts { IfOk result (IsDemandBook zones.now (length runs.now.runs)) }
 {

@@ -29,14 +29,14 @@ use Rattle.mari_day.specs.Files.{files_in, file_number, page_among, first_gap, A
 use Rattle.mari_day.specs.Files.Gap.{NotHeld, OverLimit}
 
 -- the refusal of a file at a line, by the number of the check that fails
-abbrev pub refusal_at : File → (line number : ℕ) → Refusal
-refusal_at file line number = record { file = file_number file; line = line; number = number }
+abbrev pub file_refusal : File → (line number : ℕ) → Refusal
+file_refusal file line number = record { file = file_number file; line = line; number = number }
 
 -- the book of a file, or its refusal, which names the file; no page's book wants memory
 abbrev pub of_file : {Book : Type 0} → File → Result Book BookFault → Result Book Refusal
 of_file file (Ok book) = Ok book
-of_file file (Err (refused.At line number)) = Err (refusal_at file line number)
-of_file file (Err refused.Memory) = Err (refusal_at file 0 0)
+of_file file (Err (refused.At line number)) = Err (file_refusal file line number)
+of_file file (Err refused.Memory) = Err (file_refusal file 0 0)
 
 -- the limits that limits.csv states for each run, in the version that has it
 abbrev pub limits_at : ZoneBook → BorderBook → (runs : ℕ) → List (List ℕ) → Result (Option (List (List BorderLimits))) Refusal

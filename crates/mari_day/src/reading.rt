@@ -16,7 +16,7 @@ ghost use Rattle.mari_remain.specs.Accepted.{IsAccepted};
 ghost use Rattle.mari_day.specs.CalendarPage.{calendar_day_in, IsCalendarDay};
 ghost use Rattle.mari_day.specs.Dated.{IsDated};
 ghost use Rattle.mari_day.specs.Files.{page_among, IsFileNumber};
-ghost use Rattle.mari_day.specs.Reading.{books_at, limits_at, of_file, refusal_at, BooksTell, FetchesFiles, IsFetchFault, NamesAFile, Reads};
+ghost use Rattle.mari_day.specs.Reading.{books_at, file_refusal, limits_at, of_file, BooksTell, FetchesFiles, IsFetchFault, NamesAFile, Reads};
 ghost use Rattle.mari_day.specs.Refusals.{RefusesByCheck};
 
 use crate::calendar_page::CalendarDay;
@@ -43,7 +43,7 @@ pub enum BooksFault {
 
 /// The refusal of a file.
 fn refusal_of(file: File, line: u32, number: u8) -> Refusal
-    ensures refusal { result ≡ refusal_at file line number }
+    ensures refusal { result ≡ file_refusal file line number }
     ensures file { IsFileNumber result.file }
 {
     Refusal {

@@ -143,7 +143,7 @@ pub record Comes (parts : List Part) (x : Part) : Type 0 where
   pub are : parts_of whole ≡ parts ++ x ∷ more
 
 -- the head that was given is that of the books, and the blocks behind it have no fault
-pub record HasNoFault (books : Books) (date : List ℕ) (quarters budget : ℕ) (rest : List Part) (day : DayCheck) : Type 0 where
+pub record IsFaultlessSoFar (books : Books) (date : List ℕ) (quarters budget : ℕ) (rest : List Part) (day : DayCheck) : Type 0 where
   pub date_is : date ≡ books.date
   pub quarters_is : quarters ≡ books.quarters
   pub budget_is : budget ≡ day.budget
@@ -154,7 +154,7 @@ pub record HasNoFault (books : Books) (date : List ℕ) (quarters budget : ℕ) 
 -- the parts so far settle no verdict: there are none, or a head and blocks that have no fault
 abbrev pub IsOpen : Books → List Part → DayCheck → Type 0
 IsOpen books [] day = IsChecked books [] day
-IsOpen books (part.Head date quarters budget ∷ rest) day = HasNoFault books date quarters budget rest day
+IsOpen books (part.Head date quarters budget ∷ rest) day = IsFaultlessSoFar books date quarters budget rest day
 IsOpen books (part.Block b ∷ rest) day = ⊥
 IsOpen books (part.Totals operators providers ∷ rest) day = ⊥
 

@@ -167,14 +167,14 @@ IsFound books parts day None = IsOpen books parts day
 IsFound books parts day (Some verdict) = IsSettled books parts verdict
 
 -- a text has come, and these parts of it were taken
-pub record IsRead (books : Books) (text : List ℕ) (parts : List Part) (stream : Stream) : Type 0 where
+pub record HasRead (books : Books) (text : List ℕ) (parts : List Part) (stream : Stream) : Type 0 where
   pub stands : ComesFrom stream.reader.come text parts
   pub found : IsFound books parts stream.day stream.found
 
 -- all parts that have come of a text were taken, and no whole line of it has a fault
 pub record IsAllRead (books : Books) (text : List ℕ) (stream : Stream) : Type 0 where
   pub parts : List Part
-  pub read : IsRead books text parts stream
+  pub read : HasRead books text parts stream
   pub waits : stream.reader.waits ≡ true
   pub no_fault : NoFault text
 

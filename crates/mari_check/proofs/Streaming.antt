@@ -21,7 +21,7 @@ use Rattle.mari_check.specs.declared.day.DayCheck.{DayCheck}
 use Rattle.mari_check.specs.declared.verdict.Verdict.{Verdict}
 use Rattle.mari_check.specs.Checked.{IsChecked}
 use Rattle.mari_check.specs.Day.{HasHead}
-use Rattle.mari_check.specs.Streams.{Comes, IsFaultlessSoFar, IsFound, IsOpen, IsSettled}
+use Rattle.mari_check.specs.Streams.{Comes, IsFaultlessSoFar, IsFound, IsOpen, SettlesVerdict}
 use Rattle.mari_check.specs.Verdicts.{BlockTells, HeadTells, IsVerdict}
 use Rattle.mari_check.proofs.Ending.{block-told, head-clear, head-told}
 
@@ -108,7 +108,7 @@ fewer-left old new text parts x s t =
 
 -- ---- what is settled stays so
 
-pub still-settled : (books : Books) (parts : List Part) (x : Part) (v : Verdict) → IsSettled books parts v → IsSettled books (parts ++ x ∷ []) v
+pub still-settled : (books : Books) (parts : List Part) (x : Part) (v : Verdict) → SettlesVerdict books parts v → SettlesVerdict books (parts ++ x ∷ []) v
 still-settled books parts x v s p more e = s p (x ∷ more) (e ∙ append_assoc parts (x ∷ []) more)
 
 pub found-stays : (books : Books) (parts : List Part) (x : Part) (day : DayCheck) (found : Option Verdict) → is_some found ≡ true → IsFound books parts day found → IsFound books (parts ++ x ∷ []) day found
@@ -151,7 +151,7 @@ module _ (books : Books) (parts : List Part) (old : DayCheck) (fine : IsOpen boo
   alone : parts ++ x ∷ [] ≡ part.Head date quarters budget ∷ []
   alone = ap (λ (ps : List Part). ps ++ x ∷ []) (first books parts old date quarters budget fine (subst (Comes parts) is c)) ∙ ap (λ (y : Part). y ∷ []) is
 
-  head-settles : (v : Verdict) → found ≡ Some v → IsSettled books (parts ++ x ∷ []) v
+  head-settles : (v : Verdict) → found ≡ Some v → SettlesVerdict books (parts ++ x ∷ []) v
   head-settles v e = λ p more same.
       let s = starts p date quarters budget more (same ∙ ap (λ (ps : List Part). ps ++ more) alone) in
       head-told books p found v e (tells p s.date_is s.quarters_is)
@@ -226,7 +226,7 @@ module _ (books : Books) (parts : List Part) (old : DayCheck) (x : Part) (w : Wa
         stands = behind p.blocks p.operators p.providers w.clear.blocks x more (s.rest_is ∙ ap (λ (ps : List Part). ps ++ x ∷ more) w.clear.are);
       }
 
-  block-settles : (b : Block) → x ≡ part.Block b → (v : Verdict) → BlockTells books old.budget w.clear.blocks b (Some v) → IsSettled books (parts ++ x ∷ []) v
+  block-settles : (b : Block) → x ≡ part.Block b → (v : Verdict) → BlockTells books old.budget w.clear.blocks b (Some v) → SettlesVerdict books (parts ++ x ∷ []) v
   block-settles b is v tells = λ p more e.
       let spot = placed p more e in
       let own : Behind p.blocks p.operators p.providers w.clear.blocks (part.Block b) = subst (Behind p.blocks p.operators p.providers w.clear.blocks) is spot.stands in
@@ -262,7 +262,7 @@ module _ (books : Books) (parts : List Part) (old : DayCheck) (x : Part) (w : Wa
   block-found b is new (Err why) tells stands budget = tt
 
   pub totals-settle : (os : List MoneyLine) (ps : List AmountLine) → x ≡ part.Totals os ps → (v : Verdict)
-      → ((p : Publication) → HasHead books p → p.budget ≡ old.budget → IsChecked books p.blocks old → p.operators ≡ os → p.providers ≡ ps → IsVerdict books p v) → IsSettled books (parts ++ x ∷ []) v
+      → ((p : Publication) → HasHead books p → p.budget ≡ old.budget → IsChecked books p.blocks old → p.operators ≡ os → p.providers ≡ ps → IsVerdict books p v) → SettlesVerdict books (parts ++ x ∷ []) v
   totals-settle os ps is v ends = λ p more e.
       let spot = placed p more e in
       let own : Behind p.blocks p.operators p.providers w.clear.blocks (part.Totals os ps) = subst (Behind p.blocks p.operators p.providers w.clear.blocks) is spot.stands in

@@ -159,12 +159,12 @@ IsOpen books (part.Block b ∷ rest) day = ⊥
 IsOpen books (part.Totals operators providers ∷ rest) day = ⊥
 
 -- the parts so far settle the verdict on each publication that begins with them
-abbrev pub IsSettled : Books → List Part → Verdict → Type 0
-IsSettled books parts verdict = (p : Publication) (more : List Part) → parts_of p ≡ parts ++ more → IsVerdict books p verdict
+abbrev pub SettlesVerdict : Books → List Part → Verdict → Type 0
+SettlesVerdict books parts verdict = (p : Publication) (more : List Part) → parts_of p ≡ parts ++ more → IsVerdict books p verdict
 
 abbrev pub IsFound : Books → List Part → DayCheck → Option Verdict → Type 0
 IsFound books parts day None = IsOpen books parts day
-IsFound books parts day (Some verdict) = IsSettled books parts verdict
+IsFound books parts day (Some verdict) = SettlesVerdict books parts verdict
 
 -- a text has come, and these parts of it were taken
 pub record HasRead (books : Books) (text : List ℕ) (parts : List Part) (stream : Stream) : Type 0 where

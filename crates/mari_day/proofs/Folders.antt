@@ -8,7 +8,7 @@ use Rattle.mari_io.specs.declared.shelf.Fetch.TheVariants as fetch
 use Rattle.mari_day.specs.declared.pages.PagesFault.{PagesFault}
 use Rattle.mari_day.specs.declared.pages.PagesFault.TheVariants.{Fetch as OfFetch, Memory as NoMemory}
 use Rattle.std.specs.Prelude.{IfErr, IfOk, Result, Ok, Err}
-use Rattle.mari_day.specs.Fetching.{FetchedOne, FetchedUpTo, FetchesFolder, FetchingTells, HasFiles, IsFaultOf, SomeFetched}
+use Rattle.mari_day.specs.Fetching.{FetchedOne, FetchedUpTo, FetchesFolder, FetchingTells, HasFiles, IsFaultOfFile, SomeFetched}
 use Rattle.mari_day.specs.Files.{files, files_in, files_of, first_gap, gap_of, gap_or, page_in, page_among, place_of, version_by, ArePages, FileGap, Gap}
 use Rattle.mari_day.proofs.Fetched.{one_more}
 
@@ -41,7 +41,7 @@ up-to count before now NoMemory l some = record { count = some.count; within = o
 up-to count before now (OfFetch file why) l fetched = fetched
 
 -- the fetch of limits.csv gave no page
-pub at_limits : (before mid now : ℕ) (fault : PagesFault) → mid ≡ counted_by 7 before → FetchedOne mid now fault → IsFaultOf Limits fault → FetchedUpTo 8 before now fault
+pub at_limits : (before mid now : ℕ) (fault : PagesFault) → mid ≡ counted_by 7 before → FetchedOne mid now fault → IsFaultOfFile Limits fault → FetchedUpTo 8 before now fault
 at_limits before mid now NoMemory e (inl same) is = record { count = 7; within = omega arith; fetched = same ∙ e }
 at_limits before mid now NoMemory e (inr one) is = record { count = 8; within = omega arith; fetched = one_more 7 before mid now e one }
 at_limits before mid now (OfFetch file why) e one is =

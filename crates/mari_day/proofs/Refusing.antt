@@ -39,7 +39,7 @@ use Rattle.mari_demands.specs.declared.limits.Limits.{Limits as BorderLimits}
 use Rattle.mari_demands.specs.declared.runs.RunCheck.TheVariants as run
 use Rattle.mari_day.specs.CalendarPage.{calendar_day_in, check_of, day_by, day_columns, day_of_read, day_of_rows}
 use Rattle.mari_day.specs.DateChecks.{date_check_number}
-use Rattle.mari_day.specs.Reading.{books_at, limits_at, of_file, Reads}
+use Rattle.mari_day.specs.Reading.{books_at, limits_at, of_file, ReadsAs}
 use Rattle.mari_day.specs.Refusals.{IsByCheck, IsCheckNumber, RefusesByCheck}
 use Rattle.mari_day.specs.Refusals.IsCheckNumber.{OfRows, Own}
 use Rattle.mari_day.specs.declared.calendar_page.DateCheck.TheVariants as date
@@ -288,7 +288,7 @@ books-tell pages =
     then-tells IsByCheck (limits_at zones borders (length runs.runs) pages) _ (limits-there zones borders (length runs.runs) pages) (λ limits. tt))))))))
 
 -- what was read is refused so
-pub refuses-by-check : (pages : List (List ℕ)) (result : Result Books BooksFault) → Reads result (books_at pages) → RefusesByCheck result
+pub refuses-by-check : (pages : List (List ℕ)) (result : Result Books BooksFault) → ReadsAs result (books_at pages) → RefusesByCheck result
 refuses-by-check pages (Ok books) read = tt
 refuses-by-check pages (Err (why.Fetch file fault)) read = tt
 refuses-by-check pages (Err why.Memory) read = tt

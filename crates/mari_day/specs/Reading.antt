@@ -59,11 +59,11 @@ books_at pages =
     Ok (record { date = day.date; quarters = day.quarters; zones = zones; borders = borders; bids = bids; links = links; runs = runs; demands = demands; limits = limits })
 
 -- this is what was to be read, or its refusal, unless memory was wanted
-abbrev pub Reads : {X : Type 0} → Result X BooksFault → Result X Refusal → Type 0
-Reads (Ok x) read = read ≡ Ok x
-Reads (Err (why.Refused refusal)) read = read ≡ Err refusal
-Reads (Err why.Memory) read = ⊤
-Reads (Err (why.Fetch file fault)) read = ⊥
+abbrev pub ReadsAs : {X : Type 0} → Result X BooksFault → Result X Refusal → Type 0
+ReadsAs (Ok x) read = read ≡ Ok x
+ReadsAs (Err (why.Refused refusal)) read = read ≡ Err refusal
+ReadsAs (Err why.Memory) read = ⊤
+ReadsAs (Err (why.Fetch file fault)) read = ⊥
 
 -- the books of the folder's pages, which are held
 pub record HasBooks (pages : Pages) (folder : List ℕ) (books : Books) : Type 0 where

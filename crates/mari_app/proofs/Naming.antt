@@ -23,7 +23,7 @@ use Rattle.mari_publish.specs.declared.fault.TextFault.{TextFault}
 use Rattle.mari_publish.specs.declared.fault.TextFault.TheVariants as text_fault
 use Rattle.mari_remain.specs.declared.books.Books.{Books}
 use Rattle.mari_day.specs.DateChecks.{date_check_name}
-use Rattle.mari_day.specs.Files.{number_of}
+use Rattle.mari_day.specs.Files.{file_number}
 use Rattle.mari_day.specs.Reading.{NamesAFile}
 use Rattle.mari_day.specs.Refusals.{IsByCheck, IsCheckNumber, OwnCheck, RefusesByCheck, own_number}
 use Rattle.mari_day.specs.Refusals.IsCheckNumber.{OfRows, Own}
@@ -52,7 +52,7 @@ row-named file row.BadRow = λ e. cc e
 row-named file row.NotUtf8 = λ e. cc e
 
 -- and those of each file of its own
-own-named : (file : File) (check : OwnCheck file) → IsNamedCheck (number_of file) (own_number file check)
+own-named : (file : File) (check : OwnCheck file) → IsNamedCheck (file_number file) (own_number file check)
 unfolding check_name date_check_name zone_check_name border_check_name bid_check_name link_check_name run_check_name demand_check_name limit_check_name
 own-named Day date.NotOneRecord = λ e. cc e
 own-named Day date.BadDate = λ e. cc e
@@ -98,8 +98,8 @@ own-named Limits limit.UnknownBorder = λ e. cc e
 own-named Limits limit.Repeated = λ e. cc e
 own-named Limits limit.Range = λ e. cc e
 
-named : (file : File) (number : ℕ) → IsCheckNumber file number → IsNamedCheck (number_of file) number
-named file number (OfRows check e) = rw e (row-named (number_of file) check)
+named : (file : File) (number : ℕ) → IsCheckNumber file number → IsNamedCheck (file_number file) number
+named file number (OfRows check e) = rw e (row-named (file_number file) check)
 named file number (Own check e) = rw e (own-named file check)
 
 by-name : (refusal : Refusal) → IsByCheck refusal → HasName refusal

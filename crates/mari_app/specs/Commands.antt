@@ -13,7 +13,7 @@ use Rattle.mari_remain.specs.declared.books.Books.{Books}
 use Rattle.mari_remain.specs.Migrated.{borders_page, limits_page}
 use Rattle.mari_day.specs.declared.files.File.TheVariants as file
 use Rattle.mari_day.specs.declared.files.TheConstants.{PUBLICATION}
-use Rattle.mari_day.specs.Files.{Gap, file_named, number_of, path_in}
+use Rattle.mari_day.specs.Files.{Gap, file_named, file_number, path_in}
 use Rattle.mari_day.specs.Files.Gap.{NotHeld, OverLimit}
 use Rattle.mari_day.specs.Reading.{HasBooks, HasGap, HasRefusal}
 use Rattle.mari_check.specs.Day.{IsFirstFault, IsValidPublication}
@@ -82,7 +82,7 @@ text_refusal text_fault.Memory = text_refusal_at 0 0
 
 -- the refusal of borders that leave their limits to limits.csv already
 abbrev pub already_two : Refusal
-already_two = record { file = number_of file.Borders; line = 1; number = migration_check_number AlreadyTwo }
+already_two = record { file = file_number file.Borders; line = 1; number = migration_check_number AlreadyTwo }
 
 -- the market files are refused: the first refusal of the folder's; or the folder is migrated though it has limits.csv
 -- already

@@ -43,7 +43,7 @@ pub data IsStarved (asked : Option Asked) (pages : Pages) (before after : Option
   Part : (books : Books) (nodes : ℕ) → AreCleared asked pages books nodes → WrotePart books nodes before after → IsStarved asked pages before after
 
 -- a page can't be had, and the line of its file is taken
-pub record Lacks (asked : Option Asked) (pages : Option Pages) (gap : Gap) (word : List ℕ) (before after : Option (List ℕ)) : Type 0 where
+pub record TookGapLine (asked : Option Asked) (pages : Option Pages) (gap : Gap) (word : List ℕ) (before after : Option (List ℕ)) : Type 0 where
   pub file : ℕ
   pub first : (told : Pages) → pages ≡ Some told → LacksPage asked told file gap
   pub line : after ≡ then_took before (file_line word file)
@@ -69,8 +69,8 @@ Answers asked pages failed before after WriteFault = WhereTold pages (λ told. I
 Answers asked pages failed before after Memory = WhereTold pages (λ told. IsStarved asked told before after) × ((after ≡ before) ⊎ AsksToClear asked)
 Answers asked pages failed before after (Invalid run fault) =
     AsksToCheck asked × WhereTold pages (λ told. IsInvalid asked told run fault) × (after ≡ then_took before (invalid_line run fault))
-Answers asked pages failed before after Missing = AsksForFiles asked × Lacks asked pages NotHeld (codes "missing") before after
-Answers asked pages failed before after TooLong = AsksForFiles asked × Lacks asked pages OverLimit (codes "toolong") before after
+Answers asked pages failed before after Missing = AsksForFiles asked × TookGapLine asked pages NotHeld (codes "missing") before after
+Answers asked pages failed before after TooLong = AsksForFiles asked × TookGapLine asked pages OverLimit (codes "toolong") before after
 
 -- the status of a page that can't be had
 abbrev pub gap_status : Gap → Status

@@ -10,13 +10,13 @@ use Rattle.mari_progress.specs.Behind.{also_behind, market_behind, run_behind}
 use Rattle.mari_check.specs.declared.fault.Fault.{Fault}
 use Rattle.mari_check.specs.declared.fault.Fault.TheVariants as fault
 use Rattle.mari_check.specs.Day.{IsFreeIn}
-use Rattle.mari_check.specs.Faults.{IsFreeOf, IsLeast, number_of}
+use Rattle.mari_check.specs.Faults.{IsFreeOf, IsLeast, fault_number}
 
 -- a published block whose run isn't there
 pub past-last : (books : Books) (budget : ℕ) (blocks : List Block) (b : FullBlock) → length books.runs.runs < run_behind blocks → IsLeast (IsFreeIn books budget blocks (block.Published b)) fault.Heading
 past-last books budget blocks b past = record { there = λ h. omega (arith, h.0, past); none_lower = λ other less. absurd (below other less) }
   where
-    below : (other : Fault) → number_of other < 1 → ⊥
+    below : (other : Fault) → fault_number other < 1 → ⊥
     below fault.Heading l = omega (arith, l)
     below fault.Lines l = omega (arith, l)
     below fault.Infeasible l = omega (arith, l)

@@ -4,7 +4,7 @@ use Rattle.std.proofs.lemmas.Bool.{cases_lt}
 use Rattle.std.proofs.Common.{inl, inr}
 use Rattle.mari_check.specs.declared.fault.Fault.{Fault}
 use Rattle.mari_check.specs.declared.fault.Fault.TheVariants as fault
-use Rattle.mari_check.specs.Faults.{Finds, FindsUpTo, IsLeast, NoneBelow, number_of}
+use Rattle.mari_check.specs.Faults.{Finds, FindsUpTo, IsLeast, NoneBelow, fault_number}
 
 -- the fault of a number
 fault_of : ℕ → Fault
@@ -21,7 +21,7 @@ fault_of n =
     if n == 10 then fault.Leaf else
     if n == 11 then fault.Ledger else fault.Totals
 
-own : (f : Fault) → fault_of (number_of f) ≡ f
+own : (f : Fault) → fault_of (fault_number f) ≡ f
 unfolding fault_of
 own fault.Heading = refl
 own fault.Lines = refl
@@ -36,7 +36,7 @@ own fault.Leaf = refl
 own fault.Ledger = refl
 own fault.Totals = refl
 
-from_one : (f : Fault) → 1 ≤ number_of f
+from_one : (f : Fault) → 1 ≤ fault_number f
 from_one fault.Heading = omega arith
 from_one fault.Lines = omega arith
 from_one fault.Infeasible = omega arith
@@ -50,7 +50,7 @@ from_one fault.Leaf = omega arith
 from_one fault.Ledger = omega arith
 from_one fault.Totals = omega arith
 
-to_twelve : (f : Fault) → number_of f ≤ 12
+to_twelve : (f : Fault) → fault_number f ≤ 12
 to_twelve fault.Heading = omega arith
 to_twelve fault.Lines = omega arith
 to_twelve fault.Infeasible = omega arith
@@ -69,16 +69,16 @@ module _ (free_of : Fault → Type 0) where
   none-first f l = absurd (omega (arith, l, from_one f))
 
   -- one fault more that isn't there
-  pub none-more : (f : Fault) (n : ℕ) → n ≡ number_of f → NoneBelow free_of n → free_of f → NoneBelow free_of (n + 1)
-  none-more f n e before here g l = elim (cases_lt (number_of g) n) [
+  pub none-more : (f : Fault) (n : ℕ) → n ≡ fault_number f → NoneBelow free_of n → free_of f → NoneBelow free_of (n + 1)
+  none-more f n e before here g l = elim (cases_lt (fault_number g) n) [
     | inl less ↦ before g less
     | inr more ↦
-        let same : number_of f ≡ number_of g = omega (arith, e, l, more) in
+        let same : fault_number f ≡ fault_number g = omega (arith, e, l, more) in
         subst free_of (sym (own f) ∙ ap fault_of same ∙ own g) here
   ]
 
   -- the least that is there
-  pub least-is : (f : Fault) → NoneBelow free_of (number_of f) → (free_of f → ⊥) → IsLeast free_of f
+  pub least-is : (f : Fault) → NoneBelow free_of (fault_number f) → (free_of f → ⊥) → IsLeast free_of f
   least-is f before there = record { there = there; none_lower = before }
 
   pub none-is : NoneBelow free_of 13 → (f : Fault) → free_of f

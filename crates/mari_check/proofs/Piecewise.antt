@@ -25,7 +25,7 @@ use Rattle.mari_check.specs.declared.stream.Stream.{Stream}
 use Rattle.mari_check.specs.declared.stream.StreamFault.{StreamFault}
 use Rattle.mari_check.specs.declared.stream.StreamFault.TheVariants.{Fetch as OfFetch, Text as OfText, Memory as NoMemory}
 use Rattle.mari_check.specs.declared.verdict.Verdict.{Verdict}
-use Rattle.mari_check.specs.Streams.{EndTells, FaultStops, FaultTells, IsAllRead, IsFound, IsLineFault, IsRead, IsStreamFetch, IsTextFault, IsToldFault, IsWrappedMemory, LineTells, SameAsRead, StopsAtFault, StreamTells, fault_of_fetch, fault_of_text}
+use Rattle.mari_check.specs.Streams.{EndTells, FaultStops, FaultTells, IsAllRead, IsFound, IsLineFault, HasRead, IsStreamFetch, IsTextFault, IsToldFault, IsWrappedMemory, LineTells, SameAsRead, StopsAtFault, StreamTells, fault_of_fetch, fault_of_text}
 use Rattle.mari_check.specs.Streams.IsToldFault.{OfPage as of-page, OfGiven as of-given}
 use Rattle.mari_check.specs.Verdicts.{IsVerdict}
 
@@ -203,13 +203,13 @@ first-of left old items piece n none same h = subst (λ (xs : List ℕ). IsPiece
 pub record Under (books : Books) (page rest : Option (List ℕ)) (given : ℕ) (stream : Stream) : Type 0 where
   pub text : List ℕ
   pub parts : List Part
-  pub read : IsRead books text parts stream
+  pub read : HasRead books text parts stream
   pub given_is : given ≡ length text
   pub few : given ≤ MOST_GIVEN
   pub no_fault : NoFault text
   pub told : (whole : List ℕ) → page ≡ Some whole → (left : List ℕ) × (rest ≡ Some left) × (text ++ left ≡ whole)
 
-pub nothing-yet : (books : Books) (page : Option (List ℕ)) (given : ℕ) (stream : Stream) → given ≡ 0 → IsRead books [] [] stream → Under books page page given stream
+pub nothing-yet : (books : Books) (page : Option (List ℕ)) (given : ℕ) (stream : Stream) → given ≡ 0 → HasRead books [] [] stream → Under books page page given stream
 nothing-yet books page given stream e read = record { text = []; parts = []; read = read; given_is = e; few = omega (arith, e); no_fault = nothing-faulty; told = λ whole is. (whole, is, refl) }
 
 dropped : (rest now : Option (List ℕ)) (left : List ℕ) (n : ℕ) → rest ≡ Some left → now ≡ option_map (λ l. drop n l) rest → now ≡ Some (drop n left)

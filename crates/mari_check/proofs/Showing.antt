@@ -35,6 +35,5 @@ module _ (books : Books) (ok : IsAccepted books) (run : ℕ) (made : RunMarket) 
         greatest = interval.greatest;
         areas = free fault.Area;
         ledger = ledger;
-        nets = balance.nets;
-        rents = balance.rents;
+        sums = balance.to_zero;
       }

@@ -21,7 +21,7 @@ use Rattle.mari_check.specs.declared.day.DayCheck.{DayCheck}
 use Rattle.mari_check.specs.declared.verdict.Verdict.{Verdict}
 use Rattle.mari_check.specs.Checked.{IsChecked}
 use Rattle.mari_check.specs.Day.{HasHead}
-use Rattle.mari_check.specs.Streams.{Comes, HasNoFault, IsFound, IsOpen, IsSettled}
+use Rattle.mari_check.specs.Streams.{Comes, IsFaultlessSoFar, IsFound, IsOpen, SettlesVerdict}
 use Rattle.mari_check.specs.Verdicts.{BlockTells, HeadTells, IsVerdict}
 use Rattle.mari_check.proofs.Ending.{block-told, head-clear, head-told}
 
@@ -108,7 +108,7 @@ fewer-left old new text parts x s t =
 
 -- ---- what is settled stays so
 
-pub still-settled : (books : Books) (parts : List Part) (x : Part) (v : Verdict) → IsSettled books parts v → IsSettled books (parts ++ x ∷ []) v
+pub still-settled : (books : Books) (parts : List Part) (x : Part) (v : Verdict) → SettlesVerdict books parts v → SettlesVerdict books (parts ++ x ∷ []) v
 still-settled books parts x v s p more e = s p (x ∷ more) (e ∙ append_assoc parts (x ∷ []) more)
 
 pub found-stays : (books : Books) (parts : List Part) (x : Part) (day : DayCheck) (found : Option Verdict) → is_some found ≡ true → IsFound books parts day found → IsFound books (parts ++ x ∷ []) day found
@@ -151,7 +151,7 @@ module _ (books : Books) (parts : List Part) (old : DayCheck) (fine : IsOpen boo
   alone : parts ++ x ∷ [] ≡ part.Head date quarters budget ∷ []
   alone = ap (λ (ps : List Part). ps ++ x ∷ []) (first books parts old date quarters budget fine (subst (Comes parts) is c)) ∙ ap (λ (y : Part). y ∷ []) is
 
-  head-settles : (v : Verdict) → found ≡ Some v → IsSettled books (parts ++ x ∷ []) v
+  head-settles : (v : Verdict) → found ≡ Some v → SettlesVerdict books (parts ++ x ∷ []) v
   head-settles v e = λ p more same.
       let s = starts p date quarters budget more (same ∙ ap (λ (ps : List Part). ps ++ more) alone) in
       head-told books p found v e (tells p s.date_is s.quarters_is)
@@ -161,7 +161,7 @@ module _ (books : Books) (parts : List Part) (old : DayCheck) (fine : IsOpen boo
       let p = c.whole in
       let s = starts p date quarters budget c.more (c.are ∙ sym (append_assoc parts (x ∷ []) c.more) ∙ ap (λ (ps : List Part). ps ++ c.more) alone) in
       let right = head-clear books p found e (tells p s.date_is s.quarters_is) in
-      let now : HasNoFault books date quarters budget [] new = record { date_is = sym s.date_is ∙ right.date; quarters_is = sym s.quarters_is ∙ right.quarters; budget_is = sym b; blocks = []; are = refl; checked = checked } in
+      let now : IsFaultlessSoFar books date quarters budget [] new = record { date_is = sym s.date_is ∙ right.date; quarters_is = sym s.quarters_is ∙ right.quarters; budget_is = sym b; blocks = []; are = refl; checked = checked } in
       subst (λ (ps : List Part). IsOpen books ps new) (sym alone) now
 
   pub head-found : (new : DayCheck) → IsChecked books [] new → new.budget ≡ budget → IsFound books (parts ++ x ∷ []) new found
@@ -193,7 +193,7 @@ pub record Way (books : Books) (parts : List Part) (day : DayCheck) : Type 0 whe
   pub budget : ℕ
   pub rest : List Part
   pub is : parts ≡ part.Head date quarters budget ∷ rest
-  pub clear : HasNoFault books date quarters budget rest day
+  pub clear : IsFaultlessSoFar books date quarters budget rest day
 
 no-first : (p : Publication) (x : Part) (more : List Part) → IsLater x → parts_of p ≡ x ∷ more → ⊥
 no-first p (part.Head date quarters budget) more l e = l
@@ -226,7 +226,7 @@ module _ (books : Books) (parts : List Part) (old : DayCheck) (x : Part) (w : Wa
         stands = behind p.blocks p.operators p.providers w.clear.blocks x more (s.rest_is ∙ ap (λ (ps : List Part). ps ++ x ∷ more) w.clear.are);
       }
 
-  block-settles : (b : Block) → x ≡ part.Block b → (v : Verdict) → BlockTells books old.budget w.clear.blocks b (Some v) → IsSettled books (parts ++ x ∷ []) v
+  block-settles : (b : Block) → x ≡ part.Block b → (v : Verdict) → BlockTells books old.budget w.clear.blocks b (Some v) → SettlesVerdict books (parts ++ x ∷ []) v
   block-settles b is v tells = λ p more e.
       let spot = placed p more e in
       let own : Behind p.blocks p.operators p.providers w.clear.blocks (part.Block b) = subst (Behind p.blocks p.operators p.providers w.clear.blocks) is spot.stands in
@@ -245,7 +245,7 @@ module _ (books : Books) (parts : List Part) (old : DayCheck) (x : Part) (w : Wa
   block-opens : (b : Block) → x ≡ part.Block b → (new : DayCheck) → IsChecked books (w.clear.blocks ++ b ∷ []) new → new.budget ≡ old.budget → IsOpen books (parts ++ x ∷ []) new
   block-opens b is new checked budget =
       let longer : parts ++ x ∷ [] ≡ part.Head w.date w.quarters w.budget ∷ (w.rest ++ x ∷ []) = ap (λ (ps : List Part). ps ++ x ∷ []) w.is in
-      let now : HasNoFault books w.date w.quarters w.budget (w.rest ++ x ∷ []) new = record {
+      let now : IsFaultlessSoFar books w.date w.quarters w.budget (w.rest ++ x ∷ []) new = record {
         date_is = w.clear.date_is;
         quarters_is = w.clear.quarters_is;
         budget_is = w.clear.budget_is ∙ sym budget;
@@ -262,7 +262,7 @@ module _ (books : Books) (parts : List Part) (old : DayCheck) (x : Part) (w : Wa
   block-found b is new (Err why) tells stands budget = tt
 
   pub totals-settle : (os : List MoneyLine) (ps : List AmountLine) → x ≡ part.Totals os ps → (v : Verdict)
-      → ((p : Publication) → HasHead books p → p.budget ≡ old.budget → IsChecked books p.blocks old → p.operators ≡ os → p.providers ≡ ps → IsVerdict books p v) → IsSettled books (parts ++ x ∷ []) v
+      → ((p : Publication) → HasHead books p → p.budget ≡ old.budget → IsChecked books p.blocks old → p.operators ≡ os → p.providers ≡ ps → IsVerdict books p v) → SettlesVerdict books (parts ++ x ∷ []) v
   totals-settle os ps is v ends = λ p more e.
       let spot = placed p more e in
       let own : Behind p.blocks p.operators p.providers w.clear.blocks (part.Totals os ps) = subst (Behind p.blocks p.operators p.providers w.clear.blocks) is spot.stands in
@@ -280,5 +280,5 @@ no-totals-yet (a ∷ own) (b ∷ bs) os ps e = let rest : map part.Block own ++ 
 pub all-found : (books : Books) (p : Publication) (parts : List Part) (day : DayCheck) (found : Option Verdict) → parts ≡ parts_of p → IsFound books parts day found → is_some found ≡ true
 all-found books p parts day (Some v) e f = refl
 all-found books p parts day None e f =
-    let o : HasNoFault books p.date p.quarters p.budget (map part.Block p.blocks ++ part.Totals p.operators p.providers ∷ []) day = subst (λ (ps : List Part). IsOpen books ps day) e f in
+    let o : IsFaultlessSoFar books p.date p.quarters p.budget (map part.Block p.blocks ++ part.Totals p.operators p.providers ∷ []) day = subst (λ (ps : List Part). IsOpen books ps day) e f in
     absurd (no-totals-yet p.blocks o.blocks p.operators p.providers o.are)

@@ -15,7 +15,7 @@ use Rattle.mari_check.specs.declared.day.Tested.TheVariants.{Faulty, Sound}
 use Rattle.mari_check.specs.declared.fault.Fault.{Fault}
 use Rattle.mari_check.specs.declared.fault.Fault.TheVariants as fault
 use Rattle.mari_check.specs.Day.{AreFree, IsFreeIn}
-use Rattle.mari_check.specs.Faults.{IsLeast, number_of}
+use Rattle.mari_check.specs.Faults.{IsLeast, fault_number}
 
 -- what is kept stands for blocks of the first runs, none of which has a fault: what a day keeps of them, and how many
 -- of them aren't published
@@ -36,4 +36,4 @@ IsTested books budget before b (Sound settled) = ((any : Fault) → IsFreeIn boo
 -- the fault of the first line is told exactly where it is there
 abbrev pub FindsHead : (right : Type 0) → Option ℕ → Type 0
 FindsHead right None = right
-FindsHead right (Some number) = (right → ⊥) × (number ≡ number_of fault.Heading)
+FindsHead right (Some number) = (right → ⊥) × (number ≡ fault_number fault.Heading)

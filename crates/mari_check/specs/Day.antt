@@ -9,7 +9,7 @@ use Rattle.mari_remain.specs.declared.books.Books.{Books}
 use Rattle.mari_check.specs.declared.fault.Fault.{Fault}
 use Rattle.mari_check.specs.declared.fault.Fault.TheVariants as fault
 use Rattle.mari_progress.specs.Behind.{also_behind, market_behind, run_behind}
-use Rattle.mari_check.specs.Faults.{IsFreeOf, IsLeast, number_of}
+use Rattle.mari_check.specs.Faults.{IsFreeOf, IsLeast, fault_number}
 use Rattle.mari_progress.specs.Told.{heading_of}
 use Rattle.mari_progress.specs.Totals.{operator_totals, provider_totals}
 
@@ -81,7 +81,7 @@ pub record IsBlockFault (books : Books) (p : Publication) (run number : ℕ) : T
   pub least : Fault
   pub is_least : IsLeast (IsFreeIn books p.budget (take place p.blocks) block) least
   pub run_is : run ≡ place + 1
-  pub number_is : number ≡ number_of least
+  pub number_is : number ≡ fault_number least
 
 -- no block has a fault, and the block of a run is missing: the run is told, with the fault of a heading
 pub record IsMissing (books : Books) (p : Publication) (run number : ℕ) : Type 0 where
@@ -89,7 +89,7 @@ pub record IsMissing (books : Books) (p : Publication) (run number : ℕ) : Type
   pub blocks : AreFree books p.budget p.blocks
   pub missing : length p.blocks < length books.runs.runs
   pub run_is : run ≡ length p.blocks + 1
-  pub number_is : number ≡ number_of fault.Heading
+  pub number_is : number ≡ fault_number fault.Heading
 
 -- nothing else is wrong, and a line of the totals is: the last run is told, or 0 where there is none
 pub record IsTotalsFault (books : Books) (p : Publication) (run number : ℕ) : Type 0 where
@@ -98,13 +98,13 @@ pub record IsTotalsFault (books : Books) (p : Publication) (run number : ℕ) : 
   pub every : length p.blocks ≡ length books.runs.runs
   pub differ : HasTotals books p → ⊥
   pub run_is : run ≡ length books.runs.runs
-  pub number_is : number ≡ number_of fault.Totals
+  pub number_is : number ≡ fault_number fault.Totals
 
 -- the first line is another: run 0 is told, with the fault of a heading
 pub record IsHeadFault (books : Books) (p : Publication) (run number : ℕ) : Type 0 where
   pub differs : HasHead books p → ⊥
   pub run_is : run ≡ 0
-  pub number_is : number ≡ number_of fault.Heading
+  pub number_is : number ≡ fault_number fault.Heading
 
 -- the first run of a publication that has a fault, and its least fault
 abbrev pub IsFirstFault : Books → Publication → (run number : ℕ) → Type 0

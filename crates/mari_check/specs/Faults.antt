@@ -18,19 +18,19 @@ use Rattle.mari_check.specs.Shapes.{HasShape}
 use Rattle.mari_progress.specs.Told.{NamesMarket, activation_of, areas_of, greatest_of, heading_of, least_of, prices_of}
 
 -- the faults in their order, from 1
-abbrev pub number_of : Fault → ℕ
-number_of fault.Heading = 1
-number_of fault.Lines = 2
-number_of fault.Infeasible = 3
-number_of fault.Welfare = 4
-number_of fault.Inconsistent = 5
-number_of fault.Interval = 6
-number_of fault.Price = 7
-number_of fault.Area = 8
-number_of fault.Tree = 9
-number_of fault.Leaf = 10
-number_of fault.Ledger = 11
-number_of fault.Totals = 12
+abbrev pub fault_number : Fault → ℕ
+fault_number fault.Heading = 1
+fault_number fault.Lines = 2
+fault_number fault.Infeasible = 3
+fault_number fault.Welfare = 4
+fault_number fault.Inconsistent = 5
+fault_number fault.Interval = 6
+fault_number fault.Price = 7
+fault_number fault.Area = 8
+fault_number fault.Tree = 9
+fault_number fault.Leaf = 10
+fault_number fault.Ledger = 11
+fault_number fault.Totals = 12
 
 -- each zone's least and greatest price are the least and the greatest of its consistent prices
 pub record HasIntervals (m : Market) (b : FullBlock) : Type 0 where
@@ -62,7 +62,7 @@ IsFreeOf books run made also budget b fault.Totals = ⊤
 -- the fault is there, and none of a lower number is
 pub record IsLeast (free_of : Fault → Type 0) (least : Fault) : Type 0 where
   pub there : free_of least → ⊥
-  pub none_lower : (other : Fault) → number_of other < number_of least → free_of other
+  pub none_lower : (other : Fault) → fault_number other < fault_number least → free_of other
 
 -- the fault that is told is the least one, and none is told where none is there
 abbrev pub Finds : (Fault → Type 0) → Option Fault → Type 0
@@ -72,11 +72,11 @@ Finds free_of (Some least) = IsLeast free_of least
 -- and where it is told by its number
 abbrev pub FindsNumber : (Fault → Type 0) → Option ℕ → Type 0
 FindsNumber free_of None = (any : Fault) → free_of any
-FindsNumber free_of (Some number) = (least : Fault) × IsLeast free_of least × (number ≡ number_of least)
+FindsNumber free_of (Some number) = (least : Fault) × IsLeast free_of least × (number ≡ fault_number least)
 
 -- none of the faults below this number is there
 abbrev pub NoneBelow : (Fault → Type 0) → ℕ → Type 0
-NoneBelow free_of number = (any : Fault) → number_of any < number → free_of any
+NoneBelow free_of number = (any : Fault) → fault_number any < number → free_of any
 
 -- of the faults from one number to another, where none of a lower one is there, the least is told, or that none of them
 -- is there either

@@ -1,8 +1,6 @@
 -- What a published block shows where it has none of the faults.
-use Rattle.std.specs.Prelude.{◌≡◌, ◌≤ℤ◌, pos, List, Option}
-use Rattle.std.specs.List.{All}
+use Rattle.std.specs.Prelude.{◌≡◌, pos, List, Option}
 use Rattle.mari_units.specs.declared.numbers.Cents.{Cents}
-use Rattle.mari_units.specs.declared.numbers.Quarters.{Quarters}
 use Rattle.mari_market.specs.Activation.{welfare_of}
 use Rattle.mari_market.specs.Area.{AreAreas}
 use Rattle.mari_market.specs.First.{IsFirst}
@@ -10,9 +8,9 @@ use Rattle.mari_market.specs.Interval.{AreGreatestPrices, AreLeastPrices, ArePub
 use Rattle.mari_publish.specs.declared.publication.FullBlock.{FullBlock}
 use Rattle.mari_remain.specs.declared.books.Books.{Books}
 use Rattle.mari_remain.specs.declared.market.RunMarket.{RunMarket}
-use Rattle.mari_progress.specs.Keeps.{net_sum}
+use Rattle.mari_progress.specs.Keeps.{SumsToZero}
 use Rattle.mari_progress.specs.Money.{HasLedger}
-use Rattle.mari_progress.specs.Told.{activation_of, areas_of, greatest_of, least_of, prices_of, rents_told}
+use Rattle.mari_progress.specs.Told.{activation_of, areas_of, greatest_of, least_of, prices_of}
 
 -- the first activation of the market, whoever printed it; its welfare; the prices, intervals and areas; the ledger,
 -- whose nets sum to 0 and in which no rent is negative
@@ -24,5 +22,4 @@ pub record ShowsRun (books : Books) (made : RunMarket) (also : Option (List Cent
   pub greatest : AreGreatestPrices made.market (activation_of b) (greatest_of b)
   pub areas : AreAreas made.market (activation_of b) (areas_of b)
   pub ledger : HasLedger books made also b
-  pub nets : net_sum b.operators ≡ pos 0
-  pub rents : All (λ (rent : Quarters). pos 0 ≤ℤ rent.0) (rents_told b)
+  pub sums : SumsToZero b

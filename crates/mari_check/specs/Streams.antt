@@ -143,7 +143,7 @@ pub record Comes (parts : List Part) (x : Part) : Type 0 where
   pub are : parts_of whole ≡ parts ++ x ∷ more
 
 -- the head that was given is that of the books, and the blocks behind it have no fault
-pub record HasNoFault (books : Books) (date : List ℕ) (quarters budget : ℕ) (rest : List Part) (day : DayCheck) : Type 0 where
+pub record IsFaultlessSoFar (books : Books) (date : List ℕ) (quarters budget : ℕ) (rest : List Part) (day : DayCheck) : Type 0 where
   pub date_is : date ≡ books.date
   pub quarters_is : quarters ≡ books.quarters
   pub budget_is : budget ≡ day.budget
@@ -154,27 +154,27 @@ pub record HasNoFault (books : Books) (date : List ℕ) (quarters budget : ℕ) 
 -- the parts so far settle no verdict: there are none, or a head and blocks that have no fault
 abbrev pub IsOpen : Books → List Part → DayCheck → Type 0
 IsOpen books [] day = IsChecked books [] day
-IsOpen books (part.Head date quarters budget ∷ rest) day = HasNoFault books date quarters budget rest day
+IsOpen books (part.Head date quarters budget ∷ rest) day = IsFaultlessSoFar books date quarters budget rest day
 IsOpen books (part.Block b ∷ rest) day = ⊥
 IsOpen books (part.Totals operators providers ∷ rest) day = ⊥
 
 -- the parts so far settle the verdict on each publication that begins with them
-abbrev pub IsSettled : Books → List Part → Verdict → Type 0
-IsSettled books parts verdict = (p : Publication) (more : List Part) → parts_of p ≡ parts ++ more → IsVerdict books p verdict
+abbrev pub SettlesVerdict : Books → List Part → Verdict → Type 0
+SettlesVerdict books parts verdict = (p : Publication) (more : List Part) → parts_of p ≡ parts ++ more → IsVerdict books p verdict
 
 abbrev pub IsFound : Books → List Part → DayCheck → Option Verdict → Type 0
 IsFound books parts day None = IsOpen books parts day
-IsFound books parts day (Some verdict) = IsSettled books parts verdict
+IsFound books parts day (Some verdict) = SettlesVerdict books parts verdict
 
 -- a text has come, and these parts of it were taken
-pub record IsRead (books : Books) (text : List ℕ) (parts : List Part) (stream : Stream) : Type 0 where
+pub record HasRead (books : Books) (text : List ℕ) (parts : List Part) (stream : Stream) : Type 0 where
   pub stands : ComesFrom stream.reader.come text parts
   pub found : IsFound books parts stream.day stream.found
 
 -- all parts that have come of a text were taken, and no whole line of it has a fault
 pub record IsAllRead (books : Books) (text : List ℕ) (stream : Stream) : Type 0 where
   pub parts : List Part
-  pub read : IsRead books text parts stream
+  pub read : HasRead books text parts stream
   pub waits : stream.reader.waits ≡ true
   pub no_fault : NoFault text
 

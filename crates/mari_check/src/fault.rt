@@ -1,7 +1,7 @@
 //! The faults of a publication.
 
 ghost use Rattle.std.specs.Prelude.{◌≡◌};
-ghost use Rattle.mari_check.specs.Faults.{number_of};
+ghost use Rattle.mari_check.specs.Faults.{fault_number};
 
 /// What can be wrong with the first line, a block or the totals of a printed day. Of several faults the one with the
 /// least number is told.
@@ -38,7 +38,7 @@ pub enum Fault {
 impl Fault {
     /// The fault's number, from 1.
     pub fn number(self) -> u8
-        ensures { result ≡ number_of self }
+        ensures { result ≡ fault_number self }
     {
         match self {
             Fault::Heading => 1,

@@ -9,7 +9,7 @@ ghost use Rattle.mari_publish.specs.declared.publication.Part.{Part as ThePart};
 ghost use Rattle.mari_publish.specs.declared.publication.Publication.{Publication as ThePublication};
 ghost use Rattle.mari_remain.specs.Accepted.{IsAccepted};
 ghost use Rattle.mari_remain.specs.declared.books.Books.{Books as TheBooks};
-ghost use Rattle.mari_check.specs.Streams.{Comes, EndTells, FaultStops, IsAllRead, IsFound, IsOpen, IsRead, IsStreamFetch, IsWrappedMemory, PiecesTell, PushTells, SameAsRead, StreamTells, fault_of_fetch, fault_of_text};
+ghost use Rattle.mari_check.specs.Streams.{Comes, EndTells, FaultStops, IsAllRead, IsFound, IsOpen, HasRead, IsStreamFetch, IsWrappedMemory, PiecesTell, PushTells, SameAsRead, StreamTells, fault_of_fetch, fault_of_text};
 
 use crate::day::DayCheck;
 use crate::verdict::Verdict;
@@ -86,7 +86,7 @@ impl Stream {
     /// What there is before the first piece.
     fn start(alloc: Global, books: &Books) -> Result<Stream, Memory>
         requires accepted { IsAccepted books.now }
-        ensures { IfOk result (IsRead books.now [] []) }
+        ensures { IfOk result (HasRead books.now [] []) }
     {
         let day = DayCheck::start(alloc, books)?;
         Ok(Stream {
@@ -113,8 +113,8 @@ impl Stream {
     /// Takes all parts that have come, up to a fault of the text.
     fn take_parts(&mut self, alloc: Global, books: &Books) -> Result<(), StreamFault>
         requires accepted { IsAccepted books.now }
-        requires read { (text : List ℕ) × (parts : List ThePart) × IsRead books.now text parts self.old }
-        ensures { (text : List ℕ) (parts : List ThePart) → IsRead books.now text parts self.old → PushTells books.now text self.new result }
+        requires read { (text : List ℕ) × (parts : List ThePart) × HasRead books.now text parts self.old }
+        ensures { (text : List ℕ) (parts : List ThePart) → HasRead books.now text parts self.old → PushTells books.now text self.new result }
     {
         'parts: loop {
             match self.reader.next(alloc) {
@@ -131,8 +131,8 @@ impl Stream {
     /// Takes a piece of the text, and all parts that have come with it.
     fn push(&mut self, alloc: Global, books: &Books, piece: &[u8]) -> Result<(), StreamFault>
         requires accepted { IsAccepted books.now }
-        requires read { (text : List ℕ) × (parts : List ThePart) × IsRead books.now text parts self.old }
-        ensures { (text : List ℕ) (parts : List ThePart) → IsRead books.now text parts self.old → PushTells books.now (text ++ piece.now) self.new result }
+        requires read { (text : List ℕ) × (parts : List ThePart) × HasRead books.now text parts self.old }
+        ensures { (text : List ℕ) (parts : List ThePart) → HasRead books.now text parts self.old → PushTells books.now (text ++ piece.now) self.new result }
     {
         match self.reader.push(piece) {
             Ok(()) => self.take_parts(alloc, books),
@@ -164,7 +164,7 @@ fn read_pieces<S: Shelf>(
     requires accepted { IsAccepted books.now }
     requires open { S.is_open shelf.old ≡ true }
     requires given { S.given shelf.old ≡ 0 }
-    requires read { IsRead books.now [] [] stream.old }
+    requires read { HasRead books.now [] [] stream.old }
 
     // What was read, and where it is told what was left, how far.
     ensures same { S.pages shelf.new ≡ S.pages shelf.old }

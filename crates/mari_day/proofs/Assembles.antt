@@ -52,11 +52,11 @@ module _ (books : Books) (budget run : ℕ) (made : RunMarket) (also : Option (L
         };
         clearing = subst (IsClearing m budget) (sym same_clearing) clears;
         prices = record {
-          published = along2 (ArePublishedPrices m) a (activation_of b) ps (prices_of b) same_activation is.zones.prices p.published;
-          consistent = along2 (IsConsistent m) a (activation_of b) ps (prices_of b) same_activation is.zones.prices p.consistent;
-          least = along2 (AreLeastPrices m) a (activation_of b) _ _ same_activation is.zones.least p.least;
-          greatest = along2 (AreGreatestPrices m) a (activation_of b) _ _ same_activation is.zones.greatest p.greatest;
-          areas = along2 (AreAreas m) a (activation_of b) _ _ same_activation is.zones.areas p.areas;
+          published = along2 (ArePublishedPrices m) a (activation_of b) ps (prices_of b) same_activation is.zones.prices p.prices.published;
+          consistent = along2 (IsConsistent m) a (activation_of b) ps (prices_of b) same_activation is.zones.prices p.prices.consistent;
+          least = along2 (AreLeastPrices m) a (activation_of b) _ _ same_activation is.zones.least p.prices.least;
+          greatest = along2 (AreGreatestPrices m) a (activation_of b) _ _ same_activation is.zones.greatest p.prices.greatest;
+          areas = along2 (AreAreas m) a (activation_of b) _ _ same_activation is.zones.areas p.prices.areas;
         };
         ledger = record {
           rents = is.borders.rents ∙ p.rents ∙ sym (same2 (rents_of m) a (activation_of b) ps (prices_of b) same_activation is.zones.prices);

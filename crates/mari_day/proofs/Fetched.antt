@@ -5,7 +5,7 @@ use Rattle.mari_day.specs.declared.files.File.{File}
 use Rattle.mari_day.specs.declared.files.File.TheVariants.{Day}
 use Rattle.mari_day.specs.declared.pages.PagesFault.{PagesFault}
 use Rattle.mari_day.specs.declared.pages.PagesFault.TheVariants.{Fetch as OfFetch, Memory as NoMemory}
-use Rattle.mari_day.specs.Fetching.{FetchedOne, FetchedUpTo, IsFaultOf, SomeFetched}
+use Rattle.mari_day.specs.Fetching.{FetchedOne, FetchedUpTo, IsFaultOfFile, SomeFetched}
 use Rattle.mari_day.specs.Files.{files, place_of, page_in, gap_of, first_gap, ArePages, Gap}
 
 -- the file at a place has that place
@@ -24,7 +24,7 @@ pub one_more : (n before mid now : ℕ) → mid ≡ counted_by n before → now 
 one_more n before mid now e f = rw add-one (f ∙ ap counted e)
 
 -- the fetch of the file at this place gave no page
-pub at_fault : (n before mid now : ℕ) (fault : PagesFault) → mid ≡ counted_by n before → n < 7 → FetchedOne mid now fault → IsFaultOf (slice_index_or files n Day) fault → FetchedUpTo 7 before now fault
+pub at_fault : (n before mid now : ℕ) (fault : PagesFault) → mid ≡ counted_by n before → n < 7 → FetchedOne mid now fault → IsFaultOfFile (slice_index_or files n Day) fault → FetchedUpTo 7 before now fault
 at_fault n before mid now NoMemory e l (inl same) is = record { count = n; within = omega (arith, l); fetched = same ∙ e }
 at_fault n before mid now NoMemory e l (inr one) is = record { count = n + 1; within = omega (arith, l); fetched = one_more n before mid now e one }
 at_fault n before mid now (OfFetch file why) e l one is =

@@ -8,8 +8,8 @@ use Rattle.mari_io.specs.declared.shelf.Fetch.TheVariants as fetch
 use Rattle.mari_day.specs.declared.pages.PagesFault.{PagesFault}
 use Rattle.mari_day.specs.declared.pages.PagesFault.TheVariants.{Fetch as OfFetch, Memory as NoMemory}
 use Rattle.std.specs.Prelude.{IfErr, IfOk, Result, Ok, Err}
-use Rattle.mari_day.specs.Fetching.{FetchedOne, FetchedUpTo, FetchesFolder, FetchingTells, HasFiles, IsFaultOf, SomeFetched}
-use Rattle.mari_day.specs.Files.{files, files_in, files_of, first_gap, gap_of, gap_or, page_in, page_of, place_of, version_by, ArePages, FileGap, Gap}
+use Rattle.mari_day.specs.Fetching.{FetchedOne, FetchedUpTo, FetchesFolder, FetchingTells, HasFiles, IsFaultOfFile, SomeFetched}
+use Rattle.mari_day.specs.Files.{files, files_in, files_of, first_gap, gap_of, gap_or, page_in, page_among, place_of, version_by, ArePages, FileGap, Gap}
 use Rattle.mari_day.proofs.Fetched.{one_more}
 
 -- a folder of any version has seven files or eight
@@ -41,7 +41,7 @@ up-to count before now NoMemory l some = record { count = some.count; within = o
 up-to count before now (OfFetch file why) l fetched = fetched
 
 -- the fetch of limits.csv gave no page
-pub at_limits : (before mid now : ℕ) (fault : PagesFault) → mid ≡ counted_by 7 before → FetchedOne mid now fault → IsFaultOf Limits fault → FetchedUpTo 8 before now fault
+pub at_limits : (before mid now : ℕ) (fault : PagesFault) → mid ≡ counted_by 7 before → FetchedOne mid now fault → IsFaultOfFile Limits fault → FetchedUpTo 8 before now fault
 at_limits before mid now NoMemory e (inl same) is = record { count = 7; within = omega arith; fetched = same ∙ e }
 at_limits before mid now NoMemory e (inr one) is = record { count = 8; within = omega arith; fetched = one_more 7 before mid now e one }
 at_limits before mid now (OfFetch file why) e one is =
@@ -76,7 +76,7 @@ module _ (pages : Pages) (folder : List ℕ) where
 
   module _ (seven : List (List ℕ)) (many : length seven ≡ 7) (are : ArePages pages folder files seven) where
     version-there : (texts : List (List ℕ)) → length texts ≡ 7 → map (page_in pages folder) files ≡ map Some texts
-        → version_by (page_in pages folder Borders) ≡ version_in (page_of texts Borders)
+        → version_by (page_in pages folder Borders) ≡ version_in (page_among texts Borders)
     version-there [] l held = cc l
     version-there (a ∷ []) l held = cc l
     version-there (a ∷ b ∷ []) l held = cc l
@@ -85,16 +85,16 @@ module _ (pages : Pages) (folder : List ℕ) where
         rw there refl
 
     -- the files of the folder, by the version of the page that was fetched
-    pub files-are : files_in pages folder ≡ files_of (version_in (page_of seven Borders))
+    pub files-are : files_in pages folder ≡ files_of (version_in (page_among seven Borders))
     files-are = ap files_of (version-there seven many are.held)
 
 module _ (pages : Option Pages) (folder : List ℕ) (seven : List (List ℕ)) (many : length seven ≡ 7)
     (are : (told : Pages) → pages ≡ Some told → ArePages told folder files seven) where
   -- how many files the folder of these pages has
-  pub has-eight : (version_in (page_of seven Borders) == 2) ≡ true → HasFiles pages folder 8
+  pub has-eight : (version_in (page_among seven Borders) == 2) ≡ true → HasFiles pages folder 8
   has-eight e = record { seven_or_eight = inr refl; told = λ told is. rw (files-are told folder seven many (are told is), e) refl }
 
-  module _ (e : (version_in (page_of seven Borders) == 2) ≡ true) (before mid now : ℕ) (limits : List ℕ) where
+  module _ (e : (version_in (page_among seven Borders) == 2) ≡ true) (before mid now : ℕ) (limits : List ℕ) where
     -- all eight were fetched, and there may be no memory to keep the eighth
     pub all-eight : (result : Result (List (List ℕ)) PagesFault) → mid ≡ counted_by 7 before → now ≡ counted mid
         → IfOk result (λ folder. folder ≡ seven ++ limits ∷ []) → IfErr result (λ fault. fault ≡ NoMemory) → FetchesFolder pages folder before now result

@@ -1,10 +1,6 @@
 -- Every day part keeps the offers, and its nets sum to 0.
-use Rattle.std.proofs.Common.{◌≡◌, ℕ, ◌≤ℤ◌, pos, List, [], ◌∷◌, map, take, Some, arith}
+use Rattle.std.proofs.Common.{◌≡◌, ℕ, pos, List, take, Some}
 use Rattle.std.specs.Prelude.{slice_get}
-use Rattle.std.specs.List.{All}
-use Rattle.std.proofs.lemmas.List.Elements.{All-cons, All-head, All-tail}
-use Rattle.mari_units.specs.declared.numbers.Quarters.{Quarters}
-use Rattle.mari_lines.specs.declared.line.BorderLine.{BorderLine}
 use Rattle.mari_publish.specs.declared.publication.Block.{Block}
 use Rattle.mari_publish.specs.declared.publication.Block.TheVariants as block
 use Rattle.mari_remain.specs.declared.books.Books.{Books}
@@ -17,14 +13,8 @@ use Rattle.mari_day.specs.Day.{IsDayPart}
 use Rattle.mari_day.specs.Keeps.{BlockSumsToZero}
 use Rattle.mari_day.proofs.Progressing.{sound-block}
 
-rents-of : (lines : List BorderLine) → All (λ (rent : Quarters). pos 0 ≤ℤ rent.0) (map (λ (l : BorderLine). l.rent) lines) → All (λ (l : BorderLine). pos 0 ≤ℤ l.rent.0) lines
-rents-of [] h = λ k d l. absurd (omega arith)
-rents-of (l ∷ ls) h =
-    let rents = map (λ (l : BorderLine). l.rent) ls in
-    All-cons (λ (l : BorderLine). pos 0 ≤ℤ l.rent.0) l ls (All-head (λ (rent : Quarters). pos 0 ≤ℤ rent.0) l.rent rents h) (rents-of ls (All-tail (λ (rent : Quarters). pos 0 ≤ℤ rent.0) l.rent rents h))
-
 balanced-in : (books : Books) (b : Block) → sound.BalancesIn books b → BlockSumsToZero b
-balanced-in books (block.Published b) h = record { nets = h.nets; rents = rents-of b.borders h.rents }
+balanced-in books (block.Published b) h = h.to_zero
 balanced-in books (block.Unpublished heading count) h = tt
 
 module _ (books : Books) (ok : IsAccepted books) (budget : ℕ) (blocks : List Block) (part : IsDayPart books budget blocks) where

@@ -39,13 +39,13 @@ use Rattle.mari_demands.specs.declared.limits.Limits.{Limits as BorderLimits}
 use Rattle.mari_demands.specs.declared.runs.RunCheck.TheVariants as run
 use Rattle.mari_day.specs.CalendarPage.{calendar_day_in, check_of, day_by, day_columns, day_of_read, day_of_rows}
 use Rattle.mari_day.specs.DateChecks.{date_check_number}
-use Rattle.mari_day.specs.Reading.{books_at, limits_at, of_file, Reads}
+use Rattle.mari_day.specs.Reading.{books_at, limits_at, of_file, ReadsAs}
 use Rattle.mari_day.specs.Refusals.{IsByCheck, IsCheckNumber, RefusesByCheck}
 use Rattle.mari_day.specs.Refusals.IsCheckNumber.{OfRows, Own}
 use Rattle.mari_day.specs.declared.calendar_page.DateCheck.TheVariants as date
 use Rattle.mari_day.specs.declared.files.File.{File}
 use Rattle.mari_day.specs.declared.files.File.TheVariants.{Day, Zones, Borders, Bids, Links, Runs, Demands, Limits}
-use Rattle.mari_day.specs.Files.{page_of}
+use Rattle.mari_day.specs.Files.{page_among}
 use Rattle.mari_day.specs.declared.reading.BooksFault.{BooksFault}
 use Rattle.mari_day.specs.declared.reading.BooksFault.TheVariants as why
 use Rattle.mari_remain.specs.declared.books.Books.{Books}
@@ -265,30 +265,30 @@ of-file file (Err (refused.At line number)) h = record { file = file; numbered =
 of-file file (Err refused.Memory) h = absurd h
 
 limits-there : (zones : ZoneBook) (borders : BorderBook) (runs : ℕ) (pages : List (List ℕ)) → IfErr (limits_at zones borders runs pages) IsByCheck
-limits-there zones borders runs pages = by (version_in (page_of pages Borders) == 2)
+limits-there zones borders runs pages = by (version_in (page_among pages Borders) == 2)
   where
     limits : Result (List (List BorderLimits)) BookFault
-    limits = book_in (limit_grammar zones borders runs) (page_of pages Limits)
+    limits = book_in (limit_grammar zones borders runs) (page_among pages Limits)
 
     by : (b : Bool) → IfErr (if b then (of_file Limits limits >>> λ l. Ok (Some l)) else Ok None) IsByCheck
-    by true = then-tells IsByCheck (of_file Limits limits) (λ l. Ok (Some l)) (of-file Limits limits (limits-tell zones borders runs (page_of pages Limits))) (λ l. tt)
+    by true = then-tells IsByCheck (of_file Limits limits) (λ l. Ok (Some l)) (of-file Limits limits (limits-tell zones borders runs (page_among pages Limits))) (λ l. tt)
     by false = tt
 
 books-tell : (pages : List (List ℕ)) → IfErr (books_at pages) IsByCheck
 unfolding books_at
 books-tell pages =
-    then-tells IsByCheck (of_file Day (calendar_day_in (page_of pages Day))) _ (of-file Day _ (day-tells (page_of pages Day))) (λ day.
-    then-tells IsByCheck (of_file Zones (book_in zone_grammar (page_of pages Zones))) _ (of-file Zones _ (zones-tell (page_of pages Zones))) (λ zones.
-    then-tells IsByCheck (of_file Borders (borders_in zones (page_of pages Borders))) _ (of-file Borders _ (borders-tell zones (page_of pages Borders))) (λ borders.
-    then-tells IsByCheck (of_file Bids (book_in (bid_grammar zones day.quarters) (page_of pages Bids))) _ (of-file Bids _ (bids-tell zones day.quarters (page_of pages Bids))) (λ bids.
-    then-tells IsByCheck (of_file Links (book_in (link_grammar bids) (page_of pages Links))) _ (of-file Links _ (links-tell bids (page_of pages Links))) (λ links.
-    then-tells IsByCheck (of_file Runs (book_in (run_grammar day.quarters) (page_of pages Runs))) _ (of-file Runs _ (runs-tell day.quarters (page_of pages Runs))) (λ runs.
-    then-tells IsByCheck (of_file Demands (book_in (demand_grammar zones (length runs.runs)) (page_of pages Demands))) _
-    (of-file Demands _ (demands-tell zones (length runs.runs) (page_of pages Demands))) (λ demands.
+    then-tells IsByCheck (of_file Day (calendar_day_in (page_among pages Day))) _ (of-file Day _ (day-tells (page_among pages Day))) (λ day.
+    then-tells IsByCheck (of_file Zones (book_in zone_grammar (page_among pages Zones))) _ (of-file Zones _ (zones-tell (page_among pages Zones))) (λ zones.
+    then-tells IsByCheck (of_file Borders (borders_in zones (page_among pages Borders))) _ (of-file Borders _ (borders-tell zones (page_among pages Borders))) (λ borders.
+    then-tells IsByCheck (of_file Bids (book_in (bid_grammar zones day.quarters) (page_among pages Bids))) _ (of-file Bids _ (bids-tell zones day.quarters (page_among pages Bids))) (λ bids.
+    then-tells IsByCheck (of_file Links (book_in (link_grammar bids) (page_among pages Links))) _ (of-file Links _ (links-tell bids (page_among pages Links))) (λ links.
+    then-tells IsByCheck (of_file Runs (book_in (run_grammar day.quarters) (page_among pages Runs))) _ (of-file Runs _ (runs-tell day.quarters (page_among pages Runs))) (λ runs.
+    then-tells IsByCheck (of_file Demands (book_in (demand_grammar zones (length runs.runs)) (page_among pages Demands))) _
+    (of-file Demands _ (demands-tell zones (length runs.runs) (page_among pages Demands))) (λ demands.
     then-tells IsByCheck (limits_at zones borders (length runs.runs) pages) _ (limits-there zones borders (length runs.runs) pages) (λ limits. tt))))))))
 
 -- what was read is refused so
-pub refuses-by-check : (pages : List (List ℕ)) (result : Result Books BooksFault) → Reads result (books_at pages) → RefusesByCheck result
+pub refuses-by-check : (pages : List (List ℕ)) (result : Result Books BooksFault) → ReadsAs result (books_at pages) → RefusesByCheck result
 refuses-by-check pages (Ok books) read = tt
 refuses-by-check pages (Err (why.Fetch file fault)) read = tt
 refuses-by-check pages (Err why.Memory) read = tt

@@ -20,10 +20,10 @@ module _ (books : Books) (made : RunMarket) (is : IsMarketOf books made) (also :
       let flow = AllZip-long IsWithinLimits made.market.borders clearing.activation.flow f.borders in
       let mw = as_many made.market clearing.activation f in
       record {
-        published = p.published.one_each ∙ is.zones;
-        least = p.least.one_each ∙ is.zones;
-        greatest = p.greatest.one_each ∙ is.zones;
-        areas = p.areas.one_each ∙ is.zones;
+        published = p.prices.published.one_each ∙ is.zones;
+        least = p.prices.least.one_each ∙ is.zones;
+        greatest = p.prices.greatest.one_each ∙ is.zones;
+        areas = p.prices.areas.one_each ∙ is.zones;
         flow = flow ∙ is.borders;
         rents = ap length p.rents ∙ along-length _ made.market.borders clearing.activation.flow flow ∙ is.borders;
         mw = omega (arith, mw, is.orders);

@@ -7,15 +7,13 @@ use Rattle.mari_lines.specs.declared.line.BorderLine.{BorderLine}
 use Rattle.mari_publish.specs.declared.publication.FullBlock.{FullBlock}
 use Rattle.mari_remain.specs.declared.books.Books.{Books}
 use Rattle.mari_remain.specs.declared.market.RunMarket.{RunMarket}
-use Rattle.mari_market.specs.Area.{AreAreas}
-use Rattle.mari_market.specs.Interval.{AreLeastPrices, AreGreatestPrices, ArePublishedPrices}
-use Rattle.mari_market.specs.Optimal.{IsConsistent}
 use Rattle.mari_settle.specs.Ledger.{operator_lines, provider_amounts, rents_of, scheduled_or}
 use Rattle.mari_settle.specs.Conditions.{HasSmallNumbers}
 use Rattle.mari_day.specs.declared.block.Priced.{Priced}
 use Rattle.mari_progress.specs.Money.{amount_line, money_lines_of, providers_among}
 use Rattle.mari_progress.specs.Runs.{IsBalancedLedger}
 use Rattle.mari_progress.specs.Told.{NamesLines, areas_of, greatest_of, heading_of, least_of, prices_of, rents_told}
+use Rattle.mari_day.specs.Run.{AreZonePrices}
 
 -- what the lines of zones tell
 pub record HasZoneLines (priced : Priced) (b : FullBlock) : Type 0 where
@@ -62,11 +60,7 @@ pub record HasShapes (books : Books) (numbers : List ℕ) (clearing : Clearing) 
 
 -- the prices, areas and ledger of a run's clearing, whose quarter has these scheduled prices, or none
 pub record IsPriced (books : Books) (made : RunMarket) (also : Option (List Cents)) (clearing : Clearing) (priced : Priced) : Type 0 where
-  pub published : ArePublishedPrices made.market clearing.activation priced.pricing.published.cents
-  pub consistent : IsConsistent made.market clearing.activation priced.pricing.published.cents
-  pub least : AreLeastPrices made.market clearing.activation priced.pricing.least.cents
-  pub greatest : AreGreatestPrices made.market clearing.activation priced.pricing.greatest.cents
-  pub areas : AreAreas made.market clearing.activation priced.areas.items
+  pub prices : AreZonePrices made.market clearing.activation priced.pricing.published.cents priced.pricing.least.cents priced.pricing.greatest.cents priced.areas.items
   pub operators : priced.ledger.operators ≡ operator_lines books.zones made.market clearing.activation priced.pricing.published.cents
   pub providers : priced.ledger.providers ≡ provider_amounts books.bids made.bids clearing.activation priced.pricing.published.cents (scheduled_or priced.pricing.published.cents also)
   pub rents : priced.ledger.rents ≡ rents_of made.market clearing.activation priced.pricing.published.cents

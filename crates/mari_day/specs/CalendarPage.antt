@@ -11,12 +11,11 @@ use Rattle.mari_rows.specs.declared.rows.Row.{Row}
 use Rattle.mari_calendar.specs.Midnights.{quarters_at}
 use Rattle.mari_calendar.specs.declared.quarters.CalendarFault.{CalendarFault}
 use Rattle.mari_calendar.specs.declared.quarters.CalendarFault.TheVariants as calendar
-use Rattle.mari_lines.specs.Ranges.{Between, IsDate}
 use Rattle.mari_day.specs.DateChecks.{date_check_number}
+use Rattle.mari_day.specs.Dated.{IsDatedBy}
 use Rattle.mari_day.specs.declared.calendar_page.CalendarDay.{CalendarDay}
 use Rattle.mari_day.specs.declared.calendar_page.DateCheck.{DateCheck}
 use Rattle.mari_day.specs.declared.calendar_page.DateCheck.TheVariants.{BadDate, BadZoneText, NotOneRecord, NotWholeQuarters, OutOfRange}
-use Rattle.mari_units.specs.declared.limits.TheConstants.{MOST_QUARTERS}
 
 -- the columns of the file
 unfoldable pub day_columns : List ℕ
@@ -58,6 +57,5 @@ abbrev pub calendar_day_in : List ℕ → Result CalendarDay BookFault
 calendar_day_in page = day_of_read (rows_in day_columns page)
 
 -- what holds of every day that is read: a date in digits, and 1 to `MOST_QUARTERS` quarter hours
-pub record IsCalendarDay (day : CalendarDay) : Type 0 where
-  pub date : IsDate day.date
-  pub quarters : Between 1 MOST_QUARTERS day.quarters
+abbrev pub IsCalendarDay : CalendarDay → Type 0
+IsCalendarDay day = IsDatedBy day.date day.quarters

@@ -16,13 +16,13 @@ IsFault fetch (Err NoMemory) = ⊥
 IsFault fetch (Err (OfFetch file f)) = f ≡ fetch
 
 -- a page that can't be had is of this file
-abbrev pub IsFaultOf : File → PagesFault → Type 0
-IsFaultOf file NoMemory = ⊤
-IsFaultOf file (OfFetch f why) = f ≡ file
+abbrev pub IsFaultOfFile : File → PagesFault → Type 0
+IsFaultOfFile file NoMemory = ⊤
+IsFaultOfFile file (OfFetch f why) = f ≡ file
 
 abbrev pub IsOfFile : {T : Type 0} → File → Result T PagesFault → Type 0
 IsOfFile file (Ok x) = ⊤
-IsOfFile file (Err fault) = IsFaultOf file fault
+IsOfFile file (Err fault) = IsFaultOfFile file fault
 
 -- how many fetches the page of one file takes: one, and without memory one at most
 abbrev pub FetchedOne : (before now : ℕ) → PagesFault → Type 0

@@ -2,7 +2,7 @@
 use Rattle.std.specs.Prelude.{slice_index_or, ℕ, nat_lt, ◌==◌, ◌≡◌, ◌≢◌, ◌≤◌, List, [], ◌∷◌, ◌++◌, length, map, Option, Some, None, if◌then◌else◌}
 use lib.Chars.{codes}
 use Rattle.mari_units.specs.declared.limits.TheConstants.{MOST_PAGE}
-use Rattle.mari_io.specs.Outside.{Pages, page_of as page_named}
+use Rattle.mari_io.specs.Outside.{Pages, page_of}
 use Rattle.mari_zones.specs.Borders.{version_in}
 use Rattle.mari_day.specs.declared.files.File.{File}
 use Rattle.mari_day.specs.declared.files.TheConstants.{PUBLICATION}
@@ -31,37 +31,37 @@ place_of Demands = 6
 place_of Limits = 7
 
 -- the number by which a file is named: one is left out, that of the publication, which is no market file
-abbrev pub number_of : File → ℕ
-number_of Day = 1
-number_of Zones = 2
-number_of Borders = 3
-number_of Bids = 4
-number_of Links = 5
-number_of Runs = 6
-number_of Demands = 7
-number_of Limits = 9
+abbrev pub file_number : File → ℕ
+file_number Day = 1
+file_number Zones = 2
+file_number Borders = 3
+file_number Bids = 4
+file_number Links = 5
+file_number Runs = 6
+file_number Demands = 7
+file_number Limits = 9
 
 -- the number of a market file
 pub record IsFileNumber (number : ℕ) : Type 0 where
   pub first : 1 ≤ number
-  pub last : number ≤ number_of Limits
+  pub last : number ≤ file_number Limits
   pub other : number ≢ PUBLICATION
 
 -- the number of a file, which a market file or the publication has
 abbrev pub IsNamed : ℕ → Type 0
-IsNamed number = (1 ≤ number) × (number ≤ number_of Limits)
+IsNamed number = (1 ≤ number) × (number ≤ file_number Limits)
 
 -- the market file of a number, if it is that of one
 abbrev pub file_with : ℕ → Option File
 file_with number =
-    if number == number_of Day then Some Day else
-    if number == number_of Zones then Some Zones else
-    if number == number_of Borders then Some Borders else
-    if number == number_of Bids then Some Bids else
-    if number == number_of Links then Some Links else
-    if number == number_of Runs then Some Runs else
-    if number == number_of Demands then Some Demands else
-    if number == number_of Limits then Some Limits else
+    if number == file_number Day then Some Day else
+    if number == file_number Zones then Some Zones else
+    if number == file_number Borders then Some Borders else
+    if number == file_number Bids then Some Bids else
+    if number == file_number Links then Some Links else
+    if number == file_number Runs then Some Runs else
+    if number == file_number Demands then Some Demands else
+    if number == file_number Limits then Some Limits else
     None
 
 -- the seven files that every folder has, in the order in which they are fetched and read
@@ -82,8 +82,8 @@ abbrev pub file_named : ℕ → List ℕ
 file_named number = name_or_publication (file_with number)
 
 -- a file's page among the pages of its folder
-abbrev pub page_of : List (List ℕ) → File → List ℕ
-page_of pages file = slice_index_or pages (place_of file) []
+abbrev pub page_among : List (List ℕ) → File → List ℕ
+page_among pages file = slice_index_or pages (place_of file) []
 
 -- the path in a folder of the file of this name
 abbrev pub path_in : (folder name : List ℕ) → List ℕ
@@ -95,7 +95,7 @@ path_of folder file = path_in folder (name_of file)
 
 -- the page of a folder's file
 abbrev pub page_in : Pages → List ℕ → File → Option (List ℕ)
-page_in pages folder file = page_named pages (path_of folder file)
+page_in pages folder file = page_of pages (path_of folder file)
 
 -- the version of a folder's files, which its page of borders tells
 abbrev pub version_by : Option (List ℕ) → ℕ

@@ -1,13 +1,13 @@
 pub mod Files
 pub mod DateChecks
 pub mod Refusals
+pub mod Dated
 pub mod CalendarPage
 pub mod Fetching
 pub mod Reading
 pub mod Run
 pub mod Published
 pub mod Day
-pub mod Dated
 pub mod Assembled
 pub mod Progress
 pub mod Stepped

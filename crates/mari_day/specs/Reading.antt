@@ -25,45 +25,45 @@ use Rattle.mari_day.specs.declared.reading.BooksFault.TheVariants as why
 use Rattle.mari_calendar.specs.Midnights.{◌>>>◌}
 use Rattle.mari_day.specs.CalendarPage.{calendar_day_in}
 use Rattle.mari_day.specs.Fetching.{HasFiles, SomeFetched}
-use Rattle.mari_day.specs.Files.{files_in, number_of, page_of, first_gap, AreHeld, Gap, IsFileNumber}
+use Rattle.mari_day.specs.Files.{files_in, file_number, page_among, first_gap, AreHeld, Gap, IsFileNumber}
 use Rattle.mari_day.specs.Files.Gap.{NotHeld, OverLimit}
 
 -- the refusal of a file at a line, by the number of the check that fails
-abbrev pub refusal_at : File → (line number : ℕ) → Refusal
-refusal_at file line number = record { file = number_of file; line = line; number = number }
+abbrev pub file_refusal : File → (line number : ℕ) → Refusal
+file_refusal file line number = record { file = file_number file; line = line; number = number }
 
 -- the book of a file, or its refusal, which names the file; no page's book wants memory
 abbrev pub of_file : {Book : Type 0} → File → Result Book BookFault → Result Book Refusal
 of_file file (Ok book) = Ok book
-of_file file (Err (refused.At line number)) = Err (refusal_at file line number)
-of_file file (Err refused.Memory) = Err (refusal_at file 0 0)
+of_file file (Err (refused.At line number)) = Err (file_refusal file line number)
+of_file file (Err refused.Memory) = Err (file_refusal file 0 0)
 
 -- the limits that limits.csv states for each run, in the version that has it
 abbrev pub limits_at : ZoneBook → BorderBook → (runs : ℕ) → List (List ℕ) → Result (Option (List (List BorderLimits))) Refusal
 limits_at zones borders runs pages =
-    if version_in (page_of pages Borders) == 2
-    then (of_file Limits (book_in (limit_grammar zones borders runs) (page_of pages Limits)) >>> λ limits. Ok (Some limits))
+    if version_in (page_among pages Borders) == 2
+    then (of_file Limits (book_in (limit_grammar zones borders runs) (page_among pages Limits)) >>> λ limits. Ok (Some limits))
     else Ok None
 
 -- the books of the pages, read in the order of the files, or the first refusal
 unfoldable pub books_at : List (List ℕ) → Result Books Refusal
 books_at pages =
-    of_file Day (calendar_day_in (page_of pages Day)) >>> λ day.
-    of_file Zones (book_in zone_grammar (page_of pages Zones)) >>> λ zones.
-    of_file Borders (borders_in zones (page_of pages Borders)) >>> λ borders.
-    of_file Bids (book_in (bid_grammar zones day.quarters) (page_of pages Bids)) >>> λ bids.
-    of_file Links (book_in (link_grammar bids) (page_of pages Links)) >>> λ links.
-    of_file Runs (book_in (run_grammar day.quarters) (page_of pages Runs)) >>> λ runs.
-    of_file Demands (book_in (demand_grammar zones (length runs.runs)) (page_of pages Demands)) >>> λ demands.
+    of_file Day (calendar_day_in (page_among pages Day)) >>> λ day.
+    of_file Zones (book_in zone_grammar (page_among pages Zones)) >>> λ zones.
+    of_file Borders (borders_in zones (page_among pages Borders)) >>> λ borders.
+    of_file Bids (book_in (bid_grammar zones day.quarters) (page_among pages Bids)) >>> λ bids.
+    of_file Links (book_in (link_grammar bids) (page_among pages Links)) >>> λ links.
+    of_file Runs (book_in (run_grammar day.quarters) (page_among pages Runs)) >>> λ runs.
+    of_file Demands (book_in (demand_grammar zones (length runs.runs)) (page_among pages Demands)) >>> λ demands.
     limits_at zones borders (length runs.runs) pages >>> λ limits.
     Ok (record { date = day.date; quarters = day.quarters; zones = zones; borders = borders; bids = bids; links = links; runs = runs; demands = demands; limits = limits })
 
 -- this is what was to be read, or its refusal, unless memory was wanted
-abbrev pub Reads : {X : Type 0} → Result X BooksFault → Result X Refusal → Type 0
-Reads (Ok x) read = read ≡ Ok x
-Reads (Err (why.Refused refusal)) read = read ≡ Err refusal
-Reads (Err why.Memory) read = ⊤
-Reads (Err (why.Fetch file fault)) read = ⊥
+abbrev pub ReadsAs : {X : Type 0} → Result X BooksFault → Result X Refusal → Type 0
+ReadsAs (Ok x) read = read ≡ Ok x
+ReadsAs (Err (why.Refused refusal)) read = read ≡ Err refusal
+ReadsAs (Err why.Memory) read = ⊤
+ReadsAs (Err (why.Fetch file fault)) read = ⊥
 
 -- the books of the folder's pages, which are held
 pub record HasBooks (pages : Pages) (folder : List ℕ) (books : Books) : Type 0 where
@@ -80,7 +80,7 @@ pub record HasRefusal (pages : Pages) (folder : List ℕ) (refusal : Refusal) : 
 -- the page of the file of this number is the first of the folder that can't be had, and this is why
 pub record HasGap (pages : Pages) (folder : List ℕ) (number : ℕ) (gap : Gap) : Type 0 where
   pub file : File
-  pub numbered : number ≡ number_of file
+  pub numbered : number ≡ file_number file
   pub first : first_gap pages folder (files_in pages folder) ≡ Some (record { file = file; gap = gap })
 
 -- what reading says of the pages, where they are told

@@ -18,7 +18,7 @@ use Rattle.mari_demands.specs.declared.demands.DemandCheck.{DemandCheck}
 use Rattle.mari_demands.specs.declared.limits.LimitCheck.{LimitCheck}
 use Rattle.mari_demands.specs.declared.runs.RunCheck.{RunCheck}
 use Rattle.mari_day.specs.DateChecks.{date_check_number}
-use Rattle.mari_day.specs.Files.{number_of}
+use Rattle.mari_day.specs.Files.{file_number}
 use Rattle.mari_day.specs.declared.calendar_page.DateCheck.{DateCheck}
 use Rattle.mari_day.specs.declared.files.File.{File}
 use Rattle.mari_day.specs.declared.files.File.TheVariants.{Day, Zones, Borders, Bids, Links, Runs, Demands, Limits}
@@ -55,7 +55,7 @@ pub data IsCheckNumber (file : File) (number : ℕ) : Type 0 where
 -- a market file is refused by a check of its own, or by one that every file has
 pub record IsByCheck (refusal : Refusal) : Type 0 where
   pub file : File
-  pub numbered : refusal.file ≡ number_of file
+  pub numbered : refusal.file ≡ file_number file
   pub check : IsCheckNumber file refusal.number
 
 -- where the files are refused, it is by such a check

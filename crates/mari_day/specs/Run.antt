@@ -1,4 +1,7 @@
 -- What the block of a run promises of its clearing and of its prices.
+use Rattle.std.specs.Prelude.{ℕ, List}
+use Rattle.mari_units.specs.declared.numbers.Cents.{Cents}
+use Rattle.mari_market.specs.declared.activation.Activation.{Activation}
 use Rattle.mari_market.specs.declared.market.Market.{Market}
 use Rattle.mari_market.specs.declared.clearing.Clearing.{Clearing}
 use Rattle.mari_market.specs.Area.{AreAreas}
@@ -11,11 +14,15 @@ use Rattle.mari_progress.specs.Told.{activation_of, areas_of, greatest_of, least
 abbrev pub clearing_of : FullBlock → Clearing
 clearing_of b = record { activation = activation_of b; welfare = b.welfare; tree = b.tree }
 
--- each zone has its published price, which together are consistent with the activation; its least and its greatest
--- consistent price; and the number of its area
-pub record HasPrices (m : Market) (b : FullBlock) : Type 0 where
-  pub published : ArePublishedPrices m (activation_of b) (prices_of b)
-  pub consistent : IsConsistent m (activation_of b) (prices_of b)
-  pub least : AreLeastPrices m (activation_of b) (least_of b)
-  pub greatest : AreGreatestPrices m (activation_of b) (greatest_of b)
-  pub areas : AreAreas m (activation_of b) (areas_of b)
+-- for an activation each zone has its published price, which together are consistent with it; its least and its
+-- greatest consistent price; and the number of its area
+pub record AreZonePrices (m : Market) (a : Activation) (ps lows highs : List Cents) (numbers : List ℕ) : Type 0 where
+  pub published : ArePublishedPrices m a ps
+  pub consistent : IsConsistent m a ps
+  pub least : AreLeastPrices m a lows
+  pub greatest : AreGreatestPrices m a highs
+  pub areas : AreAreas m a numbers
+
+-- so it is told
+abbrev pub HasPrices : Market → FullBlock → Type 0
+HasPrices m b = AreZonePrices m (activation_of b) (prices_of b) (least_of b) (greatest_of b) (areas_of b)

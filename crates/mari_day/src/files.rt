@@ -1,7 +1,7 @@
 //! The market files of a folder.
 
 ghost use Rattle.std.specs.Prelude.{◌≡◌, ◌≤◌, ◌<◌, IfOk, string_bytes};
-ghost use Rattle.mari_day.specs.Files.{IsFileNumber, IsNamed, file_named, file_with, name_of, number_of, path_in as path_to, place_of};
+ghost use Rattle.mari_day.specs.Files.{IsFileNumber, IsNamed, file_named, file_number, file_with, name_of, path_in as path_to, place_of};
 
 use mari_units::Memory;
 use std::alloc::Global;
@@ -69,7 +69,7 @@ impl File {
 
     /// The number by which the file is named, from 1: `PUBLICATION` is left out.
     pub fn number(self) -> u8
-        ensures number { result ≡ number_of self }
+        ensures number { result ≡ file_number self }
         ensures within { IsFileNumber result }
     {
         match self {

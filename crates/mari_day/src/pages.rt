@@ -6,7 +6,7 @@ ghost use Rattle.mari_units.specs.declared.limits.TheConstants.{MOST_PAGE};
 ghost use Rattle.mari_io.specs.Outside.{Counts, Pages};
 ghost use Rattle.mari_io.specs.declared.shelf.Fetch.TheVariants as fetch;
 ghost use Rattle.mari_zones.specs.Borders.{version_in};
-ghost use Rattle.mari_day.specs.Files.{files, files_in, page_in, page_of, place_of};
+ghost use Rattle.mari_day.specs.Files.{files, files_in, page_in, page_among, place_of};
 ghost use Rattle.mari_day.specs.Fetching.{IsFault, IsOfFile, FetchesFolder, FetchesPage, FetchesPages, FetchingTells, PageTells};
 
 use crate::files::{FILES, File, path_in};
@@ -35,21 +35,21 @@ impl Model for Folder {
     ghost use Rattle.std.specs.List.{All};
     ghost use Rattle.mari_units.specs.declared.limits.TheConstants.{MOST_PAGE};
     ghost use Rattle.mari_zones.specs.Borders.{version_in};
-    ghost use Rattle.mari_day.specs.Files.{files_of, page_of};
+    ghost use Rattle.mari_day.specs.Files.{files_of, page_among};
     ghost use Rattle.mari_day.specs.declared.files.File.TheVariants.{Borders};
 
     ghost Value = { List (List ℕ) };
 
     ghost view = { λ f. f.pages };
 
-    ghost invariant = { λ f. (length f.pages ≡ length (files_of (version_in (page_of f.pages Borders)))) × All (λ (page : List ℕ). length page ≤ MOST_PAGE) f.pages };
+    ghost invariant = { λ f. (length f.pages ≡ length (files_of (version_in (page_among f.pages Borders)))) × All (λ (page : List ℕ). length page ≤ MOST_PAGE) f.pages };
 }
 
 impl Folder {
     /// The bytes of one of the seven files.
     pub fn page(&self, file: File) -> &[u8]
         requires { place_of file < 7 }
-        ensures page { result.now ≡ page_of self.now file }
+        ensures page { result.now ≡ page_among self.now file }
         ensures small { length result.now ≤ MOST_PAGE }
     {
         self.pages.as_slice()[file.place()].as_slice()
@@ -57,9 +57,9 @@ impl Folder {
 
     /// The bytes of limits.csv, where it is one of the folder's files.
     pub fn limits(&self) -> Option<&[u8]>
-        ensures there { is_some result ≡ (version_in (page_of self.now File.Borders) == 2) }
+        ensures there { is_some result ≡ (version_in (page_among self.now File.Borders) == 2) }
         ensures count { length self.now ≡ (if is_some result then 8 else 7) }
-        ensures page { IfSome result (λ page. page.now ≡ page_of self.now File.Limits) }
+        ensures page { IfSome result (λ page. page.now ≡ page_among self.now File.Limits) }
         ensures small { IfSome result (λ page. length page.now ≤ MOST_PAGE) }
     {
         match self.pages.as_slice().get(File::Limits.place()) {
@@ -141,7 +141,7 @@ fn fetch_seven<S: Shelf>(
 /// The version of the borders among the seven pages.
 fn version_among(alloc: Global, seven: &[Items<u8>]) -> Result<u8, Memory>
     requires { length seven.now ≡ 7 }
-    ensures { IfOk result (λ version. version ≡ version_in (page_of seven.now File.Borders)) }
+    ensures { IfOk result (λ version. version ≡ version_in (page_among seven.now File.Borders)) }
 {
     version_of(alloc, seven[File::Borders.place()].as_slice())
 }
@@ -149,7 +149,7 @@ fn version_among(alloc: Global, seven: &[Items<u8>]) -> Result<u8, Memory>
 /// The folder of the seven pages and of limits.csv behind them.
 fn with_limits(seven: Items<Items<u8>>, limits: Items<u8>) -> Result<Folder, PagesFault>
     requires seven { length seven ≡ 7 }
-    requires version { version_in (page_of seven File.Borders) ≡ 2 }
+    requires version { version_in (page_among seven File.Borders) ≡ 2 }
     requires small { All (λ (page : List ℕ). length page ≤ MOST_PAGE) seven }
     requires small_too { length limits ≤ MOST_PAGE }
     ensures folder { IfOk result (λ folder. folder ≡ seven ++ limits ∷ []) }

@@ -15,8 +15,8 @@ ghost use Rattle.mari_demands.specs.Runs.{run_grammar, IsRunBook};
 ghost use Rattle.mari_remain.specs.Accepted.{IsAccepted};
 ghost use Rattle.mari_day.specs.CalendarPage.{calendar_day_in, IsCalendarDay};
 ghost use Rattle.mari_day.specs.Dated.{IsDated};
-ghost use Rattle.mari_day.specs.Files.{page_of, IsFileNumber};
-ghost use Rattle.mari_day.specs.Reading.{books_at, limits_at, of_file, refusal_at, BooksTell, FetchesFiles, IsFetchFault, NamesAFile, Reads};
+ghost use Rattle.mari_day.specs.Files.{page_among, IsFileNumber};
+ghost use Rattle.mari_day.specs.Reading.{books_at, file_refusal, limits_at, of_file, BooksTell, FetchesFiles, IsFetchFault, NamesAFile, ReadsAs};
 ghost use Rattle.mari_day.specs.Refusals.{RefusesByCheck};
 
 use crate::calendar_page::CalendarDay;
@@ -43,7 +43,7 @@ pub enum BooksFault {
 
 /// The refusal of a file.
 fn refusal_of(file: File, line: u32, number: u8) -> Refusal
-    ensures refusal { result ≡ refusal_at file line number }
+    ensures refusal { result ≡ file_refusal file line number }
     ensures file { IsFileNumber result.file }
 {
     Refusal {
@@ -55,7 +55,7 @@ fn refusal_of(file: File, line: u32, number: u8) -> Refusal
 
 /// What was read of a file, its refusal naming the file.
 fn named<T: Drop>(file: File, read: Result<T, BookFault>) -> Result<T, BooksFault>
-    ensures reads { (given : Res T Fault) → GivesBook read given → Reads result (of_file file given) }
+    ensures reads { (given : Res T Fault) → GivesBook read given → ReadsAs result (of_file file given) }
     ensures ok { IfOk result (λ book. read ≡ Ok book) }
     ensures file { NamesAFile result }
 {
@@ -70,7 +70,7 @@ fn named<T: Drop>(file: File, read: Result<T, BookFault>) -> Result<T, BooksFaul
 
 /// Reads the day and its calendar.
 fn read_day(alloc: Global, folder: &Folder) -> Result<CalendarDay, BooksFault>
-    ensures reads { Reads result (of_file File.Day (calendar_day_in (page_of folder.now File.Day))) }
+    ensures reads { ReadsAs result (of_file File.Day (calendar_day_in (page_among folder.now File.Day))) }
     ensures file { NamesAFile result }
     ensures facts { IfOk result IsCalendarDay }
 {
@@ -79,7 +79,7 @@ fn read_day(alloc: Global, folder: &Folder) -> Result<CalendarDay, BooksFault>
 
 /// Reads the zones.
 fn read_zones(alloc: Global, folder: &Folder) -> Result<ZoneBook, BooksFault>
-    ensures reads { Reads result (of_file File.Zones (book_in zone_grammar (page_of folder.now File.Zones))) }
+    ensures reads { ReadsAs result (of_file File.Zones (book_in zone_grammar (page_among folder.now File.Zones))) }
     ensures file { NamesAFile result }
     ensures facts { IfOk result IsZoneBook }
 {
@@ -88,7 +88,7 @@ fn read_zones(alloc: Global, folder: &Folder) -> Result<ZoneBook, BooksFault>
 
 /// Reads the borders between the zones.
 fn read_borders(alloc: Global, folder: &Folder, zones: &ZoneBook) -> Result<BorderBook, BooksFault>
-    ensures reads { Reads result (of_file File.Borders (borders_in zones.now (page_of folder.now File.Borders))) }
+    ensures reads { ReadsAs result (of_file File.Borders (borders_in zones.now (page_among folder.now File.Borders))) }
     ensures file { NamesAFile result }
     ensures facts { IfOk result (IsBorderBook zones.now) }
 {
@@ -105,7 +105,7 @@ fn read_bids(
     zones: &ZoneBook,
     quarters: u32,
 ) -> Result<BidBook, BooksFault>
-    ensures reads { Reads result (of_file File.Bids (book_in (bid_grammar zones.now quarters) (page_of folder.now File.Bids))) }
+    ensures reads { ReadsAs result (of_file File.Bids (book_in (bid_grammar zones.now quarters) (page_among folder.now File.Bids))) }
     ensures file { NamesAFile result }
     ensures facts { IfOk result (IsBidBook zones.now quarters) }
 {
@@ -117,7 +117,7 @@ fn read_bids(
 
 /// Reads the links between the bids.
 fn read_links(alloc: Global, folder: &Folder, bids: &BidBook) -> Result<LinkBook, BooksFault>
-    ensures reads { Reads result (of_file File.Links (book_in (link_grammar bids.now) (page_of folder.now File.Links))) }
+    ensures reads { ReadsAs result (of_file File.Links (book_in (link_grammar bids.now) (page_among folder.now File.Links))) }
     ensures file { NamesAFile result }
     ensures facts { IfOk result (IsLinkBook bids.now) }
 {
@@ -129,7 +129,7 @@ fn read_links(alloc: Global, folder: &Folder, bids: &BidBook) -> Result<LinkBook
 
 /// Reads the runs.
 fn read_runs(alloc: Global, folder: &Folder, quarters: u32) -> Result<RunBook, BooksFault>
-    ensures reads { Reads result (of_file File.Runs (book_in (run_grammar quarters) (page_of folder.now File.Runs))) }
+    ensures reads { ReadsAs result (of_file File.Runs (book_in (run_grammar quarters) (page_among folder.now File.Runs))) }
     ensures file { NamesAFile result }
     ensures facts { IfOk result (IsRunBook quarters) }
 {
@@ -147,7 +147,7 @@ fn read_demands(
     zones: &ZoneBook,
 ) -> Result<DemandBook, BooksFault>
     requires { length runs.now.runs ≤ MOST_RUNS }
-    ensures reads { Reads result (of_file File.Demands (book_in (demand_grammar zones.now (length runs.now.runs)) (page_of folder.now File.Demands))) }
+    ensures reads { ReadsAs result (of_file File.Demands (book_in (demand_grammar zones.now (length runs.now.runs)) (page_among folder.now File.Demands))) }
     ensures file { NamesAFile result }
     ensures facts { IfOk result (IsDemandBook zones.now (length runs.now.runs)) }
 {
@@ -167,7 +167,7 @@ fn read_limits(
 ) -> Result<Option<LimitBook>, BooksFault>
     requires borders { length borders.now.borders ≤ MOST_BORDERS }
     requires runs { length runs.now.runs ≤ MOST_RUNS }
-    ensures reads { Reads result (limits_at zones.now borders.now (length runs.now.runs) folder.now) }
+    ensures reads { ReadsAs result (limits_at zones.now borders.now (length runs.now.runs) folder.now) }
     ensures file { NamesAFile result }
     ensures count { IfOk result (λ limits. length folder.now ≡ (if is_some limits then 8 else 7)) }
     ensures facts { IfOk result (λ limits. IfSome limits (IsLimitTable (length runs.now.runs) (length borders.now.borders))) }
@@ -187,7 +187,7 @@ fn read_limits(
 /// The books of the pages, in the order of their files, or the first refusal.
 #[tactic(auto, unfolding(crate::specs::Reading::books_at))]
 fn books_of(alloc: Global, folder: &Folder) -> Result<Books, BooksFault>
-    ensures reads { Reads result (books_at folder.now) }
+    ensures reads { ReadsAs result (books_at folder.now) }
     ensures file { NamesAFile result }
     ensures count { IfOk result (λ books. length folder.now ≡ (if is_some books.limits then 8 else 7)) }
     ensures accepted { IfOk result IsAccepted }

@@ -1,7 +1,7 @@
 //! The text of a day, made in memory.
 
 ghost use Rattle.std.specs.Prelude.{◌≡◌, ◌≤◌, ◌⊎◌, Some, length, IfOk};
-ghost use Rattle.mari_io.specs.Outside.{Counts, taken_after, TookNothing, IsRefused};
+ghost use Rattle.mari_io.specs.Outside.{Counts, taken_after, TookNothing, GaveError};
 ghost use Rattle.mari_remain.specs.Accepted.{IsAccepted};
 ghost use Rattle.mari_day.specs.Dated.{IsDated};
 ghost use Rattle.mari_day.specs.Day.{IsPrintedDay};
@@ -37,7 +37,7 @@ impl Sink for TextSink {
     fn write(&mut self, piece: &[u8]) -> Result<usize, Failed>
         ensures bound { IfOk result (λ n. n ≤ length piece.now) }
         ensures taken { Some self.new.text.items ≡ taken_after (Some self.old.text.items) piece.now result }
-        ensures cause { Counts (IsRefused result ⊎ TookNothing piece.now result) self.old.faults self.new.faults }
+        ensures cause { Counts (GaveError result ⊎ TookNothing piece.now result) self.old.faults self.new.faults }
     {
         match self.text.extend_from_slice(piece) {
             Ok(()) => Ok(piece.len()),

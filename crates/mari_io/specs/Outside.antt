@@ -107,6 +107,6 @@ abbrev pub TookNothing : {E : Type 0} → List ℕ → Result ℕ E → Type 0
 TookNothing piece result = (taken_count result ≡ 0) × (0 < length piece)
 
 -- the call gave an error
-abbrev pub IsRefused : {T E : Type 0} → Result T E → Type 0
-IsRefused (Ok x) = ⊥
-IsRefused (Err e) = ⊤
+abbrev pub GaveError : {T E : Type 0} → Result T E → Type 0
+GaveError (Ok x) = ⊥
+GaveError (Err e) = ⊤

@@ -1,7 +1,7 @@
 //! A sink in memory.
 
 ghost use Rattle.std.specs.Prelude.{◌≡◌, ◌≤◌, ◌↔◌, ◌⊎◌, Some, [], length, IfOk, IsErr, true};
-ghost use Rattle.mari_io.specs.Outside.{Counts, taken_after, TookNothing, IsRefused};
+ghost use Rattle.mari_io.specs.Outside.{Counts, taken_after, TookNothing, GaveError};
 ghost use Rattle.mari_io.specs.Memory.{write_fails, takes, after_write};
 
 use crate::{Failed, FaultPlan, Sink};
@@ -65,7 +65,7 @@ impl Sink for MemorySink {
     fn write(&mut self, piece: &[u8]) -> Result<usize, Failed>
         ensures bound { IfOk result (λ n. n ≤ length piece.now) }
         ensures taken { Some self.new.bytes ≡ taken_after (Some self.old.bytes) piece.now result }
-        ensures cause { Counts (IsRefused result ⊎ TookNothing piece.now result) self.old.faults self.new.faults }
+        ensures cause { Counts (GaveError result ⊎ TookNothing piece.now result) self.old.faults self.new.faults }
 
         // The plan alone makes a call fail, and nothing else raises the count.
         ensures planned { IsErr result ↔ (write_fails self.old ≡ true) }

@@ -2,7 +2,7 @@
 
 ghost use Rattle.std.specs.Prelude.{None, ◌≡◌, ◌≤◌, ◌⊎◌, ℕ, length, take, IfOk, OnErr};
 ghost use Rattle.std.specs.Io.KnownBytes.{Appends};
-ghost use Rattle.mari_io.specs.Outside.{Counts, taken_after, TookNothing, IsRefused};
+ghost use Rattle.mari_io.specs.Outside.{Counts, taken_after, TookNothing, GaveError};
 ghost use Rattle.mari_io.specs.System.{after_print};
 
 use crate::{Failed, Sink};
@@ -36,7 +36,7 @@ impl<R: Print + Drop> StdSink<R> {
     /// Counts what a write of this piece answered.
     fn count(&mut self, piece: &[u8], answer: &Result<usize, Failed>)
         ensures counts { self.new ≡ after_print self.old piece.now answer.now }
-        ensures cause { Counts (IsRefused answer.now ⊎ TookNothing piece.now answer.now) self.old.faults self.new.faults }
+        ensures cause { Counts (GaveError answer.now ⊎ TookNothing piece.now answer.now) self.old.faults self.new.faults }
     {
         let took_nothing = match answer {
             Ok(count) => *count == 0 && !piece.is_empty(),
@@ -72,7 +72,7 @@ impl<R: Print + Drop> Sink for StdSink<R> {
     fn write(&mut self, piece: &[u8]) -> Result<usize, Failed>
         ensures bound { IfOk result (λ n. n ≤ length piece.now) }
         ensures taken { None ≡ taken_after None piece.now result }
-        ensures cause { Counts (IsRefused result ⊎ TookNothing piece.now result) self.old.faults self.new.faults }
+        ensures cause { Counts (GaveError result ⊎ TookNothing piece.now result) self.old.faults self.new.faults }
 
         // A write that fails or takes nothing of a piece raises the count by one, and no other does.
         ensures counts { self.new ≡ after_print self.old piece.now result }

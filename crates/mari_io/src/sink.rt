@@ -1,7 +1,7 @@
 //! Where bytes go.
 
 ghost use Rattle.std.specs.Prelude.{◌≡◌, ◌≤◌, ◌⊎◌, ℕ, List, Option, length, IfOk};
-ghost use Rattle.mari_io.specs.Outside.{Counts, taken_after, TookNothing, IsRefused};
+ghost use Rattle.mari_io.specs.Outside.{Counts, taken_after, TookNothing, GaveError};
 
 /// A write failed.
 #[derive(Clone, Copy, Debug, PartialEq, Eq)]
@@ -23,5 +23,5 @@ pub trait Sink {
     fn write(&mut self, piece: &[u8]) -> Result<usize, Failed>
         ensures bound { IfOk result (λ n. n ≤ length piece.now) }
         ensures taken { taken self.new ≡ taken_after (taken self.old) piece.now result }
-        ensures cause { Counts (IsRefused result ⊎ TookNothing piece.now result) (faults self.old) (faults self.new) };
+        ensures cause { Counts (GaveError result ⊎ TookNothing piece.now result) (faults self.old) (faults self.new) };
 }

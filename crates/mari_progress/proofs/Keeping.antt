@@ -27,10 +27,10 @@ use Rattle.mari_settle.specs.Lines.{map_along, no_line}
 use Rattle.mari_settle.specs.declared.ledger.OperatorLine.{OperatorLine}
 use Rattle.mari_settle.proofs.Laws.{nets_sum_to_0, no_rent_below_0}
 use Rattle.mari_progress.specs.Behind.{before_of, market_behind, past_of, run_behind}
-use Rattle.mari_progress.specs.Keeps.{KeepsOffers, net_sum}
+use Rattle.mari_progress.specs.Keeps.{KeepsOffers, SumsToZero, net_sum}
 use Rattle.mari_progress.specs.Money.{HasLedger, money_line, money_lines_of}
 use Rattle.mari_progress.specs.Runs.{IsMarketOf, IsSoundBlock, IsSoundRun}
-use Rattle.mari_progress.specs.Told.{activation_of, prices_of, rents_told}
+use Rattle.mari_progress.specs.Told.{activation_of, prices_of}
 use Rattle.mari_progress.specs.Totals.{money_together, operator_totals, with_operators}
 use Rattle.mari_progress.proofs.Lists.{along-length}
 use Rattle.mari_progress.proofs.Made.{market-of}
@@ -62,8 +62,7 @@ no-nets (suc n) = let more = no-nets n in omega (arith, ints, more)
 -- no lines
 pub record Balances (books : Books) (b : FullBlock) : Type 0 where
   pub one_each : length b.operators ≡ length books.zones.operators
-  pub nets : net_sum b.operators ≡ pos 0
-  pub rents : All (λ (rent : Quarters). pos 0 ≤ℤ rent.0) (rents_told b)
+  pub to_zero : SumsToZero b
 
 abbrev pub BalancesIn : Books → Block → Type 0
 BalancesIn books (block.Published b) = Balances books b
@@ -78,8 +77,10 @@ module _ (books : Books) (ok : IsAccepted books) where
       let many : length lines ≡ length names = length-map-range_with_len _ 0 (length names) in
       record {
         one_each = ap length ledger.operators ∙ along-length money_line names lines many;
-        nets = ap net_sum ledger.operators ∙ net-lines names lines many ∙ nets_sum_to_0 books.zones made.market (activation_of b) (prices_of b) (record { one_each = ok.zones.one_each; there = ok.zones.operator_of }) own.zones own.valid;
-        rents = subst (All (λ (rent : Quarters). pos 0 ≤ℤ rent.0)) (sym ledger.rents) (no_rent_below_0 made.market (activation_of b) (prices_of b) consistent.borders);
+        to_zero = record {
+          nets = ap net_sum ledger.operators ∙ net-lines names lines many ∙ nets_sum_to_0 books.zones made.market (activation_of b) (prices_of b) (record { one_each = ok.zones.one_each; there = ok.zones.operator_of }) own.zones own.valid;
+          rents = subst (All (λ (rent : Quarters). pos 0 ≤ℤ rent.0)) (sym ledger.rents) (no_rent_below_0 made.market (activation_of b) (prices_of b) consistent.borders);
+        };
       }
 
   sums : (lines : List MoneyLine) (bs : List Block) → length lines ≡ length books.zones.operators → net_sum lines ≡ pos 0 → All (BalancesIn books) bs → net_sum (fold with_operators lines bs) ≡ pos 0
@@ -88,7 +89,7 @@ module _ (books : Books) (ok : IsAccepted books) where
       let own : Balances books b = All-head (BalancesIn books) (block.Published b) bs all in
       let long = along-length money_together lines b.operators (own.one_each ∙ sym many) in
       let both = nets-along lines b.operators (many ∙ sym own.one_each) in
-      sums (map_along money_together lines b.operators) bs (long ∙ many) (omega (arith, ints, both, none, own.nets)) (All-tail (BalancesIn books) (block.Published b) bs all)
+      sums (map_along money_together lines b.operators) bs (long ∙ many) (omega (arith, ints, both, none, own.to_zero.nets)) (All-tail (BalancesIn books) (block.Published b) bs all)
   sums lines (block.Unpublished heading count ∷ bs) many none all = sums lines bs many none (All-tail (BalancesIn books) (block.Unpublished heading count) bs all)
 
   module _ (blocks : List Block) (few : length blocks ≤ length books.runs.runs) (sound : (k : ℕ) (b : Block) → slice_get blocks k ≡ Some b → IsSoundBlock books (take k blocks) b) where

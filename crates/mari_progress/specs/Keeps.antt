@@ -1,13 +1,18 @@
--- What holds of every day, whoever printed it: no bid runs above its offer, and the operators' nets sum to 0.
-use Rattle.std.specs.Prelude.{ℕ, ℤ, ◌≡◌, ◌≤◌, ◌⊎◌, true, List, Some, slice_get, take}
+-- What holds of every day, whoever printed it: no bid runs above its offer, the operators' nets sum to 0, and no rent
+-- is negative.
+use Rattle.std.specs.Prelude.{ℕ, ℤ, pos, ◌≡◌, ◌≤◌, ◌≤ℤ◌, ◌⊎◌, true, List, Some, slice_get, take}
+use Rattle.std.specs.List.{All}
+use Rattle.mari_units.specs.declared.numbers.Quarters.{Quarters}
 use Rattle.mari_links.specs.Links.{has_gate}
 use Rattle.mari_lines.specs.declared.line.MoneyLine.{MoneyLine}
 use Rattle.mari_market.specs.Sums.{int_sum}
 use Rattle.mari_publish.specs.declared.publication.Block.{Block}
+use Rattle.mari_publish.specs.declared.publication.FullBlock.{FullBlock}
 use Rattle.mari_remain.specs.Blocks.{mw_in, mw_of}
 use Rattle.mari_remain.specs.Lists.{bid_at}
 use Rattle.mari_remain.specs.declared.books.Books.{Books}
 use Rattle.mari_progress.specs.Behind.{before_of, past_of}
+use Rattle.mari_progress.specs.Told.{rents_told}
 
 -- over these blocks each bid runs at most the greatest quantity of its offer, and a bid with a gate runs in at most one
 -- block: where it ran before a block, it doesn't run in it
@@ -18,3 +23,8 @@ pub record KeepsOffers (books : Books) (blocks : List Block) : Type 0 where
 -- the sum of the operators' nets
 abbrev pub net_sum : List MoneyLine → ℤ
 net_sum lines = int_sum (λ (l : MoneyLine). l.net.0) lines
+
+-- the operators' nets of a published block sum to 0, and none of its rents is negative
+pub record SumsToZero (b : FullBlock) : Type 0 where
+  pub nets : net_sum b.operators ≡ pos 0
+  pub rents : All (λ (rent : Quarters). pos 0 ≤ℤ rent.0) (rents_told b)

@@ -14,7 +14,7 @@ use Rattle.mari_market.proofs.Prefixes.{closed_child}
 use Rattle.mari_gates.proofs.Decisions.{length-decisions}
 use Rattle.mari_proofs.specs.declared.trees.TreeVerdict.{TreeVerdict}
 use Rattle.mari_proofs.specs.declared.trees.TreeVerdict.TheVariants.{Holds, BadShape, BadLeaf}
-use Rattle.mari_proofs.specs.Places.{LeavesWords, ShapeFails, LeafFails, IsBadShape, IsVerdict}
+use Rattle.mari_proofs.specs.Places.{LeavesWords, ShapeFails, LeafFails, IsBadShape, IsTreeVerdict}
 use Rattle.mari_gates.specs.Preorder.{waiting_after, left_at}
 use Rattle.mari_proofs.specs.Steps.{FitsItem, IsFullBranch}
 use Rattle.mari_gates.proofs.WaitingWords.{first_child}
@@ -111,7 +111,7 @@ leaf_refutes m holds (word ∷ words) (Branch ∷ items) a f = f
 leaf_refutes m holds (word ∷ words) (Leaf leaf ∷ items) a f = f a.0
 
 -- a verdict that is right says exactly whether the tree holds
-pub holds_by_verdict : (m : Market) (holds : List Bool → LeafRecord → Type 0) (items : List TreeItem) (v : TreeVerdict) → IsVerdict m holds items v → (v ≡ Holds) ↔ AreParts m holds ([] ∷ []) items
+pub holds_by_verdict : (m : Market) (holds : List Bool → LeafRecord → Type 0) (items : List TreeItem) (v : TreeVerdict) → IsTreeVerdict m holds items v → (v ≡ Holds) ↔ AreParts m holds ([] ∷ []) items
 holds_by_verdict m holds items Holds h = (λ e. h, λ t. refl)
 holds_by_verdict m holds items (BadShape p) h = (λ e. absurd (cc), λ t. absurd (shape_refutes m holds h.left (drop p items) (parts_split m holds ([] ∷ []) items p h.left t h.before) h.fails))
 holds_by_verdict m holds items (BadLeaf p) h = (λ e. absurd (cc), λ t. absurd (leaf_refutes m holds h.left (drop p items) (parts_split m holds ([] ∷ []) items p h.left t h.before) h.fails))

@@ -49,7 +49,7 @@ pub record IsBadLeaf (m : Market) (holds : List Bool → LeafRecord → Type 0) 
   pub fails : LeafFails m holds left (drop place items)
 
 -- the verdict is right: the tree holds, or the place is the first at which it fails
-abbrev pub IsVerdict : Market → (List Bool → LeafRecord → Type 0) → List TreeItem → TreeVerdict → Type 0
-IsVerdict m holds items Holds = AreParts m holds ([] ∷ []) items
-IsVerdict m holds items (BadShape place) = IsBadShape m holds items place
-IsVerdict m holds items (BadLeaf place) = IsBadLeaf m holds items place
+abbrev pub IsTreeVerdict : Market → (List Bool → LeafRecord → Type 0) → List TreeItem → TreeVerdict → Type 0
+IsTreeVerdict m holds items Holds = AreParts m holds ([] ∷ []) items
+IsTreeVerdict m holds items (BadShape place) = IsBadShape m holds items place
+IsTreeVerdict m holds items (BadLeaf place) = IsBadLeaf m holds items place

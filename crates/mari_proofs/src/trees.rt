@@ -8,7 +8,7 @@ ghost use Rattle.mari_market.specs.Market.{IsValid};
 ghost use Rattle.mari_market.specs.Optimal.{IsAdmissible, IsOptimal};
 ghost use Rattle.mari_market.specs.Prefix.{word_of, IsFeasiblePrefix};
 ghost use Rattle.mari_market.specs.Tree.{LeafHoldsFor, TreeHoldsFor};
-ghost use Rattle.mari_proofs.specs.Places.{IsVerdict};
+ghost use Rattle.mari_proofs.specs.Places.{IsTreeVerdict};
 ghost use Rattle.mari_proofs.specs.Steps.{IsStep};
 
 use crate::leaves::check_leaf_for;
@@ -63,7 +63,7 @@ fn take_item(
 fn walk(market: &Market, tree: &[TreeItem], cutoff: Quarters, word: &Prefix) -> TreeVerdict
     requires market { IsValid market.now }
     requires word { IsFeasiblePrefix market.now word.now }
-    ensures { IsVerdict market.now (LeafHoldsFor market.now cutoff.0 (word_of word.now)) tree.now result }
+    ensures { IsTreeVerdict market.now (LeafHoldsFor market.now cutoff.0 (word_of word.now)) tree.now result }
 {
     let mut next = Some(empty_prefix());
     for (place, item) in tree.iter().enumerate() {
@@ -97,7 +97,7 @@ pub fn check_tree(
     requires market { IsValid market.now }
     requires word { IsFeasiblePrefix market.now word.now }
     requires full { word.now.length ≡ length market.now.gates }
-    ensures verdict { IsVerdict market.now (LeafHoldsFor market.now cutoff.0 (word_of word.now)) tree.now result }
+    ensures verdict { IsTreeVerdict market.now (LeafHoldsFor market.now cutoff.0 (word_of word.now)) tree.now result }
     ensures holds { (result ≡ TreeVerdict.Holds) ↔ TreeHoldsFor market.now cutoff.0 (word_of word.now) tree.now }
 
     // A tree that holds bounds every admissible welfare, so that an activation which reaches the cutoff is optimal.

@@ -12,7 +12,7 @@ use Rattle.mari_lines.specs.Ranges.{InRange}
 use Rattle.mari_lines.specs.Reading.{Lacks}
 use Rattle.mari_lines.specs.Spelling.{spelling, line_text}
 use Rattle.mari_publish.specs.Texts.{text_of_lines}
-use Rattle.mari_publish.specs.Faults.{Begins, IsText, BadLineAt, BadOrderAt, TruncatedAt, IsOutcome, Answers}
+use Rattle.mari_publish.specs.Faults.{Begins, IsText, BadLineAt, BadOrderAt, TruncatedAt, IsOutcome, AnswersWith}
 use Rattle.mari_lines.proofs.LineWords.{no_feed}
 use Rattle.mari_lines.proofs.SameLine.{same_line}
 use Rattle.mari_publish.proofs.Whole.{all_front, all_back}
@@ -164,28 +164,28 @@ truncated_number text m n a b = number _ _ m n (one_stop text _ _ _ _ (truncated
 abbrev bad : TextFault → Result Publication TextFault
 bad f = Err f
 
-pub text_answer : (text : List ℕ) (result : Result Publication TextFault) → IsOutcome text result → (p : Publication) → IsText text p → Answers (Ok p) result
+pub text_answer : (text : List ℕ) (result : Result Publication TextFault) → IsOutcome text result → (p : Publication) → IsText text p → AnswersWith (Ok p) result
 text_answer text (Ok q) o p t = inl (ap (λ (x : Publication). Ok x) (one_text text q p o t))
 text_answer text (Err (fault.BadLine n)) o p t = absurd (text_line text p n t o)
 text_answer text (Err (fault.BadOrder n)) o p t = absurd (text_order text p n t o)
 text_answer text (Err (fault.Truncated n)) o p t = absurd (text_truncated text p n t o)
 text_answer text (Err fault.Memory) o p t = inr refl
 
-pub line_answer : (text : List ℕ) (result : Result Publication TextFault) → IsOutcome text result → (m : ℕ) → BadLineAt text m → Answers (Err (fault.BadLine m)) result
+pub line_answer : (text : List ℕ) (result : Result Publication TextFault) → IsOutcome text result → (m : ℕ) → BadLineAt text m → AnswersWith (Err (fault.BadLine m)) result
 line_answer text (Ok q) o m t = absurd (text_line text q m o t)
 line_answer text (Err (fault.BadLine n)) o m t = inl (ap (λ k. bad (fault.BadLine k)) (line_number text n m o t))
 line_answer text (Err (fault.BadOrder n)) o m t = absurd (line_order text m n t o)
 line_answer text (Err (fault.Truncated n)) o m t = absurd (line_truncated text m n t o)
 line_answer text (Err fault.Memory) o m t = inr refl
 
-pub order_answer : (text : List ℕ) (result : Result Publication TextFault) → IsOutcome text result → (m : ℕ) → BadOrderAt text m → Answers (Err (fault.BadOrder m)) result
+pub order_answer : (text : List ℕ) (result : Result Publication TextFault) → IsOutcome text result → (m : ℕ) → BadOrderAt text m → AnswersWith (Err (fault.BadOrder m)) result
 order_answer text (Ok q) o m t = absurd (text_order text q m o t)
 order_answer text (Err (fault.BadLine n)) o m t = absurd (line_order text n m o t)
 order_answer text (Err (fault.BadOrder n)) o m t = inl (ap (λ k. bad (fault.BadOrder k)) (order_number text n m o t))
 order_answer text (Err (fault.Truncated n)) o m t = absurd (order_truncated text m n t o)
 order_answer text (Err fault.Memory) o m t = inr refl
 
-pub truncated_answer : (text : List ℕ) (result : Result Publication TextFault) → IsOutcome text result → (m : ℕ) → TruncatedAt text m → Answers (Err (fault.Truncated m)) result
+pub truncated_answer : (text : List ℕ) (result : Result Publication TextFault) → IsOutcome text result → (m : ℕ) → TruncatedAt text m → AnswersWith (Err (fault.Truncated m)) result
 truncated_answer text (Ok q) o m t = absurd (text_truncated text q m o t)
 truncated_answer text (Err (fault.BadLine n)) o m t = absurd (line_truncated text n m o t)
 truncated_answer text (Err (fault.BadOrder n)) o m t = absurd (order_truncated text n m o t)

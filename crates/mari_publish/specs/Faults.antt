@@ -65,5 +65,5 @@ IsOutcome text (Err (fault.Truncated n)) = TruncatedAt text n
 IsOutcome text (Err fault.Memory) = ⊤
 
 -- the answer is this one, unless memory ran out
-abbrev pub Answers : Result Publication TextFault → Result Publication TextFault → Type 0
-Answers expected result = (result ≡ expected) ⊎ (result ≡ Err fault.Memory)
+abbrev pub AnswersWith : Result Publication TextFault → Result Publication TextFault → Type 0
+AnswersWith expected result = (result ≡ expected) ⊎ (result ≡ Err fault.Memory)

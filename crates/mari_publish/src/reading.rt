@@ -2,7 +2,7 @@
 
 ghost use Rattle.std.specs.Prelude.{◌≡◌, ℕ, OnOk, Ok, Err};
 ghost use Rattle.mari_publish.specs.Order.{grown, nothing_kept, nothing_read};
-ghost use Rattle.mari_publish.specs.Faults.{IsText, BadLineAt, BadOrderAt, TruncatedAt, IsOutcome, Answers};
+ghost use Rattle.mari_publish.specs.Faults.{IsText, BadLineAt, BadOrderAt, TruncatedAt, IsOutcome, AnswersWith};
 ghost use Rattle.mari_publish.specs.Gathering.{seen, Finishes};
 ghost use Rattle.mari_publish.specs.declared.publication.Publication.{Publication as PublicationValue};
 
@@ -138,11 +138,11 @@ fn read_lines(
 /// fault, and at one line `BadLine` before `BadOrder`.
 pub fn read_text(alloc: Global, bytes: &[u8]) -> Result<Publication, TextFault>
     ensures outcome { IsOutcome bytes.now result }
-    ensures text { (p : PublicationValue) → IsText bytes.now p → Answers (Ok p) result }
+    ensures text { (p : PublicationValue) → IsText bytes.now p → AnswersWith (Ok p) result }
     ensures one { (p q : PublicationValue) → IsText bytes.now p → IsText bytes.now q → p ≡ q }
-    ensures bad_line { (n : ℕ) → BadLineAt bytes.now n → Answers (Err (TextFault.BadLine n)) result }
-    ensures bad_order { (n : ℕ) → BadOrderAt bytes.now n → Answers (Err (TextFault.BadOrder n)) result }
-    ensures truncated { (n : ℕ) → TruncatedAt bytes.now n → Answers (Err (TextFault.Truncated n)) result }
+    ensures bad_line { (n : ℕ) → BadLineAt bytes.now n → AnswersWith (Err (TextFault.BadLine n)) result }
+    ensures bad_order { (n : ℕ) → BadOrderAt bytes.now n → AnswersWith (Err (TextFault.BadOrder n)) result }
+    ensures truncated { (n : ℕ) → TruncatedAt bytes.now n → AnswersWith (Err (TextFault.Truncated n)) result }
 {
     let mut kept = Kept::start();
     let mut gathered = nothing(alloc);

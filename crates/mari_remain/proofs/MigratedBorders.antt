@@ -22,7 +22,7 @@ use Rattle.mari_zones.specs.Zones.{IsZoneBook}
 use Rattle.mari_zones.specs.declared.borders.BorderBook.{BorderBook}
 use Rattle.mari_zones.specs.declared.borders.BorderEnds.{BorderEnds}
 use Rattle.mari_zones.specs.declared.zones.ZoneBook.{ZoneBook}
-use Rattle.mari_remain.specs.Migrated.{border_record, page_of}
+use Rattle.mari_remain.specs.Migrated.{border_record, page_text}
 use Rattle.mari_remain.proofs.PrintedFields.{name-plain}
 use Rattle.mari_remain.proofs.ReadBack.{AreColumns, book-read, five-pass, is_plain_field, is_plain_record, itself, page-rows, records-read, row-passes}
 
@@ -166,7 +166,7 @@ columns-two = record { wide = omega arith; plain = refl; unmarked = λ rest. ref
 module _ (zones : ZoneBook) (is : IsZoneBook zones) (book : BorderBook) (ok : All (IsBorder zones) book.borders) where
   -- the page that the borders make
   abbrev pub page : List ℕ
-  page = page_of bare_columns (map (border_record zones) book.borders)
+  page = page_text bare_columns (map (border_record zones) book.borders)
 
   pub second : version_in page ≡ 2
   second = rw (records-read bare_columns 2 columns-two (map (border_record zones) book.borders) (all-records zones is book.borders), itself (columns_of bare_columns)) refl

@@ -23,7 +23,7 @@ use Rattle.mari_demands.specs.Demands.{run_at, run_in}
 use Rattle.mari_demands.specs.LimitPairs.{limits_in, no_limits}
 use Rattle.mari_demands.specs.Limits.{border_at, border_in, is_of, leads, limit_columns, limit_grammar, limit_table, limits_at, limits_of, line_checks}
 use Rattle.mari_demands.specs.declared.limits.Limits.{Limits}
-use Rattle.mari_remain.specs.Migrated.{limit_record, page_of}
+use Rattle.mari_remain.specs.Migrated.{limit_record, page_text}
 use Rattle.mari_remain.specs.RunMarket.{ends_at}
 use Rattle.mari_remain.proofs.MigratedBorders.{NoneRepeated, bare, no-way, position-behind, zone-found, zone-plain}
 use Rattle.mari_remain.proofs.PrintedFields.{number-plain}
@@ -289,11 +289,11 @@ module _ (zones : ZoneBook) (is : IsZoneBook zones) (borders : List BorderEnds) 
       ∙ sym (map-append fields (pairs_of first 0 (length borders)) (all_pairs runs (length borders) (first + 1) count))
 
   pub limits-read-back : book_in (limit_grammar zones book runs)
-      (page_of limit_columns (flat_map (λ run. map (λ border. limit_record zones run (ends_at borders border) (limits run border)) (range_with_len 0 (length borders))) (range_with_len 1 runs)))
+      (page_text limit_columns (flat_map (λ run. map (λ border. limit_record zones run (ends_at borders border) (limits run border)) (range_with_len 0 (length borders))) (range_with_len 1 runs)))
       ≡ Ok table
   limits-read-back =
-      ap (λ records. book_in (limit_grammar zones book runs) (page_of limit_columns records)) (records-of 1 runs)
-      ∙ book-read (limit_grammar zones book runs) (page_of limit_columns (map fields pairs)) (rows_from 2 (map fields pairs))
+      ap (λ records. book_in (limit_grammar zones book runs) (page_text limit_columns records)) (records-of 1 runs)
+      ∙ book-read (limit_grammar zones book runs) (page_text limit_columns (map fields pairs)) (rows_from 2 (map fields pairs))
       (page-rows limit_columns 5 columns-five (map fields pairs) (all-plain [] pairs are-fresh))
       (no-refusal [] pairs [] 2 refl are-fresh) refl
       ∙ ap Ok table-read

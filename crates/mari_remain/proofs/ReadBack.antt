@@ -20,7 +20,7 @@ use Rattle.mari_rows.specs.declared.faults.BookFault.TheVariants as refused
 use Rattle.mari_rows.specs.declared.rows.Row.{Row}
 use Rattle.mari_rows.proofs.FirstLemmas.{first_fault-go}
 use Rattle.mari_rows.proofs.NameLemmas.{bytes_eq-same}
-use Rattle.mari_remain.specs.Migrated.{line_of, page_of}
+use Rattle.mari_remain.specs.Migrated.{line_of, page_text}
 
 -- an ASCII byte that stands in a field without quotes
 abbrev pub is_plain : ℕ → Bool
@@ -129,20 +129,20 @@ pub record AreColumns (columns : List ℕ) (width : ℕ) : Type 0 where
   pub unmarked : (rest : List ℕ) → strip_bom (columns ++ rest) ≡ columns ++ rest
 
 module _ (columns : List ℕ) (width : ℕ) (are : AreColumns columns width) (records : List (List (List ℕ))) (plain : list_all (is_plain_record width) records ≡ true) where
-  header-line : page_of columns records ≡ flat_map line_of (columns_of columns ∷ records)
+  header-line : page_text columns records ≡ flat_map line_of (columns_of columns ∷ records)
   header-line =
       ap (λ text. text ++ 10 ∷ flat_map line_of records) (sym (join_with_byte-slice_split 44 columns))
       ∙ sym (append_assoc (join_with_byte 44 (columns_of columns)) (10 ∷ []) (flat_map line_of records))
 
   -- the records of a printed page are its columns and then those that were printed
-  pub records-read : records_in (page_of columns records) ≡ columns_of columns ∷ records
+  pub records-read : records_in (page_text columns records) ≡ columns_of columns ∷ records
   records-read =
       rw (are.unmarked (10 ∷ flat_map line_of records), header-line)
       (all-lines width are.wide (columns_of columns ∷ records) (length (flat_map line_of (columns_of columns ∷ records)) + 1)
       (rw (are.plain, plain) refl) (omega arith))
 
   -- its rows are those that were printed, behind the header
-  pub page-rows : rows_in columns (page_of columns records) ≡ Ok (rows_from 2 records)
+  pub page-rows : rows_in columns (page_text columns records) ≡ Ok (rows_from 2 records)
   page-rows =
       rw (records-read, itself (columns_of columns), (same-width width (columns_of columns) are.plain).0, no-fault width are.wide [] 2 records plain) refl
 

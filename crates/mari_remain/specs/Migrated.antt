@@ -18,8 +18,8 @@ abbrev pub line_of : List (List ℕ) → List ℕ
 line_of fields = join_with_byte 44 fields ++ 10 ∷ []
 
 -- a page: the names of its columns, with commas between, and then its records, a line each
-abbrev pub page_of : List ℕ → List (List (List ℕ)) → List ℕ
-page_of columns records = columns ++ 10 ∷ flat_map line_of records
+abbrev pub page_text : List ℕ → List (List (List ℕ)) → List ℕ
+page_text columns records = columns ++ 10 ∷ flat_map line_of records
 
 -- the record of a border: its two zones
 abbrev pub border_record : ZoneBook → BorderEnds → List (List ℕ)
@@ -32,7 +32,7 @@ limit_record zones run ends limits = decimal run ∷ name_at zones.zones ends.fr
 module _ (books : Books) where
   -- the page of borders: each border without its limits
   abbrev pub borders_page : List ℕ
-  borders_page = page_of bare_columns (map (border_record books.zones) books.borders.borders)
+  borders_page = page_text bare_columns (map (border_record books.zones) books.borders.borders)
 
   -- the limits of each border in a run
   abbrev pub run_records : (run : ℕ) → List (List (List ℕ))
@@ -40,7 +40,7 @@ module _ (books : Books) where
 
   -- the page of limits: for each run, in order, the limits of each border
   abbrev pub limits_page : List ℕ
-  limits_page = page_of limit_columns (flat_map run_records (range_with_len 1 (length books.runs.runs)))
+  limits_page = page_text limit_columns (flat_map run_records (range_with_len 1 (length books.runs.runs)))
 
   -- the books with these borders in place of their own, and these limits for each run
   abbrev pub with_limits : BorderBook → List (List Limits) → Books

@@ -1,7 +1,7 @@
 use Rattle.std.proofs.Common.{◌≡◌, ◌==◌, true, rules}
 use Rattle.mari_zones.specs.Borders.{version_in}
 use Rattle.mari_day.specs.declared.files.File.TheVariants.{Borders}
-use Rattle.mari_day.specs.Files.{page_of}
+use Rattle.mari_day.specs.Files.{page_among}
 use Rattle.mari_day.proofs.Folders.{all-eight, at_limits, files-there, has-eight, seven-lack, up-to}
 use Rattle.mari_day.proofs.pages.fetch_pages.Goals as goal
 
@@ -18,13 +18,13 @@ returns-in-Err-clause-told g c = λ told e. seven-lack told c.args.folder.now c.
 
 pub returns-in-Ok-fetch_page-clause-fetched : goal.returns-in-Ok-fetch_page-clause-fetched
 returns-in-Ok-fetch_page-clause-fetched g c =
-    let e : (version_in (page_of c.in-Ok.seven Borders) == 2) ≡ true = search rules in
+    let e : (version_in (page_among c.in-Ok.seven Borders) == 2) ≡ true = search rules in
     all-eight (g.S.Shelf.pages c.args.shelf.now) c.args.folder.now c.in-Ok.seven c.in-Ok.ensures.fetched.0 c.in-Ok.ensures.told e
     (g.S.Shelf.fetches c.args.shelf.now) _ _ c.in-Ok-fetch_page.limits c.with_limits.result c.in-Ok.ensures.fetched.1 c.in-Ok-fetch_page.ensures.fetched c.with_limits.ensures.folder c.with_limits.ensures.memory
 
 pub returns-in-Err-fetch_page-clause-fetched : goal.returns-in-Err-fetch_page-clause-fetched
 returns-in-Err-fetch_page-clause-fetched g c =
-    let e : (version_in (page_of c.in-Ok.seven Borders) == 2) ≡ true = search rules in record {
+    let e : (version_in (page_among c.in-Ok.seven Borders) == 2) ≡ true = search rules in record {
       count = 8;
       files = has-eight (g.S.Shelf.pages c.args.shelf.now) c.args.folder.now c.in-Ok.seven c.in-Ok.ensures.fetched.0 c.in-Ok.ensures.told e;
       fetched = at_limits (g.S.Shelf.fetches c.args.shelf.now) _ _ c.in-Err-fetch_page.fault c.in-Ok.ensures.fetched.1 c.in-Err-fetch_page.ensures.fetched c.in-Err-fetch_page.ensures.file;

@@ -1,12 +1,12 @@
 use Rattle.std.proofs.Common.{◌-◌, ℕ, List}
 use Rattle.mari_publish.specs.declared.publication.Part.{Part}
-use Rattle.mari_check.specs.Streams.{IsRead}
+use Rattle.mari_check.specs.Streams.{HasRead}
 use Rattle.mari_check.proofs.Streaming.{count_of}
 use Rattle.mari_check.proofs.stream.Stream.take_parts.Given as goal
 
 -- some more parts of the text were taken
 abbrev pub invariant-parts : goal.invariant-parts
-invariant-parts l = (text : List ℕ) (parts : List Part) → IsRead l.books text parts l.fn.self → (after : List Part) × IsRead l.books text after l.self
+invariant-parts l = (text : List ℕ) (parts : List Part) → HasRead l.books text parts l.fn.self → (after : List Part) × HasRead l.books text after l.self
 
 -- a publication has at most so many parts
 abbrev pub decreases-parts : goal.decreases-parts

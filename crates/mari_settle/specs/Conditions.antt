@@ -25,11 +25,12 @@ pub record HasOperators (zones : ZoneBook) : Type 0 where
 abbrev pub HasProviders : BidBook → Type 0
 HasProviders bids = All (λ (bid : Bid). bid.provider < length bids.providers) bids.bids
 
--- the number names a bid, of one of so many zones, whose provider is one of the book
+-- a bid of one of so many zones, whose provider is one of the book
 pub record IsPayable (bids : BidBook) (zones : ℕ) (bid : Bid) : Type 0 where
   pub zone : bid.zone < zones
   pub provider : bid.provider < length bids.providers
 
+-- the number names such a bid
 abbrev pub NamesPayable : BidBook → ℕ → ℕ → Type 0
 NamesPayable bids zones number = IsSomeAnd (slice_get bids.bids number) (IsPayable bids zones)
 

@@ -1,6 +1,7 @@
 -- What the calls of the ledger ask of what they are given, and how large its numbers are.
 use Rattle.std.specs.Prelude.{◌≡◌, ℕ, ◌<◌, ◌≤◌, ◌*◌, ◌^◌, ◌+ℤ◌, List, length, take, slice_get, unsigned_abs, IsSomeAnd}
 use Rattle.std.specs.List.{All, AllZip}
+use Rattle.mari_units.specs.Numbers.{Within}
 use Rattle.mari_units.specs.declared.numbers.Quarters.{Quarters}
 use Rattle.mari_zones.specs.declared.zones.ZoneBook.{ZoneBook}
 use Rattle.mari_bids.specs.declared.bids.Bid.{Bid}
@@ -79,7 +80,7 @@ pub record LedgersAddUp (a b : Ledger) : Type 0 where
 
 -- an amount within so many quarter-cents of 0
 abbrev pub MoneyIsWithin : ℕ → Quarters → Type 0
-MoneyIsWithin most a = unsigned_abs a.0 ≤ most
+MoneyIsWithin most a = Within most a.0
 
 -- so are the two of an operator's line
 pub record LineIsWithin (most : ℕ) (line : OperatorLine) : Type 0 where

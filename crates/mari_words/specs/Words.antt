@@ -1,8 +1,9 @@
 -- Which words are a command.
-use Rattle.std.specs.Prelude.{ℕ, ◌≡◌, Bool, true, false, not, ◌&&◌, List, [], ◌∷◌, Option, Some, None, Result, Ok, Err, option_and_then, option_map, if◌then◌else◌, nat_le, slice_get, ⊤}
+use Rattle.std.specs.Prelude.{ℕ, ◌≡◌, Bool, true, false, not, ◌&&◌, List, [], ◌∷◌, Option, Some, None, Result, Ok, Err, option_map, if◌then◌else◌, nat_le, slice_get, ⊤}
 use lib.Chars.{codes}
 use Rattle.std.specs.Str.{bytes_eq}
 use Rattle.mari_units.specs.Numbers.{natural_of}
+use Rattle.mari_units.specs.Options.{◌>>=◌}
 use Rattle.mari_words.specs.declared.command.Command.{Command}
 use Rattle.mari_words.specs.declared.command.FilePart.{FilePart}
 use Rattle.mari_words.specs.declared.command.FilePart.TheVariants.{Borders, Limits}
@@ -13,10 +14,6 @@ use Rattle.mari_words.specs.declared.command.TheConstants.{USUAL_NODES, USUAL_WO
 use Rattle.mari_words.specs.Asked.{Asked, asked}
 use Rattle.mari_words.specs.Asked.Asked.{Clear, Check, Generate, Migrate}
 use Rattle.mari_words.specs.Seen.{Form, Seen, Text, nothing, seen_from, whole}
-
-infixl 10 ◌>>=◌
-abbrev ◌>>=◌ : {A B : Type 0} → Option A → (A → Option B) → Option B
-o >>= f = option_and_then f o
 
 -- a folder's word: neither empty nor a dash alone
 abbrev pub is_folder : Text → Bool

@@ -1,5 +1,5 @@
 -- The money of a block: its lines of operators and providers, and its ledger.
-use Rattle.std.specs.Prelude.{◌≡◌, ℕ, ◌==◌, List, [], Option, fold, map, slice_index_or}
+use Rattle.std.specs.Prelude.{◌≡◌, ℕ, ◌==◌, List, Option, map, slice_index_or}
 use Rattle.mari_units.specs.declared.numbers.Cents.{Cents}
 use Rattle.mari_units.specs.declared.numbers.Quarters.{Quarters}
 use Rattle.mari_bids.specs.declared.bids.Bid.{Bid}
@@ -13,7 +13,7 @@ use Rattle.mari_settle.specs.declared.ledger.OperatorLine.{OperatorLine}
 use Rattle.mari_settle.specs.Ledger.{net_of, operator_lines, provider_amounts, rents_of, scheduled_or}
 use Rattle.mari_settle.specs.Lines.{map_along, nothing}
 use Rattle.mari_progress.specs.Told.{activation_of, prices_of, rents_told}
-use Rattle.mari_rows.specs.Names.{listed_with, name_at}
+use Rattle.mari_rows.specs.Names.{listed_once, listed_with, name_at}
 
 -- an operator's line: its name, its payment, its rent, and the payment less the rent
 abbrev pub money_line : List ℕ → OperatorLine → MoneyLine
@@ -28,10 +28,10 @@ amount_line names amounts place = record { name = name_at names place; amount = 
 
 -- numbers in order of first appearance, each once
 abbrev pub with_number : List ℕ → ℕ → List ℕ
-with_number numbers number = listed_with (λ n m. m == n) numbers number
+with_number = listed_with (λ n m. m == n)
 
 abbrev pub each_once : List ℕ → List ℕ
-each_once numbers = fold with_number [] numbers
+each_once numbers = listed_once (λ n m. m == n) numbers
 
 -- the providers of these bids, by the first bid of each
 abbrev pub providers_among : List Bid → List ℕ → List ℕ

@@ -11,13 +11,17 @@ is_among names name = list_any (bytes_eq name) names
 abbrev pub listed_with : {X : Type 0} → (X → X → Bool) → List X → X → List X
 listed_with same items item = if list_any (same item) items then items else items ++ item ∷ []
 
+-- each item once, in order of first appearance
+abbrev pub listed_once : {X : Type 0} → (X → X → Bool) → List X → List X
+listed_once same items = fold (listed_with same) [] items
+
 -- the names with this one, which goes last where it is new
 abbrev pub with_name : List (List ℕ) → List ℕ → List (List ℕ)
-with_name names name = listed_with bytes_eq names name
+with_name = listed_with bytes_eq
 
 -- each name once, in order of first appearance
 abbrev pub distinct : List (List ℕ) → List (List ℕ)
-distinct names = fold with_name [] names
+distinct names = listed_once bytes_eq names
 
 -- the place of a name, and the length where it is not there
 abbrev pub place_in : List (List ℕ) → List ℕ → ℕ

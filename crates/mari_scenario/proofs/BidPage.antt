@@ -201,7 +201,7 @@ the_bids x = bid_book the_zones 96 (bid_rows 960 x)
 abbrev header : List (List ℕ)
 header = codes "id" ∷ codes "provider" ∷ codes "zone" ∷ codes "quarter" ∷ codes "direction" ∷ codes "price" ∷ codes "least" ∷ codes "greatest" ∷ codes "kind" ∷ []
 
-pub bids-accepted : (x : ℕ) → book_in (bid_grammar the_zones 96) (codes "id,provider,zone,quarter,direction,price,least,greatest,kind\n" ++ (bids_at x).text) ≡ Ok (the_bids x)
+pub bids-accepted : (x : ℕ) → book_in (bid_grammar the_zones 96) (bid_columns ++ 10 ∷ (bids_at x).text) ≡ Ok (the_bids x)
 unfolding bid_columns strip_bom the_bids
-bids-accepted x = accepted bid_line bid_records (bid_grammar the_zones 96) 7 960 x (codes "id,provider,zone,quarter,direction,price,least,greatest,kind\n" ++ (bids_at x).text) header refl refl refl refl
+bids-accepted x = accepted bid_line bid_records (bid_grammar the_zones 96) 7 960 x (bid_columns ++ 10 ∷ (bids_at x).text) header refl refl refl refl
     (record { sized = refl; plain = (refl, (refl, (refl, (refl, (refl, (refl, (refl, (refl, (refl, tt))))))))) }) text-of (λ i x few. (bid-is-line i x few, tt)) (bid-passes x) refl

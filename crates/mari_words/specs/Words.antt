@@ -23,13 +23,13 @@ abbrev pub folder_in : Text → Option Text
 folder_in word = if is_folder word then Some word else None
 
 -- the number from `low` to `high` that a text writes, by digits alone
-abbrev pub number_in : (low high : ℕ) → Text → Option ℕ
-number_in low high text = natural_of text >>= (λ n. if nat_le low n && nat_le n high then Some n else None)
+abbrev pub natural_in : (low high : ℕ) → Text → Option ℕ
+natural_in low high text = natural_of text >>= (λ n. if nat_le low n && nat_le n high then Some n else None)
 
 -- the number of an option, or the one that stands for it where it is left out
 abbrev pub number_or : (usual low high : ℕ) → Option Text → Option ℕ
 number_or usual low high None = Some usual
-number_or usual low high (Some text) = number_in low high text
+number_or usual low high (Some text) = natural_in low high text
 
 abbrev pub part_named : Text → Option FilePart
 part_named word = if bytes_eq word (codes "borders") then Some Borders else (if bytes_eq word (codes "limits") then Some Limits else None)
@@ -79,7 +79,7 @@ asked_for Checks given = do
   Some (Check folder)
 asked_for Generates given = do
   word ← given.first
-  number ← number_in 0 LAST_NUMBER word
+  number ← natural_in 0 LAST_NUMBER word
   Some (Generate number)
 asked_for Migrates given = do
   word ← given.first

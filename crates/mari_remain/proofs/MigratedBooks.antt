@@ -24,7 +24,7 @@ use Rattle.mari_remain.specs.Blocks.{PastBlock, PastRun}
 use Rattle.mari_remain.specs.FirstBlocks.{AreFirstBlocks, IsNextBlock, IsPastRun}
 use Rattle.mari_remain.specs.Lists.{bids_of_quarter, parent_at, run_at}
 use Rattle.mari_remain.specs.Migrated.{AreRead, borders_page, limits_page, with_limits}
-use Rattle.mari_remain.specs.RunMarket.{border_of, borders_left, demands_of_run, ends_at, gates_of, limits_at, numbers_left, orders_of, run_market_left, run_market_of, taken_before}
+use Rattle.mari_remain.specs.RunMarket.{border_of, borders_left, demands_of_run, ends_at, gates_of, numbers_left, orders_of, run_limits, run_market_left, run_market_of, taken_before}
 use Rattle.mari_remain.proofs.MigratedBorders.{NoneRepeated, bare, borders-read, none-repeated, second}
 use Rattle.mari_remain.proofs.MigratedLimits.{limits-read-back, table, table-has}
 use Rattle.mari_units.proofs.Lists.{same_over}
@@ -64,17 +64,17 @@ module _ (books : Books) (ok : IsAccepted books) (own : List ℕ) (read : border
   pub none : NoneRepeated [] owns
   none = none-repeated books.zones ok.zones books.borders ok.borders.borders own read
 
-  pub limit : (run border : ℕ) → border < length owns → (limits_at books run border).limit ≤ 99999
+  pub limit : (run border : ℕ) → border < length owns → (run_limits books run border).limit ≤ 99999
   limit run border within = (in_range books books.limits run border ok.limits (ok.borders.borders border _ within)).0
 
-  pub back : (run border : ℕ) → border < length owns → (limits_at books run border).back ≤ 99999
+  pub back : (run border : ℕ) → border < length owns → (run_limits books run border).back ≤ 99999
   back run border within = (in_range books books.limits run border ok.limits (ok.borders.borders border _ within)).1
 
   abbrev pub bare_book : BorderBook
   bare_book = record { borders = map bare owns }
 
   abbrev pub limit_table : List (List Limits)
-  limit_table = table books.zones ok.zones owns ok.borders.borders none runs ok.runs.few (limits_at books) limit back
+  limit_table = table books.zones ok.zones owns ok.borders.borders none runs ok.runs.few (run_limits books) limit back
 
   abbrev no_border : BorderEnds
   no_border = record { from = 0; to = 0; limit = 0; back = 0 }
@@ -84,7 +84,7 @@ module _ (books : Books) (ok : IsAccepted books) (own : List ℕ) (read : border
   are-read = record {
     version = second books.zones ok.zones books.borders ok.borders.borders;
     borders_read = borders-read books.zones ok.zones books.borders ok.borders.borders own read;
-    limits_read = limits-read-back books.zones ok.zones owns ok.borders.borders none runs ok.runs.few (limits_at books) limit back;
+    limits_read = limits-read-back books.zones ok.zones owns ok.borders.borders none runs ok.runs.few (run_limits books) limit back;
   }
 
   module _ (borders : BorderBook) (limits : List (List Limits)) (is : AreRead books borders limits) where
@@ -110,10 +110,10 @@ module _ (books : Books) (ok : IsAccepted books) (own : List ℕ) (read : border
     }
 
     -- the limits stated for a run are those that were stated
-    pub limits-same : (run border : ℕ) → 1 ≤ run → run ≤ runs → border < length owns → limits_at migrated run border ≡ limits_at books run border
+    pub limits-same : (run border : ℕ) → 1 ≤ run → run ≤ runs → border < length owns → run_limits migrated run border ≡ run_limits books run border
     limits-same run border first last within =
         ap (λ t. limits_in t run border) same-limits
-        ∙ table-has books.zones ok.zones owns ok.borders.borders none runs ok.runs.few (limits_at books) limit back run border first last within
+        ∙ table-has books.zones ok.zones owns ok.borders.borders none runs ok.runs.few (run_limits books) limit back run border first last within
 
     module _ (taken : Taken) (run : ℕ) (first : 1 ≤ run) (last : run ≤ runs) where
       -- the same bids are available
@@ -128,8 +128,8 @@ module _ (books : Books) (ok : IsAccepted books) (own : List ℕ) (read : border
       -- over borders with the same limits
       borders-same : borders_left migrated taken run ≡ borders_left books taken run
       borders-same =
-          (λ i. map (λ k. border_of (ends_at (same-borders i).borders k) (limits_at migrated run k) (taken.flow k)) (range_with_len 0 (length (same-borders i).borders)))
-          ∙ ap (λ n. map (λ k. border_of (ends_at (map bare owns) k) (limits_at migrated run k) (taken.flow k)) (range_with_len 0 n)) (length-map owns bare)
+          (λ i. map (λ k. border_of (ends_at (same-borders i).borders k) (run_limits migrated run k) (taken.flow k)) (range_with_len 0 (length (same-borders i).borders)))
+          ∙ ap (λ n. map (λ k. border_of (ends_at (map bare owns) k) (run_limits migrated run k) (taken.flow k)) (range_with_len 0 n)) (length-map owns bare)
           ∙ same_over _ _ 0 (length owns) (λ k low high. λ i. border_of (get_or-map bare owns k no_border no_border (omega (arith, high)) i)
           (limits-same run k first last (omega (arith, high)) i) (taken.flow k))
 

@@ -70,8 +70,8 @@ abbrev pub stated_limits : Option (List (List Limits)) → BorderEnds → (run b
 stated_limits None ends run k = own_limits ends
 stated_limits (Some table) ends run k = limits_in table run k
 
-abbrev pub limits_at : Books → (run border : ℕ) → Limits
-limits_at books run k = stated_limits books.limits (ends_at books.borders.borders k) run k
+abbrev pub run_limits : Books → (run border : ℕ) → Limits
+run_limits books run k = stated_limits books.limits (ends_at books.borders.borders k) run k
 
 -- a whole number, or 0 where it is below
 abbrev pub at_least_0 : ℤ → ℕ
@@ -111,7 +111,7 @@ module _ (books : Books) (taken : Taken) (run : ℕ) where
 
   -- each border with what is left of its limits
   abbrev pub borders_left : List Border
-  borders_left = map (λ k. border_of (ends_at books.borders.borders k) (limits_at books run k) (taken.flow k)) (range_with_len 0 (length books.borders.borders))
+  borders_left = map (λ k. border_of (ends_at books.borders.borders k) (run_limits books run k) (taken.flow k)) (range_with_len 0 (length books.borders.borders))
 
   -- the available bids, then the run's demands, over the borders with what is left of their limits
   abbrev pub market_left : Market

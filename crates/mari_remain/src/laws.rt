@@ -10,7 +10,7 @@ ghost use Rattle.mari_remain.specs.Blocks.{PastBlock, mw_in, mw_of};
 ghost use Rattle.mari_remain.specs.FirstBlocks.{AreFirstBlocks, IsKeptAfter, IsNextBlock, Tally, StandsFor};
 ghost use Rattle.mari_remain.specs.Lists.{bid_at};
 ghost use Rattle.mari_remain.specs.Migrated.{AreRead, borders_page, limits_page, with_limits};
-ghost use Rattle.mari_remain.specs.RunMarket.{limits_at, run_market_of};
+ghost use Rattle.mari_remain.specs.RunMarket.{run_limits, run_market_of};
 
 use crate::books::Books;
 use mari_units::MOST_PAGE;
@@ -52,7 +52,7 @@ pub fn migration_keeps_markets(books: &Books)
     ensures accepted { (borders : BorderBook) (limits : List (List Limits)) → AreRead books.now borders limits → IsAccepted (with_limits books.now borders limits) }
     ensures limits { (borders : BorderBook) (limits : List (List Limits)) → AreRead books.now borders limits
         → (run border : ℕ) → 1 ≤ run → run ≤ length books.now.runs.runs → border < length books.now.borders.borders
-        → limits_at (with_limits books.now borders limits) run border ≡ limits_at books.now run border }
+        → run_limits (with_limits books.now borders limits) run border ≡ run_limits books.now run border }
 
     // So each run has its market, and the lists of blocks of first runs are the same.
     ensures markets { (borders : BorderBook) (limits : List (List Limits)) → AreRead books.now borders limits

@@ -20,7 +20,7 @@ use Rattle.mari_remain.specs.FirstBlocks.{AreFirstBlocks, IsKeptAfter, IsNextBlo
 use Rattle.mari_remain.proofs.History.{bounded, flow-more, own-blocks}
 use Rattle.mari_remain.proofs.Standing.{flow-before, kept-direct, kept-mw, last-more}
 use Rattle.mari_remain.specs.Lists.{bid_at, bids_of_quarter, run_at}
-use Rattle.mari_remain.specs.RunMarket.{bid_order, border_of, demand_order, demands_of_run, ends_at, gate_of, gated_left, market_at, numbers_of, run_limits, run_market_of, taken_before}
+use Rattle.mari_remain.specs.RunMarket.{bid_order, border_left, demand_order, demands_of_run, ends_at, gate_of, gated_left, market_at, numbers_of, run_limits, run_market_of, taken_before}
 use Rattle.mari_remain.specs.declared.market.RunMarket.{RunMarket}
 use Rattle.mari_remain.specs.Available.{is_available}
 use Rattle.mari_remain.proofs.Choosing.{IsOwn, own-numbers}
@@ -137,7 +137,7 @@ module _ (books : Books) (ok : IsAccepted books) (blocks : List PastBlock) (kept
             (All-weaker (IsOwn books run_of.quarter) (λ i. i < length books.bids.bids) (λ i h. h.there) (bids_of_quarter books.bids.bids run_of.quarter) own));
         long = rw is_past.bids (omega (arith, orders, length-append (map (λ i. bid_order (bid_at books.bids.bids i) (gate_of (gated_left books (taken_before books blocks run) run) i) ((taken_before books blocks run).mw i)) (numbers_of books blocks run)) (map demand_order (demands_of_run books.demands.demands run)), length-map (numbers_of books blocks run) (λ i. bid_order (bid_at books.bids.bids i) (gate_of (gated_left books (taken_before books blocks run) run) i) ((taken_before books blocks run).mw i))));
         small = λ i. rw (kept-mw books ok blocks kept stands i) (let left = (within-offer books ok blocks (block_of books run made.bids a) (own-blocks books ok blocks stands.first) next i (offers books ok blocks stands.first i)).left in omega (arith, left, most i));
-        flows = borders ∙ length-map-range_with_len (λ k. border_of (ends_at books.borders.borders k) (run_limits books run k) ((taken_before books blocks run).flow k)) 0 (length books.borders.borders)
+        flows = borders ∙ length-map-range_with_len (λ k. border_left (ends_at books.borders.borders k) (run_limits books run k) ((taken_before books blocks run).flow k)) 0 (length books.borders.borders)
             ∙ sym (ap length stands.flow ∙ length-map-range_with_len (flow_of (of_quarter (unwrap_or kept.quarter 0) blocks)) 0 (length books.borders.borders));
         flow = λ k.
             let sum : flow_of (of_quarter run_of.quarter (blocks ++ block_of books run made.bids a ∷ [])) k ≡ flow_of (of_quarter run_of.quarter blocks) k +ℤ get_or a.flow k (pos 0) =

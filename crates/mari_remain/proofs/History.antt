@@ -22,7 +22,7 @@ use Rattle.mari_remain.specs.Available.{is_available}
 use Rattle.mari_remain.specs.Blocks.{PastBlock, PastRun, flow_in, flow_of, mw_beside, mw_in, mw_of, of_quarter}
 use Rattle.mari_remain.specs.FirstBlocks.{AreFirstBlocks, IsNextBlock, IsPastRun}
 use Rattle.mari_remain.specs.Lists.{bid_at, run_at}
-use Rattle.mari_remain.specs.RunMarket.{at_least_0, border_of, ends_at, market_at, run_limits, taken_before}
+use Rattle.mari_remain.specs.RunMarket.{at_least_0, border_left, ends_at, market_at, run_limits, taken_before}
 use Rattle.mari_remain.proofs.Choosing.{own-chosen}
 use Rattle.mari_remain.proofs.Validity.{in_range}
 
@@ -97,7 +97,7 @@ module _ (books : Books) (ok : IsAccepted books) where
       flows (Some past) e k l =
           let is : IsPastRun books before b.run past = subst (λ (o : Option PastRun). IfSome o (IsPastRun books before b.run)) e next.published in
           let long = AllZip-long _ (market_at books before b.run).borders past.activation.flow is.feasible.borders in
-          let all = length-map-range_with_len (λ j. border_of (ends_at books.borders.borders j) (run_limits books b.run j) ((taken_before books before b.run).flow j)) 0 (length books.borders.borders) in
+          let all = length-map-range_with_len (λ j. border_left (ends_at books.borders.borders j) (run_limits books b.run j) ((taken_before books before b.run).flow j)) 0 (length books.borders.borders) in
           get_or_past past.activation.flow k (pos 0) (omega (arith, long, all, l))
 
   pub own-blocks : (blocks : List PastBlock) → AreFirstBlocks books blocks → All IsOwnBlock blocks
@@ -128,7 +128,7 @@ module _ (books : Books) (ok : IsAccepted books) where
           → unsigned_abs (flow_of (of_quarter quarter before) k +ℤ get_or past.activation.flow k (pos 0)) ≤ 99999
       inside past is e l =
           let taken = taken_before books before b.run in
-          let left : ℕ → Border = λ j. border_of (ends_at books.borders.borders j) (run_limits books b.run j) (taken.flow j) in
+          let left : ℕ → Border = λ j. border_left (ends_at books.borders.borders j) (run_limits books b.run j) (taken.flow j) in
           let own : left k ≡ get_or (market_at books before b.run).borders k (left k) = sym (get_or-map-range_with_len left 0 (length books.borders.borders) k k (left k) l (zero-add k)) in
           let within : IsWithinLimits (left k) (get_or past.activation.flow k (pos 0)) =
           rw own (AllZip-at IsWithinLimits (market_at books before b.run).borders past.activation.flow k (left k) (pos 0) (omega (arith, l, length-map-range_with_len left 0 (length books.borders.borders))) is.feasible.borders) in
@@ -145,7 +145,7 @@ module _ (books : Books) (ok : IsAccepted books) where
         | inl l ↦ inside past is e l
         | inr far ↦ (
             let long = AllZip-long _ (market_at books before b.run).borders past.activation.flow is.feasible.borders in
-            let all = length-map-range_with_len (λ j. border_of (ends_at books.borders.borders j) (run_limits books b.run j) ((taken_before books before b.run).flow j)) 0 (length books.borders.borders) in
+            let all = length-map-range_with_len (λ j. border_left (ends_at books.borders.borders j) (run_limits books b.run j) ((taken_before books before b.run).flow j)) 0 (length books.borders.borders) in
             let none : get_or past.activation.flow k (pos 0) ≡ pos 0 = get_or_past past.activation.flow k (pos 0) (omega (arith, long, all, far)) in
             let small = so_far quarter k in
             rw none (omega (arith, ints, small)))

@@ -24,7 +24,7 @@ use Rattle.mari_remain.specs.Blocks.{PastBlock, PastRun}
 use Rattle.mari_remain.specs.FirstBlocks.{AreFirstBlocks, IsNextBlock, IsPastRun}
 use Rattle.mari_remain.specs.Lists.{bids_of_quarter, parent_at, run_at}
 use Rattle.mari_remain.specs.Migrated.{AreRead, borders_page, limits_page, with_limits}
-use Rattle.mari_remain.specs.RunMarket.{border_of, borders_left, demands_of_run, ends_at, gates_of, numbers_left, orders_of, run_limits, run_market_left, run_market_of, taken_before}
+use Rattle.mari_remain.specs.RunMarket.{border_left, borders_left, demands_of_run, ends_at, gates_of, numbers_left, orders_of, run_limits, run_market_left, run_market_of, taken_before}
 use Rattle.mari_remain.proofs.MigratedBorders.{NoneRepeated, bare, borders-read, none-repeated, second}
 use Rattle.mari_remain.proofs.MigratedLimits.{limits-read-back, table, table-has}
 use Rattle.mari_units.proofs.Lists.{same_over}
@@ -128,9 +128,9 @@ module _ (books : Books) (ok : IsAccepted books) (own : List ℕ) (read : border
       -- over borders with the same limits
       borders-same : borders_left migrated taken run ≡ borders_left books taken run
       borders-same =
-          (λ i. map (λ k. border_of (ends_at (same-borders i).borders k) (run_limits migrated run k) (taken.flow k)) (range_with_len 0 (length (same-borders i).borders)))
-          ∙ ap (λ n. map (λ k. border_of (ends_at (map bare owns) k) (run_limits migrated run k) (taken.flow k)) (range_with_len 0 n)) (length-map owns bare)
-          ∙ same_over _ _ 0 (length owns) (λ k low high. λ i. border_of (get_or-map bare owns k no_border no_border (omega (arith, high)) i)
+          (λ i. map (λ k. border_left (ends_at (same-borders i).borders k) (run_limits migrated run k) (taken.flow k)) (range_with_len 0 (length (same-borders i).borders)))
+          ∙ ap (λ n. map (λ k. border_left (ends_at (map bare owns) k) (run_limits migrated run k) (taken.flow k)) (range_with_len 0 n)) (length-map owns bare)
+          ∙ same_over _ _ 0 (length owns) (λ k low high. λ i. border_left (get_or-map bare owns k no_border no_border (omega (arith, high)) i)
           (limits-same run k first last (omega (arith, high)) i) (taken.flow k))
 
       abbrev pub market-of : List ℕ → List Border → RunMarket

@@ -30,7 +30,7 @@ use Rattle.mari_demands.specs.LimitPairs.{IsLimitTable}
 use Rattle.mari_demands.specs.declared.limits.Limits.{Limits}
 use Rattle.mari_remain.specs.Available.{Taken, is_available}
 use Rattle.mari_remain.specs.Lists.{bid_at, bids_of_quarter, parent_at, run_at}
-use Rattle.mari_remain.specs.RunMarket.{at_least_0, bid_order, border_of, demand_order, demands_of_run, ends_at, gate_at, gate_of, gated_left, greatest_of, inelastic_price, least_of, market_left, numbers_left, run_limits, stated_limits}
+use Rattle.mari_remain.specs.RunMarket.{at_least_0, bid_order, border_left, demand_order, demands_of_run, ends_at, gate_at, gate_of, gated_left, greatest_of, inelastic_price, least_of, market_left, numbers_left, run_limits, stated_limits}
 use Rattle.mari_remain.proofs.Places.{IsPlace, places-filter, places-within, places-rise, length-places}
 use Rattle.mari_remain.proofs.Gates.{gate-at, gate-is, gate-less}
 
@@ -41,7 +41,7 @@ at_least_0-most (negsuc n) most l = omega arith
 
 -- what is left of limits up to 99,999 behind a flow of at most as much is within the limits of a run
 border : (zones : ZoneBook) (b : BorderEnds) (limits : Limits) (flow : ℤ) → IsBorder zones b → limits.limit ≤ 99999 → limits.back ≤ 99999 → unsigned_abs flow ≤ 99999
-    → IsValidBorder (length zones.zones) (border_of b limits flow)
+    → IsValidBorder (length zones.zones) (border_left b limits flow)
 border zones b limits flow h limit back small = record {
   from = h.from;
   to = h.to;
@@ -211,15 +211,15 @@ module _ (books : Books) (taken : Taken) (run : ℕ) (ok : IsAccepted books) (sm
         used = (placed.0, order_of i, placed.1, placed.2, own);
       }
 
-  border_at : (k : ℕ) → k < length books.borders.borders → IsValidBorder (length books.zones.zones) (border_of (ends_at books.borders.borders k) (run_limits books run k) (taken.flow k))
+  border_at : (k : ℕ) → k < length books.borders.borders → IsValidBorder (length books.zones.zones) (border_left (ends_at books.borders.borders k) (run_limits books run k) (taken.flow k))
   border_at k l =
       let is : IsBorder books.zones (ends_at books.borders.borders k) = ok.borders.borders k _ l in
       let fits = in_range books books.limits run k ok.limits is in
       border books.zones (ends_at books.borders.borders k) (run_limits books run k) (taken.flow k) is fits.0 fits.1 (small_flows k)
 
   borders : All (IsValidBorder (length books.zones.zones)) (market_left books taken run).borders
-  borders = All-map (IsValidBorder (length books.zones.zones)) (λ k. border_of (ends_at books.borders.borders k) (run_limits books run k) (taken.flow k)) (range_with_len 0 (length books.borders.borders))
-      (All-weaker (λ k. k < length books.borders.borders) (λ k. IsValidBorder (length books.zones.zones) (border_of (ends_at books.borders.borders k) (run_limits books run k) (taken.flow k))) border_at
+  borders = All-map (IsValidBorder (length books.zones.zones)) (λ k. border_left (ends_at books.borders.borders k) (run_limits books run k) (taken.flow k)) (range_with_len 0 (length books.borders.borders))
+      (All-weaker (λ k. k < length books.borders.borders) (λ k. IsValidBorder (length books.zones.zones) (border_left (ends_at books.borders.borders k) (run_limits books run k) (taken.flow k))) border_at
       (range_with_len 0 (length books.borders.borders)) (range-below (length books.borders.borders)))
 
   -- the market is valid

@@ -79,8 +79,8 @@ at_least_0 (pos n) = n
 at_least_0 (negsuc n) = 0
 
 -- a border over which so much flowed before: what is left of its limits, which is nothing where the flow is past them
-abbrev pub border_of : BorderEnds → Limits → ℤ → Border
-border_of ends limits flow = record {
+abbrev pub border_left : BorderEnds → Limits → ℤ → Border
+border_left ends limits flow = record {
   from = ends.from;
   to = ends.to;
   limit = at_least_0 (pos limits.limit -ℤ flow);
@@ -111,7 +111,7 @@ module _ (books : Books) (taken : Taken) (run : ℕ) where
 
   -- each border with what is left of its limits
   abbrev pub borders_left : List Border
-  borders_left = map (λ k. border_of (ends_at books.borders.borders k) (run_limits books run k) (taken.flow k)) (range_with_len 0 (length books.borders.borders))
+  borders_left = map (λ k. border_left (ends_at books.borders.borders k) (run_limits books run k) (taken.flow k)) (range_with_len 0 (length books.borders.borders))
 
   -- the available bids, then the run's demands, over the borders with what is left of their limits
   abbrev pub market_left : Market

@@ -10,7 +10,7 @@ ghost use Rattle.mari_remain.specs.Available.{Taken};
 ghost use Rattle.mari_remain.specs.Blocks.{PastBlock};
 ghost use Rattle.mari_remain.specs.FirstBlocks.{Tally, StandsFor, block_of, taken_in};
 ghost use Rattle.mari_remain.specs.Lists.{bid_at, bids_of_quarter, demand_at, numbers_of_run, run_at};
-ghost use Rattle.mari_remain.specs.RunMarket.{at_least_0 as at_least_0_of, bid_order as bid_order_of, border_of as border_in, borders_left, demand_order as demand_order_of, demands_of_run as demands_in, ends_at, gate_at, gate_of as gate_in, gated_left, gates_of as gates_in, inelastic_price as inelastic_price_of, numbers_left, orders_of as orders_in, run_limits, run_market_left, run_market_of};
+ghost use Rattle.mari_remain.specs.RunMarket.{at_least_0 as at_least_0_of, bid_order as bid_order_of, border_left as border_in, borders_left, demand_order as demand_order_of, demands_of_run as demands_in, ends_at, gate_at, gate_of as gate_in, gated_left, gates_of as gates_in, inelastic_price as inelastic_price_of, numbers_left, orders_of as orders_in, run_limits, run_market_left, run_market_of};
 
 use crate::adding::{add_mw, carry, mark_if};
 use crate::books::Books;

@@ -11,7 +11,7 @@ use Rattle.mari_market.specs.declared.market.Order.{Order}
 use Rattle.mari_remain.specs.Accepted.{IsAccepted}
 use Rattle.mari_remain.specs.Blocks.{PastBlock}
 use Rattle.mari_remain.specs.FirstBlocks.{AreFirstBlocks}
-use Rattle.mari_remain.specs.Lists.{bid_at, run_at}
+use Rattle.mari_remain.specs.Lists.{bid_numbered, run_at}
 use Rattle.mari_remain.specs.RunMarket.{bid_order, demand_order, demands_of_run, gate_of, gated_left, greatest_of, market_at, numbers_of, run_market_of, taken_before}
 use Rattle.mari_remain.specs.declared.books.Books.{Books}
 use Rattle.mari_remain.proofs.History.{bounded}
@@ -43,7 +43,7 @@ module _ (books : Books) (ok : IsAccepted books) (past : List PastBlock) (first 
   numbers-there = there books (taken_before books past run) run ok small-flows
 
   abbrev order-of : ℕ → Order
-  order-of i = bid_order (bid_at books.bids.bids i) (gate_of (gated_left books (taken_before books past run) run) i) ((taken_before books past run).mw i)
+  order-of i = bid_order (bid_numbered books.bids.bids i) (gate_of (gated_left books (taken_before books past run) run) i) ((taken_before books past run).mw i)
 
   front : take (length (numbers_of books past run)) (market_at books past run).orders ≡ map order-of (numbers_of books past run)
   front =
@@ -61,7 +61,7 @@ module _ (books : Books) (ok : IsAccepted books) (past : List PastBlock) (first 
       rw front (All-map (λ (o : Order). o.greatest ≤ 9999) order-of (numbers_of books past run)
       (λ k d l. let i = get_or (numbers_of books past run) k d in
       let own = (ok.bids.bids i no_bid (numbers-there k d l)).most in
-      omega (arith, own, most-left (gate_of (gated_left books (taken_before books past run) run) i) (bid_at books.bids.bids i).greatest ((taken_before books past run).mw i))))
+      omega (arith, own, most-left (gate_of (gated_left books (taken_before books past run) run) i) (bid_numbered books.bids.bids i).greatest ((taken_before books past run).mw i))))
 
   pub market-of : 1 ≤ run → run ≤ length books.runs.runs → IsMarketOf books (run_market_of books past run)
   market-of one last = record {

@@ -6,7 +6,7 @@ use Rattle.mari_bids.specs.declared.bids.Bid.{Bid}
 use Rattle.mari_lines.specs.declared.line.AmountLine.{AmountLine}
 use Rattle.mari_publish.specs.declared.publication.FullBlock.{FullBlock}
 use Rattle.mari_lines.specs.declared.line.MoneyLine.{MoneyLine}
-use Rattle.mari_remain.specs.Lists.{bid_at}
+use Rattle.mari_remain.specs.Lists.{bid_numbered}
 use Rattle.mari_remain.specs.declared.books.Books.{Books}
 use Rattle.mari_remain.specs.declared.market.RunMarket.{RunMarket}
 use Rattle.mari_settle.specs.declared.ledger.OperatorLine.{OperatorLine}
@@ -35,7 +35,7 @@ each_once numbers = listed_once (λ n m. m == n) numbers
 
 -- the providers of these bids, by the first bid of each
 abbrev pub providers_among : List Bid → List ℕ → List ℕ
-providers_among bids numbers = each_once (map (λ i. (bid_at bids i).provider) numbers)
+providers_among bids numbers = each_once (map (λ i. (bid_numbered bids i).provider) numbers)
 
 -- what each provider gets in the run, whose quarter has these scheduled prices, or none
 abbrev pub amounts_of : Books → RunMarket → (also : Option (List Cents)) → FullBlock → List Quarters

@@ -19,7 +19,7 @@ use Rattle.mari_remain.specs.Blocks.{PastBlock, flow_in, flow_of, is_activated, 
 use Rattle.mari_remain.specs.FirstBlocks.{AreFirstBlocks, IsKeptAfter, IsNextBlock, IsPastRun, Tally, StandsFor, block_of}
 use Rattle.mari_remain.proofs.History.{bounded, flow-more, own-blocks}
 use Rattle.mari_remain.proofs.Standing.{flow-before, kept-direct, kept-mw, last-more}
-use Rattle.mari_remain.specs.Lists.{bid_at, bids_of_quarter, run_at}
+use Rattle.mari_remain.specs.Lists.{bid_numbered, bids_of_quarter, run_at}
 use Rattle.mari_remain.specs.RunMarket.{bid_order, border_left, demand_order, demands_of_run, ends_at, gate_of, gated_left, market_at, numbers_of, run_limits, run_market_of, taken_before}
 use Rattle.mari_remain.specs.declared.market.RunMarket.{RunMarket}
 use Rattle.mari_remain.specs.Available.{is_available}
@@ -116,7 +116,7 @@ module _ (books : Books) (ok : IsAccepted books) (blocks : List PastBlock) (kept
   pub next-block : IsNextBlock books blocks (block_of books run made.bids a)
   next-block = record { run = is_next; there = last; quarter = refl; direct = refl; published = is_past }
 
-  most : (i : ℕ) → (bid_at books.bids.bids i).greatest ≤ 9999
+  most : (i : ℕ) → (bid_numbered books.bids.bids i).greatest ≤ 9999
   most i = elim (cases_lt i (length books.bids.bids)) [
     | inl l ↦ (ok.bids.bids i _ l).most
     | inr past ↦ rw (get_or_past books.bids.bids i _ past) (omega arith)
@@ -135,7 +135,7 @@ module _ (books : Books) (ok : IsAccepted books) (blocks : List PastBlock) (kept
         marks = ap length stands.direct ∙ length-map-range_with_len (is_activated (of_direct_runs blocks)) 0 (length books.bids.bids);
         there = rw is_past.bids (All-filter avail (λ i. i < length books.bids.bids) (bids_of_quarter books.bids.bids run_of.quarter)
             (All-weaker (IsOwn books run_of.quarter) (λ i. i < length books.bids.bids) (λ i h. h.there) (bids_of_quarter books.bids.bids run_of.quarter) own));
-        long = rw is_past.bids (omega (arith, orders, length-append (map (λ i. bid_order (bid_at books.bids.bids i) (gate_of (gated_left books (taken_before books blocks run) run) i) ((taken_before books blocks run).mw i)) (numbers_of books blocks run)) (map demand_order (demands_of_run books.demands.demands run)), length-map (numbers_of books blocks run) (λ i. bid_order (bid_at books.bids.bids i) (gate_of (gated_left books (taken_before books blocks run) run) i) ((taken_before books blocks run).mw i))));
+        long = rw is_past.bids (omega (arith, orders, length-append (map (λ i. bid_order (bid_numbered books.bids.bids i) (gate_of (gated_left books (taken_before books blocks run) run) i) ((taken_before books blocks run).mw i)) (numbers_of books blocks run)) (map demand_order (demands_of_run books.demands.demands run)), length-map (numbers_of books blocks run) (λ i. bid_order (bid_numbered books.bids.bids i) (gate_of (gated_left books (taken_before books blocks run) run) i) ((taken_before books blocks run).mw i))));
         small = λ i. rw (kept-mw books ok blocks kept stands i) (let left = (within-offer books ok blocks (block_of books run made.bids a) (own-blocks books ok blocks stands.first) next i (offers books ok blocks stands.first i)).left in omega (arith, left, most i));
         flows = borders ∙ length-map-range_with_len (λ k. border_left (ends_at books.borders.borders k) (run_limits books run k) ((taken_before books blocks run).flow k)) 0 (length books.borders.borders)
             ∙ sym (ap length stands.flow ∙ length-map-range_with_len (flow_of (of_quarter (unwrap_or kept.quarter 0) blocks)) 0 (length books.borders.borders));

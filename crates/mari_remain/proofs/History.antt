@@ -21,7 +21,7 @@ use Rattle.mari_remain.specs.Accepted.{IsAccepted}
 use Rattle.mari_remain.specs.Available.{is_available}
 use Rattle.mari_remain.specs.Blocks.{PastBlock, PastRun, flow_in, flow_of, mw_beside, mw_in, mw_of, of_quarter}
 use Rattle.mari_remain.specs.FirstBlocks.{AreFirstBlocks, IsNextBlock, IsPastRun}
-use Rattle.mari_remain.specs.Lists.{bid_at, run_at}
+use Rattle.mari_remain.specs.Lists.{bid_numbered, run_at}
 use Rattle.mari_remain.specs.RunMarket.{at_least_0, border_left, ends_at, market_at, run_limits, taken_before}
 use Rattle.mari_remain.proofs.Choosing.{own-chosen}
 use Rattle.mari_remain.proofs.Validity.{in_range}
@@ -65,7 +65,7 @@ module _ (books : Books) (ok : IsAccepted books) where
   -- a block that gives MW to bids of its quarter alone, which is one of the day, and flows to borders that are there
   pub record IsOwnBlock (b : PastBlock) : Type 0 where
     pub quarter : 1 ≤ b.quarter
-    pub bids : (i : ℕ) → ((bid_at books.bids.bids i).quarter == b.quarter) ≡ false → mw_in i b ≡ 0
+    pub bids : (i : ℕ) → ((bid_numbered books.bids.bids i).quarter == b.quarter) ≡ false → mw_in i b ≡ 0
     pub flows : (k : ℕ) → length books.borders.borders ≤ k → flow_in k b ≡ pos 0
 
   entry : (before : List PastBlock) (b : PastBlock) → IsNextBlock books before b → 1 ≤ (run_at books b.run).quarter
@@ -74,17 +74,17 @@ module _ (books : Books) (ok : IsAccepted books) where
   pub own-block : (before : List PastBlock) (b : PastBlock) → IsNextBlock books before b → IsOwnBlock b
   own-block before b next = record { quarter = rw next.quarter (entry before b next); bids = bids b.published refl; flows = flows b.published refl }
     where
-      differs : (n i : ℕ) → (bid_at books.bids.bids n).quarter ≡ b.quarter → ((bid_at books.bids.bids i).quarter == b.quarter) ≡ false → (n == i) ≡ false
+      differs : (n i : ℕ) → (bid_numbered books.bids.bids n).quarter ≡ b.quarter → ((bid_numbered books.bids.bids i).quarter == b.quarter) ≡ false → (n == i) ≡ false
       differs n i own other = by (n == i) refl
         where
           by : (t : Bool) → (n == i) ≡ t → (n == i) ≡ false
           by false e = e
           by true e =
-              let same : ((bid_at books.bids.bids i).quarter == b.quarter) ≡ true = eq-eqb (bid_at books.bids.bids i).quarter b.quarter (ap (λ j. (bid_at books.bids.bids j).quarter) (sym (eqb-true n i e)) ∙ own) in
+              let same : ((bid_numbered books.bids.bids i).quarter == b.quarter) ≡ true = eq-eqb (bid_numbered books.bids.bids i).quarter b.quarter (ap (λ j. (bid_numbered books.bids.bids j).quarter) (sym (eqb-true n i e)) ∙ own) in
               let both : true ≡ false = sym same ∙ other in
               absurd (cc both)
 
-      bids : (p : Option PastRun) → b.published ≡ p → (i : ℕ) → ((bid_at books.bids.bids i).quarter == b.quarter) ≡ false → option_map_or (λ (r : PastRun). mw_beside i r.bids r.activation.mw) p 0 ≡ 0
+      bids : (p : Option PastRun) → b.published ≡ p → (i : ℕ) → ((bid_numbered books.bids.bids i).quarter == b.quarter) ≡ false → option_map_or (λ (r : PastRun). mw_beside i r.bids r.activation.mw) p 0 ≡ 0
       bids None e i other = refl
       bids (Some past) e i other =
           let is : IsPastRun books before b.run past = subst (λ (o : Option PastRun). IfSome o (IsPastRun books before b.run)) e next.published in

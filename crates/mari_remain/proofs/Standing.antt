@@ -16,7 +16,7 @@ use Rattle.mari_remain.specs.Accepted.{IsAccepted}
 use Rattle.mari_remain.specs.Available.{taken_by}
 use Rattle.mari_remain.specs.Blocks.{PastBlock, PastRun, flow_in, flow_of, is_activated, mw_in, mw_of, of_direct_runs, of_quarter}
 use Rattle.mari_remain.specs.FirstBlocks.{AreFirstBlocks, IsNextBlock, Tally, StandsFor, last_quarter, taken_in}
-use Rattle.mari_remain.specs.Lists.{bid_at, run_at}
+use Rattle.mari_remain.specs.Lists.{bid_numbered, run_at}
 use Rattle.mari_remain.proofs.History.{IsOwnBlock, bounded, by_blocks, mw-none, own-blocks}
 
 module _ (books : Books) (ok : IsAccepted books) where
@@ -60,23 +60,23 @@ module _ (books : Books) (ok : IsAccepted books) where
   has-last blocks first = by_blocks books HasLast (record { greatest = All-nil _; later = λ r l there. omega arith }) next-last blocks first
 
   -- what the blocks of the bid's quarter took of a bid is what all took of it
-  pub mw-own : (quarter i : ℕ) (blocks : List PastBlock) → All (IsOwnBlock books ok) blocks → mw_of (of_quarter quarter blocks) i ≡ (if (bid_at books.bids.bids i).quarter == quarter then mw_of blocks i else 0)
-  mw-own quarter i [] h = by ((bid_at books.bids.bids i).quarter == quarter)
+  pub mw-own : (quarter i : ℕ) (blocks : List PastBlock) → All (IsOwnBlock books ok) blocks → mw_of (of_quarter quarter blocks) i ≡ (if (bid_numbered books.bids.bids i).quarter == quarter then mw_of blocks i else 0)
+  mw-own quarter i [] h = by ((bid_numbered books.bids.bids i).quarter == quarter)
     where
       by : (t : Bool) → let none : ℕ = 0 in none ≡ (if t then none else none)
       by true = refl
       by false = refl
   mw-own quarter i (b ∷ bs) h =
-      by (b.quarter == quarter) refl ((bid_at books.bids.bids i).quarter == quarter) refl (mw-own quarter i bs (All-tail (IsOwnBlock books ok) b bs h)) (All-head (IsOwnBlock books ok) b bs h)
+      by (b.quarter == quarter) refl ((bid_numbered books.bids.bids i).quarter == quarter) refl (mw-own quarter i bs (All-tail (IsOwnBlock books ok) b bs h)) (All-head (IsOwnBlock books ok) b bs h)
     where
-      by : (s : Bool) → (b.quarter == quarter) ≡ s → (t : Bool) → ((bid_at books.bids.bids i).quarter == quarter) ≡ t → mw_of (of_quarter quarter bs) i ≡ (if t then mw_of bs i else 0) → IsOwnBlock books ok b
+      by : (s : Bool) → (b.quarter == quarter) ≡ s → (t : Bool) → ((bid_numbered books.bids.bids i).quarter == quarter) ≡ t → mw_of (of_quarter quarter bs) i ≡ (if t then mw_of bs i else 0) → IsOwnBlock books ok b
           → mw_of (cond s (b ∷ of_quarter quarter bs) (of_quarter quarter bs)) i ≡ (if t then mw_of (b ∷ bs) i else 0)
       by true e true f more own = sum_by-cons (mw_in i) b (of_quarter quarter bs) ∙ ap (λ n. mw_in i b + n) more ∙ sym (sum_by-cons (mw_in i) b bs)
       by true e false f more own =
           let none : mw_in i b ≡ 0 = own.bids i (rw (eqb-true b.quarter quarter e) f) in
           sum_by-cons (mw_in i) b (of_quarter quarter bs) ∙ omega (arith, none, more)
       by false e true f more own =
-          let none : mw_in i b ≡ 0 = own.bids i (differ b.quarter quarter (bid_at books.bids.bids i).quarter e f) in
+          let none : mw_in i b ≡ 0 = own.bids i (differ b.quarter quarter (bid_numbered books.bids.bids i).quarter e f) in
           more ∙ sym (sum_by-cons (mw_in i) b bs ∙ omega (arith, none))
         where
           differ : (a q n : ℕ) → (a == q) ≡ false → (n == q) ≡ true → (n == a) ≡ false
@@ -87,7 +87,7 @@ module _ (books : Books) (ok : IsAccepted books) where
   mw-past : (i : ℕ) (blocks : List PastBlock) → length books.bids.bids ≤ i → All (IsOwnBlock books ok) blocks → mw_of blocks i ≡ 0
   mw-past i blocks past own = mw-none i blocks (All-weaker (IsOwnBlock books ok) (λ b. mw_in i b ≡ 0) (λ b h. h.bids i (none b h.quarter)) blocks own)
     where
-      none : (b : PastBlock) → 1 ≤ b.quarter → ((bid_at books.bids.bids i).quarter == b.quarter) ≡ false
+      none : (b : PastBlock) → 1 ≤ b.quarter → ((bid_numbered books.bids.bids i).quarter == b.quarter) ≡ false
       none b one = rw (get_or_past books.bids.bids i _ past) (zero-not b.quarter one)
         where
           zero-not : (q : ℕ) → 1 ≤ q → (0 == q) ≡ false
@@ -175,7 +175,7 @@ module _ (books : Books) (ok : IsAccepted books) where
     same-taken run next there =
         let quarter = (run_at books run).quarter in
         let own = own-blocks books ok blocks stands.first in
-        let mws = fun_ext (λ i. ap (λ n. if (bid_at books.bids.bids i).quarter == quarter then n else 0) (kept-mw i) ∙ sym (mw-own quarter i blocks own)) in
+        let mws = fun_ext (λ i. ap (λ n. if (bid_numbered books.bids.bids i).quarter == quarter then n else 0) (kept-mw i) ∙ sym (mw-own quarter i blocks own)) in
         let activated = fun_ext (λ i. ap (nat_lt 0) (kept-mw i)) in
         let direct = fun_ext kept-direct in
         let flows = fun_ext (λ k. flow-before quarter k run (omega (arith, next)) there refl) in

@@ -29,7 +29,7 @@ use Rattle.mari_remain.specs.Accepted.{IsAccepted}
 use Rattle.mari_demands.specs.LimitPairs.{IsLimitTable}
 use Rattle.mari_demands.specs.declared.limits.Limits.{Limits}
 use Rattle.mari_remain.specs.Available.{Taken, is_available}
-use Rattle.mari_remain.specs.Lists.{bid_at, bids_of_quarter, parent_at, run_at}
+use Rattle.mari_remain.specs.Lists.{bid_numbered, bids_of_quarter, parent_at, run_at}
 use Rattle.mari_remain.specs.RunMarket.{at_least_0, bid_order, border_left, demand_order, demands_of_run, ends_at, gate_at, gate_of, gated_left, greatest_of, inelastic_price, least_of, market_left, numbers_left, run_limits, stated_limits}
 use Rattle.mari_remain.proofs.Places.{IsPlace, places-filter, places-within, places-rise, length-places}
 use Rattle.mari_remain.proofs.Gates.{gate-at, gate-is, gate-less}
@@ -180,14 +180,14 @@ module _ (books : Books) (taken : Taken) (run : ℕ) (ok : IsAccepted books) (sm
   few_gated : length (gated_left books taken run) ≤ 512
   few_gated = few_of_quarter books ok (is_available books taken (run_at books run)) (run_at books run).quarter
 
-  bid_orders : All (IsValidOrder (length books.zones.zones) (length (gated_left books taken run))) (map (λ i. bid_order (bid_at books.bids.bids i) (gate_of (gated_left books taken run) i) (taken.mw i)) (numbers_left books taken run))
+  bid_orders : All (IsValidOrder (length books.zones.zones) (length (gated_left books taken run))) (map (λ i. bid_order (bid_numbered books.bids.bids i) (gate_of (gated_left books taken run) i) (taken.mw i)) (numbers_left books taken run))
   bid_orders =
       let gated : List ℕ = gated_left books taken run in
       let zones : ℕ = length books.zones.zones in
-      let valid : (i : ℕ) → i < length books.bids.bids → IsValidOrder (length books.zones.zones) (length (gated_left books taken run)) (bid_order (bid_at books.bids.bids i) (gate_of (gated_left books taken run) i) (taken.mw i)) =
-      λ i l. bid books.zones (length books.bids.providers) books.quarters (length (gated_left books taken run)) (bid_at books.bids.bids i) (gate_of (gated_left books taken run) i) (taken.mw i) (ok.bids.bids i _ l) (λ g e. (gate-at (gated_left books taken run) i g e).0) in
-      All-map (IsValidOrder (length books.zones.zones) (length (gated_left books taken run))) (λ i. bid_order (bid_at books.bids.bids i) (gate_of (gated_left books taken run) i) (taken.mw i)) (numbers_left books taken run)
-      (All-weaker (λ i. i < length books.bids.bids) (λ i. IsValidOrder (length books.zones.zones) (length (gated_left books taken run)) (bid_order (bid_at books.bids.bids i) (gate_of (gated_left books taken run) i) (taken.mw i))) valid (numbers_left books taken run) there)
+      let valid : (i : ℕ) → i < length books.bids.bids → IsValidOrder (length books.zones.zones) (length (gated_left books taken run)) (bid_order (bid_numbered books.bids.bids i) (gate_of (gated_left books taken run) i) (taken.mw i)) =
+      λ i l. bid books.zones (length books.bids.providers) books.quarters (length (gated_left books taken run)) (bid_numbered books.bids.bids i) (gate_of (gated_left books taken run) i) (taken.mw i) (ok.bids.bids i _ l) (λ g e. (gate-at (gated_left books taken run) i g e).0) in
+      All-map (IsValidOrder (length books.zones.zones) (length (gated_left books taken run))) (λ i. bid_order (bid_numbered books.bids.bids i) (gate_of (gated_left books taken run) i) (taken.mw i)) (numbers_left books taken run)
+      (All-weaker (λ i. i < length books.bids.bids) (λ i. IsValidOrder (length books.zones.zones) (length (gated_left books taken run)) (bid_order (bid_numbered books.bids.bids i) (gate_of (gated_left books taken run) i) (taken.mw i))) valid (numbers_left books taken run) there)
 
   demand_orders : All (IsValidOrder (length books.zones.zones) (length (gated_left books taken run))) (map demand_order (demands_of_run books.demands.demands run))
   demand_orders = All-map (IsValidOrder (length books.zones.zones) (length (gated_left books taken run))) demand_order (demands_of_run books.demands.demands run)
@@ -198,7 +198,7 @@ module _ (books : Books) (taken : Taken) (run : ℕ) (ok : IsAccepted books) (sm
   gate g l =
       let gated : List ℕ = gated_left books taken run in
       let i : ℕ = get_or gated g 0 in
-      let order_of : ℕ → Order = λ k. bid_order (bid_at books.bids.bids k) (gate_of gated k) (taken.mw k) in
+      let order_of : ℕ → Order = λ k. bid_order (bid_numbered books.bids.bids k) (gate_of gated k) (taken.mw k) in
       let less : g < length gated = simp length-map at l in
       let own : gate_of gated i ≡ Some g = gate-is gated g rise less in
       let kept : All (Contains (numbers_left books taken run)) gated = All-filter (has_gate books.links) (Contains (numbers_left books taken run)) (numbers_left books taken run) (All-contains_itself (numbers_left books taken run)) in

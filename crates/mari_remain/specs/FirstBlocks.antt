@@ -7,7 +7,7 @@ use Rattle.mari_market.specs.declared.activation.Activation.{Activation}
 use Rattle.mari_remain.specs.declared.books.Books.{Books}
 use Rattle.mari_remain.specs.Blocks.{PastBlock, PastRun, flow_in, flow_of, is_activated, mw_in, mw_of, of_direct_runs, of_quarter}
 use Rattle.mari_remain.specs.Available.{Taken}
-use Rattle.mari_remain.specs.Lists.{bid_at, bids_of_quarter, numbers_of_run, run_at}
+use Rattle.mari_remain.specs.Lists.{bid_numbered, bids_of_quarter, numbers_of_run, run_at}
 use Rattle.mari_remain.specs.RunMarket.{market_at, numbers_of}
 
 -- what a published block of a run tells: the bids of the run's market behind these blocks, and an activation that is
@@ -67,7 +67,7 @@ pub record StandsFor (books : Books) (blocks : List PastBlock) (kept : Tally) : 
 -- what is taken, as it is read off what is kept, for a run of a quarter
 abbrev pub taken_in : Books → Tally → (quarter : ℕ) → Taken
 taken_in books kept quarter = record {
-  mw = λ i. if (bid_at books.bids.bids i).quarter == quarter then get_or kept.mw i 0 else 0;
+  mw = λ i. if (bid_numbered books.bids.bids i).quarter == quarter then get_or kept.mw i 0 else 0;
   activated = λ i. nat_lt 0 (get_or kept.mw i 0);
   by_direct_run = λ i. get_or kept.direct i false;
   flow = λ k. if option_map_or (λ last. last == quarter) kept.quarter false then get_or kept.flow k (pos 0) else pos 0;

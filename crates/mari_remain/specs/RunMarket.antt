@@ -20,7 +20,7 @@ use Rattle.mari_remain.specs.declared.books.Books.{Books}
 use Rattle.mari_remain.specs.declared.market.RunMarket.{RunMarket}
 use Rattle.mari_remain.specs.Available.{Taken, is_available, taken_by}
 use Rattle.mari_remain.specs.Blocks.{PastBlock}
-use Rattle.mari_remain.specs.Lists.{bid_at, bids_of_quarter, group_at, parent_at, run_at}
+use Rattle.mari_remain.specs.Lists.{bid_numbered, bids_of_quarter, group_at, parent_at, run_at}
 use Rattle.mari_units.specs.declared.numbers.TheConstants.{CAP}
 
 -- a bid's gate: its place among the gated bids
@@ -94,7 +94,7 @@ gate_at links gated i = record { group = group_at links i; parent = option_and_t
 
 -- the orders of these bids, of which so much was taken, and then of the demands
 abbrev pub orders_of : List Bid → (taken : ℕ → ℕ) → (numbers gated : List ℕ) → List Demand → List Order
-orders_of bids taken numbers gated demands = map (λ i. bid_order (bid_at bids i) (gate_of gated i) (taken i)) numbers ++ map demand_order demands
+orders_of bids taken numbers gated demands = map (λ i. bid_order (bid_numbered bids i) (gate_of gated i) (taken i)) numbers ++ map demand_order demands
 
 -- the gates of the gated bids
 abbrev pub gates_of : List BidLinks → List ℕ → List GateInfo

@@ -8,7 +8,7 @@ ghost use Rattle.mari_demands.specs.declared.limits.Limits.{Limits};
 ghost use Rattle.mari_remain.specs.Accepted.{IsAccepted};
 ghost use Rattle.mari_remain.specs.Blocks.{PastBlock, mw_in, mw_of};
 ghost use Rattle.mari_remain.specs.FirstBlocks.{AreFirstBlocks, IsKeptAfter, IsNextBlock, Tally, StandsFor};
-ghost use Rattle.mari_remain.specs.Lists.{bid_at};
+ghost use Rattle.mari_remain.specs.Lists.{bid_numbered};
 ghost use Rattle.mari_remain.specs.Migrated.{AreRead, borders_page, limits_page, with_limits};
 ghost use Rattle.mari_remain.specs.RunMarket.{run_limits, run_market_of};
 
@@ -18,7 +18,7 @@ use mari_units::MOST_PAGE;
 /// No bid is activated above its offer over the blocks of a day, and a gated one is activated in at most one of them.
 pub fn offers_are_kept(books: &Books)
     requires { IsAccepted books.now }
-    ensures offers { (blocks : List PastBlock) → AreFirstBlocks books.now blocks → (bid : ℕ) → mw_of blocks bid ≤ (bid_at books.now.bids.bids bid).greatest }
+    ensures offers { (blocks : List PastBlock) → AreFirstBlocks books.now blocks → (bid : ℕ) → mw_of blocks bid ≤ (bid_numbered books.now.bids.bids bid).greatest }
     ensures once { (blocks : List PastBlock) (next : PastBlock) → AreFirstBlocks books.now blocks → IsNextBlock books.now blocks next
         → (bid : ℕ) → has_gate books.now.links bid ≡ true → (mw_of blocks bid ≡ 0) ⊎ (mw_in bid next ≡ 0) }
 {

@@ -9,7 +9,7 @@ ghost use Rattle.mari_remain.specs.Accepted.{IsAccepted};
 ghost use Rattle.mari_remain.specs.Available.{Taken};
 ghost use Rattle.mari_remain.specs.Blocks.{PastBlock};
 ghost use Rattle.mari_remain.specs.FirstBlocks.{Tally, StandsFor, block_of, taken_in};
-ghost use Rattle.mari_remain.specs.Lists.{bid_at, bids_of_quarter, demand_at, numbers_of_run, run_at};
+ghost use Rattle.mari_remain.specs.Lists.{bid_numbered, bids_of_quarter, demand_at, numbers_of_run, run_at};
 ghost use Rattle.mari_remain.specs.RunMarket.{at_least_0 as at_least_0_of, bid_order as bid_order_of, border_left as border_in, borders_left, demand_order as demand_order_of, demands_of_run as demands_in, ends_at, gate_at, gate_of as gate_in, gated_left, gates_of as gates_in, inelastic_price as inelastic_price_of, numbers_left, orders_of as orders_in, run_limits, run_market_left, run_market_of};
 
 use crate::adding::{add_mw, carry, mark_if};
@@ -125,7 +125,7 @@ fn demand_order(demand: &Demand) -> Order
 
 /// The bid of a number.
 pub(crate) fn bid_of(bids: &[Bid], number: u32) -> Bid
-    ensures { result ≡ bid_at bids.now number }
+    ensures { result ≡ bid_numbered bids.now number }
 {
     bids.get(number as usize).copied().unwrap_or(NO_BID)
 }
@@ -140,8 +140,8 @@ fn bid_orders(
     gated: &[u32],
 ) -> Result<Vec<Order>, Memory>
     requires gates { length gated.now ≤ MOST_GATES }
-    requires own { All (λ i. (bid_at books.now.bids.bids i).quarter ≡ quarter) numbers.now }
-    ensures { IfOk result (λ orders. orders.items ≡ map (λ i. bid_order_of (bid_at books.now.bids.bids i) (gate_in gated.now i) ((taken_in books.now remaining.now quarter).mw i)) numbers.now) }
+    requires own { All (λ i. (bid_numbered books.now.bids.bids i).quarter ≡ quarter) numbers.now }
+    ensures { IfOk result (λ orders. orders.items ≡ map (λ i. bid_order_of (bid_numbered books.now.bids.bids i) (gate_in gated.now i) ((taken_in books.now remaining.now quarter).mw i)) numbers.now) }
 {
     let mut orders = Vec::new(alloc);
     for number in numbers {
@@ -295,7 +295,7 @@ fn orders_of(
     demands: &[Demand],
 ) -> Result<Vec<Order>, Memory>
     requires gates { length choice.now.gated.items ≤ MOST_GATES }
-    requires own { All (λ i. (bid_at books.now.bids.bids i).quarter ≡ quarter) choice.now.numbers.items }
+    requires own { All (λ i. (bid_numbered books.now.bids.bids i).quarter ≡ quarter) choice.now.numbers.items }
     requires small { All (λ d. unsigned_abs d.mw ≤ MOST_MW) demands.now }
     ensures { IfOk result (λ orders. orders.items ≡ orders_in books.now.bids.bids (taken_in books.now remaining.now quarter).mw choice.now.numbers.items choice.now.gated.items demands.now) }
 {

@@ -11,7 +11,7 @@ use Rattle.mari_market.specs.declared.market.Order.{Order}
 use Rattle.mari_remain.specs.Accepted.{IsAccepted}
 use Rattle.mari_remain.specs.Blocks.{PastBlock}
 use Rattle.mari_remain.specs.FirstBlocks.{AreFirstBlocks}
-use Rattle.mari_remain.specs.Lists.{bid_numbered, run_at}
+use Rattle.mari_remain.specs.Lists.{bid_numbered, run_numbered}
 use Rattle.mari_remain.specs.RunMarket.{bid_order, demand_order, demands_of_run, gate_of, gated_left, greatest_of, market_at, numbers_of, run_market_of, taken_before}
 use Rattle.mari_remain.specs.declared.books.Books.{Books}
 use Rattle.mari_remain.proofs.History.{bounded}
@@ -37,7 +37,7 @@ most-left (Some g) offer taken = omega arith
 
 module _ (books : Books) (ok : IsAccepted books) (past : List PastBlock) (first : AreFirstBlocks books past) (run : ℕ) where
   small-flows : (k : ℕ) → unsigned_abs ((taken_before books past run).flow k) ≤ 99999
-  small-flows k = bounded books ok past first (run_at books run).quarter k
+  small-flows k = bounded books ok past first (run_numbered books run).quarter k
 
   numbers-there : All (λ i. i < length books.bids.bids) (numbers_of books past run)
   numbers-there = there books (taken_before books past run) run ok small-flows

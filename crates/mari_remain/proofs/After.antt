@@ -19,7 +19,7 @@ use Rattle.mari_remain.specs.Blocks.{PastBlock, flow_in, flow_of, is_activated, 
 use Rattle.mari_remain.specs.FirstBlocks.{AreFirstBlocks, IsKeptAfter, IsNextBlock, IsPastRun, Tally, StandsFor, block_of}
 use Rattle.mari_remain.proofs.History.{bounded, flow-more, own-blocks}
 use Rattle.mari_remain.proofs.Standing.{flow-before, kept-direct, kept-mw, last-more}
-use Rattle.mari_remain.specs.Lists.{bid_numbered, bids_of_quarter, run_at}
+use Rattle.mari_remain.specs.Lists.{bid_numbered, bids_of_quarter, run_numbered}
 use Rattle.mari_remain.specs.RunMarket.{bid_order, border_left, demand_order, demands_of_run, ends_at, gate_of, gated_left, market_at, numbers_of, run_limits, run_market_of, taken_before}
 use Rattle.mari_remain.specs.declared.market.RunMarket.{RunMarket}
 use Rattle.mari_remain.specs.Available.{is_available}
@@ -122,9 +122,9 @@ module _ (books : Books) (ok : IsAccepted books) (blocks : List PastBlock) (kept
     | inr past ↦ rw (get_or_past books.bids.bids i _ past) (omega arith)
   ]
 
-  pub can-add : CanAdd books kept (run_at books run).quarter made.bids a
+  pub can-add : CanAdd books kept (run_numbered books run).quarter made.bids a
   can-add =
-      let run_of = run_at books run in
+      let run_of = run_numbered books run in
       let avail : ℕ → Bool = is_available books (taken_before books blocks run) run_of in
       let next = next-block in
       let own = own-numbers books run_of.quarter in

@@ -21,7 +21,7 @@ use Rattle.mari_remain.specs.Accepted.{IsAccepted}
 use Rattle.mari_remain.specs.Available.{is_available}
 use Rattle.mari_remain.specs.Blocks.{PastBlock, PastRun, flow_in, flow_of, mw_beside, mw_in, mw_of, of_quarter}
 use Rattle.mari_remain.specs.FirstBlocks.{AreFirstBlocks, IsNextBlock, IsPastRun}
-use Rattle.mari_remain.specs.Lists.{bid_numbered, run_at}
+use Rattle.mari_remain.specs.Lists.{bid_numbered, run_numbered}
 use Rattle.mari_remain.specs.RunMarket.{at_least_0, border_left, ends_at, market_at, run_limits, taken_before}
 use Rattle.mari_remain.proofs.Choosing.{own-chosen}
 use Rattle.mari_remain.proofs.Validity.{in_range}
@@ -68,7 +68,7 @@ module _ (books : Books) (ok : IsAccepted books) where
     pub bids : (i : ℕ) → ((bid_numbered books.bids.bids i).quarter == b.quarter) ≡ false → mw_in i b ≡ 0
     pub flows : (k : ℕ) → length books.borders.borders ≤ k → flow_in k b ≡ pos 0
 
-  entry : (before : List PastBlock) (b : PastBlock) → IsNextBlock books before b → 1 ≤ (run_at books b.run).quarter
+  entry : (before : List PastBlock) (b : PastBlock) → IsNextBlock books before b → 1 ≤ (run_numbered books b.run).quarter
   entry before b next = (ok.runs.runs (b.run - 1) _ (omega (arith, next.run, next.there))).first_quarter
 
   pub own-block : (before : List PastBlock) (b : PastBlock) → IsNextBlock books before b → IsOwnBlock b
@@ -89,7 +89,7 @@ module _ (books : Books) (ok : IsAccepted books) where
       bids (Some past) e i other =
           let is : IsPastRun books before b.run past = subst (λ (o : Option PastRun). IfSome o (IsPastRun books before b.run)) e next.published in
           let taken = taken_before books before b.run in
-          let own = own-chosen books (is_available books taken (run_at books b.run)) (run_at books b.run).quarter past.bids is.bids in
+          let own = own-chosen books (is_available books taken (run_numbered books b.run)) (run_numbered books b.run).quarter past.bids is.bids in
           beside-none i past.bids past.activation.mw (λ k d l. differs (get_or past.bids k d) i (own k d l ∙ sym next.quarter) other)
 
       flows : (p : Option PastRun) → b.published ≡ p → (k : ℕ) → length books.borders.borders ≤ k → option_map_or (λ (r : PastRun). get_or r.activation.flow k (pos 0)) p (pos 0) ≡ pos 0
@@ -133,7 +133,7 @@ module _ (books : Books) (ok : IsAccepted books) where
           let within : IsWithinLimits (left k) (get_or past.activation.flow k (pos 0)) =
           rw own (AllZip-at IsWithinLimits (market_at books before b.run).borders past.activation.flow k (left k) (pos 0) (omega (arith, l, length-map-range_with_len left 0 (length books.borders.borders))) is.feasible.borders) in
           let fits = in_range books books.limits b.run k ok.limits (ok.borders.borders k _ l) in
-          let same : (run_at books b.run).quarter ≡ quarter = sym next.quarter ∙ e in
+          let same : (run_numbered books b.run).quarter ≡ quarter = sym next.quarter ∙ e in
           let small = so_far quarter k in
           flow-within (flow_of (of_quarter quarter before) k) (get_or past.activation.flow k (pos 0)) (pos (run_limits books b.run k).limit -ℤ flow_of (of_quarter quarter before) k) (pos (run_limits books b.run k).back +ℤ flow_of (of_quarter quarter before) k)
           (run_limits books b.run k).limit (run_limits books b.run k).back refl refl fits.0 fits.1 small (rw same at within.back) (rw same at within.limit)

@@ -22,7 +22,7 @@ use Rattle.mari_remain.specs.Accepted.{IsAccepted}
 use Rattle.mari_remain.specs.Available.{Taken, is_available_up, may_run, parent_allows}
 use Rattle.mari_remain.specs.Blocks.{PastBlock, PastRun}
 use Rattle.mari_remain.specs.FirstBlocks.{AreFirstBlocks, IsNextBlock, IsPastRun}
-use Rattle.mari_remain.specs.Lists.{bids_of_quarter, parent_at, run_at}
+use Rattle.mari_remain.specs.Lists.{bids_of_quarter, parent_at, run_numbered}
 use Rattle.mari_remain.specs.Migrated.{AreRead, borders_page, limits_page, with_limits}
 use Rattle.mari_remain.specs.RunMarket.{border_left, borders_left, demands_of_run, ends_at, gates_of, numbers_left, orders_of, run_limits, run_market_left, run_market_of, taken_before}
 use Rattle.mari_remain.proofs.MigratedBorders.{NoneRepeated, bare, borders-read, none-repeated, second}
@@ -31,7 +31,7 @@ use Rattle.mari_units.proofs.Lists.{same_over}
 use Rattle.mari_remain.proofs.Validity.{in_range}
 
 -- lists of blocks of first runs are the same in books whose runs have the same markets
-module _ (books other : Books) (runs : (run : ℕ) → run_at books run ≡ run_at other run) (count : length books.runs.runs ≡ length other.runs.runs)
+module _ (books other : Books) (runs : (run : ℕ) → run_numbered books run ≡ run_numbered other run) (count : length books.runs.runs ≡ length other.runs.runs)
     (same : (blocks : List PastBlock) (run : ℕ) → 1 ≤ run → run ≤ length books.runs.runs → run_market_of books blocks run ≡ run_market_of other blocks run) where
   one-way : (blocks : List PastBlock) → AreFirstBlocks books blocks → AreFirstBlocks other blocks
   one-way blocks first k b there = next (take k blocks) b (first k b there)
@@ -117,13 +117,13 @@ module _ (books : Books) (ok : IsAccepted books) (own : List ℕ) (read : border
 
     module _ (taken : Taken) (run : ℕ) (first : 1 ≤ run) (last : run ≤ runs) where
       -- the same bids are available
-      same-up : (n i : ℕ) → is_available_up migrated taken (run_at books run) n i ≡ is_available_up books taken (run_at books run) n i
+      same-up : (n i : ℕ) → is_available_up migrated taken (run_numbered books run) n i ≡ is_available_up books taken (run_numbered books run) n i
       same-up zero i = refl
       same-up (suc n) i =
-          ap (λ available. may_run books taken (run_at books run) i && parent_allows available taken (parent_at books.links.links i)) (fun_ext (same-up n))
+          ap (λ available. may_run books taken (run_numbered books run) i && parent_allows available taken (parent_at books.links.links i)) (fun_ext (same-up n))
 
       numbers-same : numbers_left migrated taken run ≡ numbers_left books taken run
-      numbers-same = ap (λ test. filter test (bids_of_quarter books.bids.bids (run_at books run).quarter)) (fun_ext (λ i. same-up (suc i) i))
+      numbers-same = ap (λ test. filter test (bids_of_quarter books.bids.bids (run_numbered books run).quarter)) (fun_ext (λ i. same-up (suc i) i))
 
       -- over borders with the same limits
       borders-same : borders_left migrated taken run ≡ borders_left books taken run
@@ -140,7 +140,7 @@ module _ (books : Books) (ok : IsAccepted books) (own : List ℕ) (read : border
           borders = borders;
           orders = orders_of books.bids.bids taken.mw numbers (filter (has_gate books.links) numbers) (demands_of_run books.demands.demands run);
           gates = gates_of books.links.links (filter (has_gate books.links) numbers);
-          reference = (run_at books run).reference;
+          reference = (run_numbered books run).reference;
         };
         bids = numbers;
         demands = length (demands_of_run books.demands.demands run);

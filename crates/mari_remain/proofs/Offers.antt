@@ -20,7 +20,7 @@ use Rattle.mari_remain.specs.Accepted.{IsAccepted}
 use Rattle.mari_remain.specs.Available.{Taken, is_available, is_left, may_run}
 use Rattle.mari_remain.specs.Blocks.{PastBlock, PastRun, mw_beside, mw_in, mw_of}
 use Rattle.mari_remain.specs.FirstBlocks.{AreFirstBlocks, IsNextBlock, IsPastRun}
-use Rattle.mari_remain.specs.Lists.{bid_numbered, bids_of_quarter, run_at}
+use Rattle.mari_remain.specs.Lists.{bid_numbered, bids_of_quarter, run_numbered}
 use Rattle.mari_remain.specs.RunMarket.{bid_order, demand_order, demands_of_run, gate_of, gated_left, greatest_of, market_at, numbers_of, taken_before}
 use Rattle.mari_remain.proofs.Choosing.{own-chosen}
 use Rattle.mari_remain.proofs.Gates.{gate-at}
@@ -78,37 +78,37 @@ module _ (books : Books) (ok : IsAccepted books) where
       → IsWithinOffer before i (mw_in i b)
   within-offer before b are_own next i so_far = published b.published next.published
     where
-      own : (past : PastRun) → IsPastRun books before b.run past → (t : Bool) → ((bid_numbered books.bids.bids i).quarter == (run_at books b.run).quarter) ≡ t → (u : Bool) → is_available books (taken_before books before b.run) (run_at books b.run) i ≡ u
+      own : (past : PastRun) → IsPastRun books before b.run past → (t : Bool) → ((bid_numbered books.bids.bids i).quarter == (run_numbered books b.run).quarter) ≡ t → (u : Bool) → is_available books (taken_before books before b.run) (run_numbered books b.run) i ≡ u
           → IsWithinOffer before i (mw_beside i past.bids past.activation.mw)
       own past is false e u f =
-          let numbers = own-chosen books (is_available books (taken_before books before b.run) (run_at books b.run)) (run_at books b.run).quarter past.bids is.bids in
+          let numbers = own-chosen books (is_available books (taken_before books before b.run) (run_numbered books b.run)) (run_numbered books b.run).quarter past.bids is.bids in
           no_more before i _ so_far (beside-none i past.bids past.activation.mw (λ k d l. differ (get_or past.bids k d) (numbers k d l) e))
         where
-          differ : (n : ℕ) → (bid_numbered books.bids.bids n).quarter ≡ (run_at books b.run).quarter → ((bid_numbered books.bids.bids i).quarter == (run_at books b.run).quarter) ≡ false → (n == i) ≡ false
+          differ : (n : ℕ) → (bid_numbered books.bids.bids n).quarter ≡ (run_numbered books b.run).quarter → ((bid_numbered books.bids.bids i).quarter == (run_numbered books b.run).quarter) ≡ false → (n == i) ≡ false
           differ n own e = by (n == i) refl
             where
               by : (t : Bool) → (n == i) ≡ t → (n == i) ≡ false
               by false f = f
               by true f =
-                  let same : ((bid_numbered books.bids.bids i).quarter == (run_at books b.run).quarter) ≡ true = eq-eqb _ _ (ap (λ j. (bid_numbered books.bids.bids j).quarter) (sym (eqb-true n i f)) ∙ own) in
+                  let same : ((bid_numbered books.bids.bids i).quarter == (run_numbered books b.run).quarter) ≡ true = eq-eqb _ _ (ap (λ j. (bid_numbered books.bids.bids j).quarter) (sym (eqb-true n i f)) ∙ own) in
                   let both : true ≡ false = sym same ∙ e in
                   absurd (cc both)
       own past is true e false f =
-          let avail : ℕ → Bool = is_available books (taken_before books before b.run) (run_at books b.run) in
-          let numbers : All (λ n. avail n ≡ true) past.bids = rw is.bids (filter_passes avail (bids_of_quarter books.bids.bids (run_at books b.run).quarter)) in
+          let avail : ℕ → Bool = is_available books (taken_before books before b.run) (run_numbered books b.run) in
+          let numbers : All (λ n. avail n ≡ true) past.bids = rw is.bids (filter_passes avail (bids_of_quarter books.bids.bids (run_numbered books b.run).quarter)) in
           no_more before i _ so_far (beside-none i past.bids past.activation.mw (λ k d l. differ (get_or past.bids k d) (numbers k d l) f))
         where
-          differ : (n : ℕ) → is_available books (taken_before books before b.run) (run_at books b.run) n ≡ true → is_available books (taken_before books before b.run) (run_at books b.run) i ≡ false → (n == i) ≡ false
+          differ : (n : ℕ) → is_available books (taken_before books before b.run) (run_numbered books b.run) n ≡ true → is_available books (taken_before books before b.run) (run_numbered books b.run) i ≡ false → (n == i) ≡ false
           differ n own f = by (n == i) refl
             where
               by : (t : Bool) → (n == i) ≡ t → (n == i) ≡ false
               by false g = g
               by true g =
-                  let both : true ≡ false = sym own ∙ ap (is_available books (taken_before books before b.run) (run_at books b.run)) (eqb-true n i g) ∙ f in
+                  let both : true ≡ false = sym own ∙ ap (is_available books (taken_before books before b.run) (run_numbered books b.run)) (eqb-true n i g) ∙ f in
                   absurd (cc both)
       own past is true e true f =
           let taken = taken_before books before b.run in
-          let run = run_at books b.run in
+          let run = run_numbered books b.run in
           let avail : ℕ → Bool = is_available books taken run in
           let gated : List ℕ = gated_left books taken b.run in
           let m : Market = market_at books before b.run in
@@ -125,7 +125,7 @@ module _ (books : Books) (ok : IsAccepted books) where
       published : (p : Option PastRun) → IfSome p (IsPastRun books before b.run) → IsWithinOffer before i (option_map_or (λ (r : PastRun). mw_beside i r.bids r.activation.mw) p 0)
       published None is = no_more before i 0 so_far refl
       published (Some past) is =
-          own past is ((bid_numbered books.bids.bids i).quarter == (run_at books b.run).quarter) refl (is_available books (taken_before books before b.run) (run_at books b.run) i) refl
+          own past is ((bid_numbered books.bids.bids i).quarter == (run_numbered books b.run).quarter) refl (is_available books (taken_before books before b.run) (run_numbered books b.run) i) refl
 
   -- the blocks so far are each of their quarter, and take no more of a bid than its offer
   record KeepsOffers (blocks : List PastBlock) : Type 0 where

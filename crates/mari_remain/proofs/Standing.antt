@@ -16,21 +16,21 @@ use Rattle.mari_remain.specs.Accepted.{IsAccepted}
 use Rattle.mari_remain.specs.Available.{taken_by}
 use Rattle.mari_remain.specs.Blocks.{PastBlock, PastRun, flow_in, flow_of, is_activated, mw_in, mw_of, of_direct_runs, of_quarter}
 use Rattle.mari_remain.specs.FirstBlocks.{AreFirstBlocks, IsNextBlock, Tally, StandsFor, last_quarter, taken_in}
-use Rattle.mari_remain.specs.Lists.{bid_numbered, run_at}
+use Rattle.mari_remain.specs.Lists.{bid_numbered, run_numbered}
 use Rattle.mari_remain.proofs.History.{IsOwnBlock, bounded, by_blocks, mw-none, own-blocks}
 
 module _ (books : Books) (ok : IsAccepted books) where
   -- quarters of runs don't fall
-  pub quarters-rise : (r s : ℕ) → 1 ≤ r → r ≤ s → s ≤ length books.runs.runs → (run_at books r).quarter ≤ (run_at books s).quarter
+  pub quarters-rise : (r s : ℕ) → 1 ≤ r → r ≤ s → s ≤ length books.runs.runs → (run_numbered books r).quarter ≤ (run_numbered books s).quarter
   quarters-rise r s one l last = elim (cases_lt r s) [
     | inl less ↦ (ok.runs.in_order (r - 1) (s - 1) _ (omega (arith, less, one)) (omega (arith, one, l, last))).quarter
-    | inr same ↦ (let e : r ≡ s = omega (arith, l, same) in let f = ap (λ n. (run_at books n).quarter) e in omega (arith, f))
+    | inr same ↦ (let e : r ≡ s = omega (arith, l, same) in let f = ap (λ n. (run_numbered books n).quarter) e in omega (arith, f))
   ]
 
   -- the quarter of the last published block is the greatest so far, and no later run has a smaller one
   pub record HasLast (blocks : List PastBlock) : Type 0 where
     pub greatest : All (λ b. is_some b.published ≡ true → b.quarter ≤ unwrap_or (last_quarter blocks) 0) blocks
-    pub later : (r : ℕ) → length blocks < r → r ≤ length books.runs.runs → unwrap_or (last_quarter blocks) 0 ≤ (run_at books r).quarter
+    pub later : (r : ℕ) → length blocks < r → r ≤ length books.runs.runs → unwrap_or (last_quarter blocks) 0 ≤ (run_numbered books r).quarter
 
   pub last-more : (before : List PastBlock) (b : PastBlock) → last_quarter (before ++ b ∷ []) ≡ (if is_some b.published then Some b.quarter else last_quarter before)
   last-more before b = fold-append (λ last (b : PastBlock). if is_some b.published then Some b.quarter else last) None before (b ∷ [])
@@ -125,7 +125,7 @@ module _ (books : Books) (ok : IsAccepted books) where
               ∙ sym (quarter-none quarter k blocks (All-weaker (IsOwnBlock books ok) (λ b. (b.quarter == quarter) ≡ true → flow_in k b ≡ pos 0) (λ b h e. h.flows k past) blocks (own-blocks books ok blocks stands.first))))
         ]
 
-    other-flow : (quarter k : ℕ) → option_map_or (λ last. last == quarter) kept.quarter false ≡ false → ((r : ℕ) × (length blocks < r) × (r ≤ length books.runs.runs) × ((run_at books r).quarter ≡ quarter))
+    other-flow : (quarter k : ℕ) → option_map_or (λ last. last == quarter) kept.quarter false ≡ false → ((r : ℕ) × (length blocks < r) × (r ≤ length books.runs.runs) × ((run_numbered books r).quarter ≡ quarter))
         → pos 0 ≡ flow_of (of_quarter quarter blocks) k
     other-flow quarter k test (r, l, there, is) =
         let last = has-last blocks stands.first in
@@ -136,7 +136,7 @@ module _ (books : Books) (ok : IsAccepted books) where
         unpublished b None e = refl
         unpublished b (Some past) e = cc e
 
-        none : (b : PastBlock) (last : Option ℕ) → (is_some b.published ≡ true → b.quarter ≤ unwrap_or last 0) → 1 ≤ b.quarter → unwrap_or last 0 ≤ (run_at books r).quarter → option_map_or (λ last. last == quarter) last false ≡ false
+        none : (b : PastBlock) (last : Option ℕ) → (is_some b.published ≡ true → b.quarter ≤ unwrap_or last 0) → 1 ≤ b.quarter → unwrap_or last 0 ≤ (run_numbered books r).quarter → option_map_or (λ last. last == quarter) last false ≡ false
             → b.quarter ≡ quarter → (t : Bool) → is_some b.published ≡ t → t ≡ false
         none b last most one later test e false f = refl
         none b None most one later test e true f = let m = most f in absurd (omega (arith, m, one))
@@ -145,7 +145,7 @@ module _ (books : Books) (ok : IsAccepted books) where
             clash : (q : ℕ) → q ≡ quarter → (q == quarter) ≡ false → ⊥
             clash q e f = let both : true ≡ false = sym (eq-eqb q quarter e) ∙ f in cc both
 
-        All-both : (bs : List PastBlock) → All (λ b. is_some b.published ≡ true → b.quarter ≤ unwrap_or (last_quarter blocks) 0) bs → All (IsOwnBlock books ok) bs → unwrap_or (last_quarter blocks) 0 ≤ (run_at books r).quarter
+        All-both : (bs : List PastBlock) → All (λ b. is_some b.published ≡ true → b.quarter ≤ unwrap_or (last_quarter blocks) 0) bs → All (IsOwnBlock books ok) bs → unwrap_or (last_quarter blocks) 0 ≤ (run_numbered books r).quarter
             → option_map_or (λ last. last == quarter) (last_quarter blocks) false ≡ false → All (λ b. (b.quarter == quarter) ≡ true → flow_in k b ≡ pos 0) bs
         All-both bs most own later test = λ m d l same.
             let b : PastBlock = get_or bs m d in
@@ -160,20 +160,20 @@ module _ (books : Books) (ok : IsAccepted books) where
     the_quarter quarter None e = cc e
     the_quarter quarter (Some q) e = ap Some (eqb-true q quarter e)
 
-    flow_is : (quarter k : ℕ) → ((r : ℕ) × (length blocks < r) × (r ≤ length books.runs.runs) × ((run_at books r).quarter ≡ quarter)) → (t : Bool) → option_map_or (λ last. last == quarter) kept.quarter false ≡ t
+    flow_is : (quarter k : ℕ) → ((r : ℕ) × (length blocks < r) × (r ≤ length books.runs.runs) × ((run_numbered books r).quarter ≡ quarter)) → (t : Bool) → option_map_or (λ last. last == quarter) kept.quarter false ≡ t
         → (if t then get_or kept.flow k (pos 0) else pos 0) ≡ flow_of (of_quarter quarter blocks) k
     flow_is quarter k later true e = kept-flow quarter k (the_quarter quarter kept.quarter e)
     flow_is quarter k later false e = other-flow quarter k e later
 
     -- the flows of the quarter of a later run, as they are read off
-    pub flow-before : (quarter k r : ℕ) → length blocks < r → r ≤ length books.runs.runs → (run_at books r).quarter ≡ quarter
+    pub flow-before : (quarter k r : ℕ) → length blocks < r → r ≤ length books.runs.runs → (run_numbered books r).quarter ≡ quarter
         → (if option_map_or (λ last. last == quarter) kept.quarter false then get_or kept.flow k (pos 0) else pos 0) ≡ flow_of (of_quarter quarter blocks) k
     flow-before quarter k r l there is = flow_is quarter k (r, l, there, is) (option_map_or (λ last. last == quarter) kept.quarter false) refl
 
     -- for the next run
-    pub same-taken : (run : ℕ) → run ≡ length blocks + 1 → run ≤ length books.runs.runs → taken_in books kept (run_at books run).quarter ≡ taken_by blocks (run_at books run).quarter
+    pub same-taken : (run : ℕ) → run ≡ length blocks + 1 → run ≤ length books.runs.runs → taken_in books kept (run_numbered books run).quarter ≡ taken_by blocks (run_numbered books run).quarter
     same-taken run next there =
-        let quarter = (run_at books run).quarter in
+        let quarter = (run_numbered books run).quarter in
         let own = own-blocks books ok blocks stands.first in
         let mws = fun_ext (λ i. ap (λ n. if (bid_numbered books.bids.bids i).quarter == quarter then n else 0) (kept-mw i) ∙ sym (mw-own quarter i blocks own)) in
         let activated = fun_ext (λ i. ap (nat_lt 0) (kept-mw i)) in

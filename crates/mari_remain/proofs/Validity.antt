@@ -29,7 +29,7 @@ use Rattle.mari_remain.specs.Accepted.{IsAccepted}
 use Rattle.mari_demands.specs.LimitPairs.{IsLimitTable}
 use Rattle.mari_demands.specs.declared.limits.Limits.{Limits}
 use Rattle.mari_remain.specs.Available.{Taken, is_available}
-use Rattle.mari_remain.specs.Lists.{bid_numbered, bids_of_quarter, parent_at, run_at}
+use Rattle.mari_remain.specs.Lists.{bid_numbered, bids_of_quarter, parent_at, run_numbered}
 use Rattle.mari_remain.specs.RunMarket.{at_least_0, bid_order, border_left, demand_order, demands_of_run, ends_at, gate_at, gate_of, gated_left, greatest_of, inelastic_price, least_of, market_left, numbers_left, run_limits, stated_limits}
 use Rattle.mari_remain.proofs.Places.{IsPlace, places-filter, places-within, places-rise, length-places}
 use Rattle.mari_remain.proofs.Gates.{gate-at, gate-is, gate-less}
@@ -162,23 +162,23 @@ module _ (books : Books) (ok : IsAccepted books) where
 module _ (books : Books) (taken : Taken) (run : ℕ) (ok : IsAccepted books) (small_flows : (k : ℕ) → unsigned_abs (taken.flow k) ≤ 99999) where
   rise : AllPairs (λ i j. i < j) (gated_left books taken run)
   rise = AllPairs-filter (λ i j. i < j) (has_gate books.links) (numbers_left books taken run)
-      (AllPairs-filter (λ i j. i < j) (is_available books taken (run_at books run)) (bids_of_quarter books.bids.bids (run_at books run).quarter) (places-rise (λ (b : Bid). b.quarter == (run_at books run).quarter) 0 books.bids.bids))
+      (AllPairs-filter (λ i j. i < j) (is_available books taken (run_numbered books run)) (bids_of_quarter books.bids.bids (run_numbered books run).quarter) (places-rise (λ (b : Bid). b.quarter == (run_numbered books run).quarter) 0 books.bids.bids))
 
   pub there : All (λ i. i < length books.bids.bids) (numbers_left books taken run)
-  there = All-filter (is_available books taken (run_at books run)) (λ i. i < length books.bids.bids) (bids_of_quarter books.bids.bids (run_at books run).quarter)
-      (All-weaker (IsPlace 0 (length books.bids.bids)) (λ i. i < length books.bids.bids) (λ i l. omega (arith, l.below)) (bids_of_quarter books.bids.bids (run_at books run).quarter) (places-within (λ (b : Bid). b.quarter == (run_at books run).quarter) 0 books.bids.bids))
+  there = All-filter (is_available books taken (run_numbered books run)) (λ i. i < length books.bids.bids) (bids_of_quarter books.bids.bids (run_numbered books run).quarter)
+      (All-weaker (IsPlace 0 (length books.bids.bids)) (λ i. i < length books.bids.bids) (λ i l. omega (arith, l.below)) (bids_of_quarter books.bids.bids (run_numbered books run).quarter) (places-within (λ (b : Bid). b.quarter == (run_numbered books run).quarter) 0 books.bids.bids))
 
   pub few_numbers : length (numbers_left books taken run) ≤ 4096
   few_numbers = omega (
     arith,
-    length-places (λ (b : Bid). b.quarter == (run_at books run).quarter) 0 books.bids.bids,
-    ok.bids.of_quarter (run_at books run).quarter,
-    length-filter (is_available books taken (run_at books run)) (bids_of_quarter books.bids.bids (run_at books run).quarter),
-    count_by-le-length (is_available books taken (run_at books run)) (bids_of_quarter books.bids.bids (run_at books run).quarter),
+    length-places (λ (b : Bid). b.quarter == (run_numbered books run).quarter) 0 books.bids.bids,
+    ok.bids.of_quarter (run_numbered books run).quarter,
+    length-filter (is_available books taken (run_numbered books run)) (bids_of_quarter books.bids.bids (run_numbered books run).quarter),
+    count_by-le-length (is_available books taken (run_numbered books run)) (bids_of_quarter books.bids.bids (run_numbered books run).quarter),
   )
 
   few_gated : length (gated_left books taken run) ≤ 512
-  few_gated = few_of_quarter books ok (is_available books taken (run_at books run)) (run_at books run).quarter
+  few_gated = few_of_quarter books ok (is_available books taken (run_numbered books run)) (run_numbered books run).quarter
 
   bid_orders : All (IsValidOrder (length books.zones.zones) (length (gated_left books taken run))) (map (λ i. bid_order (bid_numbered books.bids.bids i) (gate_of (gated_left books taken run) i) (taken.mw i)) (numbers_left books taken run))
   bid_orders =

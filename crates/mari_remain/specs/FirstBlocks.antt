@@ -7,7 +7,7 @@ use Rattle.mari_market.specs.declared.activation.Activation.{Activation}
 use Rattle.mari_remain.specs.declared.books.Books.{Books}
 use Rattle.mari_remain.specs.Blocks.{PastBlock, PastRun, flow_in, flow_of, is_activated, mw_in, mw_of, of_direct_runs, of_quarter}
 use Rattle.mari_remain.specs.Available.{Taken}
-use Rattle.mari_remain.specs.Lists.{bid_numbered, bids_of_quarter, numbers_of_run, run_at}
+use Rattle.mari_remain.specs.Lists.{bid_numbered, bids_of_quarter, numbers_of_run, run_numbered}
 use Rattle.mari_remain.specs.RunMarket.{market_at, numbers_of}
 
 -- what a published block of a run tells: the bids of the run's market behind these blocks, and an activation that is
@@ -20,16 +20,16 @@ pub record IsPastRun (books : Books) (blocks : List PastBlock) (run : ℕ) (past
 pub record IsNextBlock (books : Books) (blocks : List PastBlock) (b : PastBlock) : Type 0 where
   pub run : b.run ≡ length blocks + 1
   pub there : b.run ≤ length books.runs.runs
-  pub quarter : b.quarter ≡ (run_at books b.run).quarter
-  pub direct : b.direct ≡ (run_at books b.run).direct
+  pub quarter : b.quarter ≡ (run_numbered books b.run).quarter
+  pub direct : b.direct ≡ (run_numbered books b.run).direct
   pub published : IfSome b.published (IsPastRun books blocks b.run)
 
 -- the published block of a run, with these bids and this activation
 abbrev pub block_of : Books → (run : ℕ) → List ℕ → Activation → PastBlock
 block_of books run bids a = record {
   run = run;
-  quarter = (run_at books run).quarter;
-  direct = (run_at books run).direct;
+  quarter = (run_numbered books run).quarter;
+  direct = (run_numbered books run).direct;
   published = Some (record { bids = bids; activation = a });
 }
 

@@ -40,5 +40,5 @@ abbrev pub parent_at : List BidLinks → ℕ → Option ℕ
 parent_at links i = option_and_then (λ (l : BidLinks). l.parent) (slice_get links i)
 
 -- a run, counted from 1
-abbrev pub run_at : Books → ℕ → Run
-run_at books run = slice_index_or books.runs.runs (run - 1) (record { quarter = 0; direct = false; reference = record { 0 = pos 0 } })
+abbrev pub run_numbered : Books → ℕ → Run
+run_numbered books run = slice_index_or books.runs.runs (run - 1) (record { quarter = 0; direct = false; reference = record { 0 = pos 0 } })

@@ -20,7 +20,7 @@ use Rattle.mari_remain.specs.declared.books.Books.{Books}
 use Rattle.mari_remain.specs.declared.market.RunMarket.{RunMarket}
 use Rattle.mari_remain.specs.Available.{Taken, is_available, taken_by}
 use Rattle.mari_remain.specs.Blocks.{PastBlock}
-use Rattle.mari_remain.specs.Lists.{bid_numbered, bids_of_quarter, group_at, parent_at, run_at}
+use Rattle.mari_remain.specs.Lists.{bid_numbered, bids_of_quarter, group_at, parent_at, run_numbered}
 use Rattle.mari_units.specs.declared.numbers.TheConstants.{CAP}
 
 -- a bid's gate: its place among the gated bids
@@ -103,7 +103,7 @@ gates_of links gated = map (gate_at links gated) gated
 module _ (books : Books) (taken : Taken) (run : ℕ) where
   -- the numbers of the available bids of the run's quarter, in the order of the bid file
   abbrev pub numbers_left : List ℕ
-  numbers_left = filter (is_available books taken (run_at books run)) (bids_of_quarter books.bids.bids (run_at books run).quarter)
+  numbers_left = filter (is_available books taken (run_numbered books run)) (bids_of_quarter books.bids.bids (run_numbered books run).quarter)
 
   -- and of those with a gate
   abbrev pub gated_left : List ℕ
@@ -120,7 +120,7 @@ module _ (books : Books) (taken : Taken) (run : ℕ) where
     borders = borders_left;
     orders = orders_of books.bids.bids taken.mw numbers_left gated_left (demands_of_run books.demands.demands run);
     gates = gates_of books.links.links gated_left;
-    reference = (run_at books run).reference;
+    reference = (run_numbered books run).reference;
   }
 
   -- with the numbers of its bids, and how many demands there are
@@ -134,7 +134,7 @@ module _ (books : Books) (taken : Taken) (run : ℕ) where
 module _ (books : Books) (blocks : List PastBlock) (run : ℕ) where
   -- what the blocks took, for this run
   abbrev pub taken_before : Taken
-  taken_before = taken_by blocks (run_at books run).quarter
+  taken_before = taken_by blocks (run_numbered books run).quarter
 
   -- the market of the run, counted from 1, behind these blocks
   abbrev pub market_at : Market

@@ -15,7 +15,7 @@ use Rattle.mari_remain.specs.declared.books.Books.{Books}
 use Rattle.mari_remain.specs.Accepted.{IsAccepted}
 use Rattle.mari_remain.specs.Available.{taken_by}
 use Rattle.mari_remain.specs.Blocks.{PastBlock, PastRun, flow_in, flow_of, is_activated, mw_in, mw_of, of_direct_runs, of_quarter}
-use Rattle.mari_remain.specs.FirstBlocks.{AreFirstBlocks, IsNextBlock, Tally, StandsFor, last_quarter, taken_in}
+use Rattle.mari_remain.specs.FirstBlocks.{AreFirstBlocks, IsNextBlock, Tally, StandsFor, last_published_quarter, taken_in}
 use Rattle.mari_remain.specs.Lists.{bid_numbered, run_numbered}
 use Rattle.mari_remain.proofs.History.{IsOwnBlock, bounded, by_blocks, mw-none, own-blocks}
 
@@ -29,10 +29,10 @@ module _ (books : Books) (ok : IsAccepted books) where
 
   -- the quarter of the last published block is the greatest so far, and no later run has a smaller one
   pub record HasLast (blocks : List PastBlock) : Type 0 where
-    pub greatest : All (λ b. is_some b.published ≡ true → b.quarter ≤ unwrap_or (last_quarter blocks) 0) blocks
-    pub later : (r : ℕ) → length blocks < r → r ≤ length books.runs.runs → unwrap_or (last_quarter blocks) 0 ≤ (run_numbered books r).quarter
+    pub greatest : All (λ b. is_some b.published ≡ true → b.quarter ≤ unwrap_or (last_published_quarter blocks) 0) blocks
+    pub later : (r : ℕ) → length blocks < r → r ≤ length books.runs.runs → unwrap_or (last_published_quarter blocks) 0 ≤ (run_numbered books r).quarter
 
-  pub last-more : (before : List PastBlock) (b : PastBlock) → last_quarter (before ++ b ∷ []) ≡ (if is_some b.published then Some b.quarter else last_quarter before)
+  pub last-more : (before : List PastBlock) (b : PastBlock) → last_published_quarter (before ++ b ∷ []) ≡ (if is_some b.published then Some b.quarter else last_published_quarter before)
   last-more before b = fold-append (λ last (b : PastBlock). if is_some b.published then Some b.quarter else last) None before (b ∷ [])
 
   next-last : (before : List PastBlock) (b : PastBlock) → IsNextBlock books before b → HasLast before → HasLast (before ++ b ∷ [])
@@ -40,19 +40,19 @@ module _ (books : Books) (ok : IsAccepted books) where
     where
       by : (t : Bool) → is_some b.published ≡ t → HasLast (before ++ b ∷ [])
       by true e =
-          let last : last_quarter (before ++ b ∷ []) ≡ Some b.quarter = last-more before b ∙ rw e refl in
+          let last : last_published_quarter (before ++ b ∷ []) ≡ Some b.quarter = last-more before b ∙ rw e refl in
           let before_it = so_far.later b.run (omega (arith, next.run)) next.there in
           let own = next.quarter in
           record {
             greatest = rw last (All-push (λ a. is_some a.published ≡ true → a.quarter ≤ b.quarter) before b
-                (All-weaker (λ a. is_some a.published ≡ true → a.quarter ≤ unwrap_or (last_quarter before) 0) (λ a. is_some a.published ≡ true → a.quarter ≤ b.quarter)
+                (All-weaker (λ a. is_some a.published ≡ true → a.quarter ≤ unwrap_or (last_published_quarter before) 0) (λ a. is_some a.published ≡ true → a.quarter ≤ b.quarter)
                 (λ a h there. let most = h there in omega (arith, most, before_it, own)) before so_far.greatest) (λ there. omega arith));
             later = λ r l there. rw last (let rise = quarters-rise b.run r (omega (arith, next.run)) (omega (arith, next.run, l, length-append before (b ∷ []))) there in omega (arith, rise, own));
           }
       by false e =
-          let last : last_quarter (before ++ b ∷ []) ≡ last_quarter before = last-more before b ∙ rw e refl in
+          let last : last_published_quarter (before ++ b ∷ []) ≡ last_published_quarter before = last-more before b ∙ rw e refl in
           record {
-            greatest = rw last (All-push (λ a. is_some a.published ≡ true → a.quarter ≤ unwrap_or (last_quarter before) 0) before b so_far.greatest (λ there. let both : true ≡ false = sym there ∙ e in absurd (cc both)));
+            greatest = rw last (All-push (λ a. is_some a.published ≡ true → a.quarter ≤ unwrap_or (last_published_quarter before) 0) before b so_far.greatest (λ there. let both : true ≡ false = sym there ∙ e in absurd (cc both)));
             later = λ r l there. rw last (so_far.later r (omega (arith, l, length-append before (b ∷ []))) there);
           }
 
@@ -145,11 +145,11 @@ module _ (books : Books) (ok : IsAccepted books) where
             clash : (q : ℕ) → q ≡ quarter → (q == quarter) ≡ false → ⊥
             clash q e f = let both : true ≡ false = sym (eq-eqb q quarter e) ∙ f in cc both
 
-        All-both : (bs : List PastBlock) → All (λ b. is_some b.published ≡ true → b.quarter ≤ unwrap_or (last_quarter blocks) 0) bs → All (IsOwnBlock books ok) bs → unwrap_or (last_quarter blocks) 0 ≤ (run_numbered books r).quarter
-            → option_map_or (λ last. last == quarter) (last_quarter blocks) false ≡ false → All (λ b. (b.quarter == quarter) ≡ true → flow_in k b ≡ pos 0) bs
+        All-both : (bs : List PastBlock) → All (λ b. is_some b.published ≡ true → b.quarter ≤ unwrap_or (last_published_quarter blocks) 0) bs → All (IsOwnBlock books ok) bs → unwrap_or (last_published_quarter blocks) 0 ≤ (run_numbered books r).quarter
+            → option_map_or (λ last. last == quarter) (last_published_quarter blocks) false ≡ false → All (λ b. (b.quarter == quarter) ≡ true → flow_in k b ≡ pos 0) bs
         All-both bs most own later test = λ m d l same.
             let b : PastBlock = get_or bs m d in
-            unpublished b b.published (none b (last_quarter blocks) (most m d l) (own m d l).quarter later test (eqb-true b.quarter quarter same) (is_some b.published) refl)
+            unpublished b b.published (none b (last_published_quarter blocks) (most m d l) (own m d l).quarter later test (eqb-true b.quarter quarter same) (is_some b.published) refl)
 
     -- flows that are kept stay within 99,999 MW
     pub kept-small : All (λ (flow : ℤ). unsigned_abs flow ≤ 99999) kept.flow

@@ -38,8 +38,8 @@ abbrev pub AreFirstBlocks : Books → List PastBlock → Type 0
 AreFirstBlocks books blocks = (k : ℕ) (b : PastBlock) → slice_get blocks k ≡ Some b → IsNextBlock books (take k blocks) b
 
 -- the quarter of the last published block, if there is one
-abbrev pub last_quarter : List PastBlock → Option ℕ
-last_quarter blocks = fold (λ before (b : PastBlock). if is_some b.published then Some b.quarter else before) None blocks
+abbrev pub last_published_quarter : List PastBlock → Option ℕ
+last_published_quarter blocks = fold (λ before (b : PastBlock). if is_some b.published then Some b.quarter else before) None blocks
 
 -- what is kept of the blocks: the MW of each bid, whether a direct run activated it, the quarter of the last published
 -- block, and the sum of each border's flows in that quarter
@@ -59,7 +59,7 @@ pub record StandsFor (books : Books) (blocks : List PastBlock) (kept : Tally) : 
   pub first : AreFirstBlocks books blocks
   pub mw : kept.mw ≡ map (mw_of blocks) (range_with_len 0 (length books.bids.bids))
   pub direct : kept.direct ≡ map (is_activated (of_direct_runs blocks)) (range_with_len 0 (length books.bids.bids))
-  pub quarter : kept.quarter ≡ last_quarter blocks
+  pub quarter : kept.quarter ≡ last_published_quarter blocks
   pub flow : kept.flow ≡ map (flow_of (of_quarter (unwrap_or kept.quarter 0) blocks)) (range_with_len 0 (length books.borders.borders))
   pub of_quarter : kept.of_quarter ≡ map (bids_of_quarter books.bids.bids) (range_with_len 0 (books.quarters + 1))
   pub of_run : kept.of_run ≡ map (numbers_of_run books.demands.demands) (range_with_len 0 (length books.runs.runs + 1))

@@ -19,7 +19,7 @@ use Rattle.mari_market.proofs.Sums.{AllZip-at}
 use Rattle.mari_remain.specs.declared.books.Books.{Books}
 use Rattle.mari_remain.specs.Accepted.{IsAccepted}
 use Rattle.mari_remain.specs.Available.{is_available}
-use Rattle.mari_remain.specs.Blocks.{PastBlock, PastRun, flow_in, flow_of, mw_beside, mw_in, mw_of, of_quarter}
+use Rattle.mari_remain.specs.Blocks.{PastBlock, PastRun, flow_in, flow_of, mw_beside, mw_in_block, mw_of, of_quarter}
 use Rattle.mari_remain.specs.FirstBlocks.{AreFirstBlocks, IsNextBlock, IsPastRun}
 use Rattle.mari_remain.specs.Lists.{bid_numbered, run_numbered}
 use Rattle.mari_remain.specs.RunMarket.{at_least_0, border_left, ends_at, market_at, run_limits, taken_before}
@@ -53,9 +53,9 @@ beside-none i (n ∷ ns) [] h = refl
 beside-none i (n ∷ ns) (q ∷ qs) h = rw (All-head (λ n. (n == i) ≡ false) n ns h, beside-none i ns qs (All-tail (λ n. (n == i) ≡ false) n ns h)) refl
 
 -- a sum of nothing
-pub mw-none : (i : ℕ) (blocks : List PastBlock) → All (λ b. mw_in i b ≡ 0) blocks → mw_of blocks i ≡ 0
+pub mw-none : (i : ℕ) (blocks : List PastBlock) → All (λ b. mw_in_block i b ≡ 0) blocks → mw_of blocks i ≡ 0
 mw-none i [] h = refl
-mw-none i (b ∷ bs) h = sum_by-cons (mw_in i) b bs ∙ rw (All-head (λ b. mw_in i b ≡ 0) b bs h, mw-none i bs (All-tail (λ b. mw_in i b ≡ 0) b bs h)) refl
+mw-none i (b ∷ bs) h = sum_by-cons (mw_in_block i) b bs ∙ rw (All-head (λ b. mw_in_block i b ≡ 0) b bs h, mw-none i bs (All-tail (λ b. mw_in_block i b ≡ 0) b bs h)) refl
 
 pub flow-none : (k : ℕ) (blocks : List PastBlock) → All (λ b. flow_in k b ≡ pos 0) blocks → flow_of blocks k ≡ pos 0
 flow-none k [] h = refl
@@ -65,7 +65,7 @@ module _ (books : Books) (ok : IsAccepted books) where
   -- a block that gives MW to bids of its quarter alone, which is one of the day, and flows to borders that are there
   pub record IsOwnBlock (b : PastBlock) : Type 0 where
     pub quarter : 1 ≤ b.quarter
-    pub bids : (i : ℕ) → ((bid_numbered books.bids.bids i).quarter == b.quarter) ≡ false → mw_in i b ≡ 0
+    pub bids : (i : ℕ) → ((bid_numbered books.bids.bids i).quarter == b.quarter) ≡ false → mw_in_block i b ≡ 0
     pub flows : (k : ℕ) → length books.borders.borders ≤ k → flow_in k b ≡ pos 0
 
   entry : (before : List PastBlock) (b : PastBlock) → IsNextBlock books before b → 1 ≤ (run_numbered books b.run).quarter

@@ -18,7 +18,7 @@ use Rattle.mari_market.specs.declared.market.Market.{Market}
 use Rattle.mari_remain.specs.declared.books.Books.{Books}
 use Rattle.mari_remain.specs.Accepted.{IsAccepted}
 use Rattle.mari_remain.specs.Available.{Taken, is_available, is_left, may_run}
-use Rattle.mari_remain.specs.Blocks.{PastBlock, PastRun, mw_beside, mw_in, mw_of}
+use Rattle.mari_remain.specs.Blocks.{PastBlock, PastRun, mw_beside, mw_in_block, mw_of}
 use Rattle.mari_remain.specs.FirstBlocks.{AreFirstBlocks, IsNextBlock, IsPastRun}
 use Rattle.mari_remain.specs.Lists.{bid_numbered, bids_of_quarter, run_numbered}
 use Rattle.mari_remain.specs.RunMarket.{bid_order, demand_order, demands_of_run, gate_of, gated_left, greatest_of, market_at, numbers_of, taken_before}
@@ -75,7 +75,7 @@ module _ (books : Books) (ok : IsAccepted books) where
           absurd (cc both)
 
   pub within-offer : (before : List PastBlock) (b : PastBlock) → All (IsOwnBlock books ok) before → IsNextBlock books before b → (i : ℕ) → mw_of before i ≤ (bid_numbered books.bids.bids i).greatest
-      → IsWithinOffer before i (mw_in i b)
+      → IsWithinOffer before i (mw_in_block i b)
   within-offer before b are_own next i so_far = published b.published next.published
     where
       own : (past : PastRun) → IsPastRun books before b.run past → (t : Bool) → ((bid_numbered books.bids.bids i).quarter == (run_numbered books b.run).quarter) ≡ t → (u : Bool) → is_available books (taken_before books before b.run) (run_numbered books b.run) i ≡ u
@@ -135,7 +135,7 @@ module _ (books : Books) (ok : IsAccepted books) where
   keeps_more : (before : List PastBlock) (b : PastBlock) → IsNextBlock books before b → KeepsOffers before → KeepsOffers (before ++ b ∷ [])
   keeps_more before b next so_far = record {
     own = All-push (IsOwnBlock books ok) before b so_far.own (own-block books ok before b next);
-    offers = λ i. rw (sum_by_push (mw_in i) before b) (within-offer before b so_far.own next i (so_far.offers i)).left;
+    offers = λ i. rw (sum_by_push (mw_in_block i) before b) (within-offer before b so_far.own next i (so_far.offers i)).left;
   }
 
   keeps : (blocks : List PastBlock) → AreFirstBlocks books blocks → KeepsOffers blocks
@@ -146,5 +146,5 @@ module _ (books : Books) (ok : IsAccepted books) where
   offers blocks first = (keeps blocks first).offers
 
   -- and the next block takes nothing of a gated bid that was activated
-  pub once : (blocks : List PastBlock) (b : PastBlock) → AreFirstBlocks books blocks → IsNextBlock books blocks b → (i : ℕ) → has_gate books.links i ≡ true → (mw_of blocks i ≡ 0) ⊎ (mw_in i b ≡ 0)
+  pub once : (blocks : List PastBlock) (b : PastBlock) → AreFirstBlocks books blocks → IsNextBlock books blocks b → (i : ℕ) → has_gate books.links i ≡ true → (mw_of blocks i ≡ 0) ⊎ (mw_in_block i b ≡ 0)
   once blocks b first next i gated = (within-offer blocks b (keeps blocks first).own next i (offers blocks first i)).once gated

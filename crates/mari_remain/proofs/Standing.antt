@@ -14,7 +14,7 @@ use Rattle.std.proofs.lemmas.List.{length-append}
 use Rattle.mari_remain.specs.declared.books.Books.{Books}
 use Rattle.mari_remain.specs.Accepted.{IsAccepted}
 use Rattle.mari_remain.specs.Available.{taken_by}
-use Rattle.mari_remain.specs.Blocks.{PastBlock, PastRun, flow_in, flow_of, is_activated, mw_in, mw_of, of_direct_runs, of_quarter}
+use Rattle.mari_remain.specs.Blocks.{PastBlock, PastRun, flow_in, flow_of, is_activated, mw_in_block, mw_of, of_direct_runs, of_quarter}
 use Rattle.mari_remain.specs.FirstBlocks.{AreFirstBlocks, IsNextBlock, Tally, StandsFor, last_published_quarter, taken_in}
 use Rattle.mari_remain.specs.Lists.{bid_numbered, run_numbered}
 use Rattle.mari_remain.proofs.History.{IsOwnBlock, bounded, by_blocks, mw-none, own-blocks}
@@ -71,13 +71,13 @@ module _ (books : Books) (ok : IsAccepted books) where
     where
       by : (s : Bool) → (b.quarter == quarter) ≡ s → (t : Bool) → ((bid_numbered books.bids.bids i).quarter == quarter) ≡ t → mw_of (of_quarter quarter bs) i ≡ (if t then mw_of bs i else 0) → IsOwnBlock books ok b
           → mw_of (cond s (b ∷ of_quarter quarter bs) (of_quarter quarter bs)) i ≡ (if t then mw_of (b ∷ bs) i else 0)
-      by true e true f more own = sum_by-cons (mw_in i) b (of_quarter quarter bs) ∙ ap (λ n. mw_in i b + n) more ∙ sym (sum_by-cons (mw_in i) b bs)
+      by true e true f more own = sum_by-cons (mw_in_block i) b (of_quarter quarter bs) ∙ ap (λ n. mw_in_block i b + n) more ∙ sym (sum_by-cons (mw_in_block i) b bs)
       by true e false f more own =
-          let none : mw_in i b ≡ 0 = own.bids i (rw (eqb-true b.quarter quarter e) f) in
-          sum_by-cons (mw_in i) b (of_quarter quarter bs) ∙ omega (arith, none, more)
+          let none : mw_in_block i b ≡ 0 = own.bids i (rw (eqb-true b.quarter quarter e) f) in
+          sum_by-cons (mw_in_block i) b (of_quarter quarter bs) ∙ omega (arith, none, more)
       by false e true f more own =
-          let none : mw_in i b ≡ 0 = own.bids i (differ b.quarter quarter (bid_numbered books.bids.bids i).quarter e f) in
-          more ∙ sym (sum_by-cons (mw_in i) b bs ∙ omega (arith, none))
+          let none : mw_in_block i b ≡ 0 = own.bids i (differ b.quarter quarter (bid_numbered books.bids.bids i).quarter e f) in
+          more ∙ sym (sum_by-cons (mw_in_block i) b bs ∙ omega (arith, none))
         where
           differ : (a q n : ℕ) → (a == q) ≡ false → (n == q) ≡ true → (n == a) ≡ false
           differ a q n e f = grind (arith, nat_tests, e, f)
@@ -85,7 +85,7 @@ module _ (books : Books) (ok : IsAccepted books) where
 
   -- no block gives MW to a bid that isn't there
   mw-past : (i : ℕ) (blocks : List PastBlock) → length books.bids.bids ≤ i → All (IsOwnBlock books ok) blocks → mw_of blocks i ≡ 0
-  mw-past i blocks past own = mw-none i blocks (All-weaker (IsOwnBlock books ok) (λ b. mw_in i b ≡ 0) (λ b h. h.bids i (none b h.quarter)) blocks own)
+  mw-past i blocks past own = mw-none i blocks (All-weaker (IsOwnBlock books ok) (λ b. mw_in_block i b ≡ 0) (λ b h. h.bids i (none b h.quarter)) blocks own)
     where
       none : (b : PastBlock) → 1 ≤ b.quarter → ((bid_numbered books.bids.bids i).quarter == b.quarter) ≡ false
       none b one = rw (get_or_past books.bids.bids i _ past) (zero-not b.quarter one)

@@ -5,7 +5,7 @@ use Rattle.std.specs.Option.{option_map_or}
 use Rattle.mari_market.specs.Optimal.{IsFeasible}
 use Rattle.mari_market.specs.declared.activation.Activation.{Activation}
 use Rattle.mari_remain.specs.declared.books.Books.{Books}
-use Rattle.mari_remain.specs.Blocks.{PastBlock, PastRun, flow_in, flow_of, is_activated, mw_in, mw_of, of_direct_runs, of_quarter}
+use Rattle.mari_remain.specs.Blocks.{PastBlock, PastRun, flow_in, flow_of, is_activated, mw_in_block, mw_of, of_direct_runs, of_quarter}
 use Rattle.mari_remain.specs.Available.{Taken}
 use Rattle.mari_remain.specs.Lists.{bid_numbered, bids_of_quarter, numbers_of_run, run_numbered}
 use Rattle.mari_remain.specs.RunMarket.{market_at, numbers_of}
@@ -77,9 +77,9 @@ taken_in books kept quarter = record {
 -- added to those of its quarter
 pub record IsKeptAfter (b : PastBlock) (kept after : Tally) : Type 0 where
   pub mws : length after.mw ≡ length kept.mw
-  pub mw : (i : ℕ) → get_or after.mw i 0 ≡ get_or kept.mw i 0 + mw_in i b
+  pub mw : (i : ℕ) → get_or after.mw i 0 ≡ get_or kept.mw i 0 + mw_in_block i b
   pub marks : length after.direct ≡ length kept.direct
-  pub direct : (i : ℕ) → get_or after.direct i false ≡ (get_or kept.direct i false || (b.direct && nat_lt 0 (mw_in i b)))
+  pub direct : (i : ℕ) → get_or after.direct i false ≡ (get_or kept.direct i false || (b.direct && nat_lt 0 (mw_in_block i b)))
   pub quarter : after.quarter ≡ Some b.quarter
   pub flows : length after.flow ≡ length kept.flow
   pub flow : (k : ℕ) → get_or after.flow k (pos 0) ≡ (if option_map_or (λ last. last == b.quarter) kept.quarter false then get_or kept.flow k (pos 0) else pos 0) +ℤ flow_in k b

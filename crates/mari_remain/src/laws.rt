@@ -6,7 +6,7 @@ ghost use Rattle.mari_zones.specs.Borders.{borders_in};
 ghost use Rattle.mari_zones.specs.declared.borders.BorderBook.{BorderBook};
 ghost use Rattle.mari_demands.specs.declared.limits.Limits.{Limits};
 ghost use Rattle.mari_remain.specs.Accepted.{IsAccepted};
-ghost use Rattle.mari_remain.specs.Blocks.{PastBlock, mw_in, mw_of};
+ghost use Rattle.mari_remain.specs.Blocks.{PastBlock, mw_in_block, mw_of};
 ghost use Rattle.mari_remain.specs.FirstBlocks.{AreFirstBlocks, IsKeptAfter, IsNextBlock, Tally, StandsFor};
 ghost use Rattle.mari_remain.specs.Lists.{bid_numbered};
 ghost use Rattle.mari_remain.specs.Migrated.{AreRead, borders_page, limits_page, with_limits};
@@ -20,7 +20,7 @@ pub fn offers_are_kept(books: &Books)
     requires { IsAccepted books.now }
     ensures offers { (blocks : List PastBlock) → AreFirstBlocks books.now blocks → (bid : ℕ) → mw_of blocks bid ≤ (bid_numbered books.now.bids.bids bid).greatest }
     ensures once { (blocks : List PastBlock) (next : PastBlock) → AreFirstBlocks books.now blocks → IsNextBlock books.now blocks next
-        → (bid : ℕ) → has_gate books.now.links bid ≡ true → (mw_of blocks bid ≡ 0) ⊎ (mw_in bid next ≡ 0) }
+        → (bid : ℕ) → has_gate books.now.links bid ≡ true → (mw_of blocks bid ≡ 0) ⊎ (mw_in_block bid next ≡ 0) }
 {
     let _books = books;
 }

@@ -25,11 +25,11 @@ activation_of b = record {
 abbrev pub prices_of : FullBlock → List Cents
 prices_of b = map (λ (l : ZoneLine). l.price) b.zones
 
-abbrev pub least_of : FullBlock → List Cents
-least_of b = map (λ (l : ZoneLine). l.least) b.zones
+abbrev pub least_told : FullBlock → List Cents
+least_told b = map (λ (l : ZoneLine). l.least) b.zones
 
-abbrev pub greatest_of : FullBlock → List Cents
-greatest_of b = map (λ (l : ZoneLine). l.greatest) b.zones
+abbrev pub greatest_told : FullBlock → List Cents
+greatest_told b = map (λ (l : ZoneLine). l.greatest) b.zones
 
 abbrev pub areas_of : FullBlock → List ℕ
 areas_of b = map (λ (l : ZoneLine). l.area) b.zones

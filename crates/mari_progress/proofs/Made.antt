@@ -12,7 +12,7 @@ use Rattle.mari_remain.specs.Accepted.{IsAccepted}
 use Rattle.mari_remain.specs.Blocks.{PastBlock}
 use Rattle.mari_remain.specs.FirstBlocks.{AreFirstBlocks}
 use Rattle.mari_remain.specs.Lists.{bid_numbered, run_numbered}
-use Rattle.mari_remain.specs.RunMarket.{bid_order, demand_order, demands_of_run, gate_of, gated_left, greatest_of, market_at, numbers_of, run_market_of, taken_before}
+use Rattle.mari_remain.specs.RunMarket.{bid_order, demand_order, demands_of_run, gate_of, gated_left, greatest_left, market_at, numbers_of, run_market_of, taken_before}
 use Rattle.mari_remain.specs.declared.books.Books.{Books}
 use Rattle.mari_remain.proofs.History.{bounded}
 use Rattle.mari_remain.proofs.Validity.{few, few_numbers, there, valid}
@@ -31,7 +31,7 @@ take-front : {X : Type 0} (xs ys : List X) → take (length xs) (xs ++ ys) ≡ x
 take-front [] ys = refl
 take-front (x ∷ xs) ys = ap (λ zs. x ∷ zs) (take-front xs ys)
 
-most-left : (gate : Option ℕ) (offer taken : ℕ) → greatest_of gate offer taken ≤ offer
+most-left : (gate : Option ℕ) (offer taken : ℕ) → greatest_left gate offer taken ≤ offer
 most-left None offer taken = omega arith
 most-left (Some g) offer taken = omega arith
 

@@ -21,7 +21,7 @@ use Rattle.mari_remain.specs.Available.{Taken, is_available, is_left, may_run}
 use Rattle.mari_remain.specs.Blocks.{PastBlock, PastRun, mw_beside, mw_in_block, mw_of}
 use Rattle.mari_remain.specs.FirstBlocks.{AreFirstBlocks, IsNextBlock, IsPastRun}
 use Rattle.mari_remain.specs.Lists.{bid_numbered, bids_of_quarter, run_numbered}
-use Rattle.mari_remain.specs.RunMarket.{bid_order, demand_order, demands_of_run, gate_of, gated_left, greatest_of, market_at, numbers_of, taken_before}
+use Rattle.mari_remain.specs.RunMarket.{bid_order, demand_order, demands_of_run, gate_of, gated_left, greatest_left, market_at, numbers_of, taken_before}
 use Rattle.mari_remain.proofs.Choosing.{own-chosen}
 use Rattle.mari_remain.proofs.Gates.{gate-at}
 use Rattle.mari_remain.proofs.History.{IsOwnBlock, by_blocks, beside-none, own-block}
@@ -61,11 +61,11 @@ module _ (books : Books) (ok : IsAccepted books) where
 
   -- an order of a bid that is left
   some_more : (before : List PastBlock) (i mw : ℕ) (taken : Taken) (gated : List ℕ) → mw_of before i ≤ (bid_numbered books.bids.bids i).greatest → taken.mw i ≡ mw_of before i → is_left books taken i ≡ true
-      → All (λ k. has_gate books.links k ≡ true) gated → mw ≤ greatest_of (gate_of gated i) (bid_numbered books.bids.bids i).greatest (taken.mw i) → IsWithinOffer before i mw
+      → All (λ k. has_gate books.links k ≡ true) gated → mw ≤ greatest_left (gate_of gated i) (bid_numbered books.bids.bids i).greatest (taken.mw i) → IsWithinOffer before i mw
   some_more before i mw taken gated so_far same left gates most = by (has_gate books.links i) refl left (gate_of gated i) refl most
     where
       by : (t : Bool) → has_gate books.links i ≡ t → (if t then not (nat_lt 0 (taken.mw i)) else nat_lt 0 ((bid_numbered books.bids.bids i).greatest - taken.mw i)) ≡ true
-          → (gate : Option ℕ) → gate_of gated i ≡ gate → mw ≤ greatest_of gate (bid_numbered books.bids.bids i).greatest (taken.mw i) → IsWithinOffer before i mw
+          → (gate : Option ℕ) → gate_of gated i ≡ gate → mw ≤ greatest_left gate (bid_numbered books.bids.bids i).greatest (taken.mw i) → IsWithinOffer before i mw
       by true g left None e most = let none : taken.mw i ≡ 0 = grind (arith, nat_tests, left) in record { left = omega (arith, most, none, same); once = λ f. inl (omega (arith, none, same)) }
       by true g left (Some k) e most = let none : taken.mw i ≡ 0 = grind (arith, nat_tests, left) in record { left = omega (arith, most, none, same); once = λ f. inl (omega (arith, none, same)) }
       by false g left None e most = record { left = omega (arith, most, so_far, same); once = λ f. let both : true ≡ false = sym f ∙ g in absurd (cc both) }

@@ -30,7 +30,7 @@ use Rattle.mari_demands.specs.LimitPairs.{IsLimitTable}
 use Rattle.mari_demands.specs.declared.limits.Limits.{Limits}
 use Rattle.mari_remain.specs.Available.{Taken, is_available}
 use Rattle.mari_remain.specs.Lists.{bid_numbered, bids_of_quarter, parent_at, run_numbered}
-use Rattle.mari_remain.specs.RunMarket.{at_least_0, bid_order, border_left, demand_order, demands_of_run, ends_at, gate_at, gate_of, gated_left, greatest_of, inelastic_price, least_of, market_left, numbers_left, run_limits, stated_limits}
+use Rattle.mari_remain.specs.RunMarket.{at_least_0, bid_order, border_left, demand_order, demands_of_run, ends_at, gate_at, gate_of, gated_left, greatest_left, inelastic_price, least_left, market_left, numbers_left, run_limits, stated_limits}
 use Rattle.mari_remain.proofs.Places.{IsPlace, places-filter, places-within, places-rise, length-places}
 use Rattle.mari_remain.proofs.Gates.{gate-at, gate-is, gate-less}
 
@@ -52,12 +52,12 @@ border zones b limits flow h limit back small = record {
 
 -- its least quantity is at most its greatest, and at least 1 with a gate
 least_fits : (gates : ℕ) (b : Bid) (gate : Option ℕ) (taken : ℕ) → b.least ≤ b.greatest → 1 ≤ b.greatest → ((g : ℕ) → gate ≡ Some g → g < gates)
-    → (least_of gate b.least ≤ greatest_of gate b.greatest taken) × GateFits gates (bid_order b gate taken)
+    → (least_left gate b.least ≤ greatest_left gate b.greatest taken) × GateFits gates (bid_order b gate taken)
 least_fits gates b None taken h one there = (omega arith, refl)
 least_fits gates b (Some g) taken h one there = let in_order : cond (b.least == 0) 1 b.least ≤ b.greatest = grind arith in let some : 1 ≤ cond (b.least == 0) 1 b.least = grind arith in (in_order, (there g refl, some))
 
 -- what is left of an offer is no more than the offer
-most_left : (gate : Option ℕ) (offer taken : ℕ) → greatest_of gate offer taken ≤ offer
+most_left : (gate : Option ℕ) (offer taken : ℕ) → greatest_left gate offer taken ≤ offer
 most_left None offer taken = omega arith
 most_left (Some g) offer taken = omega arith
 

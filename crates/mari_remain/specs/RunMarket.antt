@@ -28,18 +28,18 @@ abbrev pub gate_of : List ℕ → ℕ → Option ℕ
 gate_of gated i = position (λ j. j == i) gated
 
 -- the least quantity of a bid: without a gate it may run anything, and with one at least 1 MW where it runs
-abbrev pub least_of : Option ℕ → ℕ → ℕ
-least_of None least = 0
-least_of (Some gate) least = if least == 0 then 1 else least
+abbrev pub least_left : Option ℕ → ℕ → ℕ
+least_left None least = 0
+least_left (Some gate) least = if least == 0 then 1 else least
 
 -- the greatest quantity: without a gate what earlier blocks left of the offer, and with one the whole offer
-abbrev pub greatest_of : Option ℕ → (offer taken : ℕ) → ℕ
-greatest_of None offer taken = offer - taken
-greatest_of (Some gate) offer taken = offer
+abbrev pub greatest_left : Option ℕ → (offer taken : ℕ) → ℕ
+greatest_left None offer taken = offer - taken
+greatest_left (Some gate) offer taken = offer
 
 -- the order of a bid of which earlier blocks took so much
 abbrev pub bid_order : Bid → Option ℕ → ℕ → Order
-bid_order b gate taken = record { zone = b.zone; side = side_of b.up; price = b.price; least = least_of gate b.least; greatest = greatest_of gate b.greatest taken; gate = gate }
+bid_order b gate taken = record { zone = b.zone; side = side_of b.up; price = b.price; least = least_left gate b.least; greatest = greatest_left gate b.greatest taken; gate = gate }
 
 -- a demand that states no price is met at any: it takes at the cap, or gives at its negative
 abbrev pub inelastic_price : ℤ → Cents

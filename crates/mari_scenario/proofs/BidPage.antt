@@ -15,7 +15,7 @@ use Rattle.mari_rows.proofs.PlaceLemmas.{among-push}
 use Rattle.mari_bids.specs.Bids.{bid_book, bid_columns, bid_grammar, both_word, down_word, id_of, line_checks, quarter_at, scheduled_word as scheduled, up_word}
 use Rattle.mari_bids.specs.declared.bids.BidBook.{BidBook}
 use Rattle.mari_scenario.specs.Draws.{draw, lines}
-use Rattle.mari_scenario.specs.Pages.{bid_line, bid_price, bids_at, direction, greatest, is_both, is_up, kind, least_of, provider, zone}
+use Rattle.mari_scenario.specs.Pages.{bid_least, bid_line, bid_price, bids_at, direction, greatest, is_both, is_up, kind, provider, zone}
 use Rattle.mari_scenario.proofs.Accepting.{Passes, accepted, drawn, none-fails, one-line, rows, rows-length, rows-more}
 use Rattle.mari_scenario.proofs.BidNames.{bid-name, bid-plain, bid_id, ids-differ, provider-name, provider-plain}
 use Rattle.mari_scenario.proofs.DrawBounds.{draw-lt}
@@ -31,7 +31,7 @@ abbrev zone_number : ℕ → ℕ
 zone_number x = draw 1 8 x
 
 abbrev least : (i state : ℕ) → ℕ
-least i x = least_of (i % 40 + 1) (greatest x)
+least i x = bid_least (i % 40 + 1) (greatest x)
 
 abbrev turn : ℕ → ℕ
 turn i = (i % 40 + 1 - 1) % 10 + 1

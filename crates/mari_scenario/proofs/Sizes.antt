@@ -13,7 +13,7 @@ use Rattle.mari_scenario.specs.Accepted.{IsShort}
 use Rattle.mari_scenario.specs.Draws.{Drawn, after, draw, lines}
 use Rattle.mari_demands.specs.Runs.{run_columns, scheduled_word}
 use Rattle.mari_demands.specs.Demands.{demand_columns}
-use Rattle.mari_scenario.specs.Pages.{before_bids, before_demands, before_runs, bid, bid_line, bid_price, bids_at, border_line, borders_at, day_text, demand_line, demand_text, demands_at, direction, from_of, further, greatest, group, is_both, is_up, kind, least_of, link_lines, links_text, provider, row, run_line, runs_at, scenario_at, to_of, zone, zones_text}
+use Rattle.mari_scenario.specs.Pages.{before_bids, before_demands, before_runs, bid, bid_least, bid_line, bid_price, bids_at, border_line, borders_at, day_text, demand_line, demand_text, demands_at, direction, from_of, further, greatest, group, is_both, is_up, kind, link_lines, links_text, provider, row, run_line, runs_at, scenario_at, to_of, zone, zones_text}
 use Rattle.mari_scenario.proofs.BidNames.{length-bid}
 use Rattle.mari_scenario.proofs.BidPage.{greatest-small, least-small, price-small}
 use Rattle.mari_scenario.proofs.DemandPage.{price-small as elastic-small, quantity-small}
@@ -100,7 +100,7 @@ bid-size i x few =
     let t = i / 40 + 1 in
     let j = i % 40 + 1 in
     let small : greatest x < 2 ^ 64 = omega (arith, greatest-small x) in
-    let least = least_of j (greatest x) in
+    let least = bid_least j (greatest x) in
     omega (
       arith,
       length-row (bid t j) (provider ((j - 1) % 10 + 1) ∷ zone (1 + draw 1 8 x) ∷ decimal t ∷ direction (is_up x) ∷ printed_cents (bid_price x) ∷ decimal least ∷ decimal (greatest x) ∷ kind (is_both x) ∷ []),

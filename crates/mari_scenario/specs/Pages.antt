@@ -80,14 +80,14 @@ abbrev pub is_both : ℕ → Bool
 is_both x = draw 5 2 x == 0
 
 -- the least quantity: every fifth bid is indivisible
-abbrev pub least_of : (place greatest : ℕ) → ℕ
-least_of j greatest = if j % 5 == 0 then greatest else 0
+abbrev pub bid_least : (place greatest : ℕ) → ℕ
+bid_least j greatest = if j % 5 == 0 then greatest else 0
 
 -- the bid at a place from 1 of a quarter; ten providers take turns
 abbrev pub bid_text : (quarter place state : ℕ) → List ℕ
 bid_text t j x =
     row (bid t j) (provider ((j - 1) % 10 + 1) ∷ zone (1 + draw 1 8 x) ∷ decimal t ∷ direction (is_up x)
-    ∷ printed_cents (bid_price x) ∷ decimal (least_of j (greatest x)) ∷ decimal (greatest x) ∷ kind (is_both x) ∷ [])
+    ∷ printed_cents (bid_price x) ∷ decimal (bid_least j (greatest x)) ∷ decimal (greatest x) ∷ kind (is_both x) ∷ [])
 
 -- bid number i + 1 of 24 quarters with forty bids each
 abbrev pub bid_line : ℕ → ℕ → Drawn

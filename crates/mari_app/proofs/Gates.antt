@@ -20,7 +20,7 @@ use Rattle.mari_publish.specs.Lines.{unpublished_in}
 use Rattle.mari_remain.specs.declared.books.Books.{Books}
 use Rattle.mari_remain.specs.Available.{is_available}
 use Rattle.mari_remain.specs.Blocks.{PastBlock}
-use Rattle.mari_remain.specs.Lists.{bids_of_quarter, run_at}
+use Rattle.mari_remain.specs.Lists.{bids_of_quarter, run_numbered}
 use Rattle.mari_remain.specs.RunMarket.{gated_left, market_at, taken_before}
 use Rattle.mari_remain.proofs.Places.{places-filter}
 use Rattle.mari_progress.specs.Behind.{before_of, market_behind, run_behind}
@@ -82,7 +82,7 @@ generated-published number nodes books p a h most is = none-out p.blocks out
     gates-few : (blocks : List PastBlock) (run : ℕ) → length (market_at books blocks run).gates ≤ 8
     gates-few blocks run =
         let gated : List ℕ = gated_left books (taken_before books blocks run) run in
-        let gated-few : length gated ≤ 8 = few (is_available books (taken_before books blocks run) (run_at books run)) (run_at books run).quarter in
+        let gated-few : length gated ≤ 8 = few (is_available books (taken_before books blocks run) (run_numbered books run)) (run_numbered books run).quarter in
         simp length-map gated-few
 
     out : (k : ℕ) (heading : Heading) (count : ℕ) → slice_get p.blocks k ≡ Some (block.Unpublished heading count) → ⊥

@@ -5,7 +5,7 @@ use Rattle.std.proofs.lemmas.Bool.Decides.{nat_tests}
 use Rattle.mari_units.specs.Numbers.{natural_of}
 use Rattle.mari_words.specs.Asked.{Asked}
 use Rattle.mari_words.specs.Asked.Asked.{Clear, Check, Generate, Migrate}
-use Rattle.mari_words.specs.Words.{Given, Verb, asked_for, command_at, command_of, folder_in, given_by, number_in, number_or, part_named, verb_named}
+use Rattle.mari_words.specs.Words.{Given, Verb, asked_for, command_at, command_of, folder_in, given_by, natural_in, number_or, part_named, verb_named}
 use Rattle.mari_words.specs.Words.Verb.{Clears, Checks, Generates, Migrates}
 use Rattle.mari_units.specs.declared.limits.TheConstants.{LAST_NUMBER, MOST_NODES, MOST_WORKERS}
 use Rattle.mari_market.specs.Clearing.{IsBudget, IsWorkerCount}
@@ -34,7 +34,7 @@ if-some false n m e = absurd (cc)
 within-tests : (low high n : ℕ) → (nat_le low n && nat_le n high) ≡ true → (low ≤ n) × (n ≤ high)
 within-tests low high n e = grind (arith, nat_tests, e)
 
-number-within : (low high n : ℕ) (text : List ℕ) → number_in low high text ≡ Some n → (low ≤ n) × (n ≤ high)
+number-within : (low high n : ℕ) (text : List ℕ) → natural_in low high text ≡ Some n → (low ≤ n) × (n ≤ high)
 number-within low high n text e =
     let s = step (natural_of text) (λ n. if nat_le low n && nat_le n high then Some n else None) n e in
     let t = if-some (nat_le low s.x && nat_le s.x high) s.x n s.gives in
@@ -63,7 +63,7 @@ asked-within Checks given x e =
     same-within (Check b.x) x b.gives tt
 asked-within Generates given x e =
     let a = step given.first _ x e in
-    let b = step (number_in 0 LAST_NUMBER a.x) _ x a.gives in
+    let b = step (natural_in 0 LAST_NUMBER a.x) _ x a.gives in
     same-within (Generate b.x) x b.gives (number-within 0 LAST_NUMBER b.x a.x b.is).1
 asked-within Migrates given x e =
     let a = step given.first _ x e in

@@ -11,7 +11,7 @@ ghost use Rattle.mari_bids.specs.Bids.{bid_at, bid_checks, bid_columns, bid_gram
 
 use mari_rows::{
     BookFault, BookSoFar, FileCheck, LineFault, NameIndex, Row, cents_of, count_one, is_first_of,
-    is_price, is_whole, number_of, read_book,
+    is_whole, number_of, read_book, writes_price,
 };
 use mari_units::{Cents, Items, MOST_BID_MW, MOST_BIDS, MOST_PAGE, is_name_text};
 use mari_zones::ZoneBook;
@@ -117,7 +117,7 @@ fn has_bad_field(line: &Row) -> bool
         && is_whole(line.field(3))
         && is_whole(line.field(6))
         && is_whole(line.field(7))
-        && is_price(line.field(5))
+        && writes_price(line.field(5))
         && is_up(line).is_some()
         && is_both(line).is_some())
 }

@@ -1,11 +1,8 @@
 -- A date as ten bytes, and its day number.
-use Rattle.std.specs.Prelude.{ℕ, ◌+◌, ◌-◌, ◌*◌, ◌&&◌, List, length, slice_index, Option, Some, None, option_and_then, ◌==◌, nat_le, if◌then◌else◌, ℤ, pos}
+use Rattle.std.specs.Prelude.{ℕ, ◌+◌, ◌-◌, ◌*◌, ◌&&◌, List, length, slice_index, Option, Some, None, ◌==◌, nat_le, if◌then◌else◌, ℤ, pos}
 use Rattle.std.specs.Char.{is_ascii_digit}
+use Rattle.mari_units.specs.Options.{◌>>=◌}
 use Rattle.jiff_core.specs.Calendar.{days_in_month, days_from_civil}
-
-infixl 10 ◌>>=◌
-abbrev ◌>>=◌ : {A B : Type 0} → Option A → (A → Option B) → Option B
-o >>= f = option_and_then f o
 
 -- the number that two digits write
 abbrev pub two_digits : ℕ → ℕ → Option ℕ

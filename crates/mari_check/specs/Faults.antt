@@ -15,7 +15,7 @@ use Rattle.mari_check.specs.declared.fault.Fault.{Fault}
 use Rattle.mari_check.specs.declared.fault.Fault.TheVariants as fault
 use Rattle.mari_progress.specs.Money.{HasLedger}
 use Rattle.mari_check.specs.Shapes.{HasShape}
-use Rattle.mari_progress.specs.Told.{NamesMarket, activation_of, areas_of, greatest_of, heading_of, least_of, prices_of}
+use Rattle.mari_progress.specs.Told.{NamesMarket, activation_of, areas_of, greatest_told, heading_of, least_told, prices_of}
 
 -- the faults in their order, from 1
 abbrev pub fault_number : Fault → ℕ
@@ -34,8 +34,8 @@ fault_number fault.Totals = 12
 
 -- each zone's least and greatest price are the least and the greatest of its consistent prices
 pub record HasIntervals (m : Market) (b : FullBlock) : Type 0 where
-  pub least : AreLeastPrices m (activation_of b) (least_of b)
-  pub greatest : AreGreatestPrices m (activation_of b) (greatest_of b)
+  pub least : AreLeastPrices m (activation_of b) (least_told b)
+  pub greatest : AreGreatestPrices m (activation_of b) (greatest_told b)
 
 -- a tree has the shape, and no more items than the budget, where there is one
 pub record IsShaped (m : Market) (budget : Option ℕ) (items : List TreeItem) : Type 0 where

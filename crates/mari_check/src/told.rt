@@ -4,7 +4,7 @@ ghost use Rattle.std.specs.Prelude.{◌≡◌, IfOk, map};
 ghost use Rattle.mari_lines.specs.declared.line.BidLine.{BidLine as TheBidLine};
 ghost use Rattle.mari_lines.specs.declared.line.BorderLine.{BorderLine as TheBorderLine};
 ghost use Rattle.mari_lines.specs.declared.line.ZoneLine.{ZoneLine as TheZoneLine};
-ghost use Rattle.mari_progress.specs.Told.{activation_of as activation_told, areas_of as areas_told, greatest_of as greatest_told, least_of as least_told, prices_of as prices_told};
+ghost use Rattle.mari_progress.specs.Told.{activation_of as activation_told, areas_of as areas_told, greatest_told, least_told, prices_of as prices_told};
 
 use mari_market::{Activation, Prices};
 use mari_publish::{BidLine, BorderLine, FullBlock, ZoneLine};

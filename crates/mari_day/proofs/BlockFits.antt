@@ -14,7 +14,8 @@ use Rattle.mari_market.proofs.Ties.{tree_holds_plain}
 use Rattle.mari_market.specs.Optimal.{IsFeasible}
 use Rattle.mari_market.specs.declared.clearing.Clearing.{Clearing}
 use Rattle.mari_market.specs.Price.{IsCapped}
-use Rattle.mari_lines.specs.Ranges.{Between, InRange, IsAmountLine, IsMoney, IsMoneyLine, IsName, Listed, Within}
+use Rattle.mari_units.specs.Numbers.{Within}
+use Rattle.mari_lines.specs.Ranges.{Between, InRange, IsAmountLine, IsMoney, IsMoneyLine, IsName, Listed}
 use Rattle.mari_publish.specs.Ranges.{FullFits}
 use Rattle.mari_lines.specs.declared.line.Line.TheVariants as line
 use Rattle.mari_lines.specs.declared.line.BidLine.{BidLine}

@@ -39,7 +39,7 @@ use Rattle.mari_demands.specs.declared.limits.Limits.{Limits as BorderLimits}
 use Rattle.mari_demands.specs.declared.runs.RunCheck.TheVariants as run
 use Rattle.mari_day.specs.CalendarPage.{calendar_day_in, check_of, day_by, day_columns, day_of_read, day_of_rows}
 use Rattle.mari_day.specs.DateChecks.{date_check_number}
-use Rattle.mari_day.specs.Reading.{books_at, limits_at, of_file, ReadsAs}
+use Rattle.mari_day.specs.Reading.{books_at, limits_of_pages, of_file, ReadsAs}
 use Rattle.mari_day.specs.Refusals.{IsByCheck, IsCheckNumber, RefusesByCheck}
 use Rattle.mari_day.specs.Refusals.IsCheckNumber.{OfRows, Own}
 use Rattle.mari_day.specs.declared.calendar_page.DateCheck.TheVariants as date
@@ -264,7 +264,7 @@ of-file file (Ok book) h = tt
 of-file file (Err (refused.At line number)) h = record { file = file; numbered = refl; check = h }
 of-file file (Err refused.Memory) h = absurd h
 
-limits-there : (zones : ZoneBook) (borders : BorderBook) (runs : ℕ) (pages : List (List ℕ)) → IfErr (limits_at zones borders runs pages) IsByCheck
+limits-there : (zones : ZoneBook) (borders : BorderBook) (runs : ℕ) (pages : List (List ℕ)) → IfErr (limits_of_pages zones borders runs pages) IsByCheck
 limits-there zones borders runs pages = by (version_in (page_among pages Borders) == 2)
   where
     limits : Result (List (List BorderLimits)) BookFault
@@ -285,7 +285,7 @@ books-tell pages =
     then-tells IsByCheck (of_file Runs (book_in (run_grammar day.quarters) (page_among pages Runs))) _ (of-file Runs _ (runs-tell day.quarters (page_among pages Runs))) (λ runs.
     then-tells IsByCheck (of_file Demands (book_in (demand_grammar zones (length runs.runs)) (page_among pages Demands))) _
     (of-file Demands _ (demands-tell zones (length runs.runs) (page_among pages Demands))) (λ demands.
-    then-tells IsByCheck (limits_at zones borders (length runs.runs) pages) _ (limits-there zones borders (length runs.runs) pages) (λ limits. tt))))))))
+    then-tells IsByCheck (limits_of_pages zones borders (length runs.runs) pages) _ (limits-there zones borders (length runs.runs) pages) (λ limits. tt))))))))
 
 -- what was read is refused so
 pub refuses-by-check : (pages : List (List ℕ)) (result : Result Books BooksFault) → ReadsAs result (books_at pages) → RefusesByCheck result

@@ -27,7 +27,8 @@ use Rattle.mari_market.specs.Prefix.{bounds_of_word, children}
 use Rattle.mari_market.specs.Price.{IsCapped, ArePrices}
 use Rattle.mari_market.specs.Sums.{int_sum}
 use Rattle.mari_market.specs.Tree.{AreParts, LeafHolds, TreeHolds}
-use Rattle.mari_lines.specs.Ranges.{InRange, IsZone, Listed, Within}
+use Rattle.mari_units.specs.Numbers.{Within}
+use Rattle.mari_lines.specs.Ranges.{InRange, IsZone, Listed}
 use Rattle.mari_publish.specs.Ranges.{ItemFits}
 use Rattle.mari_lines.specs.declared.line.Line.TheVariants as line
 

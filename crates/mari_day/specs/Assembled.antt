@@ -12,14 +12,14 @@ use Rattle.mari_settle.specs.Conditions.{HasSmallNumbers}
 use Rattle.mari_day.specs.declared.block.Priced.{Priced}
 use Rattle.mari_progress.specs.Money.{amount_line, money_lines_of, providers_among}
 use Rattle.mari_progress.specs.Runs.{IsBalancedLedger}
-use Rattle.mari_progress.specs.Told.{NamesLines, areas_of, greatest_of, heading_of, least_of, prices_of, rents_told}
+use Rattle.mari_progress.specs.Told.{NamesLines, areas_of, greatest_told, heading_of, least_told, prices_of, rents_told}
 use Rattle.mari_day.specs.Run.{AreZonePrices}
 
 -- what the lines of zones tell
 pub record HasZoneLines (priced : Priced) (b : FullBlock) : Type 0 where
   pub prices : prices_of b ≡ priced.pricing.published.cents
-  pub least : least_of b ≡ priced.pricing.least.cents
-  pub greatest : greatest_of b ≡ priced.pricing.greatest.cents
+  pub least : least_told b ≡ priced.pricing.least.cents
+  pub greatest : greatest_told b ≡ priced.pricing.greatest.cents
   pub areas : areas_of b ≡ priced.areas.items
 
 -- what the lines of borders tell

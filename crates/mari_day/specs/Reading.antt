@@ -39,8 +39,8 @@ of_file file (Err (refused.At line number)) = Err (file_refusal file line number
 of_file file (Err refused.Memory) = Err (file_refusal file 0 0)
 
 -- the limits that limits.csv states for each run, in the version that has it
-abbrev pub limits_at : ZoneBook → BorderBook → (runs : ℕ) → List (List ℕ) → Result (Option (List (List BorderLimits))) Refusal
-limits_at zones borders runs pages =
+abbrev pub limits_of_pages : ZoneBook → BorderBook → (runs : ℕ) → List (List ℕ) → Result (Option (List (List BorderLimits))) Refusal
+limits_of_pages zones borders runs pages =
     if version_in (page_among pages Borders) == 2
     then (of_file Limits (book_in (limit_grammar zones borders runs) (page_among pages Limits)) >>> λ limits. Ok (Some limits))
     else Ok None
@@ -55,7 +55,7 @@ books_at pages =
     of_file Links (book_in (link_grammar bids) (page_among pages Links)) >>> λ links.
     of_file Runs (book_in (run_grammar day.quarters) (page_among pages Runs)) >>> λ runs.
     of_file Demands (book_in (demand_grammar zones (length runs.runs)) (page_among pages Demands)) >>> λ demands.
-    limits_at zones borders (length runs.runs) pages >>> λ limits.
+    limits_of_pages zones borders (length runs.runs) pages >>> λ limits.
     Ok (record { date = day.date; quarters = day.quarters; zones = zones; borders = borders; bids = bids; links = links; runs = runs; demands = demands; limits = limits })
 
 -- this is what was to be read, or its refusal, unless memory was wanted

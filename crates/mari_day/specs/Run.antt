@@ -8,7 +8,7 @@ use Rattle.mari_market.specs.Area.{AreAreas}
 use Rattle.mari_market.specs.Interval.{AreLeastPrices, AreGreatestPrices, ArePublishedPrices}
 use Rattle.mari_market.specs.Optimal.{IsConsistent}
 use Rattle.mari_publish.specs.declared.publication.FullBlock.{FullBlock}
-use Rattle.mari_progress.specs.Told.{activation_of, areas_of, greatest_of, least_of, prices_of}
+use Rattle.mari_progress.specs.Told.{activation_of, areas_of, greatest_told, least_told, prices_of}
 
 -- the clearing that it tells
 abbrev pub clearing_of : FullBlock → Clearing
@@ -25,4 +25,4 @@ pub record AreZonePrices (m : Market) (a : Activation) (ps lows highs : List Cen
 
 -- so it is told
 abbrev pub HasPrices : Market → FullBlock → Type 0
-HasPrices m b = AreZonePrices m (activation_of b) (prices_of b) (least_of b) (greatest_of b) (areas_of b)
+HasPrices m b = AreZonePrices m (activation_of b) (prices_of b) (least_told b) (greatest_told b) (areas_of b)

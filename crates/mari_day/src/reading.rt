@@ -16,7 +16,7 @@ ghost use Rattle.mari_remain.specs.Accepted.{IsAccepted};
 ghost use Rattle.mari_day.specs.CalendarPage.{calendar_day_in, IsCalendarDay};
 ghost use Rattle.mari_day.specs.Dated.{IsDated};
 ghost use Rattle.mari_day.specs.Files.{page_among, IsFileNumber};
-ghost use Rattle.mari_day.specs.Reading.{books_at, file_refusal, limits_at, of_file, BooksTell, FetchesFiles, IsFetchFault, NamesAFile, ReadsAs};
+ghost use Rattle.mari_day.specs.Reading.{books_at, file_refusal, limits_of_pages, of_file, BooksTell, FetchesFiles, IsFetchFault, NamesAFile, ReadsAs};
 ghost use Rattle.mari_day.specs.Refusals.{RefusesByCheck};
 
 use crate::calendar_page::CalendarDay;
@@ -167,7 +167,7 @@ fn read_limits(
 ) -> Result<Option<LimitBook>, BooksFault>
     requires borders { length borders.now.borders ≤ MOST_BORDERS }
     requires runs { length runs.now.runs ≤ MOST_RUNS }
-    ensures reads { ReadsAs result (limits_at zones.now borders.now (length runs.now.runs) folder.now) }
+    ensures reads { ReadsAs result (limits_of_pages zones.now borders.now (length runs.now.runs) folder.now) }
     ensures file { NamesAFile result }
     ensures count { IfOk result (λ limits. length folder.now ≡ (if is_some limits then 8 else 7)) }
     ensures facts { IfOk result (λ limits. IfSome limits (IsLimitTable (length runs.now.runs) (length borders.now.borders))) }

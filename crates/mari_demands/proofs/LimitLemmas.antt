@@ -24,7 +24,7 @@ use Rattle.mari_zones.specs.declared.borders.BorderEnds.{BorderEnds}
 use Rattle.mari_zones.specs.declared.zones.ZoneBook.{ZoneBook}
 use Rattle.mari_demands.specs.Demands.{run_at}
 use Rattle.mari_demands.specs.LimitPairs.{IsLimitTable, limits_in, limits_there, no_limits, table_of}
-use Rattle.mari_demands.specs.Limits.{border_at, is_of, leads, limit_grammar, limit_table, limits_at, name_checks, place_in, stated}
+use Rattle.mari_demands.specs.Limits.{border_at, is_of, leads, limit_grammar, limit_table, limits_at, name_checks, pair_place, stated}
 use Rattle.mari_demands.specs.declared.limits.Limits.{Limits}
 use Rattle.mari_demands.proofs.LimitTables.{place-within}
 use Rattle.mari_units.proofs.Lists.{same_over}
@@ -90,7 +90,7 @@ module _ (zones : ZoneBook) (borders : BorderBook) (runs : ℕ) where
 
   module _ (rows : List Row) (limits : List (Option Limits)) (line : Row) (keeps : Keeps rows limits) (is : IsNamed line) where
     -- something is kept of the run and border of one more line exactly where an earlier line is of them
-    pub kept-again : is_some (get_or limits (place_in zones borders runs line) None)
+    pub kept-again : is_some (get_or limits (pair_place zones borders runs line) None)
         ≡ list_any (is_of zones borders runs (run_at runs line) (border_at zones borders line)) rows
     kept-again =
         let run = run_at runs line in
@@ -102,12 +102,12 @@ module _ (zones : ZoneBook) (borders : BorderBook) (runs : ℕ) where
         ∙ ap (λ n. list_any (is_of zones borders runs n border) rows) same
 
     module _ (sized : length limits ≡ runs * length borders.borders) where
-      pub place-below : place_in zones borders runs line < length limits
+      pub place-below : pair_place zones borders runs line < length limits
       place-below = rw sized (place-within runs (length borders.borders) (run_at runs line - 1) (border_at zones borders line) (omega (arith, is.first, is.last)) is.border)
 
       -- the limits of one more line are kept at its place
-      pub keeps-more : is_some (get_or limits (place_in zones borders runs line) None) ≡ false
-          → Keeps (rows ++ line ∷ []) (set limits (place_in zones borders runs line) (Some (limits_at line)))
+      pub keeps-more : is_some (get_or limits (pair_place zones borders runs line) None) ≡ false
+          → Keeps (rows ++ line ∷ []) (set limits (pair_place zones borders runs line) (Some (limits_at line)))
       keeps-more new run border r b = by (eqb_tells (run_at runs line) (run + 1)) (eqb_tells (border_at zones borders line) border)
         where
           count : ℕ
@@ -120,29 +120,29 @@ module _ (zones : ZoneBook) (borders : BorderBook) (runs : ℕ) where
           value = Some (limits_at line)
 
           Goal : Type 0
-          Goal = get_or (set limits (place_in zones borders runs line) value) (run * count + border) None ≡ option_map limits_at (find test (rows ++ line ∷ []))
+          Goal = get_or (set limits (pair_place zones borders runs line) value) (run * count + border) None ≡ option_map limits_at (find test (rows ++ line ∷ []))
 
-          here : test line ≡ true → run * count + border ≡ place_in zones borders runs line → Goal
+          here : test line ≡ true → run * count + border ≡ pair_place zones borders runs line → Goal
           here hit same =
               let absent : find test rows ≡ None = kept-none (find test rows)
               (sym (map-some limits_at (find test rows)) ∙ ap is_some (sym (keeps run border r b))
               ∙ ap (λ k. is_some (get_or limits k None)) same ∙ new) in
-              get_or-set_at limits (place_in zones borders runs line) (run * count + border) value None same place-below
+              get_or-set_at limits (pair_place zones borders runs line) (run * count + border) value None same place-below
               ∙ sym (rw (find-append test rows (line ∷ []), absent, hit) refl)
 
-          elsewhere : test line ≡ false → run * count + border ≢ place_in zones borders runs line → Goal
+          elsewhere : test line ≡ false → run * count + border ≢ pair_place zones borders runs line → Goal
           elsewhere miss other =
-              get_or-set_other limits (place_in zones borders runs line) (run * count + border) value None other
+              get_or-set_other limits (pair_place zones borders runs line) (run * count + border) value None other
               ∙ keeps run border r b
               ∙ sym (rw (find-append test rows (line ∷ []), miss, or-none (find test rows)) refl)
 
-          same-run : run * count + border ≡ place_in zones borders runs line → run_at runs line ≡ run + 1
+          same-run : run * count + border ≡ pair_place zones borders runs line → run_at runs line ≡ run + 1
           same-run e =
               let q : run ≡ run_at runs line - 1 =
               sym (div-mul-add run count border b) ∙ ap (λ n. n / count) e ∙ div-mul-add (run_at runs line - 1) count (border_at zones borders line) is.border in
               omega (arith, q, is.first)
 
-          same-border : run * count + border ≡ place_in zones borders runs line → border_at zones borders line ≡ border
+          same-border : run * count + border ≡ pair_place zones borders runs line → border_at zones borders line ≡ border
           same-border e =
               sym (sym (mod-mul-add run count border b) ∙ ap (λ n. n % count) e ∙ mod-mul-add (run_at runs line - 1) count (border_at zones borders line) is.border)
 

@@ -46,8 +46,8 @@ module _ (zones : ZoneBook) (borders : BorderBook) (runs : ℕ) where
   is_of run border row = (run_at runs row == run) && (border_at zones borders row == border)
 
   -- the place of a line's run and border, where the borders of the first run come first, then those of the second
-  abbrev pub place_in : Row → ℕ
-  place_in row = (run_at runs row - 1) * length borders.borders + border_at zones borders row
+  abbrev pub pair_place : Row → ℕ
+  pair_place row = (run_at runs row - 1) * length borders.borders + border_at zones borders row
 
   -- a line is refused for a field that is no number, for an unknown run and for an unknown border
   abbrev pub name_checks : Row → Checks

@@ -7,8 +7,8 @@ ghost use Rattle.mari_demands.specs.Demands.{IsDemandBook, demand_checks, demand
 
 use crate::runs::RunBook;
 use mari_rows::{
-    BookFault, BookSoFar, FileCheck, LineFault, Row, cents_of, count_one, is_price, is_whole,
-    number_of, read_book,
+    BookFault, BookSoFar, FileCheck, LineFault, Row, cents_of, count_one, is_whole, number_of,
+    read_book, writes_price,
 };
 use mari_units::{Cents, Items, MOST_DEMANDS, MOST_MW, MOST_PAGE, MOST_RUNS, read_mw};
 use mari_zones::ZoneBook;
@@ -96,7 +96,7 @@ fn demand_of(zones: &ZoneBook, runs: u32, line: &Row) -> Result<Demand, DemandCh
     let price = line.field(3);
     if !(is_whole(line.field(0))
         && is_whole(line.field(2))
-        && (price.is_empty() || is_price(price)))
+        && (price.is_empty() || writes_price(price)))
     {
         return Err(DemandCheck::BadField);
     }

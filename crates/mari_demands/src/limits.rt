@@ -5,7 +5,7 @@ ghost use Rattle.mari_rows.specs.Books.{book_in, first_failing, GivesBook};
 ghost use Rattle.mari_rows.specs.Checks.{IsRead};
 ghost use Rattle.mari_demands.specs.LimitChecks.{limit_check_name, limit_check_number};
 ghost use Rattle.mari_demands.specs.LimitPairs.{limits_in, IsLimitTable};
-ghost use Rattle.mari_demands.specs.Limits.{border_in, leads, limit_columns, limit_grammar, limits_of as limits_of_line, name_checks, place_in};
+ghost use Rattle.mari_demands.specs.Limits.{border_in, leads, limit_columns, limit_grammar, limits_of as limits_of_line, name_checks, pair_place};
 
 use crate::runs::RunBook;
 use mari_rows::{BookFault, BookSoFar, FileCheck, LineFault, Row, is_whole, number_of, read_book};
@@ -187,7 +187,7 @@ impl<'a> LimitsSoFar<'a> {
         requires borders { length self.now.borders.now.borders ≤ MOST_BORDERS }
         requires runs { self.now.runs ≤ MOST_RUNS }
         ensures { IsRead limit_check_number result (first_failing (name_checks self.now.zones.now self.now.borders.now self.now.runs line.now))
-            (place_in self.now.zones.now self.now.borders.now self.now.runs line.now) }
+            (pair_place self.now.zones.now self.now.borders.now self.now.runs line.now) }
     {
         if !(is_whole(line.field(0)) && is_whole(line.field(3)) && is_whole(line.field(4))) {
             return Err(LimitCheck::BadField);

@@ -8,8 +8,8 @@ ghost use Rattle.mari_demands.specs.RunChecks.{run_check_name, run_check_number}
 ghost use Rattle.mari_demands.specs.Runs.{IsRunBook, comes_too_late as comes_too_late_in, is_direct as is_direct_in, is_number_below, last_quarter, run_checks, run_columns, run_grammar, run_of as run_in};
 
 use mari_rows::{
-    BookFault, BookSoFar, FileCheck, LineFault, Row, cents_of, is_first_of, is_price, is_whole,
-    number_of, read_book,
+    BookFault, BookSoFar, FileCheck, LineFault, Row, cents_of, is_first_of, is_whole, number_of,
+    read_book, writes_price,
 };
 use mari_units::{Cents, Items, MOST_PAGE, MOST_RUNS, NumberFault, read_mw};
 use std::alloc::Global;
@@ -117,7 +117,7 @@ fn run_of(quarters: u32, runs: usize, last: Option<u32>, line: &Row) -> Result<R
     }
     if !(is_whole(line.field(0))
         && is_whole(line.field(1))
-        && is_price(line.field(3))
+        && writes_price(line.field(3))
         && is_direct(line).is_some())
     {
         return Err(RunCheck::BadField);

@@ -1,7 +1,7 @@
 -- The shelf and the sink in memory, as contracts see them.
-use Rattle.std.specs.Prelude.{◌==◌, ◌||◌, ◌&&◌, ℕ, zero, suc, ◌+◌, ◌-◌, ◌++◌, Bool, true, false, nat_eq, nat_lt, min, List, [], ◌∷◌, length, map, take, drop, unwrap_or, Option, Some, None, Result, Ok, Err}
+use Rattle.std.specs.Prelude.{◌==◌, ◌||◌, ℕ, zero, suc, ◌+◌, ◌-◌, ◌++◌, Bool, true, false, min, List, [], ◌∷◌, length, map, take, drop, unwrap_or, Option, Some, None, Result, Ok, Err}
 use Rattle.std.specs.List.{list_any}
-use Rattle.mari_io.specs.Outside.{Pages, page_of, counted, counted_if, is_failed, is_missing, is_too_long, taken_count}
+use Rattle.mari_io.specs.Outside.{Pages, page_of, counted, counted_if, is_failed, is_missing, is_too_long, taken_count, took_none}
 use Rattle.mari_io.specs.declared.page.Page.{Page}
 use Rattle.mari_io.specs.declared.plan.FaultPlan.{FaultPlan}
 use Rattle.mari_io.specs.declared.shelf.TheConstants.{MOST_GIVEN}
@@ -106,7 +106,7 @@ takes s piece = min (length piece) (min s.most (s.room - length s.bytes))
 
 -- whether a write counts as failed: it is planned to fail, or takes nothing of a piece that isn't empty
 abbrev pub counts_as_failed : SinkState → List ℕ → Bool
-counts_as_failed s piece = write_fails s || (nat_eq (takes s piece) 0 && nat_lt 0 (length piece))
+counts_as_failed s piece = write_fails s || took_none (takes s piece) piece
 
 -- the sink after a write
 abbrev pub after_write : {E : Type 0} → SinkState → List ℕ → Result ℕ E → SinkState

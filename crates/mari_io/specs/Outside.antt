@@ -1,5 +1,5 @@
 -- What a shelf gives and what a sink takes, and the counts that show why one of them failed.
-use Rattle.std.specs.Prelude.{ℕ, zero, suc, ◌+◌, ◌-◌, ◌^◌, ◌≤◌, ◌<◌, ◌≡◌, ◌≢◌, ◌↔◌, Bool, true, false, min, List, [], ◌∷◌, ◌++◌, length, take, drop, Option, Some, None, Result, Ok, Err, if◌then◌else◌, IsSomeAnd, IsSome, ⊤}
+use Rattle.std.specs.Prelude.{ℕ, zero, suc, ◌+◌, ◌-◌, ◌^◌, ◌≤◌, ◌<◌, ◌≡◌, ◌≢◌, ◌↔◌, Bool, true, false, ◌&&◌, nat_eq, nat_lt, min, List, [], ◌∷◌, ◌++◌, length, take, drop, Option, Some, None, Result, Ok, Err, if◌then◌else◌, IsSomeAnd, IsSome, ⊤}
 use Rattle.std.specs.Str.{bytes_eq}
 use Rattle.std.specs.Option.{option_map}
 use Rattle.mari_units.specs.declared.limits.TheConstants.{MOST_PAGE}
@@ -101,6 +101,10 @@ IsOverlong (Some left) given = (given ≡ MOST_GIVEN) × (left ≢ [])
 -- what was taken, where it is told
 abbrev pub taken_after : {E : Type 0} → Option (List ℕ) → List ℕ → Result ℕ E → Option (List ℕ)
 taken_after taken piece result = option_map (λ t. t ++ take (taken_count result) piece) taken
+
+-- whether so many taken bytes are none, of a piece that isn't empty
+abbrev pub took_none : ℕ → List ℕ → Bool
+took_none count piece = nat_eq count 0 && nat_lt 0 (length piece)
 
 -- nothing was taken though something was there
 abbrev pub TookNothing : {E : Type 0} → List ℕ → Result ℕ E → Type 0

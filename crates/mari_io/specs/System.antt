@@ -1,7 +1,7 @@
 -- Real files and the real standard output: why the system's errors are told as they are, and what is counted.
-use Rattle.std.specs.Prelude.{ℕ, ◌+◌, ◌&&◌, Bool, true, false, nat_eq, nat_lt, List, length, Result, Ok, Err}
+use Rattle.std.specs.Prelude.{ℕ, ◌+◌, Bool, true, false, List, Result, Ok, Err}
 use Rattle.std.specs.declared.io.ErrorKind.{ErrorKind}
-use Rattle.mari_io.specs.Outside.{counted, counted_if, is_failed, is_missing, is_too_long, taken_count}
+use Rattle.mari_io.specs.Outside.{counted, counted_if, is_failed, is_missing, is_too_long, taken_count, took_none}
 use Rattle.mari_io.specs.declared.shelf.Fetch.{Fetch}
 use Rattle.mari_io.specs.declared.shelf.Fetch.TheVariants.{Failed, Missing, Memory}
 
@@ -55,7 +55,7 @@ pub record PrintCount : Type 0 where
 
 -- whether a write counts as failed: it failed, or took nothing of a piece that isn't empty
 abbrev pub is_print_fault : {E : Type 0} → List ℕ → Result ℕ E → Bool
-is_print_fault piece (Ok n) = nat_eq n 0 && nat_lt 0 (length piece)
+is_print_fault piece (Ok n) = took_none n piece
 is_print_fault piece (Err e) = true
 
 -- the count after a write

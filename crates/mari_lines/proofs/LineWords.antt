@@ -4,7 +4,7 @@ use Rattle.std.specs.Int.RustNames.{unsigned_abs}
 use Rattle.std.specs.List.{slice_split, AllByRecursion, All}
 use Rattle.std.specs.Fmt.{decimal, signed_decimal}
 use Rattle.std.proofs.lemmas.Int.{ints}
-use Rattle.mari_units.specs.Numbers.{printed_cents, printed_euros}
+use Rattle.mari_units.specs.Numbers.{printed_cents, printed_euros, Within}
 use Rattle.mari_market.specs.Price.{IsCapped, IsPrice}
 use Rattle.mari_market.specs.declared.certificate.CutSide.{CutSide}
 use Rattle.mari_market.specs.declared.certificate.CutSide.TheVariants.{Out, In}
@@ -14,7 +14,7 @@ use Rattle.mari_lines.specs.declared.line.Keyword.{Keyword}
 use Rattle.mari_lines.specs.declared.line.Keyword.TheVariants as first
 use Rattle.mari_lines.specs.declared.line.MoneyLine.{MoneyLine}
 use Rattle.mari_lines.specs.declared.line.AmountLine.{AmountLine}
-use Rattle.mari_lines.specs.Ranges.{InRange, Within, IsMoneyLine, IsAmountLine, IsZone}
+use Rattle.mari_lines.specs.Ranges.{InRange, IsMoneyLine, IsAmountLine, IsZone}
 use Rattle.mari_lines.specs.Reading.{Lacks}
 use Rattle.mari_lines.specs.Spelling.{fields, keyword_of, keyword_text, spelling, price_text, money_fields, amount_fields, zone_text, side_text}
 use Rattle.mari_lines.proofs.Numbers.{size_between}

@@ -18,7 +18,8 @@ use Rattle.mari_lines.specs.declared.line.BidLine.{BidLine}
 use Rattle.mari_lines.specs.declared.line.MoneyLine.{MoneyLine}
 use Rattle.mari_lines.specs.declared.line.AmountLine.{AmountLine}
 use Rattle.mari_market.specs.Price.{IsCapped}
-use Rattle.mari_lines.specs.Ranges.{InRange, IsHeading, Within, IsMoney, IsMoneyLine, IsAmountLine, IsZone}
+use Rattle.mari_units.specs.Numbers.{Within}
+use Rattle.mari_lines.specs.Ranges.{InRange, IsHeading, IsMoney, IsMoneyLine, IsAmountLine, IsZone}
 use Rattle.mari_lines.specs.Spelling.{spaced, fields, keyword_of, keyword_text, spelling, price_text, money_text, money_fields, amount_fields, zone_text, side_text, kind_text}
 use Rattle.mari_lines.proofs.Numbers.{same_whole, same_price, same_money}
 use Rattle.mari_lines.proofs.Gathered.{same_list, same_zone, same_number, rising_zones}

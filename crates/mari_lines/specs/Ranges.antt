@@ -1,9 +1,9 @@
 -- The ranges of the numbers in a line.
-use Rattle.std.specs.Prelude.{◌≡◌, ◌≤◌, ◌<◌, ℕ, ◌^◌, ℤ, Bool, true, ◌&&◌, ◌==◌, List, length, take, drop, slice_index, ⊤}
+use Rattle.std.specs.Prelude.{◌≡◌, ◌≤◌, ◌<◌, ℕ, ◌^◌, Bool, true, ◌&&◌, ◌==◌, List, length, take, drop, slice_index, ⊤}
 use Rattle.std.specs.Char.{is_ascii_digit}
-use Rattle.std.specs.Int.RustNames.{unsigned_abs}
 use Rattle.std.specs.List.{All, list_all}
 use Rattle.mari_units.specs.Names.{is_name}
+use Rattle.mari_units.specs.Numbers.{Within}
 use Rattle.mari_units.specs.declared.limits.TheConstants.{MOST_BORDERS, MOST_DEMANDS, MOST_FLOW, MOST_MW, MOST_QUARTERS, MOST_RUNS, MOST_ZONES}
 use Rattle.mari_units.specs.declared.numbers.Quarters.{Quarters}
 use Rattle.mari_market.specs.declared.limits.TheConstants.{MOST_ORDERS}
@@ -20,10 +20,6 @@ use Rattle.mari_lines.specs.declared.line.Line.TheVariants as line
 -- a number from the first to the second
 abbrev pub Between : ℕ → ℕ → ℕ → Type 0
 Between least greatest n = (least ≤ n) × (n ≤ greatest)
-
--- a whole number at most so far from zero
-abbrev pub Within : ℕ → ℤ → Type 0
-Within greatest z = unsigned_abs z ≤ greatest
 
 abbrev pub IsName : List ℕ → Type 0
 IsName text = is_name text ≡ true

@@ -15,7 +15,7 @@ use Rattle.mari_rows.specs.declared.rows.Row.{Row}
 use Rattle.mari_rows.proofs.BookLemmas.{book-page}
 use Rattle.mari_rows.proofs.BookFacts.{all-passed, along-lines, found-below, not-false}
 use Rattle.mari_bids.specs.declared.bids.BidBook.{BidBook}
-use Rattle.mari_links.specs.Links.{has_later_parent, has_wrong_quarter, link_file_checks, names_no_bid, AreLinks, IsLinkBook, IsParent, bid_named, bid_of, count_of, first_of, gated_bids, group_of, groups_of, has_too_many, is_gated, is_same_kind, kind_of, least_of, line_checks, link_book, link_grammar, link_of, links_of, named_by, parent_of, quarter_of, said_by, second_of, Member, Said}
+use Rattle.mari_links.specs.Links.{has_later_parent, has_wrong_quarter, link_file_checks, names_no_bid, AreLinks, IsLinkBook, IsParent, bid_named, bid_of, count_of, first_of, gated_bids, group_of, groups_of, has_too_many, is_gated, is_same_kind, kind_of, least_of_bid, line_checks, link_book, link_grammar, link_of, links_of, named_by, parent_of, quarter_of, said_by, second_of, Member, Said}
 use Rattle.mari_links.specs.SoFar.{entries_of}
 use Rattle.mari_links.specs.declared.links.LinkBook.{LinkBook}
 use Rattle.mari_links.specs.declared.lines.Link.{Link}
@@ -159,7 +159,7 @@ module _ (bids : BidBook) where
 
   module _ (rows : List Row) (are : AreSaid rows) where
     abbrev above-none : ℕ → Bool
-    above-none bid = nat_lt 0 (least_of bids bid)
+    above-none bid = nat_lt 0 (least_of_bid bids bid)
 
     abbrev is-member : ℕ → Bool
     is-member bid = list_any (λ (member : Member). member.bid == bid) (said_by bids rows).members
@@ -203,10 +203,10 @@ module _ (bids : BidBook) where
         All-map (λ other. other < length bids.ids) (λ (link : Link). link.second) (filter test (said_by bids rows).timed)
         (All-filter test (λ (link : Link). link.second < length bids.ids) (said_by bids rows).timed are.timed)
 
-    plain-least : (bid : ℕ) → is_gated bids (said_by bids rows) bid ≡ false → least_of bids bid ≡ 0
+    plain-least : (bid : ℕ) → is_gated bids (said_by bids rows) bid ≡ false → least_of_bid bids bid ≡ 0
     plain-least bid plain =
         let parts = or-parts (above-none bid) (is-member bid) (or-parts (above-none bid || is-member bid) (is-linked bid) plain).0 in
-        let none : least_of bids bid ≤ 0 = grind (arith, nat_tests, parts.0) in
+        let none : least_of_bid bids bid ≤ 0 = grind (arith, nat_tests, parts.0) in
         omega (arith, none)
 
     are-links : (bid : ℕ) → AreLinks bids (link_book bids rows) bid (links_of bids (said_by bids rows) bid)

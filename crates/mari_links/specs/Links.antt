@@ -68,8 +68,8 @@ bid_of bids name = unwrap_or (bid_named bids name) 0
 abbrev pub quarter_of : BidBook → ℕ → ℕ
 quarter_of bids bid = option_map_or (λ (bid : Bid). bid.quarter) (slice_get bids.bids bid) 0
 
-abbrev pub least_of : BidBook → ℕ → ℕ
-least_of bids bid = option_map_or (λ (bid : Bid). bid.least) (slice_get bids.bids bid) 0
+abbrev pub least_of_bid : BidBook → ℕ → ℕ
+least_of_bid bids bid = option_map_or (λ (bid : Bid). bid.least) (slice_get bids.bids bid) 0
 
 -- whether two kinds are the same
 abbrev pub is_same_kind : LinkKind → LinkKind → Bool
@@ -145,7 +145,7 @@ named_by kind timed bid = map (λ (link : Link). link.second) (filter (λ (link 
 -- whether a bid has a gate: its least quantity is above 0, or it is in a group, or it is a child or a parent
 abbrev pub is_gated : BidBook → Said → ℕ → Bool
 is_gated bids said bid =
-    nat_lt 0 (least_of bids bid)
+    nat_lt 0 (least_of_bid bids bid)
     || list_any (λ (member : Member). member.bid == bid) said.members
     || list_any (λ (link : Link). (link.first == bid) || (link.second == bid)) said.children
 
@@ -259,7 +259,7 @@ pub record AreLinks (bids : BidBook) (book : LinkBook) (bid : ℕ) (links : BidL
   pub in_group : (group : ℕ) → links.group ≡ Some group → links.gated ≡ true
   pub is_child : (parent : ℕ) → links.parent ≡ Some parent → links.gated ≡ true
   pub parent : (parent : ℕ) → links.parent ≡ Some parent → IsParent bids book bid parent
-  pub plain : links.gated ≡ false → least_of bids bid ≡ 0
+  pub plain : links.gated ≡ false → least_of_bid bids bid ≡ 0
   pub needs : All (λ other. other < length bids.ids) links.needs
   pub bars : All (λ other. other < length bids.ids) links.bars
   pub technical : All (λ other. other < length bids.ids) links.technical

@@ -4,7 +4,7 @@ use Rattle.std.specs.List.{All, list_any}
 use Rattle.std.proofs.lemmas.List.{length-map}
 use Rattle.std.proofs.lemmas.List.Elements.{All-head, All-tail, All-push, All-nil, All-map}
 use Rattle.mari_bids.specs.declared.bids.Bid.{Bid}
-use Rattle.mari_remain.specs.Lists.{bid_at}
+use Rattle.mari_remain.specs.Lists.{bid_numbered}
 use Rattle.mari_progress.specs.Money.{each_once, providers_among, with_number}
 
 -- what holds of each number holds of each one once
@@ -34,10 +34,10 @@ longer ns (x ∷ xs) = omega (arith, longer (with_number ns x) xs, one-longer ns
 
 -- there are no more providers than bids
 pub few-providers : (bids : List Bid) (numbers : List ℕ) → length (providers_among bids numbers) ≤ length numbers
-few-providers bids numbers = omega (arith, longer [] (map (λ i. (bid_at bids i).provider) numbers), length-map numbers (λ i. (bid_at bids i).provider))
+few-providers bids numbers = omega (arith, longer [] (map (λ i. (bid_numbered bids i).provider) numbers), length-map numbers (λ i. (bid_numbered bids i).provider))
 
 -- each is the provider of a bid
 pub providers-there : (bids : List Bid) (numbers : List ℕ) (n : ℕ) → All (λ (bid : Bid). bid.provider < n) bids → All (λ i. i < length bids) numbers → All (λ place. place < n) (providers_among bids numbers)
 providers-there bids numbers n all there =
-    all-once (λ place. place < n) (map (λ i. (bid_at bids i).provider) numbers)
-    (All-map (λ place. place < n) (λ i. (bid_at bids i).provider) numbers (λ k d below. all _ _ (there k d below)))
+    all-once (λ place. place < n) (map (λ i. (bid_numbered bids i).provider) numbers)
+    (All-map (λ place. place < n) (λ i. (bid_numbered bids i).provider) numbers (λ k d below. all _ _ (there k d below)))

@@ -11,8 +11,8 @@ use Rattle.mari_market.specs.declared.market.Order.{Order}
 use Rattle.mari_remain.specs.Accepted.{IsAccepted}
 use Rattle.mari_remain.specs.Blocks.{PastBlock}
 use Rattle.mari_remain.specs.FirstBlocks.{AreFirstBlocks}
-use Rattle.mari_remain.specs.Lists.{bid_at, run_at}
-use Rattle.mari_remain.specs.RunMarket.{bid_order, demand_order, demands_of_run, gate_of, gated_left, greatest_of, market_at, numbers_of, run_market_of, taken_before}
+use Rattle.mari_remain.specs.Lists.{bid_numbered, run_numbered}
+use Rattle.mari_remain.specs.RunMarket.{bid_order, demand_order, demands_of_run, gate_of, gated_left, greatest_left, market_at, numbers_of, run_market_of, taken_before}
 use Rattle.mari_remain.specs.declared.books.Books.{Books}
 use Rattle.mari_remain.proofs.History.{bounded}
 use Rattle.mari_remain.proofs.Validity.{few, few_numbers, there, valid}
@@ -31,19 +31,19 @@ take-front : {X : Type 0} (xs ys : List X) → take (length xs) (xs ++ ys) ≡ x
 take-front [] ys = refl
 take-front (x ∷ xs) ys = ap (λ zs. x ∷ zs) (take-front xs ys)
 
-most-left : (gate : Option ℕ) (offer taken : ℕ) → greatest_of gate offer taken ≤ offer
+most-left : (gate : Option ℕ) (offer taken : ℕ) → greatest_left gate offer taken ≤ offer
 most-left None offer taken = omega arith
 most-left (Some g) offer taken = omega arith
 
 module _ (books : Books) (ok : IsAccepted books) (past : List PastBlock) (first : AreFirstBlocks books past) (run : ℕ) where
   small-flows : (k : ℕ) → unsigned_abs ((taken_before books past run).flow k) ≤ 99999
-  small-flows k = bounded books ok past first (run_at books run).quarter k
+  small-flows k = bounded books ok past first (run_numbered books run).quarter k
 
   numbers-there : All (λ i. i < length books.bids.bids) (numbers_of books past run)
   numbers-there = there books (taken_before books past run) run ok small-flows
 
   abbrev order-of : ℕ → Order
-  order-of i = bid_order (bid_at books.bids.bids i) (gate_of (gated_left books (taken_before books past run) run) i) ((taken_before books past run).mw i)
+  order-of i = bid_order (bid_numbered books.bids.bids i) (gate_of (gated_left books (taken_before books past run) run) i) ((taken_before books past run).mw i)
 
   front : take (length (numbers_of books past run)) (market_at books past run).orders ≡ map order-of (numbers_of books past run)
   front =
@@ -61,7 +61,7 @@ module _ (books : Books) (ok : IsAccepted books) (past : List PastBlock) (first 
       rw front (All-map (λ (o : Order). o.greatest ≤ 9999) order-of (numbers_of books past run)
       (λ k d l. let i = get_or (numbers_of books past run) k d in
       let own = (ok.bids.bids i no_bid (numbers-there k d l)).most in
-      omega (arith, own, most-left (gate_of (gated_left books (taken_before books past run) run) i) (bid_at books.bids.bids i).greatest ((taken_before books past run).mw i))))
+      omega (arith, own, most-left (gate_of (gated_left books (taken_before books past run) run) i) (bid_numbered books.bids.bids i).greatest ((taken_before books past run).mw i))))
 
   pub market-of : 1 ≤ run → run ≤ length books.runs.runs → IsMarketOf books (run_market_of books past run)
   market-of one last = record {

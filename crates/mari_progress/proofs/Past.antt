@@ -14,7 +14,7 @@ use Rattle.mari_remain.specs.declared.books.Books.{Books}
 use Rattle.mari_remain.specs.Accepted.{IsAccepted}
 use Rattle.mari_remain.specs.Blocks.{PastBlock, PastRun}
 use Rattle.mari_remain.specs.FirstBlocks.{AreFirstBlocks, IsNextBlock, IsPastRun, block_of}
-use Rattle.mari_remain.specs.Lists.{run_at}
+use Rattle.mari_remain.specs.Lists.{run_numbered}
 use Rattle.mari_progress.specs.Behind.{before_of, market_behind, past_of, run_behind}
 use Rattle.mari_progress.specs.Runs.{IsSoundBlock, IsSoundRun}
 use Rattle.mari_progress.specs.Told.{activation_of, heading_of}
@@ -54,8 +54,8 @@ module _ (books : Books) (ok : IsAccepted books) (blocks : List Block) (first : 
   next-block (block.Published b) is =
       let past : PastRun = record { bids = map (λ (l : BidLine). place_in books.bids.ids l.id) b.bids; activation = activation_of b } in
       let R : Heading → Type 0 = λ h. h.run ≤ length books.runs.runs in
-      let Q : Heading → Type 0 = λ h. h.quarter ≡ (run_at books h.run).quarter in
-      let D : Heading → Type 0 = λ h. h.direct ≡ (run_at books h.run).direct in
+      let Q : Heading → Type 0 = λ h. h.quarter ≡ (run_numbered books h.run).quarter in
+      let D : Heading → Type 0 = λ h. h.direct ≡ (run_numbered books h.run).direct in
       let P : Heading → Type 0 = λ h. IsPastRun books (before_of books blocks) h.run past in
       record {
         run = ap (λ (h : Heading). h.run) is.heading ∙ ap (λ n. n + 1) (sym many);
@@ -66,8 +66,8 @@ module _ (books : Books) (ok : IsAccepted books) (blocks : List Block) (first : 
       }
   next-block (block.Unpublished heading count) is =
       let R : Heading → Type 0 = λ h. h.run ≤ length books.runs.runs in
-      let Q : Heading → Type 0 = λ h. h.quarter ≡ (run_at books h.run).quarter in
-      let D : Heading → Type 0 = λ h. h.direct ≡ (run_at books h.run).direct in
+      let Q : Heading → Type 0 = λ h. h.quarter ≡ (run_numbered books h.run).quarter in
+      let D : Heading → Type 0 = λ h. h.direct ≡ (run_numbered books h.run).direct in
       record {
         run = ap (λ (h : Heading). h.run) is ∙ ap (λ n. n + 1) (sym many);
         there = subst R (sym is) last;

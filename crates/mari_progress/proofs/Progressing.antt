@@ -16,7 +16,7 @@ use Rattle.mari_remain.specs.declared.market.RunMarket.{RunMarket}
 use Rattle.mari_remain.specs.Accepted.{IsAccepted}
 use Rattle.mari_remain.specs.Blocks.{PastBlock}
 use Rattle.mari_remain.specs.FirstBlocks.{StandsFor, block_of}
-use Rattle.mari_remain.specs.Lists.{run_at}
+use Rattle.mari_remain.specs.Lists.{run_numbered}
 use Rattle.mari_remain.specs.RunMarket.{run_market_of}
 use Rattle.mari_remain.proofs.After.{nothing-more}
 use Rattle.mari_settle.specs.Conditions.{LedgersAddUp}
@@ -98,18 +98,18 @@ module _ (books : Books) (ok : IsAccepted books) (blocks : List Block) (kept : P
       abbrev kept-behind : Run → Option Scheduled
       kept-behind entry = if entry.direct then kept.scheduled else Some (record { quarter = entry.quarter; prices = settled.prices })
 
-      keeps : (new : Option Scheduled) (direct : Bool) → (run_at books (run_behind blocks)).direct ≡ direct
-          → new ≡ (if direct then kept.scheduled else Some (record { quarter = (run_at books (run_behind blocks)).quarter; prices = settled.prices })) → KeepsPrices books (blocks ++ block.Published b ∷ []) new
+      keeps : (new : Option Scheduled) (direct : Bool) → (run_numbered books (run_behind blocks)).direct ≡ direct
+          → new ≡ (if direct then kept.scheduled else Some (record { quarter = (run_numbered books (run_behind blocks)).quarter; prices = settled.prices })) → KeepsPrices books (blocks ++ block.Published b ∷ []) new
       keeps new true e f = subst (KeepsPrices books (blocks ++ block.Published b ∷ [])) (sym f) (keeps-direct books ok blocks kept.scheduled progress.scheduled b last is.sound.heading e)
       keeps new false e f =
-          let own : Scheduled = record { quarter = (run_at books (run_behind blocks)).quarter; prices = settled.prices } in
+          let own : Scheduled = record { quarter = (run_numbered books (run_behind blocks)).quarter; prices = settled.prices } in
           let consistent = is.sound.consistent in
           subst (KeepsPrices books (blocks ++ block.Published b ∷ [])) (sym f) (keeps-scheduled books ok blocks kept.scheduled progress.scheduled b last is.sound.heading e own refl is.adds.prices consistent.prices.one_each consistent.prices.capped)
 
       -- the block of a run, which is added to all that is kept
       pub published-added : (run : ℕ) → run ≡ run_behind blocks → (after : Progress) → StandsFor books (before_of books blocks ++ block_of books run settled.made.bids settled.activation ∷ []) after.remaining
           → after.totals.operators ≡ map_along lines_together kept.totals.operators settled.ledger.operators → after.totals.providers ≡ map_along together kept.totals.providers settled.ledger.providers
-          → after.totals.rents ≡ map_along together kept.totals.rents settled.ledger.rents → after.scheduled ≡ kept-behind (run_at books run) → after.published ≡ kept.published + 1
+          → after.totals.rents ≡ map_along together kept.totals.rents settled.ledger.rents → after.scheduled ≡ kept-behind (run_numbered books run) → after.published ≡ kept.published + 1
           → IsProgress books (blocks ++ block.Published b ∷ []) after
       published-added run own after stands operators providers rents scheduled count =
           let p : Block = block.Published b in
@@ -124,6 +124,6 @@ module _ (books : Books) (ok : IsAccepted books) (blocks : List Block) (kept : P
                 let P : List PastBlock → Type 0 = λ past. StandsFor books past after.remaining in
                 subst P (sym (map-append (past_of books) blocks (p ∷ []) ∙ ap (λ x. before_of books blocks ++ x ∷ []) past)) stands;
             totals = totals-more books blocks kept.totals progress.totals b settled is.adds after.totals operators providers rents;
-            scheduled = keeps after.scheduled (run_at books (run_behind blocks)).direct refl (scheduled ∙ ap (λ r. kept-behind (run_at books r)) own);
+            scheduled = keeps after.scheduled (run_numbered books (run_behind blocks)).direct refl (scheduled ∙ ap (λ r. kept-behind (run_numbered books r)) own);
             published = count ∙ ap (λ n. n + 1) progress.published ∙ sym (published-more blocks b);
           }

@@ -12,7 +12,7 @@ use Rattle.mari_publish.specs.declared.publication.FullBlock.{FullBlock}
 use Rattle.mari_lines.specs.declared.line.Heading.{Heading}
 use Rattle.mari_remain.specs.declared.books.Books.{Books}
 use Rattle.mari_remain.specs.Accepted.{IsAccepted}
-use Rattle.mari_remain.specs.Lists.{run_at}
+use Rattle.mari_remain.specs.Lists.{run_numbered}
 use Rattle.mari_remain.proofs.Standing.{quarters-rise}
 use Rattle.mari_market.specs.Price.{IsCapped}
 use Rattle.std.specs.Option.{option_map}
@@ -50,7 +50,7 @@ module _ (books : Books) (ok : IsAccepted books) (blocks : List Block) (kept : O
   -- a block that isn't published, and that of a direct run, change nothing
   pub keeps-same : (b : Block) → ((quarter : ℕ) → scheduled_in quarter (scheduled_prices quarter blocks) b ≡ scheduled_prices quarter blocks) → KeepsPrices books (blocks ++ b ∷ []) kept
   keeps-same b nothing = record {
-    same = λ r l there. prices-more (run_at books r).quarter blocks b ∙ nothing (run_at books r).quarter ∙ keeps.same r (later b r l) there;
+    same = λ r l there. prices-more (run_numbered books r).quarter blocks b ∙ nothing (run_numbered books r).quarter ∙ keeps.same r (later b r l) there;
     priced = still b kept keeps.priced;
   }
 
@@ -65,27 +65,27 @@ module _ (books : Books) (ok : IsAccepted books) (blocks : List Block) (kept : O
       differ : (a b : ℕ) → a < b → (a == b) ≡ false
       differ a b l = grind (arith, nat_tests, l)
 
-  earlier-of : (r : ℕ) → length blocks < r → r ≤ length books.runs.runs → (s : Option Scheduled) → IfSome s (IsScheduled books blocks) → (t : Scheduled) → s ≡ Some t → t.quarter ≤ (run_at books r).quarter
+  earlier-of : (r : ℕ) → length blocks < r → r ≤ length books.runs.runs → (s : Option Scheduled) → IfSome s (IsScheduled books blocks) → (t : Scheduled) → s ≡ Some t → t.quarter ≤ (run_numbered books r).quarter
   earlier-of r l there None h t e = cc e
   earlier-of r l there (Some s) h t e = let same : s ≡ t = cc e in rw (sym same) (h.earlier r l there)
 
   module _ (b : FullBlock) (last : run_behind blocks ≤ length books.runs.runs) (heading : b.heading ≡ heading_of books (run_behind blocks)) where
     -- the published block of a direct run
-    pub keeps-direct : (run_at books (run_behind blocks)).direct ≡ true → KeepsPrices books (blocks ++ block.Published b ∷ []) kept
+    pub keeps-direct : (run_numbered books (run_behind blocks)).direct ≡ true → KeepsPrices books (blocks ++ block.Published b ∷ []) kept
     keeps-direct direct = keeps-same (block.Published b) (λ quarter. skip b.heading.direct (b.heading.quarter == quarter) (Some (prices_of b)) (scheduled_prices quarter blocks) (ap (λ (h : Heading). h.direct) heading ∙ direct))
 
     -- that of a scheduled run
-    pub keeps-scheduled : (run_at books (run_behind blocks)).direct ≡ false → (new : Scheduled) → new.quarter ≡ (run_at books (run_behind blocks)).quarter → new.prices.cents ≡ prices_of b
+    pub keeps-scheduled : (run_numbered books (run_behind blocks)).direct ≡ false → (new : Scheduled) → new.quarter ≡ (run_numbered books (run_behind blocks)).quarter → new.prices.cents ≡ prices_of b
         → length (prices_of b) ≡ length books.zones.zones → All IsCapped (prices_of b) → KeepsPrices books (blocks ++ block.Published b ∷ []) (Some new)
     keeps-scheduled direct new quarter prices many capped = record {
       same = λ r l there.
-          let own = (run_at books (run_behind blocks)).quarter in
+          let own = (run_numbered books (run_behind blocks)).quarter in
           let before = later (block.Published b) r l in
           let rises = quarters-rise books ok (run_behind blocks) r (omega arith) (omega (arith, l, length-append blocks (block.Published b ∷ []))) there in
-          prices-more (run_at books r).quarter blocks (block.Published b)
-          ∙ pick b.heading.direct b.heading.quarter own new.quarter (run_at books r).quarter (prices_of b) new.prices.cents (scheduled_prices (run_at books r).quarter blocks)
+          prices-more (run_numbered books r).quarter blocks (block.Published b)
+          ∙ pick b.heading.direct b.heading.quarter own new.quarter (run_numbered books r).quarter (prices_of b) new.prices.cents (scheduled_prices (run_numbered books r).quarter blocks)
           (ap (λ (h : Heading). h.direct) heading ∙ direct) (ap (λ (h : Heading). h.quarter) heading) quarter prices rises
-          (λ less. keeps.same r before there ∙ past-quarter own (run_at books r).quarter kept (earlier-of (run_behind blocks) (omega arith) last kept keeps.priced) less);
+          (λ less. keeps.same r before there ∙ past-quarter own (run_numbered books r).quarter kept (earlier-of (run_behind blocks) (omega arith) last kept keeps.priced) less);
       priced = record {
         one_each = ap length prices ∙ many;
         capped = subst (All IsCapped) (sym prices) capped;
@@ -97,12 +97,12 @@ module _ (books : Books) (ok : IsAccepted books) (blocks : List Block) (kept : O
 
 -- the scheduled prices that the run behind these blocks is given are its own
 pub also-is : (books : Books) (blocks : List Block) (kept : Option Scheduled) → KeepsPrices books blocks kept → (run : ℕ) → run ≡ run_behind blocks → run ≤ length books.runs.runs
-    → (if (run_at books run).direct then kept_for (run_at books run).quarter kept else None) ≡ also_behind books blocks
+    → (if (run_numbered books run).direct then kept_for (run_numbered books run).quarter kept else None) ≡ also_behind books blocks
 also-is books blocks kept keeps run is last =
-    let P : ℕ → Type 0 = λ r. (if (run_at books run).direct then kept_for (run_at books run).quarter kept else None) ≡ (if (run_at books r).direct then scheduled_prices (run_at books r).quarter blocks else None) in
-    subst P is (by (run_at books run).direct)
+    let P : ℕ → Type 0 = λ r. (if (run_numbered books run).direct then kept_for (run_numbered books run).quarter kept else None) ≡ (if (run_numbered books r).direct then scheduled_prices (run_numbered books r).quarter blocks else None) in
+    subst P is (by (run_numbered books run).direct)
   where
-    by : (t : Bool) → (if t then kept_for (run_at books run).quarter kept else None) ≡ (if t then scheduled_prices (run_at books run).quarter blocks else None)
+    by : (t : Bool) → (if t then kept_for (run_numbered books run).quarter kept else None) ≡ (if t then scheduled_prices (run_numbered books run).quarter blocks else None)
     by true = sym (keeps.same run (omega (arith, is)) last)
     by false = refl
 

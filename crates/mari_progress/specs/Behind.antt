@@ -8,7 +8,7 @@ use Rattle.mari_publish.specs.declared.publication.Block.TheVariants as block
 use Rattle.mari_remain.specs.declared.books.Books.{Books}
 use Rattle.mari_remain.specs.declared.market.RunMarket.{RunMarket}
 use Rattle.mari_remain.specs.Blocks.{PastBlock}
-use Rattle.mari_remain.specs.Lists.{run_at}
+use Rattle.mari_remain.specs.Lists.{run_numbered}
 use Rattle.mari_remain.specs.RunMarket.{run_market_of}
 use Rattle.mari_progress.specs.Told.{activation_of, prices_of}
 
@@ -45,4 +45,4 @@ scheduled_prices quarter blocks = fold (scheduled_in quarter) None blocks
 -- the scheduled prices of the run behind these blocks: a direct run has those of its quarter, a scheduled run has none
 abbrev pub also_behind : Books → List Block → Option (List Cents)
 also_behind books blocks =
-    if (run_at books (run_behind blocks)).direct then scheduled_prices (run_at books (run_behind blocks)).quarter blocks else None
+    if (run_numbered books (run_behind blocks)).direct then scheduled_prices (run_numbered books (run_behind blocks)).quarter blocks else None

@@ -8,8 +8,8 @@ use Rattle.mari_lines.specs.declared.line.MoneyLine.{MoneyLine}
 use Rattle.mari_market.specs.Sums.{int_sum}
 use Rattle.mari_publish.specs.declared.publication.Block.{Block}
 use Rattle.mari_publish.specs.declared.publication.FullBlock.{FullBlock}
-use Rattle.mari_remain.specs.Blocks.{mw_in, mw_of}
-use Rattle.mari_remain.specs.Lists.{bid_at}
+use Rattle.mari_remain.specs.Blocks.{mw_in_block, mw_of}
+use Rattle.mari_remain.specs.Lists.{bid_numbered}
 use Rattle.mari_remain.specs.declared.books.Books.{Books}
 use Rattle.mari_progress.specs.Behind.{before_of, past_of}
 use Rattle.mari_progress.specs.Told.{rents_told}
@@ -17,8 +17,8 @@ use Rattle.mari_progress.specs.Told.{rents_told}
 -- over these blocks each bid runs at most the greatest quantity of its offer, and a bid with a gate runs in at most one
 -- block: where it ran before a block, it doesn't run in it
 pub record KeepsOffers (books : Books) (blocks : List Block) : Type 0 where
-  pub offers : (bid : ℕ) → mw_of (before_of books blocks) bid ≤ (bid_at books.bids.bids bid).greatest
-  pub once : (k : ℕ) (b : Block) → slice_get blocks k ≡ Some b → (bid : ℕ) → has_gate books.links bid ≡ true → (mw_of (before_of books (take k blocks)) bid ≡ 0) ⊎ (mw_in bid (past_of books b) ≡ 0)
+  pub offers : (bid : ℕ) → mw_of (before_of books blocks) bid ≤ (bid_numbered books.bids.bids bid).greatest
+  pub once : (k : ℕ) (b : Block) → slice_get blocks k ≡ Some b → (bid : ℕ) → has_gate books.links bid ≡ true → (mw_of (before_of books (take k blocks)) bid ≡ 0) ⊎ (mw_in_block bid (past_of books b) ≡ 0)
 
 -- the sum of the operators' nets
 abbrev pub net_sum : List MoneyLine → ℤ

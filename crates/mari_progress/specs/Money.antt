@@ -1,20 +1,19 @@
 -- The money of a block: its lines of operators and providers, and its ledger.
-use Rattle.std.specs.Prelude.{◌≡◌, ℕ, ◌==◌, List, [], ◌∷◌, ◌++◌, Option, fold, map, slice_index_or, if◌then◌else◌}
-use Rattle.std.specs.List.{list_any}
+use Rattle.std.specs.Prelude.{◌≡◌, ℕ, ◌==◌, List, Option, map, slice_index_or}
 use Rattle.mari_units.specs.declared.numbers.Cents.{Cents}
 use Rattle.mari_units.specs.declared.numbers.Quarters.{Quarters}
 use Rattle.mari_bids.specs.declared.bids.Bid.{Bid}
 use Rattle.mari_lines.specs.declared.line.AmountLine.{AmountLine}
 use Rattle.mari_publish.specs.declared.publication.FullBlock.{FullBlock}
 use Rattle.mari_lines.specs.declared.line.MoneyLine.{MoneyLine}
-use Rattle.mari_remain.specs.Lists.{bid_at}
+use Rattle.mari_remain.specs.Lists.{bid_numbered}
 use Rattle.mari_remain.specs.declared.books.Books.{Books}
 use Rattle.mari_remain.specs.declared.market.RunMarket.{RunMarket}
 use Rattle.mari_settle.specs.declared.ledger.OperatorLine.{OperatorLine}
 use Rattle.mari_settle.specs.Ledger.{net_of, operator_lines, provider_amounts, rents_of, scheduled_or}
 use Rattle.mari_settle.specs.Lines.{map_along, nothing}
 use Rattle.mari_progress.specs.Told.{activation_of, prices_of, rents_told}
-use Rattle.mari_rows.specs.Names.{name_at}
+use Rattle.mari_rows.specs.Names.{listed_once, listed_with, name_at}
 
 -- an operator's line: its name, its payment, its rent, and the payment less the rent
 abbrev pub money_line : List ℕ → OperatorLine → MoneyLine
@@ -29,14 +28,14 @@ amount_line names amounts place = record { name = name_at names place; amount = 
 
 -- numbers in order of first appearance, each once
 abbrev pub with_number : List ℕ → ℕ → List ℕ
-with_number numbers n = if list_any (λ m. m == n) numbers then numbers else numbers ++ n ∷ []
+with_number = listed_with (λ n m. m == n)
 
 abbrev pub each_once : List ℕ → List ℕ
-each_once numbers = fold with_number [] numbers
+each_once numbers = listed_once (λ n m. m == n) numbers
 
 -- the providers of these bids, by the first bid of each
 abbrev pub providers_among : List Bid → List ℕ → List ℕ
-providers_among bids numbers = each_once (map (λ i. (bid_at bids i).provider) numbers)
+providers_among bids numbers = each_once (map (λ i. (bid_numbered bids i).provider) numbers)
 
 -- what each provider gets in the run, whose quarter has these scheduled prices, or none
 abbrev pub amounts_of : Books → RunMarket → (also : Option (List Cents)) → FullBlock → List Quarters

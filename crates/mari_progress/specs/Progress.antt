@@ -10,7 +10,7 @@ use Rattle.mari_publish.specs.declared.publication.FullBlock.{FullBlock}
 use Rattle.mari_publish.specs.Lines.{published_in}
 use Rattle.mari_remain.specs.declared.books.Books.{Books}
 use Rattle.mari_remain.specs.FirstBlocks.{StandsFor}
-use Rattle.mari_remain.specs.Lists.{run_at}
+use Rattle.mari_remain.specs.Lists.{run_numbered}
 use Rattle.mari_settle.specs.Conditions.{MoneyIsWithin, LineIsWithin, most_of_operator, most_of_provider, most_of_run}
 use Rattle.mari_settle.specs.Ledger.{net_of}
 use Rattle.mari_settle.specs.declared.ledger.Ledger.{Ledger}
@@ -44,11 +44,11 @@ kept_for quarter (Some kept) = if kept.quarter == quarter then Some kept.prices.
 pub record IsScheduled (books : Books) (blocks : List Block) (kept : Scheduled) : Type 0 where
   pub one_each : length kept.prices.cents ≡ length books.zones.zones
   pub capped : All IsCapped kept.prices.cents
-  pub earlier : (r : ℕ) → length blocks < r → r ≤ length books.runs.runs → kept.quarter ≤ (run_at books r).quarter
+  pub earlier : (r : ℕ) → length blocks < r → r ≤ length books.runs.runs → kept.quarter ≤ (run_numbered books r).quarter
 
 -- the prices that are kept are those of the scheduled block of the quarter of each run to come
 pub record KeepsPrices (books : Books) (blocks : List Block) (kept : Option Scheduled) : Type 0 where
-  pub same : (r : ℕ) → length blocks < r → r ≤ length books.runs.runs → scheduled_prices (run_at books r).quarter blocks ≡ kept_for (run_at books r).quarter kept
+  pub same : (r : ℕ) → length blocks < r → r ≤ length books.runs.runs → scheduled_prices (run_numbered books r).quarter blocks ≡ kept_for (run_numbered books r).quarter kept
   pub priced : IfSome kept (IsScheduled books blocks)
 
 -- what is kept stands for blocks of the first runs: what they left, the sums of their ledgers, the scheduled prices,

@@ -12,7 +12,7 @@ use Rattle.mari_lines.specs.declared.line.ZoneLine.{ZoneLine}
 use Rattle.mari_publish.specs.declared.publication.FullBlock.{FullBlock}
 use Rattle.mari_remain.specs.declared.books.Books.{Books}
 use Rattle.mari_remain.specs.declared.market.RunMarket.{RunMarket}
-use Rattle.mari_remain.specs.Lists.{run_at}
+use Rattle.mari_remain.specs.Lists.{run_numbered}
 
 -- the activation: the MW of the bids and then of the demands, and the flows of the borders
 abbrev pub activation_of : FullBlock → Activation
@@ -25,11 +25,11 @@ activation_of b = record {
 abbrev pub prices_of : FullBlock → List Cents
 prices_of b = map (λ (l : ZoneLine). l.price) b.zones
 
-abbrev pub least_of : FullBlock → List Cents
-least_of b = map (λ (l : ZoneLine). l.least) b.zones
+abbrev pub least_told : FullBlock → List Cents
+least_told b = map (λ (l : ZoneLine). l.least) b.zones
 
-abbrev pub greatest_of : FullBlock → List Cents
-greatest_of b = map (λ (l : ZoneLine). l.greatest) b.zones
+abbrev pub greatest_told : FullBlock → List Cents
+greatest_told b = map (λ (l : ZoneLine). l.greatest) b.zones
 
 abbrev pub areas_of : FullBlock → List ℕ
 areas_of b = map (λ (l : ZoneLine). l.area) b.zones
@@ -40,7 +40,7 @@ rents_told b = map (λ (l : BorderLine). l.rent) b.borders
 
 -- the heading of a run, counted from 1
 abbrev pub heading_of : Books → ℕ → Heading
-heading_of books run = record { run = run; quarter = (run_at books run).quarter; direct = (run_at books run).direct }
+heading_of books run = record { run = run; quarter = (run_numbered books run).quarter; direct = (run_numbered books run).direct }
 
 -- the lines name the zones, the borders and the bids of these numbers, in their order
 pub record NamesLines (books : Books) (numbers : List ℕ) (b : FullBlock) : Type 0 where

@@ -2,7 +2,7 @@
 
 ghost use Rattle.std.specs.Prelude.{◌≡◌, ◌==◌, IfOk, OnOk};
 ghost use Rattle.std.specs.List.{list_any};
-ghost use Rattle.mari_remain.specs.Lists.{bid_at};
+ghost use Rattle.mari_remain.specs.Lists.{bid_numbered};
 ghost use Rattle.mari_progress.specs.Money.{providers_among, with_number};
 
 use mari_bids::Bid;
@@ -23,7 +23,7 @@ pub fn providers_of(alloc: Global, bids: &[Bid], numbers: &[u32]) -> Result<Vec<
 
 /// The provider of the bid of a number.
 fn provider_of(bids: &[Bid], number: u32) -> u32
-    ensures { result ≡ (bid_at bids.now number).provider }
+    ensures { result ≡ (bid_numbered bids.now number).provider }
 {
     match bids.get(number as usize) {
         Some(bid) => bid.provider,

@@ -15,12 +15,12 @@ use Rattle.std.proofs.lemmas.List.Sums.{sum_by_push}
 use Rattle.std.proofs.lemmas.Option.{slice_get_within}
 use Rattle.mari_remain.specs.declared.books.Books.{Books}
 use Rattle.mari_remain.specs.Accepted.{IsAccepted}
-use Rattle.mari_remain.specs.Blocks.{PastBlock, flow_in, flow_of, is_activated, mw_beside, mw_in, mw_of, of_direct_runs, of_quarter}
+use Rattle.mari_remain.specs.Blocks.{PastBlock, flow_in, flow_of, is_activated, mw_beside, mw_in_block, mw_of, of_direct_runs, of_quarter}
 use Rattle.mari_remain.specs.FirstBlocks.{AreFirstBlocks, IsKeptAfter, IsNextBlock, IsPastRun, Tally, StandsFor, block_of}
 use Rattle.mari_remain.proofs.History.{bounded, flow-more, own-blocks}
 use Rattle.mari_remain.proofs.Standing.{flow-before, kept-direct, kept-mw, last-more}
-use Rattle.mari_remain.specs.Lists.{bid_at, bids_of_quarter, run_at}
-use Rattle.mari_remain.specs.RunMarket.{bid_order, border_of, demand_order, demands_of_run, ends_at, gate_of, gated_left, limits_at, market_at, numbers_of, run_market_of, taken_before}
+use Rattle.mari_remain.specs.Lists.{bid_numbered, bids_of_quarter, run_numbered}
+use Rattle.mari_remain.specs.RunMarket.{bid_order, border_left, demand_order, demands_of_run, ends_at, gate_of, gated_left, market_at, numbers_of, run_limits, run_market_of, taken_before}
 use Rattle.mari_remain.specs.declared.market.RunMarket.{RunMarket}
 use Rattle.mari_remain.specs.Available.{is_available}
 use Rattle.mari_remain.proofs.Choosing.{IsOwn, own-numbers}
@@ -46,11 +46,11 @@ module _ (books : Books) (ok : IsAccepted books) (blocks : List PastBlock) (b : 
   ]
 
   -- the marks of direct runs, with one more
-  direct-more : (i : ℕ) → is_activated (of_direct_runs (blocks ++ b ∷ [])) i ≡ (is_activated (of_direct_runs blocks) i || (b.direct && nat_lt 0 (mw_in i b)))
+  direct-more : (i : ℕ) → is_activated (of_direct_runs (blocks ++ b ∷ [])) i ≡ (is_activated (of_direct_runs blocks) i || (b.direct && nat_lt 0 (mw_in_block i b)))
   direct-more i = ap (λ bs. is_activated bs i) (filter-append (λ (b : PastBlock). b.direct) blocks (b ∷ [])) ∙ by b.direct
     where
-      by : (t : Bool) → is_activated (of_direct_runs blocks ++ cond t (b ∷ []) []) i ≡ (is_activated (of_direct_runs blocks) i || (t && nat_lt 0 (mw_in i b)))
-      by true = ap (nat_lt 0) (sum_by_push (mw_in i) (of_direct_runs blocks) b) ∙ grind (arith, nat_tests)
+      by : (t : Bool) → is_activated (of_direct_runs blocks ++ cond t (b ∷ []) []) i ≡ (is_activated (of_direct_runs blocks) i || (t && nat_lt 0 (mw_in_block i b)))
+      by true = ap (nat_lt 0) (sum_by_push (mw_in_block i) (of_direct_runs blocks) b) ∙ grind (arith, nat_tests)
       by false = ap (λ bs. is_activated bs i) (append-nil (of_direct_runs blocks)) ∙ grind (arith, nat_tests)
 
   module _ (kept after : Tally) (stands : StandsFor books blocks kept) where
@@ -59,9 +59,9 @@ module _ (books : Books) (ok : IsAccepted books) (blocks : List PastBlock) (b : 
     after-stands published is = record {
       first = first-more stands.first;
       mw = fill_by_all (mw_of (blocks ++ b ∷ [])) after.mw (length books.bids.bids) 0 (is.mws ∙ ap length stands.mw ∙ length-map-range_with_len (mw_of blocks) 0 (length books.bids.bids))
-          (λ i l. is.mw i ∙ ap (λ n. n + mw_in i b) (kept-mw books ok blocks kept stands i) ∙ sym (sum_by_push (mw_in i) blocks b));
+          (λ i l. is.mw i ∙ ap (λ n. n + mw_in_block i b) (kept-mw books ok blocks kept stands i) ∙ sym (sum_by_push (mw_in_block i) blocks b));
       direct = fill_by_all (is_activated (of_direct_runs (blocks ++ b ∷ []))) after.direct (length books.bids.bids) false (is.marks ∙ ap length stands.direct ∙ length-map-range_with_len (is_activated (of_direct_runs blocks)) 0 (length books.bids.bids))
-          (λ i l. is.direct i ∙ ap (λ t. t || (b.direct && nat_lt 0 (mw_in i b))) (kept-direct books ok blocks kept stands i) ∙ sym (direct-more i));
+          (λ i l. is.direct i ∙ ap (λ t. t || (b.direct && nat_lt 0 (mw_in_block i b))) (kept-direct books ok blocks kept stands i) ∙ sym (direct-more i));
       quarter = is.quarter ∙ sym (last-more books ok blocks b ∙ rw published refl);
       flow = rw is.quarter (fill_by_all (flow_of (of_quarter b.quarter (blocks ++ b ∷ []))) after.flow (length books.borders.borders) (pos 0)
           (is.flows ∙ ap length stands.flow ∙ length-map-range_with_len (flow_of (of_quarter (unwrap_or kept.quarter 0) blocks)) 0 (length books.borders.borders))
@@ -74,11 +74,11 @@ module _ (books : Books) (ok : IsAccepted books) (blocks : List PastBlock) (b : 
     -- an unpublished block changes nothing
     pub nothing-more : b.published ≡ None → StandsFor books (blocks ++ b ∷ []) kept
     nothing-more none =
-        let no_mw : (i : ℕ) → mw_in i b ≡ 0 = λ i. rw none refl in
+        let no_mw : (i : ℕ) → mw_in_block i b ≡ 0 = λ i. rw none refl in
         let no_flow : (k : ℕ) → flow_in k b ≡ pos 0 = λ k. rw none refl in
         record {
           first = first-more stands.first;
-          mw = stands.mw ∙ ap (λ (f : ℕ → ℕ). map f (range_with_len 0 (length books.bids.bids))) (fun_ext (λ i. sym (sum_by_push (mw_in i) blocks b ∙ rw (no_mw i) (omega arith))));
+          mw = stands.mw ∙ ap (λ (f : ℕ → ℕ). map f (range_with_len 0 (length books.bids.bids))) (fun_ext (λ i. sym (sum_by_push (mw_in_block i) blocks b ∙ rw (no_mw i) (omega arith))));
           direct = stands.direct ∙ ap (λ (f : ℕ → Bool). map f (range_with_len 0 (length books.bids.bids))) (fun_ext (λ i. sym (direct-more i ∙ rw (no_mw i) (none-marked (is_activated (of_direct_runs blocks) i) b.direct))));
           quarter = stands.quarter ∙ sym (last-more books ok blocks b ∙ rw none refl);
           flow = stands.flow ∙ ap (λ (f : ℕ → ℤ). map f (range_with_len 0 (length books.borders.borders))) (fun_ext (λ k. sym (flow-more k (unwrap_or kept.quarter 0) blocks b ∙ rw (no_flow k) (none-flows (b.quarter == unwrap_or kept.quarter 0) (flow_of (of_quarter (unwrap_or kept.quarter 0) blocks) k)))));
@@ -116,15 +116,15 @@ module _ (books : Books) (ok : IsAccepted books) (blocks : List PastBlock) (kept
   pub next-block : IsNextBlock books blocks (block_of books run made.bids a)
   next-block = record { run = is_next; there = last; quarter = refl; direct = refl; published = is_past }
 
-  most : (i : ℕ) → (bid_at books.bids.bids i).greatest ≤ 9999
+  most : (i : ℕ) → (bid_numbered books.bids.bids i).greatest ≤ 9999
   most i = elim (cases_lt i (length books.bids.bids)) [
     | inl l ↦ (ok.bids.bids i _ l).most
     | inr past ↦ rw (get_or_past books.bids.bids i _ past) (omega arith)
   ]
 
-  pub can-add : CanAdd books kept (run_at books run).quarter made.bids a
+  pub can-add : CanAdd books kept (run_numbered books run).quarter made.bids a
   can-add =
-      let run_of = run_at books run in
+      let run_of = run_numbered books run in
       let avail : ℕ → Bool = is_available books (taken_before books blocks run) run_of in
       let next = next-block in
       let own = own-numbers books run_of.quarter in
@@ -135,9 +135,9 @@ module _ (books : Books) (ok : IsAccepted books) (blocks : List PastBlock) (kept
         marks = ap length stands.direct ∙ length-map-range_with_len (is_activated (of_direct_runs blocks)) 0 (length books.bids.bids);
         there = rw is_past.bids (All-filter avail (λ i. i < length books.bids.bids) (bids_of_quarter books.bids.bids run_of.quarter)
             (All-weaker (IsOwn books run_of.quarter) (λ i. i < length books.bids.bids) (λ i h. h.there) (bids_of_quarter books.bids.bids run_of.quarter) own));
-        long = rw is_past.bids (omega (arith, orders, length-append (map (λ i. bid_order (bid_at books.bids.bids i) (gate_of (gated_left books (taken_before books blocks run) run) i) ((taken_before books blocks run).mw i)) (numbers_of books blocks run)) (map demand_order (demands_of_run books.demands.demands run)), length-map (numbers_of books blocks run) (λ i. bid_order (bid_at books.bids.bids i) (gate_of (gated_left books (taken_before books blocks run) run) i) ((taken_before books blocks run).mw i))));
+        long = rw is_past.bids (omega (arith, orders, length-append (map (λ i. bid_order (bid_numbered books.bids.bids i) (gate_of (gated_left books (taken_before books blocks run) run) i) ((taken_before books blocks run).mw i)) (numbers_of books blocks run)) (map demand_order (demands_of_run books.demands.demands run)), length-map (numbers_of books blocks run) (λ i. bid_order (bid_numbered books.bids.bids i) (gate_of (gated_left books (taken_before books blocks run) run) i) ((taken_before books blocks run).mw i))));
         small = λ i. rw (kept-mw books ok blocks kept stands i) (let left = (within-offer books ok blocks (block_of books run made.bids a) (own-blocks books ok blocks stands.first) next i (offers books ok blocks stands.first i)).left in omega (arith, left, most i));
-        flows = borders ∙ length-map-range_with_len (λ k. border_of (ends_at books.borders.borders k) (limits_at books run k) ((taken_before books blocks run).flow k)) 0 (length books.borders.borders)
+        flows = borders ∙ length-map-range_with_len (λ k. border_left (ends_at books.borders.borders k) (run_limits books run k) ((taken_before books blocks run).flow k)) 0 (length books.borders.borders)
             ∙ sym (ap length stands.flow ∙ length-map-range_with_len (flow_of (of_quarter (unwrap_or kept.quarter 0) blocks)) 0 (length books.borders.borders));
         flow = λ k.
             let sum : flow_of (of_quarter run_of.quarter (blocks ++ block_of books run made.bids a ∷ [])) k ≡ flow_of (of_quarter run_of.quarter blocks) k +ℤ get_or a.flow k (pos 0) =

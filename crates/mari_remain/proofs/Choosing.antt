@@ -24,7 +24,7 @@ use Rattle.mari_remain.specs.Accepted.{IsAccepted}
 use Rattle.mari_remain.specs.Available.{Taken, is_available, is_available_up, is_used, may_run, parent_allows, share_group}
 use Rattle.mari_remain.specs.Choice.{rivals_in}
 use Rattle.mari_remain.specs.FirstBlocks.{Tally, taken_in}
-use Rattle.mari_remain.specs.Lists.{bid_at, bids_of_quarter, demand_at, group_at, numbers_of_run, parent_at}
+use Rattle.mari_remain.specs.Lists.{bid_numbered, bids_of_quarter, demand_at, group_at, numbers_of_run, parent_at}
 use Rattle.mari_remain.specs.RunMarket.{demands_of_run}
 use Rattle.mari_remain.proofs.Places.{places-filter, places-items, places-rise, places-within}
 use Rattle.mari_remain.proofs.Validity.{few_of_quarter, parents}
@@ -44,8 +44,8 @@ any-same f g [] same = refl
 any-same f g (x ∷ xs) same = rw (same x, any-same f g xs same) refl
 
 -- the bids of a quarter are the numbers whose bid is of it
-pub of_the_quarter : (bids : List Bid) (quarter : ℕ) → bids_of_quarter bids quarter ≡ filter (λ i. (bid_at bids i).quarter == quarter) (range_with_len 0 (length bids))
-of_the_quarter bids quarter = places-filter (λ (b : Bid). b.quarter == quarter) (λ i. (bid_at bids i).quarter == quarter) 0 bids
+pub of_the_quarter : (bids : List Bid) (quarter : ℕ) → bids_of_quarter bids quarter ≡ filter (λ i. (bid_numbered bids i).quarter == quarter) (range_with_len 0 (length bids))
+of_the_quarter bids quarter = places-filter (λ (b : Bid). b.quarter == quarter) (λ i. (bid_numbered bids i).quarter == quarter) 0 bids
     (λ i d l. rw (zero-add i) (ap (λ (b : Bid). b.quarter == quarter) (get_or_default bids i _ d l)))
 
 -- one bid and its rival
@@ -67,7 +67,7 @@ pub free : (books : Books) (kept : Tally) (quarter i : ℕ) → IsAccepted books
     ≡ list_any (λ j. not (j == i) && (share_group books.links.links i j && is_used (taken_in books kept quarter) j)) (range_with_len 0 (length books.links.links))
 free books kept quarter i ok =
     let f : ℕ → Bool = λ j. not (j == i) && share_group books.links.links i j in
-    let own : ℕ → Bool = λ j. (bid_at books.bids.bids j).quarter == quarter in
+    let own : ℕ → Bool = λ j. (bid_numbered books.bids.bids j).quarter == quarter in
     let all : length books.links.links ≡ length books.bids.bids = ok.links.one_each ∙ ok.bids.named in
     any-filter f (rivals_in books kept) (bids_of_quarter books.bids.bids quarter)
     ∙ ap (list_any (λ j. rivals_in books kept j && f j)) (of_the_quarter books.bids.bids quarter)
@@ -77,11 +77,11 @@ free books kept quarter i ok =
     ∙ ap (λ n. list_any (λ j. not (j == i) && (share_group books.links.links i j && is_used (taken_in books kept quarter) j)) (range_with_len 0 n)) (sym all)
 
 -- the MW that is kept of a bid of the quarter is what was taken of it in the quarter
-pub own-mw : (books : Books) (kept : Tally) (quarter i : ℕ) → (bid_at books.bids.bids i).quarter ≡ quarter → (taken_in books kept quarter).mw i ≡ get_or kept.mw i 0
-own-mw books kept quarter i e = rw (eq-eqb (bid_at books.bids.bids i).quarter quarter e) refl
+pub own-mw : (books : Books) (kept : Tally) (quarter i : ℕ) → (bid_numbered books.bids.bids i).quarter ≡ quarter → (taken_in books kept quarter).mw i ≡ get_or kept.mw i 0
+own-mw books kept quarter i e = rw (eq-eqb (bid_numbered books.bids.bids i).quarter quarter e) refl
 
 -- the quarter of a number, in either word
-quarter-at : (bids : BidBook) (i : ℕ) → quarter_of bids i ≡ (bid_at bids.bids i).quarter
+quarter-at : (bids : BidBook) (i : ℕ) → quarter_of bids i ≡ (bid_numbered bids.bids i).quarter
 quarter-at bids i = elim (cases_lt i (length bids.bids)) [
   | inl l ↦ rw (slice_get-get_or bids.bids i (record { provider = 0; zone = 0; quarter = 0; up = false; price = record { 0 = pos 0 }; least = 0; greatest = 0; both = false }) l) refl
   | inr past ↦ rw (slice_get_past bids.bids i past) (ap (λ (b : Bid). b.quarter) (sym (get_or-eq_default bids.bids (record { provider = 0; zone = 0; quarter = 0; up = false; price = record { 0 = pos 0 }; least = 0; greatest = 0; both = false }) past)))
@@ -129,13 +129,13 @@ module _ (books : Books) (kept : Tally) (run : Run) (ok : IsAccepted books) wher
 
   -- a number of the quarter that is below the one at a place stands before that place
   stands-before : (k i p : ℕ) → k < length (bids_of_quarter books.bids.bids run.quarter) → get_or (bids_of_quarter books.bids.bids run.quarter) k i ≡ i → p < i → i < length books.bids.bids
-      → (bid_at books.bids.bids p).quarter ≡ run.quarter → list_any (λ j. j == p) (take k (bids_of_quarter books.bids.bids run.quarter)) ≡ true
+      → (bid_numbered books.bids.bids p).quarter ≡ run.quarter → list_any (λ j. j == p) (take k (bids_of_quarter books.bids.bids run.quarter)) ≡ true
   stands-before k i p l here less there own =
       let numbers : List ℕ = bids_of_quarter books.bids.bids run.quarter in
-      let own_of : ℕ → Bool = λ j. (bid_at books.bids.bids j).quarter == run.quarter in
+      let own_of : ℕ → Bool = λ j. (bid_numbered books.bids.bids j).quarter == run.quarter in
       let found : list_any (λ j. j == p) numbers ≡ true =
       ap (list_any (λ j. j == p)) (of_the_quarter books.bids.bids run.quarter)
-      ∙ any-filter_same (λ j. j == p) own_of true (λ j e. eq-eqb _ _ (ap (λ n. (bid_at books.bids.bids n).quarter) (eqb-true j p e) ∙ own)) (range_with_len 0 (length books.bids.bids))
+      ∙ any-filter_same (λ j. j == p) own_of true (λ j e. eq-eqb _ _ (ap (λ n. (bid_numbered books.bids.bids n).quarter) (eqb-true j p e) ∙ own)) (range_with_len 0 (length books.bids.bids))
       ∙ range-any 0 (length books.bids.bids) p (omega arith) (omega (arith, less, there)) in
       let rise = places-rise (λ (b : Bid). b.quarter == run.quarter) 0 books.bids.bids in
       let later : All (λ j. (j == p) ≡ false) (drop k numbers) = λ m d more. apart numbers k i p m d l here less rise (omega (arith, simp length-drop at more)) in
@@ -158,7 +158,7 @@ module _ (books : Books) (kept : Tally) (run : Run) (ok : IsAccepted books) wher
           grind (arith, nat_tests, same, first, above, less)
 
   -- the next bid of the quarter, behind the gated ones that were chosen before it
-  pub next : (k i : ℕ) → k < length (bids_of_quarter books.bids.bids run.quarter) → get_or (bids_of_quarter books.bids.bids run.quarter) k i ≡ i → i < length books.bids.bids → (bid_at books.bids.bids i).quarter ≡ run.quarter
+  pub next : (k i : ℕ) → k < length (bids_of_quarter books.bids.bids run.quarter) → get_or (bids_of_quarter books.bids.bids run.quarter) k i ≡ i → i < length books.bids.bids → (bid_numbered books.bids.bids i).quarter ≡ run.quarter
       → (chosen gated : List ℕ) → chosen ≡ filter (is_available books (taken_in books kept run.quarter) run) (take k (bids_of_quarter books.bids.bids run.quarter)) → gated ≡ filter (has_gate books.links) chosen
       → (may_run books (taken_in books kept run.quarter) run i && option_map_or (λ p. nat_lt 0 (get_or kept.mw p 0) || list_any (λ j. j == p) gated) (parent_at books.links.links i) true)
       ≡ is_available books (taken_in books kept run.quarter) run i
@@ -169,7 +169,7 @@ module _ (books : Books) (kept : Tally) (run : Run) (ok : IsAccepted books) wher
       by None e = refl
       by (Some p) e =
           let up = parents books ok i p e in
-          let its_own : (bid_at books.bids.bids p).quarter ≡ run.quarter = sym (quarter-at books.bids p) ∙ up.same_quarter ∙ quarter-at books.bids i ∙ own in
+          let its_own : (bid_numbered books.bids.bids p).quarter ≡ run.quarter = sym (quarter-at books.bids p) ∙ up.same_quarter ∙ quarter-at books.bids i ∙ own in
           let all : List ℕ = take k (bids_of_quarter books.bids.bids run.quarter) in
           let among : list_any (λ j. j == p) (filter is_there all) ≡ is_there p =
           any-filter_same (λ j. j == p) is_there (is_there p) (λ j e. ap is_there (eqb-true j p e)) all
@@ -188,11 +188,11 @@ filter-take p xs k x l e = ap (λ n. filter p (take n xs)) (add-one k) ∙ ap (f
 -- a bid that the index has for a quarter
 pub record IsOwn (books : Books) (quarter i : ℕ) : Type 0 where
   pub there : i < length books.bids.bids
-  pub own : (bid_at books.bids.bids i).quarter ≡ quarter
+  pub own : (bid_numbered books.bids.bids i).quarter ≡ quarter
 
 pub own-numbers : (books : Books) (quarter : ℕ) → All (IsOwn books quarter) (bids_of_quarter books.bids.bids quarter)
 own-numbers books quarter =
-    let own : ℕ → Bool = λ i. (bid_at books.bids.bids i).quarter == quarter in
+    let own : ℕ → Bool = λ i. (bid_numbered books.bids.bids i).quarter == quarter in
     let within = places-within (λ (b : Bid). b.quarter == quarter) 0 books.bids.bids in
     let passes : All (λ i. own i ≡ true) (bids_of_quarter books.bids.bids quarter) = rw (of_the_quarter books.bids.bids quarter) (filter_passes own (range_with_len 0 (length books.bids.bids))) in
     λ k d l. record { there = omega (arith, (within k d l).below); own = eqb-true _ _ (passes k d l) }
@@ -250,10 +250,10 @@ module _ (avail gate : ℕ → Bool) (all : List ℕ) (k i : ℕ) (numbers gated
   }
 
 -- what passes a test of a quarter's bids is of the quarter
-pub own-chosen : (books : Books) (p : ℕ → Bool) (quarter : ℕ) (numbers : List ℕ) → numbers ≡ filter p (bids_of_quarter books.bids.bids quarter) → All (λ i. (bid_at books.bids.bids i).quarter ≡ quarter) numbers
+pub own-chosen : (books : Books) (p : ℕ → Bool) (quarter : ℕ) (numbers : List ℕ) → numbers ≡ filter p (bids_of_quarter books.bids.bids quarter) → All (λ i. (bid_numbered books.bids.bids i).quarter ≡ quarter) numbers
 own-chosen books p quarter numbers e =
-    rw e (All-filter p (λ i. (bid_at books.bids.bids i).quarter ≡ quarter) (bids_of_quarter books.bids.bids quarter)
-    (All-weaker (IsOwn books quarter) (λ i. (bid_at books.bids.bids i).quarter ≡ quarter) (λ i own. own.own) (bids_of_quarter books.bids.bids quarter) (own-numbers books quarter)))
+    rw e (All-filter p (λ i. (bid_numbered books.bids.bids i).quarter ≡ quarter) (bids_of_quarter books.bids.bids quarter)
+    (All-weaker (IsOwn books quarter) (λ i. (bid_numbered books.bids.bids i).quarter ≡ quarter) (λ i own. own.own) (bids_of_quarter books.bids.bids quarter) (own-numbers books quarter)))
 
 -- no more gated bids are chosen than a market has gates
 pub few-chosen : (books : Books) (p : ℕ → Bool) (quarter : ℕ) (numbers gated : List ℕ) → IsAccepted books → numbers ≡ filter p (bids_of_quarter books.bids.bids quarter) → gated ≡ filter (has_gate books.links) numbers → length gated ≤ 512

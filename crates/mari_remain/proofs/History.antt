@@ -19,10 +19,10 @@ use Rattle.mari_market.proofs.Sums.{AllZip-at}
 use Rattle.mari_remain.specs.declared.books.Books.{Books}
 use Rattle.mari_remain.specs.Accepted.{IsAccepted}
 use Rattle.mari_remain.specs.Available.{is_available}
-use Rattle.mari_remain.specs.Blocks.{PastBlock, PastRun, flow_in, flow_of, mw_beside, mw_in, mw_of, of_quarter}
+use Rattle.mari_remain.specs.Blocks.{PastBlock, PastRun, flow_in, flow_of, mw_beside, mw_in_block, mw_of, of_quarter}
 use Rattle.mari_remain.specs.FirstBlocks.{AreFirstBlocks, IsNextBlock, IsPastRun}
-use Rattle.mari_remain.specs.Lists.{bid_at, run_at}
-use Rattle.mari_remain.specs.RunMarket.{at_least_0, border_of, ends_at, limits_at, market_at, taken_before}
+use Rattle.mari_remain.specs.Lists.{bid_numbered, run_numbered}
+use Rattle.mari_remain.specs.RunMarket.{at_least_0, border_left, ends_at, market_at, run_limits, taken_before}
 use Rattle.mari_remain.proofs.Choosing.{own-chosen}
 use Rattle.mari_remain.proofs.Validity.{in_range}
 
@@ -53,9 +53,9 @@ beside-none i (n ∷ ns) [] h = refl
 beside-none i (n ∷ ns) (q ∷ qs) h = rw (All-head (λ n. (n == i) ≡ false) n ns h, beside-none i ns qs (All-tail (λ n. (n == i) ≡ false) n ns h)) refl
 
 -- a sum of nothing
-pub mw-none : (i : ℕ) (blocks : List PastBlock) → All (λ b. mw_in i b ≡ 0) blocks → mw_of blocks i ≡ 0
+pub mw-none : (i : ℕ) (blocks : List PastBlock) → All (λ b. mw_in_block i b ≡ 0) blocks → mw_of blocks i ≡ 0
 mw-none i [] h = refl
-mw-none i (b ∷ bs) h = sum_by-cons (mw_in i) b bs ∙ rw (All-head (λ b. mw_in i b ≡ 0) b bs h, mw-none i bs (All-tail (λ b. mw_in i b ≡ 0) b bs h)) refl
+mw-none i (b ∷ bs) h = sum_by-cons (mw_in_block i) b bs ∙ rw (All-head (λ b. mw_in_block i b ≡ 0) b bs h, mw-none i bs (All-tail (λ b. mw_in_block i b ≡ 0) b bs h)) refl
 
 pub flow-none : (k : ℕ) (blocks : List PastBlock) → All (λ b. flow_in k b ≡ pos 0) blocks → flow_of blocks k ≡ pos 0
 flow-none k [] h = refl
@@ -65,31 +65,31 @@ module _ (books : Books) (ok : IsAccepted books) where
   -- a block that gives MW to bids of its quarter alone, which is one of the day, and flows to borders that are there
   pub record IsOwnBlock (b : PastBlock) : Type 0 where
     pub quarter : 1 ≤ b.quarter
-    pub bids : (i : ℕ) → ((bid_at books.bids.bids i).quarter == b.quarter) ≡ false → mw_in i b ≡ 0
+    pub bids : (i : ℕ) → ((bid_numbered books.bids.bids i).quarter == b.quarter) ≡ false → mw_in_block i b ≡ 0
     pub flows : (k : ℕ) → length books.borders.borders ≤ k → flow_in k b ≡ pos 0
 
-  entry : (before : List PastBlock) (b : PastBlock) → IsNextBlock books before b → 1 ≤ (run_at books b.run).quarter
+  entry : (before : List PastBlock) (b : PastBlock) → IsNextBlock books before b → 1 ≤ (run_numbered books b.run).quarter
   entry before b next = (ok.runs.runs (b.run - 1) _ (omega (arith, next.run, next.there))).first_quarter
 
   pub own-block : (before : List PastBlock) (b : PastBlock) → IsNextBlock books before b → IsOwnBlock b
   own-block before b next = record { quarter = rw next.quarter (entry before b next); bids = bids b.published refl; flows = flows b.published refl }
     where
-      differs : (n i : ℕ) → (bid_at books.bids.bids n).quarter ≡ b.quarter → ((bid_at books.bids.bids i).quarter == b.quarter) ≡ false → (n == i) ≡ false
+      differs : (n i : ℕ) → (bid_numbered books.bids.bids n).quarter ≡ b.quarter → ((bid_numbered books.bids.bids i).quarter == b.quarter) ≡ false → (n == i) ≡ false
       differs n i own other = by (n == i) refl
         where
           by : (t : Bool) → (n == i) ≡ t → (n == i) ≡ false
           by false e = e
           by true e =
-              let same : ((bid_at books.bids.bids i).quarter == b.quarter) ≡ true = eq-eqb (bid_at books.bids.bids i).quarter b.quarter (ap (λ j. (bid_at books.bids.bids j).quarter) (sym (eqb-true n i e)) ∙ own) in
+              let same : ((bid_numbered books.bids.bids i).quarter == b.quarter) ≡ true = eq-eqb (bid_numbered books.bids.bids i).quarter b.quarter (ap (λ j. (bid_numbered books.bids.bids j).quarter) (sym (eqb-true n i e)) ∙ own) in
               let both : true ≡ false = sym same ∙ other in
               absurd (cc both)
 
-      bids : (p : Option PastRun) → b.published ≡ p → (i : ℕ) → ((bid_at books.bids.bids i).quarter == b.quarter) ≡ false → option_map_or (λ (r : PastRun). mw_beside i r.bids r.activation.mw) p 0 ≡ 0
+      bids : (p : Option PastRun) → b.published ≡ p → (i : ℕ) → ((bid_numbered books.bids.bids i).quarter == b.quarter) ≡ false → option_map_or (λ (r : PastRun). mw_beside i r.bids r.activation.mw) p 0 ≡ 0
       bids None e i other = refl
       bids (Some past) e i other =
           let is : IsPastRun books before b.run past = subst (λ (o : Option PastRun). IfSome o (IsPastRun books before b.run)) e next.published in
           let taken = taken_before books before b.run in
-          let own = own-chosen books (is_available books taken (run_at books b.run)) (run_at books b.run).quarter past.bids is.bids in
+          let own = own-chosen books (is_available books taken (run_numbered books b.run)) (run_numbered books b.run).quarter past.bids is.bids in
           beside-none i past.bids past.activation.mw (λ k d l. differs (get_or past.bids k d) i (own k d l ∙ sym next.quarter) other)
 
       flows : (p : Option PastRun) → b.published ≡ p → (k : ℕ) → length books.borders.borders ≤ k → option_map_or (λ (r : PastRun). get_or r.activation.flow k (pos 0)) p (pos 0) ≡ pos 0
@@ -97,7 +97,7 @@ module _ (books : Books) (ok : IsAccepted books) where
       flows (Some past) e k l =
           let is : IsPastRun books before b.run past = subst (λ (o : Option PastRun). IfSome o (IsPastRun books before b.run)) e next.published in
           let long = AllZip-long _ (market_at books before b.run).borders past.activation.flow is.feasible.borders in
-          let all = length-map-range_with_len (λ j. border_of (ends_at books.borders.borders j) (limits_at books b.run j) ((taken_before books before b.run).flow j)) 0 (length books.borders.borders) in
+          let all = length-map-range_with_len (λ j. border_left (ends_at books.borders.borders j) (run_limits books b.run j) ((taken_before books before b.run).flow j)) 0 (length books.borders.borders) in
           get_or_past past.activation.flow k (pos 0) (omega (arith, long, all, l))
 
   pub own-blocks : (blocks : List PastBlock) → AreFirstBlocks books blocks → All IsOwnBlock blocks
@@ -128,15 +128,15 @@ module _ (books : Books) (ok : IsAccepted books) where
           → unsigned_abs (flow_of (of_quarter quarter before) k +ℤ get_or past.activation.flow k (pos 0)) ≤ 99999
       inside past is e l =
           let taken = taken_before books before b.run in
-          let left : ℕ → Border = λ j. border_of (ends_at books.borders.borders j) (limits_at books b.run j) (taken.flow j) in
+          let left : ℕ → Border = λ j. border_left (ends_at books.borders.borders j) (run_limits books b.run j) (taken.flow j) in
           let own : left k ≡ get_or (market_at books before b.run).borders k (left k) = sym (get_or-map-range_with_len left 0 (length books.borders.borders) k k (left k) l (zero-add k)) in
           let within : IsWithinLimits (left k) (get_or past.activation.flow k (pos 0)) =
           rw own (AllZip-at IsWithinLimits (market_at books before b.run).borders past.activation.flow k (left k) (pos 0) (omega (arith, l, length-map-range_with_len left 0 (length books.borders.borders))) is.feasible.borders) in
           let fits = in_range books books.limits b.run k ok.limits (ok.borders.borders k _ l) in
-          let same : (run_at books b.run).quarter ≡ quarter = sym next.quarter ∙ e in
+          let same : (run_numbered books b.run).quarter ≡ quarter = sym next.quarter ∙ e in
           let small = so_far quarter k in
-          flow-within (flow_of (of_quarter quarter before) k) (get_or past.activation.flow k (pos 0)) (pos (limits_at books b.run k).limit -ℤ flow_of (of_quarter quarter before) k) (pos (limits_at books b.run k).back +ℤ flow_of (of_quarter quarter before) k)
-          (limits_at books b.run k).limit (limits_at books b.run k).back refl refl fits.0 fits.1 small (rw same at within.back) (rw same at within.limit)
+          flow-within (flow_of (of_quarter quarter before) k) (get_or past.activation.flow k (pos 0)) (pos (run_limits books b.run k).limit -ℤ flow_of (of_quarter quarter before) k) (pos (run_limits books b.run k).back +ℤ flow_of (of_quarter quarter before) k)
+          (run_limits books b.run k).limit (run_limits books b.run k).back refl refl fits.0 fits.1 small (rw same at within.back) (rw same at within.limit)
 
       published : (p : Option PastRun) → IfSome p (IsPastRun books before b.run) → b.quarter ≡ quarter
           → unsigned_abs (flow_of (of_quarter quarter before) k +ℤ option_map_or (λ (r : PastRun). get_or r.activation.flow k (pos 0)) p (pos 0)) ≤ 99999
@@ -145,7 +145,7 @@ module _ (books : Books) (ok : IsAccepted books) where
         | inl l ↦ inside past is e l
         | inr far ↦ (
             let long = AllZip-long _ (market_at books before b.run).borders past.activation.flow is.feasible.borders in
-            let all = length-map-range_with_len (λ j. border_of (ends_at books.borders.borders j) (limits_at books b.run j) ((taken_before books before b.run).flow j)) 0 (length books.borders.borders) in
+            let all = length-map-range_with_len (λ j. border_left (ends_at books.borders.borders j) (run_limits books b.run j) ((taken_before books before b.run).flow j)) 0 (length books.borders.borders) in
             let none : get_or past.activation.flow k (pos 0) ≡ pos 0 = get_or_past past.activation.flow k (pos 0) (omega (arith, long, all, far)) in
             let small = so_far quarter k in
             rw none (omega (arith, ints, small)))

@@ -22,16 +22,16 @@ use Rattle.mari_remain.specs.Accepted.{IsAccepted}
 use Rattle.mari_remain.specs.Available.{Taken, is_available_up, may_run, parent_allows}
 use Rattle.mari_remain.specs.Blocks.{PastBlock, PastRun}
 use Rattle.mari_remain.specs.FirstBlocks.{AreFirstBlocks, IsNextBlock, IsPastRun}
-use Rattle.mari_remain.specs.Lists.{bids_of_quarter, parent_at, run_at}
+use Rattle.mari_remain.specs.Lists.{bids_of_quarter, parent_at, run_numbered}
 use Rattle.mari_remain.specs.Migrated.{AreRead, borders_page, limits_page, with_limits}
-use Rattle.mari_remain.specs.RunMarket.{border_of, borders_left, demands_of_run, ends_at, gates_of, limits_at, numbers_left, orders_of, run_market_left, run_market_of, taken_before}
+use Rattle.mari_remain.specs.RunMarket.{border_left, borders_left, demands_of_run, ends_at, gates_of, numbers_left, orders_of, run_limits, run_market_left, run_market_of, taken_before}
 use Rattle.mari_remain.proofs.MigratedBorders.{NoneRepeated, bare, borders-read, none-repeated, second}
 use Rattle.mari_remain.proofs.MigratedLimits.{limits-read-back, table, table-has}
 use Rattle.mari_units.proofs.Lists.{same_over}
 use Rattle.mari_remain.proofs.Validity.{in_range}
 
 -- lists of blocks of first runs are the same in books whose runs have the same markets
-module _ (books other : Books) (runs : (run : ℕ) → run_at books run ≡ run_at other run) (count : length books.runs.runs ≡ length other.runs.runs)
+module _ (books other : Books) (runs : (run : ℕ) → run_numbered books run ≡ run_numbered other run) (count : length books.runs.runs ≡ length other.runs.runs)
     (same : (blocks : List PastBlock) (run : ℕ) → 1 ≤ run → run ≤ length books.runs.runs → run_market_of books blocks run ≡ run_market_of other blocks run) where
   one-way : (blocks : List PastBlock) → AreFirstBlocks books blocks → AreFirstBlocks other blocks
   one-way blocks first k b there = next (take k blocks) b (first k b there)
@@ -64,17 +64,17 @@ module _ (books : Books) (ok : IsAccepted books) (own : List ℕ) (read : border
   pub none : NoneRepeated [] owns
   none = none-repeated books.zones ok.zones books.borders ok.borders.borders own read
 
-  pub limit : (run border : ℕ) → border < length owns → (limits_at books run border).limit ≤ 99999
+  pub limit : (run border : ℕ) → border < length owns → (run_limits books run border).limit ≤ 99999
   limit run border within = (in_range books books.limits run border ok.limits (ok.borders.borders border _ within)).0
 
-  pub back : (run border : ℕ) → border < length owns → (limits_at books run border).back ≤ 99999
+  pub back : (run border : ℕ) → border < length owns → (run_limits books run border).back ≤ 99999
   back run border within = (in_range books books.limits run border ok.limits (ok.borders.borders border _ within)).1
 
   abbrev pub bare_book : BorderBook
   bare_book = record { borders = map bare owns }
 
   abbrev pub limit_table : List (List Limits)
-  limit_table = table books.zones ok.zones owns ok.borders.borders none runs ok.runs.few (limits_at books) limit back
+  limit_table = table books.zones ok.zones owns ok.borders.borders none runs ok.runs.few (run_limits books) limit back
 
   abbrev no_border : BorderEnds
   no_border = record { from = 0; to = 0; limit = 0; back = 0 }
@@ -84,7 +84,7 @@ module _ (books : Books) (ok : IsAccepted books) (own : List ℕ) (read : border
   are-read = record {
     version = second books.zones ok.zones books.borders ok.borders.borders;
     borders_read = borders-read books.zones ok.zones books.borders ok.borders.borders own read;
-    limits_read = limits-read-back books.zones ok.zones owns ok.borders.borders none runs ok.runs.few (limits_at books) limit back;
+    limits_read = limits-read-back books.zones ok.zones owns ok.borders.borders none runs ok.runs.few (run_limits books) limit back;
   }
 
   module _ (borders : BorderBook) (limits : List (List Limits)) (is : AreRead books borders limits) where
@@ -110,27 +110,27 @@ module _ (books : Books) (ok : IsAccepted books) (own : List ℕ) (read : border
     }
 
     -- the limits stated for a run are those that were stated
-    pub limits-same : (run border : ℕ) → 1 ≤ run → run ≤ runs → border < length owns → limits_at migrated run border ≡ limits_at books run border
+    pub limits-same : (run border : ℕ) → 1 ≤ run → run ≤ runs → border < length owns → run_limits migrated run border ≡ run_limits books run border
     limits-same run border first last within =
         ap (λ t. limits_in t run border) same-limits
-        ∙ table-has books.zones ok.zones owns ok.borders.borders none runs ok.runs.few (limits_at books) limit back run border first last within
+        ∙ table-has books.zones ok.zones owns ok.borders.borders none runs ok.runs.few (run_limits books) limit back run border first last within
 
     module _ (taken : Taken) (run : ℕ) (first : 1 ≤ run) (last : run ≤ runs) where
       -- the same bids are available
-      same-up : (n i : ℕ) → is_available_up migrated taken (run_at books run) n i ≡ is_available_up books taken (run_at books run) n i
+      same-up : (n i : ℕ) → is_available_up migrated taken (run_numbered books run) n i ≡ is_available_up books taken (run_numbered books run) n i
       same-up zero i = refl
       same-up (suc n) i =
-          ap (λ available. may_run books taken (run_at books run) i && parent_allows available taken (parent_at books.links.links i)) (fun_ext (same-up n))
+          ap (λ available. may_run books taken (run_numbered books run) i && parent_allows available taken (parent_at books.links.links i)) (fun_ext (same-up n))
 
       numbers-same : numbers_left migrated taken run ≡ numbers_left books taken run
-      numbers-same = ap (λ test. filter test (bids_of_quarter books.bids.bids (run_at books run).quarter)) (fun_ext (λ i. same-up (suc i) i))
+      numbers-same = ap (λ test. filter test (bids_of_quarter books.bids.bids (run_numbered books run).quarter)) (fun_ext (λ i. same-up (suc i) i))
 
       -- over borders with the same limits
       borders-same : borders_left migrated taken run ≡ borders_left books taken run
       borders-same =
-          (λ i. map (λ k. border_of (ends_at (same-borders i).borders k) (limits_at migrated run k) (taken.flow k)) (range_with_len 0 (length (same-borders i).borders)))
-          ∙ ap (λ n. map (λ k. border_of (ends_at (map bare owns) k) (limits_at migrated run k) (taken.flow k)) (range_with_len 0 n)) (length-map owns bare)
-          ∙ same_over _ _ 0 (length owns) (λ k low high. λ i. border_of (get_or-map bare owns k no_border no_border (omega (arith, high)) i)
+          (λ i. map (λ k. border_left (ends_at (same-borders i).borders k) (run_limits migrated run k) (taken.flow k)) (range_with_len 0 (length (same-borders i).borders)))
+          ∙ ap (λ n. map (λ k. border_left (ends_at (map bare owns) k) (run_limits migrated run k) (taken.flow k)) (range_with_len 0 n)) (length-map owns bare)
+          ∙ same_over _ _ 0 (length owns) (λ k low high. λ i. border_left (get_or-map bare owns k no_border no_border (omega (arith, high)) i)
           (limits-same run k first last (omega (arith, high)) i) (taken.flow k))
 
       abbrev pub market-of : List ℕ → List Border → RunMarket
@@ -140,7 +140,7 @@ module _ (books : Books) (ok : IsAccepted books) (own : List ℕ) (read : border
           borders = borders;
           orders = orders_of books.bids.bids taken.mw numbers (filter (has_gate books.links) numbers) (demands_of_run books.demands.demands run);
           gates = gates_of books.links.links (filter (has_gate books.links) numbers);
-          reference = (run_at books run).reference;
+          reference = (run_numbered books run).reference;
         };
         bids = numbers;
         demands = length (demands_of_run books.demands.demands run);

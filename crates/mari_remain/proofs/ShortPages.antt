@@ -16,7 +16,7 @@ use Rattle.mari_demands.specs.Limits.{limit_columns}
 use Rattle.mari_remain.specs.declared.books.Books.{Books}
 use Rattle.mari_remain.specs.Accepted.{IsAccepted}
 use Rattle.mari_remain.specs.Migrated.{border_record, borders_page, limit_record, limits_page, line_of, run_records}
-use Rattle.mari_remain.specs.RunMarket.{ends_at, limits_at}
+use Rattle.mari_remain.specs.RunMarket.{ends_at, run_limits}
 use Rattle.mari_remain.proofs.Validity.{in_range}
 
 short-name : (name : List ℕ) → is_name name ≡ true → length name ≤ 16
@@ -57,10 +57,10 @@ some-lines fields first (suc count) short =
 
 module _ (books : Books) (ok : IsAccepted books) where
   short-line : (run border : ℕ) → run ≤ 1000 → border < length books.borders.borders
-      → length (line_of (limit_record books.zones run (ends_at books.borders.borders border) (limits_at books run border))) ≤ 51
+      → length (line_of (limit_record books.zones run (ends_at books.borders.borders border) (run_limits books run border))) ≤ 51
   short-line run border last within =
       let ends = ends_at books.borders.borders border in
-      let limits = limits_at books run border in
+      let limits = run_limits books run border in
       let small = in_range books books.limits run border ok.limits (ok.borders.borders border _ within) in
       omega (
         arith,
@@ -78,7 +78,7 @@ module _ (books : Books) (ok : IsAccepted books) where
       let here = run_records books first in
       let rest = flat_map (run_records books) (range_with_len (first + 1) count) in
       let now : length (flat_map line_of here) ≤ 51 * length books.borders.borders =
-      some-lines (λ k. limit_record books.zones first (ends_at books.borders.borders k) (limits_at books first k)) 0 (length books.borders.borders)
+      some-lines (λ k. limit_record books.zones first (ends_at books.borders.borders k) (run_limits books first k)) 0 (length books.borders.borders)
       (λ k low high. short-line first k (omega (arith, few)) (omega (arith, high))) in
       rw (flat_map-append line_of here rest, length-append (flat_map line_of here) (flat_map line_of rest))
       (omega (arith, now, ok.borders.few, short-runs (first + 1) count (omega (arith, few))))

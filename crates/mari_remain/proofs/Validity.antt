@@ -29,8 +29,8 @@ use Rattle.mari_remain.specs.Accepted.{IsAccepted}
 use Rattle.mari_demands.specs.LimitPairs.{IsLimitTable}
 use Rattle.mari_demands.specs.declared.limits.Limits.{Limits}
 use Rattle.mari_remain.specs.Available.{Taken, is_available}
-use Rattle.mari_remain.specs.Lists.{bid_at, bids_of_quarter, parent_at, run_at}
-use Rattle.mari_remain.specs.RunMarket.{at_least_0, bid_order, border_of, demand_order, demands_of_run, ends_at, gate_at, gate_of, gated_left, greatest_of, inelastic_price, least_of, limits_at, market_left, numbers_left, stated_limits}
+use Rattle.mari_remain.specs.Lists.{bid_numbered, bids_of_quarter, parent_at, run_numbered}
+use Rattle.mari_remain.specs.RunMarket.{at_least_0, bid_order, border_left, demand_order, demands_of_run, ends_at, gate_at, gate_of, gated_left, greatest_left, inelastic_price, least_left, market_left, numbers_left, run_limits, stated_limits}
 use Rattle.mari_remain.proofs.Places.{IsPlace, places-filter, places-within, places-rise, length-places}
 use Rattle.mari_remain.proofs.Gates.{gate-at, gate-is, gate-less}
 
@@ -41,7 +41,7 @@ at_least_0-most (negsuc n) most l = omega arith
 
 -- what is left of limits up to 99,999 behind a flow of at most as much is within the limits of a run
 border : (zones : ZoneBook) (b : BorderEnds) (limits : Limits) (flow : ℤ) → IsBorder zones b → limits.limit ≤ 99999 → limits.back ≤ 99999 → unsigned_abs flow ≤ 99999
-    → IsValidBorder (length zones.zones) (border_of b limits flow)
+    → IsValidBorder (length zones.zones) (border_left b limits flow)
 border zones b limits flow h limit back small = record {
   from = h.from;
   to = h.to;
@@ -52,12 +52,12 @@ border zones b limits flow h limit back small = record {
 
 -- its least quantity is at most its greatest, and at least 1 with a gate
 least_fits : (gates : ℕ) (b : Bid) (gate : Option ℕ) (taken : ℕ) → b.least ≤ b.greatest → 1 ≤ b.greatest → ((g : ℕ) → gate ≡ Some g → g < gates)
-    → (least_of gate b.least ≤ greatest_of gate b.greatest taken) × GateFits gates (bid_order b gate taken)
+    → (least_left gate b.least ≤ greatest_left gate b.greatest taken) × GateFits gates (bid_order b gate taken)
 least_fits gates b None taken h one there = (omega arith, refl)
 least_fits gates b (Some g) taken h one there = let in_order : cond (b.least == 0) 1 b.least ≤ b.greatest = grind arith in let some : 1 ≤ cond (b.least == 0) 1 b.least = grind arith in (in_order, (there g refl, some))
 
 -- what is left of an offer is no more than the offer
-most_left : (gate : Option ℕ) (offer taken : ℕ) → greatest_of gate offer taken ≤ offer
+most_left : (gate : Option ℕ) (offer taken : ℕ) → greatest_left gate offer taken ≤ offer
 most_left None offer taken = omega arith
 most_left (Some g) offer taken = omega arith
 
@@ -162,32 +162,32 @@ module _ (books : Books) (ok : IsAccepted books) where
 module _ (books : Books) (taken : Taken) (run : ℕ) (ok : IsAccepted books) (small_flows : (k : ℕ) → unsigned_abs (taken.flow k) ≤ 99999) where
   rise : AllPairs (λ i j. i < j) (gated_left books taken run)
   rise = AllPairs-filter (λ i j. i < j) (has_gate books.links) (numbers_left books taken run)
-      (AllPairs-filter (λ i j. i < j) (is_available books taken (run_at books run)) (bids_of_quarter books.bids.bids (run_at books run).quarter) (places-rise (λ (b : Bid). b.quarter == (run_at books run).quarter) 0 books.bids.bids))
+      (AllPairs-filter (λ i j. i < j) (is_available books taken (run_numbered books run)) (bids_of_quarter books.bids.bids (run_numbered books run).quarter) (places-rise (λ (b : Bid). b.quarter == (run_numbered books run).quarter) 0 books.bids.bids))
 
   pub there : All (λ i. i < length books.bids.bids) (numbers_left books taken run)
-  there = All-filter (is_available books taken (run_at books run)) (λ i. i < length books.bids.bids) (bids_of_quarter books.bids.bids (run_at books run).quarter)
-      (All-weaker (IsPlace 0 (length books.bids.bids)) (λ i. i < length books.bids.bids) (λ i l. omega (arith, l.below)) (bids_of_quarter books.bids.bids (run_at books run).quarter) (places-within (λ (b : Bid). b.quarter == (run_at books run).quarter) 0 books.bids.bids))
+  there = All-filter (is_available books taken (run_numbered books run)) (λ i. i < length books.bids.bids) (bids_of_quarter books.bids.bids (run_numbered books run).quarter)
+      (All-weaker (IsPlace 0 (length books.bids.bids)) (λ i. i < length books.bids.bids) (λ i l. omega (arith, l.below)) (bids_of_quarter books.bids.bids (run_numbered books run).quarter) (places-within (λ (b : Bid). b.quarter == (run_numbered books run).quarter) 0 books.bids.bids))
 
   pub few_numbers : length (numbers_left books taken run) ≤ 4096
   few_numbers = omega (
     arith,
-    length-places (λ (b : Bid). b.quarter == (run_at books run).quarter) 0 books.bids.bids,
-    ok.bids.of_quarter (run_at books run).quarter,
-    length-filter (is_available books taken (run_at books run)) (bids_of_quarter books.bids.bids (run_at books run).quarter),
-    count_by-le-length (is_available books taken (run_at books run)) (bids_of_quarter books.bids.bids (run_at books run).quarter),
+    length-places (λ (b : Bid). b.quarter == (run_numbered books run).quarter) 0 books.bids.bids,
+    ok.bids.of_quarter (run_numbered books run).quarter,
+    length-filter (is_available books taken (run_numbered books run)) (bids_of_quarter books.bids.bids (run_numbered books run).quarter),
+    count_by-le-length (is_available books taken (run_numbered books run)) (bids_of_quarter books.bids.bids (run_numbered books run).quarter),
   )
 
   few_gated : length (gated_left books taken run) ≤ 512
-  few_gated = few_of_quarter books ok (is_available books taken (run_at books run)) (run_at books run).quarter
+  few_gated = few_of_quarter books ok (is_available books taken (run_numbered books run)) (run_numbered books run).quarter
 
-  bid_orders : All (IsValidOrder (length books.zones.zones) (length (gated_left books taken run))) (map (λ i. bid_order (bid_at books.bids.bids i) (gate_of (gated_left books taken run) i) (taken.mw i)) (numbers_left books taken run))
+  bid_orders : All (IsValidOrder (length books.zones.zones) (length (gated_left books taken run))) (map (λ i. bid_order (bid_numbered books.bids.bids i) (gate_of (gated_left books taken run) i) (taken.mw i)) (numbers_left books taken run))
   bid_orders =
       let gated : List ℕ = gated_left books taken run in
       let zones : ℕ = length books.zones.zones in
-      let valid : (i : ℕ) → i < length books.bids.bids → IsValidOrder (length books.zones.zones) (length (gated_left books taken run)) (bid_order (bid_at books.bids.bids i) (gate_of (gated_left books taken run) i) (taken.mw i)) =
-      λ i l. bid books.zones (length books.bids.providers) books.quarters (length (gated_left books taken run)) (bid_at books.bids.bids i) (gate_of (gated_left books taken run) i) (taken.mw i) (ok.bids.bids i _ l) (λ g e. (gate-at (gated_left books taken run) i g e).0) in
-      All-map (IsValidOrder (length books.zones.zones) (length (gated_left books taken run))) (λ i. bid_order (bid_at books.bids.bids i) (gate_of (gated_left books taken run) i) (taken.mw i)) (numbers_left books taken run)
-      (All-weaker (λ i. i < length books.bids.bids) (λ i. IsValidOrder (length books.zones.zones) (length (gated_left books taken run)) (bid_order (bid_at books.bids.bids i) (gate_of (gated_left books taken run) i) (taken.mw i))) valid (numbers_left books taken run) there)
+      let valid : (i : ℕ) → i < length books.bids.bids → IsValidOrder (length books.zones.zones) (length (gated_left books taken run)) (bid_order (bid_numbered books.bids.bids i) (gate_of (gated_left books taken run) i) (taken.mw i)) =
+      λ i l. bid books.zones (length books.bids.providers) books.quarters (length (gated_left books taken run)) (bid_numbered books.bids.bids i) (gate_of (gated_left books taken run) i) (taken.mw i) (ok.bids.bids i _ l) (λ g e. (gate-at (gated_left books taken run) i g e).0) in
+      All-map (IsValidOrder (length books.zones.zones) (length (gated_left books taken run))) (λ i. bid_order (bid_numbered books.bids.bids i) (gate_of (gated_left books taken run) i) (taken.mw i)) (numbers_left books taken run)
+      (All-weaker (λ i. i < length books.bids.bids) (λ i. IsValidOrder (length books.zones.zones) (length (gated_left books taken run)) (bid_order (bid_numbered books.bids.bids i) (gate_of (gated_left books taken run) i) (taken.mw i))) valid (numbers_left books taken run) there)
 
   demand_orders : All (IsValidOrder (length books.zones.zones) (length (gated_left books taken run))) (map demand_order (demands_of_run books.demands.demands run))
   demand_orders = All-map (IsValidOrder (length books.zones.zones) (length (gated_left books taken run))) demand_order (demands_of_run books.demands.demands run)
@@ -198,7 +198,7 @@ module _ (books : Books) (taken : Taken) (run : ℕ) (ok : IsAccepted books) (sm
   gate g l =
       let gated : List ℕ = gated_left books taken run in
       let i : ℕ = get_or gated g 0 in
-      let order_of : ℕ → Order = λ k. bid_order (bid_at books.bids.bids k) (gate_of gated k) (taken.mw k) in
+      let order_of : ℕ → Order = λ k. bid_order (bid_numbered books.bids.bids k) (gate_of gated k) (taken.mw k) in
       let less : g < length gated = simp length-map at l in
       let own : gate_of gated i ≡ Some g = gate-is gated g rise less in
       let kept : All (Contains (numbers_left books taken run)) gated = All-filter (has_gate books.links) (Contains (numbers_left books taken run)) (numbers_left books taken run) (All-contains_itself (numbers_left books taken run)) in
@@ -211,15 +211,15 @@ module _ (books : Books) (taken : Taken) (run : ℕ) (ok : IsAccepted books) (sm
         used = (placed.0, order_of i, placed.1, placed.2, own);
       }
 
-  border_at : (k : ℕ) → k < length books.borders.borders → IsValidBorder (length books.zones.zones) (border_of (ends_at books.borders.borders k) (limits_at books run k) (taken.flow k))
+  border_at : (k : ℕ) → k < length books.borders.borders → IsValidBorder (length books.zones.zones) (border_left (ends_at books.borders.borders k) (run_limits books run k) (taken.flow k))
   border_at k l =
       let is : IsBorder books.zones (ends_at books.borders.borders k) = ok.borders.borders k _ l in
       let fits = in_range books books.limits run k ok.limits is in
-      border books.zones (ends_at books.borders.borders k) (limits_at books run k) (taken.flow k) is fits.0 fits.1 (small_flows k)
+      border books.zones (ends_at books.borders.borders k) (run_limits books run k) (taken.flow k) is fits.0 fits.1 (small_flows k)
 
   borders : All (IsValidBorder (length books.zones.zones)) (market_left books taken run).borders
-  borders = All-map (IsValidBorder (length books.zones.zones)) (λ k. border_of (ends_at books.borders.borders k) (limits_at books run k) (taken.flow k)) (range_with_len 0 (length books.borders.borders))
-      (All-weaker (λ k. k < length books.borders.borders) (λ k. IsValidBorder (length books.zones.zones) (border_of (ends_at books.borders.borders k) (limits_at books run k) (taken.flow k))) border_at
+  borders = All-map (IsValidBorder (length books.zones.zones)) (λ k. border_left (ends_at books.borders.borders k) (run_limits books run k) (taken.flow k)) (range_with_len 0 (length books.borders.borders))
+      (All-weaker (λ k. k < length books.borders.borders) (λ k. IsValidBorder (length books.zones.zones) (border_left (ends_at books.borders.borders k) (run_limits books run k) (taken.flow k))) border_at
       (range_with_len 0 (length books.borders.borders)) (range-below (length books.borders.borders)))
 
   -- the market is valid

@@ -8,7 +8,7 @@ use Rattle.mari_links.specs.declared.links.BidLinks.{BidLinks}
 use Rattle.mari_demands.specs.declared.runs.Run.{Run}
 use Rattle.mari_remain.specs.declared.books.Books.{Books}
 use Rattle.mari_remain.specs.Blocks.{PastBlock, flow_of, is_activated, mw_of, of_direct_runs, of_quarter}
-use Rattle.mari_remain.specs.Lists.{bid_at, group_at, parent_at}
+use Rattle.mari_remain.specs.Lists.{bid_numbered, group_at, parent_at}
 
 -- what was taken before a run: the MW of each bid in the run's quarter, whether a bid was activated at all, whether a
 -- direct run activated it, and the sum of each border's flows in the quarter
@@ -33,7 +33,7 @@ is_for run b = b.both || not run.direct
 
 -- what is left of a bid's offer in its quarter
 abbrev pub rest_of : Books → Taken → ℕ → ℕ
-rest_of books taken i = (bid_at books.bids.bids i).greatest - taken.mw i
+rest_of books taken i = (bid_numbered books.bids.bids i).greatest - taken.mw i
 
 -- whether a bid was activated in the quarter
 abbrev pub is_used : Taken → ℕ → Bool
@@ -61,7 +61,7 @@ keeps_links activated by_direct_run l =
 -- all of this: nothing but its parent can keep the bid from the run
 abbrev pub may_run : Books → Taken → Run → ℕ → Bool
 may_run books taken run i =
-    is_for run (bid_at books.bids.bids i)
+    is_for run (bid_numbered books.bids.bids i)
     && (is_left books taken i && (has_free_group books.links.links taken i && option_map_or (keeps_links taken.activated taken.by_direct_run) (slice_get books.links.links i) true))
 
 -- a parent, if it has one, was activated in the quarter, or is available

@@ -24,12 +24,12 @@ mw_beside bid (n ∷ ns) [] = 0
 mw_beside bid (n ∷ ns) (q ∷ qs) = (if n == bid then q else 0) + mw_beside bid ns qs
 
 -- the MW of a bid in a block, which has none unless it is published
-abbrev pub mw_in : ℕ → PastBlock → ℕ
-mw_in bid b = option_map_or (λ (r : PastRun). mw_beside bid r.bids r.activation.mw) b.published 0
+abbrev pub mw_in_block : ℕ → PastBlock → ℕ
+mw_in_block bid b = option_map_or (λ (r : PastRun). mw_beside bid r.bids r.activation.mw) b.published 0
 
 -- the MW of a bid over blocks
 abbrev pub mw_of : List PastBlock → ℕ → ℕ
-mw_of blocks bid = sum_by (mw_in bid) blocks
+mw_of blocks bid = sum_by (mw_in_block bid) blocks
 
 -- blocks activate a bid where it has more than 0 MW in them
 abbrev pub is_activated : List PastBlock → ℕ → Bool

@@ -5,9 +5,9 @@ use Rattle.std.specs.Option.{option_map_or}
 use Rattle.mari_market.specs.Optimal.{IsFeasible}
 use Rattle.mari_market.specs.declared.activation.Activation.{Activation}
 use Rattle.mari_remain.specs.declared.books.Books.{Books}
-use Rattle.mari_remain.specs.Blocks.{PastBlock, PastRun, flow_in, flow_of, is_activated, mw_in, mw_of, of_direct_runs, of_quarter}
+use Rattle.mari_remain.specs.Blocks.{PastBlock, PastRun, flow_in, flow_of, is_activated, mw_in_block, mw_of, of_direct_runs, of_quarter}
 use Rattle.mari_remain.specs.Available.{Taken}
-use Rattle.mari_remain.specs.Lists.{bid_at, bids_of_quarter, numbers_of_run, run_at}
+use Rattle.mari_remain.specs.Lists.{bid_numbered, bids_of_quarter, numbers_of_run, run_numbered}
 use Rattle.mari_remain.specs.RunMarket.{market_at, numbers_of}
 
 -- what a published block of a run tells: the bids of the run's market behind these blocks, and an activation that is
@@ -20,16 +20,16 @@ pub record IsPastRun (books : Books) (blocks : List PastBlock) (run : ℕ) (past
 pub record IsNextBlock (books : Books) (blocks : List PastBlock) (b : PastBlock) : Type 0 where
   pub run : b.run ≡ length blocks + 1
   pub there : b.run ≤ length books.runs.runs
-  pub quarter : b.quarter ≡ (run_at books b.run).quarter
-  pub direct : b.direct ≡ (run_at books b.run).direct
+  pub quarter : b.quarter ≡ (run_numbered books b.run).quarter
+  pub direct : b.direct ≡ (run_numbered books b.run).direct
   pub published : IfSome b.published (IsPastRun books blocks b.run)
 
 -- the published block of a run, with these bids and this activation
 abbrev pub block_of : Books → (run : ℕ) → List ℕ → Activation → PastBlock
 block_of books run bids a = record {
   run = run;
-  quarter = (run_at books run).quarter;
-  direct = (run_at books run).direct;
+  quarter = (run_numbered books run).quarter;
+  direct = (run_numbered books run).direct;
   published = Some (record { bids = bids; activation = a });
 }
 
@@ -38,8 +38,8 @@ abbrev pub AreFirstBlocks : Books → List PastBlock → Type 0
 AreFirstBlocks books blocks = (k : ℕ) (b : PastBlock) → slice_get blocks k ≡ Some b → IsNextBlock books (take k blocks) b
 
 -- the quarter of the last published block, if there is one
-abbrev pub last_quarter : List PastBlock → Option ℕ
-last_quarter blocks = fold (λ before (b : PastBlock). if is_some b.published then Some b.quarter else before) None blocks
+abbrev pub last_published_quarter : List PastBlock → Option ℕ
+last_published_quarter blocks = fold (λ before (b : PastBlock). if is_some b.published then Some b.quarter else before) None blocks
 
 -- what is kept of the blocks: the MW of each bid, whether a direct run activated it, the quarter of the last published
 -- block, and the sum of each border's flows in that quarter
@@ -59,7 +59,7 @@ pub record StandsFor (books : Books) (blocks : List PastBlock) (kept : Tally) : 
   pub first : AreFirstBlocks books blocks
   pub mw : kept.mw ≡ map (mw_of blocks) (range_with_len 0 (length books.bids.bids))
   pub direct : kept.direct ≡ map (is_activated (of_direct_runs blocks)) (range_with_len 0 (length books.bids.bids))
-  pub quarter : kept.quarter ≡ last_quarter blocks
+  pub quarter : kept.quarter ≡ last_published_quarter blocks
   pub flow : kept.flow ≡ map (flow_of (of_quarter (unwrap_or kept.quarter 0) blocks)) (range_with_len 0 (length books.borders.borders))
   pub of_quarter : kept.of_quarter ≡ map (bids_of_quarter books.bids.bids) (range_with_len 0 (books.quarters + 1))
   pub of_run : kept.of_run ≡ map (numbers_of_run books.demands.demands) (range_with_len 0 (length books.runs.runs + 1))
@@ -67,7 +67,7 @@ pub record StandsFor (books : Books) (blocks : List PastBlock) (kept : Tally) : 
 -- what is taken, as it is read off what is kept, for a run of a quarter
 abbrev pub taken_in : Books → Tally → (quarter : ℕ) → Taken
 taken_in books kept quarter = record {
-  mw = λ i. if (bid_at books.bids.bids i).quarter == quarter then get_or kept.mw i 0 else 0;
+  mw = λ i. if (bid_numbered books.bids.bids i).quarter == quarter then get_or kept.mw i 0 else 0;
   activated = λ i. nat_lt 0 (get_or kept.mw i 0);
   by_direct_run = λ i. get_or kept.direct i false;
   flow = λ k. if option_map_or (λ last. last == quarter) kept.quarter false then get_or kept.flow k (pos 0) else pos 0;
@@ -77,9 +77,9 @@ taken_in books kept quarter = record {
 -- added to those of its quarter
 pub record IsKeptAfter (b : PastBlock) (kept after : Tally) : Type 0 where
   pub mws : length after.mw ≡ length kept.mw
-  pub mw : (i : ℕ) → get_or after.mw i 0 ≡ get_or kept.mw i 0 + mw_in i b
+  pub mw : (i : ℕ) → get_or after.mw i 0 ≡ get_or kept.mw i 0 + mw_in_block i b
   pub marks : length after.direct ≡ length kept.direct
-  pub direct : (i : ℕ) → get_or after.direct i false ≡ (get_or kept.direct i false || (b.direct && nat_lt 0 (mw_in i b)))
+  pub direct : (i : ℕ) → get_or after.direct i false ≡ (get_or kept.direct i false || (b.direct && nat_lt 0 (mw_in_block i b)))
   pub quarter : after.quarter ≡ Some b.quarter
   pub flows : length after.flow ≡ length kept.flow
   pub flow : (k : ℕ) → get_or after.flow k (pos 0) ≡ (if option_map_or (λ last. last == b.quarter) kept.quarter false then get_or kept.flow k (pos 0) else pos 0) +ℤ flow_in k b

@@ -21,8 +21,8 @@ abbrev pub bids_of_quarter : List Bid → ℕ → List ℕ
 bids_of_quarter bids quarter = places_from (λ (b : Bid). b.quarter == quarter) 0 bids
 
 -- the bid of a number that is there
-abbrev pub bid_at : List Bid → ℕ → Bid
-bid_at bids i = slice_index_or bids i (record { provider = 0; zone = 0; quarter = 0; up = false; price = record { 0 = pos 0 }; least = 0; greatest = 0; both = false })
+abbrev pub bid_numbered : List Bid → ℕ → Bid
+bid_numbered bids i = slice_index_or bids i (record { provider = 0; zone = 0; quarter = 0; up = false; price = record { 0 = pos 0 }; least = 0; greatest = 0; both = false })
 
 -- the demands of a run, by their numbers, in the order of the file of demands
 abbrev pub numbers_of_run : List Demand → ℕ → List ℕ
@@ -40,5 +40,5 @@ abbrev pub parent_at : List BidLinks → ℕ → Option ℕ
 parent_at links i = option_and_then (λ (l : BidLinks). l.parent) (slice_get links i)
 
 -- a run, counted from 1
-abbrev pub run_at : Books → ℕ → Run
-run_at books run = slice_index_or books.runs.runs (run - 1) (record { quarter = 0; direct = false; reference = record { 0 = pos 0 } })
+abbrev pub run_numbered : Books → ℕ → Run
+run_numbered books run = slice_index_or books.runs.runs (run - 1) (record { quarter = 0; direct = false; reference = record { 0 = pos 0 } })

@@ -11,7 +11,7 @@ use Rattle.mari_zones.specs.declared.zones.ZoneBook.{ZoneBook}
 use Rattle.mari_demands.specs.Limits.{limit_columns, limit_grammar}
 use Rattle.mari_demands.specs.declared.limits.Limits.{Limits}
 use Rattle.mari_remain.specs.declared.books.Books.{Books}
-use Rattle.mari_remain.specs.RunMarket.{ends_at, limits_at}
+use Rattle.mari_remain.specs.RunMarket.{ends_at, run_limits}
 
 -- a line: its fields with commas between, and the line's end
 abbrev pub line_of : List (List ℕ) → List ℕ
@@ -36,7 +36,7 @@ module _ (books : Books) where
 
   -- the limits of each border in a run
   abbrev pub run_records : (run : ℕ) → List (List (List ℕ))
-  run_records run = map (λ k. limit_record books.zones run (ends_at books.borders.borders k) (limits_at books run k)) (range_with_len 0 (length books.borders.borders))
+  run_records run = map (λ k. limit_record books.zones run (ends_at books.borders.borders k) (run_limits books run k)) (range_with_len 0 (length books.borders.borders))
 
   -- the page of limits: for each run, in order, the limits of each border
   abbrev pub limits_page : List ℕ

@@ -20,7 +20,7 @@ use Rattle.mari_remain.specs.declared.books.Books.{Books}
 use Rattle.mari_remain.specs.declared.market.RunMarket.{RunMarket}
 use Rattle.mari_remain.specs.Available.{Taken, is_available, taken_by}
 use Rattle.mari_remain.specs.Blocks.{PastBlock}
-use Rattle.mari_remain.specs.Lists.{bid_at, bids_of_quarter, group_at, parent_at, run_at}
+use Rattle.mari_remain.specs.Lists.{bid_numbered, bids_of_quarter, group_at, parent_at, run_numbered}
 use Rattle.mari_units.specs.declared.numbers.TheConstants.{CAP}
 
 -- a bid's gate: its place among the gated bids
@@ -28,18 +28,18 @@ abbrev pub gate_of : List ℕ → ℕ → Option ℕ
 gate_of gated i = position (λ j. j == i) gated
 
 -- the least quantity of a bid: without a gate it may run anything, and with one at least 1 MW where it runs
-abbrev pub least_of : Option ℕ → ℕ → ℕ
-least_of None least = 0
-least_of (Some gate) least = if least == 0 then 1 else least
+abbrev pub least_left : Option ℕ → ℕ → ℕ
+least_left None least = 0
+least_left (Some gate) least = if least == 0 then 1 else least
 
 -- the greatest quantity: without a gate what earlier blocks left of the offer, and with one the whole offer
-abbrev pub greatest_of : Option ℕ → (offer taken : ℕ) → ℕ
-greatest_of None offer taken = offer - taken
-greatest_of (Some gate) offer taken = offer
+abbrev pub greatest_left : Option ℕ → (offer taken : ℕ) → ℕ
+greatest_left None offer taken = offer - taken
+greatest_left (Some gate) offer taken = offer
 
 -- the order of a bid of which earlier blocks took so much
 abbrev pub bid_order : Bid → Option ℕ → ℕ → Order
-bid_order b gate taken = record { zone = b.zone; side = side_of b.up; price = b.price; least = least_of gate b.least; greatest = greatest_of gate b.greatest taken; gate = gate }
+bid_order b gate taken = record { zone = b.zone; side = side_of b.up; price = b.price; least = least_left gate b.least; greatest = greatest_left gate b.greatest taken; gate = gate }
 
 -- a demand that states no price is met at any: it takes at the cap, or gives at its negative
 abbrev pub inelastic_price : ℤ → Cents
@@ -70,8 +70,8 @@ abbrev pub stated_limits : Option (List (List Limits)) → BorderEnds → (run b
 stated_limits None ends run k = own_limits ends
 stated_limits (Some table) ends run k = limits_in table run k
 
-abbrev pub limits_at : Books → (run border : ℕ) → Limits
-limits_at books run k = stated_limits books.limits (ends_at books.borders.borders k) run k
+abbrev pub run_limits : Books → (run border : ℕ) → Limits
+run_limits books run k = stated_limits books.limits (ends_at books.borders.borders k) run k
 
 -- a whole number, or 0 where it is below
 abbrev pub at_least_0 : ℤ → ℕ
@@ -79,8 +79,8 @@ at_least_0 (pos n) = n
 at_least_0 (negsuc n) = 0
 
 -- a border over which so much flowed before: what is left of its limits, which is nothing where the flow is past them
-abbrev pub border_of : BorderEnds → Limits → ℤ → Border
-border_of ends limits flow = record {
+abbrev pub border_left : BorderEnds → Limits → ℤ → Border
+border_left ends limits flow = record {
   from = ends.from;
   to = ends.to;
   limit = at_least_0 (pos limits.limit -ℤ flow);
@@ -94,7 +94,7 @@ gate_at links gated i = record { group = group_at links i; parent = option_and_t
 
 -- the orders of these bids, of which so much was taken, and then of the demands
 abbrev pub orders_of : List Bid → (taken : ℕ → ℕ) → (numbers gated : List ℕ) → List Demand → List Order
-orders_of bids taken numbers gated demands = map (λ i. bid_order (bid_at bids i) (gate_of gated i) (taken i)) numbers ++ map demand_order demands
+orders_of bids taken numbers gated demands = map (λ i. bid_order (bid_numbered bids i) (gate_of gated i) (taken i)) numbers ++ map demand_order demands
 
 -- the gates of the gated bids
 abbrev pub gates_of : List BidLinks → List ℕ → List GateInfo
@@ -103,7 +103,7 @@ gates_of links gated = map (gate_at links gated) gated
 module _ (books : Books) (taken : Taken) (run : ℕ) where
   -- the numbers of the available bids of the run's quarter, in the order of the bid file
   abbrev pub numbers_left : List ℕ
-  numbers_left = filter (is_available books taken (run_at books run)) (bids_of_quarter books.bids.bids (run_at books run).quarter)
+  numbers_left = filter (is_available books taken (run_numbered books run)) (bids_of_quarter books.bids.bids (run_numbered books run).quarter)
 
   -- and of those with a gate
   abbrev pub gated_left : List ℕ
@@ -111,7 +111,7 @@ module _ (books : Books) (taken : Taken) (run : ℕ) where
 
   -- each border with what is left of its limits
   abbrev pub borders_left : List Border
-  borders_left = map (λ k. border_of (ends_at books.borders.borders k) (limits_at books run k) (taken.flow k)) (range_with_len 0 (length books.borders.borders))
+  borders_left = map (λ k. border_left (ends_at books.borders.borders k) (run_limits books run k) (taken.flow k)) (range_with_len 0 (length books.borders.borders))
 
   -- the available bids, then the run's demands, over the borders with what is left of their limits
   abbrev pub market_left : Market
@@ -120,7 +120,7 @@ module _ (books : Books) (taken : Taken) (run : ℕ) where
     borders = borders_left;
     orders = orders_of books.bids.bids taken.mw numbers_left gated_left (demands_of_run books.demands.demands run);
     gates = gates_of books.links.links gated_left;
-    reference = (run_at books run).reference;
+    reference = (run_numbered books run).reference;
   }
 
   -- with the numbers of its bids, and how many demands there are
@@ -134,7 +134,7 @@ module _ (books : Books) (taken : Taken) (run : ℕ) where
 module _ (books : Books) (blocks : List PastBlock) (run : ℕ) where
   -- what the blocks took, for this run
   abbrev pub taken_before : Taken
-  taken_before = taken_by blocks (run_at books run).quarter
+  taken_before = taken_by blocks (run_numbered books run).quarter
 
   -- the market of the run, counted from 1, behind these blocks
   abbrev pub market_at : Market

@@ -8,7 +8,7 @@ ghost use Rattle.mari_remain.specs.Accepted.{IsAccepted};
 ghost use Rattle.mari_remain.specs.Available.{Taken, has_free_group as has_free_group_in, is_available, is_for as is_for_in, is_left as is_left_in, may_run as may_run_in, share_group as share_group_in};
 ghost use Rattle.mari_remain.specs.Choice.{keeps_links_in, rivals_in};
 ghost use Rattle.mari_remain.specs.FirstBlocks.{taken_in};
-ghost use Rattle.mari_remain.specs.Lists.{bid_at, bids_of_quarter, group_at, parent_at};
+ghost use Rattle.mari_remain.specs.Lists.{bid_numbered, bids_of_quarter, group_at, parent_at};
 
 use crate::books::Books;
 use crate::market::bid_of;
@@ -142,7 +142,7 @@ fn has_rival(links: &[BidLinks], rivals: &[u32], number: u32) -> bool
 
 /// Whether a bid is for this kind of run.
 fn is_for(books: &Books, run: Run, number: u32) -> bool
-    ensures { result ≡ is_for_in run (bid_at books.now.bids.bids number) }
+    ensures { result ≡ is_for_in run (bid_numbered books.now.bids.bids number) }
 {
     bid_of(books.bids.bids.as_slice(), number).both || !run.direct
 }
@@ -176,7 +176,7 @@ fn names_allow(books: &Books, remaining: &Remaining, number: u32) -> bool
 /// Whether nothing but its parent can keep a bid from a run.
 fn may_run(books: &Books, remaining: &Remaining, run: Run, rivals: &[u32], number: u32) -> bool
     requires accepted { IsAccepted books.now }
-    requires quarter { (bid_at books.now.bids.bids number).quarter ≡ run.quarter }
+    requires quarter { (bid_numbered books.now.bids.bids number).quarter ≡ run.quarter }
     requires rivals { rivals.now ≡ filter (rivals_in books.now remaining.now) (bids_of_quarter books.now.bids.bids run.quarter) }
     ensures { result ≡ may_run_in books.now (taken_in books.now remaining.now run.quarter) run number }
 {
@@ -211,7 +211,7 @@ fn is_next(
     number: u32,
 ) -> bool
     requires accepted { IsAccepted books.now }
-    requires quarter { (bid_at books.now.bids.bids number).quarter ≡ run.quarter }
+    requires quarter { (bid_numbered books.now.bids.bids number).quarter ≡ run.quarter }
     requires rivals { rivals.now ≡ filter (rivals_in books.now remaining.now) (bids_of_quarter books.now.bids.bids run.quarter) }
     ensures { result ≡ (may_run_in books.now (taken_in books.now remaining.now run.quarter) run number
         && option_map_or (λ p. nat_lt 0 (get_or remaining.now.mw p 0) || list_any (λ j. j == p) gated.now) (parent_at books.now.links.links number) true) }

@@ -6,11 +6,11 @@ ghost use Rattle.mari_zones.specs.Borders.{borders_in};
 ghost use Rattle.mari_zones.specs.declared.borders.BorderBook.{BorderBook};
 ghost use Rattle.mari_demands.specs.declared.limits.Limits.{Limits};
 ghost use Rattle.mari_remain.specs.Accepted.{IsAccepted};
-ghost use Rattle.mari_remain.specs.Blocks.{PastBlock, mw_in, mw_of};
+ghost use Rattle.mari_remain.specs.Blocks.{PastBlock, mw_in_block, mw_of};
 ghost use Rattle.mari_remain.specs.FirstBlocks.{AreFirstBlocks, IsKeptAfter, IsNextBlock, Tally, StandsFor};
-ghost use Rattle.mari_remain.specs.Lists.{bid_at};
+ghost use Rattle.mari_remain.specs.Lists.{bid_numbered};
 ghost use Rattle.mari_remain.specs.Migrated.{AreRead, borders_page, limits_page, with_limits};
-ghost use Rattle.mari_remain.specs.RunMarket.{limits_at, run_market_of};
+ghost use Rattle.mari_remain.specs.RunMarket.{run_limits, run_market_of};
 
 use crate::books::Books;
 use mari_units::MOST_PAGE;
@@ -18,9 +18,9 @@ use mari_units::MOST_PAGE;
 /// No bid is activated above its offer over the blocks of a day, and a gated one is activated in at most one of them.
 pub fn offers_are_kept(books: &Books)
     requires { IsAccepted books.now }
-    ensures offers { (blocks : List PastBlock) → AreFirstBlocks books.now blocks → (bid : ℕ) → mw_of blocks bid ≤ (bid_at books.now.bids.bids bid).greatest }
+    ensures offers { (blocks : List PastBlock) → AreFirstBlocks books.now blocks → (bid : ℕ) → mw_of blocks bid ≤ (bid_numbered books.now.bids.bids bid).greatest }
     ensures once { (blocks : List PastBlock) (next : PastBlock) → AreFirstBlocks books.now blocks → IsNextBlock books.now blocks next
-        → (bid : ℕ) → has_gate books.now.links bid ≡ true → (mw_of blocks bid ≡ 0) ⊎ (mw_in bid next ≡ 0) }
+        → (bid : ℕ) → has_gate books.now.links bid ≡ true → (mw_of blocks bid ≡ 0) ⊎ (mw_in_block bid next ≡ 0) }
 {
     let _books = books;
 }
@@ -52,7 +52,7 @@ pub fn migration_keeps_markets(books: &Books)
     ensures accepted { (borders : BorderBook) (limits : List (List Limits)) → AreRead books.now borders limits → IsAccepted (with_limits books.now borders limits) }
     ensures limits { (borders : BorderBook) (limits : List (List Limits)) → AreRead books.now borders limits
         → (run border : ℕ) → 1 ≤ run → run ≤ length books.now.runs.runs → border < length books.now.borders.borders
-        → limits_at (with_limits books.now borders limits) run border ≡ limits_at books.now run border }
+        → run_limits (with_limits books.now borders limits) run border ≡ run_limits books.now run border }
 
     // So each run has its market, and the lists of blocks of first runs are the same.
     ensures markets { (borders : BorderBook) (limits : List (List Limits)) → AreRead books.now borders limits

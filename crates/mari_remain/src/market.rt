@@ -9,8 +9,8 @@ ghost use Rattle.mari_remain.specs.Accepted.{IsAccepted};
 ghost use Rattle.mari_remain.specs.Available.{Taken};
 ghost use Rattle.mari_remain.specs.Blocks.{PastBlock};
 ghost use Rattle.mari_remain.specs.FirstBlocks.{Tally, StandsFor, block_of, taken_in};
-ghost use Rattle.mari_remain.specs.Lists.{bid_at, bids_of_quarter, demand_at, numbers_of_run, run_at};
-ghost use Rattle.mari_remain.specs.RunMarket.{at_least_0 as at_least_0_of, bid_order as bid_order_of, border_of as border_in, borders_left, demand_order as demand_order_of, demands_of_run as demands_in, ends_at, gate_at, gate_of as gate_in, gated_left, gates_of as gates_in, inelastic_price as inelastic_price_of, limits_at, numbers_left, orders_of as orders_in, run_market_left, run_market_of};
+ghost use Rattle.mari_remain.specs.Lists.{bid_numbered, bids_of_quarter, demand_at, numbers_of_run, run_numbered};
+ghost use Rattle.mari_remain.specs.RunMarket.{at_least_0 as at_least_0_of, bid_order as bid_order_of, border_left as border_in, borders_left, demand_order as demand_order_of, demands_of_run as demands_in, ends_at, gate_at, gate_of as gate_in, gated_left, gates_of as gates_in, inelastic_price as inelastic_price_of, numbers_left, orders_of as orders_in, run_limits, run_market_left, run_market_of};
 
 use crate::adding::{add_mw, carry, mark_if};
 use crate::books::Books;
@@ -125,7 +125,7 @@ fn demand_order(demand: &Demand) -> Order
 
 /// The bid of a number.
 pub(crate) fn bid_of(bids: &[Bid], number: u32) -> Bid
-    ensures { result ≡ bid_at bids.now number }
+    ensures { result ≡ bid_numbered bids.now number }
 {
     bids.get(number as usize).copied().unwrap_or(NO_BID)
 }
@@ -140,8 +140,8 @@ fn bid_orders(
     gated: &[u32],
 ) -> Result<Vec<Order>, Memory>
     requires gates { length gated.now ≤ MOST_GATES }
-    requires own { All (λ i. (bid_at books.now.bids.bids i).quarter ≡ quarter) numbers.now }
-    ensures { IfOk result (λ orders. orders.items ≡ map (λ i. bid_order_of (bid_at books.now.bids.bids i) (gate_in gated.now i) ((taken_in books.now remaining.now quarter).mw i)) numbers.now) }
+    requires own { All (λ i. (bid_numbered books.now.bids.bids i).quarter ≡ quarter) numbers.now }
+    ensures { IfOk result (λ orders. orders.items ≡ map (λ i. bid_order_of (bid_numbered books.now.bids.bids i) (gate_in gated.now i) ((taken_in books.now remaining.now quarter).mw i)) numbers.now) }
 {
     let mut orders = Vec::new(alloc);
     for number in numbers {
@@ -222,7 +222,7 @@ pub(crate) fn limits_of(books: &Books, run: u32, border: u32, ends: BorderEnds) 
     requires ends { ends ≡ ends_at books.now.borders.borders border }
 
     // Stated for the day or for that run, and no greater than a file may state them.
-    ensures limits { result ≡ limits_at books.now run border }
+    ensures limits { result ≡ run_limits books.now run border }
     ensures limit { result.limit ≤ MOST_MW }
     ensures back { result.back ≤ MOST_MW }
 {
@@ -272,7 +272,7 @@ fn borders_of(
     requires accepted { IsAccepted books.now }
     requires first { 1 ≤ run }
     requires last { run ≤ length books.now.runs.runs }
-    requires quarter { quarter ≡ (run_at books.now run).quarter }
+    requires quarter { quarter ≡ (run_numbered books.now run).quarter }
     requires small { All (λ flow. unsigned_abs flow ≤ MOST_MW) remaining.now.flow }
     ensures { IfOk result (λ made. made.items ≡ borders_left books.now (taken_in books.now remaining.now quarter) run) }
 {
@@ -295,7 +295,7 @@ fn orders_of(
     demands: &[Demand],
 ) -> Result<Vec<Order>, Memory>
     requires gates { length choice.now.gated.items ≤ MOST_GATES }
-    requires own { All (λ i. (bid_at books.now.bids.bids i).quarter ≡ quarter) choice.now.numbers.items }
+    requires own { All (λ i. (bid_numbered books.now.bids.bids i).quarter ≡ quarter) choice.now.numbers.items }
     requires small { All (λ d. unsigned_abs d.mw ≤ MOST_MW) demands.now }
     ensures { IfOk result (λ orders. orders.items ≡ orders_in books.now.bids.bids (taken_in books.now remaining.now quarter).mw choice.now.numbers.items choice.now.gated.items demands.now) }
 {
@@ -316,7 +316,7 @@ fn orders_of(
 /// What the book of runs says of a run, counted from 1.
 pub fn run_entry(books: &Books, run: u32) -> Run
     requires { 1 ≤ run }
-    ensures { result ≡ run_at books.now run }
+    ensures { result ≡ run_numbered books.now run }
 {
     let entry = books.runs.runs.as_slice().get(run as usize - 1);
     entry.copied().unwrap_or(NO_RUN)
@@ -340,7 +340,7 @@ fn made_of(
     requires demands { remaining.now.of_run ≡ map (numbers_of_run books.now.demands.demands) (range_with_len 0 (length books.now.runs.runs + 1)) }
 
     // The market behind these blocks.
-    ensures { IfOk result (λ made. made ≡ run_market_left books.now (taken_in books.now remaining.now (run_at books.now run).quarter) run) }
+    ensures { IfOk result (λ made. made ≡ run_market_left books.now (taken_in books.now remaining.now (run_numbered books.now run).quarter) run) }
 {
     let entry = run_entry(books, run);
     let choice = choose(alloc, books, remaining, entry)?;

@@ -23,7 +23,7 @@ pub fn is_whole(text: &[u8]) -> bool
 }
 
 /// Whether a text writes a price.
-pub fn is_price(text: &[u8]) -> bool
+pub fn writes_price(text: &[u8]) -> bool
     ensures { result ≡ is_some (price_of text.now) }
 {
     !matches!(read_cents(text), Err(NumberFault::NotANumber))

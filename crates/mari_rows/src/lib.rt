@@ -18,6 +18,6 @@ pub use checks::{FileCheck, LineFault, RowCheck};
 pub use counts::count_one;
 pub use faults::{AddFault, BookFault, RowFault};
 pub use field::Field;
-pub use fields::{cents_of, is_first_of, is_price, is_whole, number_of};
+pub use fields::{cents_of, is_first_of, is_whole, number_of, writes_price};
 pub use names::NameIndex;
 pub use rows::{Row, RowReader, Rows, has_header, read_rows, rows_of};

@@ -15,7 +15,7 @@ use Rattle.mari_rows.proofs.PlaceLemmas.{among-push}
 use Rattle.mari_bids.specs.Bids.{bid_book, bid_columns, bid_grammar, both_word, down_word, id_of, line_checks, quarter_at, scheduled_word as scheduled, up_word}
 use Rattle.mari_bids.specs.declared.bids.BidBook.{BidBook}
 use Rattle.mari_scenario.specs.Draws.{draw, lines}
-use Rattle.mari_scenario.specs.Pages.{bid_line, bid_price, bids_at, direction, greatest, is_both, is_up, kind, least_of, provider, zone}
+use Rattle.mari_scenario.specs.Pages.{bid_least, bid_line, bid_price, bids_at, direction, greatest, is_both, is_up, kind, provider, zone}
 use Rattle.mari_scenario.proofs.Accepting.{Passes, accepted, drawn, none-fails, one-line, rows, rows-length, rows-more}
 use Rattle.mari_scenario.proofs.BidNames.{bid-name, bid-plain, bid_id, ids-differ, provider-name, provider-plain}
 use Rattle.mari_scenario.proofs.DrawBounds.{draw-lt}
@@ -31,7 +31,7 @@ abbrev zone_number : ℕ → ℕ
 zone_number x = draw 1 8 x
 
 abbrev least : (i state : ℕ) → ℕ
-least i x = least_of (i % 40 + 1) (greatest x)
+least i x = bid_least (i % 40 + 1) (greatest x)
 
 abbrev turn : ℕ → ℕ
 turn i = (i % 40 + 1 - 1) % 10 + 1
@@ -201,7 +201,7 @@ the_bids x = bid_book the_zones 96 (bid_rows 960 x)
 abbrev header : List (List ℕ)
 header = codes "id" ∷ codes "provider" ∷ codes "zone" ∷ codes "quarter" ∷ codes "direction" ∷ codes "price" ∷ codes "least" ∷ codes "greatest" ∷ codes "kind" ∷ []
 
-pub bids-accepted : (x : ℕ) → book_in (bid_grammar the_zones 96) (codes "id,provider,zone,quarter,direction,price,least,greatest,kind\n" ++ (bids_at x).text) ≡ Ok (the_bids x)
+pub bids-accepted : (x : ℕ) → book_in (bid_grammar the_zones 96) (bid_columns ++ 10 ∷ (bids_at x).text) ≡ Ok (the_bids x)
 unfolding bid_columns strip_bom the_bids
-bids-accepted x = accepted bid_line bid_records (bid_grammar the_zones 96) 7 960 x (codes "id,provider,zone,quarter,direction,price,least,greatest,kind\n" ++ (bids_at x).text) header refl refl refl refl
+bids-accepted x = accepted bid_line bid_records (bid_grammar the_zones 96) 7 960 x (bid_columns ++ 10 ∷ (bids_at x).text) header refl refl refl refl
     (record { sized = refl; plain = (refl, (refl, (refl, (refl, (refl, (refl, (refl, (refl, (refl, tt))))))))) }) text-of (λ i x few. (bid-is-line i x few, tt)) (bid-passes x) refl

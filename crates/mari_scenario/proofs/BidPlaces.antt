@@ -12,7 +12,7 @@ use Rattle.mari_rows.proofs.NameLemmas.{bytes_eq-same}
 use Rattle.mari_rows.proofs.PlaceLemmas.{among-push, place-new, place-stays}
 use Rattle.mari_bids.specs.Bids.{bid_at, id_of, provider_of, providers_of}
 use Rattle.mari_bids.specs.declared.bids.Bid.{Bid}
-use Rattle.mari_links.specs.Links.{bid_named, least_of, quarter_of}
+use Rattle.mari_links.specs.Links.{bid_named, least_of_bid, quarter_of}
 use Rattle.mari_scenario.specs.Draws.{lines}
 use Rattle.mari_scenario.specs.Pages.{bid, bid_line}
 use Rattle.mari_scenario.proofs.Accepting.{drawn, rows-more}
@@ -106,7 +106,7 @@ quarter-told x k few =
     rw (found.2, decimal_in 1 96 (k / 40 + 1) (omega arith) (omega arith) (omega arith)) refl
 
 -- a bid that isn't every fifth is divisible
-pub divisible : (x k : ℕ) → k < 960 → ((k + 1) % 5 == 0) ≡ false → least_of (the_bids x) k ≡ 0
+pub divisible : (x k : ℕ) → k < 960 → ((k + 1) % 5 == 0) ≡ false → least_of_bid (the_bids x) k ≡ 0
 unfolding the_bids
 divisible x k few other =
     let found = bid-there (said_bid x) 960 x k few (omega arith) in

@@ -2,7 +2,7 @@
 use Rattle.std.proofs.Common.{◌≡◌, ◌∙◌, ◌+◌, ◌-◌, ◌%◌, ℕ, ℤ, Bool, List, [], ◌∷◌, ◌++◌, append_assoc, decimal}
 use Rattle.mari_units.specs.Numbers.{printed_cents}
 use Rattle.mari_scenario.specs.Draws.{draw}
-use Rattle.mari_scenario.specs.Pages.{bid, bid_price, bid_text, direction, greatest, is_both, is_up, kind, least_of, provider, row, zone}
+use Rattle.mari_scenario.specs.Pages.{bid, bid_least, bid_price, bid_text, direction, greatest, is_both, is_up, kind, provider, row, zone}
 
 -- two fields with a comma behind each, and what follows
 two : (old a b rest : List ℕ) → (old ++ a ++ 44 ∷ b ++ 44 ∷ []) ++ rest ≡ old ++ (a ++ 44 ∷ (b ++ 44 ∷ rest))
@@ -24,7 +24,7 @@ joined old a b c d e f g h j =
 
 -- what is there after each piece, where the pieces are made of what the draws give
 pub put-together : (t j x : ℕ) (before named placed offered done : List ℕ) (at : ℕ) (up : Bool) (cents : ℤ) (least most : ℕ) (both : Bool)
-    → at ≡ 1 + draw 1 8 x → up ≡ is_up x → cents ≡ bid_price x → least ≡ least_of j most → most ≡ greatest x → both ≡ is_both x
+    → at ≡ 1 + draw 1 8 x → up ≡ is_up x → cents ≡ bid_price x → least ≡ bid_least j most → most ≡ greatest x → both ≡ is_both x
     → named ≡ before ++ bid t j ++ 44 ∷ provider ((j - 1) % 10 + 1) ++ 44 ∷ []
     → placed ≡ named ++ zone at ++ 44 ∷ decimal t ++ 44 ∷ direction up ++ 44 ∷ []
     → offered ≡ placed ++ printed_cents cents ++ 44 ∷ decimal least ++ 44 ∷ []
@@ -32,4 +32,4 @@ pub put-together : (t j x : ℕ) (before named placed offered done : List ℕ) (
     → done ≡ before ++ bid_text t j x
 put-together t j x before named placed offered done at up cents least most both a u c l m b n p o d =
     rw (d, o, p, n, a, u, c, l, m, b)
-    (joined before (bid t j) (provider ((j - 1) % 10 + 1)) (zone (1 + draw 1 8 x)) (decimal t) (direction (is_up x)) (printed_cents (bid_price x)) (decimal (least_of j (greatest x))) (decimal (greatest x)) (kind (is_both x)))
+    (joined before (bid t j) (provider ((j - 1) % 10 + 1)) (zone (1 + draw 1 8 x)) (decimal t) (direction (is_up x)) (printed_cents (bid_price x)) (decimal (bid_least j (greatest x))) (decimal (greatest x)) (kind (is_both x)))

@@ -101,7 +101,7 @@ the_borders x = border_book the_zones 1 (border_rows 10 x)
 
 -- its page is of version 1
 abbrev page : ℕ → List ℕ
-page x = codes "from,to,limit,back\n" ++ (borders_at x).text
+page x = border_columns ++ 10 ∷ (borders_at x).text
 
 abbrev header : List (List ℕ)
 header = codes "from" ∷ codes "to" ∷ codes "limit" ∷ codes "back" ∷ []
@@ -116,16 +116,16 @@ lines-of : (i x : ℕ) → i < 10 → AreLines 4 (border_records i x)
 lines-of i x few = (border-is-line i x few, tt)
 
 pub version-one : (x : ℕ) → version_in (page x) ≡ 1
-unfolding strip_bom bare_columns
+unfolding strip_bom bare_columns border_columns
 version-one x =
     rw (records-read 2 (page x) header (drawn border_line border_records 10 x)
-    (ap (λ t. codes "from,to,limit,back\n" ++ t) (drawn-text border_line border_records text-of 10 x))
+    (ap (λ t. border_columns ++ 10 ∷ t) (drawn-text border_line border_records text-of 10 x))
     refl header-line (drawn-lines border_line border_records 4 10 lines-of 10 x (omega arith))) refl
 
 pub count-borders : (x : ℕ) → length (the_borders x).borders ≡ 10
 unfolding the_borders
 count-borders x = length-map (border_rows 10 x) (border_of the_zones 1) ∙ length-rows 10 x
 
-pub borders-accepted : (x : ℕ) → borders_in the_zones (codes "from,to,limit,back\n" ++ (borders_at x).text) ≡ Ok (the_borders x)
+pub borders-accepted : (x : ℕ) → borders_in the_zones (border_columns ++ 10 ∷ (borders_at x).text) ≡ Ok (the_borders x)
 unfolding border_columns strip_bom the_borders
 borders-accepted x = rw (version-one x) (accepted border_line border_records (border_grammar the_zones 1) 2 10 x (page x) header refl refl refl refl header-line text-of lines-of (border-passes x) refl)

@@ -139,7 +139,7 @@ demand-passes x n few = one-line demand_line demand_records (demand_grammar the_
 pub the_demands : ℕ → DemandBook
 the_demands x = demand_book the_zones 24 (demand_rows 192 x)
 
-pub demands-accepted : (x : ℕ) → book_in (demand_grammar the_zones 24) (codes "run,zone,mw,price\n" ++ (demands_at x).text) ≡ Ok (the_demands x)
+pub demands-accepted : (x : ℕ) → book_in (demand_grammar the_zones 24) (demand_columns ++ 10 ∷ (demands_at x).text) ≡ Ok (the_demands x)
 unfolding demand_columns strip_bom the_demands
-demands-accepted x = accepted demand_line demand_records (demand_grammar the_zones 24) 2 192 x (codes "run,zone,mw,price\n" ++ (demands_at x).text) (codes "run" ∷ codes "zone" ∷ codes "mw" ∷ codes "price" ∷ []) refl refl refl refl
+demands-accepted x = accepted demand_line demand_records (demand_grammar the_zones 24) 2 192 x (demand_columns ++ 10 ∷ (demands_at x).text) (codes "run" ∷ codes "zone" ∷ codes "mw" ∷ codes "price" ∷ []) refl refl refl refl
     (record { sized = refl; plain = (refl, (refl, (refl, (refl, tt)))) }) text-of (λ i x few. (demand-is-line i x few, tt)) (demand-passes x) refl

@@ -7,7 +7,7 @@ use Rattle.std.proofs.lemmas.List.FromFn.{length-map-range_with_len}
 use Rattle.std.proofs.lemmas.List.Folds.{list_any-append}
 use Rattle.std.proofs.lemmas.List.Sums.{sum_by-cons}
 use Rattle.mari_bids.specs.declared.bids.BidBook.{BidBook}
-use Rattle.mari_links.specs.Links.{bid_named, count_of, has_gate, is_gated, least_of, links_of, quarter_of, said_by, Member, Said}
+use Rattle.mari_links.specs.Links.{bid_named, count_of, has_gate, is_gated, least_of_bid, links_of, quarter_of, said_by, Member, Said}
 use Rattle.mari_links.specs.declared.lines.Link.{Link}
 use Rattle.mari_links.proofs.GateLemmas.{gated-alike}
 use Rattle.mari_scenario.specs.Pages.{bid}
@@ -36,7 +36,7 @@ no-such-child (suc n) k other =
 
 module _ (bids : BidBook) (named : (n j : ℕ) → n < 24 → j < 40 → bid_named bids (bid (n + 1) (j + 1)) ≡ Some (40 * n + j))
     (quarter : (k : ℕ) → k < 960 → quarter_of bids k ≡ k / 40 + 1) (count : length bids.ids ≡ 960)
-    (divisible : (k : ℕ) → k < 960 → ((k + 1) % 5 == 0) ≡ false → least_of bids k ≡ 0) where
+    (divisible : (k : ℕ) → k < 960 → ((k + 1) % 5 == 0) ≡ false → least_of_bid bids k ≡ 0) where
   abbrev said : Said
   said = said_by bids (link_rows 24)
 

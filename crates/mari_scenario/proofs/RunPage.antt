@@ -103,7 +103,7 @@ pub count-runs : (x : ℕ) → length (the_runs x).runs ≡ 24
 unfolding the_runs
 count-runs x = length-map (run_rows 24 x) (run_of 96) ∙ length-rows 24 x
 
-pub runs-accepted : (x : ℕ) → book_in (run_grammar 96) (codes "run,quarter,kind,reference\n" ++ (runs_at x).text) ≡ Ok (the_runs x)
+pub runs-accepted : (x : ℕ) → book_in (run_grammar 96) (run_columns ++ 10 ∷ (runs_at x).text) ≡ Ok (the_runs x)
 unfolding run_columns strip_bom the_runs
 runs-accepted x = accepted run_line run_records (run_grammar 96) 2 24 x _ (codes "run" ∷ codes "quarter" ∷ codes "kind" ∷ codes "reference" ∷ []) refl refl refl refl
     (record { sized = refl; plain = (refl, (refl, (refl, (refl, tt)))) }) (λ i x. sym (append-nil (run_line i x).text)) (λ i x few. (run-line i x few, tt)) (run-passes x) refl

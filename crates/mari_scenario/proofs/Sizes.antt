@@ -5,10 +5,15 @@ use Rattle.std.proofs.lemmas.Fmt.{length-decimal-le}
 use Rattle.std.proofs.lemmas.List.{length-append}
 use Rattle.std.proofs.lemmas.List.Elements.{All-cons, All-nil}
 use Rattle.mari_units.specs.Numbers.{printed_cents, sign_of}
+use Rattle.mari_zones.specs.Zones.{zone_columns}
+use Rattle.mari_zones.specs.Borders.{border_columns}
+use Rattle.mari_bids.specs.Bids.{bid_columns}
+use Rattle.mari_links.specs.Links.{link_columns}
 use Rattle.mari_scenario.specs.Accepted.{IsShort}
 use Rattle.mari_scenario.specs.Draws.{Drawn, after, draw, lines}
-use Rattle.mari_demands.specs.Runs.{scheduled_word}
-use Rattle.mari_scenario.specs.Pages.{before_bids, before_demands, before_runs, bid, bid_line, bid_price, bids_at, border_line, borders_at, day_text, demand_line, demand_text, demands_at, direction, from_of, further, greatest, group, is_both, is_up, kind, least_of, link_lines, links_text, provider, row, run_line, runs_at, scenario_at, to_of, zone, zones_text}
+use Rattle.mari_demands.specs.Runs.{run_columns, scheduled_word}
+use Rattle.mari_demands.specs.Demands.{demand_columns}
+use Rattle.mari_scenario.specs.Pages.{before_bids, before_demands, before_runs, bid, bid_least, bid_line, bid_price, bids_at, border_line, borders_at, day_text, demand_line, demand_text, demands_at, direction, from_of, further, greatest, group, is_both, is_up, kind, link_lines, links_text, provider, row, run_line, runs_at, scenario_at, to_of, zone, zones_text}
 use Rattle.mari_scenario.proofs.BidNames.{length-bid}
 use Rattle.mari_scenario.proofs.BidPage.{greatest-small, least-small, price-small}
 use Rattle.mari_scenario.proofs.DemandPage.{price-small as elastic-small, quantity-small}
@@ -95,7 +100,7 @@ bid-size i x few =
     let t = i / 40 + 1 in
     let j = i % 40 + 1 in
     let small : greatest x < 2 ^ 64 = omega (arith, greatest-small x) in
-    let least = least_of j (greatest x) in
+    let least = bid_least j (greatest x) in
     omega (
       arith,
       length-row (bid t j) (provider ((j - 1) % 10 + 1) ∷ zone (1 + draw 1 8 x) ∷ decimal t ∷ direction (is_up x) ∷ printed_cents (bid_price x) ∷ decimal least ∷ decimal (greatest x) ∷ kind (is_both x) ∷ []),
@@ -165,7 +170,7 @@ page-short : (header : List ℕ) (line : ℕ → ℕ → Drawn) (n x : ℕ) → 
 page-short header line n x head few all = omega (arith, length-append header (lines line n x).text, size-lines line n all n x (omega arith))
 
 zones-short : length zones_text ≡ 62
-unfolding lines digits
+unfolding lines digits zone_columns
 zones-short = refl
 
 seven : {X : Type 0} (P : X → Type 0) (a b c d e f g : X) → P a → P b → P c → P d → P e → P f → P g → All P (a ∷ b ∷ c ∷ d ∷ e ∷ f ∷ g ∷ [])
@@ -179,7 +184,7 @@ seven P a b c d e f g pa pb pc pd pe pf pg =
     (All-cons P g [] pg (All-nil P)))))))
 
 pub pages-short : (number : ℕ) → All IsShort (scenario_at number)
-unfolding scenario_at
+unfolding scenario_at border_columns bid_columns link_columns run_columns demand_columns
 pages-short n =
     let borders = codes "from,to,limit,back\n" in
     let bids = codes "id,provider,zone,quarter,direction,price,least,greatest,kind\n" in

@@ -4,7 +4,12 @@ use lib.Chars.{codes}
 use Rattle.std.specs.Fmt.{decimal, signed_decimal}
 use Rattle.mari_units.specs.Numbers.{printed_cents}
 use Rattle.mari_io.specs.Outside.{Pages}
-use Rattle.mari_demands.specs.Runs.{scheduled_word}
+use Rattle.mari_zones.specs.Zones.{zone_columns}
+use Rattle.mari_zones.specs.Borders.{border_columns}
+use Rattle.mari_bids.specs.Bids.{bid_columns}
+use Rattle.mari_links.specs.Links.{link_columns}
+use Rattle.mari_demands.specs.Runs.{run_columns, scheduled_word}
+use Rattle.mari_demands.specs.Demands.{demand_columns}
 use Rattle.mari_scenario.specs.Draws.{Drawn, after, draw, lines}
 
 -- further fields of a line, each behind a comma, and the line's end
@@ -75,14 +80,14 @@ abbrev pub is_both : ℕ → Bool
 is_both x = draw 5 2 x == 0
 
 -- the least quantity: every fifth bid is indivisible
-abbrev pub least_of : (place greatest : ℕ) → ℕ
-least_of j greatest = if j % 5 == 0 then greatest else 0
+abbrev pub bid_least : (place greatest : ℕ) → ℕ
+bid_least j greatest = if j % 5 == 0 then greatest else 0
 
 -- the bid at a place from 1 of a quarter; ten providers take turns
 abbrev pub bid_text : (quarter place state : ℕ) → List ℕ
 bid_text t j x =
     row (bid t j) (provider ((j - 1) % 10 + 1) ∷ zone (1 + draw 1 8 x) ∷ decimal t ∷ direction (is_up x)
-    ∷ printed_cents (bid_price x) ∷ decimal (least_of j (greatest x)) ∷ decimal (greatest x) ∷ kind (is_both x) ∷ [])
+    ∷ printed_cents (bid_price x) ∷ decimal (bid_least j (greatest x)) ∷ decimal (greatest x) ∷ kind (is_both x) ∷ [])
 
 -- bid number i + 1 of 24 quarters with forty bids each
 abbrev pub bid_line : ℕ → ℕ → Drawn
@@ -117,7 +122,7 @@ abbrev pub day_text : List ℕ
 day_text = codes "date,rule\n2025-03-12,UTC0\n"
 
 abbrev pub zones_text : List ℕ
-zones_text = codes "zone,operator\n" ++ (lines zone_line 8 0).text
+zones_text = zone_columns ++ 10 ∷ (lines zone_line 8 0).text
 
 abbrev pub borders_at : ℕ → Drawn
 borders_at x = lines border_line 10 x
@@ -126,7 +131,7 @@ abbrev pub bids_at : ℕ → Drawn
 bids_at x = lines bid_line 960 x
 
 abbrev pub links_text : List ℕ
-links_text = codes "kind,first,second\n" ++ (lines link_lines 24 0).text
+links_text = link_columns ++ 10 ∷ (lines link_lines 24 0).text
 
 abbrev pub runs_at : ℕ → Drawn
 runs_at x = lines run_line 24 x
@@ -139,11 +144,11 @@ abbrev pub pages_by : (borders bids runs demands : List ℕ) → Pages
 pages_by borders bids runs demands =
     (codes "s/day.csv", day_text)
     ∷ (codes "s/zones.csv", zones_text)
-    ∷ (codes "s/borders.csv", codes "from,to,limit,back\n" ++ borders)
-    ∷ (codes "s/bids.csv", codes "id,provider,zone,quarter,direction,price,least,greatest,kind\n" ++ bids)
+    ∷ (codes "s/borders.csv", border_columns ++ 10 ∷ borders)
+    ∷ (codes "s/bids.csv", bid_columns ++ 10 ∷ bids)
     ∷ (codes "s/links.csv", links_text)
-    ∷ (codes "s/runs.csv", codes "run,quarter,kind,reference\n" ++ runs)
-    ∷ (codes "s/demands.csv", codes "run,zone,mw,price\n" ++ demands)
+    ∷ (codes "s/runs.csv", run_columns ++ 10 ∷ runs)
+    ∷ (codes "s/demands.csv", demand_columns ++ 10 ∷ demands)
     ∷ []
 
 -- the state before the bids, the runs and the demands of a number

@@ -5,7 +5,7 @@ ghost use Rattle.std.specs.Fmt.{decimal, signed_decimal};
 ghost use Rattle.mari_units.specs.Numbers.{printed_cents};
 ghost use Rattle.mari_demands.specs.Runs.{scheduled_word};
 ghost use Rattle.mari_scenario.specs.Draws.{after, below as below_of, draw};
-ghost use Rattle.mari_scenario.specs.Pages.{bid, bid_line, bid_price as bid_price_of, border_line, demand_line, direction, from_of, greatest as greatest_of, group, is_both, is_up, kind, least_of, link_lines, provider, row, run_line, to_of, zone, zone_line};
+ghost use Rattle.mari_scenario.specs.Pages.{bid, bid_least, bid_line, bid_price as bid_price_of, border_line, demand_line, direction, from_of, greatest as greatest_of, group, is_both, is_up, kind, link_lines, provider, row, run_line, to_of, zone, zone_line};
 
 use crate::draws::{below, next};
 use crate::text::{
@@ -139,7 +139,7 @@ fn drawn_bid(state: u32) -> DrawnBid
 
 /// The least quantity of a bid at a place of its quarter, by its greatest.
 fn least(place: u32, greatest: u32) -> u32
-    ensures { result ≡ least_of place greatest }
+    ensures { result ≡ bid_least place greatest }
 {
     if place % 5 == 0 { greatest } else { 0 }
 }

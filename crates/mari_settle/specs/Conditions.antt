@@ -1,6 +1,7 @@
 -- What the calls of the ledger ask of what they are given, and how large its numbers are.
 use Rattle.std.specs.Prelude.{◌≡◌, ℕ, ◌<◌, ◌≤◌, ◌*◌, ◌^◌, ◌+ℤ◌, List, length, take, slice_get, unsigned_abs, IsSomeAnd}
 use Rattle.std.specs.List.{All, AllZip}
+use Rattle.mari_units.specs.Numbers.{Within}
 use Rattle.mari_units.specs.declared.numbers.Quarters.{Quarters}
 use Rattle.mari_zones.specs.declared.zones.ZoneBook.{ZoneBook}
 use Rattle.mari_bids.specs.declared.bids.Bid.{Bid}
@@ -25,11 +26,12 @@ pub record HasOperators (zones : ZoneBook) : Type 0 where
 abbrev pub HasProviders : BidBook → Type 0
 HasProviders bids = All (λ (bid : Bid). bid.provider < length bids.providers) bids.bids
 
--- the number names a bid, of one of so many zones, whose provider is one of the book
+-- a bid of one of so many zones, whose provider is one of the book
 pub record IsPayable (bids : BidBook) (zones : ℕ) (bid : Bid) : Type 0 where
   pub zone : bid.zone < zones
   pub provider : bid.provider < length bids.providers
 
+-- the number names such a bid
 abbrev pub NamesPayable : BidBook → ℕ → ℕ → Type 0
 NamesPayable bids zones number = IsSomeAnd (slice_get bids.bids number) (IsPayable bids zones)
 
@@ -78,7 +80,7 @@ pub record LedgersAddUp (a b : Ledger) : Type 0 where
 
 -- an amount within so many quarter-cents of 0
 abbrev pub MoneyIsWithin : ℕ → Quarters → Type 0
-MoneyIsWithin most a = unsigned_abs a.0 ≤ most
+MoneyIsWithin most a = Within most a.0
 
 -- so are the two of an operator's line
 pub record LineIsWithin (most : ℕ) (line : OperatorLine) : Type 0 where

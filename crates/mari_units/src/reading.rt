@@ -1,14 +1,14 @@
 //! Numbers and prices as the market files write them.
 
 ghost use Rattle.std.specs.Prelude.{◌≡◌, ◌<◌, ◌+◌, length, take, drop, ℕ, Option, IfSome, pos, neg_ℤ, position, ◌==◌};
-ghost use Rattle.mari_units.specs.Numbers.{natural_of, has_minus, without_minus, whole_of, hundredths_of, cents_at, price_of, ranged, capped, cents_of_parts};
+ghost use Rattle.mari_units.specs.Numbers.{natural_of, has_minus, without_minus, whole_of, hundredths_of, cents_at, price_of, ranged, saturated, cents_of_parts};
 
 use crate::faults::NumberFault;
 use crate::numbers::{CAP, Cents, Mw};
 
 /// The number that digits write, or the greatest of 64 bits where it is greater.
 fn natural(digits: &[u8]) -> Option<u64>
-    ensures { result ≡ capped (natural_of digits.now) }
+    ensures { result ≡ saturated (natural_of digits.now) }
 {
     if digits.is_empty() {
         return None;
@@ -79,7 +79,7 @@ fn point_in(text: &[u8]) -> Option<usize>
 
 /// The cents of a price without its sign, or the greatest number of 64 bits where they are more.
 fn unsigned_cents(text: &[u8]) -> Option<u64>
-    ensures { result ≡ capped (cents_at (position (λ b. b == 46) text.now) text.now) }
+    ensures { result ≡ saturated (cents_at (position (λ b. b == 46) text.now) text.now) }
 {
     match point_in(text) {
         None => euros_and(natural(text), Some(0)),
@@ -101,7 +101,7 @@ fn parts_at(text: &[u8], place: usize) -> (&[u8], &[u8])
 
 /// Euros and cents in cents, where both are there.
 fn euros_and(euros: Option<u64>, cents: Option<u64>) -> Option<u64>
-    ensures { (e : Option ℕ) → euros ≡ capped e → result ≡ capped (cents_of_parts e cents) }
+    ensures { (e : Option ℕ) → euros ≡ saturated e → result ≡ saturated (cents_of_parts e cents) }
 {
     match (euros, cents) {
         (Some(euros), Some(cents)) => Some(euros.saturating_mul(100).saturating_add(cents)),

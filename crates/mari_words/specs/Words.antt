@@ -1,8 +1,9 @@
 -- Which words are a command.
-use Rattle.std.specs.Prelude.{ℕ, ◌≡◌, Bool, true, false, not, ◌&&◌, List, [], ◌∷◌, Option, Some, None, Result, Ok, Err, option_and_then, option_map, if◌then◌else◌, nat_le, slice_get, ⊤}
+use Rattle.std.specs.Prelude.{ℕ, ◌≡◌, Bool, true, false, not, ◌&&◌, List, [], ◌∷◌, Option, Some, None, Result, Ok, Err, option_map, if◌then◌else◌, nat_le, slice_get, ⊤}
 use lib.Chars.{codes}
 use Rattle.std.specs.Str.{bytes_eq}
 use Rattle.mari_units.specs.Numbers.{natural_of}
+use Rattle.mari_units.specs.Options.{◌>>=◌}
 use Rattle.mari_words.specs.declared.command.Command.{Command}
 use Rattle.mari_words.specs.declared.command.FilePart.{FilePart}
 use Rattle.mari_words.specs.declared.command.FilePart.TheVariants.{Borders, Limits}
@@ -14,10 +15,6 @@ use Rattle.mari_words.specs.Asked.{Asked, asked}
 use Rattle.mari_words.specs.Asked.Asked.{Clear, Check, Generate, Migrate}
 use Rattle.mari_words.specs.Seen.{Form, Seen, Text, nothing, seen_from, whole}
 
-infixl 10 ◌>>=◌
-abbrev ◌>>=◌ : {A B : Type 0} → Option A → (A → Option B) → Option B
-o >>= f = option_and_then f o
-
 -- a folder's word: neither empty nor a dash alone
 abbrev pub is_folder : Text → Bool
 is_folder word = not (bytes_eq word []) && not (bytes_eq word (codes "-"))
@@ -26,13 +23,13 @@ abbrev pub folder_in : Text → Option Text
 folder_in word = if is_folder word then Some word else None
 
 -- the number from `low` to `high` that a text writes, by digits alone
-abbrev pub number_in : (low high : ℕ) → Text → Option ℕ
-number_in low high text = natural_of text >>= (λ n. if nat_le low n && nat_le n high then Some n else None)
+abbrev pub natural_in : (low high : ℕ) → Text → Option ℕ
+natural_in low high text = natural_of text >>= (λ n. if nat_le low n && nat_le n high then Some n else None)
 
 -- the number of an option, or the one that stands for it where it is left out
 abbrev pub number_or : (usual low high : ℕ) → Option Text → Option ℕ
 number_or usual low high None = Some usual
-number_or usual low high (Some text) = number_in low high text
+number_or usual low high (Some text) = natural_in low high text
 
 abbrev pub part_named : Text → Option FilePart
 part_named word = if bytes_eq word (codes "borders") then Some Borders else (if bytes_eq word (codes "limits") then Some Limits else None)
@@ -82,7 +79,7 @@ asked_for Checks given = do
   Some (Check folder)
 asked_for Generates given = do
   word ← given.first
-  number ← number_in 0 LAST_NUMBER word
+  number ← natural_in 0 LAST_NUMBER word
   Some (Generate number)
 asked_for Migrates given = do
   word ← given.first

@@ -4,7 +4,7 @@ ghost use Rattle.std.specs.Prelude.{◌≡◌, ◌≤◌, option_map, IfSome};
 ghost use Rattle.std.specs.Option.{option_copied};
 ghost use Rattle.clap.specs.Words.{first_of, found_of, rows_of};
 ghost use Rattle.mari_words.specs.Asked.{lent_asked};
-ghost use Rattle.mari_words.specs.Words.{asked_for, folder_in, number_in, number_or, part_named};
+ghost use Rattle.mari_words.specs.Words.{asked_for, folder_in, natural_in, number_or, part_named};
 ghost use Rattle.mari_words.specs.Words.Verb.{Clears, Checks, Generates, Migrates};
 ghost use Rattle.mari_words.specs.Given.{asked_by, given_of};
 
@@ -51,7 +51,7 @@ fn folder(word: &str) -> Option<&str>
 
 /// The number from `low` to `high` that a text writes, by digits alone.
 fn number(low: u32, high: u32, text: &[u8]) -> Option<u32>
-    ensures number { result ≡ number_in low high text.now }
+    ensures number { result ≡ natural_in low high text.now }
     ensures range { IfSome result (λ n. (low ≤ n) × (n ≤ high)) }
 {
     if matches!(text, [b'-', ..]) {

@@ -3,7 +3,8 @@
 ghost use Rattle.std.specs.Prelude.{◌≡◌, ◌≤◌, map};
 ghost use Rattle.std.specs.Fmt.{decimal, signed_decimal};
 ghost use Rattle.mari_market.specs.Price.{IsCapped};
-ghost use Rattle.mari_lines.specs.Ranges.{Listed, Within, IsZone};
+ghost use Rattle.mari_units.specs.Numbers.{Within};
+ghost use Rattle.mari_lines.specs.Ranges.{Listed, IsZone};
 ghost use Rattle.mari_lines.specs.Spelling.{price_text, zone_text};
 ghost use Rattle.mari_lines.specs.Reading.{Reads};
 

@@ -1,5 +1,5 @@
 use Rattle.std.specs.Fmt.{signed_decimal}
-use Rattle.mari_lines.specs.Ranges.{Within}
+use Rattle.mari_units.specs.Numbers.{Within}
 use Rattle.std.proofs.lemmas.Result.{err_from_is_err_and}
 use Rattle.mari_lines.proofs.Gathered.{begun_unread}
 use Rattle.mari_lines.proofs.reading.lists.read_flows.Goals as goal

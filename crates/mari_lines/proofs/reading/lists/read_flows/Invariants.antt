@@ -1,5 +1,5 @@
 use Rattle.std.proofs.Common.{length}
-use Rattle.mari_lines.specs.Ranges.{Within}
+use Rattle.mari_units.specs.Numbers.{Within}
 use Rattle.std.specs.Fmt.{signed_decimal}
 use Rattle.mari_lines.proofs.Gathered.{Begun}
 use Rattle.mari_lines.proofs.reading.lists.read_flows.Given as goal

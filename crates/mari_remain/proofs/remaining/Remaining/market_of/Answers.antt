@@ -4,7 +4,7 @@ use Rattle.mari_market.specs.Market.{IsValid}
 use Rattle.mari_remain.specs.declared.market.RunMarket.{RunMarket}
 use Rattle.mari_remain.specs.Available.{Taken}
 use Rattle.mari_remain.specs.FirstBlocks.{taken_in}
-use Rattle.mari_remain.specs.Lists.{run_at}
+use Rattle.mari_remain.specs.Lists.{run_numbered}
 use Rattle.mari_remain.specs.RunMarket.{run_market_left}
 use Rattle.mari_remain.proofs.History.{bounded}
 use Rattle.mari_remain.proofs.Standing.{kept-small, same-taken}
@@ -24,7 +24,7 @@ returns-clause-valid c =
     let run = c.args.run in
     let blocks = c.requires.stands.0 in
     let stands = c.requires.stands.1 in
-    let quarter = (run_at books run).quarter in
+    let quarter = (run_numbered books run).quarter in
     let same = same-taken books c.requires.accepted blocks c.args.self.now stands run c.requires.stands.2 c.requires.last in
     let small : (k : ℕ) → unsigned_abs ((taken_in books c.args.self.now quarter).flow k) ≤ 99999 =
     λ k. let P : Taken → Type 0 = λ taken. unsigned_abs (taken.flow k) ≤ 99999 in subst P (sym same) (bounded books c.requires.accepted blocks stands.first quarter k) in

@@ -1,0 +1,7 @@
+-- Steps that may give nothing, one behind another.
+use Rattle.std.specs.Prelude.{Option, option_and_then}
+
+-- the second step of what the first gives, if it gives anything
+infixl 10 ◌>>=◌
+abbrev pub ◌>>=◌ : {A B : Type 0} → Option A → (A → Option B) → Option B
+o >>= f = option_and_then f o

@@ -88,7 +88,7 @@ pub record IsMissing (books : Books) (p : Publication) (run number : ℕ) : Type
   pub head : HasHead books p
   pub blocks : AreFree books p.budget p.blocks
   pub missing : length p.blocks < length books.runs.runs
-  pub run_is : run ≡ length p.blocks + 1
+  pub run_is : run ≡ run_behind p.blocks
   pub number_is : number ≡ fault_number fault.Heading
 
 -- nothing else is wrong, and a line of the totals is: the last run is told, or 0 where there is none

@@ -1,9 +1,9 @@
 -- The book of demands.
-use Rattle.std.specs.Prelude.{◌≤◌, ◌<◌, IfSome, unsigned_abs, ℕ, ◌==◌, ℤ, pos, neg_ℤ, Bool, List, [], ◌∷◌, ◌++◌, Option, Some, None, not, ◌&&◌, ◌||◌, nat_le, int_le, length, map, codes, is_some, unwrap_or, count_by, if◌then◌else◌}
+use Rattle.std.specs.Prelude.{◌≤◌, ◌<◌, IfSome, ℕ, ◌==◌, ℤ, pos, neg_ℤ, Bool, List, [], ◌∷◌, ◌++◌, Option, Some, None, not, ◌&&◌, ◌||◌, nat_le, int_le, length, map, codes, is_some, unwrap_or, count_by, if◌then◌else◌}
 use Rattle.std.specs.Option.{option_and_then}
 use Rattle.std.specs.List.{All}
 use Rattle.mari_units.specs.declared.limits.TheConstants.{MOST_DEMANDS, MOST_MW}
-use Rattle.mari_units.specs.Numbers.{price_of, whole_of}
+use Rattle.mari_units.specs.Numbers.{Within, price_of, whole_of}
 use Rattle.mari_units.specs.Prices.{IsCapped}
 use Rattle.mari_rows.specs.Books.{Checks, Grammar}
 use Rattle.mari_rows.specs.Fields.{cents_in, number_in}
@@ -88,7 +88,7 @@ pub record IsDemand (zones : ZoneBook) (runs : ℕ) (demand : Demand) : Type 0 w
   pub first_run : 1 ≤ demand.run
   pub last_run : demand.run ≤ runs
   pub zone : demand.zone < length zones.zones
-  pub mw : unsigned_abs demand.mw ≤ MOST_MW
+  pub mw : Within MOST_MW demand.mw
   pub price : IfSome demand.price IsCapped
 
 -- what holds of every book of demands that is read: no run has more than `MOST_DEMANDS`

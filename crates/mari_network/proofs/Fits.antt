@@ -43,7 +43,7 @@ can_puts Withdraw s f = ((omega (arith, ints, f.small), omega (arith, ints)), (o
 order_slot : (spans : Order → Span) (n gates : ℕ) (o : Order) → IsValidOrder n gates o → IsFineSpan (spans o) → IsOrderSlot n (slot_of (spans o) o)
 order_slot spans n gates o v f =
     let s = puts o.side (spans o) f in
-    record { zone = v.zone; low = s.0; in_order = s.1; high = s.2; cheap = omega (arith, ints, v.price.low); dear = omega (arith, ints, v.price.high) }
+    record { zone = v.zone; low = s.0; in_order = s.1; high = s.2; price = v.price }
 
 -- the slots of a valid market's orders
 pub order_slots_fine : (spans : Order → Span) (n gates : ℕ) (os : List Order) → All (IsValidOrder n gates) os → All (λ (o : Order). IsFineSpan (spans o)) os → AreOrderSlots n os (slots_of spans os)
@@ -61,7 +61,7 @@ order_slots_fine spans n gates os v f =
     }
 
 slot_small : (s : Slot) (n : ℕ) → IsOrderSlot n s → IsSmallSlot s
-slot_small s n f = record { low = omega (arith, ints, f.low); high = omega (arith, ints, f.high); cheap = omega (arith, ints, f.cheap); dear = omega (arith, ints, f.dear) }
+slot_small s n f = record { low = omega (arith, ints, f.low); high = omega (arith, ints, f.high); cheap = omega (arith, ints, f.price.low); dear = omega (arith, ints, f.price.high) }
 
 pub slots_small : (n : ℕ) (slots : List Slot) → All (IsOrderSlot n) slots → All IsSmallSlot slots
 slots_small n slots a = λ k d l. slot_small (get_or slots k d) n (a k d l)

@@ -16,6 +16,7 @@ use Rattle.mari_network.specs.declared.slots.Slot.{Slot}
 use Rattle.mari_network.specs.declared.slots.TheConstants.{BEYOND}
 use Rattle.mari_units.specs.declared.numbers.TheConstants.{CAP}
 use Rattle.mari_units.specs.declared.limits.TheConstants.{MOST_MW}
+use Rattle.mari_units.specs.Prices.{IsPrice}
 
 abbrev pub no_order : Order
 no_order = record { zone = 0; side = Inject; price = record { 0 = pos 0 }; least = 0; greatest = 0; gate = None }
@@ -64,8 +65,7 @@ pub record IsOrderSlot (zones : ℕ) (s : Slot) : Type 0 where
   pub low : neg_ℤ (pos MOST_MW) ≤ℤ s.low
   pub in_order : s.low ≤ℤ s.high
   pub high : s.high ≤ℤ pos MOST_MW
-  pub cheap : neg_ℤ CAP ≤ℤ s.price
-  pub dear : s.price ≤ℤ CAP
+  pub price : IsPrice s.price
 
 -- the slots of orders, of which each can put in the least and the greatest of its slot
 pub record AreOrderSlots (zones : ℕ) (orders : List Order) (slots : List Slot) : Type 0 where

@@ -4,6 +4,7 @@ ghost use Rattle.std.specs.Prelude.{◌≡◌, ◌⊎◌, ◌≤◌, ◌<◌, �
 ghost use Rattle.std.specs.Option.{IfNone};
 ghost use Rattle.std.specs.List.{All};
 ghost use Rattle.mari_market.specs.Along.{LeadsTo};
+ghost use Rattle.mari_market.specs.Market.{IsBetween};
 ghost use Rattle.mari_market.specs.Sums.{int_at};
 ghost use Rattle.mari_prices.specs.Spread.{AreShort, IsGreatestBefore, IsLed, IsLedOver, IsNext, IsNotPassed, IsPassed, NoneFreeBefore, NoneLed, NoneOver, SpreadsAlong};
 
@@ -94,7 +95,7 @@ fn next_led(
     along: Along,
 ) -> Option<(u32, SettledZone)>
     requires lengths { length flow.now ≡ length borders.now }
-    requires ends { All (λ b. (b.from < length settled.now) × (b.to < length settled.now)) borders.now }
+    requires ends { All (IsBetween (length settled.now)) borders.now }
     requires short { AreShort settled.now }
     ensures none { IfNone result (NoneLed (LeadsTo along borders.now flow.now) settled.now) }
     ensures some { IfSome result (λ p. IsLed (LeadsTo along borders.now flow.now) settled.now p.0 p.1) }
@@ -147,7 +148,7 @@ fn next(
     // The zones, and the borders between them.
     requires values { length values.now ≡ length settled.now }
     requires lengths { length flow.now ≡ length borders.now }
-    requires ends { All (λ b. (b.from < length settled.now) × (b.to < length settled.now)) borders.now }
+    requires ends { All (IsBetween (length settled.now)) borders.now }
     requires few { length settled.now ≤ MOST_ZONES }
 
     // What is settled so far.
@@ -185,7 +186,7 @@ pub(crate) fn spread(
 ) -> Result<Vec<Option<SettledZone>>, AllocError>
     requires few { length values.now ≤ MOST_ZONES }
     requires lengths { length flow.now ≡ length borders.now }
-    requires ends { All (λ b. (b.from < length values.now) × (b.to < length values.now)) borders.now }
+    requires ends { All (IsBetween (length values.now)) borders.now }
     ensures one_each { IfOk result (λ v. length v.items ≡ length values.now) }
     ensures spread { IfOk result (λ v. SpreadsAlong along borders.now flow.now values.now v.items) }
 {

@@ -1,5 +1,5 @@
 -- Which line may follow what has come, and what has come then.
-use Rattle.std.specs.Prelude.{◌*◌, ◌≡◌, ℕ, ◌+◌, ◌<◌, Bool, true, false, ◌&&◌, List, [], ◌∷◌, ◌++◌, map, length, nat_lt, ◌==◌, Option, Some, None, option_and_then, Result, Ok, Err, if◌then◌else◌, ⊤, ℤ}
+use Rattle.std.specs.Prelude.{◌≡◌, ℕ, ◌+◌, ◌<◌, Bool, true, false, ◌&&◌, List, [], ◌∷◌, ◌++◌, map, length, nat_lt, ◌==◌, Option, Some, None, option_and_then, Result, Ok, Err, if◌then◌else◌, ⊤, ℤ}
 use Rattle.std.specs.List.{flat_map}
 use Rattle.mari_units.specs.declared.numbers.Cents.{Cents}
 use Rattle.mari_market.specs.declared.certificate.Leaf.TheVariants as leaves
@@ -26,7 +26,7 @@ use Rattle.mari_publish.specs.declared.held.Kept.{Kept}
 use Rattle.mari_publish.specs.declared.follow.step.FollowFault.{FollowFault}
 use Rattle.mari_publish.specs.declared.follow.step.FollowFault.TheVariants as follow_fault
 use Rattle.mari_publish.specs.Lines.{front_lines, item_lines, lines_of, market_lines_by, opening_lines_by}
-use Rattle.mari_units.specs.declared.limits.TheConstants.{MOST_BIDS, MOST_BORDERS, MOST_RUNS, MOST_ZONES, MOST_QUARTERS}
+use Rattle.mari_units.specs.declared.limits.TheConstants.{MOST_BIDS, MOST_BORDERS, MOST_PROVIDERS, MOST_RUNS, MOST_ZONES}
 
 -- the lines that have come of a conflict
 abbrev pub pending_lines : Pending → List Line
@@ -149,7 +149,7 @@ starts_block k _ = None
 -- in the totals: operators, and then providers
 abbrev pub after_totals : List MoneyLine → List AmountLine → Line → Option Held
 after_totals os ps (line.TotalOperator o) = if empty ps && nat_lt (length os) MOST_ZONES then Some (held.Totals (os ++ o ∷ []) ps) else None
-after_totals os ps (line.TotalProvider p) = if nat_lt (length ps) (MOST_BIDS * MOST_QUARTERS) then Some (held.Totals os (ps ++ p ∷ [])) else None
+after_totals os ps (line.TotalProvider p) = if nat_lt (length ps) MOST_PROVIDERS then Some (held.Totals os (ps ++ p ∷ [])) else None
 after_totals os ps _ = None
 
 -- what is kept after a line, and the part that is whole with it

@@ -1,5 +1,5 @@
 -- How many lines there may be, and that they are in range: which publications have a text.
-use Rattle.std.specs.Prelude.{◌*◌, ◌≤◌, length}
+use Rattle.std.specs.Prelude.{◌≤◌, length}
 use Rattle.std.specs.List.{All, AllByRecursion}
 use Rattle.mari_market.specs.declared.certificate.TreeItem.{TreeItem}
 use Rattle.mari_lines.specs.declared.line.Line.TheVariants as line
@@ -9,7 +9,7 @@ use Rattle.mari_publish.specs.declared.publication.Block.{Block}
 use Rattle.mari_publish.specs.declared.publication.Block.TheVariants as block
 use Rattle.mari_publish.specs.declared.publication.Publication.{Publication}
 use Rattle.mari_publish.specs.Lines.{item_lines}
-use Rattle.mari_units.specs.declared.limits.TheConstants.{MOST_BIDS, MOST_BORDERS, MOST_DEMANDS, MOST_MW, MOST_NODES, MOST_RUNS, MOST_ZONES, MOST_QUARTERS}
+use Rattle.mari_units.specs.declared.limits.TheConstants.{MOST_BIDS, MOST_BORDERS, MOST_DEMANDS, MOST_MW, MOST_NODES, MOST_PROVIDERS, MOST_RUNS, MOST_ZONES}
 
 -- the lines of an item are in range
 abbrev pub ItemFits : TreeItem → Type 0
@@ -35,7 +35,7 @@ BlockFits (block.Unpublished heading count) = InRange (line.Unpublished heading 
 pub record TotalsFit (p : Publication) : Type 0 where
   pub runs : length p.blocks ≤ MOST_RUNS
   pub operators : Listed 1 MOST_ZONES IsMoneyLine p.operators
-  pub providers : Listed 0 (MOST_BIDS * MOST_QUARTERS) IsAmountLine p.providers
+  pub providers : Listed 0 MOST_PROVIDERS IsAmountLine p.providers
 
 -- the same of the whole: the publication has a text
 pub record HasText (p : Publication) : Type 0 where

@@ -1,5 +1,5 @@
 -- What the calls of the ledger ask of what they are given, and how large its numbers are.
-use Rattle.std.specs.Prelude.{◌≡◌, ℕ, ◌<◌, ◌≤◌, ◌*◌, ◌^◌, ◌+ℤ◌, List, length, take, slice_get, unsigned_abs, IsSomeAnd}
+use Rattle.std.specs.Prelude.{◌≡◌, ℕ, ◌<◌, ◌≤◌, ◌*◌, ◌^◌, ◌+ℤ◌, List, length, take, slice_get, IsSomeAnd}
 use Rattle.std.specs.List.{All, AllZip}
 use Rattle.mari_units.specs.Numbers.{Within}
 use Rattle.mari_units.specs.declared.numbers.Quarters.{Quarters}
@@ -65,7 +65,7 @@ pub record FitsRun (ledger : Ledger) (zones : ZoneBook) (bids : BidBook) (m : Ma
 
 -- the sum of two amounts lies within 10^30 quarter-cents of 0
 abbrev pub AddUp : Quarters → Quarters → Type 0
-AddUp a b = unsigned_abs (a.0 +ℤ b.0) ≤ 10 ^ 30
+AddUp a b = Within (10 ^ 30) (a.0 +ℤ b.0)
 
 -- so do the sums of two operators' lines
 pub record LinesAddUp (a b : OperatorLine) : Type 0 where

@@ -16,6 +16,9 @@ pub const MOST_RUNS: usize = 1_000;
 /// The most bids of a quarter hour.
 pub const MOST_BIDS: usize = 4_096;
 
+/// The most providers of a day: one for each bid, `MOST_BIDS` in each of `MOST_QUARTERS` quarter hours.
+pub const MOST_PROVIDERS: usize = MOST_BIDS * MOST_QUARTERS as usize;
+
 /// The most gates of a quarter hour, hence of a run's market.
 pub const MOST_GATES: usize = 512;
 

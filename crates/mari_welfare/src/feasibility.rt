@@ -4,7 +4,7 @@ ghost use Rattle.std.specs.Prelude.{◌≡◌, ◌==◌, ◌<◌, ◌≤◌, ◌
 ghost use Rattle.std.specs.List.{All, AllZip};
 ghost use Rattle.mari_market.specs.Activation.{HasLengths, IsWithinLimits, carried_out, put_in, put_into};
 ghost use Rattle.mari_market.specs.Bounds.{IsWithin, bounds_by};
-ghost use Rattle.mari_market.specs.Market.{IsValid};
+ghost use Rattle.mari_market.specs.Market.{IsBetween, IsValid};
 ghost use Rattle.mari_market.specs.Optimal.{IsFeasible};
 ghost use Rattle.mari_market.specs.Sums.{sum_along, int_at};
 ghost use Rattle.mari_market.specs.Prefix.{opens_in};
@@ -110,7 +110,7 @@ fn carry(left: &mut [i128; MOST_ZONES], border: &Border, flow: i64)
 fn take_outflows(left: &mut [i128; MOST_ZONES], borders: &[Border], flow: &[i64])
     requires few { length borders.now ≤ MOST_BORDERS }
     requires lengths { length flow.now ≡ length borders.now }
-    requires ends { All (λ b. (b.from < MOST_ZONES) × (b.to < MOST_ZONES)) borders.now }
+    requires ends { All (IsBetween MOST_ZONES) borders.now }
     requires small { (z : ℕ) → unsigned_abs (int_at left.old z) ≤ 2 ^ 48 }
     ensures { (z : ℕ) → int_at left.new z ≡ int_at left.old z -ℤ sum_along (carried_out z) borders.now flow.now }
 {
@@ -145,7 +145,7 @@ fn is_balanced(zones: u32, orders: &[Order], mw: &[u32], borders: &[Border], flo
 
     // Each order, and each border's ends, lie in zones that there may be.
     requires places { All (λ o. o.zone < MOST_ZONES) orders.now }
-    requires ends { All (λ b. (b.from < MOST_ZONES) × (b.to < MOST_ZONES)) borders.now }
+    requires ends { All (IsBetween MOST_ZONES) borders.now }
 
     // Exactly where each zone puts in what it sends out.
     ensures { IsTrue result ↔ ((z : ℕ) → z < zones → sum_along (put_into z) orders.now mw.now ≡ sum_along (carried_out z) borders.now flow.now) }

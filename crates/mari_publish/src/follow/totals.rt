@@ -7,7 +7,7 @@ use super::step::{FollowFault, go_on, keep, more, push, refuse, stay};
 use crate::held::{Held, Kept};
 use crate::publication::Part;
 use mari_lines::{AmountLine, Line, MoneyLine};
-use mari_units::{Items, MOST_BIDS, MOST_QUARTERS, MOST_ZONES};
+use mari_units::{Items, MOST_PROVIDERS, MOST_ZONES};
 use std::alloc::Global;
 
 /// An operator's line of the totals.
@@ -46,7 +46,7 @@ fn total_provider(
     ensures { Steps (after_totals operators providers (Line.TotalProvider provider)) (held_as.Totals operators providers) result.0 result.1 }
 {
     let mut providers = providers;
-    if providers.as_slice().len() >= MOST_BIDS * MOST_QUARTERS as usize {
+    if providers.as_slice().len() >= MOST_PROVIDERS {
         return (
             Held::Totals(operators, providers),
             Err(FollowFault::OutOfOrder),

@@ -81,7 +81,7 @@ module _ (books : Books) (ok : IsAccepted books) (dated : IsDated books) where
     pub operators-fit : Listed 1 64 IsMoneyLine (money_lines_of books.zones.operators ledger.operators)
     operators-fit =
         let many = along-length money_line books.zones.operators ledger.operators sums.one_each in
-        let some : 0 < length books.zones.operators = omega (arith, ok.zones.operator_of 0 0 (omega (arith, ok.zones.one_each, ok.zones.some))) in
+        let some : 0 < length books.zones.operators = omega (arith, ok.zones.operators_there.there 0 0 (omega (arith, ok.zones.operators_there.one_each, ok.zones.some))) in
         ((omega (arith, many, some), omega (arith, many, ok.zones.few_operators)), lines-fit books.zones.operators ledger.operators ok.zones.operators sums-halves)
 
     abbrev lines : List AmountLine

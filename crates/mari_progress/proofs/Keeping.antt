@@ -78,7 +78,7 @@ module _ (books : Books) (ok : IsAccepted books) where
       record {
         one_each = ap length ledger.operators ∙ along-length money_line names lines many;
         to_zero = record {
-          nets = ap net_sum ledger.operators ∙ net-lines names lines many ∙ nets_sum_to_0 books.zones made.market (activation_of b) (prices_of b) (record { one_each = ok.zones.one_each; there = ok.zones.operator_of }) own.zones own.valid;
+          nets = ap net_sum ledger.operators ∙ net-lines names lines many ∙ nets_sum_to_0 books.zones made.market (activation_of b) (prices_of b) ok.zones.operators_there own.zones own.valid;
           rents = subst (All (λ (rent : Quarters). pos 0 ≤ℤ rent.0)) (sym ledger.rents) (no_rent_below_0 made.market (activation_of b) (prices_of b) consistent.borders);
         };
       }

@@ -5,6 +5,7 @@ use Rattle.std.proofs.lemmas.List.Elements.{All-cons}
 use Rattle.std.specs.List.{All, AllZip, range_with_len}
 use Rattle.mari_units.specs.declared.numbers.Cents.{Cents}
 use Rattle.mari_units.specs.declared.numbers.Quarters.{Quarters}
+use Rattle.mari_zones.specs.Zones.{HasOperators}
 use Rattle.mari_zones.specs.declared.zones.ZoneBook.{ZoneBook}
 use Rattle.mari_market.specs.declared.market.Border.{Border}
 use Rattle.mari_market.specs.declared.market.Market.{Market}
@@ -16,7 +17,6 @@ use Rattle.mari_market.specs.Sums.{int_sum, sum_along}
 use Rattle.mari_market.proofs.Ints.{sub-mul_z}
 use Rattle.mari_market.proofs.Sums.{spread, sum_below, sum_below-+, sum_below--, sum_below-place, sum_below-same}
 use Rattle.mari_market.proofs.Surplus.{rent_at_least_0}
-use Rattle.mari_settle.specs.Conditions.{HasOperators}
 use Rattle.mari_settle.specs.Ledger.{rent_of, rents_of, half_of, operator_at, share_of, operator_rent, carried_in, net_import, payment_at, operator_payment, operator_line, operator_lines, net_of}
 use Rattle.mari_settle.specs.Lines.{map_along}
 use Rattle.mari_settle.proofs.Lists.{range_sum_more}

@@ -17,11 +17,6 @@ use Rattle.mari_units.specs.declared.numbers.Cents.{Cents}
 use Rattle.mari_settle.specs.declared.ledger.OperatorLine.{OperatorLine}
 use Rattle.mari_settle.specs.declared.ledger.Ledger.{Ledger}
 
--- each zone of the book has an operator, which is one of the book
-pub record HasOperators (zones : ZoneBook) : Type 0 where
-  pub one_each : length zones.operator_of ≡ length zones.zones
-  pub there : All (λ operator. operator < length zones.operators) zones.operator_of
-
 -- each bid's provider is one of the book
 abbrev pub HasProviders : BidBook → Type 0
 HasProviders bids = All (λ (bid : Bid). bid.provider < length bids.providers) bids.bids

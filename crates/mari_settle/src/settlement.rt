@@ -5,7 +5,8 @@ ghost use Rattle.std.specs.List.{All};
 ghost use Rattle.mari_market.specs.Market.{IsValid};
 ghost use Rattle.mari_market.specs.Optimal.{IsConsistent, IsFeasible};
 ghost use Rattle.mari_market.specs.Sums.{int_sum};
-ghost use Rattle.mari_settle.specs.Conditions.{FitsRun, HasOperators, HasProviders, HasSmallNumbers, MoneyIsWithin, LineIsWithin, NameOrders, most_of_operator, most_of_provider};
+ghost use Rattle.mari_zones.specs.Zones.{HasOperators};
+ghost use Rattle.mari_settle.specs.Conditions.{FitsRun, HasProviders, HasSmallNumbers, MoneyIsWithin, LineIsWithin, NameOrders, most_of_operator, most_of_provider};
 ghost use Rattle.mari_settle.specs.Ledger.{net_of, operator_lines, provider_amounts, rents_of, scheduled_or as scheduled_or_in};
 ghost use Rattle.mari_market.specs.Price.{IsCapped, ArePrices};
 

@@ -64,8 +64,10 @@ zone-facts page (Ok book) gives =
       distinct = are.distinct;
       operators = all-distinct (λ operator. is_name operator ≡ true) (map operator_of rows) (All-map (λ operator. is_name operator ≡ true) operator_of rows are.operators);
       few_operators = omega (arith, length-distinct (map operator_of rows), length-map rows operator_of, are.few);
-      one_each = length-map rows place ∙ sym (length-map rows zone_of);
-      operator_of = All-map (λ operator. operator < length (operators_of rows)) place rows (places-below operator_of rows);
+      operators_there = record {
+        one_each = length-map rows place ∙ sym (length-map rows zone_of);
+        there = All-map (λ operator. operator < length (operators_of rows)) place rows (places-below operator_of rows);
+      };
     } in
     rw is.says whole
 

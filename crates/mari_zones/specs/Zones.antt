@@ -55,6 +55,11 @@ zone_columns = codes "zone,operator"
 abbrev pub zone_grammar : Grammar ZoneBook
 zone_grammar = record { columns = zone_columns; line_checks = zone_checks; file_checks = zone_file_checks; book = zone_book }
 
+-- each zone of the book has an operator, which is one of the book
+pub record HasOperators (book : ZoneBook) : Type 0 where
+  pub one_each : length book.operator_of ≡ length book.zones
+  pub there : All (λ operator. operator < length book.operators) book.operator_of
+
 -- what holds of every book of zones that is read: 1 to `MOST_ZONES` zones, each with a name of its own and an
 -- operator, which has a name
 pub record IsZoneBook (book : ZoneBook) : Type 0 where
@@ -64,5 +69,4 @@ pub record IsZoneBook (book : ZoneBook) : Type 0 where
   pub distinct : AllPairs (λ a b. a ≢ b) book.zones
   pub operators : All (λ operator. is_name operator ≡ true) book.operators
   pub few_operators : length book.operators ≤ MOST_ZONES
-  pub one_each : length book.operator_of ≡ length book.zones
-  pub operator_of : All (λ operator. operator < length book.operators) book.operator_of
+  pub operators_there : HasOperators book

@@ -18,7 +18,7 @@ use Rattle.mari_links.specs.declared.links.LinkBook.{LinkBook}
 use Rattle.mari_demands.specs.Demands.{demand_grammar}
 use Rattle.mari_demands.specs.Runs.{run_grammar}
 use Rattle.mari_remain.specs.declared.books.Books.{Books}
-use Rattle.mari_day.specs.CalendarPage.{calendar_day_in, day_columns}
+use Rattle.mari_day.specs.CalendarPage.{calendar_day_in}
 use Rattle.mari_day.specs.declared.calendar_page.CalendarDay.{CalendarDay}
 use Rattle.mari_day.specs.declared.files.File.TheVariants.{Day, Zones, Borders, Bids, Links, Runs, Demands}
 use Rattle.mari_day.specs.Files.{files_in, page_in}

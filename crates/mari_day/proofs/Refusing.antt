@@ -15,6 +15,7 @@ use Rattle.mari_rows.specs.declared.faults.BookFault.TheVariants as refused
 use Rattle.mari_rows.specs.declared.faults.RowFault.{RowFault}
 use Rattle.mari_rows.specs.declared.faults.RowFault.TheVariants as unread
 use Rattle.mari_rows.specs.declared.rows.Row.{Row}
+use Rattle.mari_calendar.specs.Columns.{day_columns}
 use Rattle.mari_calendar.specs.Dates.{day_in}
 use Rattle.mari_calendar.specs.Midnights.{◌>>>◌, day_after, midnight_in, or_fault, quarters_at}
 use Rattle.mari_calendar.specs.declared.quarters.CalendarFault.{CalendarFault}
@@ -37,7 +38,7 @@ use Rattle.mari_demands.specs.declared.demands.DemandCheck.TheVariants as demand
 use Rattle.mari_demands.specs.declared.limits.LimitCheck.TheVariants as limit
 use Rattle.mari_demands.specs.declared.limits.Limits.{Limits as BorderLimits}
 use Rattle.mari_demands.specs.declared.runs.RunCheck.TheVariants as run
-use Rattle.mari_day.specs.CalendarPage.{calendar_day_in, check_of, day_by, day_columns, day_of_read, day_of_rows}
+use Rattle.mari_day.specs.CalendarPage.{calendar_day_in, check_of, day_by, day_of_read, day_of_rows}
 use Rattle.mari_day.specs.DateChecks.{date_check_number}
 use Rattle.mari_day.specs.Reading.{books_at, limits_of_pages, of_file, ReadsAs}
 use Rattle.mari_day.specs.Refusals.{IsByCheck, IsCheckNumber, RefusesByCheck}

@@ -1,5 +1,5 @@
 -- The day that day.csv states.
-use Rattle.std.specs.Prelude.{ℕ, List, [], ◌∷◌, codes, Result, Ok, Err}
+use Rattle.std.specs.Prelude.{ℕ, List, [], ◌∷◌, Result, Ok, Err}
 use Rattle.mari_rows.specs.Books.{refusal_of}
 use Rattle.mari_rows.specs.Checks.{refusal_at}
 use Rattle.mari_rows.specs.Rows.{field_of, rows_in}
@@ -8,6 +8,7 @@ use Rattle.mari_rows.specs.declared.checks.LineFault.TheVariants.{Fails, Memory}
 use Rattle.mari_rows.specs.declared.faults.BookFault.{BookFault}
 use Rattle.mari_rows.specs.declared.faults.RowFault.{RowFault}
 use Rattle.mari_rows.specs.declared.rows.Row.{Row}
+use Rattle.mari_calendar.specs.Columns.{day_columns}
 use Rattle.mari_calendar.specs.Midnights.{quarters_at}
 use Rattle.mari_calendar.specs.declared.quarters.CalendarFault.{CalendarFault}
 use Rattle.mari_calendar.specs.declared.quarters.CalendarFault.TheVariants as calendar
@@ -16,10 +17,6 @@ use Rattle.mari_day.specs.Dated.{IsDatedBy}
 use Rattle.mari_day.specs.declared.calendar_page.CalendarDay.{CalendarDay}
 use Rattle.mari_day.specs.declared.calendar_page.DateCheck.{DateCheck}
 use Rattle.mari_day.specs.declared.calendar_page.DateCheck.TheVariants.{BadDate, BadZoneText, NotOneRecord, NotWholeQuarters, OutOfRange}
-
--- the columns of the file
-unfoldable pub day_columns : List ℕ
-day_columns = codes "date,rule"
 
 -- the check that a fault of the calendar fails
 abbrev pub check_of : CalendarFault → LineFault DateCheck

@@ -4,7 +4,7 @@ ghost use Rattle.std.specs.Prelude.{◌≡◌, ◌≤◌, IfErr, IfOk, length};
 ghost use Rattle.mari_rows.specs.Books.{GivesBook};
 ghost use Rattle.mari_rows.specs.declared.faults.BookFault.{BookFault as Fault};
 ghost use Rattle.mari_lines.specs.Ranges.{IsDate};
-ghost use Rattle.mari_day.specs.CalendarPage.{IsCalendarDay, calendar_day_in, check_of as check_by, day_columns, day_of_row, not_one as not_one_at};
+ghost use Rattle.mari_day.specs.CalendarPage.{IsCalendarDay, calendar_day_in, check_of as check_by, day_of_row, not_one as not_one_at};
 ghost use Rattle.mari_day.specs.DateChecks.{date_check_name, date_check_number};
 
 use mari_calendar::{CalendarFault, quarters_of};
@@ -50,7 +50,7 @@ pub struct CalendarDay {
 
 impl CalendarDay {
     /// The day of a page, or its first refusal. That there is exactly one record is tested before the record.
-    #[tactic(auto, unfolding(crate::specs::CalendarPage::day_columns))]
+    #[tactic(auto, unfolding(mari_calendar::specs::Columns::day_columns))]
     pub fn read(alloc: Global, page: &[u8]) -> Result<CalendarDay, BookFault>
         requires { length page.now ≤ MOST_PAGE }
         ensures day { GivesBook result (calendar_day_in page.now) }

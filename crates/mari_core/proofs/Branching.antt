@@ -24,10 +24,10 @@ use Rattle.mari_core.proofs.Insertions.{insert_after, occurs-insert_after, lengt
 use Rattle.mari_core.proofs.Children.{nodes_with_children}
 
 -- the numbers of children that are made from this number on
-abbrev numbers_from : ℕ → Bool → List ℕ
-numbers_from first may = first ∷ (if may then (first + 1) ∷ [] else [])
+abbrev own_numbers : ℕ → Bool → List ℕ
+own_numbers first may = first ∷ (if may then (first + 1) ∷ [] else [])
 
-numbers_made : (first : ℕ) (w : List Bool) (may : Bool) → child_numbers (branch_of first (child_words w may)) ≡ numbers_from first may
+numbers_made : (first : ℕ) (w : List Bool) (may : Bool) → child_numbers (branch_of first (child_words w may)) ≡ own_numbers first may
 numbers_made first w true = refl
 numbers_made first w false = refl
 
@@ -140,14 +140,14 @@ others_keep nodes x w may y n =
           ∙ sym (past_none nodes y l)
     ]
 
-x_has_children : (nodes : List TreeNode) (x : ℕ) (n : TreeNode) (w : List Bool) (may : Bool) → slice_get nodes x ≡ Some n → children_of (grown_by nodes x w may) x ≡ numbers_from (length nodes) may
+x_has_children : (nodes : List TreeNode) (x : ℕ) (n : TreeNode) (w : List Bool) (may : Bool) → slice_get nodes x ≡ Some n → children_of (grown_by nodes x w may) x ≡ own_numbers (length nodes) may
 x_has_children nodes x n w may e =
     let s : NodeState = branch_of (length nodes) (child_words w may) in
     let l : x < length (with_state s nodes x) = omega (arith, length-with_state s nodes x, slice_get_within nodes x n e) in
     option_of (grown_by nodes x w may) x (Some (in_state s n)) (get_front (with_state s nodes x) (map new_node (child_words w may)) x l ∙ changed_same (in_state s) nodes x n e)
     ∙ numbers_made (length nodes) w may
 
-new_leaves : (nodes : List TreeNode) (x : ℕ) (n : TreeNode) (w : List Bool) (may : Bool) → slice_get nodes x ≡ Some n → AreLeaves (grown_by nodes x w may) (numbers_from (length nodes) may)
+new_leaves : (nodes : List TreeNode) (x : ℕ) (n : TreeNode) (w : List Bool) (may : Bool) → slice_get nodes x ≡ Some n → AreLeaves (grown_by nodes x w may) (own_numbers (length nodes) may)
 new_leaves nodes x n w false e =
     let l : x < length nodes = slice_get_within nodes x n e in
     (others_keep nodes x w false (length nodes) (λ same. omega (arith, l, same)) ∙ past_none nodes (length nodes) (omega arith), tt)
@@ -157,13 +157,13 @@ new_leaves nodes x n w true e =
       (others_keep nodes x w true (length nodes + 1) (λ same. omega (arith, l, same)) ∙ past_none nodes (length nodes + 1) (omega arith), tt),
     )
 
-counted : (z first : ℕ) (w : List Bool) (may : Bool) → (if nat_lt z first then 1 else 0) + occurs z (numbers_from first may) ≡ (if nat_lt z (first + length (child_words w may)) then 1 else 0)
+counted : (z first : ℕ) (w : List Bool) (may : Bool) → (if nat_lt z first then 1 else 0) + occurs z (own_numbers first may) ≡ (if nat_lt z (first + length (child_words w may)) then 1 else 0)
 counted z first w false = grind (arith, nat_tests)
 counted z first w true = grind (arith, nat_tests)
 
-length-numbers_from : (first : ℕ) (w : List Bool) (may : Bool) → length (numbers_from first may) ≡ length (child_words w may)
-length-numbers_from first w true = refl
-length-numbers_from first w false = refl
+length-own_numbers : (first : ℕ) (w : List Bool) (may : Bool) → length (own_numbers first may) ≡ length (child_words w may)
+length-own_numbers first w true = refl
+length-own_numbers first w false = refl
 
 is_there : (x n : ℕ) → x < n → suc zero ≡ (if nat_lt x n then 1 else 0)
 is_there x n l = grind (arith, nat_tests)
@@ -172,12 +172,12 @@ grown_preorder : (nodes : List TreeNode) (x : ℕ) (n : TreeNode) (w : List Bool
 grown_preorder nodes x n w may e leaf p =
     let once : occurs x p.numbers ≡ 1 = p.preorder.once x ∙ sym (is_there x (length nodes) (slice_get_within nodes x n e)) in
     record {
-      numbers = insert_after x (numbers_from (length nodes) may) p.numbers;
+      numbers = insert_after x (own_numbers (length nodes) may) p.numbers;
       preorder = record {
-        walk = walk_grows nodes (grown_by nodes x w may) x (numbers_from (length nodes) may) (others_keep nodes x w may)
+        walk = walk_grows nodes (grown_by nodes x w may) x (own_numbers (length nodes) may) (others_keep nodes x w may)
             (option_of nodes x (Some n) e ∙ leaf_has_none n.state leaf) (x_has_children nodes x n w may e) (new_leaves nodes x n w may e) (0 ∷ []) p.numbers once p.preorder.walk;
-        once = λ z. occurs-insert_after x (numbers_from (length nodes) may) p.numbers z (omega (arith, once)) ∙ ap (λ (i : ℕ). i + occurs z (numbers_from (length nodes) may)) (p.preorder.once z) ∙ counted z (length nodes) w may ∙ ap (λ (i : ℕ). if nat_lt z i then 1 else 0) (sym (length-grown_by nodes x w may));
-        all = omega (arith, length-insert_after x (numbers_from (length nodes) may) p.numbers (omega (arith, once)), p.preorder.all, length-numbers_from (length nodes) w may, length-grown_by nodes x w may);
+        once = λ z. occurs-insert_after x (own_numbers (length nodes) may) p.numbers z (omega (arith, once)) ∙ ap (λ (i : ℕ). i + occurs z (own_numbers (length nodes) may)) (p.preorder.once z) ∙ counted z (length nodes) w may ∙ ap (λ (i : ℕ). if nat_lt z i then 1 else 0) (sym (length-grown_by nodes x w may));
+        all = omega (arith, length-insert_after x (own_numbers (length nodes) may) p.numbers (omega (arith, once)), p.preorder.all, length-own_numbers (length nodes) w may, length-grown_by nodes x w may);
       };
     }
 

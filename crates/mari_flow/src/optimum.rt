@@ -15,7 +15,7 @@ ghost use Rattle.mari_network.specs.Orders.{slots_of, AreOrderSlots};
 ghost use Rattle.mari_network.specs.Solving.{NoneWithin, OfCut, IsAnswer};
 
 use crate::run::run;
-use crate::start::{extra_slots, first_amounts};
+use crate::start::{with_stand_ins, first_amounts};
 use mari_market::{Market, Prefix};
 use mari_network::{Slot, SolveFault, Solved, answer, network_of, order_slots};
 use std::alloc::Global;
@@ -26,7 +26,7 @@ fn solve_slots(alloc: Global, market: &Market, reals: &[Slot]) -> Result<Solved,
     requires reals { AreOrderSlots market.now.zones market.now.orders reals.now }
     ensures { (spans : Order → Span) → reals.now ≡ slots_of spans market.now.orders → IsAnswer spans market.now result }
 {
-    let slots = extra_slots(alloc, reals)?;
+    let slots = with_stand_ins(alloc, reals)?;
     let network = network_of(alloc, market, &slots)?;
     let mut amounts = first_amounts(alloc, reals)?;
     let mut flows = vec![in alloc; 0i64; network.borders.len()]?;

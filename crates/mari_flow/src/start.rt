@@ -3,46 +3,32 @@
 ghost use Rattle.std.specs.Prelude.{◌≡◌, pos, neg_ℤ, ◌≤ℤ◌, ◌++◌, IfOk};
 ghost use Rattle.std.specs.List.{All};
 ghost use Rattle.mari_network.specs.Slots.{IsSmallSlot, most_room};
-ghost use Rattle.mari_flow.specs.Starts.{extra_of, extras, lows, offsets};
+ghost use Rattle.mari_flow.specs.Starts.{lows, offsets, stand_in_for as stand_in_for_slot, stand_ins_for};
 
-use mari_network::{BEYOND, Slot};
+use mari_network::{Slot, stand_in};
 use std::alloc::{AllocError, Global};
 
-/// What can take away, or give, the least that a slot puts in.
-fn extra(slot: Slot) -> Slot
+/// What stands in for the least that a slot puts in.
+fn stand_in_for(slot: Slot) -> Slot
     requires low { neg_ℤ (pos most_room) ≤ℤ slot.low }
     requires high { slot.low ≤ℤ pos most_room }
-    ensures { result ≡ extra_of slot }
+    ensures { result ≡ stand_in_for_slot slot }
 {
-    if slot.low < 0 {
-        Slot {
-            zone: slot.zone,
-            price: BEYOND,
-            low: 0,
-            high: -slot.low,
-        }
-    } else {
-        Slot {
-            zone: slot.zone,
-            price: -BEYOND,
-            low: -slot.low,
-            high: 0,
-        }
-    }
+    stand_in(slot.zone, -slot.low)
 }
 
-/// What stands in for the least that each slot puts in.
-pub fn extra_slots(alloc: Global, slots: &[Slot]) -> Result<Vec<Slot>, AllocError>
+/// The slots, and what stands in for the least that each puts in.
+pub fn with_stand_ins(alloc: Global, slots: &[Slot]) -> Result<Vec<Slot>, AllocError>
     requires small { All IsSmallSlot slots.now }
     requires order { All (λ s. s.low ≤ℤ s.high) slots.now }
-    ensures { IfOk result (λ v. v.items ≡ slots.now ++ extras slots.now) }
+    ensures { IfOk result (λ v. v.items ≡ slots.now ++ stand_ins_for slots.now) }
 {
     let mut all = Vec::new(alloc);
     for slot in slots {
         all.push(*slot)?;
     }
     for slot in slots {
-        all.push(extra(*slot))?;
+        all.push(stand_in_for(*slot))?;
     }
     Ok(all)
 }

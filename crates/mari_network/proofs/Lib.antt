@@ -10,6 +10,7 @@ pub mod Readings
 pub mod Settles
 pub mod Shortfalls
 pub mod Spread
+pub mod StandIns
 pub mod Transfers
 pub mod Worths
 pub mod Zones

@@ -19,7 +19,7 @@ use Rattle.mari_network.specs.declared.slots.TheConstants.{BEYOND}
 use Rattle.mari_network.specs.Slots.{no_slot, slot_into, IsWithinSlot, IsTightSlot, IsRunning}
 use Rattle.mari_network.specs.Levels.{AreTight}
 use Rattle.mari_market.specs.Consistent.{IsConsistentFlow}
-use Rattle.mari_network.specs.Orders.{no_order, slot_of, slots_of, IsExtra, ArePuts, capped}
+use Rattle.mari_network.specs.Orders.{no_order, slot_of, slots_of, IsStandIn, ArePuts, capped}
 use Rattle.mari_network.specs.Network.{no_border}
 use Rattle.mari_network.proofs.Lists.{all_zip, zip_of, zip_long, zip_first, zip_rest, at_drop, map_at}
 use Rattle.mari_network.proofs.Shortfalls.{RunsSlot, RunsFlow, IsReal, AreLowest, AreHighest, out_of, into_of, least_in, most_in_slot, counts, paid_slot, paid_is_cost, shortfall_out, shortfall_in}
@@ -48,7 +48,7 @@ reals_real bounds n gates os v = λ k d l.
 -- what is known where a run ends
 pub record Ends (bounds : Order → Span) (m : Market) (more : List Slot) (xs fs : List ℤ) (p : ℕ → ℤ) : Type 0 where
   pub valid : IsValid m
-  pub others : All (IsExtra BEYOND) more
+  pub others : All (IsStandIn BEYOND) more
   pub zones : All (λ (s : Slot). s.zone < m.zones) (slots_of bounds m.orders ++ more)
   pub running : IsRunning m.zones (slots_of bounds m.orders ++ more) m.borders xs fs
   pub tight : AreTight (slots_of bounds m.orders ++ more) m.borders xs fs p
@@ -110,7 +110,7 @@ ends_cut_out bounds m more xs fs p zones j e low there short =
     shortfall_is_cut_out bounds m zones
     (shortfall_out m.zones BEYOND p (is_in zones) (slots_of bounds m.orders) more (take (length (slots_of bounds m.orders)) xs) (drop (length (slots_of bounds m.orders)) xs) m.borders fs j no_slot (omega (arith, ints)) low
     first (all_zip (IsReal BEYOND) (slots_of bounds m.orders) (take (length (slots_of bounds m.orders)) xs) (zip_long (RunsSlot m.zones p) (slots_of bounds m.orders) (take (length (slots_of bounds m.orders)) xs) first) (reals_real bounds m.zones (length m.gates) m.orders e.valid.orders))
-    rest (all_zip (IsExtra BEYOND) more (drop (length (slots_of bounds m.orders)) xs) (zip_long (RunsSlot m.zones p) more (drop (length (slots_of bounds m.orders)) xs) rest) e.others)
+    rest (all_zip (IsStandIn BEYOND) more (drop (length (slots_of bounds m.orders)) xs) (zip_long (RunsSlot m.zones p) more (drop (length (slots_of bounds m.orders)) xs) rest) e.others)
     (flow_runs bounds m more xs fs p e) (ends_paid bounds m more xs fs p (λ z. counts (is_in zones z)) e) there
     (subst (λ (x : ℤ). x <ℤ pos 0) (sym (at_drop (length (slots_of bounds m.orders)) xs j (pos 0))) short))
 
@@ -123,6 +123,6 @@ ends_cut_in bounds m more xs fs p zones j e high there short =
     shortfall_is_cut_in bounds m zones
     (shortfall_in m.zones BEYOND p (is_in zones) (slots_of bounds m.orders) more (take (length (slots_of bounds m.orders)) xs) (drop (length (slots_of bounds m.orders)) xs) m.borders fs j no_slot (omega (arith, ints)) high
     first (all_zip (IsReal BEYOND) (slots_of bounds m.orders) (take (length (slots_of bounds m.orders)) xs) (zip_long (RunsSlot m.zones p) (slots_of bounds m.orders) (take (length (slots_of bounds m.orders)) xs) first) (reals_real bounds m.zones (length m.gates) m.orders e.valid.orders))
-    rest (all_zip (IsExtra BEYOND) more (drop (length (slots_of bounds m.orders)) xs) (zip_long (RunsSlot m.zones p) more (drop (length (slots_of bounds m.orders)) xs) rest) e.others)
+    rest (all_zip (IsStandIn BEYOND) more (drop (length (slots_of bounds m.orders)) xs) (zip_long (RunsSlot m.zones p) more (drop (length (slots_of bounds m.orders)) xs) rest) e.others)
     (flow_runs bounds m more xs fs p e) (ends_paid bounds m more xs fs p (λ z. counts (is_in zones z)) e) there
     (subst (λ (x : ℤ). pos 0 <ℤ x) (sym (at_drop (length (slots_of bounds m.orders)) xs j (pos 0))) short))

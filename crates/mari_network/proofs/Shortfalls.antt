@@ -9,7 +9,7 @@ use Rattle.mari_market.proofs.Sums.{sum_below-same, sum_below-place, spread, sum
 use Rattle.mari_network.specs.declared.slots.Slot.{Slot}
 use Rattle.mari_network.specs.Slots.{slot_into, IsWithinSlot, IsTightSlot}
 use Rattle.mari_market.specs.Consistent.{IsConsistentFlow}
-use Rattle.mari_network.specs.Orders.{IsExtra}
+use Rattle.mari_network.specs.Orders.{IsStandIn}
 use Rattle.mari_market.proofs.Duality.{cost_at, cost_spread}
 
 -- what slots are paid, where each zone has a number
@@ -97,14 +97,14 @@ low_slot : (b : Bool) (m p low x price : ℤ) → (b ≡ true → p ≤ℤ neg_�
 low_slot true m p low x price i c w t = by_lt_z low x (λ l. absurd (omega (arith, ints, t l, i refl))) (λ l. omega (arith, ints))
 low_slot false m p low x price i c w t = omega (arith, ints)
 
-low_extra : (b : Bool) (m p x : ℤ) (s : Slot) → pos 0 <ℤ m → IsExtra m s → (b ≡ true → p ≤ℤ neg_ℤ m) → IsWithinSlot s x → (s.low <ℤ x → s.price ≤ℤ p) → (counts b *ℤ x) ≤ℤ pos 0
-low_extra true m p x s h e i w t = elim e [
+low_stand_in : (b : Bool) (m p x : ℤ) (s : Slot) → pos 0 <ℤ m → IsStandIn m s → (b ≡ true → p ≤ℤ neg_ℤ m) → IsWithinSlot s x → (s.low <ℤ x → s.price ≤ℤ p) → (counts b *ℤ x) ≤ℤ pos 0
+low_stand_in true m p x s h e i w t = elim e [
   | inl d ↦ omega (arith, ints, d.1, w.most)
   | inr d ↦ by_lt_z (pos 0) x (λ l. absurd (omega (arith, ints, d.0, t (omega (arith, ints, d.1)), i refl))) (λ l. omega (arith, ints))
 ]
-low_extra false m p x s h e i w t = omega (arith, ints)
+low_stand_in false m p x s h e i w t = omega (arith, ints)
 
-low_short : (b : Bool) (m p x : ℤ) (s : Slot) → IsExtra m s → (b ≡ false → neg_ℤ m <ℤ p) → IsWithinSlot s x → (x <ℤ s.high → p ≤ℤ s.price) → x <ℤ pos 0 → (counts b *ℤ x) <ℤ pos 0
+low_short : (b : Bool) (m p x : ℤ) (s : Slot) → IsStandIn m s → (b ≡ false → neg_ℤ m <ℤ p) → IsWithinSlot s x → (x <ℤ s.high → p ≤ℤ s.price) → x <ℤ pos 0 → (counts b *ℤ x) <ℤ pos 0
 low_short true m p x s e o w t l = omega (arith, ints)
 low_short false m p x s e o w t l = elim e [
   | inl d ↦ absurd (omega (arith, ints, d.0, t (omega (arith, ints, d.1)), o refl))
@@ -118,22 +118,22 @@ low_flow true false m pa pb f limit back ai ao bi bo l h more less = by_lt_z f (
 low_flow false true m pa pb f limit back ai ao bi bo l h more less = by_lt_z (neg_ℤ (pos back)) f (λ r. absurd (omega (arith, ints, less r, ao refl, bi refl))) (λ r. omega (arith, ints))
 
 -- too much energy in these zones
-pub shortfall_out : (n : ℕ) (m : ℤ) (p : ℕ → ℤ) (inside : ℕ → Bool) (reals extras : List Slot) (xs ws : List ℤ) (bs : List Border) (fs : List ℤ) (k : ℕ) (d : Slot)
+pub shortfall_out : (n : ℕ) (m : ℤ) (p : ℕ → ℤ) (inside : ℕ → Bool) (reals stand_ins : List Slot) (xs ws : List ℤ) (bs : List Border) (fs : List ℤ) (k : ℕ) (d : Slot)
     → pos 0 <ℤ m → AreLowest n m p inside
-    → AllZip (RunsSlot n p) reals xs → AllZip (λ s x. IsReal m s) reals xs → AllZip (RunsSlot n p) extras ws → AllZip (λ s x. IsExtra m s) extras ws → AllZip (RunsFlow n p) bs fs
-    → (sum_along (paid_slot (λ z. counts (inside z))) reals xs +ℤ sum_along (paid_slot (λ z. counts (inside z))) extras ws) ≡ sum_along (cost_at (λ z. counts (inside z))) bs fs
-    → k < length extras → get_or ws k (pos 0) <ℤ pos 0
+    → AllZip (RunsSlot n p) reals xs → AllZip (λ s x. IsReal m s) reals xs → AllZip (RunsSlot n p) stand_ins ws → AllZip (λ s x. IsStandIn m s) stand_ins ws → AllZip (RunsFlow n p) bs fs
+    → (sum_along (paid_slot (λ z. counts (inside z))) reals xs +ℤ sum_along (paid_slot (λ z. counts (inside z))) stand_ins ws) ≡ sum_along (cost_at (λ z. counts (inside z))) bs fs
+    → k < length stand_ins → get_or ws k (pos 0) <ℤ pos 0
     → int_sum (out_of inside) bs <ℤ int_sum (least_in inside) reals
-shortfall_out n m p inside reals extras xs ws bs fs k d h low rs real es extra flows paid there short =
+shortfall_out n m p inside reals stand_ins xs ws bs fs k d h low rs real es are flows paid there short =
     let zone : (s : Slot) (x : ℤ) → RunsSlot n p s x → IsReal m s → paid_slot (λ z. counts (inside z)) s x ≡ least_in inside s =
     λ s x r c. low_slot (inside s.zone) m (p s.zone) s.low x s.price (low.yes s.zone r.zone) c.above r.within.least r.tight.less in
     let a = sum_along-same (paid_slot (λ z. counts (inside z))) (least_in inside) reals xs (AllZip-both (RunsSlot n p) (λ s x. IsReal m s) _ zone reals xs rs real) in
     let b = sum_along-same (cost_at (λ z. counts (inside z))) (out_of inside) bs fs (zip_map (RunsFlow n p) _ (λ b f r. low_flow (inside b.from) (inside b.to) m (p b.from) (p b.to) f b.limit b.back (low.yes b.from r.from) (low.no b.from r.from) (low.yes b.to r.to) (low.no b.to r.to) r.within.back r.within.limit r.tight.more r.tight.less) bs fs flows) in
-    let none : AllZip (λ s x. paid_slot (λ z. counts (inside z)) s x ≤ℤ pos 0) extras ws = AllZip-both (RunsSlot n p) (λ s x. IsExtra m s) _ (λ s x r e. low_extra (inside s.zone) m (p s.zone) x s h e (low.yes s.zone r.zone) r.within r.tight.less) extras ws es extra in
-    let one = AllZip-at (RunsSlot n p) extras ws k d (pos 0) there es in
-    let kind = AllZip-at (λ (s : Slot) (x : ℤ). IsExtra m s) extras ws k d (pos 0) there extra in
-    let less = low_short (inside (get_or extras k d).zone) m (p (get_or extras k d).zone) (get_or ws k (pos 0)) (get_or extras k d) kind (low.no (get_or extras k d).zone one.zone) one.within one.tight.more short in
-    omega (arith, ints, a, b, paid, sum_below_none (paid_slot (λ z. counts (inside z))) extras ws k d (pos 0) none there less)
+    let none : AllZip (λ s x. paid_slot (λ z. counts (inside z)) s x ≤ℤ pos 0) stand_ins ws = AllZip-both (RunsSlot n p) (λ s x. IsStandIn m s) _ (λ s x r e. low_stand_in (inside s.zone) m (p s.zone) x s h e (low.yes s.zone r.zone) r.within r.tight.less) stand_ins ws es are in
+    let one = AllZip-at (RunsSlot n p) stand_ins ws k d (pos 0) there es in
+    let kind = AllZip-at (λ (s : Slot) (x : ℤ). IsStandIn m s) stand_ins ws k d (pos 0) there are in
+    let less = low_short (inside (get_or stand_ins k d).zone) m (p (get_or stand_ins k d).zone) (get_or ws k (pos 0)) (get_or stand_ins k d) kind (low.no (get_or stand_ins k d).zone one.zone) one.within one.tight.more short in
+    omega (arith, ints, a, b, paid, sum_below_none (paid_slot (λ z. counts (inside z))) stand_ins ws k d (pos 0) none there less)
 
 -- ---- the greatest prices
 
@@ -151,14 +151,14 @@ high_slot : (b : Bool) (m p high x price : ℤ) → (b ≡ true → m ≤ℤ p) 
 high_slot true m p high x price i c w t = by_lt_z x high (λ l. absurd (omega (arith, ints, t l, i refl))) (λ l. omega (arith, ints))
 high_slot false m p high x price i c w t = omega (arith, ints)
 
-high_extra : (b : Bool) (m p x : ℤ) (s : Slot) → pos 0 <ℤ m → IsExtra m s → (b ≡ true → m ≤ℤ p) → IsWithinSlot s x → (x <ℤ s.high → p ≤ℤ s.price) → pos 0 ≤ℤ (counts b *ℤ x)
-high_extra true m p x s h e i w t = elim e [
+high_stand_in : (b : Bool) (m p x : ℤ) (s : Slot) → pos 0 <ℤ m → IsStandIn m s → (b ≡ true → m ≤ℤ p) → IsWithinSlot s x → (x <ℤ s.high → p ≤ℤ s.price) → pos 0 ≤ℤ (counts b *ℤ x)
+high_stand_in true m p x s h e i w t = elim e [
   | inl d ↦ by_lt_z x (pos 0) (λ l. absurd (omega (arith, ints, d.0, t (omega (arith, ints, d.1)), i refl))) (λ l. omega (arith, ints))
   | inr d ↦ omega (arith, ints, d.1, w.least)
 ]
-high_extra false m p x s h e i w t = omega (arith, ints)
+high_stand_in false m p x s h e i w t = omega (arith, ints)
 
-high_short : (b : Bool) (m p x : ℤ) (s : Slot) → IsExtra m s → (b ≡ false → p <ℤ m) → IsWithinSlot s x → (s.low <ℤ x → s.price ≤ℤ p) → pos 0 <ℤ x → pos 0 <ℤ (counts b *ℤ x)
+high_short : (b : Bool) (m p x : ℤ) (s : Slot) → IsStandIn m s → (b ≡ false → p <ℤ m) → IsWithinSlot s x → (s.low <ℤ x → s.price ≤ℤ p) → pos 0 <ℤ x → pos 0 <ℤ (counts b *ℤ x)
 high_short true m p x s e o w t l = omega (arith, ints)
 high_short false m p x s e o w t l = elim e [
   | inl d ↦ absurd (omega (arith, ints, d.1, w.most))
@@ -172,19 +172,19 @@ high_flow true false m pa pb f limit back ai ao bi bo l h more less = by_lt_z (n
 high_flow false true m pa pb f limit back ai ao bi bo l h more less = by_lt_z f (pos limit) (λ r. absurd (omega (arith, ints, more r, ao refl, bi refl))) (λ r. omega (arith, ints))
 
 -- too little energy in these zones
-pub shortfall_in : (n : ℕ) (m : ℤ) (p : ℕ → ℤ) (inside : ℕ → Bool) (reals extras : List Slot) (xs ws : List ℤ) (bs : List Border) (fs : List ℤ) (k : ℕ) (d : Slot)
+pub shortfall_in : (n : ℕ) (m : ℤ) (p : ℕ → ℤ) (inside : ℕ → Bool) (reals stand_ins : List Slot) (xs ws : List ℤ) (bs : List Border) (fs : List ℤ) (k : ℕ) (d : Slot)
     → pos 0 <ℤ m → AreHighest n m p inside
-    → AllZip (RunsSlot n p) reals xs → AllZip (λ s x. IsReal m s) reals xs → AllZip (RunsSlot n p) extras ws → AllZip (λ s x. IsExtra m s) extras ws → AllZip (RunsFlow n p) bs fs
-    → (sum_along (paid_slot (λ z. counts (inside z))) reals xs +ℤ sum_along (paid_slot (λ z. counts (inside z))) extras ws) ≡ sum_along (cost_at (λ z. counts (inside z))) bs fs
-    → k < length extras → pos 0 <ℤ get_or ws k (pos 0)
+    → AllZip (RunsSlot n p) reals xs → AllZip (λ s x. IsReal m s) reals xs → AllZip (RunsSlot n p) stand_ins ws → AllZip (λ s x. IsStandIn m s) stand_ins ws → AllZip (RunsFlow n p) bs fs
+    → (sum_along (paid_slot (λ z. counts (inside z))) reals xs +ℤ sum_along (paid_slot (λ z. counts (inside z))) stand_ins ws) ≡ sum_along (cost_at (λ z. counts (inside z))) bs fs
+    → k < length stand_ins → pos 0 <ℤ get_or ws k (pos 0)
     → int_sum (most_in_slot inside) reals <ℤ neg_ℤ (int_sum (into_of inside) bs)
-shortfall_in n m p inside reals extras xs ws bs fs k d h high rs real es extra flows paid there short =
+shortfall_in n m p inside reals stand_ins xs ws bs fs k d h high rs real es are flows paid there short =
     let zone : (s : Slot) (x : ℤ) → RunsSlot n p s x → IsReal m s → paid_slot (λ z. counts (inside z)) s x ≡ most_in_slot inside s =
     λ s x r c. high_slot (inside s.zone) m (p s.zone) s.high x s.price (high.yes s.zone r.zone) c.below r.within.most r.tight.more in
     let a = sum_along-same (paid_slot (λ z. counts (inside z))) (most_in_slot inside) reals xs (AllZip-both (RunsSlot n p) (λ s x. IsReal m s) _ zone reals xs rs real) in
     let b = sum_along-same (cost_at (λ z. counts (inside z))) (λ b. neg_ℤ (into_of inside b)) bs fs (zip_map (RunsFlow n p) _ (λ b f r. high_flow (inside b.from) (inside b.to) m (p b.from) (p b.to) f b.limit b.back (high.yes b.from r.from) (high.no b.from r.from) (high.yes b.to r.to) (high.no b.to r.to) r.within.back r.within.limit r.tight.more r.tight.less) bs fs flows) in
-    let none : AllZip (λ s x. pos 0 ≤ℤ paid_slot (λ z. counts (inside z)) s x) extras ws = AllZip-both (RunsSlot n p) (λ s x. IsExtra m s) _ (λ s x r e. high_extra (inside s.zone) m (p s.zone) x s h e (high.yes s.zone r.zone) r.within r.tight.more) extras ws es extra in
-    let one = AllZip-at (RunsSlot n p) extras ws k d (pos 0) there es in
-    let kind = AllZip-at (λ (s : Slot) (x : ℤ). IsExtra m s) extras ws k d (pos 0) there extra in
-    let more = high_short (inside (get_or extras k d).zone) m (p (get_or extras k d).zone) (get_or ws k (pos 0)) (get_or extras k d) kind (high.no (get_or extras k d).zone one.zone) one.within one.tight.less short in
-    omega (arith, ints, a, b, paid, int_sum-neg (into_of inside) bs, sum_above_none (paid_slot (λ z. counts (inside z))) extras ws k d (pos 0) none there more)
+    let none : AllZip (λ s x. pos 0 ≤ℤ paid_slot (λ z. counts (inside z)) s x) stand_ins ws = AllZip-both (RunsSlot n p) (λ s x. IsStandIn m s) _ (λ s x r e. high_stand_in (inside s.zone) m (p s.zone) x s h e (high.yes s.zone r.zone) r.within r.tight.more) stand_ins ws es are in
+    let one = AllZip-at (RunsSlot n p) stand_ins ws k d (pos 0) there es in
+    let kind = AllZip-at (λ (s : Slot) (x : ℤ). IsStandIn m s) stand_ins ws k d (pos 0) there are in
+    let more = high_short (inside (get_or stand_ins k d).zone) m (p (get_or stand_ins k d).zone) (get_or ws k (pos 0)) (get_or stand_ins k d) kind (high.no (get_or stand_ins k d).zone one.zone) one.within one.tight.less short in
+    omega (arith, ints, a, b, paid, int_sum-neg (into_of inside) bs, sum_above_none (paid_slot (λ z. counts (inside z))) stand_ins ws k d (pos 0) none there more)

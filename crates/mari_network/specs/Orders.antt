@@ -1,5 +1,5 @@
 -- Orders as slots, and what stands in for what they leave out of balance.
-use Rattle.std.specs.Prelude.{◌≡◌, ◌⊎◌, Bool, not, ℕ, ◌∷◌, [], List, ℤ, pos, neg_ℤ, ◌≤ℤ◌, ◌<◌, length, map, None, ⊤}
+use Rattle.std.specs.Prelude.{◌≡◌, ◌⊎◌, Bool, true, false, not, ℕ, ◌∷◌, [], List, ℤ, pos, neg_ℤ, ◌≤ℤ◌, ◌<◌, length, map, None, ⊤}
 use Rattle.std.specs.List.{All, AllZip}
 use Rattle.std.specs.Int.{int_max, int_min}
 use lib.Signed.{lt_z}
@@ -30,8 +30,16 @@ slots_of spans orders = map (λ o. slot_of (spans o) o) orders
 
 -- what stands in where orders leave a zone out of balance: a slot of the least price that only takes energy, or one of
 -- the greatest that only gives it
-abbrev pub IsExtra : ℤ → Slot → Type 0
-IsExtra m s = ((s.price ≡ neg_ℤ m) × (s.high ≡ pos 0)) ⊎ ((s.price ≡ m) × (s.low ≡ pos 0))
+abbrev pub IsStandIn : ℤ → Slot → Type 0
+IsStandIn m s = ((s.price ≡ neg_ℤ m) × (s.high ≡ pos 0)) ⊎ ((s.price ≡ m) × (s.low ≡ pos 0))
+
+-- what gives a zone what it is short of, or takes away what it has too much
+abbrev pub stand_in_if : Bool → ℕ → ℤ → Slot
+stand_in_if true z d = record { zone = z; price = neg_ℤ BEYOND; low = d; high = pos 0 }
+stand_in_if false z d = record { zone = z; price = BEYOND; low = pos 0; high = d }
+
+abbrev pub stand_in_of : ℕ → ℤ → Slot
+stand_in_of z d = stand_in_if (lt_z d (pos 0)) z d
 
 -- the amounts are what the orders put in
 abbrev pub ArePuts : List Order → List ℤ → List ℕ → Type 0

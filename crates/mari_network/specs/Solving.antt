@@ -17,7 +17,7 @@ use Rattle.mari_network.specs.declared.optimum.Solved.{Solved}
 use Rattle.mari_network.specs.declared.optimum.SolveFault.{SolveFault}
 use Rattle.mari_network.specs.declared.optimum.SolveFault.TheVariants.{Cut, Memory}
 use Rattle.mari_network.specs.declared.slots.Slot.{Slot}
-use Rattle.mari_network.specs.Orders.{slots_of, IsExtra, CanPut}
+use Rattle.mari_network.specs.Orders.{slots_of, IsStandIn, CanPut}
 use Rattle.mari_network.specs.declared.slots.TheConstants.{BEYOND}
 
 -- no activation lies within the spans
@@ -52,4 +52,4 @@ pub record IsNetworkOf (m : Market) (n : NetworkRecord) : Type 0 where
 -- the slots are the orders' within the spans, and others that stand in
 pub record AreSlotsOf (spans : Order → Span) (m : Market) (more slots : List Slot) : Type 0 where
   pub made : slots ≡ slots_of spans m.orders ++ more
-  pub others : All (IsExtra BEYOND) more
+  pub others : All (IsStandIn BEYOND) more

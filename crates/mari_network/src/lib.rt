@@ -19,4 +19,4 @@ pub use margins::{Margin, margins_of, refresh};
 pub use network::{Network, network_of};
 pub use optimum::{SolveFault, Solved, answer};
 pub use search::{Found, find_chain};
-pub use slots::{BEYOND, Slot, order_slots};
+pub use slots::{BEYOND, Slot, order_slots, stand_in};

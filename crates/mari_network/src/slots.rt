@@ -1,10 +1,10 @@
 //! Orders as amounts of energy put in.
 
-ghost use Rattle.std.specs.Prelude.{◌≡◌, ℕ, ℤ, pos, ◌+ℤ◌, ◌-ℤ◌, ◌*ℤ◌, ◌≤ℤ◌, ◌<◌, length, slice_set, neg_ℤ, IfOk, ◌++◌};
+ghost use Rattle.std.specs.Prelude.{◌≡◌, ℕ, ℤ, ◌+ℤ◌, ◌-ℤ◌, ◌*ℤ◌, ◌<◌, length, slice_set, IfOk};
 ghost use Rattle.std.specs.List.{AllZip};
 ghost use Rattle.mari_market.specs.Sums.{sum_along, int_at};
 ghost use Rattle.mari_network.specs.Slots.{slot_at, at_zone, slot_into, slot_gain, IsWithinSlot, IsSmallSlot};
-ghost use Rattle.mari_network.specs.Orders.{slot_of, slots_of, AreOrderSlots};
+ghost use Rattle.mari_network.specs.Orders.{slot_of, slots_of, stand_in_of, AreOrderSlots};
 ghost use Rattle.mari_market.specs.Bounds.{Span};
 ghost use Rattle.mari_market.specs.Market.{IsValid};
 ghost use Rattle.mari_market.specs.Prefix.{bounds_at, IsFeasiblePrefix};
@@ -63,6 +63,27 @@ pub fn room_above(slot: Slot, amount: i64) -> i64
     ensures { result ≡ slot.high -ℤ amount }
 {
     slot.high - amount
+}
+
+/// What gives a zone the MW that it is short of, at a price beyond every order's, or takes away what it has too much.
+pub fn stand_in(zone: u32, short: i64) -> Slot
+    ensures { result ≡ stand_in_of zone short }
+{
+    if short < 0 {
+        Slot {
+            zone,
+            price: -BEYOND,
+            low: short,
+            high: 0,
+        }
+    } else {
+        Slot {
+            zone,
+            price: BEYOND,
+            low: 0,
+            high: short,
+        }
+    }
 }
 
 /// What an order may put into its zone within bounds.

@@ -1,56 +1,34 @@
 -- What a start leaves out of balance, and what stands in for it.
-use Rattle.std.proofs.Common.{◌≡◌, ◌==◌, if◌then◌else◌, Bool, true, false, ℕ, zero, suc, ◌+◌, ◌<◌, ◌≤◌, ℤ, pos, ◌≤ℤ◌, ◌<ℤ◌, List, [], ◌∷◌, ◌++◌, length, arith, refl, sym, ap, ◌∙◌, inl, inr, get_or}
+use Rattle.std.proofs.Common.{◌≡◌, ◌==◌, if◌then◌else◌, ℕ, zero, suc, ◌+◌, ◌<◌, ◌≤◌, ℤ, pos, List, [], ◌∷◌, ◌++◌, length, arith, refl, sym, ap, ◌∙◌, get_or}
 use Rattle.std.proofs.lemmas.Int.{ints}
 use Rattle.std.specs.List.{All, AllZip}
 use Rattle.std.proofs.lemmas.List.Elements.{All-head, All-tail, All-cons}
-use lib.Signed.{lt_z}
 use Rattle.mari_market.specs.declared.market.Border.{Border}
 use Rattle.mari_market.specs.Sums.{sum_along}
 use Rattle.mari_market.specs.Activation.{IsWithinLimits}
 use Rattle.mari_network.specs.declared.slots.Slot.{Slot}
 use Rattle.mari_network.specs.declared.slots.TheConstants.{BEYOND}
 use Rattle.mari_network.specs.Slots.{slot_into, IsWithinSlot, IsRunning}
-use Rattle.mari_network.specs.Orders.{IsExtra}
-use Rattle.mari_paths.specs.Starts.{stand_in_if, stand_in_of, stand_ins, IsNear, AreShort}
+use Rattle.mari_network.specs.Orders.{IsStandIn, stand_in_of}
+use Rattle.mari_paths.specs.Starts.{stand_ins, IsNear, AreShort}
 use Rattle.mari_network.specs.Fits.{IsNetworkSlot}
 use Rattle.mari_network.proofs.Lists.{zip_append, zip_long}
 use Rattle.mari_network.proofs.Shortfalls.{sum_along-append}
-
--- what is known of what stands in for a shortage of a zone
-pub record StandsIn (z : ℕ) (d : ℤ) (s : Slot) : Type 0 where
-  pub zone : s.zone ≡ z
-  pub kind : IsExtra BEYOND s
-  pub within : IsWithinSlot s d
-  pub network : (n : ℕ) → z < n → IsNear 700000000 d → IsNetworkSlot n s
-
-stand_case : (b : Bool) (z : ℕ) (d : ℤ) → (b ≡ true → d <ℤ pos 0) → (b ≡ false → pos 0 ≤ℤ d) → StandsIn z d (stand_in_if b z d)
-stand_case true z d l h = record {
-  zone = refl;
-  kind = inl (refl, refl);
-  within = record { least = omega (arith, ints); most = omega (arith, ints, l refl) };
-  network = λ n there near. record { zone = there; small = record { low = omega (arith, ints, near.low); high = omega (arith, ints); cheap = omega (arith, ints); dear = omega (arith, ints) } };
-}
-stand_case false z d l h = record {
-  zone = refl;
-  kind = inr (refl, refl);
-  within = record { least = omega (arith, ints, h refl); most = omega (arith, ints) };
-  network = λ n there near. record { zone = there; small = record { low = omega (arith, ints); high = omega (arith, ints, near.high); cheap = omega (arith, ints); dear = omega (arith, ints) } };
-}
-
-stands_in : (z : ℕ) (d : ℤ) → StandsIn z d (stand_in_of z d)
-stands_in z d = stand_case (lt_z d (pos 0)) z d (λ e. grind (arith, ints)) (λ e. grind (arith, ints))
+use Rattle.mari_network.proofs.StandIns.{stands_in}
 
 stand_ins_within : (z : ℕ) (short : List ℤ) → AllZip IsWithinSlot (stand_ins z short) short
 stand_ins_within z [] = tt
 stand_ins_within z (d ∷ ds) = ((stands_in z d).within, stand_ins_within (z + 1) ds)
 
-pub stand_ins_extra : (z : ℕ) (short : List ℤ) → All (IsExtra BEYOND) (stand_ins z short)
-stand_ins_extra z [] = λ k d l. absurd (omega arith)
-stand_ins_extra z (d ∷ ds) = All-cons (IsExtra BEYOND) (stand_in_of z d) (stand_ins (z + 1) ds) (stands_in z d).kind (stand_ins_extra (z + 1) ds)
+pub stand_ins_are : (z : ℕ) (short : List ℤ) → All (IsStandIn BEYOND) (stand_ins z short)
+stand_ins_are z [] = λ k d l. absurd (omega arith)
+stand_ins_are z (d ∷ ds) = All-cons (IsStandIn BEYOND) (stand_in_of z d) (stand_ins (z + 1) ds) (stands_in z d).kind (stand_ins_are (z + 1) ds)
 
 pub stand_ins_network : (n z : ℕ) (short : List ℤ) → z + length short ≤ n → All (IsNear 700000000) short → All (IsNetworkSlot n) (stand_ins z short)
 stand_ins_network n z [] l a = λ k d h. absurd (omega arith)
-stand_ins_network n z (d ∷ ds) l a = All-cons (IsNetworkSlot n) (stand_in_of z d) (stand_ins (z + 1) ds) ((stands_in z d).network n (omega arith) (All-head (IsNear 700000000) d ds a)) (stand_ins_network n (z + 1) ds (omega arith) (All-tail (IsNear 700000000) d ds a))
+stand_ins_network n z (d ∷ ds) l a =
+    let near = All-head (IsNear 700000000) d ds a in
+    All-cons (IsNetworkSlot n) (stand_in_of z d) (stand_ins (z + 1) ds) ((stands_in z d).network n (omega arith) (omega (arith, ints, near.low)) (omega (arith, ints, near.high))) (stand_ins_network n (z + 1) ds (omega arith) (All-tail (IsNear 700000000) d ds a))
 
 not_zone : (y z : ℕ) (d : ℤ) → y < z → (if z == y then d else pos 0) ≡ pos 0
 not_zone y z d l = grind (arith)

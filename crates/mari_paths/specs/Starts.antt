@@ -1,11 +1,10 @@
 -- What stands in for what a start leaves out of balance.
-use Rattle.std.specs.Prelude.{◌≡◌, Bool, true, false, ℕ, ◌+◌, ◌<◌, ◌≤◌, ℤ, pos, ◌-ℤ◌, neg_ℤ, ◌≤ℤ◌, List, [], ◌∷◌, length}
-use lib.Signed.{lt_z}
+use Rattle.std.specs.Prelude.{◌≡◌, ℕ, ◌+◌, ◌<◌, ◌≤◌, ℤ, pos, ◌-ℤ◌, neg_ℤ, ◌≤ℤ◌, List, [], ◌∷◌, length}
 use Rattle.mari_market.specs.declared.market.Border.{Border}
 use Rattle.mari_market.specs.Sums.{sum_along, int_at}
 use Rattle.mari_market.specs.Activation.{carried_out}
 use Rattle.mari_network.specs.declared.slots.Slot.{Slot}
-use Rattle.mari_network.specs.declared.slots.TheConstants.{BEYOND}
+use Rattle.mari_network.specs.Orders.{stand_in_of}
 use Rattle.mari_network.specs.Slots.{slot_into}
 use Rattle.mari_units.specs.declared.limits.TheConstants.{MOST_FLOW}
 
@@ -22,15 +21,7 @@ pub record IsNear (most : ℕ) (x : ℤ) : Type 0 where
 abbrev pub AreSmallLimits : Border → Type 0
 AreSmallLimits b = (b.limit ≤ MOST_FLOW) × (b.back ≤ MOST_FLOW)
 
--- what gives a zone what it is short of, or takes away what it has too much
-abbrev pub stand_in_if : Bool → ℕ → ℤ → Slot
-stand_in_if true z d = record { zone = z; price = neg_ℤ BEYOND; low = d; high = pos 0 }
-stand_in_if false z d = record { zone = z; price = BEYOND; low = pos 0; high = d }
-
-abbrev pub stand_in_of : ℕ → ℤ → Slot
-stand_in_of z d = stand_in_if (lt_z d (pos 0)) z d
-
--- one for each zone, from a first zone on
+-- what stands in for what each zone is short of, from a first zone on
 abbrev pub stand_ins : ℕ → List ℤ → List Slot
 stand_ins z [] = []
 stand_ins z (d ∷ ds) = stand_in_of z d ∷ stand_ins (z + 1) ds

@@ -8,11 +8,11 @@ ghost use Rattle.mari_market.specs.Activation.{IsWithinLimits, carried_out};
 ghost use Rattle.mari_market.specs.Market.{IsValid, IsBetween};
 ghost use Rattle.mari_network.specs.Orders.{IsOrderSlot, AreOrderSlots};
 ghost use Rattle.mari_network.specs.Slots.{slot_into, IsSmallSlot, IsWithinSlot};
-ghost use Rattle.mari_paths.specs.Starts.{stand_in_of, stand_ins, IsOrdered, IsNear, AreSmallLimits, AreShort};
+ghost use Rattle.mari_paths.specs.Starts.{stand_ins, IsOrdered, IsNear, AreSmallLimits, AreShort};
 
 use crate::merit::{amounts_at, balancing_price};
 use mari_market::{Activation, Border, MOST_ORDERS, Market, Order, Side};
-use mari_network::{BEYOND, Slot};
+use mari_network::{Slot, stand_in};
 use mari_units::{MOST_BORDERS, MOST_ZONES};
 use std::alloc::{AllocError, Global};
 
@@ -202,27 +202,6 @@ pub fn shortages(
     take_amounts(&mut short, slots, amounts);
     add_flows(&mut short, market.borders.as_slice(), flows);
     Ok(short)
-}
-
-/// What gives a zone what it is short of, or takes away what it has too much.
-fn stand_in(zone: u32, short: i64) -> Slot
-    ensures { result ≡ stand_in_of zone short }
-{
-    if short < 0 {
-        Slot {
-            zone,
-            price: -BEYOND,
-            low: short,
-            high: 0,
-        }
-    } else {
-        Slot {
-            zone,
-            price: BEYOND,
-            low: 0,
-            high: short,
-        }
-    }
 }
 
 /// The slots with a stand-in for each zone, and the amounts with what these put in.

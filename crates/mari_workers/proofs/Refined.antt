@@ -149,7 +149,7 @@ clears_as m budget (Err fault) told is h = tt
 -- a clearing of the closed welfare opens no gate, where it comes from one that opens none or has more than the closed
 -- welfare
 closed_by : (m : Market) (budget : ℕ) (found c : Clearing) → MayRefine m budget found → IsClearing m budget c → IsClosedWelfare m (pos c.welfare) → gate_word_of m c.activation ≡ all_closed m
-closed_by m budget found c h k w = elim h.above [
+closed_by m budget found c h k w = elim h.opens.above [
   | inl e ↦ one_first_word m c.activation found.activation k.first (closed_is_first m found.activation h.clearing.optimal e) ∙ e
   | inr more ↦ absurd (omega (arith, ints, more, at_most, same))
 ]
@@ -157,8 +157,8 @@ closed_by m budget found c h k w = elim h.above [
     same : pos c.welfare ≡ pos found.welfare
     same = sym k.welfare ∙ one_welfare m c.activation found.activation k.first.optimal h.clearing.optimal ∙ h.clearing.welfare
 
-    at_most : pos c.welfare ≤ℤ pos h.closed
-    at_most = subst (λ (u : ℤ). u ≤ℤ pos h.closed) w.reached.2 (h.is_closed.greatest w.reached.0 w.reached.1)
+    at_most : pos c.welfare ≤ℤ pos h.opens.closed
+    at_most = subst (λ (u : ℤ). u ≤ℤ pos h.opens.closed) w.reached.2 (h.opens.is_closed.greatest w.reached.0 w.reached.1)
 
 pub closes_at_closed : (m : Market) (budget : ℕ) (found : Clearing) (result : Cleared) → MayRefine m budget found → Clears m budget result → ClosesAtClosed m result
 closes_at_closed m budget found (Published c) h k = closed_by m budget found c h k

@@ -63,14 +63,10 @@ pub refinable : (m : Market) (budget first offered : ℕ) (best : Option Attaine
 refinable m budget first offered None a c clearing parts closed gates h same w = record {
   clearing = clearing;
   nodes = parts;
-  closed = first;
-  is_closed = closed;
-  above = inl (ap (gate_word_of m) same ∙ gates);
+  opens = record { closed = first; is_closed = closed; above = inl (ap (gate_word_of m) same ∙ gates) };
 }
 refinable m budget first offered (Some b) a c clearing parts closed gates h same w = record {
   clearing = clearing;
   nodes = parts;
-  closed = first;
-  is_closed = closed;
-  above = inr (omega (arith, w, h.1, h.2));
+  opens = record { closed = first; is_closed = closed; above = inr (omega (arith, w, h.1, h.2)) };
 }

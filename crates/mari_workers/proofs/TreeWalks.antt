@@ -190,8 +190,8 @@ put_back m aim x old leaf done left more h k e = record {
 -- ---- a branch
 
 -- an early prefix has its welfare above the closed one
-pub early_above : (m : Market) (aim : Aim) (word : List Bool) (k : IsAim m aim) → IsEarly (word_of aim.word) word → k.closed < aim.welfare
-early_above m aim word k early = elim k.above [
+pub early_above : (m : Market) (aim : Aim) (word : List Bool) (k : IsAim m aim) → IsEarly (word_of aim.word) word → k.opens.closed < aim.welfare
+early_above m aim word k early = elim k.opens.above [
   | inl e ↦ absurd (none_before_closed (length m.gates) word (subst (λ (w : List Bool). ComesBefore word w) e early))
   | inr l ↦ l
 ]
@@ -200,9 +200,9 @@ early_above m aim word k early = elim k.above [
 pub to_branch_promising : (m : Market) (aim : Aim) (word : List Bool) (leaf : LeafRecord) → IsAim m aim → IsToBranch m aim.welfare (word_of aim.word) word leaf → IsPromising m word
 to_branch_promising m aim word leaf k t = record {
   relaxed = t.relaxed;
-  closed = pos k.closed;
+  closed = pos k.opens.closed;
   is_relaxed = t.is_relaxed;
-  is_closed = k.is_closed;
+  is_closed = k.opens.is_closed;
   above = omega (arith, ints, early_above m aim word k t.early, t.reaches);
 }
 

@@ -12,14 +12,13 @@ use Rattle.mari_market.specs.declared.prefix.Prefix.{Prefix}
 use Rattle.mari_market.specs.Activation.{gate_word_of}
 use Rattle.mari_market.specs.Market.{IsValid}
 use Rattle.mari_market.specs.Prefix.{word_of, children, IsFeasiblePrefix, IsFeasibleWord, IsCleared}
-use Rattle.mari_market.specs.Relaxation.{all_closed}
 use Rattle.mari_market.specs.Tree.{AreParts, LeafHolds, LeafHoldsFor}
 use Rattle.mari_market.proofs.Prefixes.{closed_child}
 use Rattle.mari_gates.specs.Preorder.{left_at, waiting_after}
 use Rattle.mari_gates.proofs.Decisions.{length-decisions}
 use Rattle.mari_proofs.specs.Places.{LeavesWords}
 use Rattle.mari_workers.specs.declared.refining.Aim.{Aim}
-use Rattle.mari_workers.specs.Refine.{IsAim, IsAtLeaf, IsNewLeaf, IsOldLeaf, IsToBranch, IsTreeWalk, MayRefine}
+use Rattle.mari_workers.specs.Refine.{IsAim, IsAtLeaf, IsNewLeaf, IsOldLeaf, IsToBranch, IsTreeWalk, MayRefine, OpensForMore}
 use Rattle.mari_workers.proofs.TreeWalks.{branch_done, branch_room, child_leaves, leaf_branched, leaf_done, old_leaves, some_behind}
 
 -- the next prefix is the closed child of this one
@@ -71,9 +70,7 @@ aim_of m budget found x h f e few = record {
   budget = few;
   word = f;
   greatest = λ a adm. omega (arith, ints, h.clearing.welfare, h.clearing.optimal.greatest a adm);
-  closed = h.closed;
-  is_closed = h.is_closed;
-  above = subst (λ (w : List Bool). Rattle.std.specs.Prelude.◌⊎◌ (w ≡ all_closed m) (h.closed < found.welfare)) (sym e) h.above;
+  opens = subst (λ (w : List Bool). OpensForMore m w found.welfare) (sym e) h.opens;
 }
 
 nothing_opened : (gates : List Rattle.mari_market.specs.declared.market.GateInfo.GateInfo) → IsFeasibleWord gates []

@@ -378,10 +378,12 @@ pub may_refine : (s : Machine) (c : Clearing) → IsFinished s → IsOptimalClea
 may_refine s c done clearing w first parts = record {
   clearing = clearing;
   nodes = parts;
-  closed = s.first.welfare;
-  is_closed = done.facts.closed;
-  above = elim (cases_eq s.incumbent s.first.welfare) [
-    | inl e ↦ inl (ap (gate_word_of s.tree.market) (first e) ∙ done.from_closed)
-    | inr other ↦ inr (omega (arith, other, w, done.facts.incumbent_is, above_first s.first.welfare s.actors))
-  ];
+  opens = record {
+    closed = s.first.welfare;
+    is_closed = done.facts.closed;
+    above = elim (cases_eq s.incumbent s.first.welfare) [
+      | inl e ↦ inl (ap (gate_word_of s.tree.market) (first e) ∙ done.from_closed)
+      | inr other ↦ inr (omega (arith, other, w, done.facts.incumbent_is, above_first s.first.welfare s.actors))
+    ];
+  };
 }

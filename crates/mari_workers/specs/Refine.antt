@@ -31,14 +31,18 @@ use Rattle.mari_workers.specs.declared.refining.Turn.TheVariants.{On, Full, Yiel
 use Rattle.mari_workers.specs.declared.refining.Walk.{Walk}
 use Rattle.mari_units.specs.declared.limits.TheConstants.{MOST_NODES}
 
+-- the word opens no gate, unless the welfare is more than the closed welfare
+pub record OpensForMore (m : Market) (word : List Bool) (welfare : ℕ) : Type 0 where
+  pub closed : ℕ
+  pub is_closed : IsClosedWelfare m (pos closed)
+  pub above : (word ≡ all_closed m) ⊎ (closed < welfare)
+
 -- what may be refined: an optimal clearing with a tree of nodes of the search tree, which opens no gate or has more
 -- than the closed welfare
 pub record MayRefine (m : Market) (budget : ℕ) (c : Clearing) : Type 0 where
   pub clearing : IsOptimalClearing m budget c
   pub nodes : ArePartsOfSearch m ([] ∷ []) (map shape_of c.tree)
-  pub closed : ℕ
-  pub is_closed : IsClosedWelfare m (pos closed)
-  pub above : (gate_word_of m c.activation ≡ all_closed m) ⊎ (closed < c.welfare)
+  pub opens : OpensForMore m (gate_word_of m c.activation) c.welfare
 
 -- what a search comes to: a clearing that may be refined, or a part of the search tree that the budget can't extend
 abbrev pub IsSearched : Market → ℕ → Cleared → Type 0
@@ -58,9 +62,7 @@ pub record IsAim (m : Market) (aim : Aim) : Type 0 where
   pub budget : aim.budget ≤ MOST_NODES
   pub word : IsFeasiblePrefix m aim.word
   pub greatest : (a : Activation) → IsAdmissible m a → welfare_of m a ≤ℤ pos aim.welfare
-  pub closed : ℕ
-  pub is_closed : IsClosedWelfare m (pos closed)
-  pub above : (word_of aim.word ≡ all_closed m) ⊎ (closed < aim.welfare)
+  pub opens : OpensForMore m (word_of aim.word) aim.welfare
 
 -- an early leaf below which an optimal activation may lie: it holds at the welfare, and its relaxed welfare is at least
 -- that

@@ -5,28 +5,28 @@ use Rattle.mari_network.specs.declared.slots.Slot.{Slot}
 use Rattle.mari_network.specs.Slots.{IsRunning}
 use Rattle.mari_network.specs.Fits.{IsNetworkSlot}
 use Rattle.mari_network.proofs.Fits.{slots_ordered, zeros_at, zeros_long}
-use Rattle.mari_flow.specs.Starts.{extras, lows, offsets}
-use Rattle.mari_flow.proofs.Starts.{all_slots, extras_extra, starts_running}
+use Rattle.mari_flow.specs.Starts.{stand_ins_for, lows, offsets}
+use Rattle.mari_flow.proofs.Starts.{all_slots, stand_ins_are, starts_running}
 use Rattle.mari_flow.proofs.optimum.solve_slots.Goals as goal
 
 pub network_of-requires-clause-slots : goal.network_of-requires-clause-slots
 network_of-requires-clause-slots c =
-    let made : c.deref.result.now ≡ c.args.reals.now ++ extras c.args.reals.now = c.deref.ensures.value ∙ c.in_ok-slots.ensures in
+    let made : c.deref.result.now ≡ c.args.reals.now ++ stand_ins_for c.args.reals.now = c.deref.ensures.value ∙ c.in_ok-slots.ensures in
     subst (λ (ss : List Slot). All (IsNetworkSlot c.args.market.now.zones) ss) (sym made) (all_slots c.args.market.now.zones c.args.reals.now c.requires.reals.fine)
 
 pub run-requires-clause-runs : goal.run-requires-clause-runs
 run-requires-clause-runs c =
     let n = length c.in_ok-network.network.meeting.items in
     let bs = c.in_ok-network.network.borders.now in
-    let made : c.in_ok-network.network.slots.now ≡ c.args.reals.now ++ extras c.args.reals.now = c.in_ok-network.ensures.slots ∙ c.deref.ensures.value ∙ c.in_ok-slots.ensures in
+    let made : c.in_ok-network.network.slots.now ≡ c.args.reals.now ++ stand_ins_for c.args.reals.now = c.in_ok-network.ensures.slots ∙ c.deref.ensures.value ∙ c.in_ok-slots.ensures in
     let amounts : c.deref_mut.result.now ≡ lows c.args.reals.now ++ offsets c.args.reals.now = c.deref_mut.ensures.value ∙ c.in_ok-amounts.ensures in
     let flows : c.deref_mut-2.result.now ≡ replicate (length c.in_ok-network.network.borders.now) (pos 0) = c.deref_mut-2.ensures.value ∙ c.in_ok-flows.ensures.items_if_clones_equal (λ y q. q) in
     let long : length c.in_ok-network.network.borders.now ≡ length c.deref_mut-2.result.now = sym (ap (λ (fs : List ℤ). length fs) flows ∙ zeros_long (length c.in_ok-network.network.borders.now)) in
     subst (λ (ss : List Slot). IsRunning n ss bs c.deref_mut.result.now c.deref_mut-2.result.now) (sym made)
-    (subst (λ (xs : List ℤ). IsRunning n (c.args.reals.now ++ extras c.args.reals.now) bs xs c.deref_mut-2.result.now) (sym amounts)
+    (subst (λ (xs : List ℤ). IsRunning n (c.args.reals.now ++ stand_ins_for c.args.reals.now) bs xs c.deref_mut-2.result.now) (sym amounts)
     (starts_running n c.args.reals.now bs c.deref_mut-2.result.now (slots_ordered c.args.market.now.zones c.args.reals.now c.requires.reals.fine) long (λ k. ap (λ (fs : List ℤ). get_or fs k (pos 0)) flows ∙ zeros_at (length c.in_ok-network.network.borders.now) k)))
 
 pub returns : goal.returns
 returns c = λ spans e.
-    let made : c.in_ok-network.network.slots.now ≡ c.args.reals.now ++ extras c.args.reals.now = c.in_ok-network.ensures.slots ∙ c.deref.ensures.value ∙ c.in_ok-slots.ensures in
-    c.answer.ensures spans (extras c.args.reals.now) (record { made = made ∙ ap (λ (ss : List Slot). ss ++ extras c.args.reals.now) e; others = extras_extra c.args.reals.now })
+    let made : c.in_ok-network.network.slots.now ≡ c.args.reals.now ++ stand_ins_for c.args.reals.now = c.in_ok-network.ensures.slots ∙ c.deref.ensures.value ∙ c.in_ok-slots.ensures in
+    c.answer.ensures spans (stand_ins_for c.args.reals.now) (record { made = made ∙ ap (λ (ss : List Slot). ss ++ stand_ins_for c.args.reals.now) e; others = stand_ins_are c.args.reals.now })

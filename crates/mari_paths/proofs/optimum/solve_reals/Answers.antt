@@ -8,7 +8,7 @@ use Rattle.mari_paths.specs.Starts.{stand_ins, IsNear, AreShort}
 use Rattle.mari_network.specs.Fits.{IsNetworkSlot}
 use Rattle.mari_network.proofs.Lists.{same_default, zip_long}
 use Rattle.mari_network.proofs.Fits.{network_slots}
-use Rattle.mari_paths.proofs.Starts.{stand_ins_network, stand_ins_extra, starts_running}
+use Rattle.mari_paths.proofs.Starts.{stand_ins_network, stand_ins_are, starts_running}
 use Rattle.mari_paths.proofs.optimum.solve_reals.Goals as goal
 
 pub solve_slots-requires-clause-slots : goal.solve_slots-requires-clause-slots
@@ -48,4 +48,4 @@ solve_slots-requires-clause-long c =
 pub returns : goal.returns
 returns c = λ spans e.
     let all : c.deref-6.result.now ≡ c.args.reals.items ++ stand_ins 0 c.deref-5.result.now = c.deref-6.ensures.value ∙ c.in_ok-add_stand_ins.ensures.slots in
-    c.solve_slots.ensures spans (stand_ins 0 c.deref-5.result.now) (record { made = all ∙ ap (λ (ss : List Slot). ss ++ stand_ins 0 c.deref-5.result.now) e; others = stand_ins_extra 0 c.deref-5.result.now })
+    c.solve_slots.ensures spans (stand_ins 0 c.deref-5.result.now) (record { made = all ∙ ap (λ (ss : List Slot). ss ++ stand_ins 0 c.deref-5.result.now) e; others = stand_ins_are 0 c.deref-5.result.now })

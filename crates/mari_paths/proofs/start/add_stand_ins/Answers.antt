@@ -2,7 +2,8 @@ use Rattle.std.proofs.Common.{◌≡◌, ◌+◌, ◌++◌, ◌∷◌, [], ℕ, 
 use Rattle.std.proofs.lemmas.List.{take_more, length-take-le}
 use Rattle.mari_network.specs.declared.slots.Slot.{Slot}
 use Rattle.mari_market.specs.Sums.{int_at}
-use Rattle.mari_paths.specs.Starts.{stand_in_of, stand_ins}
+use Rattle.mari_network.specs.Orders.{stand_in_of}
+use Rattle.mari_paths.specs.Starts.{stand_ins}
 use Rattle.mari_paths.proofs.Starts.{stand_ins_push}
 use Rattle.mari_paths.proofs.start.add_stand_ins.Goals as goal
 

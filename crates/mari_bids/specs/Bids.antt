@@ -1,7 +1,7 @@
 -- The book of bids.
-use Rattle.std.specs.Prelude.{◌≡◌, ◌≢◌, ◌≤◌, ◌<◌, ℕ, ◌==◌, length, Bool, true, false, List, [], ◌∷◌, ◌++◌, Option, not, ◌&&◌, nat_le, nat_lt, map, codes, is_some, unwrap_or, count_by, pos}
+use Rattle.std.specs.Prelude.{◌≡◌, ◌≢◌, ◌≤◌, ◌<◌, ℕ, ◌==◌, length, Bool, false, List, [], ◌∷◌, ◌++◌, Option, not, ◌&&◌, nat_le, nat_lt, map, codes, is_some, unwrap_or, count_by, pos}
 use Rattle.std.specs.List.{All, AllPairs}
-use Rattle.mari_units.specs.Names.{is_name}
+use Rattle.mari_units.specs.Names.{IsName, is_name}
 use Rattle.mari_units.specs.Numbers.{price_of, whole_of}
 use Rattle.mari_units.specs.Prices.{IsCapped}
 use Rattle.mari_units.specs.declared.limits.TheConstants.{MOST_BID_MW, MOST_BIDS, MOST_PAGE}
@@ -156,8 +156,8 @@ pub record IsBid (zones : ZoneBook) (providers quarters : ℕ) (bid : Bid) : Typ
 -- has more than `MOST_BIDS` bids
 pub record IsBidBook (zones : ZoneBook) (quarters : ℕ) (book : BidBook) : Type 0 where
   pub named : length book.ids ≡ length book.bids
-  pub ids : All (λ id. is_name id ≡ true) book.ids
-  pub providers : All (λ provider. is_name provider ≡ true) book.providers
+  pub ids : All IsName book.ids
+  pub providers : All IsName book.providers
   pub few_providers : length book.providers ≤ length book.bids
   pub few : length book.bids ≤ MOST_PAGE
   pub distinct : AllPairs (λ a b. a ≢ b) book.ids

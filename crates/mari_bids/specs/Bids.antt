@@ -1,5 +1,5 @@
 -- The book of bids.
-use Rattle.std.specs.Prelude.{◌≡◌, ◌≢◌, ◌≤◌, ◌<◌, ℕ, ◌==◌, length, Bool, false, List, [], ◌∷◌, ◌++◌, Option, not, ◌&&◌, nat_le, nat_lt, map, codes, is_some, unwrap_or, count_by, pos}
+use Rattle.std.specs.Prelude.{◌≡◌, ◌≢◌, ◌≤◌, ◌<◌, ℕ, ◌==◌, length, Bool, false, List, [], ◌∷◌, ◌++◌, Option, not, ◌&&◌, nat_le, nat_lt, map, codes, is_some, unwrap_or, count_by, slice_index_or, pos}
 use Rattle.std.specs.List.{All, AllPairs}
 use Rattle.mari_units.specs.Names.{IsName, is_name}
 use Rattle.mari_units.specs.Numbers.{price_of, whole_of}
@@ -114,6 +114,14 @@ bid_at zones quarters provider row = record {
   greatest = greatest_at row;
   both = unwrap_or (is_both row) false;
 }
+
+-- a bid, where there is none
+abbrev pub no_bid : Bid
+no_bid = record { provider = 0; zone = 0; quarter = 0; up = false; price = record { 0 = pos 0 }; least = 0; greatest = 0; both = false }
+
+-- the bid of a number that is there
+abbrev pub bid_numbered : List Bid → ℕ → Bid
+bid_numbered bids i = slice_index_or bids i no_bid
 
 -- the providers of these lines, each once, in order of first appearance
 abbrev pub providers_of : List Row → List (List ℕ)

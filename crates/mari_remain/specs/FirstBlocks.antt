@@ -2,12 +2,13 @@
 use Rattle.std.specs.Prelude.{◌≡◌, ◌≤◌, ◌+◌, ◌==◌, ◌+ℤ◌, ◌&&◌, ◌||◌, ℕ, ℤ, pos, Bool, false, get_or, nat_lt, List, Option, Some, None, IfSome, if◌then◌else◌, fold, is_some, length, map, slice_get, take, unwrap_or}
 use Rattle.std.specs.List.{range_with_len}
 use Rattle.std.specs.Option.{option_map_or}
+use Rattle.mari_bids.specs.Bids.{bid_numbered}
 use Rattle.mari_market.specs.Optimal.{IsFeasible}
 use Rattle.mari_market.specs.declared.activation.Activation.{Activation}
 use Rattle.mari_remain.specs.declared.books.Books.{Books}
 use Rattle.mari_remain.specs.Blocks.{PastBlock, PastRun, flow_in, flow_of, is_activated, mw_in_block, mw_of, of_direct_runs, of_quarter}
 use Rattle.mari_remain.specs.Available.{Taken}
-use Rattle.mari_remain.specs.Lists.{bid_numbered, bids_of_quarter, numbers_of_run, run_numbered}
+use Rattle.mari_remain.specs.Lists.{bids_of_quarter, numbers_of_run, run_numbered}
 use Rattle.mari_remain.specs.RunMarket.{market_at, numbers_of}
 
 -- what a published block of a run tells: the bids of the run's market behind these blocks, and an activation that is

@@ -3,12 +3,13 @@
 ghost use Rattle.std.specs.Prelude.{false, ◌≡◌, ◌≤◌, ◌<◌, ◌+◌, ◌==◌, ◌&&◌, ◌||◌, ℕ, Bool, [], IfOk, filter, get_or, length, map, nat_lt, not, slice_get, true};
 ghost use Rattle.std.specs.Option.{option_map_or};
 ghost use Rattle.std.specs.List.{list_all, list_any, range_with_len};
+ghost use Rattle.mari_bids.specs.Bids.{bid_numbered};
 ghost use Rattle.mari_links.specs.Links.{has_gate};
 ghost use Rattle.mari_remain.specs.Accepted.{IsAccepted};
 ghost use Rattle.mari_remain.specs.Available.{Taken, has_free_group as has_free_group_in, is_available, is_for as is_for_in, is_left as is_left_in, may_run as may_run_in, share_group as share_group_in};
 ghost use Rattle.mari_remain.specs.Choice.{keeps_links_in, rivals_in};
 ghost use Rattle.mari_remain.specs.FirstBlocks.{taken_in};
-ghost use Rattle.mari_remain.specs.Lists.{bid_numbered, bids_of_quarter, group_at, parent_at};
+ghost use Rattle.mari_remain.specs.Lists.{bids_of_quarter, group_at, parent_at};
 
 use crate::books::Books;
 use crate::market::bid_of;

@@ -1,5 +1,5 @@
 -- The book of limits.
-use Rattle.std.specs.Prelude.{ℕ, ◌+◌, ◌-◌, ◌*◌, Bool, List, [], ◌∷◌, ◌++◌, Option, not, ◌&&◌, ◌==◌, length, map, codes, position, is_some, unwrap_or, option_map}
+use Rattle.std.specs.Prelude.{ℕ, ◌+◌, ◌-◌, Bool, List, [], ◌∷◌, ◌++◌, Option, not, ◌&&◌, ◌==◌, length, map, codes, position, is_some, unwrap_or, option_map}
 use Rattle.std.specs.List.{find, list_any, range_with_len}
 use Rattle.std.specs.Option.{option_and_then}
 use Rattle.mari_units.specs.Numbers.{whole_of}
@@ -12,7 +12,7 @@ use Rattle.mari_zones.specs.declared.borders.BorderEnds.{BorderEnds}
 use Rattle.mari_zones.specs.declared.zones.ZoneBook.{ZoneBook}
 use Rattle.mari_demands.specs.Demands.{run_at, run_in}
 use Rattle.mari_demands.specs.LimitChecks.{limit_check_number}
-use Rattle.mari_demands.specs.LimitPairs.{no_limits}
+use Rattle.mari_demands.specs.LimitPairs.{no_limits, place_of_pair}
 use Rattle.mari_demands.specs.declared.limits.LimitCheck.TheVariants.{BadField, Range, Repeated, UnknownBorder, UnknownRun}
 use Rattle.mari_demands.specs.declared.limits.Limits.{Limits}
 
@@ -43,9 +43,9 @@ module _ (zones : ZoneBook) (borders : BorderBook) (runs : ℕ) where
   abbrev pub is_of : (run border : ℕ) → Row → Bool
   is_of run border row = (run_at runs row == run) && (border_at zones borders row == border)
 
-  -- the place of a line's run and border, where the borders of the first run come first, then those of the second
+  -- the place of a line's run and border
   abbrev pub pair_place : Row → ℕ
-  pair_place row = (run_at runs row - 1) * length borders.borders + border_at zones borders row
+  pair_place row = place_of_pair (length borders.borders) (run_at runs row - 1) (border_at zones borders row)
 
   -- a line is refused for a field that is no number, for an unknown run and for an unknown border
   abbrev pub name_checks : Row → Checks

@@ -8,7 +8,7 @@ use Rattle.std.proofs.lemmas.List.Sums.{length-filter}
 use lib.Chars.{codes}
 use Rattle.mari_bids.specs.declared.bids.Bid.{Bid}
 use Rattle.mari_bids.specs.declared.bids.BidBook.{BidBook}
-use Rattle.mari_links.specs.Links.{count_of, has_gate, quarter_of}
+use Rattle.mari_links.specs.Links.{count_of, gated_in, has_gate, quarter_of}
 use Rattle.mari_links.specs.declared.links.LinkBook.{LinkBook}
 use Rattle.mari_market.specs.declared.market.Market.{Market}
 use Rattle.mari_market.specs.SearchTree.{IsLarger, IsNode}
@@ -48,7 +48,7 @@ fewer g p q (x ∷ xs) = one-more g p q x xs (fewer g p q xs) (q x) refl (p x) r
 
 -- the gated bids of a quarter, whichever of them are available
 few-gated : (bids : BidBook) (links : LinkBook) (p : ℕ → Bool) (quarter : ℕ) → length links.links ≡ length bids.bids
-    → count_of bids (filter (has_gate links) (range_with_len 0 (length links.links))) quarter ≤ 8 → length (filter (has_gate links) (filter p (bids_of_quarter bids.bids quarter))) ≤ 8
+    → count_of bids (gated_in links) quarter ≤ 8 → length (filter (has_gate links) (filter p (bids_of_quarter bids.bids quarter))) ≤ 8
 few-gated bids links p quarter all few =
     let numbers : List ℕ = range_with_len 0 (length bids.bids) in
     let of_quarter : ℕ → Bool = λ i. quarter_of bids i == quarter in

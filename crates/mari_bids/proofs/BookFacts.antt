@@ -18,7 +18,7 @@ use Rattle.mari_rows.proofs.PlaceLemmas.{length-distinct}
 use Rattle.mari_rows.proofs.RowLemmas.{length-rows_in}
 use Rattle.mari_zones.specs.declared.zones.ZoneBook.{ZoneBook}
 use Rattle.mari_bids.specs.Bids.{IsBid, IsBidBook, bid_at, bid_book, bid_grammar, greatest_in, id_of, least_in, line_checks, price_in, provider_of, providers_of, quarter_at, quarter_in, zone_in}
-use Rattle.mari_units.specs.Names.{is_name}
+use Rattle.mari_units.specs.Names.{IsName, is_name}
 use Rattle.mari_bids.proofs.BidLemmas.{good-names}
 use Rattle.mari_bids.specs.declared.bids.Bid.{Bid}
 use Rattle.mari_bids.specs.declared.bids.BidBook.{BidBook}
@@ -93,8 +93,8 @@ module _ (zones : ZoneBook) (quarters : ℕ) where
       let make : Row → Bid = λ row. bid_at zones quarters (place_in providers (provider_of row)) row in
       let whole : IsBidBook zones quarters (bid_book zones quarters rows) = record {
         named = length-map rows id_of ∙ sym (length-map rows make);
-        ids = All-map (λ id. is_name id ≡ true) id_of rows (λ k d below. (are.lines k d below).id);
-        providers = all-distinct (λ provider. is_name provider ≡ true) (map provider_of rows) (All-map (λ provider. is_name provider ≡ true) provider_of rows (λ k d below. (are.lines k d below).provider));
+        ids = All-map IsName id_of rows (λ k d below. (are.lines k d below).id);
+        providers = all-distinct IsName (map provider_of rows) (All-map IsName provider_of rows (λ k d below. (are.lines k d below).provider));
         few_providers = simp length-map (omega (arith, length-distinct (map provider_of rows), length-map rows provider_of));
         few = simp length-map few;
         distinct = are.distinct;

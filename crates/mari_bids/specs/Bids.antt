@@ -1,7 +1,7 @@
 -- The book of bids.
-use Rattle.std.specs.Prelude.{◌≡◌, ◌≢◌, ◌≤◌, ◌<◌, ℕ, ◌==◌, length, Bool, true, false, List, [], ◌∷◌, ◌++◌, Option, not, ◌&&◌, nat_le, nat_lt, map, codes, is_some, unwrap_or, count_by, pos}
+use Rattle.std.specs.Prelude.{◌≡◌, ◌≢◌, ◌≤◌, ◌<◌, ℕ, ◌==◌, length, Bool, false, List, [], ◌∷◌, ◌++◌, Option, not, ◌&&◌, nat_le, nat_lt, map, codes, is_some, unwrap_or, count_by, slice_index_or, pos}
 use Rattle.std.specs.List.{All, AllPairs}
-use Rattle.mari_units.specs.Names.{is_name}
+use Rattle.mari_units.specs.Names.{IsName, is_name}
 use Rattle.mari_units.specs.Numbers.{price_of, whole_of}
 use Rattle.mari_units.specs.Prices.{IsCapped}
 use Rattle.mari_units.specs.declared.limits.TheConstants.{MOST_BID_MW, MOST_BIDS, MOST_PAGE}
@@ -115,6 +115,14 @@ bid_at zones quarters provider row = record {
   both = unwrap_or (is_both row) false;
 }
 
+-- a bid, where there is none
+abbrev pub no_bid : Bid
+no_bid = record { provider = 0; zone = 0; quarter = 0; up = false; price = record { 0 = pos 0 }; least = 0; greatest = 0; both = false }
+
+-- the bid of a number that is there
+abbrev pub bid_numbered : List Bid → ℕ → Bid
+bid_numbered bids i = slice_index_or bids i no_bid
+
 -- the providers of these lines, each once, in order of first appearance
 abbrev pub providers_of : List Row → List (List ℕ)
 providers_of rows = distinct (map provider_of rows)
@@ -156,8 +164,8 @@ pub record IsBid (zones : ZoneBook) (providers quarters : ℕ) (bid : Bid) : Typ
 -- has more than `MOST_BIDS` bids
 pub record IsBidBook (zones : ZoneBook) (quarters : ℕ) (book : BidBook) : Type 0 where
   pub named : length book.ids ≡ length book.bids
-  pub ids : All (λ id. is_name id ≡ true) book.ids
-  pub providers : All (λ provider. is_name provider ≡ true) book.providers
+  pub ids : All IsName book.ids
+  pub providers : All IsName book.providers
   pub few_providers : length book.providers ≤ length book.bids
   pub few : length book.bids ≤ MOST_PAGE
   pub distinct : AllPairs (λ a b. a ≢ b) book.ids

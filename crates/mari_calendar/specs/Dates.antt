@@ -1,12 +1,8 @@
 -- A date as ten bytes, and its day number.
-use Rattle.std.specs.Prelude.{ℕ, ◌+◌, ◌-◌, ◌*◌, ◌&&◌, List, length, slice_index, Option, Some, None, ◌==◌, nat_le, if◌then◌else◌, ℤ, pos}
-use Rattle.std.specs.Char.{is_ascii_digit}
+use Rattle.std.specs.Prelude.{ℕ, ◌+◌, ◌*◌, ◌&&◌, List, length, slice_index, Option, Some, None, ◌==◌, nat_le, if◌then◌else◌, ℤ, pos}
+use Rattle.mari_units.specs.Numbers.{two_digits}
 use Rattle.mari_units.specs.Options.{◌>>=◌}
 use Rattle.jiff_core.specs.Calendar.{days_in_month, days_from_civil}
-
--- the number that two digits write
-abbrev pub two_digits : ℕ → ℕ → Option ℕ
-two_digits tens ones = if is_ascii_digit tens && is_ascii_digit ones then Some (10 * (tens - 48) + (ones - 48)) else None
 
 -- the day number of a year, month and day that the calendar has: days since 1 January 1970
 abbrev pub existing_day : ℕ → ℕ → ℕ → Option ℤ

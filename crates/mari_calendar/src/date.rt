@@ -2,7 +2,8 @@
 
 ghost use Rattle.std.specs.Prelude.{◌≡◌, ◌≤◌, option_map, IfSome};
 ghost use Rattle.jiff_core.specs.Date.{epoch_day};
-ghost use Rattle.mari_calendar.specs.Dates.{two_digits, existing_day, day_by, day_in};
+ghost use Rattle.mari_units.specs.Numbers.{two_digits};
+ghost use Rattle.mari_calendar.specs.Dates.{existing_day, day_by, day_in};
 
 use jiff_core::civil::Date;
 

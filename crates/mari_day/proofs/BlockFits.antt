@@ -4,6 +4,7 @@ use Rattle.std.proofs.lemmas.Int.{ints}
 use Rattle.std.specs.List.{All}
 use Rattle.std.proofs.lemmas.List.{length-map, get_or-map}
 use Rattle.std.proofs.lemmas.List.Elements.{All-cons, All-nil, All-map, All-take, All-drop, All-weaker, All-tail, All-head}
+use Rattle.mari_units.specs.Names.{IsName}
 use Rattle.mari_units.specs.declared.numbers.Cents.{Cents}
 use Rattle.mari_units.specs.declared.numbers.Quarters.{Quarters}
 use Rattle.mari_zones.specs.Borders.{IsBorder}
@@ -15,7 +16,7 @@ use Rattle.mari_market.specs.Optimal.{IsFeasible}
 use Rattle.mari_market.specs.declared.clearing.Clearing.{Clearing}
 use Rattle.mari_market.specs.Price.{IsCapped}
 use Rattle.mari_units.specs.Numbers.{Within}
-use Rattle.mari_lines.specs.Ranges.{Between, InRange, IsAmountLine, IsMoney, IsMoneyLine, IsName, Listed}
+use Rattle.mari_lines.specs.Ranges.{Between, InRange, IsAmountLine, IsMoney, IsMoneyLine, Listed}
 use Rattle.mari_publish.specs.Ranges.{FullFits}
 use Rattle.mari_lines.specs.declared.line.Line.TheVariants as line
 use Rattle.mari_lines.specs.declared.line.BidLine.{BidLine}

@@ -1,8 +1,8 @@
 //! The block of a published run.
 
-ghost use Rattle.std.specs.Prelude.{◌≡◌, ◌≤◌, ◌<◌, ℕ, IfOk, IfSome, true, length, map, option_map};
+ghost use Rattle.std.specs.Prelude.{◌≡◌, ◌≤◌, ◌<◌, ℕ, IfOk, IfSome, length, map, option_map};
 ghost use Rattle.std.specs.List.{All};
-ghost use Rattle.mari_units.specs.Names.{is_name};
+ghost use Rattle.mari_units.specs.Names.{IsName};
 ghost use Rattle.mari_market.specs.Clearing.{IsClearing};
 ghost use Rattle.mari_market.specs.Optimal.{IsAdmissible, IsOptimal};
 ghost use Rattle.mari_market.specs.Price.{ArePrices};
@@ -98,7 +98,7 @@ fn provider_lines(
     numbers: &[u32],
     amounts: &[Quarters],
 ) -> Result<Vec<AmountLine>, Memory>
-    requires names { All (λ name. is_name name ≡ true) bids.now.providers }
+    requires names { All IsName bids.now.providers }
     requires one_each { length amounts.now ≡ length bids.now.providers }
     requires there { All (λ place. place < length bids.now.providers) (providers_among bids.now.bids numbers.now) }
     ensures { IfOk result (λ lines. lines.items ≡ map (amount_line bids.now.providers amounts.now) (providers_among bids.now.bids numbers.now)) }

@@ -1,8 +1,8 @@
 //! The day of books: its head, a block for each run, and the totals, each written as soon as it is made.
 
-ghost use Rattle.std.specs.Prelude.{◌≡◌, ◌≤◌, ◌-◌, ℕ, List, IfErr, IfOk, OnErr, OnOk, Err, length, map, true};
+ghost use Rattle.std.specs.Prelude.{◌≡◌, ◌≤◌, ◌-◌, ℕ, List, IfErr, IfOk, OnErr, OnOk, Err, length, map};
 ghost use Rattle.std.specs.List.{All, range_with_len};
-ghost use Rattle.mari_units.specs.Names.{is_name};
+ghost use Rattle.mari_units.specs.Names.{IsName};
 ghost use Rattle.mari_io.specs.Outside.{Counts};
 ghost use Rattle.mari_publish.specs.declared.publication.Block.{Block as PrintedBlock};
 ghost use Rattle.mari_remain.specs.Accepted.{IsAccepted};
@@ -39,7 +39,7 @@ fn total_lines(
     bids: &BidBook,
     amounts: &[Quarters],
 ) -> Result<Vec<AmountLine>, Memory>
-    requires names { All (λ name. is_name name ≡ true) bids.now.providers }
+    requires names { All IsName bids.now.providers }
     requires one_each { length amounts.now ≡ length bids.now.providers }
     ensures { IfOk result (λ lines. lines.items ≡ map (amount_line bids.now.providers amounts.now) (range_with_len 0 (length bids.now.providers))) }
 {

@@ -1,8 +1,8 @@
 //! The lines of a block: zones, borders, bids, operators and providers, each by its name.
 
-ghost use Rattle.std.specs.Prelude.{◌≡◌, ◌≤◌, ◌<◌, ◌==◌, ◌*◌, ◌^◌, ℕ, List, IfOk, true, length, map, take, drop};
+ghost use Rattle.std.specs.Prelude.{◌≡◌, ◌≤◌, ◌<◌, ◌==◌, ◌*◌, ◌^◌, ℕ, List, IfOk, length, map, take, drop};
 ghost use Rattle.std.specs.List.{All};
-ghost use Rattle.mari_units.specs.Names.{is_name};
+ghost use Rattle.mari_units.specs.Names.{IsName};
 ghost use Rattle.mari_zones.specs.declared.borders.BorderEnds.{BorderEnds as Ends};
 ghost use Rattle.mari_lines.specs.declared.line.BidLine.{BidLine as BidLineOf};
 ghost use Rattle.mari_lines.specs.declared.line.BorderLine.{BorderLine as BorderLineOf};
@@ -21,7 +21,7 @@ use std::alloc::Global;
 
 /// The name at a place.
 pub fn name_of(alloc: Global, names: &NameIndex, place: u32) -> Result<Name, Memory>
-    requires names { All (λ name. is_name name ≡ true) names.now }
+    requires names { All IsName names.now }
     requires there { place < length names.now }
     ensures { IfOk result (λ name. name ≡ name_at names.now place) }
 {
@@ -44,7 +44,7 @@ pub fn zone_lines(
 ) -> Result<Vec<ZoneLine>, Memory>
     // The zones by their names.
     requires few { length zones.now ≤ MOST_ZONES }
-    requires names { All (λ name. is_name name ≡ true) zones.now }
+    requires names { All IsName zones.now }
 
     // Three prices and an area for each.
     requires published { length pricing.now.published.cents ≡ length zones.now }
@@ -85,7 +85,7 @@ pub fn border_lines(
     rents: &[Quarters],
 ) -> Result<Vec<BorderLine>, Memory>
     // The borders, between zones with names.
-    requires names { All (λ name. is_name name ≡ true) zones.now }
+    requires names { All IsName zones.now }
     requires from { All (λ (b : Ends). b.from < length zones.now) borders.now }
     requires to { All (λ (b : Ends). b.to < length zones.now) borders.now }
 
@@ -120,7 +120,7 @@ pub fn bid_lines(
     numbers: &[u32],
     mw: &[u32],
 ) -> Result<Vec<BidLine>, Memory>
-    requires names { All (λ name. is_name name ≡ true) ids.now }
+    requires names { All IsName ids.now }
     requires there { All (λ number. number < length ids.now) numbers.now }
     requires mw { length numbers.now ≤ length mw.now }
     ensures ids { IfOk result (λ lines. map (λ (l : BidLineOf). l.id) lines.items ≡ map (name_at ids.now) numbers.now) }
@@ -148,7 +148,7 @@ pub fn money_lines(
     lines: &[OperatorLine],
 ) -> Result<Vec<MoneyLine>, Memory>
     requires few { length operators.now ≤ MOST_ZONES }
-    requires names { All (λ name. is_name name ≡ true) operators.now }
+    requires names { All IsName operators.now }
     requires one_each { length lines.now ≡ length operators.now }
     requires small { All (LineIsWithin (10 ^ 30)) lines.now }
     ensures { IfOk result (λ money. money.items ≡ money_lines_of operators.now lines.now) }
@@ -173,7 +173,7 @@ pub fn amount_lines(
     places: &[u32],
     amounts: &[Quarters],
 ) -> Result<Vec<AmountLine>, Memory>
-    requires names { All (λ name. is_name name ≡ true) providers.now }
+    requires names { All IsName providers.now }
     requires one_each { length amounts.now ≡ length providers.now }
     requires there { All (λ place. place < length providers.now) places.now }
     ensures { IfOk result (λ lines. lines.items ≡ map (amount_line providers.now amounts.now) places.now) }

@@ -12,9 +12,14 @@ no_limits = record { limit = 0; back = 0 }
 abbrev pub limits_there : List (Option Limits) → ℕ → Limits
 limits_there flat place = unwrap_or (get_or flat place None) no_limits
 
--- the table of a list that has the limits of the first run's borders first, then those of the second's, and so on
+-- the place of a run, counted from 0, and a border in a list that has the first run's borders first, then the second's,
+-- and so on
+abbrev pub place_of_pair : (borders run border : ℕ) → ℕ
+place_of_pair borders run border = run * borders + border
+
+-- the table of such a list
 abbrev pub table_of : (runs borders : ℕ) → List (Option Limits) → List (List Limits)
-table_of runs borders flat = map (λ run. map (λ border. limits_there flat (run * borders + border)) (range_with_len 0 borders)) (range_with_len 0 runs)
+table_of runs borders flat = map (λ run. map (λ border. limits_there flat (place_of_pair borders run border)) (range_with_len 0 borders)) (range_with_len 0 runs)
 
 -- a border's limits in a run, which counts from 1
 abbrev pub limits_in : List (List Limits) → (run border : ℕ) → Limits

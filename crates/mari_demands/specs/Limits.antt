@@ -1,20 +1,18 @@
 -- The book of limits.
-use Rattle.std.specs.Prelude.{ℕ, ◌+◌, ◌-◌, ◌*◌, Bool, List, [], ◌∷◌, ◌++◌, Option, not, ◌&&◌, ◌==◌, length, map, codes, position, is_some, unwrap_or, option_map}
+use Rattle.std.specs.Prelude.{ℕ, ◌+◌, ◌-◌, Bool, List, [], ◌∷◌, ◌++◌, Option, not, ◌&&◌, ◌==◌, length, map, codes, position, is_some, unwrap_or, option_map}
 use Rattle.std.specs.List.{find, list_any, range_with_len}
 use Rattle.std.specs.Option.{option_and_then}
 use Rattle.mari_units.specs.Numbers.{whole_of}
-use Rattle.mari_units.specs.declared.limits.TheConstants.{MOST_MW}
 use Rattle.mari_rows.specs.Books.{Checks, Grammar}
-use Rattle.mari_rows.specs.Fields.{number_in}
 use Rattle.mari_rows.specs.Rows.{field_of}
 use Rattle.mari_rows.specs.declared.rows.Row.{Row}
-use Rattle.mari_zones.specs.Borders.{zone_named}
+use Rattle.mari_zones.specs.Borders.{flow_limit_in, zone_named}
 use Rattle.mari_zones.specs.declared.borders.BorderBook.{BorderBook}
 use Rattle.mari_zones.specs.declared.borders.BorderEnds.{BorderEnds}
 use Rattle.mari_zones.specs.declared.zones.ZoneBook.{ZoneBook}
 use Rattle.mari_demands.specs.Demands.{run_at, run_in}
 use Rattle.mari_demands.specs.LimitChecks.{limit_check_number}
-use Rattle.mari_demands.specs.LimitPairs.{no_limits}
+use Rattle.mari_demands.specs.LimitPairs.{no_limits, place_of_pair}
 use Rattle.mari_demands.specs.declared.limits.LimitCheck.TheVariants.{BadField, Range, Repeated, UnknownBorder, UnknownRun}
 use Rattle.mari_demands.specs.declared.limits.Limits.{Limits}
 
@@ -34,8 +32,8 @@ border_at zones borders row = unwrap_or (border_in zones borders row) 0
 -- the limits that a line states
 abbrev pub limits_of : Row → Option Limits
 limits_of row =
-    option_and_then (λ limit. option_map (λ back. record { limit = limit; back = back }) (number_in 0 MOST_MW (field_of row 4)))
-    (number_in 0 MOST_MW (field_of row 3))
+    option_and_then (λ limit. option_map (λ back. record { limit = limit; back = back }) (flow_limit_in (field_of row 4)))
+    (flow_limit_in (field_of row 3))
 
 abbrev pub limits_at : Row → Limits
 limits_at row = unwrap_or (limits_of row) no_limits
@@ -45,9 +43,9 @@ module _ (zones : ZoneBook) (borders : BorderBook) (runs : ℕ) where
   abbrev pub is_of : (run border : ℕ) → Row → Bool
   is_of run border row = (run_at runs row == run) && (border_at zones borders row == border)
 
-  -- the place of a line's run and border, where the borders of the first run come first, then those of the second
+  -- the place of a line's run and border
   abbrev pub pair_place : Row → ℕ
-  pair_place row = (run_at runs row - 1) * length borders.borders + border_at zones borders row
+  pair_place row = place_of_pair (length borders.borders) (run_at runs row - 1) (border_at zones borders row)
 
   -- a line is refused for a field that is no number, for an unknown run and for an unknown border
   abbrev pub name_checks : Row → Checks

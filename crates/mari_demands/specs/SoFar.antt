@@ -2,6 +2,7 @@
 use Rattle.std.specs.Prelude.{◌≡◌, ◌≤◌, ◌<◌, ◌+◌, ◌*◌, ℕ, List, None, get_or, length, map}
 use Rattle.mari_rows.specs.declared.rows.Row.{Row}
 use Rattle.mari_demands.specs.Demands.{count_of, demand_of}
+use Rattle.mari_demands.specs.LimitPairs.{place_of_pair}
 use Rattle.mari_demands.specs.Limits.{stated}
 use Rattle.mari_demands.specs.Runs.{last_quarter, run_of}
 use Rattle.mari_demands.specs.declared.demands.DemandsSoFar.{DemandsSoFar}
@@ -26,4 +27,4 @@ pub record HoldsLimits (rows : List Row) (so_far : LimitsSoFar) : Type 0 where
   pub few_borders : length so_far.borders.now.borders ≤ MOST_BORDERS
   pub sized : length so_far.limits.items ≡ so_far.runs * length so_far.borders.now.borders
   pub limits : (run border : ℕ) → run < so_far.runs → border < length so_far.borders.now.borders
-      → get_or so_far.limits.items (run * length so_far.borders.now.borders + border) None ≡ stated so_far.zones.now so_far.borders.now so_far.runs rows (run + 1) border
+      → get_or so_far.limits.items (place_of_pair (length so_far.borders.now.borders) run border) None ≡ stated so_far.zones.now so_far.borders.now so_far.runs rows (run + 1) border

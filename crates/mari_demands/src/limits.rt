@@ -9,8 +9,8 @@ ghost use Rattle.mari_demands.specs.Limits.{border_in, leads, limit_columns, lim
 
 use crate::runs::RunBook;
 use mari_rows::{BookFault, BookSoFar, FileCheck, LineFault, Row, is_whole, number_of, read_book};
-use mari_units::{MOST_BORDERS, MOST_MW, MOST_PAGE, MOST_RUNS};
-use mari_zones::{BorderBook, ZoneBook};
+use mari_units::{MOST_BORDERS, MOST_PAGE, MOST_RUNS};
+use mari_zones::{BorderBook, ZoneBook, flow_limit_of};
 use std::alloc::{AllocError, Global};
 use std::marker::Model;
 
@@ -138,10 +138,10 @@ fn border_of(zones: &ZoneBook, borders: &BorderBook, line: &Row) -> Option<usize
 fn limits_of(line: &Row) -> Option<Limits>
     ensures { result ≡ limits_of_line line.now }
 {
-    let Some(limit) = number_of(line.field(3), 0, MOST_MW) else {
+    let Some(limit) = flow_limit_of(line.field(3)) else {
         return None;
     };
-    match number_of(line.field(4), 0, MOST_MW) {
+    match flow_limit_of(line.field(4)) {
         Some(back) => Some(Limits { limit, back }),
         None => None,
     }

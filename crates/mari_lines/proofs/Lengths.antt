@@ -9,7 +9,7 @@ use Rattle.std.proofs.lemmas.Int.{ints}
 use Rattle.mari_units.specs.Numbers.{sign_of, printed_cents, printed_ten_thousandths, Within}
 use Rattle.std.specs.Prelude.{nat_le, ◌&&◌}
 use Rattle.std.specs.List.{list_all}
-use Rattle.mari_units.specs.Names.{is_name_byte}
+use Rattle.mari_units.specs.Names.{IsName, is_name_byte}
 use Rattle.std.proofs.lemmas.Bool.{and_parts}
 use Rattle.mari_units.specs.declared.numbers.Cents.{Cents}
 use Rattle.mari_units.specs.declared.numbers.Quarters.{Quarters}
@@ -22,7 +22,7 @@ use Rattle.mari_lines.specs.declared.line.Keyword.{Keyword}
 use Rattle.mari_lines.specs.declared.line.Keyword.TheVariants as first
 use Rattle.mari_lines.specs.declared.line.Line.{Line}
 use Rattle.mari_lines.specs.declared.line.Line.TheVariants as line
-use Rattle.mari_lines.specs.Ranges.{InRange, IsName, IsMoney, IsMoneyLine, IsAmountLine, IsZone}
+use Rattle.mari_lines.specs.Ranges.{InRange, IsMoney, IsMoneyLine, IsAmountLine, IsZone}
 use Rattle.mari_lines.specs.Spelling.{keyword_of, keyword_text, fields, spaced, spelling, price_text, money_text, zone_text, kind_text, side_text, money_fields, amount_fields}
 use Rattle.mari_lines.specs.declared.line.TheConstants.{MOST_LINE}
 use Rattle.mari_lines.proofs.Gathered.{head_of, tail_of, rising_zones}

@@ -2,7 +2,7 @@
 use Rattle.std.specs.Prelude.{◌≡◌, ◌≤◌, ◌<◌, ℕ, ◌^◌, Bool, true, ◌&&◌, ◌==◌, List, length, take, drop, slice_index, ⊤}
 use Rattle.std.specs.Char.{is_ascii_digit}
 use Rattle.std.specs.List.{All, list_all}
-use Rattle.mari_units.specs.Names.{is_name}
+use Rattle.mari_units.specs.Names.{IsName}
 use Rattle.mari_units.specs.Numbers.{Within}
 use Rattle.mari_units.specs.declared.limits.TheConstants.{MOST_BORDERS, MOST_DEMANDS, MOST_FLOW, MOST_MW, MOST_QUARTERS, MOST_RUNS, MOST_ZONES}
 use Rattle.mari_units.specs.declared.numbers.Quarters.{Quarters}
@@ -20,9 +20,6 @@ use Rattle.mari_lines.specs.declared.line.Line.TheVariants as line
 -- a number from the first to the second
 abbrev pub Between : ℕ → ℕ → ℕ → Type 0
 Between least greatest n = (least ≤ n) × (n ≤ greatest)
-
-abbrev pub IsName : List ℕ → Type 0
-IsName text = is_name text ≡ true
 
 -- a date: four digits, a hyphen, two digits, a hyphen, and two digits, whether or not there is such a day
 abbrev pub is_date : List ℕ → Bool

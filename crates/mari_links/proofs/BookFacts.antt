@@ -15,8 +15,7 @@ use Rattle.mari_rows.specs.declared.rows.Row.{Row}
 use Rattle.mari_rows.proofs.BookLemmas.{book-page}
 use Rattle.mari_rows.proofs.BookFacts.{all-passed, along-lines, found-below, not-false}
 use Rattle.mari_bids.specs.declared.bids.BidBook.{BidBook}
-use Rattle.mari_links.specs.Links.{has_later_parent, has_wrong_quarter, link_file_checks, names_no_bid, AreLinks, IsLinkBook, IsParent, bid_named, bid_of, count_of, first_of, gated_bids, group_of, groups_of, has_too_many, is_gated, is_same_kind, kind_of, least_of_bid, line_checks, link_book, link_grammar, link_of, links_of, named_by, parent_of, quarter_of, said_by, second_of, Member, Said}
-use Rattle.mari_links.specs.SoFar.{entries_of}
+use Rattle.mari_links.specs.Links.{has_later_parent, has_wrong_quarter, link_file_checks, names_no_bid, AreLinks, IsLinkBook, IsParent, bid_named, bid_of, count_of, entries_of, first_of, gated_bids, group_of, groups_of, has_too_many, is_gated, is_same_kind, kind_of, least_of_bid, line_checks, link_book, link_grammar, link_of, links_of, named_by, parent_of, quarter_of, said_by, second_of, Member, Said}
 use Rattle.mari_links.specs.declared.links.LinkBook.{LinkBook}
 use Rattle.mari_links.specs.declared.lines.Link.{Link}
 use Rattle.mari_links.specs.declared.lines.LinkKind.{LinkKind}

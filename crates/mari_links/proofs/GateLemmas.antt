@@ -12,8 +12,7 @@ use Rattle.std.proofs.lemmas.Option.{slice_get-get_or, slice_get_read}
 use Rattle.mari_rows.proofs.CountLemmas.{count_by-push}
 use Rattle.mari_bids.specs.declared.bids.BidBook.{BidBook}
 use Rattle.mari_links.specs.Gates.{has_gate_at}
-use Rattle.mari_links.specs.Links.{count_of, gated_bids, has_too_many, is_gated, links_of, quarter_of, Said}
-use Rattle.mari_links.specs.SoFar.{entries_of}
+use Rattle.mari_links.specs.Links.{count_of, entries_of, gated_bids, has_too_many, is_gated, links_of, quarter_of, Said}
 use Rattle.mari_links.specs.declared.links.BidLinks.{BidLinks}
 use Rattle.mari_links.proofs.EntryLemmas.{or-yes}
 

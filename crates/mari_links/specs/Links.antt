@@ -231,9 +231,13 @@ links_of bids said bid = record {
   technical = named_by Technical said.timed bid;
 }
 
+-- what is said of each bid
+abbrev pub entries_of : BidBook → Said → List BidLinks
+entries_of bids said = map (links_of bids said) (range_with_len 0 (length bids.ids))
+
 -- each bid's links
 abbrev pub link_book : BidBook → List Row → LinkBook
-link_book bids rows = record { links = map (links_of bids (said_by bids rows)) (range_with_len 0 (length bids.ids)) }
+link_book bids rows = record { links = entries_of bids (said_by bids rows) }
 
 -- the columns of the file
 unfoldable pub link_columns : List ℕ
@@ -246,6 +250,10 @@ link_grammar bids = record { columns = link_columns; line_checks = line_checks b
 -- whether the bid at a place has a gate
 abbrev pub has_gate : LinkBook → ℕ → Bool
 has_gate book bid = has_gate_at book.links bid
+
+-- the places of the bids that have a gate
+abbrev pub gated_in : LinkBook → List ℕ
+gated_in book = filter (has_gate book) (range_with_len 0 (length book.links))
 
 -- a parent stands before its child, in the same quarter, and has a gate
 pub record IsParent (bids : BidBook) (book : LinkBook) (child parent : ℕ) : Type 0 where
@@ -269,4 +277,4 @@ pub record AreLinks (bids : BidBook) (book : LinkBook) (bid : ℕ) (links : BidL
 pub record IsLinkBook (bids : BidBook) (book : LinkBook) : Type 0 where
   pub one_each : length book.links ≡ length bids.ids
   pub links : (bid : ℕ) (links : BidLinks) → slice_get book.links bid ≡ Some links → AreLinks bids book bid links
-  pub of_quarter : (quarter : ℕ) → count_of bids (filter (has_gate book) (range_with_len 0 (length book.links))) quarter ≤ MOST_GATES
+  pub of_quarter : (quarter : ℕ) → count_of bids (gated_in book) quarter ≤ MOST_GATES

@@ -3,8 +3,8 @@ use Rattle.std.proofs.Common.{ℕ, ◌+◌, ◌<◌, ◌≤◌, ◌==◌, true, 
 use Rattle.std.specs.List.{All, list_any}
 use Rattle.std.proofs.lemmas.List.{length-map}
 use Rattle.std.proofs.lemmas.List.Elements.{All-head, All-tail, All-push, All-nil, All-map}
+use Rattle.mari_bids.specs.Bids.{bid_numbered}
 use Rattle.mari_bids.specs.declared.bids.Bid.{Bid}
-use Rattle.mari_remain.specs.Lists.{bid_numbered}
 use Rattle.mari_progress.specs.Money.{each_once, providers_among, with_number}
 
 -- what holds of each number holds of each one once

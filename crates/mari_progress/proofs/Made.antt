@@ -1,26 +1,23 @@
 -- The market of a run behind blocks of the first runs.
-use Rattle.std.proofs.Common.{◌≡◌, ◌∙◌, ℕ, ◌<◌, ◌≤◌, List, [], ◌∷◌, ◌++◌, length, length-append, map, take, get_or, Option, Some, None, refl, sym, ap, arith, slice_get, false, pos, unsigned_abs}
+use Rattle.std.proofs.Common.{◌≡◌, ◌∙◌, ℕ, ◌<◌, ◌≤◌, List, [], ◌∷◌, ◌++◌, length, length-append, map, take, get_or, Option, Some, None, refl, sym, ap, arith, slice_get, unsigned_abs}
 use Rattle.std.specs.List.{All, AllZip}
 use Rattle.std.specs.Prelude.{IsSomeAnd}
 use Rattle.std.proofs.lemmas.List.{length-map}
 use Rattle.std.proofs.lemmas.List.FromFn.{length-map-range_with_len}
 use Rattle.std.proofs.lemmas.List.Elements.{All-head, All-map, All-tail}
 use Rattle.std.proofs.lemmas.Option.{slice_get-get_or}
-use Rattle.mari_bids.specs.declared.bids.Bid.{Bid}
+use Rattle.mari_bids.specs.Bids.{bid_numbered, no_bid}
 use Rattle.mari_market.specs.declared.market.Order.{Order}
 use Rattle.mari_remain.specs.Accepted.{IsAccepted}
 use Rattle.mari_remain.specs.Blocks.{PastBlock}
 use Rattle.mari_remain.specs.FirstBlocks.{AreFirstBlocks}
-use Rattle.mari_remain.specs.Lists.{bid_numbered, run_numbered}
+use Rattle.mari_remain.specs.Lists.{run_numbered}
 use Rattle.mari_remain.specs.RunMarket.{bid_order, demand_order, demands_of_run, gate_of, gated_left, greatest_left, market_at, numbers_of, run_market_of, taken_before}
 use Rattle.mari_remain.specs.declared.books.Books.{Books}
 use Rattle.mari_remain.proofs.History.{bounded}
 use Rattle.mari_remain.proofs.Validity.{few, few_numbers, there, valid}
 use Rattle.mari_settle.specs.Conditions.{IsOrderOf, NameOrders}
 use Rattle.mari_progress.specs.Runs.{IsMarketOf}
-
-abbrev no_bid : Bid
-no_bid = record { provider = 0; zone = 0; quarter = 0; up = false; price = record { 0 = pos 0 }; least = 0; greatest = 0; both = false }
 
 -- numbers beside what they are mapped to
 zip-map : {Y : Type 0} (R : ℕ → Y → Type 0) (f : ℕ → Y) (ns : List ℕ) → All (λ n. R n (f n)) ns → AllZip R ns (map f ns)

@@ -3,13 +3,13 @@
 use Rattle.std.specs.Prelude.{ℕ, ℤ, pos, ◌≡◌, ◌≤◌, ◌≤ℤ◌, ◌⊎◌, true, List, Some, slice_get, take}
 use Rattle.std.specs.List.{All}
 use Rattle.mari_units.specs.declared.numbers.Quarters.{Quarters}
+use Rattle.mari_bids.specs.Bids.{bid_numbered}
 use Rattle.mari_links.specs.Links.{has_gate}
 use Rattle.mari_lines.specs.declared.line.MoneyLine.{MoneyLine}
 use Rattle.mari_market.specs.Sums.{int_sum}
 use Rattle.mari_publish.specs.declared.publication.Block.{Block}
 use Rattle.mari_publish.specs.declared.publication.FullBlock.{FullBlock}
 use Rattle.mari_remain.specs.Blocks.{mw_in_block, mw_of}
-use Rattle.mari_remain.specs.Lists.{bid_numbered}
 use Rattle.mari_remain.specs.declared.books.Books.{Books}
 use Rattle.mari_progress.specs.Behind.{before_of, past_of}
 use Rattle.mari_progress.specs.Told.{rents_told}

@@ -2,11 +2,11 @@
 use Rattle.std.specs.Prelude.{◌≡◌, ℕ, ◌==◌, List, Option, map, slice_index_or}
 use Rattle.mari_units.specs.declared.numbers.Cents.{Cents}
 use Rattle.mari_units.specs.declared.numbers.Quarters.{Quarters}
+use Rattle.mari_bids.specs.Bids.{bid_numbered}
 use Rattle.mari_bids.specs.declared.bids.Bid.{Bid}
 use Rattle.mari_lines.specs.declared.line.AmountLine.{AmountLine}
 use Rattle.mari_publish.specs.declared.publication.FullBlock.{FullBlock}
 use Rattle.mari_lines.specs.declared.line.MoneyLine.{MoneyLine}
-use Rattle.mari_remain.specs.Lists.{bid_numbered}
 use Rattle.mari_remain.specs.declared.books.Books.{Books}
 use Rattle.mari_remain.specs.declared.market.RunMarket.{RunMarket}
 use Rattle.mari_settle.specs.declared.ledger.OperatorLine.{OperatorLine}

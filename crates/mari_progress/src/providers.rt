@@ -2,7 +2,7 @@
 
 ghost use Rattle.std.specs.Prelude.{◌≡◌, ◌==◌, IfOk, OnOk};
 ghost use Rattle.std.specs.List.{list_any};
-ghost use Rattle.mari_remain.specs.Lists.{bid_numbered};
+ghost use Rattle.mari_bids.specs.Bids.{bid_numbered};
 ghost use Rattle.mari_progress.specs.Money.{providers_among, with_number};
 
 use mari_bids::Bid;

@@ -13,13 +13,14 @@ use Rattle.std.proofs.lemmas.List.Elements.{All-filter, All-weaker, filter-appen
 use Rattle.std.proofs.lemmas.List.FromFn.{fill_by_all, length-map-range_with_len}
 use Rattle.std.proofs.lemmas.List.Sums.{sum_by_push}
 use Rattle.std.proofs.lemmas.Option.{slice_get_within}
+use Rattle.mari_bids.specs.Bids.{bid_numbered}
 use Rattle.mari_remain.specs.declared.books.Books.{Books}
 use Rattle.mari_remain.specs.Accepted.{IsAccepted}
 use Rattle.mari_remain.specs.Blocks.{PastBlock, flow_in, flow_of, is_activated, mw_beside, mw_in_block, mw_of, of_direct_runs, of_quarter}
 use Rattle.mari_remain.specs.FirstBlocks.{AreFirstBlocks, IsKeptAfter, IsNextBlock, IsPastRun, Tally, StandsFor, block_of}
 use Rattle.mari_remain.proofs.History.{bounded, flow-more, own-blocks}
 use Rattle.mari_remain.proofs.Standing.{flow-before, kept-direct, kept-mw, last-more}
-use Rattle.mari_remain.specs.Lists.{bid_numbered, bids_of_quarter, run_numbered}
+use Rattle.mari_remain.specs.Lists.{bids_of_quarter, run_numbered}
 use Rattle.mari_remain.specs.RunMarket.{bid_order, border_left, demand_order, demands_of_run, ends_at, gate_of, gated_left, market_at, numbers_of, run_limits, run_market_of, taken_before}
 use Rattle.mari_remain.specs.declared.market.RunMarket.{RunMarket}
 use Rattle.mari_remain.specs.Available.{is_available}

@@ -1,5 +1,5 @@
 -- What the choice of a run's bids reads off what is kept is what its definition says.
-use Rattle.std.proofs.Common.{◌≡◌, ◌∙◌, ℕ, zero, suc, ◌+◌, ◌<◌, ◌≤◌, ◌==◌, Bool, true, false, cond, if◌then◌else◌, List, [], ◌∷◌, ◌++◌, Option, Some, None, refl, ap, sym, arith, length, get_or, filter, take, drop, zero-add, add-one, map, pos, inl, inr}
+use Rattle.std.proofs.Common.{◌≡◌, ◌∙◌, ℕ, zero, suc, ◌+◌, ◌<◌, ◌≤◌, ◌==◌, Bool, true, false, cond, if◌then◌else◌, List, [], ◌∷◌, ◌++◌, Option, Some, None, refl, ap, sym, arith, length, get_or, filter, take, drop, zero-add, add-one, map, inl, inr}
 use Rattle.std.specs.Prelude.{not, ◌&&◌, ◌||◌, nat_lt, is_some}
 use Rattle.std.specs.List.{All, AllPairs, list_any, range_with_len}
 use Rattle.std.specs.Option.{option_map_or}
@@ -14,6 +14,7 @@ use Rattle.std.proofs.Math.Seq.{take-suc}
 use Rattle.std.proofs.lemmas.Option.{slice_get-get_or, slice_get_past}
 use Rattle.std.proofs.Math.ListN.{get_or-eq_default}
 use Rattle.std.proofs.lemmas.Map.Views.{any-filter_same}
+use Rattle.mari_bids.specs.Bids.{bid_numbered, no_bid}
 use Rattle.mari_bids.specs.declared.bids.Bid.{Bid}
 use Rattle.mari_bids.specs.declared.bids.BidBook.{BidBook}
 use Rattle.mari_links.specs.Links.{has_gate, quarter_of}
@@ -24,7 +25,7 @@ use Rattle.mari_remain.specs.Accepted.{IsAccepted}
 use Rattle.mari_remain.specs.Available.{Taken, is_available, is_available_up, is_used, may_run, parent_allows, share_group}
 use Rattle.mari_remain.specs.Choice.{rivals_in}
 use Rattle.mari_remain.specs.FirstBlocks.{Tally, taken_in}
-use Rattle.mari_remain.specs.Lists.{bid_numbered, bids_of_quarter, demand_at, group_at, numbers_of_run, parent_at}
+use Rattle.mari_remain.specs.Lists.{bids_of_quarter, demand_at, group_at, numbers_of_run, parent_at}
 use Rattle.mari_remain.specs.RunMarket.{demands_of_run}
 use Rattle.mari_remain.proofs.Places.{places-filter, places-items, places-rise, places-within}
 use Rattle.mari_remain.proofs.Validity.{few_of_quarter, parents}
@@ -83,8 +84,8 @@ own-mw books kept quarter i e = rw (eq-eqb (bid_numbered books.bids.bids i).quar
 -- the quarter of a number, in either word
 quarter-at : (bids : BidBook) (i : ℕ) → quarter_of bids i ≡ (bid_numbered bids.bids i).quarter
 quarter-at bids i = elim (cases_lt i (length bids.bids)) [
-  | inl l ↦ rw (slice_get-get_or bids.bids i (record { provider = 0; zone = 0; quarter = 0; up = false; price = record { 0 = pos 0 }; least = 0; greatest = 0; both = false }) l) refl
-  | inr past ↦ rw (slice_get_past bids.bids i past) (ap (λ (b : Bid). b.quarter) (sym (get_or-eq_default bids.bids (record { provider = 0; zone = 0; quarter = 0; up = false; price = record { 0 = pos 0 }; least = 0; greatest = 0; both = false }) past)))
+  | inl l ↦ rw (slice_get-get_or bids.bids i no_bid l) refl
+  | inr past ↦ rw (slice_get_past bids.bids i past) (ap (λ (b : Bid). b.quarter) (sym (get_or-eq_default bids.bids no_bid past)))
 ]
 
 -- a number of a range is found in it

@@ -8,6 +8,7 @@ use Rattle.std.proofs.lemmas.Bool.Decides.{nat_tests}
 use Rattle.std.proofs.lemmas.List.Elements.{All-nil, All-push, filter_passes}
 use Rattle.std.proofs.lemmas.List.Kept.{AllPairs-filter}
 use Rattle.std.proofs.lemmas.List.Sums.{sum_by_push}
+use Rattle.mari_bids.specs.Bids.{bid_numbered}
 use Rattle.mari_bids.specs.declared.bids.Bid.{Bid}
 use Rattle.mari_links.specs.Links.{has_gate}
 use Rattle.mari_market.specs.Activation.{is_open}
@@ -20,7 +21,7 @@ use Rattle.mari_remain.specs.Accepted.{IsAccepted}
 use Rattle.mari_remain.specs.Available.{Taken, is_available, is_left, may_run}
 use Rattle.mari_remain.specs.Blocks.{PastBlock, PastRun, mw_beside, mw_in_block, mw_of}
 use Rattle.mari_remain.specs.FirstBlocks.{AreFirstBlocks, IsNextBlock, IsPastRun}
-use Rattle.mari_remain.specs.Lists.{bid_numbered, bids_of_quarter, run_numbered}
+use Rattle.mari_remain.specs.Lists.{bids_of_quarter, run_numbered}
 use Rattle.mari_remain.specs.RunMarket.{bid_order, demand_order, demands_of_run, gate_of, gated_left, greatest_left, market_at, numbers_of, taken_before}
 use Rattle.mari_remain.proofs.Choosing.{own-chosen}
 use Rattle.mari_remain.proofs.Gates.{gate-at}

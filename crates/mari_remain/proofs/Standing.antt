@@ -11,12 +11,13 @@ use Rattle.std.proofs.lemmas.List.Elements.{All-filter, All-head, All-map, All-n
 use Rattle.std.proofs.lemmas.List.FromFn.{get_or-map-range_with_len, length-map-range_with_len}
 use Rattle.std.proofs.lemmas.List.Sums.{fold-append, sum_by-cons}
 use Rattle.std.proofs.lemmas.List.{length-append}
+use Rattle.mari_bids.specs.Bids.{bid_numbered}
 use Rattle.mari_remain.specs.declared.books.Books.{Books}
 use Rattle.mari_remain.specs.Accepted.{IsAccepted}
 use Rattle.mari_remain.specs.Available.{taken_by}
 use Rattle.mari_remain.specs.Blocks.{PastBlock, PastRun, flow_in, flow_of, is_activated, mw_in_block, mw_of, of_direct_runs, of_quarter}
 use Rattle.mari_remain.specs.FirstBlocks.{AreFirstBlocks, IsNextBlock, Tally, StandsFor, last_published_quarter, taken_in}
-use Rattle.mari_remain.specs.Lists.{bid_numbered, run_numbered}
+use Rattle.mari_remain.specs.Lists.{run_numbered}
 use Rattle.mari_remain.proofs.History.{IsOwnBlock, bounded, by_blocks, mw-none, own-blocks}
 
 module _ (books : Books) (ok : IsAccepted books) where

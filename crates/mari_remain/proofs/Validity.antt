@@ -15,7 +15,7 @@ use Rattle.mari_zones.specs.declared.borders.BorderEnds.{BorderEnds}
 use Rattle.mari_bids.specs.declared.bids.Bid.{Bid}
 use Rattle.mari_bids.specs.declared.bids.BidBook.{BidBook}
 use Rattle.mari_zones.specs.Borders.{IsBorder}
-use Rattle.mari_bids.specs.Bids.{IsBid}
+use Rattle.mari_bids.specs.Bids.{IsBid, bid_numbered}
 use Rattle.mari_demands.specs.Demands.{IsDemand}
 use Rattle.mari_links.specs.Links.{has_gate, count_of, quarter_of, IsParent}
 use Rattle.mari_links.specs.declared.links.BidLinks.{BidLinks}
@@ -29,7 +29,7 @@ use Rattle.mari_remain.specs.Accepted.{IsAccepted}
 use Rattle.mari_demands.specs.LimitPairs.{IsLimitTable}
 use Rattle.mari_demands.specs.declared.limits.Limits.{Limits}
 use Rattle.mari_remain.specs.Available.{Taken, is_available}
-use Rattle.mari_remain.specs.Lists.{bid_numbered, bids_of_quarter, parent_at, run_numbered}
+use Rattle.mari_remain.specs.Lists.{bids_of_quarter, parent_at, run_numbered}
 use Rattle.mari_remain.specs.RunMarket.{at_least_0, bid_order, border_left, demand_order, demands_of_run, ends_at, gate_at, gate_of, gated_left, greatest_left, inelastic_price, least_left, market_left, numbers_left, run_limits, stated_limits}
 use Rattle.mari_remain.proofs.Places.{IsPlace, places-filter, places-within, places-rise, length-places}
 use Rattle.mari_remain.proofs.Gates.{gate-at, gate-is, gate-less}

@@ -2,13 +2,14 @@
 use Rattle.std.specs.Prelude.{ℕ, zero, suc, ◌-◌, ◌==◌, ℤ, Bool, true, false, List, Option, Some, None, if◌then◌else◌, not, ◌&&◌, ◌||◌, length, nat_lt, slice_get}
 use Rattle.std.specs.List.{list_all, list_any, range_with_len}
 use Rattle.std.specs.Option.{option_map_or}
+use Rattle.mari_bids.specs.Bids.{bid_numbered}
 use Rattle.mari_bids.specs.declared.bids.Bid.{Bid}
 use Rattle.mari_links.specs.Links.{has_gate}
 use Rattle.mari_links.specs.declared.links.BidLinks.{BidLinks}
 use Rattle.mari_demands.specs.declared.runs.Run.{Run}
 use Rattle.mari_remain.specs.declared.books.Books.{Books}
 use Rattle.mari_remain.specs.Blocks.{PastBlock, flow_of, is_activated, mw_of, of_direct_runs, of_quarter}
-use Rattle.mari_remain.specs.Lists.{bid_numbered, group_at, parent_at}
+use Rattle.mari_remain.specs.Lists.{group_at, parent_at}
 
 -- what was taken before a run: the MW of each bid in the run's quarter, whether a bid was activated at all, whether a
 -- direct run activated it, and the sum of each border's flows in the quarter

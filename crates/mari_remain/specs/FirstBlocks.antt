@@ -2,12 +2,13 @@
 use Rattle.std.specs.Prelude.{◌≡◌, ◌≤◌, ◌+◌, ◌==◌, ◌+ℤ◌, ◌&&◌, ◌||◌, ℕ, ℤ, pos, Bool, false, get_or, nat_lt, List, Option, Some, None, IfSome, if◌then◌else◌, fold, is_some, length, map, slice_get, take, unwrap_or}
 use Rattle.std.specs.List.{range_with_len}
 use Rattle.std.specs.Option.{option_map_or}
+use Rattle.mari_bids.specs.Bids.{bid_numbered}
 use Rattle.mari_market.specs.Optimal.{IsFeasible}
 use Rattle.mari_market.specs.declared.activation.Activation.{Activation}
 use Rattle.mari_remain.specs.declared.books.Books.{Books}
 use Rattle.mari_remain.specs.Blocks.{PastBlock, PastRun, flow_in, flow_of, is_activated, mw_in_block, mw_of, of_direct_runs, of_quarter}
 use Rattle.mari_remain.specs.Available.{Taken}
-use Rattle.mari_remain.specs.Lists.{bid_numbered, bids_of_quarter, numbers_of_run, run_numbered}
+use Rattle.mari_remain.specs.Lists.{bids_of_quarter, numbers_of_run, run_numbered}
 use Rattle.mari_remain.specs.RunMarket.{market_at, numbers_of}
 
 -- what a published block of a run tells: the bids of the run's market behind these blocks, and an activation that is
@@ -53,6 +54,20 @@ pub record Tally : Type 0 where
   -- the numbers of the demands of each run, from run 0 on, which has none
   pub of_run : List (List ℕ)
 
+-- whether a bid was activated, and whether a direct run activated it
+abbrev pub activated_in : Tally → ℕ → Bool
+activated_in kept i = nat_lt 0 (get_or kept.mw i 0)
+
+abbrev pub direct_in : Tally → ℕ → Bool
+direct_in kept i = get_or kept.direct i false
+
+-- whether the kept flows are those of a quarter, and a border's kept flow, if it is of the quarter
+abbrev pub is_kept_of : Tally → (quarter : ℕ) → Bool
+is_kept_of kept quarter = option_map_or (λ last. last == quarter) kept.quarter false
+
+abbrev pub kept_flow : Tally → (quarter border : ℕ) → ℤ
+kept_flow kept quarter border = if is_kept_of kept quarter then get_or kept.flow border (pos 0) else pos 0
+
 -- what is kept stands for a list of blocks: they are those of the first runs, and the MW, the marks, the quarter and
 -- the flows are theirs
 pub record StandsFor (books : Books) (blocks : List PastBlock) (kept : Tally) : Type 0 where
@@ -68,9 +83,9 @@ pub record StandsFor (books : Books) (blocks : List PastBlock) (kept : Tally) : 
 abbrev pub taken_in : Books → Tally → (quarter : ℕ) → Taken
 taken_in books kept quarter = record {
   mw = λ i. if (bid_numbered books.bids.bids i).quarter == quarter then get_or kept.mw i 0 else 0;
-  activated = λ i. nat_lt 0 (get_or kept.mw i 0);
-  by_direct_run = λ i. get_or kept.direct i false;
-  flow = λ k. if option_map_or (λ last. last == quarter) kept.quarter false then get_or kept.flow k (pos 0) else pos 0;
+  activated = λ i. activated_in kept i;
+  by_direct_run = λ i. direct_in kept i;
+  flow = λ k. kept_flow kept quarter k;
 }
 
 -- what is kept behind one more published block: its MW and marks are added, its quarter is the last, and its flows are
@@ -79,9 +94,9 @@ pub record IsKeptAfter (b : PastBlock) (kept after : Tally) : Type 0 where
   pub mws : length after.mw ≡ length kept.mw
   pub mw : (i : ℕ) → get_or after.mw i 0 ≡ get_or kept.mw i 0 + mw_in_block i b
   pub marks : length after.direct ≡ length kept.direct
-  pub direct : (i : ℕ) → get_or after.direct i false ≡ (get_or kept.direct i false || (b.direct && nat_lt 0 (mw_in_block i b)))
+  pub direct : (i : ℕ) → direct_in after i ≡ (direct_in kept i || (b.direct && nat_lt 0 (mw_in_block i b)))
   pub quarter : after.quarter ≡ Some b.quarter
   pub flows : length after.flow ≡ length kept.flow
-  pub flow : (k : ℕ) → get_or after.flow k (pos 0) ≡ (if option_map_or (λ last. last == b.quarter) kept.quarter false then get_or kept.flow k (pos 0) else pos 0) +ℤ flow_in k b
+  pub flow : (k : ℕ) → get_or after.flow k (pos 0) ≡ kept_flow kept b.quarter k +ℤ flow_in k b
   pub of_quarter : after.of_quarter ≡ kept.of_quarter
   pub of_run : after.of_run ≡ kept.of_run

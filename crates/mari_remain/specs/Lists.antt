@@ -20,10 +20,6 @@ places_of keys key = places_from (λ k. k == key) 0 keys
 abbrev pub bids_of_quarter : List Bid → ℕ → List ℕ
 bids_of_quarter bids quarter = places_from (λ (b : Bid). b.quarter == quarter) 0 bids
 
--- the bid of a number that is there
-abbrev pub bid_numbered : List Bid → ℕ → Bid
-bid_numbered bids i = slice_index_or bids i (record { provider = 0; zone = 0; quarter = 0; up = false; price = record { 0 = pos 0 }; least = 0; greatest = 0; both = false })
-
 -- the demands of a run, by their numbers, in the order of the file of demands
 abbrev pub numbers_of_run : List Demand → ℕ → List ℕ
 numbers_of_run demands run = places_from (λ (d : Demand). d.run == run) 0 demands

@@ -4,6 +4,7 @@ use Rattle.std.specs.List.{range_with_len}
 use Rattle.std.specs.Option.{option_and_then}
 use Rattle.mari_units.specs.declared.Cents.{Cents}
 use Rattle.mari_zones.specs.declared.borders.BorderEnds.{BorderEnds}
+use Rattle.mari_bids.specs.Bids.{bid_numbered}
 use Rattle.mari_bids.specs.declared.bids.Bid.{Bid}
 use Rattle.mari_links.specs.Links.{has_gate}
 use Rattle.mari_links.specs.declared.links.BidLinks.{BidLinks}
@@ -20,7 +21,7 @@ use Rattle.mari_remain.specs.declared.books.Books.{Books}
 use Rattle.mari_remain.specs.declared.market.RunMarket.{RunMarket}
 use Rattle.mari_remain.specs.Available.{Taken, is_available, taken_by}
 use Rattle.mari_remain.specs.Blocks.{PastBlock}
-use Rattle.mari_remain.specs.Lists.{bid_numbered, bids_of_quarter, group_at, parent_at, run_numbered}
+use Rattle.mari_remain.specs.Lists.{bids_of_quarter, group_at, parent_at, run_numbered}
 use Rattle.mari_units.specs.declared.numbers.TheConstants.{CAP}
 
 -- a bid's gate: its place among the gated bids

@@ -1,14 +1,15 @@
 //! Which bids are available in a run.
 
-ghost use Rattle.std.specs.Prelude.{false, ◌≡◌, ◌≤◌, ◌<◌, ◌+◌, ◌==◌, ◌&&◌, ◌||◌, ℕ, Bool, [], IfOk, filter, get_or, length, map, nat_lt, not, slice_get, true};
+ghost use Rattle.std.specs.Prelude.{false, ◌≡◌, ◌≤◌, ◌<◌, ◌+◌, ◌==◌, ◌&&◌, ◌||◌, ℕ, Bool, [], IfOk, filter, length, map, not, slice_get, true};
 ghost use Rattle.std.specs.Option.{option_map_or};
 ghost use Rattle.std.specs.List.{list_all, list_any, range_with_len};
+ghost use Rattle.mari_bids.specs.Bids.{bid_numbered};
 ghost use Rattle.mari_links.specs.Links.{has_gate};
 ghost use Rattle.mari_remain.specs.Accepted.{IsAccepted};
 ghost use Rattle.mari_remain.specs.Available.{Taken, has_free_group as has_free_group_in, is_available, is_for as is_for_in, is_left as is_left_in, may_run as may_run_in, share_group as share_group_in};
 ghost use Rattle.mari_remain.specs.Choice.{keeps_links_in, rivals_in};
-ghost use Rattle.mari_remain.specs.FirstBlocks.{taken_in};
-ghost use Rattle.mari_remain.specs.Lists.{bid_numbered, bids_of_quarter, group_at, parent_at};
+ghost use Rattle.mari_remain.specs.FirstBlocks.{activated_in, direct_in, taken_in};
+ghost use Rattle.mari_remain.specs.Lists.{bids_of_quarter, group_at, parent_at};
 
 use crate::books::Books;
 use crate::market::bid_of;
@@ -78,21 +79,21 @@ fn is_left(books: &Books, number: u32, taken: u32) -> bool
 
 /// Whether all of these bids were activated.
 fn are_activated(remaining: &Remaining, bids: &[u32]) -> bool
-    ensures { result ≡ list_all (λ i. nat_lt 0 (get_or remaining.now.mw i 0)) bids.now }
+    ensures { result ≡ list_all (λ i. activated_in remaining.now i) bids.now }
 {
     bids.iter().all(|bid| remaining.is_activated(*bid))
 }
 
 /// Whether one of these bids was activated.
 fn is_one_activated(remaining: &Remaining, bids: &[u32]) -> bool
-    ensures { result ≡ list_any (λ i. nat_lt 0 (get_or remaining.now.mw i 0)) bids.now }
+    ensures { result ≡ list_any (λ i. activated_in remaining.now i) bids.now }
 {
     bids.iter().any(|bid| remaining.is_activated(*bid))
 }
 
 /// Whether a direct run activated one of these bids.
 fn is_one_by_direct_run(remaining: &Remaining, bids: &[u32]) -> bool
-    ensures { result ≡ list_any (λ i. get_or remaining.now.direct i false) bids.now }
+    ensures { result ≡ list_any (λ i. direct_in remaining.now i) bids.now }
 {
     bids.iter().any(|bid| remaining.by_direct_run(*bid))
 }
@@ -214,7 +215,7 @@ fn is_next(
     requires quarter { (bid_numbered books.now.bids.bids number).quarter ≡ run.quarter }
     requires rivals { rivals.now ≡ filter (rivals_in books.now remaining.now) (bids_of_quarter books.now.bids.bids run.quarter) }
     ensures { result ≡ (may_run_in books.now (taken_in books.now remaining.now run.quarter) run number
-        && option_map_or (λ p. nat_lt 0 (get_or remaining.now.mw p 0) || list_any (λ j. j == p) gated.now) (parent_at books.now.links.links number) true) }
+        && option_map_or (λ p. activated_in remaining.now p || list_any (λ j. j == p) gated.now) (parent_at books.now.links.links number) true) }
 {
     if !may_run(books, remaining, run, rivals, number) {
         return false;

@@ -1,6 +1,7 @@
 //! What holds of every list of blocks of a day's first runs, and of the pages that state limits for each run.
 
 ghost use Rattle.std.specs.Prelude.{◌≡◌, ◌≤◌, ◌<◌, ◌⊎◌, ◌↔◌, ◌∷◌, ◌++◌, [], ℕ, List, Ok, is_some, length, true};
+ghost use Rattle.mari_bids.specs.Bids.{bid_numbered};
 ghost use Rattle.mari_links.specs.Links.{has_gate};
 ghost use Rattle.mari_zones.specs.Borders.{borders_in};
 ghost use Rattle.mari_zones.specs.declared.borders.BorderBook.{BorderBook};
@@ -8,7 +9,6 @@ ghost use Rattle.mari_demands.specs.declared.limits.Limits.{Limits};
 ghost use Rattle.mari_remain.specs.Accepted.{IsAccepted};
 ghost use Rattle.mari_remain.specs.Blocks.{PastBlock, mw_in_block, mw_of};
 ghost use Rattle.mari_remain.specs.FirstBlocks.{AreFirstBlocks, IsKeptAfter, IsNextBlock, Tally, StandsFor};
-ghost use Rattle.mari_remain.specs.Lists.{bid_numbered};
 ghost use Rattle.mari_remain.specs.Migrated.{AreRead, borders_page, limits_page, with_limits};
 ghost use Rattle.mari_remain.specs.RunMarket.{run_limits, run_market_of};
 

@@ -1,10 +1,9 @@
 //! What earlier blocks of a day left.
 
-ghost use Rattle.std.specs.Prelude.{◌≡◌, ◌≤◌, ◌<◌, ◌+◌, ◌++◌, ◌∷◌, ◌==◌, [], IfOk, false, get_or, if◌then◌else◌, length, map, nat_lt, pos, unsigned_abs};
+ghost use Rattle.std.specs.Prelude.{◌≡◌, ◌≤◌, ◌<◌, ◌+◌, ◌++◌, ◌∷◌, [], IfOk, get_or, length, map, unsigned_abs};
 ghost use Rattle.std.specs.List.{All, range_with_len};
-ghost use Rattle.std.specs.Option.{option_map_or};
 ghost use Rattle.mari_remain.specs.Accepted.{IsAccepted};
-ghost use Rattle.mari_remain.specs.FirstBlocks.{StandsFor};
+ghost use Rattle.mari_remain.specs.FirstBlocks.{StandsFor, activated_in, direct_in, is_kept_of, kept_flow};
 ghost use Rattle.mari_remain.specs.Lists.{bids_of_quarter, numbers_of_run};
 ghost use Rattle.mari_bids.specs.declared.bids.Bid.{Bid as TheBid};
 ghost use Rattle.mari_demands.specs.declared.demands.Demand.{Demand as TheDemand};
@@ -108,28 +107,28 @@ impl Remaining {
 
     /// Whether a bid was activated.
     pub(crate) fn is_activated(&self, bid: u32) -> bool
-        ensures { result ≡ nat_lt 0 (get_or self.now.mw bid 0) }
+        ensures { result ≡ activated_in self.now bid }
     {
         self.mw_of(bid) > 0
     }
 
     /// Whether a direct run activated a bid.
     pub(crate) fn by_direct_run(&self, bid: u32) -> bool
-        ensures { result ≡ get_or self.now.direct bid false }
+        ensures { result ≡ direct_in self.now bid }
     {
         self.direct.get(bid as usize).copied().unwrap_or(false)
     }
 
     /// Whether the last published block is of a quarter.
     pub(crate) fn is_of(&self, quarter: u32) -> bool
-        ensures { result ≡ option_map_or (λ last. last == quarter) self.now.quarter false }
+        ensures { result ≡ is_kept_of self.now quarter }
     {
         self.quarter == Some(quarter)
     }
 
     /// The sum of a border's flows in the published blocks of a quarter.
     pub(crate) fn flow_of(&self, quarter: u32, border: u32) -> i64
-        ensures flow { result ≡ (if option_map_or (λ last. last == quarter) self.now.quarter false then get_or self.now.flow border (pos 0) else pos 0) }
+        ensures flow { result ≡ kept_flow self.now quarter border }
         ensures small { All (λ flow. unsigned_abs flow ≤ MOST_MW) self.now.flow → unsigned_abs result ≤ MOST_MW }
     {
         if self.quarter == Some(quarter) {

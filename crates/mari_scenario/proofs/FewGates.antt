@@ -7,7 +7,7 @@ use Rattle.std.proofs.lemmas.List.FromFn.{length-map-range_with_len}
 use Rattle.std.proofs.lemmas.List.Folds.{list_any-append}
 use Rattle.std.proofs.lemmas.List.Sums.{sum_by-cons}
 use Rattle.mari_bids.specs.declared.bids.BidBook.{BidBook}
-use Rattle.mari_links.specs.Links.{bid_named, count_of, has_gate, is_gated, least_of_bid, links_of, quarter_of, said_by, Member, Said}
+use Rattle.mari_links.specs.Links.{bid_named, count_of, gated_in, is_gated, least_of_bid, links_of, quarter_of, said_by, Member, Said}
 use Rattle.mari_links.specs.declared.lines.Link.{Link}
 use Rattle.mari_links.proofs.GateLemmas.{gated-alike}
 use Rattle.mari_scenario.specs.Pages.{bid}
@@ -91,6 +91,6 @@ module _ (bids : BidBook) (named : (n j : ℕ) → n < 24 → j < 40 → bid_nam
       by-place true e h = by-gate (is_gated bids said s) (fifth-by (eqb_tells ((s + 1) % 5) 0) e) h
       by-place false e h = rw (ungated s (omega arith) e) (without h)
 
-  pub few-gates : (q : ℕ) → count_of bids (filter (has_gate (the_links bids named quarter count)) (range_with_len 0 (length (the_links bids named quarter count).links))) q ≤ 8
+  pub few-gates : (q : ℕ) → count_of bids (gated_in (the_links bids named quarter count)) q ≤ 8
   unfolding the_links
   few-gates q = rw (length-map-range_with_len (links_of bids said) 0 (length bids.ids), gated-alike bids said, count) ((eight-at-most q 0 960 (omega arith)).0)

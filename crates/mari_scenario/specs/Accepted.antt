@@ -1,6 +1,5 @@
 -- The books that a generated day's pages make.
-use Rattle.std.specs.Prelude.{◌≡◌, ◌≤◌, ℕ, List, [], ◌∷◌, Ok, IsSomeAnd, filter, length}
-use Rattle.std.specs.List.{range_with_len}
+use Rattle.std.specs.Prelude.{◌≡◌, ◌≤◌, ℕ, List, [], ◌∷◌, Ok, IsSomeAnd, length}
 use lib.Chars.{codes}
 use Rattle.mari_calendar.specs.Midnights.{quarters_at}
 use Rattle.mari_units.specs.declared.limits.TheConstants.{MOST_PAGE}
@@ -13,7 +12,7 @@ use Rattle.mari_zones.specs.declared.borders.BorderBook.{BorderBook}
 use Rattle.mari_zones.specs.declared.zones.ZoneBook.{ZoneBook}
 use Rattle.mari_bids.specs.Bids.{bid_grammar}
 use Rattle.mari_bids.specs.declared.bids.BidBook.{BidBook}
-use Rattle.mari_links.specs.Links.{count_of, has_gate, link_grammar}
+use Rattle.mari_links.specs.Links.{count_of, gated_in, link_grammar}
 use Rattle.mari_links.specs.declared.links.LinkBook.{LinkBook}
 use Rattle.mari_demands.specs.Demands.{demand_grammar}
 use Rattle.mari_demands.specs.Runs.{run_grammar}
@@ -58,4 +57,4 @@ pub record AreAccepted (pages : Pages) : Type 0 where
   pub ten_borders : length borders.borders ≡ 10
   pub bids_there : length bids.bids ≡ 960
   pub runs_there : length runs.runs ≡ 24
-  pub few_gates : (quarter : ℕ) → count_of bids (filter (has_gate links) (range_with_len 0 (length links.links))) quarter ≤ 8
+  pub few_gates : (quarter : ℕ) → count_of bids (gated_in links) quarter ≤ 8

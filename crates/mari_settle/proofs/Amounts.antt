@@ -8,6 +8,7 @@ use Rattle.std.proofs.lemmas.List.{ext_get_or}
 use Rattle.std.proofs.lemmas.List.FromFn.{length-map-range_with_len, get_or-map-range_with_len}
 use Rattle.std.specs.List.{range_with_len}
 use Rattle.mari_units.specs.declared.numbers.Quarters.{Quarters}
+use Rattle.mari_bids.specs.Bids.{no_bid}
 use Rattle.mari_bids.specs.declared.bids.Bid.{Bid}
 use Rattle.mari_market.specs.declared.activation.Activation.{Activation}
 use Rattle.mari_market.specs.Price.{price_at}
@@ -16,10 +17,6 @@ use Rattle.mari_settle.specs.Ledger.{bid_amount, earned, paid_at, provider_amoun
 use Rattle.mari_settle.specs.Lines.{amount_at, nothing}
 use Rattle.mari_settle.specs.Conditions.{IsPayable, NamesPayable}
 use Rattle.mari_bids.specs.declared.bids.BidBook.{BidBook}
-
--- a bid, where there is none
-abbrev pub no_bid : Bid
-no_bid = record { provider = 0; zone = 0; quarter = 0; up = false; price = record { 0 = pos 0 }; least = 0; greatest = 0; both = false }
 
 -- a bid that is named is there
 pub named_there : (bids : BidBook) (zones number : ℕ) → NamesPayable bids zones number → number < length bids.bids

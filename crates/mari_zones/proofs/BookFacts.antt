@@ -6,7 +6,7 @@ use Rattle.std.specs.Str.{bytes_eq}
 use Rattle.std.proofs.lemmas.Bool.Decides.{nat_tests}
 use Rattle.std.proofs.lemmas.List.{length-map, map-append}
 use Rattle.std.proofs.lemmas.List.Elements.{All-map, All-nil, All-push}
-use Rattle.mari_units.specs.Names.{is_name}
+use Rattle.mari_units.specs.Names.{IsName, is_name}
 use Rattle.mari_rows.specs.Books.{GivesBook, book_in, first_failing}
 use Rattle.mari_rows.specs.Fields.{number_in}
 use Rattle.mari_rows.specs.Names.{place_in}
@@ -60,9 +60,9 @@ zone-facts page (Ok book) gives =
     let whole : IsZoneBook (zone_book rows) = record {
       some = simp length-map (some-zone (length rows) file.0);
       few = simp length-map are.few;
-      zones = All-map (λ zone. is_name zone ≡ true) zone_of rows are.zones;
+      zones = All-map IsName zone_of rows are.zones;
       distinct = are.distinct;
-      operators = all-distinct (λ operator. is_name operator ≡ true) (map operator_of rows) (All-map (λ operator. is_name operator ≡ true) operator_of rows are.operators);
+      operators = all-distinct IsName (map operator_of rows) (All-map IsName operator_of rows are.operators);
       few_operators = omega (arith, length-distinct (map operator_of rows), length-map rows operator_of, are.few);
       operators_there = record {
         one_each = length-map rows place ∙ sym (length-map rows zone_of);

@@ -1,7 +1,7 @@
 -- The book of zones.
-use Rattle.std.specs.Prelude.{◌≡◌, ◌≢◌, ◌≤◌, ◌<◌, true, ℕ, List, [], ◌∷◌, not, ◌&&◌, ◌==◌, nat_le, length, map, codes}
+use Rattle.std.specs.Prelude.{◌≡◌, ◌≢◌, ◌≤◌, ◌<◌, ℕ, List, [], ◌∷◌, not, ◌&&◌, ◌==◌, nat_le, length, map, codes}
 use Rattle.std.specs.List.{All, AllPairs}
-use Rattle.mari_units.specs.Names.{is_name}
+use Rattle.mari_units.specs.Names.{IsName, is_name}
 use Rattle.mari_units.specs.declared.limits.TheConstants.{MOST_ZONES}
 use Rattle.mari_rows.specs.Books.{Checks, Grammar}
 use Rattle.mari_rows.specs.Names.{distinct, is_among, place_in}
@@ -65,8 +65,8 @@ pub record HasOperators (book : ZoneBook) : Type 0 where
 pub record IsZoneBook (book : ZoneBook) : Type 0 where
   pub some : 1 ≤ length book.zones
   pub few : length book.zones ≤ MOST_ZONES
-  pub zones : All (λ zone. is_name zone ≡ true) book.zones
+  pub zones : All IsName book.zones
   pub distinct : AllPairs (λ a b. a ≢ b) book.zones
-  pub operators : All (λ operator. is_name operator ≡ true) book.operators
+  pub operators : All IsName book.operators
   pub few_operators : length book.operators ≤ MOST_ZONES
   pub operators_there : HasOperators book

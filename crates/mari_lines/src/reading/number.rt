@@ -5,8 +5,9 @@ ghost use Rattle.std.specs.Char.{is_ascii_digit};
 ghost use Rattle.std.specs.List.{list_all};
 ghost use Rattle.std.specs.Fmt.{decimal, signed_decimal};
 ghost use Rattle.mari_market.specs.Price.{IsCapped};
+ghost use Rattle.mari_units.specs.Names.{IsName};
 ghost use Rattle.mari_units.specs.Numbers.{Within};
-ghost use Rattle.mari_lines.specs.Ranges.{Between, IsName, IsDate, IsMoney, IsZone, is_date as is_date_text};
+ghost use Rattle.mari_lines.specs.Ranges.{Between, IsDate, IsMoney, IsZone, is_date as is_date_text};
 ghost use Rattle.mari_lines.specs.Spelling.{price_text, money_text, zone_text};
 ghost use Rattle.mari_lines.specs.Reading.{Reads, digits_in as digits_of, value_in};
 

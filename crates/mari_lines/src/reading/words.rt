@@ -4,8 +4,9 @@ ghost use Rattle.std.specs.Prelude.{◌≡◌, ◌≢◌, ◌==◌, ◌∷◌, [
 ghost use Rattle.std.specs.List.{slice_split};
 ghost use Rattle.std.specs.Fmt.{decimal, signed_decimal};
 ghost use Rattle.mari_market.specs.Price.{IsCapped};
+ghost use Rattle.mari_units.specs.Names.{IsName};
 ghost use Rattle.mari_units.specs.Numbers.{Within};
-ghost use Rattle.mari_lines.specs.Ranges.{Between, IsName, IsDate, IsMoney};
+ghost use Rattle.mari_lines.specs.Ranges.{Between, IsDate, IsMoney};
 ghost use Rattle.mari_lines.specs.Spelling.{price_text, money_text, kind_text, published_text, side_text};
 ghost use Rattle.mari_lines.specs.Reading.{ReadsFirst};
 ghost use Rattle.mari_lines.specs.declared.fault.FormFault.TheVariants as form_fault;

@@ -1,6 +1,6 @@
 use Rattle.std.proofs.Common.{◌≡◌, ℕ, ◌+◌, ◌<◌, List, length, map, drop, fold, get_or, refl, add-one, drop-cons, ◌∙◌}
+use Rattle.mari_bids.specs.Bids.{bid_numbered}
 use Rattle.mari_bids.specs.declared.bids.Bid.{Bid}
-use Rattle.mari_remain.specs.Lists.{bid_numbered}
 use Rattle.mari_progress.specs.Money.{with_number}
 use Rattle.mari_progress.proofs.providers.providers_of.Goals as goal
 

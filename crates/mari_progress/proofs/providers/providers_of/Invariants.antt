@@ -1,5 +1,5 @@
 use Rattle.std.proofs.Common.{◌≡◌, drop, fold, map}
-use Rattle.mari_remain.specs.Lists.{bid_numbered}
+use Rattle.mari_bids.specs.Bids.{bid_numbered}
 use Rattle.mari_progress.specs.Money.{providers_among, with_number}
 use Rattle.mari_progress.proofs.providers.providers_of.Given as goal
 

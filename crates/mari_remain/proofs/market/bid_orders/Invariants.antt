@@ -1,6 +1,6 @@
 use Rattle.std.proofs.Common.{◌≡◌, ◌++◌, drop, map}
+use Rattle.mari_bids.specs.Bids.{bid_numbered}
 use Rattle.mari_remain.specs.FirstBlocks.{taken_in}
-use Rattle.mari_remain.specs.Lists.{bid_numbered}
 use Rattle.mari_remain.specs.RunMarket.{bid_order, gate_of}
 use Rattle.mari_remain.proofs.market.bid_orders.Given as goal
 

@@ -2,9 +2,10 @@ use Rattle.std.proofs.Common.{◌≡◌, ◌==◌, ◌∙◌, ◌<◌, arith, le
 use Rattle.std.specs.Int.{w128}
 use Rattle.std.specs.Prelude.{FitsSigned, slice_get}
 use Rattle.std.proofs.lemmas.Int.{ints, fits_signed_from_abs}
+use Rattle.mari_bids.specs.Bids.{no_bid}
 use Rattle.mari_market.proofs.Sums.{sum_along_step}
 use Rattle.mari_settle.specs.Ledger.{bid_amount}
-use Rattle.mari_settle.proofs.Amounts.{amount_here, named_there, no_bid, small_if, sum_along-cut}
+use Rattle.mari_settle.proofs.Amounts.{amount_here, named_there, small_if, sum_along-cut}
 use Rattle.mari_settle.proofs.providers.pay_all.Goals as goal
 
 pub loop-i-preserved : goal.loop-i-preserved

@@ -218,7 +218,7 @@ module _ (asked : Option Asked) where
         in_range = w.printed.in_range;
         offers = keeps-offers job.books ready.accepted job.nodes w.printed.publication.blocks w.printed.is_day.part;
         sums = balanced job.books ready.accepted job.nodes w.printed.publication.blocks w.printed.is_day.part;
-        totals = ap net_sum w.printed.is_day.operators ∙ totals-balance job.books ready.accepted job.nodes w.printed.publication.blocks w.printed.is_day.part;
+        totals = ap net_sum w.printed.is_day.totals.operators ∙ totals-balance job.books ready.accepted job.nodes w.printed.publication.blocks w.printed.is_day.part;
         valid = day-is-valid job.books job.nodes w.printed.publication w.printed.is_day;
         printed = w.printed.text;
         published = ap (λ (n : ℕ). n == 0) (sym w.printed.unpublished) ∙ e;

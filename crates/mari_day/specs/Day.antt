@@ -11,7 +11,7 @@ use Rattle.mari_remain.specs.declared.books.Books.{Books}
 use Rattle.mari_market.specs.SearchTree.{HasSize}
 use Rattle.mari_progress.specs.Behind.{market_behind}
 use Rattle.mari_day.specs.Published.{IsBlock}
-use Rattle.mari_progress.specs.Totals.{operator_totals, provider_totals}
+use Rattle.mari_progress.specs.Totals.{HasHead, HasTotals}
 use Rattle.mari_day.specs.declared.text.PrintedDay.{PrintedDay}
 use Rattle.mari_day.specs.declared.day.DayEnd.{DayEnd}
 use Rattle.mari_day.specs.declared.day.DayEnd.TheVariants.{Done, WriteFault, Memory}
@@ -23,13 +23,11 @@ pub record IsDayPart (books : Books) (budget : ℕ) (blocks : List Block) : Type
 
 -- a day: the date, the quarters and the budget, a block for every run, and the sums over the published blocks
 pub record IsDay (books : Books) (nodes : ℕ) (p : Publication) : Type 0 where
-  pub date : p.date ≡ books.date
-  pub quarters : p.quarters ≡ books.quarters
+  pub head : HasHead books p
   pub budget : p.budget ≡ nodes
   pub part : IsDayPart books nodes p.blocks
   pub every : length p.blocks ≡ length books.runs.runs
-  pub operators : p.operators ≡ operator_totals books p.blocks
-  pub providers : p.providers ≡ provider_totals books p.blocks
+  pub totals : HasTotals books p
 
 -- the text of a day part: the head and the blocks
 abbrev pub part_text : Books → (budget : ℕ) → List Block → List ℕ

@@ -1,10 +1,11 @@
--- What operators and providers have over the published blocks of a day.
-use Rattle.std.specs.Prelude.{ℕ, ℤ, pos, ◌+ℤ◌, List, [], ◌∷◌, ◌++◌, fold, length, map, replicate}
+-- What operators and providers have over the published blocks of a day; a day's head and its totals.
+use Rattle.std.specs.Prelude.{◌≡◌, ℕ, ℤ, pos, ◌+ℤ◌, List, [], ◌∷◌, ◌++◌, fold, length, map, replicate}
 use Rattle.std.specs.List.{range_with_len}
 use Rattle.mari_lines.specs.declared.line.AmountLine.{AmountLine}
 use Rattle.mari_publish.specs.declared.publication.Block.{Block}
 use Rattle.mari_publish.specs.declared.publication.Block.TheVariants as block
 use Rattle.mari_lines.specs.declared.line.MoneyLine.{MoneyLine}
+use Rattle.mari_publish.specs.declared.publication.Publication.{Publication}
 use Rattle.mari_remain.specs.declared.books.Books.{Books}
 use Rattle.mari_settle.specs.Ledger.{provider_amount, scheduled_or}
 use Rattle.mari_settle.specs.Lines.{map_along, no_line, together}
@@ -43,3 +44,13 @@ provider_total books blocks provider = record { name = name_at books.bids.provid
 
 abbrev pub provider_totals : Books → List Block → List AmountLine
 provider_totals books blocks = map (provider_total books blocks) (range_with_len 0 (length books.bids.providers))
+
+-- the first line states the date and the quarters of the books
+pub record HasHead (books : Books) (p : Publication) : Type 0 where
+  pub date : p.date ≡ books.date
+  pub quarters : p.quarters ≡ books.quarters
+
+-- the totals are the sums over the published blocks
+pub record HasTotals (books : Books) (p : Publication) : Type 0 where
+  pub operators : p.operators ≡ operator_totals books p.blocks
+  pub providers : p.providers ≡ provider_totals books p.blocks

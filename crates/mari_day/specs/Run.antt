@@ -5,7 +5,7 @@ use Rattle.mari_market.specs.declared.activation.Activation.{Activation}
 use Rattle.mari_market.specs.declared.market.Market.{Market}
 use Rattle.mari_market.specs.declared.clearing.Clearing.{Clearing}
 use Rattle.mari_market.specs.Area.{AreAreas}
-use Rattle.mari_market.specs.Interval.{AreLeastPrices, AreGreatestPrices, ArePublishedPrices}
+use Rattle.mari_market.specs.Interval.{AreIntervals, ArePublishedPrices}
 use Rattle.mari_market.specs.Optimal.{IsConsistent}
 use Rattle.mari_publish.specs.declared.publication.FullBlock.{FullBlock}
 use Rattle.mari_progress.specs.Told.{activation_of, areas_of, greatest_told, least_told, prices_of}
@@ -19,8 +19,7 @@ clearing_of b = record { activation = activation_of b; welfare = b.welfare; tree
 pub record AreZonePrices (m : Market) (a : Activation) (ps lows highs : List Cents) (numbers : List ℕ) : Type 0 where
   pub published : ArePublishedPrices m a ps
   pub consistent : IsConsistent m a ps
-  pub least : AreLeastPrices m a lows
-  pub greatest : AreGreatestPrices m a highs
+  pub intervals : AreIntervals m a lows highs
   pub areas : AreAreas m a numbers
 
 -- so it is told

@@ -9,7 +9,7 @@ use Rattle.mari_io.specs.Outside.{Pages, page_of}
 use Rattle.mari_publish.specs.declared.fault.TextFault.{TextFault}
 use Rattle.mari_publish.specs.declared.fault.TextFault.TheVariants as text_fault
 use Rattle.mari_publish.specs.declared.publication.Publication.{Publication}
-use Rattle.mari_publish.specs.Faults.{IsOutcome, IsText}
+use Rattle.mari_publish.specs.Faults.{IsOutcome, IsText, IsTextFault}
 use Rattle.mari_publish.proofs.Outcomes.{line_answer, order_answer, text_answer, truncated_answer}
 use Rattle.mari_remain.specs.declared.books.Books.{Books}
 use Rattle.mari_day.specs.Day.{EndsDay, HasEnough}
@@ -19,7 +19,7 @@ use Rattle.mari_day.specs.Files.{Gap}
 use Rattle.mari_day.specs.Files.Gap.{NotHeld, OverLimit}
 use Rattle.mari_day.specs.Reading.{HasBooks, HasGap, HasRefusal}
 use Rattle.mari_day.proofs.Enough.{all-published}
-use Rattle.mari_check.specs.Streams.{IsTextFault, IsToldFault, IsTooLong}
+use Rattle.mari_check.specs.Streams.{IsToldFault, IsTooLong}
 use Rattle.mari_check.specs.Streams.IsToldFault.{OfPage as of-page, OfGiven as of-given}
 use Rattle.mari_check.proofs.Piecewise.{no-line-fault, told-first}
 use Rattle.mari_words.specs.Asked.{Asked}

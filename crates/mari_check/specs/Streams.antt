@@ -4,7 +4,7 @@ use Rattle.mari_io.specs.declared.shelf.Fetch.{Fetch}
 use Rattle.mari_io.specs.declared.shelf.Fetch.TheVariants as fetch
 use Rattle.mari_io.specs.declared.shelf.TheConstants.{MOST_GIVEN, MOST_PIECE}
 use Rattle.mari_io.specs.Outside.{counted}
-use Rattle.mari_publish.specs.Faults.{IsText, BadLineAt, BadOrderAt, TruncatedAt}
+use Rattle.mari_publish.specs.Faults.{IsText, IsTextFault, BadLineAt, BadOrderAt, TruncatedAt}
 use Rattle.mari_publish.specs.Pieces.{NoFault, ComesFrom, parts_of}
 use Rattle.mari_publish.specs.declared.fault.TextFault.{TextFault}
 use Rattle.mari_publish.specs.declared.fault.TextFault.TheVariants as fault
@@ -22,13 +22,6 @@ use Rattle.mari_check.specs.Checked.{IsChecked}
 use Rattle.mari_check.specs.Verdicts.{IsVerdict}
 
 -- ---- what is answered
-
--- the first fault of a text
-abbrev pub IsTextFault : List ℕ → TextFault → Type 0
-IsTextFault text (fault.BadLine n) = BadLineAt text n
-IsTextFault text (fault.BadOrder n) = BadOrderAt text n
-IsTextFault text (fault.Truncated n) = TruncatedAt text n
-IsTextFault text fault.Memory = ⊥
 
 -- a fault of a whole line
 abbrev pub IsLineFault : List ℕ → TextFault → Type 0

@@ -290,7 +290,7 @@ module _ (asked : Option Asked) (pages : Pages) where
 module _ (before after : Option (List ℕ)) (result : Status) where
   of-line : (Q : Status → Type 0) (text : List ℕ) (wanted : Status) → Reports text wanted before after result → OrFault Q wanted → OrFault Q result
   of-line Q text wanted (Printed e p) h = let P : Status → Type 0 = λ x. OrFault Q x in subst P (sym e) h
-  of-line Q text wanted (CutOff e n p) h = inr (inr (inl e))
+  of-line Q text wanted (CutOff e p) h = inr (inr (inl e))
   of-line Q text wanted (Starved e p) h = inr (inr (inr e))
 
   excused : (Q : Status → Type 0) (o : Outcome) → IsExcused o → Reported o before after result → OrFault Q result
@@ -423,7 +423,7 @@ module _ (before after : Option (List ℕ)) (result : Status) where
 
   pub usage-answer : (asked : Option Asked) (o : Outcome) → asked ≡ None → IsOfWords asked o → Reported o before after result → (result ≡ status.Usage) ⊎ ((result ≡ status.WriteFault) ⊎ (result ≡ status.Memory))
   usage-answer asked NoCommand e w (Printed s p) = inl s
-  usage-answer asked NoCommand e w (CutOff s n p) = inr (inl s)
+  usage-answer asked NoCommand e w (CutOff s p) = inr (inl s)
   usage-answer asked NoCommand e w (Starved s p) = inr (inr s)
   usage-answer asked (Day job) e w r = absurd (no-words asked (Day job) e w tt)
   usage-answer asked (Text t) e w r = absurd (no-words asked (Text t) e w tt)
@@ -437,7 +437,7 @@ module _ (before after : Option (List ℕ)) (result : Status) where
   generated-answer NoCommand n is r = absurd is
   generated-answer (Day job) n is r = absurd is
   generated-answer (Text t) n is (Printed s p) = inl s
-  generated-answer (Text t) n is (CutOff s k p) = inr (inl s)
+  generated-answer (Text t) n is (CutOff s p) = inr (inl s)
   generated-answer (Text t) n is (Starved s p) = inr (inr s)
   generated-answer (Invalid run k) n is r = absurd is
   generated-answer (NoPage k why) n is r = absurd is

@@ -49,6 +49,10 @@ pub record IsDayText (books : Books) (budget : ℕ) (text : List ℕ) : Type 0 w
 abbrev pub then_took : Option (List ℕ) → List ℕ → Option (List ℕ)
 then_took taken text = option_map (λ t. t ++ text) taken
 
+-- the sink has taken a first part of this text
+abbrev pub TookPart : (before after : Option (List ℕ)) → List ℕ → Type 0
+TookPart before after text = (count : ℕ) × (after ≡ then_took before (take count text))
+
 -- the text of a day, and how many of its blocks are published, and how many are not
 pub record IsPrintedDay (books : Books) (nodes : ℕ) (day : PrintedDay) : Type 0 where
   pub publication : Publication
@@ -68,8 +72,7 @@ pub record WroteWholeDay (books : Books) (budget published unpublished : ℕ) (b
 pub record WrotePrefix (books : Books) (budget : ℕ) (before after : Option (List ℕ)) : Type 0 where
   pub text : List ℕ
   pub is_text : IsPartText books budget text ⊎ IsDayText books budget text
-  pub count : ℕ
-  pub taken : after ≡ then_took before (take count text)
+  pub taken : TookPart before after text
 
 -- the head and whole blocks were written
 pub record WrotePart (books : Books) (budget : ℕ) (before after : Option (List ℕ)) : Type 0 where

@@ -15,8 +15,8 @@ use Rattle.mari_lines.specs.Spelling.{line_text}
 use Rattle.mari_publish.specs.Texts.{block_text_of, head_text_of, text_of, text_of_lines, total_text_of}
 use Rattle.mari_publish.proofs.Parts.{text_of_blocks}
 use Rattle.mari_remain.specs.declared.books.Books.{Books}
-use Rattle.mari_day.specs.Day.{IsDayPart, part_text, then_took, WroteWholeDay, WrotePart, WrotePrefix}
-use Rattle.mari_day.specs.Stepped.{BrokeOff, Closes, IsDayOf, Stepped, Stopped, WroteBlock, WroteFirst}
+use Rattle.mari_day.specs.Day.{IsDayPart, Stopped, part_text, then_took, WroteWholeDay, WrotePart, WrotePrefix}
+use Rattle.mari_day.specs.Stepped.{BrokeOff, Closes, IsDayOf, Stepped, WroteBlock, WroteFirst}
 use Rattle.mari_day.specs.declared.step.Stop.TheVariants.{Sink, Memory as NoMemory}
 use Rattle.mari_progress.specs.declared.progress.Progress.{Progress}
 use Rattle.mari_day.specs.declared.step.Stop.{Stop}

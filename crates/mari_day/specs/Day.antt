@@ -15,6 +15,8 @@ use Rattle.mari_progress.specs.Totals.{HasHead, HasTotals}
 use Rattle.mari_day.specs.declared.text.PrintedDay.{PrintedDay}
 use Rattle.mari_day.specs.declared.day.DayEnd.{DayEnd}
 use Rattle.mari_day.specs.declared.day.DayEnd.TheVariants.{Done, WriteFault, Memory}
+use Rattle.mari_day.specs.declared.step.Stop.{Stop}
+use Rattle.mari_day.specs.declared.step.Stop.TheVariants.{Sink, Memory as NoMemory}
 
 -- the blocks of a day part: those of the first runs in order, each behind the blocks printed before it
 pub record IsDayPart (books : Books) (budget : ℕ) (blocks : List Block) : Type 0 where
@@ -80,11 +82,16 @@ pub record WrotePart (books : Books) (budget : ℕ) (before after : Option (List
   pub is_text : IsPartText books budget text
   pub taken : after ≡ then_took before text
 
+-- what was written of a day whose writing stopped before its end
+abbrev pub Stopped : Books → (budget : ℕ) → (before after : Option (List ℕ)) → Stop → Type 0
+Stopped books budget before after Sink = WrotePrefix books budget before after
+Stopped books budget before after NoMemory = (after ≡ before) ⊎ WrotePart books budget before after
+
 -- what a sink has taken of a day, by how it ended
 abbrev pub EndsDay : Books → (budget : ℕ) → (before after : Option (List ℕ)) → DayEnd → Type 0
 EndsDay books budget before after (Done published unpublished) = WroteWholeDay books budget published unpublished before after
-EndsDay books budget before after WriteFault = WrotePrefix books budget before after
-EndsDay books budget before after Memory = (after ≡ before) ⊎ WrotePart books budget before after
+EndsDay books budget before after WriteFault = Stopped books budget before after Sink
+EndsDay books budget before after Memory = Stopped books budget before after NoMemory
 
 -- whatever blocks are printed, the budget holds the search tree of the market of the next run
 abbrev pub HasEnough : Books → (budget : ℕ) → Type 0

@@ -1,5 +1,5 @@
 -- What clearing one run and writing its block comes to.
-use Rattle.std.specs.Prelude.{ℕ, ◌≡◌, ◌⊎◌, List, [], ◌∷◌, ◌++◌, Option, Result, Ok, Err, length}
+use Rattle.std.specs.Prelude.{ℕ, ◌≡◌, List, [], ◌∷◌, ◌++◌, Option, Result, Ok, Err, length}
 use Rattle.mari_publish.specs.declared.publication.Block.{Block}
 use Rattle.mari_publish.specs.declared.publication.Publication.{Publication}
 use Rattle.mari_publish.specs.Ranges.{HasText}
@@ -8,7 +8,7 @@ use Rattle.mari_remain.specs.declared.books.Books.{Books}
 use Rattle.mari_progress.specs.declared.progress.Progress.{Progress}
 use Rattle.mari_day.specs.declared.step.Stop.{Stop}
 use Rattle.mari_day.specs.declared.step.Stop.TheVariants.{Sink, Memory as NoMemory}
-use Rattle.mari_day.specs.Day.{part_text, then_took, IsDay, TookPart, WrotePart, WrotePrefix}
+use Rattle.mari_day.specs.Day.{part_text, then_took, IsDay, TookPart}
 use Rattle.mari_day.specs.Published.{IsBlock}
 use Rattle.mari_day.specs.Progress.{IsDayProgress}
 
@@ -42,11 +42,6 @@ pub record WroteFirst (books : Books) (budget count : ℕ) (kept : Progress) (be
   pub progress : IsDayProgress books budget blocks kept
   pub counted : length blocks ≡ count
   pub taken : after ≡ then_took before (part_text books budget blocks)
-
--- what was written of a day whose writing stopped before its end
-abbrev pub Stopped : Books → (budget : ℕ) → (before after : Option (List ℕ)) → Stop → Type 0
-Stopped books budget before after Sink = WrotePrefix books budget before after
-Stopped books budget before after NoMemory = (after ≡ before) ⊎ WrotePart books budget before after
 
 -- a day with these blocks, which has a text
 pub record IsDayOf (books : Books) (budget : ℕ) (blocks : List Block) (p : Publication) : Type 0 where

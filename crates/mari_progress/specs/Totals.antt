@@ -7,11 +7,9 @@ use Rattle.mari_publish.specs.declared.publication.Block.TheVariants as block
 use Rattle.mari_lines.specs.declared.line.MoneyLine.{MoneyLine}
 use Rattle.mari_publish.specs.declared.publication.Publication.{Publication}
 use Rattle.mari_remain.specs.declared.books.Books.{Books}
-use Rattle.mari_settle.specs.Ledger.{provider_amount, scheduled_or}
 use Rattle.mari_settle.specs.Lines.{map_along, no_line, together}
 use Rattle.mari_progress.specs.Behind.{also_behind, market_behind}
-use Rattle.mari_progress.specs.Money.{money_lines_of}
-use Rattle.mari_progress.specs.Told.{activation_of, prices_of}
+use Rattle.mari_progress.specs.Money.{amount_of, money_lines_of}
 use Rattle.mari_rows.specs.Names.{name_at}
 
 -- two lines of one operator together
@@ -29,8 +27,7 @@ operator_totals books blocks = fold with_operators (money_lines_of books.zones.o
 
 -- what a provider gets in the block behind these, which is nothing unless it is published
 abbrev pub amount_in : Books → (before : List Block) → Block → (provider : ℕ) → ℤ
-amount_in books before (block.Published b) provider =
-    provider_amount books.bids (market_behind books before).bids (activation_of b) (prices_of b) (scheduled_or (prices_of b) (also_behind books before)) provider
+amount_in books before (block.Published b) provider = amount_of books (market_behind books before) (also_behind books before) b provider
 amount_in books before (block.Unpublished heading count) provider = pos 0
 
 -- and in all blocks that stand behind these

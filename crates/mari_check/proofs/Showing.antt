@@ -29,9 +29,7 @@ module _ (books : Books) (ok : IsAccepted books) (run : ℕ) (made : RunMarket) 
       record {
         first = first_for m (pos b.welfare) (gate_word_of m a) b.tree a own.valid (free fault.Leaf) (record { feasible = feasible; consistent = (prices_of b, consistent) }) (free fault.Welfare) refl;
         welfare = free fault.Welfare;
-        prices = free fault.Price;
-        intervals = free fault.Interval;
-        areas = free fault.Area;
+        prices = record { published = free fault.Price; consistent = consistent; intervals = free fault.Interval; areas = free fault.Area };
         ledger = ledger;
         sums = balance.to_zero;
       }

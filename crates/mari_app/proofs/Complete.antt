@@ -9,7 +9,7 @@ use Rattle.mari_io.specs.Outside.{Pages, page_of}
 use Rattle.mari_publish.specs.declared.fault.TextFault.{TextFault}
 use Rattle.mari_publish.specs.declared.fault.TextFault.TheVariants as text_fault
 use Rattle.mari_publish.specs.declared.publication.Publication.{Publication}
-use Rattle.mari_publish.specs.Faults.{IsOutcome, IsText}
+use Rattle.mari_publish.specs.Faults.{IsOutcome, IsText, IsTextFault}
 use Rattle.mari_publish.proofs.Outcomes.{line_answer, order_answer, text_answer, truncated_answer}
 use Rattle.mari_remain.specs.declared.books.Books.{Books}
 use Rattle.mari_day.specs.Day.{EndsDay, HasEnough}
@@ -19,7 +19,7 @@ use Rattle.mari_day.specs.Files.{Gap}
 use Rattle.mari_day.specs.Files.Gap.{NotHeld, OverLimit}
 use Rattle.mari_day.specs.Reading.{HasBooks, HasGap, HasRefusal}
 use Rattle.mari_day.proofs.Enough.{all-published}
-use Rattle.mari_check.specs.Streams.{IsTextFault, IsToldFault, IsTooLong}
+use Rattle.mari_check.specs.Streams.{IsToldFault, IsTooLong}
 use Rattle.mari_check.specs.Streams.IsToldFault.{OfPage as of-page, OfGiven as of-given}
 use Rattle.mari_check.proofs.Piecewise.{no-line-fault, told-first}
 use Rattle.mari_words.specs.Asked.{Asked}
@@ -290,7 +290,7 @@ module _ (asked : Option Asked) (pages : Pages) where
 module _ (before after : Option (List ℕ)) (result : Status) where
   of-line : (Q : Status → Type 0) (text : List ℕ) (wanted : Status) → Reports text wanted before after result → OrFault Q wanted → OrFault Q result
   of-line Q text wanted (Printed e p) h = let P : Status → Type 0 = λ x. OrFault Q x in subst P (sym e) h
-  of-line Q text wanted (CutOff e n p) h = inr (inr (inl e))
+  of-line Q text wanted (CutOff e p) h = inr (inr (inl e))
   of-line Q text wanted (Starved e p) h = inr (inr (inr e))
 
   excused : (Q : Status → Type 0) (o : Outcome) → IsExcused o → Reported o before after result → OrFault Q result
@@ -423,7 +423,7 @@ module _ (before after : Option (List ℕ)) (result : Status) where
 
   pub usage-answer : (asked : Option Asked) (o : Outcome) → asked ≡ None → IsOfWords asked o → Reported o before after result → (result ≡ status.Usage) ⊎ ((result ≡ status.WriteFault) ⊎ (result ≡ status.Memory))
   usage-answer asked NoCommand e w (Printed s p) = inl s
-  usage-answer asked NoCommand e w (CutOff s n p) = inr (inl s)
+  usage-answer asked NoCommand e w (CutOff s p) = inr (inl s)
   usage-answer asked NoCommand e w (Starved s p) = inr (inr s)
   usage-answer asked (Day job) e w r = absurd (no-words asked (Day job) e w tt)
   usage-answer asked (Text t) e w r = absurd (no-words asked (Text t) e w tt)
@@ -437,7 +437,7 @@ module _ (before after : Option (List ℕ)) (result : Status) where
   generated-answer NoCommand n is r = absurd is
   generated-answer (Day job) n is r = absurd is
   generated-answer (Text t) n is (Printed s p) = inl s
-  generated-answer (Text t) n is (CutOff s k p) = inr (inl s)
+  generated-answer (Text t) n is (CutOff s p) = inr (inl s)
   generated-answer (Text t) n is (Starved s p) = inr (inr s)
   generated-answer (Invalid run k) n is r = absurd is
   generated-answer (NoPage k why) n is r = absurd is

@@ -198,7 +198,7 @@ module _ (asked : Option Asked) where
     -- a line that is reported
     of-line : (text : List ℕ) (wanted result : Status) → Reports text wanted before after result → (after ≡ then_took before text → Ends wanted) → WhereTold pages (λ told. IsLine asked told failed text) → Ends result
     of-line text wanted result (Printed e p) done is = subst Ends (sym e) (done p)
-    of-line text wanted result (CutOff e n p) done is = let cut : Ends status.WriteFault = λ told t. cut-line text n (is told t) p in subst Ends (sym e) cut
+    of-line text wanted result (CutOff e p) done is = let cut : Ends status.WriteFault = λ told t. cut-line text (is told t) p in subst Ends (sym e) cut
     of-line text wanted result (Starved e p) done is = subst Ends (sym e) (starved p)
 
     of-nothing : (result : Status) → result ≡ status.Memory → after ≡ before → Ends result
@@ -218,7 +218,7 @@ module _ (asked : Option Asked) where
         in_range = w.printed.in_range;
         offers = keeps-offers job.books ready.accepted job.nodes w.printed.publication.blocks w.printed.is_day.part;
         sums = balanced job.books ready.accepted job.nodes w.printed.publication.blocks w.printed.is_day.part;
-        totals = ap net_sum w.printed.is_day.operators ∙ totals-balance job.books ready.accepted job.nodes w.printed.publication.blocks w.printed.is_day.part;
+        totals = ap net_sum w.printed.is_day.totals.operators ∙ totals-balance job.books ready.accepted job.nodes w.printed.publication.blocks w.printed.is_day.part;
         valid = day-is-valid job.books job.nodes w.printed.publication w.printed.is_day;
         printed = w.printed.text;
         published = ap (λ (n : ℕ). n == 0) (sym w.printed.unpublished) ∙ e;

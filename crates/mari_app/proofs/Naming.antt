@@ -109,8 +109,8 @@ by-name refusal by =
 
 -- a folder that has no books
 pub fault-reportable : (fault : BooksFault) → NamesAFile {T = Books} (Err fault) → RefusesByCheck {T = Books} (Err fault) → IsReportable (no_books fault)
-fault-reportable (why.Fetch file f) names by = (names.first, names.last)
-fault-reportable (why.Refused refusal) names by = ((names.first, names.last), by-name refusal by)
+fault-reportable (why.Fetch file f) names by = names.named
+fault-reportable (why.Refused refusal) names by = (names.named, by-name refusal by)
 fault-reportable why.Memory names by = tt
 
 -- a publication whose text has a fault

@@ -1,5 +1,5 @@
 -- What the words and the pages come to, and how it is reported.
-use Rattle.std.specs.Prelude.{ℕ, ◌≡◌, ◌≢◌, ◌==◌, if◌then◌else◌, List, Option, Some, None, Result, Ok, Err, take, ⊤}
+use Rattle.std.specs.Prelude.{ℕ, ◌≡◌, ◌≢◌, ◌==◌, if◌then◌else◌, List, Option, Some, None, Result, Ok, Err, ⊤}
 use lib.Chars.{codes}
 use Rattle.mari_io.specs.declared.shelf.Fetch.{Fetch}
 use Rattle.mari_io.specs.declared.shelf.Fetch.TheVariants as fetch
@@ -10,7 +10,7 @@ use Rattle.mari_publish.specs.declared.fault.TextFault.TheVariants as text_fault
 use Rattle.mari_remain.specs.declared.books.Books.{Books}
 use Rattle.mari_remain.specs.Accepted.{IsAccepted}
 use Rattle.mari_day.specs.Dated.{IsDated}
-use Rattle.mari_day.specs.Day.{EndsDay, then_took}
+use Rattle.mari_day.specs.Day.{EndsDay, TookPart, then_took}
 use Rattle.mari_day.specs.declared.day.DayEnd.{DayEnd}
 use Rattle.mari_day.specs.declared.day.DayEnd.TheVariants as end
 use Rattle.mari_day.specs.declared.files.TheConstants.{PUBLICATION}
@@ -85,7 +85,7 @@ day_status end.Memory = status.Memory
 -- there was no memory for it, and nothing was taken
 pub data Reports (text : List ℕ) (wanted : Status) (before after : Option (List ℕ)) (result : Status) : Type 0 where
   Printed : result ≡ wanted → after ≡ then_took before text → Reports text wanted before after result
-  CutOff : result ≡ status.WriteFault → (n : ℕ) → after ≡ then_took before (take n text) → Reports text wanted before after result
+  CutOff : result ≡ status.WriteFault → TookPart before after text → Reports text wanted before after result
   Starved : result ≡ status.Memory → after ≡ before → Reports text wanted before after result
 
 -- how a job is reported: its day is written as it is made

@@ -1,9 +1,9 @@
 -- What each answer of the program says.
-use Rattle.std.specs.Prelude.{ℕ, ◌≡◌, ◌⊎◌, true, false, List, Option, Some, None, take}
+use Rattle.std.specs.Prelude.{ℕ, ◌≡◌, ◌⊎◌, true, false, List, Option, Some, None}
 use lib.Chars.{codes}
 use Rattle.mari_units.specs.declared.faults.Refusal.{Refusal}
 use Rattle.mari_io.specs.Outside.{Pages}
-use Rattle.mari_day.specs.Day.{WrotePart, WrotePrefix, then_took}
+use Rattle.mari_day.specs.Day.{TookPart, WrotePart, WrotePrefix, then_took}
 use Rattle.mari_day.specs.Files.{Gap}
 use Rattle.mari_day.specs.Files.Gap.{NotHeld, OverLimit}
 use Rattle.mari_remain.specs.declared.books.Books.{Books}
@@ -35,7 +35,7 @@ pub data IsLine (asked : Option Asked) (pages : Pages) (failed : Type 0) (text :
 -- a write failed: a first part was taken of the text of a day part or of a day, or of another text that may be printed
 pub data IsCutOff (asked : Option Asked) (pages : Pages) (failed : Type 0) (before after : Option (List ℕ)) : Type 0 where
   Day : (books : Books) (nodes : ℕ) → AreCleared asked pages books nodes → WrotePrefix books nodes before after → IsCutOff asked pages failed before after
-  Line : (text : List ℕ) (count : ℕ) → IsLine asked pages failed text → after ≡ then_took before (take count text) → IsCutOff asked pages failed before after
+  Line : (text : List ℕ) → IsLine asked pages failed text → TookPart before after text → IsCutOff asked pages failed before after
 
 -- there was no memory: nothing was taken, or the head and whole blocks of a day part
 pub data IsStarved (asked : Option Asked) (pages : Pages) (before after : Option (List ℕ)) : Type 0 where

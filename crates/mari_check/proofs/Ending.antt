@@ -24,12 +24,12 @@ use Rattle.mari_progress.specs.Progress.{AreTotals}
 use Rattle.mari_check.specs.declared.verdict.Verdict.{Verdict}
 use Rattle.mari_check.specs.declared.verdict.Verdict.TheVariants.{Invalid, Valid}
 use Rattle.mari_check.specs.Checked.{FindsHead, IsChecked}
-use Rattle.mari_check.specs.Day.{AreFree, FillsBudget, HasHead, HasTotals, IsFirstFault, IsFreeIn, IsHeadFault, IsNextHeading, IsValidPublication}
+use Rattle.mari_check.specs.Day.{AreFree, FillsBudget, IsFirstFault, IsFreeIn, IsHeadFault, IsNextHeading, IsValidPublication}
 use Rattle.mari_check.specs.Faults.{FindsNumber, IsLeast, NoneBelow}
 use Rattle.mari_check.specs.Verdicts.{BlockTells, HeadTells, IsVerdict}
 use Rattle.mari_progress.specs.Money.{amount_line, money_lines_of}
 use Rattle.mari_progress.specs.Told.{heading_of}
-use Rattle.mari_progress.specs.Totals.{operator_totals, provider_totals}
+use Rattle.mari_progress.specs.Totals.{HasHead, HasTotals, operator_totals, provider_totals}
 use Rattle.mari_check.proofs.Least.{least-is, none-first}
 use Rattle.mari_publish.proofs.Counts.{both_kinds}
 use Rattle.mari_progress.proofs.Sums.{provider-lines}

@@ -9,7 +9,7 @@ use Rattle.mari_io.specs.Outside.{AppendsExactly, Counts, IsOverlong, IsPiece, O
 use Rattle.mari_io.specs.declared.shelf.Fetch.{Fetch}
 use Rattle.mari_io.specs.declared.shelf.Fetch.TheVariants as fetch
 use Rattle.mari_io.specs.declared.shelf.TheConstants.{MOST_GIVEN, MOST_PIECE}
-use Rattle.mari_publish.specs.Faults.{IsOutcome, IsText}
+use Rattle.mari_publish.specs.Faults.{IsOutcome, IsText, IsTextFault}
 use Rattle.mari_publish.specs.Pieces.{ComeState, HasPart, IsEnd, IsNext, NoFault, ComesFrom, found_none, with_part}
 use Rattle.mari_lines.specs.Spelling.{spelling}
 use Rattle.mari_publish.specs.Texts.{text_of_lines}
@@ -25,7 +25,7 @@ use Rattle.mari_check.specs.declared.stream.Stream.{Stream}
 use Rattle.mari_check.specs.declared.stream.StreamFault.{StreamFault}
 use Rattle.mari_check.specs.declared.stream.StreamFault.TheVariants.{Fetch as OfFetch, Text as OfText, Memory as NoMemory}
 use Rattle.mari_check.specs.declared.verdict.Verdict.{Verdict}
-use Rattle.mari_check.specs.Streams.{EndTells, FaultStops, FaultTells, IsAllRead, IsFound, IsLineFault, HasRead, IsStreamFetch, IsTextFault, IsToldFault, IsWrappedMemory, LineTells, SameAsRead, StopsAtFault, StreamTells, fault_of_fetch, fault_of_text}
+use Rattle.mari_check.specs.Streams.{EndTells, FaultStops, FaultTells, IsAllRead, IsFound, IsLineFault, HasRead, IsStreamFetch, IsToldFault, IsWrappedMemory, LineTells, SameAsRead, StopsAtFault, StreamTells, fault_of_fetch, fault_of_text}
 use Rattle.mari_check.specs.Streams.IsToldFault.{OfPage as of-page, OfGiven as of-given}
 use Rattle.mari_check.specs.Verdicts.{IsVerdict}
 

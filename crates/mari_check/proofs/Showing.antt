@@ -25,15 +25,11 @@ module _ (books : Books) (ok : IsAccepted books) (run : ℕ) (made : RunMarket) 
       let feasible = free fault.Infeasible in
       let consistent = free fault.Inconsistent in
       let ledger = free fault.Ledger in
-      let interval = free fault.Interval in
       let balance = balances books ok made also b own consistent ledger in
       record {
         first = first_for m (pos b.welfare) (gate_word_of m a) b.tree a own.valid (free fault.Leaf) (record { feasible = feasible; consistent = (prices_of b, consistent) }) (free fault.Welfare) refl;
         welfare = free fault.Welfare;
-        prices = free fault.Price;
-        least = interval.least;
-        greatest = interval.greatest;
-        areas = free fault.Area;
+        prices = record { published = free fault.Price; consistent = consistent; intervals = free fault.Interval; areas = free fault.Area };
         ledger = ledger;
         sums = balance.to_zero;
       }

@@ -17,10 +17,10 @@ use Rattle.mari_publish.proofs.Counts.{both_kinds}
 use Rattle.mari_publish.proofs.Pieces.{counts_of}
 use Rattle.mari_lines.specs.declared.line.Line.{Line}
 use Rattle.mari_remain.specs.declared.books.Books.{Books}
+use Rattle.mari_progress.specs.Totals.{HasHead}
 use Rattle.mari_check.specs.declared.day.DayCheck.{DayCheck}
 use Rattle.mari_check.specs.declared.verdict.Verdict.{Verdict}
 use Rattle.mari_check.specs.Checked.{IsChecked}
-use Rattle.mari_check.specs.Day.{HasHead}
 use Rattle.mari_check.specs.Streams.{Comes, IsFaultlessSoFar, IsFound, IsOpen, SettlesVerdict}
 use Rattle.mari_check.specs.Verdicts.{BlockTells, HeadTells, IsVerdict}
 use Rattle.mari_check.proofs.Ending.{block-told, head-clear, head-told}

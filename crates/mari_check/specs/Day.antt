@@ -11,12 +11,7 @@ use Rattle.mari_check.specs.declared.fault.Fault.TheVariants as fault
 use Rattle.mari_progress.specs.Behind.{also_behind, market_behind, run_behind}
 use Rattle.mari_check.specs.Faults.{IsFreeOf, IsLeast, fault_number}
 use Rattle.mari_progress.specs.Told.{heading_of}
-use Rattle.mari_progress.specs.Totals.{operator_totals, provider_totals}
-
--- the first line states the date and the quarters of the books
-pub record HasHead (books : Books) (p : Publication) : Type 0 where
-  pub date : p.date ≡ books.date
-  pub quarters : p.quarters ≡ books.quarters
+use Rattle.mari_progress.specs.Totals.{HasHead, HasTotals}
 
 -- there is a run behind these blocks, and the heading is its own
 pub record IsNextHeading (books : Books) (before : List Block) (heading : Heading) : Type 0 where
@@ -57,11 +52,6 @@ IsFreeIn books budget before (block.Unpublished heading count) any = IsUnpublish
 -- none of these blocks has a fault, each behind those before it
 abbrev pub AreFree : Books → (budget : ℕ) → List Block → Type 0
 AreFree books budget blocks = (k : ℕ) (b : Block) → slice_get blocks k ≡ Some b → (any : Fault) → IsFreeIn books budget (take k blocks) b any
-
--- the totals are the sums over the published blocks
-pub record HasTotals (books : Books) (p : Publication) : Type 0 where
-  pub operators : p.operators ≡ operator_totals books p.blocks
-  pub providers : p.providers ≡ provider_totals books p.blocks
 
 -- a valid publication: its first line is that of the books, there is a block for each run and none of them has a fault,
 -- and the totals are their sums

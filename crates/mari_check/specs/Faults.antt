@@ -5,7 +5,7 @@ use Rattle.mari_market.specs.declared.certificate.TreeItem.{TreeItem}
 use Rattle.mari_market.specs.declared.market.Market.{Market}
 use Rattle.mari_market.specs.Activation.{gate_word_of, welfare_of}
 use Rattle.mari_market.specs.Area.{AreAreas}
-use Rattle.mari_market.specs.Interval.{AreGreatestPrices, AreLeastPrices, ArePublishedPrices}
+use Rattle.mari_market.specs.Interval.{AreIntervals, ArePublishedPrices}
 use Rattle.mari_market.specs.Optimal.{IsConsistent, IsFeasible}
 use Rattle.mari_market.specs.Tree.{TreeHoldsFor}
 use Rattle.mari_publish.specs.declared.publication.FullBlock.{FullBlock}
@@ -33,9 +33,8 @@ fault_number fault.Ledger = 11
 fault_number fault.Totals = 12
 
 -- each zone's least and greatest price are the least and the greatest of its consistent prices
-pub record HasIntervals (m : Market) (b : FullBlock) : Type 0 where
-  pub least : AreLeastPrices m (activation_of b) (least_told b)
-  pub greatest : AreGreatestPrices m (activation_of b) (greatest_told b)
+abbrev pub HasIntervals : Market → FullBlock → Type 0
+HasIntervals m b = AreIntervals m (activation_of b) (least_told b) (greatest_told b)
 
 -- a tree has the shape, and no more items than the budget, where there is one
 pub record IsShaped (m : Market) (budget : Option ℕ) (items : List TreeItem) : Type 0 where

@@ -2,24 +2,20 @@
 use Rattle.std.specs.Prelude.{◌≡◌, pos, List, Option}
 use Rattle.mari_units.specs.declared.numbers.Cents.{Cents}
 use Rattle.mari_market.specs.Activation.{welfare_of}
-use Rattle.mari_market.specs.Area.{AreAreas}
 use Rattle.mari_market.specs.First.{IsFirst}
-use Rattle.mari_market.specs.Interval.{AreGreatestPrices, AreLeastPrices, ArePublishedPrices}
 use Rattle.mari_publish.specs.declared.publication.FullBlock.{FullBlock}
 use Rattle.mari_remain.specs.declared.books.Books.{Books}
 use Rattle.mari_remain.specs.declared.market.RunMarket.{RunMarket}
 use Rattle.mari_progress.specs.Keeps.{SumsToZero}
 use Rattle.mari_progress.specs.Money.{HasLedger}
-use Rattle.mari_progress.specs.Told.{activation_of, areas_of, greatest_told, least_told, prices_of}
+use Rattle.mari_progress.specs.Prices.{HasPrices}
+use Rattle.mari_progress.specs.Told.{activation_of}
 
 -- the first activation of the market, whoever printed it; its welfare; the prices, intervals and areas; the ledger,
 -- whose nets sum to 0 and in which no rent is negative
 pub record ShowsRun (books : Books) (made : RunMarket) (also : Option (List Cents)) (b : FullBlock) : Type 0 where
   pub first : IsFirst made.market (activation_of b)
   pub welfare : welfare_of made.market (activation_of b) ≡ pos b.welfare
-  pub prices : ArePublishedPrices made.market (activation_of b) (prices_of b)
-  pub least : AreLeastPrices made.market (activation_of b) (least_told b)
-  pub greatest : AreGreatestPrices made.market (activation_of b) (greatest_told b)
-  pub areas : AreAreas made.market (activation_of b) (areas_of b)
+  pub prices : HasPrices made.market b
   pub ledger : HasLedger books made also b
   pub sums : SumsToZero b

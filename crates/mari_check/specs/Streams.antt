@@ -4,7 +4,7 @@ use Rattle.mari_io.specs.declared.shelf.Fetch.{Fetch}
 use Rattle.mari_io.specs.declared.shelf.Fetch.TheVariants as fetch
 use Rattle.mari_io.specs.declared.shelf.TheConstants.{MOST_GIVEN, MOST_PIECE}
 use Rattle.mari_io.specs.Outside.{counted}
-use Rattle.mari_publish.specs.Faults.{IsText, BadLineAt, BadOrderAt, TruncatedAt}
+use Rattle.mari_publish.specs.Faults.{IsText, IsTextFault, BadLineAt, BadOrderAt, TruncatedAt}
 use Rattle.mari_publish.specs.Pieces.{NoFault, ComesFrom, parts_of}
 use Rattle.mari_publish.specs.declared.fault.TextFault.{TextFault}
 use Rattle.mari_publish.specs.declared.fault.TextFault.TheVariants as fault
@@ -22,13 +22,6 @@ use Rattle.mari_check.specs.Checked.{IsChecked}
 use Rattle.mari_check.specs.Verdicts.{IsVerdict}
 
 -- ---- what is answered
-
--- the first fault of a text
-abbrev pub IsTextFault : List ℕ → TextFault → Type 0
-IsTextFault text (fault.BadLine n) = BadLineAt text n
-IsTextFault text (fault.BadOrder n) = BadOrderAt text n
-IsTextFault text (fault.Truncated n) = TruncatedAt text n
-IsTextFault text fault.Memory = ⊥
 
 -- a fault of a whole line
 abbrev pub IsLineFault : List ℕ → TextFault → Type 0
@@ -63,10 +56,14 @@ FaultTells (Some page) (OfFetch fetch.Memory) = ⊥
 FaultTells (Some page) (OfText f) = IsToldFault page f
 FaultTells (Some page) NoMemory = ⊤
 
+-- the verdict on the publication whose text this is
+abbrev pub IsVerdictOn : Books → List ℕ → Verdict → Type 0
+IsVerdictOn books text verdict = (p : Publication) × IsText text p × IsVerdict books p verdict
+
 -- the verdict on the publication whose text the page is, which may be given whole
 abbrev pub VerdictTells : Books → Option (List ℕ) → Verdict → Type 0
 VerdictTells books None verdict = ⊥
-VerdictTells books (Some page) verdict = (length page ≤ MOST_GIVEN) × ((p : Publication) × IsText page p × IsVerdict books p verdict)
+VerdictTells books (Some page) verdict = (length page ≤ MOST_GIVEN) × IsVerdictOn books page verdict
 
 -- what the check says of the page of a name, where pages are told
 abbrev pub StreamTells : Books → Option (List ℕ) → Result Verdict StreamFault → Type 0
@@ -195,7 +192,7 @@ PiecesTell books page stream (Err why) = FaultTells (Some page) why
 
 -- what is told at the end of a text
 abbrev pub EndTells : Books → List ℕ → Result Verdict StreamFault → Type 0
-EndTells books text (Ok verdict) = (p : Publication) × IsText text p × IsVerdict books p verdict
+EndTells books text (Ok verdict) = IsVerdictOn books text verdict
 EndTells books text (Err (OfText (fault.BadLine n))) = ⊥
 EndTells books text (Err (OfText (fault.BadOrder n))) = ⊥
 EndTells books text (Err (OfText (fault.Truncated n))) = TruncatedAt text n

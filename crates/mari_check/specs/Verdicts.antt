@@ -7,8 +7,9 @@ use Rattle.mari_remain.specs.declared.books.Books.{Books}
 use Rattle.mari_check.specs.declared.verdict.Verdict.{Verdict}
 use Rattle.mari_check.specs.declared.verdict.Verdict.TheVariants.{Valid, Invalid}
 use Rattle.mari_progress.specs.Behind.{run_behind}
+use Rattle.mari_progress.specs.Totals.{HasHead}
 use Rattle.mari_check.specs.declared.fault.Fault.{Fault}
-use Rattle.mari_check.specs.Day.{HasHead, IsFirstFault, IsFreeIn, IsHeadFault, IsValidPublication}
+use Rattle.mari_check.specs.Day.{IsFirstFault, IsFreeIn, IsHeadFault, IsValidPublication}
 use Rattle.mari_check.specs.Faults.{FindsNumber}
 
 -- a valid publication is told with the numbers of its published and of its other blocks, any other with its first fault

@@ -4,8 +4,9 @@ ghost use Rattle.std.specs.Prelude.{◌≡◌, ◌≤◌, ◌+◌, ◌++◌, ◌
 ghost use Rattle.mari_remain.specs.Accepted.{IsAccepted};
 ghost use Rattle.mari_progress.specs.Behind.{run_behind};
 ghost use Rattle.mari_progress.specs.Progress.{published_block};
+ghost use Rattle.mari_progress.specs.Totals.{HasHead};
 ghost use Rattle.mari_check.specs.Checked.{FindsHead, IsChecked, IsTested, unpublished_block};
-ghost use Rattle.mari_check.specs.Day.{FillsBudget, HasHead, IsFreeIn, IsNextHeading};
+ghost use Rattle.mari_check.specs.Day.{FillsBudget, IsFreeIn, IsNextHeading};
 ghost use Rattle.mari_check.specs.Faults.{Finds, FindsNumber};
 ghost use Rattle.mari_publish.specs.declared.publication.Publication.{Publication as ThePublication};
 ghost use Rattle.mari_publish.specs.declared.publication.Block.{Block as PrintedBlock};

@@ -4,8 +4,8 @@ ghost use Rattle.std.specs.Prelude.{◌≡◌, ◌++◌, ◌∷◌, [], List, No
 ghost use Rattle.mari_publish.specs.declared.publication.Block.{Block as PrintedBlock};
 ghost use Rattle.mari_publish.specs.declared.publication.Publication.{Publication as ThePublication};
 ghost use Rattle.mari_remain.specs.Accepted.{IsAccepted};
+ghost use Rattle.mari_progress.specs.Totals.{HasHead, HasTotals};
 ghost use Rattle.mari_check.specs.Checked.{IsChecked};
-ghost use Rattle.mari_check.specs.Day.{HasHead, HasTotals};
 ghost use Rattle.mari_check.specs.Verdicts.{BlockTells, HeadTells, IsVerdict};
 
 use crate::day::DayCheck;

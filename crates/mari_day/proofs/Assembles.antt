@@ -54,8 +54,10 @@ module _ (books : Books) (budget run : ℕ) (made : RunMarket) (also : Option (L
         prices = record {
           published = along2 (ArePublishedPrices m) a (activation_of b) ps (prices_of b) same_activation is.zones.prices p.prices.published;
           consistent = along2 (IsConsistent m) a (activation_of b) ps (prices_of b) same_activation is.zones.prices p.prices.consistent;
-          least = along2 (AreLeastPrices m) a (activation_of b) _ _ same_activation is.zones.least p.prices.least;
-          greatest = along2 (AreGreatestPrices m) a (activation_of b) _ _ same_activation is.zones.greatest p.prices.greatest;
+          intervals = record {
+            least = along2 (AreLeastPrices m) a (activation_of b) _ _ same_activation is.zones.least p.prices.intervals.least;
+            greatest = along2 (AreGreatestPrices m) a (activation_of b) _ _ same_activation is.zones.greatest p.prices.intervals.greatest;
+          };
           areas = along2 (AreAreas m) a (activation_of b) _ _ same_activation is.zones.areas p.prices.areas;
         };
         ledger = record {

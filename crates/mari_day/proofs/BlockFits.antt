@@ -85,8 +85,8 @@ module _ (books : Books) (ok : IsAccepted books) (dated : IsDated books) (budget
   zones-fit =
       let names = of-map (λ (l : ZoneLine). l.name) IsName b.zones _ is.names.zones ok.zones.zones in
       let prices = of-map (λ (l : ZoneLine). l.price) IsCapped b.zones _ is.zones.prices p.prices.consistent.prices.capped in
-      let least = of-map (λ (l : ZoneLine). l.least) IsCapped b.zones _ is.zones.least (least-fit _ _ _ p.prices.least) in
-      let greatest = of-map (λ (l : ZoneLine). l.greatest) IsCapped b.zones _ is.zones.greatest (greatest-fit _ _ _ p.prices.greatest) in
+      let least = of-map (λ (l : ZoneLine). l.least) IsCapped b.zones _ is.zones.least (least-fit _ _ _ p.prices.intervals.least) in
+      let greatest = of-map (λ (l : ZoneLine). l.greatest) IsCapped b.zones _ is.zones.greatest (greatest-fit _ _ _ p.prices.intervals.greatest) in
       let areas = of-map (λ (l : ZoneLine). l.area) (Between 1 64) b.zones _ is.zones.areas (areas-fit _ _ _ p.prices.areas of.valid.zones.1) in
       let many = as-many (λ (l : ZoneLine). l.name) b.zones _ is.names.zones in
       ((omega (arith, many, ok.zones.some), omega (arith, many, ok.zones.few)), λ k d l. (names k d l, prices k d l, least k d l, greatest k d l, areas k d l))

@@ -118,13 +118,14 @@ module _ (books : Books) (ok : IsAccepted books) (dated : IsDated books) where
     pub is-day : IsDayOf books budget blocks day-of-blocks
     is-day = record {
       day = record {
-        date = refl;
-        quarters = refl;
+        head = record { date = refl; quarters = refl };
         budget = refl;
         part = progress.part;
         every = every;
-        operators = progress.kept.totals.operators;
-        providers = provider-lines books blocks kept.totals progress.kept.totals;
+        totals = record {
+          operators = progress.kept.totals.operators;
+          providers = provider-lines books blocks kept.totals progress.kept.totals;
+        };
       };
       in_range = record {
         head = (dated.date, dated.quarters, node_range);

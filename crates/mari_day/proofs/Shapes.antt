@@ -21,8 +21,8 @@ module _ (books : Books) (made : RunMarket) (is : IsMarketOf books made) (also :
       let mw = as_many made.market clearing.activation f in
       record {
         published = p.prices.published.one_each ∙ is.zones;
-        least = p.prices.least.one_each ∙ is.zones;
-        greatest = p.prices.greatest.one_each ∙ is.zones;
+        least = p.prices.intervals.least.one_each ∙ is.zones;
+        greatest = p.prices.intervals.greatest.one_each ∙ is.zones;
         areas = p.prices.areas.one_each ∙ is.zones;
         flow = flow ∙ is.borders;
         rents = ap length p.rents ∙ along-length _ made.market.borders clearing.activation.flow flow ∙ is.borders;

@@ -15,8 +15,8 @@ use Rattle.mari_lines.specs.Spelling.{line_text}
 use Rattle.mari_publish.specs.Texts.{block_text_of, head_text_of, text_of, text_of_lines, total_text_of}
 use Rattle.mari_publish.proofs.Parts.{text_of_blocks}
 use Rattle.mari_remain.specs.declared.books.Books.{Books}
-use Rattle.mari_day.specs.Day.{IsDayPart, part_text, then_took, WroteWholeDay, WrotePart, WrotePrefix}
-use Rattle.mari_day.specs.Stepped.{BrokeOff, Closes, IsDayOf, Stepped, Stopped, WroteBlock, WroteFirst}
+use Rattle.mari_day.specs.Day.{IsDayPart, Stopped, part_text, then_took, WroteWholeDay, WrotePart, WrotePrefix}
+use Rattle.mari_day.specs.Stepped.{BrokeOff, Closes, IsDayOf, Stepped, WroteBlock, WroteFirst}
 use Rattle.mari_day.specs.declared.step.Stop.TheVariants.{Sink, Memory as NoMemory}
 use Rattle.mari_progress.specs.declared.progress.Progress.{Progress}
 use Rattle.mari_day.specs.declared.step.Stop.{Stop}
@@ -48,8 +48,8 @@ module _ (books : Books) (budget : ℕ) where
       let totals = total_text_of p in
       append_assoc head (flat_map block_text_of blocks) totals
       ∙ ap (λ t. t ++ (flat_map block_text_of blocks ++ totals)) (append-nil (first-line books.date books.quarters budget))
-      ∙ ap (λ (date : List ℕ). first-line date books.quarters budget ++ (flat_map block_text_of blocks ++ totals)) (sym is.day.date)
-      ∙ ap (λ (quarters : ℕ). first-line p.date quarters budget ++ (flat_map block_text_of blocks ++ totals)) (sym is.day.quarters)
+      ∙ ap (λ (date : List ℕ). first-line date books.quarters budget ++ (flat_map block_text_of blocks ++ totals)) (sym is.day.head.date)
+      ∙ ap (λ (quarters : ℕ). first-line p.date quarters budget ++ (flat_map block_text_of blocks ++ totals)) (sym is.day.head.quarters)
       ∙ ap (λ (nodes : ℕ). first-line p.date p.quarters nodes ++ (flat_map block_text_of blocks ++ totals)) (sym is.day.budget)
       ∙ ap (λ (bs : List Block). first-line p.date p.quarters p.budget ++ (flat_map block_text_of bs ++ totals)) (sym is.of_blocks)
       ∙ ap (λ (t : List ℕ). first-line p.date p.quarters p.budget ++ (t ++ totals)) (sym (text_of_blocks p.blocks))
@@ -71,8 +71,7 @@ module _ (books : Books) (budget : ℕ) where
   head-cut before after count e = record {
     text = part_text books budget [];
     is_text = inl (record { blocks = []; part = none-part; spelled = refl });
-    count = count;
-    taken = e ∙ ap (λ t. then_took before (take count t)) (sym (append-nil head));
+    taken = (count, e ∙ ap (λ t. then_took before (take count t)) (sym (append-nil head)));
   }
 
   module _ (count : ℕ) (kept : Progress) (before mid : Option (List ℕ)) (first : WroteFirst books budget count kept before mid) where
@@ -91,9 +90,11 @@ module _ (books : Books) (budget : ℕ) where
     block-cut after last cut = record {
       text = part_text books budget (first.blocks ++ cut.block ∷ []);
       is_text = inl (record { blocks = first.blocks ++ cut.block ∷ []; part = part-more books budget first.blocks cut.block first.progress.part (omega (arith, last, first.counted)) cut.is_block; spelled = refl });
-      count = length (part_text books budget first.blocks) + cut.count;
-      taken = behind before mid after (part_text books budget first.blocks) (block_text_of cut.block) cut.count first.taken cut.taken
-          ∙ ap (λ t. then_took before (take (length (part_text books budget first.blocks) + cut.count) t)) (sym (part-text-more first.blocks cut.block));
+      taken = (
+        length (part_text books budget first.blocks) + cut.taken.0,
+        behind before mid after (part_text books budget first.blocks) (block_text_of cut.block) cut.taken.0 first.taken cut.taken.1
+            ∙ ap (λ t. then_took before (take (length (part_text books budget first.blocks) + cut.taken.0) t)) (sym (part-text-more first.blocks cut.block)),
+      );
     }
 
     -- no memory for one block more
@@ -113,9 +114,11 @@ module _ (books : Books) (budget : ℕ) where
     totals-cut after p is n e = record {
       text = text_of p;
       is_text = inr (record { publication = p; day = is.day; in_range = is.in_range; spelled = refl });
-      count = length (part_text books budget first.blocks) + n;
-      taken = behind before mid after (part_text books budget first.blocks) (total_text_of p) n first.taken e
-          ∙ ap (λ t. then_took before (take (length (part_text books budget first.blocks) + n) t)) (day-text first.blocks p is);
+      taken = (
+        length (part_text books budget first.blocks) + n,
+        behind before mid after (part_text books budget first.blocks) (total_text_of p) n first.taken e
+            ∙ ap (λ t. then_took before (take (length (part_text books budget first.blocks) + n) t)) (day-text first.blocks p is),
+      );
     }
 
     -- how the day stops where a run's block isn't written, or the totals aren't

@@ -13,7 +13,7 @@ use Rattle.mari_day.specs.declared.block.Priced.{Priced}
 use Rattle.mari_progress.specs.Money.{amount_line, money_lines_of, providers_among}
 use Rattle.mari_progress.specs.Runs.{IsBalancedLedger}
 use Rattle.mari_progress.specs.Told.{NamesLines, areas_of, greatest_told, heading_of, least_told, prices_of, rents_told}
-use Rattle.mari_day.specs.Run.{AreZonePrices}
+use Rattle.mari_progress.specs.Prices.{AreZonePrices}
 
 -- what the lines of zones tell
 pub record HasZoneLines (priced : Priced) (b : FullBlock) : Type 0 where

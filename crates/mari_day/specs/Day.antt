@@ -11,10 +11,12 @@ use Rattle.mari_remain.specs.declared.books.Books.{Books}
 use Rattle.mari_market.specs.SearchTree.{HasSize}
 use Rattle.mari_progress.specs.Behind.{market_behind}
 use Rattle.mari_day.specs.Published.{IsBlock}
-use Rattle.mari_progress.specs.Totals.{operator_totals, provider_totals}
+use Rattle.mari_progress.specs.Totals.{HasHead, HasTotals}
 use Rattle.mari_day.specs.declared.text.PrintedDay.{PrintedDay}
 use Rattle.mari_day.specs.declared.day.DayEnd.{DayEnd}
 use Rattle.mari_day.specs.declared.day.DayEnd.TheVariants.{Done, WriteFault, Memory}
+use Rattle.mari_day.specs.declared.step.Stop.{Stop}
+use Rattle.mari_day.specs.declared.step.Stop.TheVariants.{Sink, Memory as NoMemory}
 
 -- the blocks of a day part: those of the first runs in order, each behind the blocks printed before it
 pub record IsDayPart (books : Books) (budget : ℕ) (blocks : List Block) : Type 0 where
@@ -23,13 +25,11 @@ pub record IsDayPart (books : Books) (budget : ℕ) (blocks : List Block) : Type
 
 -- a day: the date, the quarters and the budget, a block for every run, and the sums over the published blocks
 pub record IsDay (books : Books) (nodes : ℕ) (p : Publication) : Type 0 where
-  pub date : p.date ≡ books.date
-  pub quarters : p.quarters ≡ books.quarters
+  pub head : HasHead books p
   pub budget : p.budget ≡ nodes
   pub part : IsDayPart books nodes p.blocks
   pub every : length p.blocks ≡ length books.runs.runs
-  pub operators : p.operators ≡ operator_totals books p.blocks
-  pub providers : p.providers ≡ provider_totals books p.blocks
+  pub totals : HasTotals books p
 
 -- the text of a day part: the head and the blocks
 abbrev pub part_text : Books → (budget : ℕ) → List Block → List ℕ
@@ -51,6 +51,10 @@ pub record IsDayText (books : Books) (budget : ℕ) (text : List ℕ) : Type 0 w
 abbrev pub then_took : Option (List ℕ) → List ℕ → Option (List ℕ)
 then_took taken text = option_map (λ t. t ++ text) taken
 
+-- the sink has taken a first part of this text
+abbrev pub TookPart : (before after : Option (List ℕ)) → List ℕ → Type 0
+TookPart before after text = (count : ℕ) × (after ≡ then_took before (take count text))
+
 -- the text of a day, and how many of its blocks are published, and how many are not
 pub record IsPrintedDay (books : Books) (nodes : ℕ) (day : PrintedDay) : Type 0 where
   pub publication : Publication
@@ -70,8 +74,7 @@ pub record WroteWholeDay (books : Books) (budget published unpublished : ℕ) (b
 pub record WrotePrefix (books : Books) (budget : ℕ) (before after : Option (List ℕ)) : Type 0 where
   pub text : List ℕ
   pub is_text : IsPartText books budget text ⊎ IsDayText books budget text
-  pub count : ℕ
-  pub taken : after ≡ then_took before (take count text)
+  pub taken : TookPart before after text
 
 -- the head and whole blocks were written
 pub record WrotePart (books : Books) (budget : ℕ) (before after : Option (List ℕ)) : Type 0 where
@@ -79,11 +82,16 @@ pub record WrotePart (books : Books) (budget : ℕ) (before after : Option (List
   pub is_text : IsPartText books budget text
   pub taken : after ≡ then_took before text
 
+-- what was written of a day whose writing stopped before its end
+abbrev pub Stopped : Books → (budget : ℕ) → (before after : Option (List ℕ)) → Stop → Type 0
+Stopped books budget before after Sink = WrotePrefix books budget before after
+Stopped books budget before after NoMemory = (after ≡ before) ⊎ WrotePart books budget before after
+
 -- what a sink has taken of a day, by how it ended
 abbrev pub EndsDay : Books → (budget : ℕ) → (before after : Option (List ℕ)) → DayEnd → Type 0
 EndsDay books budget before after (Done published unpublished) = WroteWholeDay books budget published unpublished before after
-EndsDay books budget before after WriteFault = WrotePrefix books budget before after
-EndsDay books budget before after Memory = (after ≡ before) ⊎ WrotePart books budget before after
+EndsDay books budget before after WriteFault = Stopped books budget before after Sink
+EndsDay books budget before after Memory = Stopped books budget before after NoMemory
 
 -- whatever blocks are printed, the budget holds the search tree of the market of the next run
 abbrev pub HasEnough : Books → (budget : ℕ) → Type 0

@@ -41,15 +41,14 @@ file_number Runs = 6
 file_number Demands = 7
 file_number Limits = 9
 
--- the number of a market file
-pub record IsFileNumber (number : ℕ) : Type 0 where
-  pub first : 1 ≤ number
-  pub last : number ≤ file_number Limits
-  pub other : number ≢ PUBLICATION
-
 -- the number of a file, which a market file or the publication has
 abbrev pub IsNamed : ℕ → Type 0
 IsNamed number = (1 ≤ number) × (number ≤ file_number Limits)
+
+-- the number of a market file
+pub record IsFileNumber (number : ℕ) : Type 0 where
+  pub named : IsNamed number
+  pub other : number ≢ PUBLICATION
 
 -- the market file of a number, if it is that of one
 abbrev pub file_with : ℕ → Option File

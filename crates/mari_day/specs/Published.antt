@@ -12,7 +12,8 @@ use Rattle.mari_remain.specs.declared.market.RunMarket.{RunMarket}
 use Rattle.mari_progress.specs.Behind.{also_behind, market_behind, run_behind}
 use Rattle.mari_progress.specs.Money.{HasLedger}
 use Rattle.mari_progress.specs.Told.{NamesMarket, heading_of}
-use Rattle.mari_day.specs.Run.{HasPrices, clearing_of}
+use Rattle.mari_progress.specs.Prices.{HasPrices}
+use Rattle.mari_day.specs.Run.{clearing_of}
 
 -- a published run of a market: a first activation of its market, with its welfare and a certificate tree of at most so
 -- many items that holds at it for its gate word; the prices, intervals and areas; and the ledger

@@ -1,28 +1,8 @@
--- What the block of a run promises of its clearing and of its prices.
-use Rattle.std.specs.Prelude.{ℕ, List}
-use Rattle.mari_units.specs.declared.numbers.Cents.{Cents}
-use Rattle.mari_market.specs.declared.activation.Activation.{Activation}
-use Rattle.mari_market.specs.declared.market.Market.{Market}
+-- What the block of a run tells of its clearing.
 use Rattle.mari_market.specs.declared.clearing.Clearing.{Clearing}
-use Rattle.mari_market.specs.Area.{AreAreas}
-use Rattle.mari_market.specs.Interval.{AreLeastPrices, AreGreatestPrices, ArePublishedPrices}
-use Rattle.mari_market.specs.Optimal.{IsConsistent}
 use Rattle.mari_publish.specs.declared.publication.FullBlock.{FullBlock}
-use Rattle.mari_progress.specs.Told.{activation_of, areas_of, greatest_told, least_told, prices_of}
+use Rattle.mari_progress.specs.Told.{activation_of}
 
 -- the clearing that it tells
 abbrev pub clearing_of : FullBlock → Clearing
 clearing_of b = record { activation = activation_of b; welfare = b.welfare; tree = b.tree }
-
--- for an activation each zone has its published price, which together are consistent with it; its least and its
--- greatest consistent price; and the number of its area
-pub record AreZonePrices (m : Market) (a : Activation) (ps lows highs : List Cents) (numbers : List ℕ) : Type 0 where
-  pub published : ArePublishedPrices m a ps
-  pub consistent : IsConsistent m a ps
-  pub least : AreLeastPrices m a lows
-  pub greatest : AreGreatestPrices m a highs
-  pub areas : AreAreas m a numbers
-
--- so it is told
-abbrev pub HasPrices : Market → FullBlock → Type 0
-HasPrices m b = AreZonePrices m (activation_of b) (prices_of b) (least_told b) (greatest_told b) (areas_of b)

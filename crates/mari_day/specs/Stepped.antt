@@ -1,5 +1,5 @@
 -- What clearing one run and writing its block comes to.
-use Rattle.std.specs.Prelude.{ℕ, ◌≡◌, ◌⊎◌, List, [], ◌∷◌, ◌++◌, Option, Result, Ok, Err, length, take}
+use Rattle.std.specs.Prelude.{ℕ, ◌≡◌, List, [], ◌∷◌, ◌++◌, Option, Result, Ok, Err, length}
 use Rattle.mari_publish.specs.declared.publication.Block.{Block}
 use Rattle.mari_publish.specs.declared.publication.Publication.{Publication}
 use Rattle.mari_publish.specs.Ranges.{HasText}
@@ -8,14 +8,14 @@ use Rattle.mari_remain.specs.declared.books.Books.{Books}
 use Rattle.mari_progress.specs.declared.progress.Progress.{Progress}
 use Rattle.mari_day.specs.declared.step.Stop.{Stop}
 use Rattle.mari_day.specs.declared.step.Stop.TheVariants.{Sink, Memory as NoMemory}
-use Rattle.mari_day.specs.Day.{part_text, then_took, IsDay, WrotePart, WrotePrefix}
+use Rattle.mari_day.specs.Day.{part_text, then_took, IsDay, TookPart}
 use Rattle.mari_day.specs.Published.{IsBlock}
 use Rattle.mari_day.specs.Progress.{IsDayProgress}
 
 -- the text was written, or a first part of it, or there was no memory for it and nothing was
 abbrev pub Writes : (text : List ℕ) → (before after : Option (List ℕ)) → Result (Unit {0}) Stop → Type 0
 Writes text before after (Ok done) = after ≡ then_took before text
-Writes text before after (Err Sink) = (count : ℕ) × (after ≡ then_took before (take count text))
+Writes text before after (Err Sink) = TookPart before after text
 Writes text before after (Err NoMemory) = after ≡ before
 
 -- the block of the run behind these blocks was written, and what is kept stands for one block more
@@ -28,8 +28,7 @@ pub record WroteBlock (books : Books) (budget : ℕ) (blocks : List Block) (kept
 pub record BrokeOff (books : Books) (budget : ℕ) (blocks : List Block) (before after : Option (List ℕ)) : Type 0 where
   pub block : Block
   pub is_block : IsBlock books budget blocks block
-  pub count : ℕ
-  pub taken : after ≡ then_took before (take count (block_text_of block))
+  pub taken : TookPart before after (block_text_of block)
 
 -- the block was written, or a first part of it, or there was no memory for it and nothing was
 abbrev pub Stepped : Books → (budget : ℕ) → (blocks : List Block) → (kept : Progress) → (before after : Option (List ℕ)) → Result (Unit {0}) Stop → Type 0
@@ -44,11 +43,6 @@ pub record WroteFirst (books : Books) (budget count : ℕ) (kept : Progress) (be
   pub counted : length blocks ≡ count
   pub taken : after ≡ then_took before (part_text books budget blocks)
 
--- what was written of a day whose writing stopped before its end
-abbrev pub Stopped : Books → (budget : ℕ) → (before after : Option (List ℕ)) → Stop → Type 0
-Stopped books budget before after Sink = WrotePrefix books budget before after
-Stopped books budget before after NoMemory = (after ≡ before) ⊎ WrotePart books budget before after
-
 -- a day with these blocks, which has a text
 pub record IsDayOf (books : Books) (budget : ℕ) (blocks : List Block) (p : Publication) : Type 0 where
   pub day : IsDay books budget p
@@ -58,5 +52,5 @@ pub record IsDayOf (books : Books) (budget : ℕ) (blocks : List Block) (p : Pub
 -- the totals of such a day were written behind its blocks, or a first part of them, or nothing
 abbrev pub Closes : Books → (budget : ℕ) → (blocks : List Block) → (before after : Option (List ℕ)) → Result (Unit {0}) Stop → Type 0
 Closes books budget blocks before after (Ok done) = (p : Publication) × IsDayOf books budget blocks p × (after ≡ then_took before (total_text_of p))
-Closes books budget blocks before after (Err Sink) = (p : Publication) × IsDayOf books budget blocks p × ((count : ℕ) × (after ≡ then_took before (take count (total_text_of p))))
+Closes books budget blocks before after (Err Sink) = (p : Publication) × IsDayOf books budget blocks p × TookPart before after (total_text_of p)
 Closes books budget blocks before after (Err NoMemory) = after ≡ before

@@ -7,10 +7,10 @@ ghost use Rattle.mari_io.specs.Outside.{Counts};
 ghost use Rattle.mari_publish.specs.declared.publication.Block.{Block as PrintedBlock};
 ghost use Rattle.mari_remain.specs.Accepted.{IsAccepted};
 ghost use Rattle.mari_day.specs.Dated.{IsDated};
-ghost use Rattle.mari_day.specs.Day.{EndsDay, WroteWholeDay};
+ghost use Rattle.mari_day.specs.Day.{EndsDay, Stopped, WroteWholeDay};
 ghost use Rattle.mari_progress.specs.Money.{amount_line};
 ghost use Rattle.mari_day.specs.Progress.{IsDayProgress};
-ghost use Rattle.mari_day.specs.Stepped.{Closes, Stopped, WroteFirst};
+ghost use Rattle.mari_day.specs.Stepped.{Closes, WroteFirst};
 ghost use Rattle.mari_market.specs.Clearing.{IsBudget};
 
 use crate::lines::{amount_lines, money_lines};

@@ -1,6 +1,6 @@
 //! One run of a day: its market is made and cleared, and its block is written and added to what the day keeps.
 
-ghost use Rattle.std.specs.Prelude.{◌≡◌, ◌≤◌, ℕ, List, IfErr, IfOk, IsErr, OnErr, OnOk, Err, length, take};
+ghost use Rattle.std.specs.Prelude.{◌≡◌, ◌≤◌, List, IfErr, IfOk, IsErr, OnErr, OnOk, Err, length};
 ghost use Rattle.mari_io.specs.Outside.{Counts};
 ghost use Rattle.mari_publish.specs.Ranges.{BlockFits};
 ghost use Rattle.mari_publish.specs.Texts.{block_text_of};
@@ -8,7 +8,7 @@ ghost use Rattle.mari_publish.specs.declared.publication.Block.{Block as Printed
 ghost use Rattle.mari_remain.specs.Accepted.{IsAccepted};
 ghost use Rattle.mari_progress.specs.Behind.{run_behind};
 ghost use Rattle.mari_day.specs.Dated.{IsDated};
-ghost use Rattle.mari_day.specs.Day.{then_took};
+ghost use Rattle.mari_day.specs.Day.{TookPart, then_took};
 ghost use Rattle.mari_day.specs.Progress.{IsDayProgress, IsRunDone};
 ghost use Rattle.mari_day.specs.Stepped.{Stepped, Writes};
 ghost use Rattle.mari_market.specs.Clearing.{IsBudget};
@@ -98,7 +98,7 @@ fn run_done<C: Clearer>(
 /// Writes a text, whose failure ends the day.
 pub fn write_text<K: Sink>(sink: &mut K, text: &[u8]) -> Result<(), Stop>
     ensures whole { OnOk result (K.taken sink.new ≡ then_took (K.taken sink.old) text.now) }
-    ensures part { OnErr result ((n : ℕ) × (K.taken sink.new ≡ then_took (K.taken sink.old) (take n text.now))) }
+    ensures part { OnErr result (TookPart (K.taken sink.old) (K.taken sink.new) text.now) }
     ensures error { IfErr result (λ stop. stop ≡ Stop.Sink) }
     ensures cause { Counts (IsErr result) (K.faults sink.old) (K.faults sink.new) }
 {

@@ -1,15 +1,15 @@
 //! Writing a text until the sink has taken it whole.
 
-ghost use Rattle.std.specs.Prelude.{◌≡◌, ℕ, take, OnOk, OnErr, IsErr};
+ghost use Rattle.std.specs.Prelude.{◌≡◌, OnOk, OnErr, IsErr};
 ghost use Rattle.mari_io.specs.Outside.{Counts};
-ghost use Rattle.mari_day.specs.Day.{then_took};
+ghost use Rattle.mari_day.specs.Day.{TookPart, then_took};
 
 use mari_io::{Failed, Sink};
 
 /// Writes the whole text. After an error the sink has taken a first part of it.
 pub fn write_all<K: Sink>(sink: &mut K, text: &[u8]) -> Result<(), Failed>
     ensures whole { OnOk result (K.taken sink.new ≡ then_took (K.taken sink.old) text.now) }
-    ensures part { OnErr result ((n : ℕ) × (K.taken sink.new ≡ then_took (K.taken sink.old) (take n text.now))) }
+    ensures part { OnErr result (TookPart (K.taken sink.old) (K.taken sink.new) text.now) }
     ensures cause { Counts (IsErr result) (K.faults sink.old) (K.faults sink.new) }
 {
     let mut at = 0;

@@ -125,7 +125,7 @@ start_fits lead own xs z e h n = record {
   risen = λ y s k r. absurd (n.none_led y z s k n.greatest.free r);
   least = λ w s k. omega (arith, ints, n.first.value, h.rest w z s k n.greatest.free);
   newest = λ y u s k free r. absurd (n.none_led y u s k free r);
-  rest = λ u free. omega (arith, ints, n.first.value, n.greatest.greatest u free);
+  rest = λ u free. omega (arith, ints, n.first.value, n.greatest.greatest u free.0 free);
   source = inl n.first;
   short = omega (arith, n.first.depth, free_zones-le xs);
 }

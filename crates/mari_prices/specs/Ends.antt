@@ -11,7 +11,7 @@ use Rattle.mari_prices.specs.declared.bounds.End.{End}
 use Rattle.mari_prices.specs.declared.bounds.End.TheVariants.{Least, Greatest}
 use Rattle.mari_prices.specs.declared.spread.SettledZone.{SettledZone}
 use Rattle.mari_market.specs.Sums.{int_at}
-use Rattle.mari_prices.specs.Spread.{entry_at, SpreadsAlong}
+use Rattle.mari_prices.specs.Spread.{entry_at, AllSettled, SpreadsAlong}
 use Rattle.mari_prices.specs.Tightest.{IsTightest, signed}
 
 -- how an end's bounds spread
@@ -28,7 +28,7 @@ pub record IsEnd (end : End) (m : Market) (a : Activation) (bounds : List ℤ) (
 
 -- every zone is settled, with a price or one with its sign turned
 pub record ArePriced (xs : List (Option SettledZone)) : Type 0 where
-  pub settled : (z : ℕ) → z < length xs → (s : SettledZone) × (entry_at xs z ≡ Some s)
+  pub settled : AllSettled xs
   pub priced : (z : ℕ) (s : SettledZone) → entry_at xs z ≡ Some s → IsPrice s.value
 
 -- each zone's price is its value
@@ -80,7 +80,7 @@ depth_of (Some s) = s.depth
 
 -- the chain to each zone is one longer than that to the zone before
 pub record AreTrails (xs : List (Option SettledZone)) : Type 0 where
-  pub settled : (z : ℕ) → z < length xs → (s : SettledZone) × (entry_at xs z ≡ Some s)
+  pub settled : AllSettled xs
   pub before : (z y : ℕ) (s : SettledZone) → entry_at xs z ≡ Some s → s.previous ≡ Some y → (t : SettledZone) × (entry_at xs y ≡ Some t) × (s.depth ≡ t.depth + 1)
   pub some : (z : ℕ) (s : SettledZone) → entry_at xs z ≡ Some s → 1 ≤ s.depth
   pub short : (z : ℕ) (s : SettledZone) → entry_at xs z ≡ Some s → s.depth ≤ length xs

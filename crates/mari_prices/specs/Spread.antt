@@ -37,6 +37,10 @@ pub record IsAfter (lead : ℕ → ℕ → Type 0) (xs : List (Option SettledZon
   pub value : s.value ≡ entry.value
   pub depth : s.depth ≡ entry.depth + 1
 
+-- every zone is settled
+abbrev pub AllSettled : List (Option SettledZone) → Type 0
+AllSettled xs = (z : ℕ) → z < length xs → (s : SettledZone) × (entry_at xs z ≡ Some s)
+
 -- zones are settled from the greatest value down, and each as soon as a settled zone leads to it
 pub record IsSpreading (lead : ℕ → ℕ → Type 0) (own : ℕ → ℤ) (xs : List (Option SettledZone)) : Type 0 where
   -- a zone's value is at least its own
@@ -51,10 +55,10 @@ pub record IsSpreading (lead : ℕ → ℕ → Type 0) (own : ℕ → ℤ) (xs :
   -- no chain is longer than the number of settled zones
   pub short : (z : ℕ) (s : SettledZone) → entry_at xs z ≡ Some s → s.depth + free_zones xs ≤ length xs
 
--- every zone is settled
+-- zones were settled so, and every zone is settled
 pub record IsSpread (lead : ℕ → ℕ → Type 0) (own : ℕ → ℤ) (xs : List (Option SettledZone)) : Type 0 where
   pub spreading : IsSpreading lead own xs
-  pub settled : (z : ℕ) → z < length xs → (s : SettledZone) × (entry_at xs z ≡ Some s)
+  pub settled : AllSettled xs
 
 -- a free zone to which a settled one leads, with the entry that it gets
 pub record IsLed (lead : ℕ → ℕ → Type 0) (xs : List (Option SettledZone)) (z : ℕ) (s : SettledZone) : Type 0 where
@@ -65,14 +69,14 @@ pub record IsLed (lead : ℕ → ℕ → Type 0) (xs : List (Option SettledZone)
 abbrev pub NoneLed : (ℕ → ℕ → Type 0) → List (Option SettledZone) → Type 0
 NoneLed lead xs = (y z : ℕ) (s : SettledZone) → entry_at xs y ≡ Some s → IsFree xs z → lead y z → ⊥
 
--- the free zone of the greatest value
-pub record IsGreatestFree (own : ℕ → ℤ) (xs : List (Option SettledZone)) (z : ℕ) : Type 0 where
+-- the free zone of the greatest value among the first ones
+pub record IsGreatestBefore (n : ℕ) (own : ℕ → ℤ) (xs : List (Option SettledZone)) (z : ℕ) : Type 0 where
   pub free : IsFree xs z
-  pub greatest : (u : ℕ) → IsFree xs u → own u ≤ℤ own z
+  pub greatest : (u : ℕ) → u < n → IsFree xs u → own u ≤ℤ own z
 
 -- the next zone to settle, with the entry that it gets
 pub record IsStart (lead : ℕ → ℕ → Type 0) (own : ℕ → ℤ) (xs : List (Option SettledZone)) (z : ℕ) (s : SettledZone) : Type 0 where
-  pub greatest : IsGreatestFree own xs z
+  pub greatest : IsGreatestBefore (length xs) own xs z
   pub none_led : NoneLed lead xs
   pub first : IsByItself own z s
 
@@ -109,11 +113,6 @@ NoneOver along xs b f = (y z : ℕ) → LeadsOver along y z b f → IsNotPassed 
 -- chains are no longer than a market has zones
 abbrev pub AreShort : List (Option SettledZone) → Type 0
 AreShort xs = (z : ℕ) (s : SettledZone) → entry_at xs z ≡ Some s → s.depth ≤ MOST_ZONES
-
--- the free zone of the greatest value among the first ones
-pub record IsGreatestBefore (n : ℕ) (own : ℕ → ℤ) (xs : List (Option SettledZone)) (z : ℕ) : Type 0 where
-  pub free : IsFree xs z
-  pub greatest : (u : ℕ) → u < n → IsFree xs u → own u ≤ℤ own z
 
 -- none of the first zones is free
 abbrev pub NoneFreeBefore : ℕ → List (Option SettledZone) → Type 0

@@ -1,4 +1,5 @@
 pub mod Told
+pub mod Prices
 pub mod Behind
 pub mod Money
 pub mod Totals

@@ -1,5 +1,6 @@
 -- The money of a block: its lines of operators and providers, and its ledger.
-use Rattle.std.specs.Prelude.{◌≡◌, ℕ, ◌==◌, List, Option, map, slice_index_or}
+use Rattle.std.specs.Prelude.{◌≡◌, ℕ, ◌==◌, ℤ, List, Option, length, map, slice_index_or}
+use Rattle.std.specs.List.{range_with_len}
 use Rattle.mari_units.specs.declared.numbers.Cents.{Cents}
 use Rattle.mari_units.specs.declared.numbers.Quarters.{Quarters}
 use Rattle.mari_bids.specs.Bids.{bid_numbered}
@@ -10,7 +11,7 @@ use Rattle.mari_lines.specs.declared.line.MoneyLine.{MoneyLine}
 use Rattle.mari_remain.specs.declared.books.Books.{Books}
 use Rattle.mari_remain.specs.declared.market.RunMarket.{RunMarket}
 use Rattle.mari_settle.specs.declared.ledger.OperatorLine.{OperatorLine}
-use Rattle.mari_settle.specs.Ledger.{net_of, operator_lines, provider_amounts, rents_of, scheduled_or}
+use Rattle.mari_settle.specs.Ledger.{net_of, operator_lines, provider_amount, rents_of, scheduled_or}
 use Rattle.mari_settle.specs.Lines.{map_along, nothing}
 use Rattle.mari_progress.specs.Told.{activation_of, prices_of, rents_told}
 use Rattle.mari_rows.specs.Names.{listed_once, listed_with, name_at}
@@ -37,9 +38,13 @@ each_once numbers = listed_once (λ n m. m == n) numbers
 abbrev pub providers_among : List Bid → List ℕ → List ℕ
 providers_among bids numbers = each_once (map (λ i. (bid_numbered bids i).provider) numbers)
 
--- what each provider gets in the run, whose quarter has these scheduled prices, or none
+-- what a provider gets in the run, whose quarter has these scheduled prices, or none
+abbrev pub amount_of : Books → RunMarket → (also : Option (List Cents)) → FullBlock → (provider : ℕ) → ℤ
+amount_of books made also b provider = provider_amount books.bids made.bids (activation_of b) (prices_of b) (scheduled_or (prices_of b) also) provider
+
+-- what each provider gets in it
 abbrev pub amounts_of : Books → RunMarket → (also : Option (List Cents)) → FullBlock → List Quarters
-amounts_of books made also b = provider_amounts books.bids made.bids (activation_of b) (prices_of b) (scheduled_or (prices_of b) also)
+amounts_of books made also b = map (λ provider. record { 0 = amount_of books made also b provider }) (range_with_len 0 (length books.bids.providers))
 
 -- the block tells the run's ledger: each border's rent, each operator's line, and a line for each provider of the run's
 -- bids

@@ -1,16 +1,15 @@
--- What operators and providers have over the published blocks of a day.
-use Rattle.std.specs.Prelude.{ℕ, ℤ, pos, ◌+ℤ◌, List, [], ◌∷◌, ◌++◌, fold, length, map, replicate}
+-- What operators and providers have over the published blocks of a day; a day's head and its totals.
+use Rattle.std.specs.Prelude.{◌≡◌, ℕ, ℤ, pos, ◌+ℤ◌, List, [], ◌∷◌, ◌++◌, fold, length, map, replicate}
 use Rattle.std.specs.List.{range_with_len}
 use Rattle.mari_lines.specs.declared.line.AmountLine.{AmountLine}
 use Rattle.mari_publish.specs.declared.publication.Block.{Block}
 use Rattle.mari_publish.specs.declared.publication.Block.TheVariants as block
 use Rattle.mari_lines.specs.declared.line.MoneyLine.{MoneyLine}
+use Rattle.mari_publish.specs.declared.publication.Publication.{Publication}
 use Rattle.mari_remain.specs.declared.books.Books.{Books}
-use Rattle.mari_settle.specs.Ledger.{provider_amount, scheduled_or}
 use Rattle.mari_settle.specs.Lines.{map_along, no_line, together}
 use Rattle.mari_progress.specs.Behind.{also_behind, market_behind}
-use Rattle.mari_progress.specs.Money.{money_lines_of}
-use Rattle.mari_progress.specs.Told.{activation_of, prices_of}
+use Rattle.mari_progress.specs.Money.{amount_of, money_lines_of}
 use Rattle.mari_rows.specs.Names.{name_at}
 
 -- two lines of one operator together
@@ -28,8 +27,7 @@ operator_totals books blocks = fold with_operators (money_lines_of books.zones.o
 
 -- what a provider gets in the block behind these, which is nothing unless it is published
 abbrev pub amount_in : Books → (before : List Block) → Block → (provider : ℕ) → ℤ
-amount_in books before (block.Published b) provider =
-    provider_amount books.bids (market_behind books before).bids (activation_of b) (prices_of b) (scheduled_or (prices_of b) (also_behind books before)) provider
+amount_in books before (block.Published b) provider = amount_of books (market_behind books before) (also_behind books before) b provider
 amount_in books before (block.Unpublished heading count) provider = pos 0
 
 -- and in all blocks that stand behind these
@@ -43,3 +41,13 @@ provider_total books blocks provider = record { name = name_at books.bids.provid
 
 abbrev pub provider_totals : Books → List Block → List AmountLine
 provider_totals books blocks = map (provider_total books blocks) (range_with_len 0 (length books.bids.providers))
+
+-- the first line states the date and the quarters of the books
+pub record HasHead (books : Books) (p : Publication) : Type 0 where
+  pub date : p.date ≡ books.date
+  pub quarters : p.quarters ≡ books.quarters
+
+-- the totals are the sums over the published blocks
+pub record HasTotals (books : Books) (p : Publication) : Type 0 where
+  pub operators : p.operators ≡ operator_totals books p.blocks
+  pub providers : p.providers ≡ provider_totals books p.blocks

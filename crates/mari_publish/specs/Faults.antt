@@ -56,13 +56,18 @@ pub record TruncatedAt (text : List ℕ) (n : ℕ) : Type 0 where
   pub number : n ≡ length before + 1
   pub unfinished : rest ≡ [] → (p : Publication) → HasText p → lines_of p ≡ before → ⊥
 
+-- the first fault of a text
+abbrev pub IsTextFault : List ℕ → TextFault → Type 0
+IsTextFault text (fault.BadLine n) = BadLineAt text n
+IsTextFault text (fault.BadOrder n) = BadOrderAt text n
+IsTextFault text (fault.Truncated n) = TruncatedAt text n
+IsTextFault text fault.Memory = ⊥
+
 -- what reading a text gives
 abbrev pub IsOutcome : List ℕ → Result Publication TextFault → Type 0
 IsOutcome text (Ok p) = IsText text p
-IsOutcome text (Err (fault.BadLine n)) = BadLineAt text n
-IsOutcome text (Err (fault.BadOrder n)) = BadOrderAt text n
-IsOutcome text (Err (fault.Truncated n)) = TruncatedAt text n
 IsOutcome text (Err fault.Memory) = ⊤
+IsOutcome text (Err f) = IsTextFault text f
 
 -- the answer is this one, unless memory ran out
 abbrev pub AnswersWith : Result Publication TextFault → Result Publication TextFault → Type 0

@@ -29,7 +29,7 @@ free-of books budget run made also b is fault.Lines = is.names
 free-of books budget run made also b is fault.Infeasible = is.clearing.first.optimal.admissible.feasible
 free-of books budget run made also b is fault.Welfare = is.clearing.welfare
 free-of books budget run made also b is fault.Inconsistent = is.prices.consistent
-free-of books budget run made also b is fault.Interval = record { least = is.prices.least; greatest = is.prices.greatest }
+free-of books budget run made also b is fault.Interval = is.prices.intervals
 free-of books budget run made also b is fault.Price = is.prices.published
 free-of books budget run made also b is fault.Area = is.prices.areas
 free-of books budget run made also b is fault.Tree = record {

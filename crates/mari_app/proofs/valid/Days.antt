@@ -11,11 +11,11 @@ use Rattle.mari_app.proofs.valid.Blocks.{block-is-free}
 
 pub day-is-valid : (books : Books) (nodes : ℕ) (p : Publication) → IsDay books nodes p → IsValidPublication books p
 day-is-valid books nodes p is = record {
-  head = record { date = is.date; quarters = is.quarters };
+  head = is.head;
   blocks = subst (λ (budget : ℕ). AreFree books budget p.blocks) (sym is.budget) (λ k b there any.
       let within = slice_get_within p.blocks k b there in
       let before : run_behind (take k p.blocks) ≤ length books.runs.runs = omega (arith, within, is.part.few, length-take-le k p.blocks (omega (arith, within))) in
       block-is-free books nodes (take k p.blocks) b before (is.part.each k b there) any);
   every = is.every;
-  totals = record { operators = is.operators; providers = is.providers };
+  totals = is.totals;
 }

@@ -3,4 +3,4 @@ use Rattle.mari_app.specs.Outcome.Reports.{CutOff}
 use Rattle.mari_app.proofs.saying.say.Goals as goal
 
 pub returns-in-Err-clause-reports : goal.returns-in-Err-clause-reports
-returns-in-Err-clause-reports g c = CutOff refl c.in-Err.ensures.part.0 c.in-Err.ensures.part.1
+returns-in-Err-clause-reports g c = CutOff refl c.in-Err.ensures.part

@@ -10,12 +10,13 @@ use Rattle.std.proofs.lemmas.List.{get_or-set_other, get_or_past}
 use Rattle.std.proofs.lemmas.List.Folds.{find-append}
 use Rattle.std.proofs.lemmas.List.FromFn.{get_or-map-range_with_len, length-map-range_with_len}
 use Rattle.std.proofs.lemmas.Nat.{div-mul-add, mod-mul-add}
+use Rattle.std.proofs.lemmas.Bool.{not-false}
 use Rattle.mari_rows.specs.Books.{GivesBook, book_in, first_failing}
 use Rattle.mari_rows.specs.Fields.{number_in}
 use Rattle.mari_rows.specs.Rows.{field_of}
 use Rattle.mari_rows.specs.declared.faults.BookFault.{BookFault}
 use Rattle.mari_rows.specs.declared.rows.Row.{Row}
-use Rattle.mari_rows.proofs.BookFacts.{all-passed, found-below, not-false, number-bounds}
+use Rattle.mari_rows.proofs.BookFacts.{all-passed, found-below, number-bounds}
 use Rattle.mari_rows.proofs.BookLemmas.{book-page}
 use Rattle.mari_rows.proofs.FindLemmas.{find-some, kept-none, map-some}
 use Rattle.mari_zones.specs.Borders.{zone_named}

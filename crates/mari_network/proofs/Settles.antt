@@ -1,7 +1,8 @@
 -- The answer, from where a run ends.
-use Rattle.std.proofs.Common.{◌≡◌, ◌≢◌, Bool, true, false, not, ℕ, ◌+◌, ◌-◌, ◌<◌, ◌≤◌, ℤ, pos, neg_ℤ, ◌≤ℤ◌, ◌<ℤ◌, List, [], ◌∷◌, ◌++◌, length, take, arith, refl, sym, ap, ◌∙◌, subst, map, length-append, length-drop}
+use Rattle.std.proofs.Common.{◌≡◌, ◌≢◌, true, false, ℕ, ◌+◌, ◌-◌, ◌<◌, ◌≤◌, ℤ, pos, neg_ℤ, ◌≤ℤ◌, ◌<ℤ◌, List, [], ◌∷◌, ◌++◌, length, take, arith, sym, ap, ◌∙◌, subst, map, length-append, length-drop}
 use Rattle.std.proofs.lemmas.Int.{ints, by_lt_z}
 use Rattle.std.proofs.lemmas.List.{length-map}
+use Rattle.std.proofs.lemmas.Bool.{not-true, not-false}
 use Rattle.std.specs.List.{All, AllZip}
 use lib.Signed.{lt_z}
 use Rattle.mari_units.specs.declared.Cents.{Cents}
@@ -86,14 +87,6 @@ answer_optimum spans m more n s xs fs prices e v network same runs tight flow pu
       stated = stated;
     }
 
-not_true : (b : Bool) → not b ≡ true → b ≡ false
-not_true true e = absurd (cc)
-not_true false e = refl
-
-not_false : (b : Bool) → not b ≡ false → b ≡ true
-not_false true e = refl
-not_false false e = absurd (cc)
-
 not_less : (a b : ℤ) → lt_z a b ≡ false → b ≤ℤ a
 not_less a b e = grind (arith, ints)
 
@@ -102,14 +95,14 @@ is_less a b e = grind (arith, ints)
 
 lowest : (n : ℕ) (p : ℕ → ℤ) (zones : List ℕ) → ((z : ℕ) → z < n → is_in zones z ≡ is_inside Out (p z)) → AreLowest n BEYOND p (is_in zones)
 lowest n p zones h = record {
-  yes = λ z l e. not_less (neg_ℤ BEYOND) (p z) (not_true (lt_z (neg_ℤ BEYOND) (p z)) (sym (h z l) ∙ e));
-  no = λ z l e. is_less (neg_ℤ BEYOND) (p z) (not_false (lt_z (neg_ℤ BEYOND) (p z)) (sym (h z l) ∙ e));
+  yes = λ z l e. not_less (neg_ℤ BEYOND) (p z) (not-true (lt_z (neg_ℤ BEYOND) (p z)) (sym (h z l) ∙ e));
+  no = λ z l e. is_less (neg_ℤ BEYOND) (p z) (not-false (lt_z (neg_ℤ BEYOND) (p z)) (sym (h z l) ∙ e));
 }
 
 highest : (n : ℕ) (p : ℕ → ℤ) (zones : List ℕ) → ((z : ℕ) → z < n → is_in zones z ≡ is_inside In (p z)) → AreHighest n BEYOND p (is_in zones)
 highest n p zones h = record {
-  yes = λ z l e. not_less (p z) BEYOND (not_true (lt_z (p z) BEYOND) (sym (h z l) ∙ e));
-  no = λ z l e. is_less (p z) BEYOND (not_false (lt_z (p z) BEYOND) (sym (h z l) ∙ e));
+  yes = λ z l e. not_less (p z) BEYOND (not-true (lt_z (p z) BEYOND) (sym (h z l) ∙ e));
+  no = λ z l e. is_less (p z) BEYOND (not-false (lt_z (p z) BEYOND) (sym (h z l) ∙ e));
 }
 
 -- where something stands in for an order, the zones of the least prices, or of the greatest, are a cut

@@ -1,8 +1,8 @@
 -- The lines of a publication may follow one another, and give that publication.
-use Rattle.std.proofs.Common.{◌≡◌, ◌≤◌, ◌<◌, ℕ, ◌+◌, Bool, true, cond, ◌&&◌, List, [], ◌∷◌, ◌++◌, map, length, Option, Some, None, refl, sym, ap, ◌∙◌, append_assoc, length-append, arith, eqb}
+use Rattle.std.proofs.Common.{◌≡◌, ◌≤◌, ◌<◌, ℕ, ◌+◌, Bool, true, cond, List, [], ◌∷◌, ◌++◌, map, length, Option, Some, None, refl, sym, ap, ◌∙◌, append_assoc, length-append, arith, eqb}
 use Rattle.std.specs.List.{flat_map, AllByRecursion}
 use Rattle.std.specs.Prelude.{option_and_then}
-use Rattle.std.proofs.lemmas.Bool.{lt-ltb, eq-eqb}
+use Rattle.std.proofs.lemmas.Bool.{lt-ltb, eq-eqb, and_from}
 use Rattle.std.proofs.lemmas.List.{append-nil}
 use Rattle.mari_market.specs.declared.certificate.Leaf.TheVariants as leaves
 use Rattle.mari_market.specs.declared.certificate.TreeItem.{TreeItem}
@@ -60,9 +60,6 @@ in_parts p k (x ∷ xs) ys = through p xs ys (after k k.held x) (λ q r. in_part
 pub if_true : {A : Type 0} (b : Bool) (x : A) → b ≡ true → cond b (Some x) None ≡ Some x
 if_true b x e = rw e refl
 
-pub and_true : (a b : Bool) → a ≡ true → b ≡ true → (a && b) ≡ true
-and_true a b ea eb = rw (ea, eb) refl
-
 pub kept_some : (k : Kept) (o : Option Held) (new : Held) → o ≡ Some new → keeps k o ≡ Some (kept_with k new, None)
 kept_some k o new e = rw e refl
 
@@ -100,7 +97,7 @@ borders_follow p m n h w zs before (b ∷ bs) rest some le =
     let old = listing h w zs before [] [] in
     let new = held.Listing (listing h w zs (before ++ b ∷ []) [] []) in
     let len = longer before b in
-    let o : after_listing old (line.Border b) ≡ Some new = if_true _ new (and_true _ _ (and_true _ _ (and_true _ _ (lt-ltb _ _ some) refl) refl) (lt-ltb _ _ (omega (arith, le)))) in
+    let o : after_listing old (line.Border b) ≡ Some new = if_true _ new (and_from _ _ (and_from _ _ (and_from _ _ (lt-ltb _ _ some) refl) refl) (lt-ltb _ _ (omega (arith, le)))) in
     step p (at m n (held.Listing old)) (line.Border b) (map line.Border bs ++ rest) (at m n new, None) (kept_some (at m n (held.Listing old)) _ new o)
     ∙ borders_follow p m n h w zs (before ++ b ∷ []) bs rest some (omega (arith, len, le))
     ∙ ap (λ (xs : List BorderLine). after_all p (at m n (held.Listing (listing h w zs xs [] []))) rest) (append_assoc before (b ∷ []) bs)
@@ -112,7 +109,7 @@ bids_follow p m n h w zs bs before (d ∷ ds) rest some le =
     let old = listing h w zs bs before [] in
     let new = held.Listing (listing h w zs bs (before ++ d ∷ []) []) in
     let len = longer before d in
-    let o : after_listing old (line.Bid d) ≡ Some new = if_true _ new (and_true _ _ (and_true _ _ (lt-ltb _ _ some) refl) (lt-ltb _ _ (omega (arith, le)))) in
+    let o : after_listing old (line.Bid d) ≡ Some new = if_true _ new (and_from _ _ (and_from _ _ (lt-ltb _ _ some) refl) (lt-ltb _ _ (omega (arith, le)))) in
     step p (at m n (held.Listing old)) (line.Bid d) (map line.Bid ds ++ rest) (at m n new, None) (kept_some (at m n (held.Listing old)) _ new o)
     ∙ bids_follow p m n h w zs bs (before ++ d ∷ []) ds rest some (omega (arith, len, le))
     ∙ ap (λ (xs : List BidLine). after_all p (at m n (held.Listing (listing h w zs bs xs []))) rest) (append_assoc before (d ∷ []) ds)
@@ -124,7 +121,7 @@ demands_follow p m n h w zs bs ds k before (x ∷ ms) rest some e =
     let old = listing h w zs bs ds before in
     let new = held.Listing (listing h w zs bs ds (before ++ x ∷ [])) in
     let len = longer before x in
-    let o : after_listing old (line.Demand k x) ≡ Some new = if_true _ new (and_true _ _ (lt-ltb _ _ some) (eq-eqb _ _ e)) in
+    let o : after_listing old (line.Demand k x) ≡ Some new = if_true _ new (and_from _ _ (lt-ltb _ _ some) (eq-eqb _ _ e)) in
     step p (at m n (held.Listing old)) (line.Demand k x) (demand_lines (k + 1) ms ++ rest) (at m n new, None) (kept_some (at m n (held.Listing old)) _ new o)
     ∙ demands_follow p m n h w zs bs ds (k + 1) (before ++ x ∷ []) ms rest some (omega (arith, len, e))
     ∙ ap (λ (xs : List ℕ). after_all p (at m n (held.Listing (listing h w zs bs ds xs))) rest) (append_assoc before (x ∷ []) ms)
@@ -298,7 +295,7 @@ last_follows p m n (o ∷ os) ps some few =
     total_operators_follow p m n (o ∷ []) os (map line.TotalProvider ps ++ line.Done m n ∷ []) (omega (arith, some.1))
     ∙ total_providers_follow p m n (o ∷ os) [] ps (line.Done m n ∷ []) (omega (arith, few))
     ∙ step p (at m n (held.Totals (o ∷ os) ps)) (line.Done m n) [] (at m n held.Done, Some (part.Totals (o ∷ os) ps))
-    (if_true _ (at m n held.Done, Some (part.Totals (o ∷ os) ps)) (and_true _ _ (same m) (same n)))
+    (if_true _ (at m n held.Done, Some (part.Totals (o ∷ os) ps)) (and_from _ _ (same m) (same n)))
 
 -- the lines of a publication may follow one another, and give it
 pub accepted : (p : Publication) → HasText p → after_all nothing_read nothing_kept (lines_of p) ≡ Some (p, at (published_in p.blocks) (unpublished_in p.blocks) held.Done)

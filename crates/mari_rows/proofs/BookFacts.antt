@@ -1,6 +1,6 @@
 -- What holds of a book's lines, line by line.
 use Rattle.std.proofs.Common.{◌≡◌, ◌≢◌, ◌∙◌, ◌≤◌, ◌<◌, ◌+◌, ◌==◌, ◌⊎◌, ℕ, Bool, true, false, List, [], ◌∷◌, ◌++◌, Option, Some, None, append_assoc, length, map, get_or, fold, refl, sym, ap, arith, inl, inr, if◌then◌else◌}
-use Rattle.std.specs.Prelude.{◌||◌, ℤ, pos, negsuc, neg_ℤ, nat_le, nat_lt, int_le, not, is_some, unwrap_or, option_map, count_by, position, ◌&&◌}
+use Rattle.std.specs.Prelude.{◌||◌, ℤ, pos, negsuc, neg_ℤ, nat_le, nat_lt, int_le, is_some, unwrap_or, option_map, count_by, position, ◌&&◌}
 use Rattle.std.specs.List.{AllPairs, All, position_or_len}
 use Rattle.std.specs.Option.{option_and_then}
 use Rattle.std.specs.Str.{bytes_eq}
@@ -76,11 +76,6 @@ AllPassed (check ∷ checks) = (check.0 ≡ false) × AllPassed checks
 pub all-passed : (checks : Checks) → first_failing checks ≡ None → AllPassed checks
 all-passed [] none = tt
 all-passed (check ∷ checks) none = let first = passed check checks none in (first.0, all-passed checks first.1)
-
--- a test that fails
-pub not-false : (b : Bool) → not b ≡ false → b ≡ true
-not-false true e = refl
-not-false false e = cc e
 
 -- a number that a text writes is within its bounds
 pub number-bounds : (least greatest : ℕ) (text : List ℕ) → is_some (number_in least greatest text) ≡ true

@@ -2,7 +2,7 @@
 use Rattle.std.proofs.Common.{◌≡◌, ◌==◌, if◌then◌else◌, Bool, true, false, ℕ, suc, ℤ, pos, ◌+ℤ◌, neg_ℤ, ◌≤ℤ◌, ◌<ℤ◌, ◌<◌, List, [], ◌∷◌, ◌++◌, length, arith, refl, sym, ap, subst, inl, inr, get_or}
 use Rattle.std.proofs.lemmas.Int.{ints}
 use Rattle.std.specs.List.{All, AllZip}
-use Rattle.std.proofs.lemmas.List.{length-map}
+use Rattle.std.proofs.lemmas.List.{length-map, get_or-map}
 use Rattle.std.proofs.lemmas.List.Elements.{All-head, All-tail, All-append}
 use lib.Signed.{lt_z}
 use Rattle.mari_market.specs.declared.market.Border.{Border}
@@ -16,7 +16,7 @@ use Rattle.mari_network.specs.Fits.{IsNetworkSlot}
 use Rattle.mari_flow.specs.Starts.{extra_if, extra_of, lows, offsets, extras}
 use Rattle.mari_network.proofs.Chains.{if_neg, if_none}
 use Rattle.mari_network.proofs.Fits.{network_slots, flows_fit}
-use Rattle.mari_network.proofs.Lists.{map_at, zip_append, zip_long}
+use Rattle.mari_network.proofs.Lists.{zip_append, zip_long}
 use Rattle.mari_network.proofs.Shortfalls.{sum_along-append}
 
 none_out : (z : ℕ) (b : Border) (f : ℤ) → f ≡ pos 0 → carried_out z b f ≡ pos 0
@@ -74,7 +74,7 @@ starts_running n slots bs fs a e none =
 pub extras_extra : (slots : List Slot) → All (IsExtra BEYOND) (extras slots)
 extras_extra slots = λ k d l.
     let there : k < length slots = omega (arith, length-map slots extra_of, l) in
-    subst (λ (s : Slot). IsExtra BEYOND s) (sym (map_at extra_of slots k no_slot d there)) (extra_fits (slot_at slots k)).kind
+    subst (λ (s : Slot). IsExtra BEYOND s) (sym (get_or-map extra_of slots k no_slot d there)) (extra_fits (slot_at slots k)).kind
 
 extra_network : (b : Bool) (n : ℕ) (s : Slot) → (b ≡ true → s.low <ℤ pos 0) → (b ≡ false → pos 0 ≤ℤ s.low) → IsOrderSlot n s → IsNetworkSlot n (extra_if b s)
 extra_network true n s l h f = record { zone = f.zone; small = record { low = omega (arith, ints); high = omega (arith, ints, f.low); cheap = omega (arith, ints); dear = omega (arith, ints) } }
@@ -87,4 +87,4 @@ extra_fine n s f = extra_network (lt_z s.low (pos 0)) n s (λ e. grind (arith, i
 pub all_slots : (n : ℕ) (slots : List Slot) → All (IsOrderSlot n) slots → All (IsNetworkSlot n) (slots ++ extras slots)
 all_slots n slots a = All-append (IsNetworkSlot n) slots (extras slots) (network_slots n slots a)
     (λ k d l. let there : k < length slots = omega (arith, length-map slots extra_of, l) in
-    subst (λ (s : Slot). IsNetworkSlot n s) (sym (map_at extra_of slots k no_slot d there)) (extra_fine n (get_or slots k no_slot) (a k no_slot there)))
+    subst (λ (s : Slot). IsNetworkSlot n s) (sym (get_or-map extra_of slots k no_slot d there)) (extra_fine n (get_or slots k no_slot) (a k no_slot there)))

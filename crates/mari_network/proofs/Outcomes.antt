@@ -1,6 +1,6 @@
 -- What the end of a run says of the orders: the relaxed optimum, or a cut.
 use Rattle.std.proofs.Common.{◌≡◌, ◌==◌, ℕ, suc, ◌+◌, ◌<◌, ℤ, pos, ◌+ℤ◌, neg_ℤ, ◌<ℤ◌, List, [], ◌∷◌, ◌++◌, length, get_or, map, take, drop, arith, refl, sym, ap, ◌∙◌, subst}
-use Rattle.std.proofs.lemmas.List.{length-map}
+use Rattle.std.proofs.lemmas.List.{length-map, get_or-drop, get_or-map}
 use Rattle.std.proofs.lemmas.Int.{ints}
 use Rattle.std.specs.List.{All, AllZip}
 use Rattle.mari_units.specs.declared.Cents.{Cents}
@@ -21,7 +21,7 @@ use Rattle.mari_network.specs.Levels.{AreTight}
 use Rattle.mari_market.specs.Consistent.{IsConsistentFlow}
 use Rattle.mari_network.specs.Orders.{no_order, slot_of, slots_of, IsExtra, ArePuts, capped}
 use Rattle.mari_network.specs.Network.{no_border}
-use Rattle.mari_network.proofs.Lists.{all_zip, zip_of, zip_long, zip_first, zip_rest, at_drop, map_at}
+use Rattle.mari_network.proofs.Lists.{all_zip, zip_of, zip_long, zip_first, zip_rest}
 use Rattle.mari_network.proofs.Shortfalls.{RunsSlot, RunsFlow, IsReal, AreLowest, AreHighest, out_of, into_of, least_in, most_in_slot, counts, paid_slot, paid_is_cost, shortfall_out, shortfall_in}
 use Rattle.mari_market.proofs.Duality.{cost_at}
 use Rattle.mari_network.proofs.Chains.{if_none}
@@ -42,7 +42,7 @@ reals_real : (bounds : Order → Span) (n gates : ℕ) (os : List Order) → All
 reals_real bounds n gates os v = λ k d l.
     let there : k < length os = omega (arith, length-map os (λ (o : Order). slot_of (bounds o) o), l) in
     let o_valid = v k no_order there in
-    subst (λ (s : Slot). IsReal BEYOND s) (sym (map_at (λ (o : Order). slot_of (bounds o) o) os k no_order d there))
+    subst (λ (s : Slot). IsReal BEYOND s) (sym (get_or-map (λ (o : Order). slot_of (bounds o) o) os k no_order d there))
     (record { above = omega (arith, ints, o_valid.price.low); below = omega (arith, ints, o_valid.price.high) })
 
 -- what is known where a run ends
@@ -70,7 +70,7 @@ ends_solved bounds m more a ps p xs e puts prices none =
     let all = runs bounds m more xs a.flow p e in
     optimum_from bounds m a ps p (take (length (slots_of bounds m.orders)) xs) e.valid puts prices
     (zip_first IsWithinSlot (slots_of bounds m.orders) more xs e.running.amounts) e.running.flows
-    (λ z l. omega (arith, ints, e.running.balance z l, sum_split (slot_into z) IsWithinSlot (slots_of bounds m.orders) more xs e.running.amounts, into_none z more (drop (length (slots_of bounds m.orders)) xs) (λ k h. at_drop (length (slots_of bounds m.orders)) xs k (pos 0) ∙ none k h)))
+    (λ z l. omega (arith, ints, e.running.balance z l, sum_split (slot_into z) IsWithinSlot (slots_of bounds m.orders) more xs e.running.amounts, into_none z more (drop (length (slots_of bounds m.orders)) xs) (λ k h. get_or-drop (length (slots_of bounds m.orders)) xs k (pos 0) ∙ none k h)))
     (zip_first (IsTightSlot p) (slots_of bounds m.orders) more xs (zip_of (IsTightSlot p) (slots_of bounds m.orders ++ more) xs no_slot (pos 0) (zip_long IsWithinSlot (slots_of bounds m.orders ++ more) xs e.running.amounts) e.tight.slots_tight))
     e.tight.flows_tight
 
@@ -112,7 +112,7 @@ ends_cut_out bounds m more xs fs p zones j e low there short =
     first (all_zip (IsReal BEYOND) (slots_of bounds m.orders) (take (length (slots_of bounds m.orders)) xs) (zip_long (RunsSlot m.zones p) (slots_of bounds m.orders) (take (length (slots_of bounds m.orders)) xs) first) (reals_real bounds m.zones (length m.gates) m.orders e.valid.orders))
     rest (all_zip (IsExtra BEYOND) more (drop (length (slots_of bounds m.orders)) xs) (zip_long (RunsSlot m.zones p) more (drop (length (slots_of bounds m.orders)) xs) rest) e.others)
     (flow_runs bounds m more xs fs p e) (ends_paid bounds m more xs fs p (λ z. counts (is_in zones z)) e) there
-    (subst (λ (x : ℤ). x <ℤ pos 0) (sym (at_drop (length (slots_of bounds m.orders)) xs j (pos 0))) short))
+    (subst (λ (x : ℤ). x <ℤ pos 0) (sym (get_or-drop (length (slots_of bounds m.orders)) xs j (pos 0))) short))
 
 -- where something is given, the zones of the greatest price are
 pub ends_cut_in : (bounds : Order → Span) (m : Market) (more : List Slot) (xs fs : List ℤ) (p : ℕ → ℤ) (zones : List ℕ) (j : ℕ) → Ends bounds m more xs fs p → AreHighest m.zones BEYOND p (is_in zones) → j < length more → pos 0 <ℤ int_at xs (length (slots_of bounds m.orders) + j) → CannotBalance bounds m In zones
@@ -125,4 +125,4 @@ ends_cut_in bounds m more xs fs p zones j e high there short =
     first (all_zip (IsReal BEYOND) (slots_of bounds m.orders) (take (length (slots_of bounds m.orders)) xs) (zip_long (RunsSlot m.zones p) (slots_of bounds m.orders) (take (length (slots_of bounds m.orders)) xs) first) (reals_real bounds m.zones (length m.gates) m.orders e.valid.orders))
     rest (all_zip (IsExtra BEYOND) more (drop (length (slots_of bounds m.orders)) xs) (zip_long (RunsSlot m.zones p) more (drop (length (slots_of bounds m.orders)) xs) rest) e.others)
     (flow_runs bounds m more xs fs p e) (ends_paid bounds m more xs fs p (λ z. counts (is_in zones z)) e) there
-    (subst (λ (x : ℤ). pos 0 <ℤ x) (sym (at_drop (length (slots_of bounds m.orders)) xs j (pos 0))) short))
+    (subst (λ (x : ℤ). pos 0 <ℤ x) (sym (get_or-drop (length (slots_of bounds m.orders)) xs j (pos 0))) short))

@@ -1,7 +1,7 @@
 -- The answer, from where a run ends.
 use Rattle.std.proofs.Common.{◌≡◌, ◌≢◌, true, false, ℕ, ◌+◌, ◌-◌, ◌<◌, ◌≤◌, ℤ, pos, neg_ℤ, ◌≤ℤ◌, ◌<ℤ◌, List, [], ◌∷◌, ◌++◌, length, take, arith, sym, ap, ◌∙◌, subst, map, length-append, length-drop}
 use Rattle.std.proofs.lemmas.Int.{ints, by_lt_z}
-use Rattle.std.proofs.lemmas.List.{length-map}
+use Rattle.std.proofs.lemmas.List.{length-map, get_or-map}
 use Rattle.std.proofs.lemmas.Bool.{not-true, not-false}
 use Rattle.std.specs.List.{All, AllZip}
 use lib.Signed.{lt_z}
@@ -31,7 +31,7 @@ use Rattle.mari_network.specs.Solving.{IsSolution, IsNetworkOf, AreSlotsOf}
 use Rattle.mari_market.specs.declared.market.Border.{Border}
 use Rattle.mari_network.specs.Orders.{slot_of, slots_of, ArePuts, CanPut, capped_cents, is_inside}
 use Rattle.std.specs.Int.{int_max}
-use Rattle.mari_network.proofs.Lists.{map_at, zip_long}
+use Rattle.mari_network.proofs.Lists.{zip_long}
 use Rattle.mari_network.proofs.Shortfalls.{AreLowest, AreHighest}
 use Rattle.mari_network.proofs.Transfers.{IsOptimum, capped_prices}
 use Rattle.mari_network.proofs.Outcomes.{Ends, ends_solved, ends_cut_out, ends_cut_in}
@@ -73,7 +73,7 @@ answer_optimum spans m more n s xs fs prices e v network same runs tight flow pu
     (subst (λ (gs : List ℤ). Ends spans m more xs gs (int_at prices)) (sym flow) (ends spans m more n xs fs prices e v network same runs tight))
     (subst (λ (k : ℕ). ArePuts m.orders (take k xs) s.activation.mw) (sym reals) puts)
     (λ z l. let there : z < length prices = omega arith in
-    ap (λ (cs : List Cents). price_at cs z) made ∙ ap (λ (c : Cents). c.0) (map_at capped_cents prices z (pos 0) (record { 0 = pos 0 }) there))
+    ap (λ (cs : List Cents). price_at cs z) made ∙ ap (λ (c : Cents). c.0) (get_or-map capped_cents prices z (pos 0) (record { 0 = pos 0 }) there))
     (λ j l. none (length (slots_of spans m.orders) + j) (omega arith) (omega (arith, length-drop (length (slots_of spans m.orders)) xs, l))) in
     record {
       within = best.within;

@@ -1,5 +1,5 @@
 -- What the end of a run says of the orders: the relaxed optimum, or a cut.
-use Rattle.std.proofs.Common.{◌≡◌, ◌==◌, ℕ, suc, ◌+◌, ◌<◌, ℤ, pos, ◌+ℤ◌, neg_ℤ, ◌<ℤ◌, List, [], ◌∷◌, ◌++◌, length, get_or, map, take, drop, arith, refl, sym, ap, ◌∙◌, subst}
+use Rattle.std.proofs.Common.{◌≡◌, ◌==◌, ℕ, suc, ◌+◌, ◌<◌, ℤ, pos, ◌+ℤ◌, neg_ℤ, ◌<ℤ◌, List, [], ◌∷◌, ◌++◌, length, get_or, take, drop, arith, refl, sym, ◌∙◌, subst}
 use Rattle.std.proofs.lemmas.List.{length-map, get_or-drop, get_or-map}
 use Rattle.std.proofs.lemmas.Int.{ints}
 use Rattle.std.specs.List.{All, AllZip}
@@ -26,7 +26,7 @@ use Rattle.mari_network.proofs.Shortfalls.{RunsSlot, RunsFlow, IsReal, AreLowest
 use Rattle.mari_market.proofs.Duality.{cost_at}
 use Rattle.mari_network.proofs.Chains.{if_none}
 use Rattle.mari_network.proofs.Transfers.{IsOptimum, optimum_from}
-use Rattle.mari_market.proofs.Sums.{AllZip-at}
+use Rattle.mari_market.proofs.Sums.{AllZip-at, int_sum-map}
 
 sum_split : {X Y : Type 0} (f : X → Y → ℤ) (P : X → Y → Type 0) (ss rs : List X) (ys : List Y) → AllZip P (ss ++ rs) ys → sum_along f (ss ++ rs) ys ≡ sum_along f ss (take (length ss) ys) +ℤ sum_along f rs (drop (length ss) ys)
 sum_split f P [] rs ys a = omega (arith, ints)
@@ -89,16 +89,12 @@ ends_paid bounds m more xs fs p q e =
     sym (sum_split (paid_slot q) IsWithinSlot (slots_of bounds m.orders) more xs e.running.amounts)
     ∙ paid_is_cost q m.zones (slots_of bounds m.orders ++ more) xs m.borders fs e.zones (λ k d l. let b_valid = e.valid.borders k d l in (b_valid.from, b_valid.to)) e.running.balance
 
-int_sum_map : {X Y : Type 0} (f : Y → ℤ) (g : X → Y) (xs : List X) → int_sum f (map g xs) ≡ int_sum (λ x. f (g x)) xs
-int_sum_map f g [] = refl
-int_sum_map f g (x ∷ xs) = ap (λ (v : ℤ). f (g x) +ℤ v) (int_sum_map f g xs)
-
 -- a shortfall of the orders' slots is a cut
 shortfall_is_cut_out : (bounds : Order → Span) (m : Market) (zones : List ℕ) → int_sum (out_of (is_in zones)) m.borders <ℤ int_sum (least_in (is_in zones)) (slots_of bounds m.orders) → CannotBalance bounds m Out zones
-shortfall_is_cut_out bounds m zones h = omega (arith, ints, h, int_sum_map (least_in (is_in zones)) (λ o. slot_of (bounds o) o) m.orders)
+shortfall_is_cut_out bounds m zones h = omega (arith, ints, h, int_sum-map (least_in (is_in zones)) (λ o. slot_of (bounds o) o) m.orders)
 
 shortfall_is_cut_in : (bounds : Order → Span) (m : Market) (zones : List ℕ) → int_sum (most_in_slot (is_in zones)) (slots_of bounds m.orders) <ℤ neg_ℤ (int_sum (into_of (is_in zones)) m.borders) → CannotBalance bounds m In zones
-shortfall_is_cut_in bounds m zones h = omega (arith, ints, h, int_sum_map (most_in_slot (is_in zones)) (λ o. slot_of (bounds o) o) m.orders)
+shortfall_is_cut_in bounds m zones h = omega (arith, ints, h, int_sum-map (most_in_slot (is_in zones)) (λ o. slot_of (bounds o) o) m.orders)
 
 -- where something is taken away, the zones of the least price are a cut
 pub ends_cut_out : (bounds : Order → Span) (m : Market) (more : List Slot) (xs fs : List ℤ) (p : ℕ → ℤ) (zones : List ℕ) (j : ℕ) → Ends bounds m more xs fs p → AreLowest m.zones BEYOND p (is_in zones) → j < length more → int_at xs (length (slots_of bounds m.orders) + j) <ℤ pos 0 → CannotBalance bounds m Out zones

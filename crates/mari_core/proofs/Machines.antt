@@ -48,7 +48,7 @@ greatest_same f h w [] k = refl
 greatest_same f h w (a ∷ others) zero = ap (λ (o : ℕ). max o (greatest_by (λ (x : Actor). x.offered) w others)) (h a)
 greatest_same f h w (a ∷ others) (suc k) = ap (λ (g : ℕ). max a.offered g) (greatest_same f h w others k)
 
-greatest_above : (w : ℕ) (actors : List Actor) → w ≤ greatest_by (λ (x : Actor). x.offered) w actors
+pub greatest_above : (w : ℕ) (actors : List Actor) → w ≤ greatest_by (λ (x : Actor). x.offered) w actors
 greatest_above w [] = omega arith
 greatest_above w (a ∷ others) = omega (arith, greatest_above w others)
 

@@ -42,13 +42,14 @@ module _ {X F : Type 0} (fault_of : List X → X → Option F) (P : List X → T
   pub along : (xs : List X) → P [] → HasNoFault fault_of xs → P xs
   along xs start none = from-behind [] xs start none
 
+-- a line that is not refused has no check that fails
+pub no-failing : (line : ℕ) (failing : Option ℕ) → option_map (λ number. refused.At line number) failing ≡ None → failing ≡ None
+no-failing line None none = refl
+no-failing line (Some number) none = cc none
+
 -- the same of the lines of a book
 module _ {Book : Type 0} (g : Grammar Book) (P : List Row → Type 0)
     (step : (before : List Row) (line : Row) → first_failing (g.line_checks before line) ≡ None → P before → P (before ++ line ∷ [])) where
-  no-failing : (line : ℕ) (failing : Option ℕ) → option_map (λ number. refused.At line number) failing ≡ None → failing ≡ None
-  no-failing line None none = refl
-  no-failing line (Some number) none = cc none
-
   pub along-lines : (rows : List Row) (book : Book) → IsBookOf g rows book → P [] → P rows
   along-lines rows book is start =
       along (line_refusal g) P (λ before line none. step before line (no-failing line.line (first_failing (g.line_checks before line)) none)) rows start is.lines

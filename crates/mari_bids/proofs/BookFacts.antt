@@ -12,8 +12,8 @@ use Rattle.mari_rows.specs.Rows.{field_of}
 use Rattle.mari_rows.specs.declared.faults.BookFault.{BookFault}
 use Rattle.mari_rows.specs.declared.rows.Row.{Row}
 use Rattle.mari_rows.proofs.BookLemmas.{book-page}
-use Rattle.mari_rows.proofs.BookFacts.{all-distinct, all-passed, along-lines, count_by-map, counts-at-most, distinct-more, found-below, not-false, number-bounds, places-below, read-within}
-use Rattle.std.proofs.lemmas.Bool.{and_parts}
+use Rattle.mari_rows.proofs.BookFacts.{all-distinct, all-passed, along-lines, count_by-map, counts-at-most, distinct-more, found-below, number-bounds, places-below, read-within}
+use Rattle.std.proofs.lemmas.Bool.{and_parts, not-false}
 use Rattle.mari_rows.proofs.PlaceLemmas.{length-distinct}
 use Rattle.mari_rows.proofs.RowLemmas.{length-rows_in}
 use Rattle.mari_zones.specs.declared.zones.ZoneBook.{ZoneBook}

@@ -3,7 +3,7 @@ use Rattle.std.proofs.Common.{◌≡◌, ℕ, suc, ◌<◌, ℤ, pos, Bool, true
 use Rattle.std.specs.Prelude.{◌↔◌}
 use Rattle.std.specs.List.{All, AllZip}
 use Rattle.std.proofs.lemmas.Int.{ints}
-use Rattle.std.proofs.lemmas.List.{get_or_default, length-map}
+use Rattle.std.proofs.lemmas.List.{get_or_default, length-map, get_or-map}
 use Rattle.mari_units.specs.declared.numbers.Cents.{Cents}
 use Rattle.mari_market.specs.declared.activation.Activation.{Activation}
 use Rattle.mari_market.specs.declared.market.Market.{Market}
@@ -18,7 +18,7 @@ use Rattle.mari_check.specs.Ends.{AreEndPrices}
 use Rattle.mari_check.specs.Faults.{HasIntervals}
 use Rattle.mari_check.specs.Lines.{IsInOrder, IsNearestLine, IsSamePrice}
 use Rattle.mari_progress.specs.Told.{activation_of, greatest_told, least_told, prices_of}
-use Rattle.mari_check.proofs.Zips.{map-at, same-by}
+use Rattle.mari_check.proofs.Zips.{same-by}
 
 -- lists of prices are one where they have the same price for each zone
 same-prices : (ps qs : List Cents) → length ps ≡ length qs → ((z : ℕ) → z < length ps → price_at ps z ≡ price_at qs z) → ps ≡ qs
@@ -67,13 +67,13 @@ module _ (m : Market) (b : FullBlock) (h : HasIntervals m b) where
   many = sym (length-map b.zones (λ (l : ZoneLine). l.least)) ∙ h.least.one_each
 
   least-at : (z : ℕ) → z < m.zones → (line z).least.0 ≡ price_at (least_told b) z
-  least-at z l = ap (λ (c : Cents). c.0) (map-at (λ (x : ZoneLine). x.least) b.zones z no_line (record { 0 = pos 0 }) (omega (arith, l, many)))
+  least-at z l = ap (λ (c : Cents). c.0) (sym (get_or-map (λ (x : ZoneLine). x.least) b.zones z no_line (record { 0 = pos 0 }) (omega (arith, l, many))))
 
   greatest-at : (z : ℕ) → z < m.zones → (line z).greatest.0 ≡ price_at (greatest_told b) z
-  greatest-at z l = ap (λ (c : Cents). c.0) (map-at (λ (x : ZoneLine). x.greatest) b.zones z no_line (record { 0 = pos 0 }) (omega (arith, l, many)))
+  greatest-at z l = ap (λ (c : Cents). c.0) (sym (get_or-map (λ (x : ZoneLine). x.greatest) b.zones z no_line (record { 0 = pos 0 }) (omega (arith, l, many))))
 
   price-is : (z : ℕ) → z < m.zones → (line z).price.0 ≡ price_at (prices_of b) z
-  price-is z l = ap (λ (c : Cents). c.0) (map-at (λ (x : ZoneLine). x.price) b.zones z no_line (record { 0 = pos 0 }) (omega (arith, l, many)))
+  price-is z l = ap (λ (c : Cents). c.0) (sym (get_or-map (λ (x : ZoneLine). x.price) b.zones z no_line (record { 0 = pos 0 }) (omega (arith, l, many))))
 
   in-order-at : (z : ℕ) → z < m.zones → IsInOrder (line z)
   in-order-at z l =

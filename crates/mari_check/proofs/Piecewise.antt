@@ -4,7 +4,7 @@ use Rattle.std.specs.Prelude.{IfErr, IsErrOf}
 use Rattle.std.specs.Option.{option_map}
 use Rattle.std.proofs.Math.Seq.{take-append-add, take-append_seam}
 use Rattle.std.proofs.lemmas.Bool.{cases_lt}
-use Rattle.std.proofs.lemmas.List.{append-nil, take-append-drop}
+use Rattle.std.proofs.lemmas.List.{append-nil, take-append-drop, nil_from_length}
 use Rattle.mari_io.specs.Outside.{AppendsExactly, Counts, IsOverlong, IsPiece, OpenTells, counted}
 use Rattle.mari_io.specs.declared.shelf.Fetch.{Fetch}
 use Rattle.mari_io.specs.declared.shelf.Fetch.TheVariants as fetch
@@ -304,17 +304,13 @@ module _ (books : Books) (page rest : Option (List ℕ)) (given : ℕ) (old : St
       last-piece none whole is =
           let t = left-of whole is in
           let empty : t.0 ≡ [] = (is_piece t.0 t.1).at_end.0 none in
-          let own : piece ≡ [] = nothing piece (many ∙ none) in
+          let own : piece ≡ [] = nil_from_length piece (many ∙ none) in
           let all : u.text ++ piece ≡ whole = ap (λ (xs : List ℕ). u.text ++ xs) (own ∙ sym empty) ∙ t.2 in
           let long = ap length all in
           let short = with-piece in (
             omega (arith, long, short),
             subst (λ (xs : List ℕ). IsAllRead books xs new) all read,
           )
-        where
-          nothing : (xs : List ℕ) → length xs ≡ 0 → xs ≡ []
-          nothing [] e = refl
-          nothing (x ∷ xs) e = absurd (omega (arith, e))
 
 -- ---- the whole
 

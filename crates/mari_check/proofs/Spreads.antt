@@ -1,7 +1,7 @@
 -- Values that are raised along borders.
 use Rattle.std.proofs.Common.{◌≡◌, ◌+◌, ◌<◌, ◌≤◌, ℕ, zero, suc, ℤ, Bool, true, false, ◌||◌, List, [], ◌∷◌, length, pos, set, get_or, take, arith, refl, sym, ap, ◌∙◌, subst, inl, inr, get_or-set_same, get_or-set_other, length-set}
 use Rattle.std.specs.List.{AllZip}
-use Rattle.std.proofs.lemmas.Bool.{cases_eq}
+use Rattle.std.proofs.lemmas.Bool.{cases_eq, or_parts}
 use Rattle.std.proofs.lemmas.List.Elements.{All-cons, All-from_get_or, All-head, All-tail}
 use Rattle.mari_market.specs.declared.market.Border.{Border}
 use Rattle.mari_market.proofs.Sums.{AnyZip-at, AnyZip-meets}
@@ -84,10 +84,6 @@ closed-over : (along : Along) (b : Border) (f : ℤ) (vs : List ℕ) → (LeadsO
 closed-over along b f vs on back y z (inl l) = omega (arith, on l.2, ap (λ k. get_or vs k 0) l.0, ap (λ k. get_or vs k 0) l.1)
 closed-over along b f vs on back y z (inr l) = omega (arith, back l.2, ap (λ k. get_or vs k 0) l.0, ap (λ k. get_or vs k 0) l.1)
 
-or-false : (p q : Bool) → (p || q) ≡ false → (p ≡ false) × (q ≡ false)
-or-false true q e = absurd (cc e)
-or-false false q e = (refl, e)
-
 pub both-ways-over : (along : Along) (b : Border) (f g : ℤ) → g ≡ f → (on back : Bool) (old mid new : List ℕ) (first second : Bool) → b.from < length old → b.to < length old → AreSmall old
     → (on ≡ true → LeadsOn along b g) → (LeadsOn along b g → on ≡ true) → (back ≡ true → LeadsBack along b g) → (LeadsBack along b g → back ≡ true)
     → IsRaiseIf on old b.from b.to mid first → IsRaiseIf back mid b.to b.from new second → Over along b f old new (first || second)
@@ -100,7 +96,7 @@ both-ways-over along b f g read on back old mid new first second lf lt small on_
     record {
       spreads = spreads-on lead old mid new s.spreads t.spreads;
       settled = λ e.
-          let none = or-false first second e in
+          let none = or_parts first second e in
           let same : new ≡ old = t.same none.1 ∙ s.same none.0 in (
             same,
             subst (λ (vs : List ℕ). IsClosedOver along vs b f) (sym same)

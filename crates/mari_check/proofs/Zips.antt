@@ -56,11 +56,6 @@ same-zip {X} R h xs ys e = let all = map-itself xs ∙ e ∙ sym (map-itself ys)
 pub same-by : {X : Type 0} (R : X → X → Type 0) → ((x y : X) → R x y → x ≡ y) → ((x y : X) → x ≡ y → R x y) → (xs ys : List X) (b : Bool) → (b ≡ true) ↔ AllZip R xs ys → (b ≡ true) ↔ (xs ≡ ys)
 same-by R to from xs ys b test = (λ t. zip-same R to xs ys (test.0 t), λ e. test.1 (same-zip R from xs ys e))
 
-pub map-at : {X Z : Type 0} (f : X → Z) (xs : List X) (i : ℕ) (d : X) (e : Z) → i < length xs → f (get_or xs i d) ≡ get_or (map f xs) i e
-map-at f [] i d e l = absurd (omega arith)
-map-at f (x ∷ xs) zero d e l = refl
-map-at f (x ∷ xs) (suc i) d e l = map-at f xs i d e (omega arith)
-
 pub along-at : {X Y Z : Type 0} (f : X → Y → Z) (xs : List X) (ys : List Y) (i : ℕ) (c : X) (d : Y) (e : Z) → i < length xs → i < length ys → f (get_or xs i c) (get_or ys i d) ≡ get_or (map_along f xs ys) i e
 along-at f [] ys i c d e l m = absurd (omega arith)
 along-at f (x ∷ xs) [] i c d e l m = absurd (omega arith)

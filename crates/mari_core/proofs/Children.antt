@@ -5,7 +5,7 @@ use Rattle.std.specs.List.{All}
 use Rattle.std.specs.Option.{option_map}
 use Rattle.std.proofs.lemmas.Int.{ints}
 use Rattle.std.proofs.lemmas.Bool.{cases_eq, cases_lt}
-use Rattle.std.proofs.lemmas.List.{take_all, take-append-le}
+use Rattle.std.proofs.lemmas.List.{take_all, take-append-le, get_or_append_left}
 use Rattle.std.proofs.lemmas.List.Elements.{All-append, All-cons, All-nil}
 use Rattle.std.proofs.lemmas.List.Quantifiers.{all_pairs_push}
 use Rattle.std.proofs.lemmas.Option.{slice_get-map, slice_get_within, get_or_from_slice_get, slice_get-get_or}
@@ -99,11 +99,6 @@ apart_at_end (x ∷ w) e = apart_at_end w (cc)
 abbrev Distinct : List (List Bool) → Type 0
 Distinct words = AllPairs (λ (x y : List Bool). x ≢ y) words
 
-get_front_or : (xs ys : List (List Bool)) (k : ℕ) (e : List Bool) → k < length xs → get_or (xs ++ ys) k e ≡ get_or xs k e
-get_front_or [] ys k e l = absurd (omega arith)
-get_front_or (x ∷ xs) ys zero e l = refl
-get_front_or (x ∷ xs) ys (suc k) e l = get_front_or xs ys k e (omega arith)
-
 get_last : (xs : List (List Bool)) (y : List Bool) (k : ℕ) (e : List Bool) → k ≡ length xs → get_or (xs ++ y ∷ []) k e ≡ y
 get_last [] y zero e h = refl
 get_last [] y (suc k) e h = absurd (omega arith)
@@ -121,7 +116,7 @@ distinct_with words w true d new =
     earlier : (k : ℕ) (e : List Bool) → k < length (words ++ (w ++ false ∷ []) ∷ []) → get_or (words ++ (w ++ false ∷ []) ∷ []) k e ≡ w ++ true ∷ [] → ⊥
     earlier k e l same = elim (cases_eq k (length words)) [
       | inl last ↦ apart_at_end w (sym (sym (get_last words (w ++ false ∷ []) k e last) ∙ same))
-      | inr other ↦ let front : k < length words = omega (arith, other, l, length-append words ((w ++ false ∷ []) ∷ [])) in new k e true front (sym (get_front_or words ((w ++ false ∷ []) ∷ []) k e front) ∙ same)
+      | inr other ↦ let front : k < length words = omega (arith, other, l, length-append words ((w ++ false ∷ []) ∷ [])) in new k e true front (sym (get_or_append_left words ((w ++ false ∷ []) ∷ []) e k front) ∙ same)
     ]
 
 are_nodes : (m : Market) (w : List Bool) (may : Bool) → may_open m.gates w (length w) ≡ may → IsNode m w → IsPromising m w → length w < length m.gates → All (IsNode m) (child_words w may)

@@ -9,7 +9,7 @@ use Rattle.std.specs.Prelude.{slice_get}
 use Rattle.std.specs.Option.{option_map}
 use Rattle.std.proofs.lemmas.Bool.{cases_eq, cases_lt, eqb-true}
 use Rattle.std.proofs.lemmas.Bool.Decides.{nat_tests}
-use Rattle.std.proofs.lemmas.Option.{slice_get_within, slice_get_read}
+use Rattle.std.proofs.lemmas.Option.{slice_get_within, slice_get_read, slice_get-get_or}
 use Rattle.mari_market.specs.Prefix.{children, word_of, IsFeasibleWord, IsFeasiblePrefix, IsCleared, child_words}
 use Rattle.mari_market.specs.Tree.{LeafHolds}
 use Rattle.mari_core.specs.declared.node.NodeState.{NodeState}
@@ -21,7 +21,7 @@ use Rattle.mari_core.specs.declared.event.StepFault.TheVariants.{NotTaken}
 use Rattle.mari_core.specs.Growth.Entry.{Take, Close, Branch, Full, GiveBack}
 use Rattle.mari_core.proofs.Lists.{changed_same}
 use Rattle.mari_units.proofs.Lists.{get_front}
-use Rattle.mari_core.proofs.Changes.{IsAt, node_at, word_of_node, length-with_state, state_other}
+use Rattle.mari_core.proofs.Changes.{IsAt, node_at, word_of_node, length-with_state, state_other, state_same}
 use Rattle.mari_core.proofs.Keeps.{leaf_kept, crowded_stays}
 use Rattle.mari_core.proofs.Children.{promising_by}
 use Rattle.mari_core.proofs.Branching.{branch_kept}
@@ -95,9 +95,7 @@ not_untaken : (s : NodeState) → (s ≡ Untaken → ⊥) → Some s ≡ Some Un
 not_untaken s n e = n (cc)
 
 state_in : (s : NodeState) (nodes : List TreeNode) (x : ℕ) → x < length nodes → state_at (with_state s nodes x) x ≡ Some s
-state_in s [] x l = absurd (omega arith)
-state_in s (n ∷ nodes) zero l = refl
-state_in s (n ∷ nodes) (suc x) l = state_in s nodes x (omega arith)
+state_in s nodes x l = state_same s nodes x (get_or nodes x (new_node [])) (slice_get-get_or nodes x (new_node []) l)
 
 -- before the next node none waits, after a node got a state in which it doesn't wait
 pub none_before_still : (s : NodeState) (nodes : List TreeNode) (x next : ℕ) → (s ≡ Untaken → ⊥) → x < length nodes → IsNext nodes next → (y : ℕ) → y < next → state_at (with_state s nodes x) y ≡ Some Untaken → ⊥

@@ -1,13 +1,13 @@
 -- Certificates of the nodes in preorder.
 use Rattle.std.proofs.Common.{◌≡◌, true, false, ℕ, zero, suc, ◌+◌, ◌<◌, ◌≤◌, List, [], ◌∷◌, ◌++◌, length, map, take, drop, get_or, Some, arith, refl, sym, ap, subst, ◌∙◌}
 use Rattle.std.specs.List.{All}
-use Rattle.std.proofs.lemmas.List.{take_more, take_all}
+use Rattle.std.proofs.lemmas.List.{take_more, take_all, map_more}
 use Rattle.std.proofs.lemmas.List.Elements.{All-append, All-cons, All-nil}
 use Rattle.mari_market.specs.declared.certificate.TreeItem.{TreeItem}
 use Rattle.mari_core.specs.declared.node.NodeState.{NodeState}
 use Rattle.mari_core.specs.Nodes.{TreeNode, state_at}
 use Rattle.mari_core.specs.Preorder.{IsPreorder, IsTree, IsFirstOpen, is_done, tree_item}
-use Rattle.mari_core.proofs.Walks.{map_more, map_all}
+use Rattle.mari_core.proofs.Walks.{map_all}
 
 -- what was visited is done and in the items
 pub record Visited (nodes : List TreeNode) (items : List TreeItem) (visited : List ℕ) : Type 0 where

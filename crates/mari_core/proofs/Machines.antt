@@ -33,6 +33,7 @@ use Rattle.mari_core.specs.declared.event.Event.TheVariants.{Settle}
 use Rattle.mari_core.proofs.Lists.{length-changed, all_changed, all_get}
 use Rattle.mari_core.proofs.Seeds.{seed_grows}
 use Rattle.std.proofs.lemmas.Bool.{eqb-true}
+use Rattle.std.proofs.lemmas.List.{length-replicate}
 
 -- ---- the actors
 
@@ -47,7 +48,7 @@ greatest_same f h w [] k = refl
 greatest_same f h w (a ∷ others) zero = ap (λ (o : ℕ). max o (greatest_by (λ (x : Actor). x.offered) w others)) (h a)
 greatest_same f h w (a ∷ others) (suc k) = ap (λ (g : ℕ). max a.offered g) (greatest_same f h w others k)
 
-greatest_above : (w : ℕ) (actors : List Actor) → w ≤ greatest_by (λ (x : Actor). x.offered) w actors
+pub greatest_above : (w : ℕ) (actors : List Actor) → w ≤ greatest_by (λ (x : Actor). x.offered) w actors
 greatest_above w [] = omega arith
 greatest_above w (a ∷ others) = omega (arith, greatest_above w others)
 
@@ -201,10 +202,6 @@ greatest_new : (w n : ℕ) → w ≡ greatest_by (λ (x : Actor). x.offered) w (
 greatest_new w zero = refl
 greatest_new w (suc n) = omega (arith, greatest_new w n)
 
-length_replicated : (n : ℕ) (a : Actor) → length (replicate n a) ≡ n
-length_replicated zero a = refl
-length_replicated (suc n) a = ap suc (length_replicated n a)
-
 pub start_keeps : (m : Market) (n budget : ℕ) (first : Attained) → IsValid m → 1 ≤ n → IsAttained m first → IsClosedWelfare m (pos first.welfare) → IsBudget budget → KeepsFacts (started m n first budget)
 start_keeps m n budget first v l a c b = record {
   tree = seed_grows m budget v b;
@@ -212,7 +209,7 @@ start_keeps m n budget first v l a c b = record {
   attained = a;
   closed = c;
   incumbent_is = greatest_new first.welfare n;
-  some_actor = omega (arith, l, length_replicated n (new_actor first.welfare));
+  some_actor = omega (arith, l, length-replicate n (new_actor first.welfare));
   actors_are = replicated m first.welfare n;
 }
 

@@ -119,10 +119,10 @@ part_has_all nodes items p = ap length p.items_are ∙ length-map p.numbers (λ 
 
 -- ---- its leaves
 
-contains_head : (w : List Bool) (ws : List (List Bool)) → Contains (w ∷ ws) w
+pub contains_head : (w : List Bool) (ws : List (List Bool)) → Contains (w ∷ ws) w
 contains_head w ws = (0, omega arith, refl)
 
-contains_tail : (w v : List Bool) (ws : List (List Bool)) → Contains ws w → Contains (v ∷ ws) w
+pub contains_tail : (w v : List Bool) (ws : List (List Bool)) → Contains ws w → Contains (v ∷ ws) w
 contains_tail w v ws c = (suc c.0, omega (arith, c.1), c.2)
 
 leaf_here : (m : Market) (s : NodeState) (word : List Bool) (words : List (List Bool)) (items : List PartItem) → is_branched s ≡ false → Contains (leaves_of m (word ∷ words) (part_item (Some s) ∷ items)) word

@@ -1,7 +1,7 @@
 -- A walk through the nodes in preorder, with a stack of the numbers that wait.
 use Rattle.std.proofs.Common.{◌≡◌, ℕ, zero, suc, ◌+◌, ◌<◌, ◌≤◌, if◌then◌else◌, nat_lt, List, [], ◌∷◌, ◌++◌, length, map, take, get_or, reverse, Option, Some, arith, sym, ap, subst, ◌∙◌, append_assoc, length-append}
 use Rattle.std.proofs.lemmas.Bool.Decides.{nat_tests}
-use Rattle.std.proofs.lemmas.List.{append-nil, reverse-append, reverse-reverse, map-append, take_more, take_all}
+use Rattle.std.proofs.lemmas.List.{append-nil, reverse-append, reverse-reverse, take_all}
 use Rattle.mari_core.specs.declared.node.NodeState.{NodeState}
 use Rattle.mari_core.specs.Nodes.{TreeNode, state_at, child_numbers, numbers_below, children_of}
 use Rattle.mari_core.specs.Preorder.{IsWalk, IsPreorder, HasPreorder, occurs}
@@ -71,9 +71,6 @@ occurs_at (n ∷ ns) (suc i) d l = omega (arith, occurs_at ns i d (omega arith))
 
 pub item_within : (nodes : List TreeNode) (ns : List ℕ) (i d : ℕ) → IsPreorder nodes ns → i < length ns → get_or ns i d < length nodes
 item_within nodes ns i d p l = test_lt (get_or ns i d) (length nodes) (occurs (get_or ns i d) ns) (occurs_at ns i d l) (p.once (get_or ns i d))
-
-pub map_more : {X : Type 0} (f : ℕ → X) (ns : List ℕ) (i d : ℕ) → i < length ns → map f (take (i + 1) ns) ≡ map f (take i ns) ++ f (get_or ns i d) ∷ []
-map_more f ns i d l = ap (map f) (take_more ns i d l) ∙ map-append f (take i ns) (get_or ns i d ∷ [])
 
 pub map_all : {X : Type 0} (f : ℕ → X) (ns : List ℕ) (i : ℕ) → length ns ≤ i → map f (take i ns) ≡ map f ns
 map_all f ns i l = ap (map f) (take_all i ns l)

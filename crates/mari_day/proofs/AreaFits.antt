@@ -8,7 +8,8 @@ use Rattle.mari_market.specs.declared.activation.Activation.{Activation}
 use Rattle.mari_market.specs.declared.market.Market.{Market}
 use Rattle.mari_market.specs.Area.{AreAreas, area_at}
 use Rattle.mari_market.specs.Interval.{AreLeastPrices, AreGreatestPrices}
-use Rattle.mari_market.specs.Price.{IsCapped, IsPrice, ArePrices, price_at}
+use Rattle.mari_market.specs.Price.{IsCapped, IsPrice}
+use Rattle.mari_market.proofs.Conflicts.{price_in_cap}
 use Rattle.mari_lines.specs.Ranges.{Between}
 
 module _ (m : Market) (a : Activation) where
@@ -35,17 +36,14 @@ module _ (m : Market) (a : Activation) where
       let there : z < m.zones = omega (arith, is.one_each) in
       (is.from_one z there, omega (arith, area-most areas is z z (omega arith) there)))
 
-  priced-at : (ps : List Cents) (z : ℕ) → ArePrices m ps → z < m.zones → IsPrice (price_at ps z)
-  priced-at ps z p there = p.capped z _ (omega (arith, p.one_each))
-
   pub least-fit : (ps : List Cents) → AreLeastPrices m a ps → All IsCapped ps
   least-fit ps is = All-from_get_or IsCapped ps _ (λ z l.
       let there : z < m.zones = omega (arith, is.one_each) in
       let at = (is.each z there).reached in
-      subst IsPrice at.2 (priced-at at.0 z at.1.prices there))
+      subst IsPrice at.2 (price_in_cap m at.0 at.1.prices z))
 
   pub greatest-fit : (ps : List Cents) → AreGreatestPrices m a ps → All IsCapped ps
   greatest-fit ps is = All-from_get_or IsCapped ps _ (λ z l.
       let there : z < m.zones = omega (arith, is.one_each) in
       let at = (is.each z there).reached in
-      subst IsPrice at.2 (priced-at at.0 z at.1.prices there))
+      subst IsPrice at.2 (price_in_cap m at.0 at.1.prices z))

@@ -3,9 +3,14 @@ use Rattle.std.proofs.Common.{◌≡◌, ℕ, ◌+◌, ◌*◌, ◌-◌, Bool, t
 use Rattle.std.specs.Prelude.{◌&&◌, ◌==◌, is_some, slice_index, Result}
 use Rattle.std.specs.Char.{is_ascii_digit}
 use Rattle.std.proofs.lemmas.Bool.{eqb-true, and_parts}
+<<<<<<< HEAD
 use Rattle.mari_units.specs.Names.{is_name_byte}
 use Rattle.mari_units.specs.Numbers.{two_digits}
 use Rattle.mari_calendar.specs.Dates.{day_by, day_in, number_at}
+=======
+use Rattle.mari_units.proofs.Digits.{digit_name}
+use Rattle.mari_calendar.specs.Dates.{day_by, day_in, number_at}
+>>>>>>> 211f5d207d322dd4491e53210ad65574d8fac99d
 use Rattle.mari_calendar.specs.Midnights.{◌>>>◌, or_fault, quarters_at}
 use Rattle.mari_calendar.specs.declared.quarters.CalendarFault.{CalendarFault}
 use Rattle.mari_calendar.specs.declared.quarters.CalendarFault.TheVariants.{BadDate}
@@ -33,14 +38,11 @@ all-pairs (Some h) None m d date e = cc e
 all-pairs (Some h) (Some y) None d date e = cc e
 all-pairs (Some h) (Some y) (Some m) None date e = cc e
 
-name-digit : (b : ℕ) → is_ascii_digit b ≡ true → is_name_byte b ≡ true
-name-digit b e = rw e refl
-
 -- ten bytes, of which the fifth and the eighth are hyphens and the others digits
 ten : (a b c d e f g h i j : ℕ) → AreDigits a b → AreDigits c d → e ≡ 45 → AreDigits f g → h ≡ 45 → AreDigits i j
     → IsDate (a ∷ b ∷ c ∷ d ∷ e ∷ f ∷ g ∷ h ∷ i ∷ j ∷ [])
 ten a b c d e f g h i j ab cd e45 fg h45 ij = (
-  rw (name-digit a ab.0, name-digit b ab.1, name-digit c cd.0, name-digit d cd.1, e45, name-digit f fg.0, name-digit g fg.1, h45, name-digit i ij.0, name-digit j ij.1) refl,
+  rw (digit_name a ab.0, digit_name b ab.1, digit_name c cd.0, digit_name d cd.1, e45, digit_name f fg.0, digit_name g fg.1, h45, digit_name i ij.0, digit_name j ij.1) refl,
   rw (ab.0, ab.1, cd.0, cd.1, e45, fg.0, fg.1, h45, ij.0, ij.1) refl,
 )
 

@@ -19,8 +19,8 @@ use Rattle.mari_rows.specs.Rows.{field_of}
 use Rattle.mari_rows.specs.declared.faults.BookFault.{BookFault}
 use Rattle.mari_rows.specs.declared.rows.Row.{Row}
 use Rattle.mari_rows.proofs.BookLemmas.{book-page}
-use Rattle.mari_rows.proofs.BookFacts.{all-passed, along-lines, count_by-map, counts-at-most, found-below, not-false, number-bounds, price-within, read-within}
-use Rattle.std.proofs.lemmas.Bool.{and_parts}
+use Rattle.mari_rows.proofs.BookFacts.{all-passed, along-lines, count_by-map, counts-at-most, found-below, number-bounds, price-within, read-within}
+use Rattle.std.proofs.lemmas.Bool.{and_parts, or_parts, not-false}
 use Rattle.mari_zones.specs.declared.zones.ZoneBook.{ZoneBook}
 use Rattle.mari_demands.specs.Runs.{IsBefore, IsRun, IsRunBook, comes_too_late, is_direct, is_number_below, last_quarter, quarter_at, quarter_in, run_book, run_checks, run_grammar, run_of}
 use Rattle.mari_demands.specs.declared.runs.Run.{Run}
@@ -61,10 +61,6 @@ in_time quarters last row some fits = by (whole_of (field_of row 1)) some fits
     by (Some (negsuc n)) s late = cc s
     by (Some (pos n)) s late = either n (nat_le 1 n) (nat_le n quarters) (unwrap_or (is_direct row) false) refl refl s late
 
-both-false : (a b : Bool) → (a || b) ≡ false → (a ≡ false) × (b ≡ false)
-both-false true b e = cc e
-both-false false b e = (refl, e)
-
 module _ (quarters : ℕ) where
   -- what holds of the lines of runs so far
   record AreRuns (rows : List Row) : Type 0 where
@@ -87,7 +83,7 @@ module _ (quarters : ℕ) where
       let stated = not-false _ all.1.1.1.0 in
       let quarter = number-bounds 1 quarters (field_of line 1) stated in
       let room : length before < 1000 = grind (arith, nat_tests, all.0) in
-      let in_time = both-false (not (is_some (number_in (length before + 1) (length before + 1) (field_of line 0)))) (comes_too_late (last_quarter quarters before) line) all.1.1.0 in
+      let in_time = or_parts (not (is_some (number_in (length before + 1) (length before + 1) (field_of line 0)))) (comes_too_late (last_quarter quarters before) line) all.1.1.0 in
       let next : (a : Run) → a.quarter ≤ unwrap_or (last_quarter quarters before) 0 → IsBefore a (run_of quarters line) = λ a most. behind a line (last_quarter quarters before) most stated quarter.0 in_time.1 in
       let last : last_quarter quarters (before ++ line ∷ []) ≡ Some (quarter_at quarters line) = fold-append (λ before row. Some (quarter_at quarters row)) None before (line ∷ []) in
       record {

@@ -10,32 +10,29 @@ use Rattle.std.proofs.lemmas.List.{get_or-set_other, get_or_past}
 use Rattle.std.proofs.lemmas.List.Folds.{find-append}
 use Rattle.std.proofs.lemmas.List.FromFn.{get_or-map-range_with_len, length-map-range_with_len}
 use Rattle.std.proofs.lemmas.Nat.{div-mul-add, mod-mul-add}
+use Rattle.std.proofs.lemmas.Bool.{not-false}
 use Rattle.mari_rows.specs.Books.{GivesBook, book_in, first_failing}
 use Rattle.mari_rows.specs.Fields.{number_in}
 use Rattle.mari_rows.specs.Rows.{field_of}
 use Rattle.mari_rows.specs.declared.faults.BookFault.{BookFault}
 use Rattle.mari_rows.specs.declared.rows.Row.{Row}
-use Rattle.mari_rows.proofs.BookFacts.{all-passed, found-below, not-false, number-bounds}
+use Rattle.mari_rows.proofs.BookFacts.{all-passed, found-below, number-bounds}
 use Rattle.mari_rows.proofs.BookLemmas.{book-page}
 use Rattle.mari_rows.proofs.FindLemmas.{find-some, kept-none, map-some}
 use Rattle.mari_zones.specs.Borders.{zone_named}
 use Rattle.mari_zones.specs.declared.borders.BorderBook.{BorderBook}
 use Rattle.mari_zones.specs.declared.borders.BorderEnds.{BorderEnds}
 use Rattle.mari_zones.specs.declared.zones.ZoneBook.{ZoneBook}
+use Rattle.mari_units.proofs.Lists.{same_map}
 use Rattle.mari_demands.specs.Demands.{run_at}
 use Rattle.mari_demands.specs.LimitPairs.{IsLimitTable, limits_in, limits_there, no_limits, table_of}
 use Rattle.mari_demands.specs.Limits.{border_at, is_of, leads, limit_grammar, limit_table, limits_at, name_checks, pair_place, stated}
 use Rattle.mari_demands.specs.declared.limits.Limits.{Limits}
 use Rattle.mari_demands.proofs.LimitTables.{place-within}
-use Rattle.mari_units.proofs.Lists.{same_over}
 
 or-none : {X : Type 0} (o : Option X) → option_or o None ≡ o
 or-none None = refl
 or-none (Some x) = refl
-
--- tables that agree at each of their places
-same-map : {X : Type 0} (f g : ℕ → X) (n : ℕ) → ((k : ℕ) → k < n → f k ≡ g k) → map f (range_with_len 0 n) ≡ map g (range_with_len 0 n)
-same-map f g n e = same_over f g 0 n (λ k low high. e k (omega (arith, high)))
 
 -- a border that is found is one of the book
 border-below : (borders : List BorderEnds) (from to : Option ℕ)
@@ -158,9 +155,9 @@ module _ (zones : ZoneBook) (borders : BorderBook) (runs : ℕ) where
   -- what is kept of all lines is their table
   pub kept-table : (rows : List Row) (limits : List (Option Limits)) → Keeps rows limits → table_of runs (length borders.borders) limits ≡ limit_table zones borders runs rows
   kept-table rows limits keeps =
-      same-map (λ run. map (λ border. limits_there limits (run * length borders.borders + border)) (range_with_len 0 (length borders.borders)))
+      same_map (λ run. map (λ border. limits_there limits (run * length borders.borders + border)) (range_with_len 0 (length borders.borders)))
       (λ run. map (λ border. unwrap_or (stated zones borders runs rows (run + 1) border) no_limits) (range_with_len 0 (length borders.borders))) runs
-      (λ run r. same-map (λ border. limits_there limits (run * length borders.borders + border)) (λ border. unwrap_or (stated zones borders runs rows (run + 1) border) no_limits)
+      (λ run r. same_map (λ border. limits_there limits (run * length borders.borders + border)) (λ border. unwrap_or (stated zones borders runs rows (run + 1) border) no_limits)
       (length borders.borders) (λ border b. ap (λ o. unwrap_or o no_limits) (keeps run border r b)))
 
   stated-in-range : (o : Option Row) → AreInRange (unwrap_or (option_map limits_at o) no_limits)

@@ -23,7 +23,7 @@ use Rattle.mari_market.proofs.Search.{parents_earlier}
 use Rattle.mari_market.proofs.Words.{begins_own, length-gate_word_of, word_is_feasible}
 use Rattle.mari_gates.proofs.Decisions.{opens-decisions, length-decisions}
 use Rattle.std.proofs.lemmas.Slice.Zip.{AllZip-long}
-use Rattle.mari_units.proofs.Lists.{same_over}
+use Rattle.mari_units.proofs.Lists.{same_map}
 
 -- a prefix that decides no gate has no bit that is 1
 pub none_set : (x : Prefix) (g : ℕ) → word_of x ≡ [] → IsCleared x → g < 512 → bit_of x g ≡ false
@@ -42,9 +42,6 @@ few_at m os i d v e l = of_gate (get_or os i d).gate (subst (λ (xs : List Order
     of_gate : (gate : Option ℕ) → MatchOption gate ((get_or os i d).least ≡ 0) (λ g. (g < length m.gates) × (1 ≤ (get_or os i d).least)) → IfSome gate (λ g. g < 512)
     of_gate None f = tt
     of_gate (Some g) f = omega (arith, f.0, v.few_gates)
-
-pub same_map : (f g : ℕ → Bool) (n : ℕ) → ((k : ℕ) → k < n → f k ≡ g k) → map f (range_with_len 0 n) ≡ map g (range_with_len 0 n)
-same_map f g n e = same_over f g 0 n (λ k low high. e k (omega (arith, high)))
 
 -- ---- the answer
 

@@ -1,6 +1,6 @@
 -- The words that wait in a walk through a tree in preorder.
 use Rattle.std.proofs.Common.{◌≡◌, if◌then◌else◌, Bool, true, false, ℕ, zero, suc, ◌<◌, ◌≤◌, List, [], ◌∷◌, ◌++◌, length, take, Some, arith, subst, refl, sym, ap, ◌∙◌, length-append}
-use Rattle.std.proofs.lemmas.List.{take_all}
+use Rattle.std.proofs.lemmas.List.{take_all, take-append-le}
 use Rattle.mari_market.specs.declared.market.GateInfo.{GateInfo}
 use Rattle.mari_market.specs.declared.market.Market.{Market}
 use Rattle.mari_market.specs.declared.prefix.Prefix.{Prefix}
@@ -12,16 +12,11 @@ use Rattle.mari_market.specs.Gates.{ParentsEarlier}
 use Rattle.mari_gates.proofs.Decisions.{length-decisions}
 use Rattle.mari_gates.specs.Preorder.{opened_child, waiting, waiting_after, left_at}
 
-take_front : (n : ℕ) (w v : List Bool) → n ≤ length w → take n (w ++ v) ≡ take n w
-take_front zero w v h = refl
-take_front (suc n) [] v h = absurd (omega arith)
-take_front (suc n) (b ∷ w) v h = ap (λ (u : List Bool). b ∷ u) (take_front n w v (omega arith))
-
 waiting_front : (gates : List GateInfo) (w v : List Bool) (n : ℕ) → n ≤ length w → waiting gates (w ++ v) n ≡ waiting gates w n
 waiting_front gates w v zero h = refl
 waiting_front gates w v (suc n) h =
     ap (λ (b : Bool). (if b then [] else opened_child gates (take n (w ++ v))) ++ waiting gates (w ++ v) n) (opens_front w v n (omega arith))
-    ∙ ap (λ (u : List Bool). (if opens_in w n then [] else opened_child gates u) ++ waiting gates (w ++ v) n) (take_front n w v (omega arith))
+    ∙ ap (λ (u : List Bool). (if opens_in w n then [] else opened_child gates u) ++ waiting gates (w ++ v) n) (take-append-le n w v (omega arith))
     ∙ ap (λ (ws : List (List Bool)). (if opens_in w n then [] else opened_child gates (take n w)) ++ ws) (waiting_front gates w v n (omega arith))
 
 -- behind one decision more waits the open child of a closed gate
@@ -30,7 +25,7 @@ waiting_push gates w b =
     let long : length (w ++ b ∷ []) ≡ suc (length w) = omega (arith, length-append w (b ∷ [])) in
     ap (waiting gates (w ++ b ∷ [])) long
     ∙ ap (λ (c : Bool). (if c then [] else opened_child gates (take (length w) (w ++ b ∷ []))) ++ waiting gates (w ++ b ∷ []) (length w)) (opens_past w b)
-    ∙ ap (λ (u : List Bool). (if b then [] else opened_child gates u) ++ waiting gates (w ++ b ∷ []) (length w)) (take_front (length w) w (b ∷ []) (omega arith) ∙ take_all (length w) w (omega arith))
+    ∙ ap (λ (u : List Bool). (if b then [] else opened_child gates u) ++ waiting gates (w ++ b ∷ []) (length w)) (take-append-le (length w) w (b ∷ []) (omega arith) ∙ take_all (length w) w (omega arith))
     ∙ ap (λ (ws : List (List Bool)). (if b then [] else opened_child gates w) ++ ws) (waiting_front gates w (b ∷ []) (length w) (omega arith))
 
 same_tail : (w : List Bool) (xs ys : List (List Bool)) → (w ∷ xs) ≡ (w ∷ ys) → xs ≡ ys

@@ -1,10 +1,9 @@
 -- A list that is gathered from words, one of each word.
-use Rattle.std.proofs.Common.{◌≡◌, ◌≤◌, ◌<◌, ℕ, suc, zero, ◌+◌, ◌^◌, List, [], ◌∷◌, ◌++◌, map, length, Result, Err, refl, sym, ap, ◌∙◌, arith, append_assoc, length-append}
+use Rattle.std.proofs.Common.{◌≡◌, ◌≤◌, ◌<◌, ℕ, suc, zero, ◌+◌, List, [], ◌∷◌, ◌++◌, map, length, Result, Err, refl, sym, ap, ◌∙◌, arith, append_assoc, length-append}
 use Rattle.std.specs.List.{All}
-use Rattle.std.specs.Fmt.{decimal}
 use Rattle.std.proofs.lemmas.Fmt.{decimal_injective}
 use Rattle.mari_market.specs.Cut.{IsRising}
-use Rattle.std.proofs.lemmas.List.{append-nil, map-append}
+use Rattle.std.proofs.lemmas.List.{append-nil, map-append, length-map}
 use Rattle.std.proofs.lemmas.List.Elements.{All-nil, All-append}
 use Rattle.mari_lines.specs.declared.fault.FormFault.{FormFault}
 use Rattle.mari_lines.specs.Ranges.{Listed, IsZone}
@@ -50,20 +49,16 @@ pub begun_unread : {X : Type 0} (R : X → Type 0) (f : X → List ℕ) (least m
     → Begun R f most xs ws all → ws ≡ w ∷ left → Reads R f w (Err e) → (x : FormFault) × (result ≡ Err x) × (x ≡ e) → Reads (Listed least most R) (map f) all result
 begun_unread R f least most xs w ws left all e result b next none is = handed_on R f w (Listed least most R) (map f) all e result is none (λ ys r same. at_word R f xs ys w left r.1 (same ∙ b.whole ∙ ap (λ (vs : List (List ℕ)). map f xs ++ vs) next))
 
-length_map : {X : Type 0} (f : X → List ℕ) (xs : List X) → length (map f xs) ≡ length xs
-length_map f [] = refl
-length_map f (x ∷ xs) = ap suc (length_map f xs)
-
 pub begun_full : {X : Type 0} (R : X → Type 0) (f : X → List ℕ) (least most : ℕ) (xs : List X) (w : List ℕ) (left all : List (List ℕ)) → Begun R f most xs (w ∷ left) all → most ≤ length xs
     → (ys : List X) → Listed least most R ys → map f ys ≡ all → ⊥
 begun_full R f least most xs w left all b full ys r same =
-    let n : length ys ≡ length xs + suc (length left) = sym (length_map f ys) ∙ ap length (same ∙ b.whole) ∙ length-append (map f xs) (w ∷ left) ∙ ap (λ m. m + suc (length left)) (length_map f xs) in
+    let n : length ys ≡ length xs + suc (length left) = sym (length-map ys f) ∙ ap length (same ∙ b.whole) ∙ length-append (map f xs) (w ∷ left) ∙ ap (λ m. m + suc (length left)) (length-map xs f) in
     let few = r.0.1 in omega (arith, n, few, full)
 
 pub begun_few : {X : Type 0} (R : X → Type 0) (f : X → List ℕ) (least most : ℕ) (xs : List X) (all : List (List ℕ)) → Begun R f most xs [] all → length xs < least
     → (ys : List X) → Listed least most R ys → map f ys ≡ all → ⊥
 begun_few R f least most xs all b lt ys r same =
-    let n : length ys ≡ length xs = sym (length_map f ys) ∙ ap length (same ∙ b.whole ∙ append-nil (map f xs)) ∙ length_map f xs in
+    let n : length ys ≡ length xs = sym (length-map ys f) ∙ ap length (same ∙ b.whole ∙ append-nil (map f xs)) ∙ length-map xs f in
     let some = r.0.0 in omega (arith, n, some, lt)
 
 pub begun_whole : {X : Type 0} (R : X → Type 0) (f : X → List ℕ) (least most : ℕ) (xs : List X) (all : List (List ℕ)) → Begun R f most xs [] all → least ≤ length xs → Listed least most R xs × (map f xs ≡ all)
@@ -80,9 +75,6 @@ same_list R f inj (x ∷ xs) (y ∷ ys) a b e =
     let same : x ≡ y = inj x y (head_of R x xs a) (head_of R y ys b) first in
     let more = same_list R f inj xs ys (tail_of R x xs a) (tail_of R y ys b) rest in
     cc
-
-pub same_number : (m n : ℕ) → m < 2 ^ 64 → n < 2 ^ 64 → decimal m ≡ decimal n → m ≡ n
-same_number m n lm ln e = decimal_injective m n lm ln e
 
 pub same_zone : (m n : ℕ) → m < 64 → n < 64 → zone_text m ≡ zone_text n → m ≡ n
 same_zone m n lm ln e = let same : m + 1 ≡ n + 1 = decimal_injective (m + 1) (n + 1) (omega arith) (omega arith) e in omega arith

@@ -1,5 +1,6 @@
 -- Lines that are spelled alike are the same.
 use Rattle.std.proofs.Common.{◌≡◌, ◌≤◌, ◌<◌, ◌^◌, ◌+◌, ℕ, Bool, true, false, eqb, ◌==◌, if◌then◌else◌, fold, ◌*◌, List, [], ◌∷◌, ◌++◌, map, ℤ, Result, Ok, Err, refl, sym, ap, ◌∙◌, arith}
+use Rattle.std.proofs.lemmas.Fmt.{decimal_injective}
 use Rattle.std.specs.List.{slice_split}
 use Rattle.std.specs.Fmt.{decimal, signed_decimal}
 use Rattle.mari_units.specs.declared.numbers.Cents.{Cents}
@@ -22,7 +23,7 @@ use Rattle.mari_units.specs.Numbers.{Within}
 use Rattle.mari_lines.specs.Ranges.{InRange, IsHeading, IsMoney, IsMoneyLine, IsAmountLine, IsZone}
 use Rattle.mari_lines.specs.Spelling.{spaced, fields, keyword_of, keyword_text, spelling, price_text, money_text, money_fields, amount_fields, zone_text, side_text, kind_text}
 use Rattle.mari_lines.proofs.Numbers.{same_whole, same_price, same_money}
-use Rattle.mari_lines.proofs.Gathered.{same_list, same_zone, same_number, rising_zones}
+use Rattle.mari_lines.proofs.Gathered.{same_list, same_zone, rising_zones}
 use Rattle.mari_lines.specs.declared.fault.FormFault.{FormFault}
 use Rattle.mari_lines.specs.declared.fault.FormFault.TheVariants as form_fault
 use Rattle.mari_lines.specs.Reading.{Reads}
@@ -64,7 +65,7 @@ pub same_keyword : (k m : Keyword) → keyword_text k ≡ keyword_text m → k �
 same_keyword k m e = sym (at_mark k) ∙ ap (λ (t : List ℕ). keyword_at (mark t)) e ∙ at_mark m
 
 below : (m n most : ℕ) → m ≤ most → n ≤ most → most < 2 ^ 64 → decimal m ≡ decimal n → m ≡ n
-below m n most lm ln lt e = same_number m n (omega arith) (omega arith) e
+below m n most lm ln lt e = decimal_injective m n (omega arith) (omega arith) e
 
 cents : (p q : Cents) → IsCapped p → IsCapped q → price_text p ≡ price_text q → p ≡ q
 cents p q rp rq e = ap (λ z. record { 0 = z }) (same_price p.0 q.0 (small_price p.0 rp) (small_price q.0 rq) e)
@@ -167,7 +168,7 @@ same_fields (line.Unpublished g m) (line.Unpublished h n) r s k e =
     let ed : kind_text g.direct ≡ kind_text h.direct = cc in
     let en : decimal m ≡ decimal n = cc in
     ap (λ x. line.Unpublished x m) (heading g h r.0 s.0 er eq ed) ∙ ap (λ x. line.Unpublished h x) (below m n 50000 r.1.1 s.1.1 (omega arith) en)
-same_fields (line.Welfare m) (line.Welfare n) r s k e = let en : decimal m ≡ decimal n = cc in ap (λ x. line.Welfare x) (same_number m n (omega arith) (omega arith) en)
+same_fields (line.Welfare m) (line.Welfare n) r s k e = let en : decimal m ≡ decimal n = cc in ap (λ x. line.Welfare x) (decimal_injective m n (omega arith) (omega arith) en)
 same_fields (line.Zone g) (line.Zone h) r s k e =
     let name : g.name ≡ h.name = cc in
     let price : price_text g.price ≡ price_text h.price = cc in

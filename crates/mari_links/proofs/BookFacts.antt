@@ -3,7 +3,7 @@ use Rattle.std.proofs.Common.{◌≡◌, ◌∙◌, ◌≤◌, ◌<◌, ◌==◌
 use Rattle.std.specs.Prelude.{◌&&◌, ◌||◌, nat_lt, not, is_some, option_map}
 use Rattle.std.specs.List.{All, find, list_any}
 use Rattle.std.specs.Str.{bytes_eq}
-use Rattle.std.proofs.lemmas.Bool.{eqb-true, ltb-true, and_parts}
+use Rattle.std.proofs.lemmas.Bool.{eqb-true, ltb-true, and_parts, or_parts, not-false}
 use Rattle.std.proofs.lemmas.Bool.Decides.{eqb_tells, nat_tests}
 use Rattle.std.proofs.lemmas.List.Elements.{All-filter, All-head, All-map, All-nil, All-push, All-tail}
 use Rattle.std.proofs.lemmas.List.FromFn.{length-map-range_with_len}
@@ -13,7 +13,7 @@ use Rattle.mari_rows.specs.Names.{place_in}
 use Rattle.mari_rows.specs.declared.faults.BookFault.{BookFault}
 use Rattle.mari_rows.specs.declared.rows.Row.{Row}
 use Rattle.mari_rows.proofs.BookLemmas.{book-page}
-use Rattle.mari_rows.proofs.BookFacts.{all-passed, along-lines, found-below, not-false}
+use Rattle.mari_rows.proofs.BookFacts.{all-passed, along-lines, found-below}
 use Rattle.mari_bids.specs.declared.bids.BidBook.{BidBook}
 use Rattle.mari_links.specs.Links.{has_later_parent, has_wrong_quarter, link_file_checks, names_no_bid, AreLinks, IsLinkBook, IsParent, bid_named, bid_of, count_of, entries_of, first_of, gated_bids, group_of, groups_of, has_too_many, is_gated, is_same_kind, kind_of, least_of_bid, line_checks, link_book, link_grammar, link_of, links_of, named_by, parent_of, quarter_of, said_by, second_of, Member, Said}
 use Rattle.mari_links.specs.declared.links.LinkBook.{LinkBook}
@@ -42,11 +42,6 @@ found-any test other (y ∷ ys) x found passes = by (test y) found (found-any te
     by : (b : Bool) → (if b then Some y else find test ys) ≡ Some x → (find test ys ≡ Some x → other x ≡ true → list_any other ys ≡ true) → (other y || list_any other ys) ≡ true
     by true f more = let same : y ≡ x = cc f in rw (same, passes) refl
     by false f more = rw (more f passes) (or-yes (other y))
-
--- two tests of which none holds
-or-parts : (a b : Bool) → (a || b) ≡ false → (a ≡ false) × (b ≡ false)
-or-parts true b none = cc none
-or-parts false b none = (refl, none)
 
 -- one of three tests holds
 second-yes : (a b c : Bool) → b ≡ true → ((a || b) || c) ≡ true
@@ -139,7 +134,7 @@ module _ (bids : BidBook) where
         → (count_of bids bs quarter ≡ 0) ⊎ (count_of bids gated quarter ≤ 512)
     none-or-few [] none = inl refl
     none-or-few (b ∷ bs) none =
-        let parts = or-parts (nat_lt 512 (count_of bids gated (quarter_of bids b))) (list_any (λ bid. nat_lt 512 (count_of bids gated (quarter_of bids bid))) bs) none in
+        let parts = or_parts (nat_lt 512 (count_of bids gated (quarter_of bids b))) (list_any (λ bid. nat_lt 512 (count_of bids gated (quarter_of bids bid))) bs) none in
         by parts.0 (none-or-few bs parts.1) (eqb_tells (quarter_of bids b) quarter)
       where
         by : nat_lt 512 (count_of bids gated (quarter_of bids b)) ≡ false → (count_of bids bs quarter ≡ 0) ⊎ (count_of bids gated quarter ≤ 512)
@@ -204,7 +199,7 @@ module _ (bids : BidBook) where
 
     plain-least : (bid : ℕ) → is_gated bids (said_by bids rows) bid ≡ false → least_of_bid bids bid ≡ 0
     plain-least bid plain =
-        let parts = or-parts (above-none bid) (is-member bid) (or-parts (above-none bid || is-member bid) (is-linked bid) plain).0 in
+        let parts = or_parts (above-none bid) (is-member bid) (or_parts (above-none bid || is-member bid) (is-linked bid) plain).0 in
         let none : least_of_bid bids bid ≤ 0 = grind (arith, nat_tests, parts.0) in
         omega (arith, none)
 

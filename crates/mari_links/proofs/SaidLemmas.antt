@@ -5,9 +5,10 @@ use Rattle.std.specs.List.{cons_option, filter_map}
 use Rattle.std.specs.Option.{option_and_then}
 use Rattle.std.proofs.lemmas.List.{append-nil}
 use Rattle.std.proofs.lemmas.List.Elements.{filter_map-append}
+use Rattle.std.proofs.lemmas.Bool.{not-false}
 use Rattle.mari_rows.specs.Books.{first_failing}
 use Rattle.mari_rows.specs.declared.rows.Row.{Row}
-use Rattle.mari_rows.proofs.BookFacts.{all-passed, not-false}
+use Rattle.mari_rows.proofs.BookFacts.{all-passed}
 use Rattle.mari_bids.specs.declared.bids.BidBook.{BidBook}
 use Rattle.mari_links.specs.Entries.{some_link}
 use Rattle.mari_links.specs.Links.{bid_of, child_of, first_of, is_repeated, kind_of, link_of, member_of, name_checks, place_checks, said_by, second_of, timed_of, Member, Said}

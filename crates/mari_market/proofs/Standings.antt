@@ -1,16 +1,19 @@
 -- In a feasible activation an order of a gate runs exactly where its gate is open.
-use Rattle.std.proofs.Common.{◌≡◌, if◌then◌else◌, Bool, true, false, ℕ, ◌<◌, ◌≤◌, Option, Some, None, length, arith, refl, ap}
+use Rattle.std.proofs.Common.{◌≡◌, if◌then◌else◌, Bool, true, false, ℕ, ◌<◌, ◌≤◌, Option, Some, None, length, arith, refl, ap, ℤ}
 use Rattle.std.specs.Prelude.{nat_lt, MatchOption}
 use Rattle.std.specs.List.{AllZip}
 use Rattle.std.proofs.lemmas.Bool.Decides.{nat_tests}
 use Rattle.mari_market.specs.declared.market.Order.{Order}
 use Rattle.mari_market.specs.declared.market.Market.{Market}
+use Rattle.mari_market.specs.declared.market.Side.{Side}
+use Rattle.mari_market.specs.declared.market.Side.TheVariants.{Inject, Withdraw}
 use Rattle.mari_market.specs.declared.activation.Activation.{Activation}
-use Rattle.mari_market.specs.declared.price_rules.Standing.TheVariants.{InOpen, InClosed}
+use Rattle.mari_market.specs.declared.price_rules.Standing.TheVariants.{Plain, InOpen, InClosed}
 use Rattle.mari_market.specs.Activation.{is_open}
 use Rattle.mari_market.specs.Bounds.{IsWithin, own_bounds, span_of, gated_span}
 use Rattle.mari_market.specs.Bounds.GateState.{Open, Closed}
-use Rattle.mari_market.specs.Consistent.{own_standing, standing_of}
+use Rattle.mari_market.specs.Consistent.{IsConsistentTrade, own_standing, standing_of}
+use Rattle.mari_market.specs.Dual.{IsTightTrade}
 use Rattle.mari_market.specs.Market.{IsValid, IsValidOrder}
 use Rattle.mari_market.specs.Optimal.{IsFeasible}
 use Rattle.mari_market.proofs.Sums.{AllZip-with, AllZip-both}
@@ -31,3 +34,8 @@ one_standing m a v f =
     let both = AllZip-with (IsValidOrder m.zones (length m.gates)) (λ o q. IsWithin (own_bounds m a o) q) m.orders a.mw v.orders f.orders in
     AllZip-both (λ o q. IsValidOrder m.zones (length m.gates) o × IsWithin (own_bounds m a o) q) (λ o q. IsValidOrder m.zones (length m.gates) o × IsWithin (own_bounds m a o) q) (OneStanding m a)
     (λ o q h k. standing_at (is_open m a) (length m.gates) o.gate o q h.0.gate h.1) m.orders a.mw both both
+
+-- what is tight at a plain order is consistent
+pub plain_consistent : (side : Side) (c p : ℤ) (most q : ℕ) → IsTightTrade side c p (record { lo = 0; hi = most }) q → IsConsistentTrade Plain side c most q p
+plain_consistent Inject c p most q t = record { lower = t.0; upper = t.1 }
+plain_consistent Withdraw c p most q t = record { lower = t.1; upper = t.0 }

@@ -4,8 +4,6 @@ use Rattle.std.proofs.lemmas.Int.{ints}
 use Rattle.std.proofs.lemmas.List.Elements.{All-cons, All-nil}
 use Rattle.std.specs.List.{All, AllZip}
 use Rattle.mari_units.specs.declared.Cents.{Cents}
-use Rattle.mari_market.specs.declared.market.Side.{Side}
-use Rattle.mari_market.specs.declared.market.Side.TheVariants.{Inject, Withdraw}
 use Rattle.mari_market.specs.declared.market.Order.{Order}
 use Rattle.mari_market.specs.declared.market.Border.{Border}
 use Rattle.mari_market.specs.declared.market.GateInfo.{GateInfo}
@@ -15,9 +13,8 @@ use Rattle.mari_market.specs.declared.certificate.TreeItem.{TreeItem}
 use Rattle.mari_market.specs.Activation.{welfare_of, is_open, IsBalanced, IsWithinLimits, carried_out}
 use Rattle.mari_market.specs.Bounds.{IsWithin, GateState, span_in, own_bounds}
 use Rattle.mari_market.specs.Clearing.{IsClearing}
-use Rattle.mari_market.specs.Consistent.{IsConsistentTrade, IsConsistentOrder, IsConsistentBorder}
-use Rattle.mari_market.specs.declared.price_rules.Standing.TheVariants.{Plain}
-use Rattle.mari_market.specs.Dual.{IsTight, IsTightTrade, IsTightOrder}
+use Rattle.mari_market.specs.Consistent.{IsConsistentOrder, IsConsistentBorder}
+use Rattle.mari_market.specs.Dual.{IsTight, IsTightOrder}
 use Rattle.mari_market.specs.Gates.{KeepsGateRules}
 use Rattle.mari_market.specs.Market.{IsValid, IsValidOrder}
 use Rattle.mari_market.specs.Optimal.{IsFeasible, IsConsistent, IsAdmissible}
@@ -30,6 +27,7 @@ use Rattle.mari_market.proofs.Search.{optimal_by_tree}
 use Rattle.mari_market.proofs.Ties.{first_without_gates, tree_holds_without_gates}
 use Rattle.mari_market.proofs.Sums.{AllZip-both}
 use Rattle.mari_market.proofs.Tight.{tight_is_equal}
+use Rattle.mari_market.proofs.Standings.{plain_consistent}
 use Rattle.mari_merit.specs.Merit.{rung_of, room_below, withdrawn_in, quantities_at, bound_tree, IsMarginal, IsFilled}
 use Rattle.mari_merit.proofs.Filling.{IsPlain, Fills, fills, put_in_all}
 
@@ -62,12 +60,8 @@ within_span state p o q f = rw f.plain.gate (record { least = omega arith; most 
 tight_span : (state : ℕ → GateState) (p : ℤ) (o : Order) (q : ℕ) → Fills p o q → IsTightOrder (span_in state) (record { 0 = p } ∷ []) o q
 tight_span state p o q f = rw (f.plain.gate, f.plain.zone) f.tight
 
-consistent_trade : (side : Side) (p c : ℤ) (g q : ℕ) → IsTightTrade side c p (record { lo = 0; hi = g }) q → IsConsistentTrade Plain side c g q p
-consistent_trade Inject p c g q t = record { lower = t.0; upper = t.1 }
-consistent_trade Withdraw p c g q t = record { lower = t.1; upper = t.0 }
-
 consistent_order : (opens : ℕ → Bool) (p : ℤ) (o : Order) (q : ℕ) → Fills p o q → IsConsistentOrder opens (record { 0 = p } ∷ []) o q
-consistent_order opens p o q f = rw (f.plain.gate, f.plain.zone) (consistent_trade o.side p o.price.0 o.greatest q f.tight)
+consistent_order opens p o q f = rw (f.plain.gate, f.plain.zone) (plain_consistent o.side o.price.0 p o.greatest q f.tight)
 
 -- what holds of each order and what it runs, from what fills its part
 each : (R : Order → ℕ → Type 0) (p : ℤ) → ((o : Order) (q : ℕ) → Fills p o q → R o q) → (os : List Order) (mw : List ℕ) → AllZip (Fills p) os mw → AllZip R os mw

@@ -1,7 +1,7 @@
 -- The slots of a valid market's orders make a network.
 use Rattle.std.proofs.Common.{◌≡◌, ℕ, ℤ, ◌≤◌, ◌<◌, pos, neg_ℤ, ◌≤ℤ◌, List, ◌++◌, length, get_or, arith, refl, sym, ap, subst, zero, suc, [], ◌∷◌, take, map}
 use Rattle.std.proofs.lemmas.Int.{ints}
-use Rattle.std.proofs.lemmas.List.{length-map}
+use Rattle.std.proofs.lemmas.List.{length-map, get_or-map}
 use lib.ListN.{replicate}
 use Rattle.std.specs.List.{All, AllZip}
 use Rattle.mari_market.specs.declared.market.Side.{Side}
@@ -16,7 +16,7 @@ use Rattle.mari_network.specs.declared.slots.Slot.{Slot}
 use Rattle.mari_network.specs.Slots.{no_slot, IsSmallSlot}
 use Rattle.mari_network.specs.Fits.{IsNetworkSlot}
 use Rattle.mari_network.specs.Orders.{no_order, slot_of, slots_of, CanPut, IsOrderSlot, AreOrderSlots}
-use Rattle.mari_network.proofs.Lists.{map_at, zip_of}
+use Rattle.mari_network.proofs.Lists.{zip_of}
 use Rattle.mari_market.proofs.Sums.{AllZip-at}
 
 -- a span in order, within the limit of an order
@@ -28,8 +28,8 @@ pub fine_spans : (spans : Order → Span) (os : List Order) → AllZip (λ lo hi
 fine_spans spans os a = λ k d l.
     let there : k < length (map (λ (o : Order). (spans o).lo) os) = omega (arith, length-map os (λ (o : Order). (spans o).lo), l) in
     let pair = AllZip-at (λ lo hi. (lo ≤ hi) × (hi ≤ 99999)) (map (λ (o : Order). (spans o).lo) os) (map (λ (o : Order). (spans o).hi) os) k 0 0 there a in
-    let lo = map_at (λ (o : Order). (spans o).lo) os k d 0 l in
-    let hi = map_at (λ (o : Order). (spans o).hi) os k d 0 l in
+    let lo = get_or-map (λ (o : Order). (spans o).lo) os k d 0 l in
+    let hi = get_or-map (λ (o : Order). (spans o).hi) os k d 0 l in
     record { in_order = omega (arith, pair.0, lo, hi); small = omega (arith, pair.1, hi) }
 
 puts : (side : Side) (s : Span) → IsFineSpan s → (neg_ℤ (pos 99999) ≤ℤ least_put side s) × (least_put side s ≤ℤ most_put side s) × (most_put side s ≤ℤ pos 99999)
@@ -53,10 +53,10 @@ order_slots_fine spans n gates os v f =
       long = long;
       fine = λ k d l.
           let there : k < length os = omega (arith, long, l) in
-          subst (λ (s : Slot). IsOrderSlot n s) (sym (map_at (λ (o : Order). slot_of (spans o) o) os k no_order d there))
+          subst (λ (s : Slot). IsOrderSlot n s) (sym (get_or-map (λ (o : Order). slot_of (spans o) o) os k no_order d there))
           (order_slot spans n gates (get_or os k no_order) (v k no_order there) (f k no_order there));
       sides = zip_of (λ (o : Order) (s : Slot). CanPut o.side s.low × CanPut o.side s.high) os (slots_of spans os) no_order no_slot (sym long)
-          (λ k l. subst (λ (s : Slot). CanPut (get_or os k no_order).side s.low × CanPut (get_or os k no_order).side s.high) (sym (map_at (λ (o : Order). slot_of (spans o) o) os k no_order no_slot l))
+          (λ k l. subst (λ (s : Slot). CanPut (get_or os k no_order).side s.low × CanPut (get_or os k no_order).side s.high) (sym (get_or-map (λ (o : Order). slot_of (spans o) o) os k no_order no_slot l))
           (can_puts (get_or os k no_order).side (spans (get_or os k no_order)) (f k no_order l)));
     }
 

@@ -2,12 +2,7 @@
 use Rattle.std.proofs.Common.{◌≡◌, ℕ, zero, suc, ◌+◌, ◌<◌, List, [], ◌∷◌, ◌++◌, length, take, drop, get_or, map, sym, ap, ◌∙◌, refl, arith, append_assoc, subst}
 use Rattle.std.specs.List.{All, AllZip}
 use Rattle.std.proofs.lemmas.List.Elements.{All-head, All-tail}
-use Rattle.std.proofs.lemmas.List.{take_more, map-append}
-
-pub same_default : {X : Type 0} (xs : List X) (i : ℕ) (d e : X) → i < length xs → get_or xs i d ≡ get_or xs i e
-same_default [] i d e h = absurd (omega arith)
-same_default (x ∷ xs) zero d e h = refl
-same_default (x ∷ xs) (suc i) d e h = same_default xs i d e (omega arith)
+use Rattle.std.proofs.lemmas.List.{take_more, map_more}
 
 pub all_zip : {X Y : Type 0} (P : X → Type 0) (xs : List X) (ys : List Y) → length xs ≡ length ys → All P xs → AllZip (λ x y. P x) xs ys
 all_zip P [] [] e a = tt
@@ -53,27 +48,8 @@ zip_rest P [] rs ys a = a
 zip_rest P (s ∷ ss) rs (y ∷ ys) a = zip_rest P ss rs ys a.1
 zip_rest P (s ∷ ss) rs [] a = absurd a
 
-pub at_drop : {X : Type 0} (n : ℕ) (xs : List X) (j : ℕ) (d : X) → get_or (drop n xs) j d ≡ get_or xs (n + j) d
-at_drop zero xs j d = let e : zero + j ≡ j = omega arith in ap (λ (k : ℕ). get_or xs k d) (sym e)
-at_drop (suc n) [] j d = refl
-at_drop (suc n) (x ∷ xs) j d = let e : suc n + j ≡ suc (n + j) = omega arith in at_drop n xs j d ∙ ap (λ (k : ℕ). get_or (x ∷ xs) k d) (sym e)
-
-map_more : {X Y : Type 0} (f : X → Y) (xs : List X) (i : ℕ) (d : X) → i < length xs → map f (take (i + 1) xs) ≡ map f (take i xs) ++ f (get_or xs i d) ∷ []
-map_more f xs i d h = ap (λ (ys : List _). map f ys) (take_more xs i d h) ∙ map-append f (take i xs) (get_or xs i d ∷ [])
-
 pub pushed_map : {X Y : Type 0} (f : X → Y) (xs : List X) (i : ℕ) (d : X) (items new : List Y) (v : Y) → i < length xs → new ≡ items ++ v ∷ [] → items ≡ map f (take i xs) → v ≡ f (get_or xs i d) → new ≡ map f (take (i + 1) xs)
 pushed_map {Y = Y} f xs i d items new v h n e w = n ∙ ap (λ (ys : List Y). ys ++ v ∷ []) e ∙ ap (λ (y : Y). map f (take i xs) ++ y ∷ []) w ∙ sym (map_more f xs i d h)
 
 pub pushed_after : {X Y : Type 0} (f : X → Y) (first : List Y) (xs : List X) (i : ℕ) (d : X) (items new : List Y) (v : Y) → i < length xs → new ≡ items ++ v ∷ [] → items ≡ first ++ map f (take i xs) → v ≡ f (get_or xs i d) → new ≡ first ++ map f (take (i + 1) xs)
 pushed_after {Y = Y} f first xs i d items new v h n e w = n ∙ ap (λ (ys : List Y). ys ++ v ∷ []) e ∙ append_assoc first (map f (take i xs)) (v ∷ []) ∙ ap (λ (y : Y). first ++ (map f (take i xs) ++ y ∷ [])) w ∙ ap (λ (ys : List Y). first ++ ys) (sym (map_more f xs i d h))
-
-pub map_at : {X Y : Type 0} (f : X → Y) (xs : List X) (i : ℕ) (d : X) (e : Y) → i < length xs → get_or (map f xs) i e ≡ f (get_or xs i d)
-map_at f [] i d e h = absurd (omega arith)
-map_at f (x ∷ xs) zero d e h = refl
-map_at f (x ∷ xs) (suc i) d e h = map_at f xs i d e (omega arith)
-
-pub at_take : {X : Type 0} (n : ℕ) (xs : List X) (i : ℕ) (d : X) → i < n → get_or (take n xs) i d ≡ get_or xs i d
-at_take zero xs i d h = absurd (omega arith)
-at_take (suc n) [] i d h = refl
-at_take (suc n) (x ∷ xs) zero d h = refl
-at_take (suc n) (x ∷ xs) (suc i) d h = at_take n xs i d (omega arith)

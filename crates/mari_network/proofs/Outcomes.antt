@@ -1,6 +1,6 @@
 -- What the end of a run says of the orders: the relaxed optimum, or a cut.
-use Rattle.std.proofs.Common.{◌≡◌, ◌==◌, ℕ, suc, ◌+◌, ◌<◌, ℤ, pos, ◌+ℤ◌, neg_ℤ, ◌<ℤ◌, List, [], ◌∷◌, ◌++◌, length, get_or, map, take, drop, arith, refl, sym, ap, ◌∙◌, subst}
-use Rattle.std.proofs.lemmas.List.{length-map}
+use Rattle.std.proofs.Common.{◌≡◌, ◌==◌, ℕ, suc, ◌+◌, ◌<◌, ℤ, pos, ◌+ℤ◌, neg_ℤ, ◌<ℤ◌, List, [], ◌∷◌, ◌++◌, length, get_or, take, drop, arith, refl, sym, ◌∙◌, subst}
+use Rattle.std.proofs.lemmas.List.{length-map, get_or-drop, get_or-map}
 use Rattle.std.proofs.lemmas.Int.{ints}
 use Rattle.std.specs.List.{All, AllZip}
 use Rattle.mari_units.specs.declared.Cents.{Cents}
@@ -21,12 +21,12 @@ use Rattle.mari_network.specs.Levels.{AreTight}
 use Rattle.mari_market.specs.Consistent.{IsConsistentFlow}
 use Rattle.mari_network.specs.Orders.{no_order, slot_of, slots_of, IsStandIn, ArePuts, capped}
 use Rattle.mari_network.specs.Network.{no_border}
-use Rattle.mari_network.proofs.Lists.{all_zip, zip_of, zip_long, zip_first, zip_rest, at_drop, map_at}
+use Rattle.mari_network.proofs.Lists.{all_zip, zip_of, zip_long, zip_first, zip_rest}
 use Rattle.mari_network.proofs.Shortfalls.{RunsSlot, RunsFlow, IsReal, AreLowest, AreHighest, out_of, into_of, least_in, most_in_slot, counts, paid_slot, paid_is_cost, shortfall_out, shortfall_in}
 use Rattle.mari_market.proofs.Duality.{cost_at}
 use Rattle.mari_network.proofs.Chains.{if_none}
 use Rattle.mari_network.proofs.Transfers.{IsOptimum, optimum_from}
-use Rattle.mari_market.proofs.Sums.{AllZip-at}
+use Rattle.mari_market.proofs.Sums.{AllZip-at, int_sum-map}
 
 sum_split : {X Y : Type 0} (f : X → Y → ℤ) (P : X → Y → Type 0) (ss rs : List X) (ys : List Y) → AllZip P (ss ++ rs) ys → sum_along f (ss ++ rs) ys ≡ sum_along f ss (take (length ss) ys) +ℤ sum_along f rs (drop (length ss) ys)
 sum_split f P [] rs ys a = omega (arith, ints)
@@ -42,7 +42,7 @@ reals_real : (bounds : Order → Span) (n gates : ℕ) (os : List Order) → All
 reals_real bounds n gates os v = λ k d l.
     let there : k < length os = omega (arith, length-map os (λ (o : Order). slot_of (bounds o) o), l) in
     let o_valid = v k no_order there in
-    subst (λ (s : Slot). IsReal BEYOND s) (sym (map_at (λ (o : Order). slot_of (bounds o) o) os k no_order d there))
+    subst (λ (s : Slot). IsReal BEYOND s) (sym (get_or-map (λ (o : Order). slot_of (bounds o) o) os k no_order d there))
     (record { above = omega (arith, ints, o_valid.price.low); below = omega (arith, ints, o_valid.price.high) })
 
 -- what is known where a run ends
@@ -70,7 +70,7 @@ ends_solved bounds m more a ps p xs e puts prices none =
     let all = runs bounds m more xs a.flow p e in
     optimum_from bounds m a ps p (take (length (slots_of bounds m.orders)) xs) e.valid puts prices
     (zip_first IsWithinSlot (slots_of bounds m.orders) more xs e.running.amounts) e.running.flows
-    (λ z l. omega (arith, ints, e.running.balance z l, sum_split (slot_into z) IsWithinSlot (slots_of bounds m.orders) more xs e.running.amounts, into_none z more (drop (length (slots_of bounds m.orders)) xs) (λ k h. at_drop (length (slots_of bounds m.orders)) xs k (pos 0) ∙ none k h)))
+    (λ z l. omega (arith, ints, e.running.balance z l, sum_split (slot_into z) IsWithinSlot (slots_of bounds m.orders) more xs e.running.amounts, into_none z more (drop (length (slots_of bounds m.orders)) xs) (λ k h. get_or-drop (length (slots_of bounds m.orders)) xs k (pos 0) ∙ none k h)))
     (zip_first (IsTightSlot p) (slots_of bounds m.orders) more xs (zip_of (IsTightSlot p) (slots_of bounds m.orders ++ more) xs no_slot (pos 0) (zip_long IsWithinSlot (slots_of bounds m.orders ++ more) xs e.running.amounts) e.tight.slots_tight))
     e.tight.flows_tight
 
@@ -89,16 +89,12 @@ ends_paid bounds m more xs fs p q e =
     sym (sum_split (paid_slot q) IsWithinSlot (slots_of bounds m.orders) more xs e.running.amounts)
     ∙ paid_is_cost q m.zones (slots_of bounds m.orders ++ more) xs m.borders fs e.zones (λ k d l. let b_valid = e.valid.borders k d l in (b_valid.from, b_valid.to)) e.running.balance
 
-int_sum_map : {X Y : Type 0} (f : Y → ℤ) (g : X → Y) (xs : List X) → int_sum f (map g xs) ≡ int_sum (λ x. f (g x)) xs
-int_sum_map f g [] = refl
-int_sum_map f g (x ∷ xs) = ap (λ (v : ℤ). f (g x) +ℤ v) (int_sum_map f g xs)
-
 -- a shortfall of the orders' slots is a cut
 shortfall_is_cut_out : (bounds : Order → Span) (m : Market) (zones : List ℕ) → int_sum (out_of (is_in zones)) m.borders <ℤ int_sum (least_in (is_in zones)) (slots_of bounds m.orders) → CannotBalance bounds m Out zones
-shortfall_is_cut_out bounds m zones h = omega (arith, ints, h, int_sum_map (least_in (is_in zones)) (λ o. slot_of (bounds o) o) m.orders)
+shortfall_is_cut_out bounds m zones h = omega (arith, ints, h, int_sum-map (least_in (is_in zones)) (λ o. slot_of (bounds o) o) m.orders)
 
 shortfall_is_cut_in : (bounds : Order → Span) (m : Market) (zones : List ℕ) → int_sum (most_in_slot (is_in zones)) (slots_of bounds m.orders) <ℤ neg_ℤ (int_sum (into_of (is_in zones)) m.borders) → CannotBalance bounds m In zones
-shortfall_is_cut_in bounds m zones h = omega (arith, ints, h, int_sum_map (most_in_slot (is_in zones)) (λ o. slot_of (bounds o) o) m.orders)
+shortfall_is_cut_in bounds m zones h = omega (arith, ints, h, int_sum-map (most_in_slot (is_in zones)) (λ o. slot_of (bounds o) o) m.orders)
 
 -- where something is taken away, the zones of the least price are a cut
 pub ends_cut_out : (bounds : Order → Span) (m : Market) (more : List Slot) (xs fs : List ℤ) (p : ℕ → ℤ) (zones : List ℕ) (j : ℕ) → Ends bounds m more xs fs p → AreLowest m.zones BEYOND p (is_in zones) → j < length more → int_at xs (length (slots_of bounds m.orders) + j) <ℤ pos 0 → CannotBalance bounds m Out zones
@@ -112,7 +108,7 @@ ends_cut_out bounds m more xs fs p zones j e low there short =
     first (all_zip (IsReal BEYOND) (slots_of bounds m.orders) (take (length (slots_of bounds m.orders)) xs) (zip_long (RunsSlot m.zones p) (slots_of bounds m.orders) (take (length (slots_of bounds m.orders)) xs) first) (reals_real bounds m.zones (length m.gates) m.orders e.valid.orders))
     rest (all_zip (IsStandIn BEYOND) more (drop (length (slots_of bounds m.orders)) xs) (zip_long (RunsSlot m.zones p) more (drop (length (slots_of bounds m.orders)) xs) rest) e.others)
     (flow_runs bounds m more xs fs p e) (ends_paid bounds m more xs fs p (λ z. counts (is_in zones z)) e) there
-    (subst (λ (x : ℤ). x <ℤ pos 0) (sym (at_drop (length (slots_of bounds m.orders)) xs j (pos 0))) short))
+    (subst (λ (x : ℤ). x <ℤ pos 0) (sym (get_or-drop (length (slots_of bounds m.orders)) xs j (pos 0))) short))
 
 -- where something is given, the zones of the greatest price are
 pub ends_cut_in : (bounds : Order → Span) (m : Market) (more : List Slot) (xs fs : List ℤ) (p : ℕ → ℤ) (zones : List ℕ) (j : ℕ) → Ends bounds m more xs fs p → AreHighest m.zones BEYOND p (is_in zones) → j < length more → pos 0 <ℤ int_at xs (length (slots_of bounds m.orders) + j) → CannotBalance bounds m In zones
@@ -125,4 +121,4 @@ ends_cut_in bounds m more xs fs p zones j e high there short =
     first (all_zip (IsReal BEYOND) (slots_of bounds m.orders) (take (length (slots_of bounds m.orders)) xs) (zip_long (RunsSlot m.zones p) (slots_of bounds m.orders) (take (length (slots_of bounds m.orders)) xs) first) (reals_real bounds m.zones (length m.gates) m.orders e.valid.orders))
     rest (all_zip (IsStandIn BEYOND) more (drop (length (slots_of bounds m.orders)) xs) (zip_long (RunsSlot m.zones p) more (drop (length (slots_of bounds m.orders)) xs) rest) e.others)
     (flow_runs bounds m more xs fs p e) (ends_paid bounds m more xs fs p (λ z. counts (is_in zones z)) e) there
-    (subst (λ (x : ℤ). pos 0 <ℤ x) (sym (at_drop (length (slots_of bounds m.orders)) xs j (pos 0))) short))
+    (subst (λ (x : ℤ). pos 0 <ℤ x) (sym (get_or-drop (length (slots_of bounds m.orders)) xs j (pos 0))) short))

@@ -1,7 +1,8 @@
 -- The answer, from where a run ends.
-use Rattle.std.proofs.Common.{◌≡◌, ◌≢◌, Bool, true, false, not, ℕ, ◌+◌, ◌-◌, ◌<◌, ◌≤◌, ℤ, pos, neg_ℤ, ◌≤ℤ◌, ◌<ℤ◌, List, [], ◌∷◌, ◌++◌, length, take, arith, refl, sym, ap, ◌∙◌, subst, map, length-append, length-drop}
+use Rattle.std.proofs.Common.{◌≡◌, ◌≢◌, true, false, ℕ, ◌+◌, ◌-◌, ◌<◌, ◌≤◌, ℤ, pos, neg_ℤ, ◌≤ℤ◌, ◌<ℤ◌, List, [], ◌∷◌, ◌++◌, length, take, arith, sym, ap, ◌∙◌, subst, map, length-append, length-drop}
 use Rattle.std.proofs.lemmas.Int.{ints, by_lt_z}
-use Rattle.std.proofs.lemmas.List.{length-map}
+use Rattle.std.proofs.lemmas.List.{length-map, get_or-map}
+use Rattle.std.proofs.lemmas.Bool.{not-true, not-false}
 use Rattle.std.specs.List.{All, AllZip}
 use lib.Signed.{lt_z}
 use Rattle.mari_units.specs.declared.Cents.{Cents}
@@ -30,7 +31,7 @@ use Rattle.mari_network.specs.Solving.{IsSolution, IsNetworkOf, AreSlotsOf}
 use Rattle.mari_market.specs.declared.market.Border.{Border}
 use Rattle.mari_network.specs.Orders.{slot_of, slots_of, ArePuts, CanPut, capped_cents, is_inside}
 use Rattle.std.specs.Int.{int_max}
-use Rattle.mari_network.proofs.Lists.{map_at, zip_long}
+use Rattle.mari_network.proofs.Lists.{zip_long}
 use Rattle.mari_network.proofs.Shortfalls.{AreLowest, AreHighest}
 use Rattle.mari_network.proofs.Transfers.{IsOptimum, capped_prices}
 use Rattle.mari_network.proofs.Outcomes.{Ends, ends_solved, ends_cut_out, ends_cut_in}
@@ -72,7 +73,7 @@ answer_optimum spans m more n s xs fs prices e v network same runs tight flow pu
     (subst (λ (gs : List ℤ). Ends spans m more xs gs (int_at prices)) (sym flow) (ends spans m more n xs fs prices e v network same runs tight))
     (subst (λ (k : ℕ). ArePuts m.orders (take k xs) s.activation.mw) (sym reals) puts)
     (λ z l. let there : z < length prices = omega arith in
-    ap (λ (cs : List Cents). price_at cs z) made ∙ ap (λ (c : Cents). c.0) (map_at capped_cents prices z (pos 0) (record { 0 = pos 0 }) there))
+    ap (λ (cs : List Cents). price_at cs z) made ∙ ap (λ (c : Cents). c.0) (get_or-map capped_cents prices z (pos 0) (record { 0 = pos 0 }) there))
     (λ j l. none (length (slots_of spans m.orders) + j) (omega arith) (omega (arith, length-drop (length (slots_of spans m.orders)) xs, l))) in
     record {
       within = best.within;
@@ -86,14 +87,6 @@ answer_optimum spans m more n s xs fs prices e v network same runs tight flow pu
       stated = stated;
     }
 
-not_true : (b : Bool) → not b ≡ true → b ≡ false
-not_true true e = absurd (cc)
-not_true false e = refl
-
-not_false : (b : Bool) → not b ≡ false → b ≡ true
-not_false true e = refl
-not_false false e = absurd (cc)
-
 not_less : (a b : ℤ) → lt_z a b ≡ false → b ≤ℤ a
 not_less a b e = grind (arith, ints)
 
@@ -102,14 +95,14 @@ is_less a b e = grind (arith, ints)
 
 lowest : (n : ℕ) (p : ℕ → ℤ) (zones : List ℕ) → ((z : ℕ) → z < n → is_in zones z ≡ is_inside Out (p z)) → AreLowest n BEYOND p (is_in zones)
 lowest n p zones h = record {
-  yes = λ z l e. not_less (neg_ℤ BEYOND) (p z) (not_true (lt_z (neg_ℤ BEYOND) (p z)) (sym (h z l) ∙ e));
-  no = λ z l e. is_less (neg_ℤ BEYOND) (p z) (not_false (lt_z (neg_ℤ BEYOND) (p z)) (sym (h z l) ∙ e));
+  yes = λ z l e. not_less (neg_ℤ BEYOND) (p z) (not-true (lt_z (neg_ℤ BEYOND) (p z)) (sym (h z l) ∙ e));
+  no = λ z l e. is_less (neg_ℤ BEYOND) (p z) (not-false (lt_z (neg_ℤ BEYOND) (p z)) (sym (h z l) ∙ e));
 }
 
 highest : (n : ℕ) (p : ℕ → ℤ) (zones : List ℕ) → ((z : ℕ) → z < n → is_in zones z ≡ is_inside In (p z)) → AreHighest n BEYOND p (is_in zones)
 highest n p zones h = record {
-  yes = λ z l e. not_less (p z) BEYOND (not_true (lt_z (p z) BEYOND) (sym (h z l) ∙ e));
-  no = λ z l e. is_less (p z) BEYOND (not_false (lt_z (p z) BEYOND) (sym (h z l) ∙ e));
+  yes = λ z l e. not_less (p z) BEYOND (not-true (lt_z (p z) BEYOND) (sym (h z l) ∙ e));
+  no = λ z l e. is_less (p z) BEYOND (not-false (lt_z (p z) BEYOND) (sym (h z l) ∙ e));
 }
 
 -- where something stands in for an order, the zones of the least prices, or of the greatest, are a cut

@@ -19,8 +19,7 @@ use Rattle.mari_market.specs.Market.{IsValid, IsValidOrder, IsValidBorder}
 use Rattle.mari_market.specs.Price.{price_at, IsPrice}
 use Rattle.mari_market.specs.Relaxation.{IsWithinBounds, IsRelaxed}
 use Rattle.mari_market.specs.Cut.{least_put, most_put}
-use Rattle.std.proofs.lemmas.List.{length-map}
-use Rattle.mari_network.proofs.Lists.{map_at}
+use Rattle.std.proofs.lemmas.List.{length-map, get_or-map}
 use Rattle.mari_market.proofs.Duality.{weak_duality}
 use Rattle.mari_market.proofs.Tight.{tight_is_equal}
 use Rattle.mari_network.specs.Slots.{slot_into, IsWithinSlot, IsTightSlot}
@@ -125,4 +124,4 @@ gains_more f (o ∷ os) (p ∷ qs) (suc i) d q h l =
 pub capped_prices : (prices : List ℤ) → All (λ (c : Cents). IsPrice c.0) (map capped_cents prices)
 capped_prices prices = λ k d l.
     let there : k < length prices = omega (arith, length-map prices capped_cents, l) in
-    subst (λ (c : Cents). IsPrice c.0) (sym (map_at capped_cents prices k (pos 0) d there)) (record { low = omega (arith, ints, clamps); high = omega (arith, ints, clamps) })
+    subst (λ (c : Cents). IsPrice c.0) (sym (get_or-map capped_cents prices k (pos 0) d there)) (record { low = omega (arith, ints, clamps); high = omega (arith, ints, clamps) })

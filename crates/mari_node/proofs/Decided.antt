@@ -1,7 +1,7 @@
 -- At a word that decides every gate, what lies within its bounds opens exactly the gates that the word opens.
-use Rattle.std.proofs.Common.{◌≡◌, ◌==◌, ◌&&◌, ◌||◌, if◌then◌else◌, Bool, true, false, ℕ, zero, suc, ◌+◌, ◌<◌, ◌≤◌, List, [], ◌∷◌, Option, Some, None, length, map, arith, refl, sym, ap, ◌∙◌, subst, inl, inr}
+use Rattle.std.proofs.Common.{◌≡◌, ◌==◌, ◌&&◌, if◌then◌else◌, Bool, true, false, ℕ, zero, suc, ◌+◌, ◌<◌, ◌≤◌, List, [], ◌∷◌, Option, Some, None, length, map, arith, refl, sym, ap, ◌∙◌, subst, inl, inr}
 use Rattle.std.proofs.lemmas.Bool.Decides.{nat_tests}
-use Rattle.std.proofs.lemmas.Bool.{cases_lt, eqb-true}
+use Rattle.std.proofs.lemmas.Bool.{cases_lt, eqb-true, or_from, or_left, or_right}
 use Rattle.std.proofs.lemmas.List.{get_or_past}
 use Rattle.std.proofs.lemmas.List.Elements.{All-head, All-tail}
 use Rattle.std.specs.Prelude.{nat_lt, slice_get, slice_index_or, MatchOption}
@@ -47,16 +47,6 @@ and_shut : (b t : Bool) → (b ≡ true → t ≡ false) → (b && t) ≡ false
 and_shut true t h = h refl
 and_shut false t h = refl
 
-shut_or : (b t : Bool) → b ≡ false → t ≡ false → (b || t) ≡ false
-shut_or b t e f = ap (λ (c : Bool). c || t) e ∙ f
-
-pub or_first : (b t : Bool) → b ≡ true → (b || t) ≡ true
-or_first b t e = ap (λ (c : Bool). c || t) e
-
-pub or_second : (b t : Bool) → t ≡ true → (b || t) ≡ true
-or_second true t e = refl
-or_second false t e = e
-
 idle : (q : ℕ) → q ≤ 0 → nat_lt 0 q ≡ false
 idle q l = grind (arith, nat_tests)
 
@@ -77,7 +67,7 @@ closed_idle state (Some h) g o q w e = and_shut (h == g) (nat_lt 0 q) (λ same.
 closed_runs : (state : ℕ → GateState) (g : ℕ) (os : List Order) (qs : List ℕ) → AllZip (λ o q. IsWithin (span_in state o) q) os qs → state g ≡ Closed → runs_gate g os qs ≡ false
 closed_runs state g [] qs w e = refl
 closed_runs state g (o ∷ os) [] w e = refl
-closed_runs state g (o ∷ os) (q ∷ qs) w e = shut_or (is_gate g o.gate && nat_lt 0 q) (runs_gate g os qs) (closed_idle state o.gate g o q w.0 e) (closed_runs state g os qs w.1 e)
+closed_runs state g (o ∷ os) (q ∷ qs) w e = or_from (is_gate g o.gate && nat_lt 0 q) (runs_gate g os qs) (closed_idle state o.gate g o q w.0 e) (closed_runs state g os qs w.1 e)
 
 -- an order of an open gate runs
 open_busy : (n : ℕ) (state : ℕ → GateState) (gate : Option ℕ) (g : ℕ) (o : Order) (q : ℕ) → gate ≡ Some g → MatchOption gate (o.least ≡ 0) (λ h. (h < n) × (1 ≤ o.least)) → IsWithin (span_of state gate o) q → state g ≡ Open → (is_gate g gate && nat_lt 0 q) ≡ true
@@ -95,9 +85,9 @@ open_runs z n state g [] qs k x v w l at its e = absurd (omega arith)
 open_runs z n state g (o ∷ os) [] k x v w l at its e = absurd w
 open_runs z n state g (o ∷ os) (q ∷ qs) zero x v w l at its e =
     let first = All-head (IsValidOrder z n) o os v in
-    or_first (is_gate g o.gate && nat_lt 0 q) (runs_gate g os qs) (open_busy n state o.gate g o q (ap (λ (y : Order). y.gate) at ∙ its) first.gate w.0 e)
+    or_left (is_gate g o.gate && nat_lt 0 q) (runs_gate g os qs) (open_busy n state o.gate g o q (ap (λ (y : Order). y.gate) at ∙ its) first.gate w.0 e)
 open_runs z n state g (o ∷ os) (q ∷ qs) (suc k) x v w l at its e =
-    or_second (is_gate g o.gate && nat_lt 0 q) (runs_gate g os qs) (open_runs z n state g os qs k x (All-tail (IsValidOrder z n) o os v) w.1 (omega arith) at its e)
+    or_right (is_gate g o.gate && nat_lt 0 q) (runs_gate g os qs) (open_runs z n state g os qs k x (All-tail (IsValidOrder z n) o os v) w.1 (omega arith) at its e)
 
 runs_as : (m : Market) (a : Activation) (word : List Bool) (g : ℕ) (b : Bool) → IsValid m → IsWithinBounds (bounds_of_word m word) m a → g < length m.gates → state_of m.gates word g ≡ (if b then Open else Closed) → is_open m a g ≡ b
 runs_as m a word g true v w l e =

@@ -1,6 +1,6 @@
 -- What runs within bounds and in balance is feasible where the orders of each gate run together, at least their least.
 use Rattle.std.proofs.Common.{◌≡◌, ◌&&◌, if◌then◌else◌, Bool, true, false, ℕ, zero, suc, ◌+◌, ◌<◌, ◌≤◌, List, [], ◌∷◌, ◌++◌, Option, Some, None, length, length-append, arith, refl, ap, ◌∙◌, inl, inr}
-use Rattle.std.proofs.lemmas.Bool.{both_ways, cases_lt}
+use Rattle.std.proofs.lemmas.Bool.{both_ways, cases_lt, or_left, or_right}
 use Rattle.std.proofs.lemmas.List.FromFn.{length-map-range_with_len}
 use Rattle.std.proofs.lemmas.Option.{slice_get_past}
 use Rattle.std.specs.Prelude.{◌↔◌, IsTrue, nat_lt, slice_get, option_and_then, MatchOption}
@@ -23,7 +23,7 @@ use Rattle.mari_market.proofs.Prefixes.{opens_within}
 use Rattle.mari_market.proofs.Search.{parents_earlier}
 use Rattle.mari_market.proofs.Sums.{AllZip-both, AllZip-with, AnyZip-meets}
 use Rattle.mari_market.proofs.Words.{Begins, begins_get, begins_push, in_word, word_is_feasible}
-use Rattle.mari_node.proofs.Decided.{busy, its_gate, or_first, or_second, word_at}
+use Rattle.mari_node.proofs.Decided.{busy, its_gate, word_at}
 use Rattle.mari_node.specs.Running.{IsBounded, IsNotPartial, IsPartial, RunsWhereOpen}
 
 -- ---- within the bounds of any word
@@ -97,8 +97,8 @@ all_rest opens P [] [] a h = tt
 all_rest opens P [] (q ∷ qs) a h = a
 all_rest opens P (o ∷ os) [] a h = a
 all_rest opens P (o ∷ os) (q ∷ qs) a h = (
-  λ g e f. rest opens o q g (λ t. h g (or_first (is_gate g o.gate && nat_lt 0 q) (runs_gate g os qs) t)) e f,
-  all_rest opens P os qs a.1 (λ g t. h g (or_second (is_gate g o.gate && nat_lt 0 q) (runs_gate g os qs) t)),
+  λ g e f. rest opens o q g (λ t. h g (or_left (is_gate g o.gate && nat_lt 0 q) (runs_gate g os qs) t)) e f,
+  all_rest opens P os qs a.1 (λ g t. h g (or_right (is_gate g o.gate && nat_lt 0 q) (runs_gate g os qs) t)),
 )
 
 -- what is known of an order where the gates that are open are told

@@ -2,30 +2,20 @@
 use Rattle.std.proofs.Common.{◌≡◌, ◌⊎◌, ℕ, ◌<◌, ◌≤◌, ℤ, pos, neg_ℤ, ◌≤ℤ◌, List, Option, Some, length, zero, suc, arith, refl, sym, ap, ◌∙◌, subst, inl, inr}
 use Rattle.std.specs.Prelude.{unsigned_abs}
 use Rattle.std.proofs.lemmas.Int.{ints}
-use Rattle.mari_market.specs.declared.market.Border.{Border}
 use Rattle.mari_market.specs.declared.market.Market.{Market}
 use Rattle.mari_market.specs.declared.activation.Activation.{Activation}
-use Rattle.mari_market.specs.Area.{Joins, InOneArea, AreAreas, area_at}
+use Rattle.mari_market.specs.Area.{InOneArea, AreAreas, area_at}
 use Rattle.mari_market.specs.Along.Reaches.{itself, further}
-use Rattle.mari_market.specs.Market.{IsValid, IsValidBorder}
+use Rattle.mari_market.specs.Market.{IsValid}
 use Rattle.mari_market.specs.declared.along.Along.TheVariants.{Joined}
 use Rattle.mari_prices.specs.declared.spread.SettledZone.{SettledZone}
-use Rattle.mari_market.specs.Along.{LeadsOver, LeadsTo}
+use Rattle.mari_market.specs.Along.{LeadsTo}
 use Rattle.mari_prices.specs.Firsts.{ArePlaces, first_in, first_at, AreFirsts, AreNumbered}
 use Rattle.mari_market.specs.Sums.{int_at}
 use Rattle.mari_prices.specs.Spread.{entry_at, IsByItself, IsAfter, SpreadsAlong}
 use Rattle.mari_prices.proofs.Extremes.{entry_within}
-use Rattle.mari_prices.proofs.Spreads.{AnyZip-of}
+use Rattle.mari_prices.proofs.Spreads.{leads_within}
 use Rattle.mari_market.proofs.Joins.{joins_other, area_on, area_back}
-
--- ---- joins
-
-join_ends : (n y z : ℕ) (b : Border) (f : ℤ) → IsValidBorder n b → LeadsOver Joined y z b f → (y < n) × (z < n)
-join_ends n y z b f v (inl l) = (subst (λ (x : ℕ). x < n) l.0 v.from, subst (λ (x : ℕ). x < n) l.1 v.to)
-join_ends n y z b f v (inr l) = (subst (λ (x : ℕ). x < n) l.0 v.to, subst (λ (x : ℕ). x < n) l.1 v.from)
-
-joins_within : (m : Market) (a : Activation) (y z : ℕ) → IsValid m → Joins m a y z → (y < m.zones) × (z < m.zones)
-joins_within m a y z v j = AnyZip-of (IsValidBorder m.zones) (LeadsOver Joined y z) ((y < m.zones) × (z < m.zones)) (λ b f p k. join_ends m.zones y z b f p k) m.borders a.flow v.borders j
 
 -- ---- first zones
 
@@ -69,7 +59,7 @@ same_value m a values xs v h y _ l itself = (l, λ s t e f. let one : s ≡ t = 
 same_value m a values xs v h y _ l (further w z k j) =
     let before = same_value m a values xs v h y w l k in
     let u = h.spread.settled w (omega (arith, before.0, h.one_each)) in (
-      (joins_within m a w z v j).1,
+      (leads_within Joined m a w z v j).1,
       λ s t e f. omega (
         arith,
         ints,

@@ -5,13 +5,12 @@ use Rattle.std.proofs.lemmas.Int.{ints}
 use Rattle.std.proofs.lemmas.List.Elements.{All-weaker, All-nil, All-cons, All-from_get_or}
 use Rattle.mari_units.specs.declared.Cents.{Cents}
 use Rattle.mari_market.specs.declared.market.Order.{Order}
-use Rattle.mari_market.specs.declared.market.Border.{Border}
 use Rattle.mari_market.specs.declared.market.Market.{Market}
 use Rattle.mari_market.specs.declared.activation.Activation.{Activation}
 use Rattle.mari_market.specs.Conflict.{IsChain, last_of, Contradicts, IsContradiction}
 use Rattle.mari_market.specs.Consistent.{IsUpperBound}
 use Rattle.mari_market.specs.Interval.{AreLeastPrices, AreGreatestPrices}
-use Rattle.mari_market.specs.Market.{IsValid, IsValidOrder, IsValidBorder}
+use Rattle.mari_market.specs.Market.{IsValid, IsValidOrder}
 use Rattle.mari_market.specs.Optimal.{IsFeasible, IsConsistent}
 use Rattle.mari_units.specs.declared.numbers.TheConstants.{CAP}
 use Rattle.mari_market.specs.Price.{IsPrice, price_at}
@@ -19,22 +18,14 @@ use Rattle.mari_prices.specs.declared.bounds.End.{End}
 use Rattle.mari_prices.specs.declared.bounds.End.TheVariants.{Least, Greatest}
 use Rattle.mari_market.specs.declared.along.Along.TheVariants.{Rising, Falling}
 use Rattle.mari_prices.specs.declared.spread.SettledZone.{SettledZone}
-use Rattle.mari_market.specs.Along.{Leads, LeadsBy, LeadsTo}
+use Rattle.mari_market.specs.Along.{LeadsTo}
 use Rattle.mari_prices.specs.Ends.{along_of, IsEnd, ArePriced, ArePricesOf, AreTrails, AreUncontradicted, IsContradicted, Follows, IsTrailTo}
 use Rattle.mari_market.specs.Sums.{int_at}
 use Rattle.mari_prices.specs.Spread.{entry_at, IsByItself, IsAfter, IsSpreading}
 use Rattle.mari_market.proofs.Agree.{KeepsAll, keeps_consistent, consistent_keeps}
 use Rattle.mari_prices.proofs.Extremes.{entry_within, spread_least}
-use Rattle.mari_prices.proofs.Spreads.{AnyZip-of, lower_spreads, lower_from, upper_spreads, upper_from, bound_price}
+use Rattle.mari_prices.proofs.Spreads.{lower_spreads, lower_from, upper_spreads, upper_from, bound_price, leads_within}
 use Rattle.mari_market.proofs.Leading.{falling_spreads, falling_from}
-
--- a border leads between zones that are there
-leads_over : (n y z : ℕ) (b : Border) (f : ℤ) → IsValidBorder n b → LeadsBy y z b f → (y < n) × (z < n)
-leads_over n y z b f v (inl l) = (subst (λ (x : ℕ). x < n) l.0 v.from, subst (λ (x : ℕ). x < n) l.1 v.to)
-leads_over n y z b f v (inr l) = (subst (λ (x : ℕ). x < n) l.0 v.to, subst (λ (x : ℕ). x < n) l.1 v.from)
-
-leads_within : (m : Market) (a : Activation) (y z : ℕ) → IsValid m → Leads m a y z → (y < m.zones) × (z < m.zones)
-leads_within m a y z v l = AnyZip-of (IsValidBorder m.zones) (LeadsBy y z) ((y < m.zones) × (z < m.zones)) (λ b f p k. leads_over m.zones y z b f p k) m.borders a.flow v.borders l
 
 prices_of_orders : (m : Market) → IsValid m → All (λ (o : Order). IsPrice o.price.0) m.orders
 prices_of_orders m v = All-weaker (IsValidOrder m.zones (length m.gates)) (λ (o : Order). IsPrice o.price.0) (λ o h. h.price) m.orders v.orders
@@ -64,7 +55,7 @@ bounds_priced end m a bounds xs v e = All-from_get_or IsPrice bounds (pos 0) (λ
 pub least_value : (m : Market) (a : Activation) (bounds : List ℤ) (xs : List (Option SettledZone)) (ps : List Cents) → IsValid m → IsFeasible m a → IsEnd Least m a bounds xs → KeepsAll m a ps → (z : ℕ) (s : SettledZone) → entry_at xs z ≡ Some s → s.value ≤ℤ price_at ps z
 least_value m a bounds xs ps v f e k z s h = spread_least (LeadsTo Rising m.borders a.flow) (int_at bounds) (price_at ps) xs e.spread.spreading
     (λ y l. let there : y < m.zones = omega (arith, l, e.one_each) in k.lower y (int_at bounds y) there (lower_from m a y (int_at bounds y) v f (e.tightest y there).bound))
-    (λ x y l. let w = leads_within m a x y v l in k.rises x y w.0 w.1 l) z s h
+    (λ x y l. let w = leads_within Rising m a x y v l in k.rises x y w.0 w.1 l) z s h
 
 pub greatest_value : (m : Market) (a : Activation) (bounds : List ℤ) (xs : List (Option SettledZone)) (ps : List Cents) → IsValid m → IsFeasible m a → IsEnd Greatest m a bounds xs → KeepsAll m a ps → (z : ℕ) (s : SettledZone) → entry_at xs z ≡ Some s → s.value ≤ℤ neg_ℤ (price_at ps z)
 greatest_value m a bounds xs ps v f e k z s h = spread_least (LeadsTo Falling m.borders a.flow) (int_at bounds) (λ y. neg_ℤ (price_at ps y)) xs e.spread.spreading
@@ -74,7 +65,7 @@ greatest_value m a bounds xs ps v f e k z s h = spread_least (LeadsTo Falling m.
     omega (arith, ints))
     (λ x y l.
     let r = falling_from m a y x l in
-    let w = leads_within m a y x v r in
+    let w = leads_within Rising m a y x v r in
     let at : price_at ps y ≤ℤ price_at ps x = k.rises y x w.0 w.1 r in
     omega (arith, ints)) z s h
 

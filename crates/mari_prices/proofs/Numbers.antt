@@ -1,7 +1,7 @@
 -- One more zone numbered.
-use Rattle.std.proofs.Common.{◌≡◌, ◌⊎◌, ℕ, ◌+◌, ◌<◌, ◌≤◌, List, [], ◌∷◌, ◌++◌, length, get_or, length-append, zero, suc, arith, refl, sym, ap, ◌∙◌, subst, inl, inr}
+use Rattle.std.proofs.Common.{◌≡◌, ◌⊎◌, ℕ, ◌+◌, ◌<◌, ◌≤◌, List, [], ◌∷◌, ◌++◌, length, get_or, zero, suc, arith, refl, sym, ap, ◌∙◌, subst, inl, inr}
 use Rattle.std.proofs.lemmas.Bool.{cases_lt}
-use Rattle.std.proofs.lemmas.List.{get_or_default}
+use Rattle.std.proofs.lemmas.List.{get_or_default, length_push}
 use Rattle.mari_market.specs.Area.{area_at}
 use Rattle.mari_prices.specs.Firsts.{IsNumbering}
 
@@ -96,12 +96,9 @@ pushed_new (x ∷ xs) v (suc n) e = pushed_new xs v n (omega (arith, e))
 pushed : (xs : List ℕ) (v n : ℕ) → length xs ≡ n → Adds (area_at xs) (area_at (xs ++ v ∷ [])) n v
 pushed xs v n e = record { old = λ z h. pushed_old xs v z (omega (arith, e)); new = pushed_new xs v n e }
 
-pushed_long : (xs : List ℕ) (v : ℕ) → length (xs ++ v ∷ []) ≡ length xs + 1
-pushed_long xs v = omega (arith, length-append xs (v ∷ []))
-
 pub push_new_area : (f : ℕ → ℕ) (xs ys : List ℕ) (n count count' : ℕ) → length xs ≡ n → ys ≡ xs ++ (count + 1) ∷ [] → count' ≡ count + 1 → IsNumbering f (area_at xs) n count → ((z : ℕ) → z < n → f z ≤ z) → f n ≡ n → (length ys ≡ n + 1) × IsNumbering f (area_at ys) (n + 1) count'
 push_new_area f xs ys n count count' e made more h back first = (
-  ap length made ∙ omega (arith, pushed_long xs (count + 1), e),
+  ap length made ∙ omega (arith, length_push xs (count + 1), e),
   subst (λ (zs : List ℕ). IsNumbering f (area_at zs) (n + 1) count') (sym made)
       (subst (IsNumbering f (area_at (xs ++ (count + 1) ∷ [])) (n + 1)) (sym more) (new_area f (area_at xs) (area_at (xs ++ (count + 1) ∷ [])) n count h back first (pushed xs (count + 1) n e))),
 )
@@ -110,6 +107,6 @@ pub push_old_area : (f : ℕ → ℕ) (xs ys : List ℕ) (n count count' v first
 push_old_area f xs ys n count count' v first e made same h back at read before =
     let own : v ≡ area_at xs (f n) = read ∙ get_or_default xs first v 0 (omega (arith, e, at, before)) ∙ ap (area_at xs) at in
     let adds : Adds (area_at xs) (area_at (xs ++ v ∷ [])) n (area_at xs (f n)) = subst (Adds (area_at xs) (area_at (xs ++ v ∷ [])) n) own (pushed xs v n e) in (
-      ap length made ∙ omega (arith, pushed_long xs v, e),
+      ap length made ∙ omega (arith, length_push xs v, e),
       subst (λ (zs : List ℕ). IsNumbering f (area_at zs) (n + 1) count') (sym made) (subst (IsNumbering f (area_at (xs ++ v ∷ [])) (n + 1)) (sym same) (old_area f (area_at xs) (area_at (xs ++ v ∷ [])) n count h back before adds)),
     )

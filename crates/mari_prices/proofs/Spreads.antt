@@ -1,15 +1,18 @@
 -- Bounds of prices, as the definitions have them and as they spread.
-use Rattle.std.proofs.Common.{◌≡◌, ℕ, ℤ, neg_ℤ, List, [], ◌∷◌, arith, sym, ap, subst, inl, inr}
+use Rattle.std.proofs.Common.{◌≡◌, ℕ, ℤ, neg_ℤ, List, [], ◌∷◌, arith, sym, ap, subst, inl, inr, ◌<◌}
 use Rattle.std.specs.List.{All}
 use Rattle.std.proofs.lemmas.Int.{ints}
 use Rattle.std.proofs.lemmas.List.Elements.{All-head, All-tail}
+use Rattle.mari_market.specs.declared.along.Along.{Along}
+use Rattle.mari_market.specs.declared.market.Border.{Border}
 use Rattle.mari_market.specs.declared.market.Order.{Order}
 use Rattle.mari_market.specs.declared.market.Market.{Market}
 use Rattle.mari_market.specs.declared.activation.Activation.{Activation}
 use Rattle.mari_market.specs.Activation.{is_open}
+use Rattle.mari_market.specs.Along.{LeadsOver, LeadsTo}
 use Rattle.mari_market.specs.declared.price_rules.Standing.{Standing}
 use Rattle.mari_market.specs.Consistent.{SetsLower, SetsUpper, SetsLowerAt, SetsUpperAt, IsLowerBound, IsUpperBound}
-use Rattle.mari_market.specs.Market.{IsValid}
+use Rattle.mari_market.specs.Market.{IsValid, IsValidBorder}
 use Rattle.mari_market.specs.Optimal.{IsFeasible}
 use Rattle.mari_market.specs.Price.{IsPrice}
 use Rattle.mari_market.specs.Sums.{AnyZip}
@@ -55,6 +58,14 @@ AnyZip-of P Q R h [] ys p e = absurd e
 AnyZip-of P Q R h (x ∷ xs) [] p e = absurd e
 AnyZip-of P Q R h (x ∷ xs) (y ∷ ys) p (inl e) = h x y (All-head P x xs p) e
 AnyZip-of P Q R h (x ∷ xs) (y ∷ ys) p (inr e) = AnyZip-of P Q R h xs ys (All-tail P x xs p) e
+
+-- a border leads between zones that are there
+leads_over : (along : Along) (n y z : ℕ) (b : Border) (f : ℤ) → IsValidBorder n b → LeadsOver along y z b f → (y < n) × (z < n)
+leads_over along n y z b f v (inl l) = (subst (λ (x : ℕ). x < n) l.0 v.from, subst (λ (x : ℕ). x < n) l.1 v.to)
+leads_over along n y z b f v (inr l) = (subst (λ (x : ℕ). x < n) l.0 v.to, subst (λ (x : ℕ). x < n) l.1 v.from)
+
+pub leads_within : (along : Along) (m : Market) (a : Activation) (y z : ℕ) → IsValid m → LeadsTo along m.borders a.flow y z → (y < m.zones) × (z < m.zones)
+leads_within along m a y z v l = AnyZip-of (IsValidBorder m.zones) (LeadsOver along y z) ((y < m.zones) × (z < m.zones)) (λ b f p k. leads_over along m.zones y z b f p k) m.borders a.flow v.borders l
 
 pub bound_price : (end : End) (os : List Order) (qs : List ℕ) (z : ℕ) (c : ℤ) → All (λ (o : Order). IsPrice o.price.0) os → IsBoundBy end os qs z c → IsPrice c
 bound_price end os qs z c p (inl e) = record { low = omega (arith, ints); high = omega (arith, ints) }

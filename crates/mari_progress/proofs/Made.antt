@@ -1,5 +1,5 @@
 -- The market of a run behind blocks of the first runs.
-use Rattle.std.proofs.Common.{◌≡◌, ◌∙◌, ℕ, ◌<◌, ◌≤◌, List, [], ◌∷◌, ◌++◌, length, length-append, map, take, get_or, Option, Some, None, refl, sym, ap, arith, slice_get, unsigned_abs}
+use Rattle.std.proofs.Common.{◌≡◌, ◌∙◌, ℕ, ◌<◌, ◌≤◌, List, [], ◌∷◌, ◌++◌, length, length-append, map, take, get_or, refl, sym, ap, arith, slice_get, unsigned_abs}
 use Rattle.std.specs.List.{All, AllZip}
 use Rattle.std.specs.Prelude.{IsSomeAnd}
 use Rattle.std.proofs.lemmas.List.{length-map}
@@ -12,10 +12,10 @@ use Rattle.mari_remain.specs.Accepted.{IsAccepted}
 use Rattle.mari_remain.specs.Blocks.{PastBlock}
 use Rattle.mari_remain.specs.FirstBlocks.{AreFirstBlocks}
 use Rattle.mari_remain.specs.Lists.{run_numbered}
-use Rattle.mari_remain.specs.RunMarket.{bid_order, demand_order, demands_of_run, gate_of, gated_left, greatest_left, market_at, numbers_of, run_market_of, taken_before}
+use Rattle.mari_remain.specs.RunMarket.{bid_order, demand_order, demands_of_run, gate_of, gated_left, market_at, numbers_of, run_market_of, taken_before}
 use Rattle.mari_remain.specs.declared.books.Books.{Books}
 use Rattle.mari_remain.proofs.History.{bounded}
-use Rattle.mari_remain.proofs.Validity.{few, few_numbers, there, valid}
+use Rattle.mari_remain.proofs.Validity.{few, few_numbers, there, valid, most_left}
 use Rattle.mari_settle.specs.Conditions.{IsOrderOf, NameOrders}
 use Rattle.mari_progress.specs.Runs.{IsMarketOf}
 
@@ -27,10 +27,6 @@ zip-map R f (n ∷ ns) all = (All-head (λ k. R k (f k)) n ns all, zip-map R f n
 take-front : {X : Type 0} (xs ys : List X) → take (length xs) (xs ++ ys) ≡ xs
 take-front [] ys = refl
 take-front (x ∷ xs) ys = ap (λ zs. x ∷ zs) (take-front xs ys)
-
-most-left : (gate : Option ℕ) (offer taken : ℕ) → greatest_left gate offer taken ≤ offer
-most-left None offer taken = omega arith
-most-left (Some g) offer taken = omega arith
 
 module _ (books : Books) (ok : IsAccepted books) (past : List PastBlock) (first : AreFirstBlocks books past) (run : ℕ) where
   small-flows : (k : ℕ) → unsigned_abs ((taken_before books past run).flow k) ≤ 99999
@@ -58,7 +54,7 @@ module _ (books : Books) (ok : IsAccepted books) (past : List PastBlock) (first 
       rw front (All-map (λ (o : Order). o.greatest ≤ 9999) order-of (numbers_of books past run)
       (λ k d l. let i = get_or (numbers_of books past run) k d in
       let own = (ok.bids.bids i no_bid (numbers-there k d l)).most in
-      omega (arith, own, most-left (gate_of (gated_left books (taken_before books past run) run) i) (bid_numbered books.bids.bids i).greatest ((taken_before books past run).mw i))))
+      omega (arith, own, most_left (gate_of (gated_left books (taken_before books past run) run) i) (bid_numbered books.bids.bids i).greatest ((taken_before books past run).mw i))))
 
   pub market-of : 1 ≤ run → run ≤ length books.runs.runs → IsMarketOf books (run_market_of books past run)
   market-of one last = record {

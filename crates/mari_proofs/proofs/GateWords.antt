@@ -19,8 +19,8 @@ use Rattle.mari_market.specs.Optimal.{IsFeasible}
 use Rattle.mari_market.specs.Prefix.{word_of, bit_of, opens_in}
 use Rattle.mari_market.proofs.Sums.{AllZip-both, AllZip-with, AllZip-at}
 use Rattle.mari_gates.proofs.Decisions.{opens-decisions}
-use Rattle.mari_gates.proofs.GateWords.{same_map}
 use Rattle.mari_welfare.proofs.Open.{runs_here}
+use Rattle.mari_units.proofs.Lists.{same_map}
 use Rattle.mari_proofs.specs.Conflicts.{opens_gate, RunsAsDecided, HasDecidedGate}
 use Rattle.mari_market.proofs.Conflicts.{none_past}
 use Rattle.std.specs.Cmp.Derive.{both_true}

@@ -1,7 +1,7 @@
 -- A walk through a tree, item by item.
 use Rattle.std.proofs.Common.{◌≡◌, Bool, false, ℕ, zero, suc, ◌+◌, ◌<◌, ◌≤◌, List, [], ◌∷◌, ◌++◌, length, take, drop, get_or, Option, Some, None, arith, subst, refl, sym, ap, ◌∙◌}
 use Rattle.std.specs.Prelude.{◌↔◌}
-use Rattle.std.proofs.lemmas.List.{take_all}
+use Rattle.std.proofs.lemmas.List.{take_all, take_more, drop_all}
 use Rattle.mari_market.specs.declared.market.GateInfo.{GateInfo}
 use Rattle.mari_market.specs.declared.market.Market.{Market}
 use Rattle.mari_market.specs.declared.prefix.Prefix.{Prefix}
@@ -46,13 +46,6 @@ leaves_append m holds [] (item ∷ items) more left last h k = absurd h
 leaves_append m holds (word ∷ words) (Leaf leaf ∷ items) more left last h k = (h.0, leaves_append m holds words items more left last h.1 k)
 leaves_append m holds (word ∷ words) (Branch ∷ items) more left last h k = (h.0, leaves_append m holds (children m.gates word ++ words) items more left last h.1 k)
 
-take_more : (items : List TreeItem) (i : ℕ) (d : TreeItem) → i < length items → take (i + 1) items ≡ take i items ++ get_or items i d ∷ []
-take_more [] i d h = absurd (omega arith)
-take_more (x ∷ xs) zero d h = refl
-take_more (x ∷ xs) (suc i) d h =
-    let one : suc i + 1 ≡ suc (i + 1) = omega arith in
-    ap (λ n. take n (x ∷ xs)) one ∙ ap (λ (ys : List TreeItem). x ∷ ys) (take_more xs i d (omega arith))
-
 -- a walk's step: one item more that fits
 pub walk_more : (m : Market) (holds : List Bool → LeafRecord → Type 0) (items : List TreeItem) (i : ℕ) (d : TreeItem) (x : Prefix) (at next : Option Prefix) → i < length items → at ≡ Some x → LeavesWords m holds ([] ∷ []) (take i items) (left_at m.gates at) → FitsItem m holds x (get_or items i d) next → LeavesWords m holds ([] ∷ []) (take (i + 1) items) (left_at m.gates next)
 walk_more m holds items i d x at next h is before fits =
@@ -71,12 +64,8 @@ ends_too_early m holds items i x at h is before = record {
   left = left_at m.gates at;
   before = subst (λ (xs : List TreeItem). LeavesWords m holds ([] ∷ []) xs (left_at m.gates at)) (take_all i items h ∙ sym (take_all (length items) items (omega arith))) before;
   fails = subst (λ (o : Option Prefix). ShapeFails m (left_at m.gates o) (drop (length items) items)) (sym is)
-      (subst (λ (xs : List TreeItem). ShapeFails m (left_at m.gates (Some x)) xs) (sym (drop_all items)) tt);
+      (subst (λ (xs : List TreeItem). ShapeFails m (left_at m.gates (Some x)) xs) (sym (drop_all (length items) items (omega arith))) tt);
 }
-  where
-    drop_all : (xs : List TreeItem) → drop (length xs) xs ≡ []
-    drop_all [] = refl
-    drop_all (y ∷ ys) = drop_all ys
 
 pub none_left : (m : Market) (holds : List Bool → LeafRecord → Type 0) (words : List (List Bool)) (items : List TreeItem) → LeavesWords m holds words items [] → AreParts m holds words items
 none_left m holds words [] h = subst (λ (ws : List (List Bool)). AreParts m holds ws []) (sym h) tt

@@ -1,6 +1,6 @@
 -- What has come can always become a publication.
 use Rattle.std.proofs.Common.{◌≡◌, ◌<◌, ℕ, suc, zero, ◌+◌, ◌-◌, List, [], ◌∷◌, ◌++◌, length, Option, Some, None, ℤ, pos, refl, sym, ap, subst, ◌∙◌, append_assoc, length-append, arith}
-use Rattle.std.proofs.lemmas.Bool.{lt-ltb, eq-eqb}
+use Rattle.std.proofs.lemmas.Bool.{lt-ltb, eq-eqb, and_from}
 use Rattle.std.proofs.lemmas.Int.{ints}
 use Rattle.std.proofs.lemmas.List.{append-nil}
 use Rattle.std.proofs.lemmas.List.Elements.{All-nil}
@@ -32,7 +32,7 @@ use Rattle.mari_publish.specs.Order.{kept_with, one_published, with_item, confli
 use Rattle.mari_publish.proofs.Counts.{both_kinds}
 use Rattle.mari_lines.proofs.Gathered.{cons_all}
 use Rattle.mari_publish.proofs.Fits.{Fit, has_text}
-use Rattle.mari_publish.proofs.Follows.{if_true, and_true, kept_some, same}
+use Rattle.mari_publish.proofs.Follows.{if_true, kept_some, same}
 use Rattle.mari_publish.proofs.Whole.{all_back, all_push, Stands, next}
 
 shorter : (ls : List Line) (l : Line) → Begins (ls ++ l ∷ []) → Begins ls
@@ -59,7 +59,7 @@ from_totals ls p k os ps s fit =
     let c = both_kinds p.blocks in
     let range : InRange (line.Done k.counts.published k.counts.unpublished) = (omega (arith, c, s.published, s.runs), omega (arith, c, s.unpublished, s.runs)) in
     then_line ls p k (held.Totals os ps) (line.Done k.counts.published k.counts.unpublished) (new, Some (part.Totals os ps)) s fit range
-    (if_true _ (new, Some (part.Totals os ps)) (and_true _ _ (same k.counts.published) (same k.counts.unpublished)))
+    (if_true _ (new, Some (part.Totals os ps)) (and_from _ _ (same k.counts.published) (same k.counts.unpublished)))
     (from_done (ls ++ line.Done k.counts.published k.counts.unpublished ∷ []) (grown p (Some (part.Totals os ps))) new)
 
 free : Cents
@@ -170,7 +170,7 @@ from_listing ls p k b [] is s fit =
     let no_demands : length b.demands ≡ 0 = none_of _ _ f.demand_later no_zones in
     let new : Listing = record { heading = b.heading; welfare = b.welfare; zones = b.zones ++ a_zone ∷ []; borders = b.borders; bids = b.bids; demands = b.demands } in
     let o : after_listing b (line.Zone a_zone) ≡ Some (held.Listing new) = if_true _ (held.Listing new)
-    (and_true _ _ (and_true _ _ (and_true _ _ (eq-eqb _ _ no_borders) (eq-eqb _ _ no_bids)) (eq-eqb _ _ no_demands)) (lt-ltb _ _ (omega (arith, no_zones)))) in
+    (and_from _ _ (and_from _ _ (and_from _ _ (eq-eqb _ _ no_borders) (eq-eqb _ _ no_bids)) (eq-eqb _ _ no_demands)) (lt-ltb _ _ (omega (arith, no_zones)))) in
     let len : length (b.zones ++ a_zone ∷ []) ≡ length b.zones + 1 = simp (length-append) in
     then_line ls p k (held.Listing b) (line.Zone a_zone) (kept_with k (held.Listing new), None) s fit (refl, free_price, free_price, free_price, (omega arith, omega arith)) (kept_some k _ (held.Listing new) o)
     (λ s2 fit2. from_zones (ls ++ line.Zone a_zone ∷ []) p (kept_with k (held.Listing new)) new s2 fit2 (omega (arith, len)))

@@ -2,6 +2,7 @@
 use Rattle.std.proofs.Common.{◌≡◌, ◌≤◌, ◌<◌, ℕ, suc, ◌+◌, List, [], ◌∷◌, ◌++◌, map, length, refl, ap, ◌*◌, ◌^◌, length-append, arith}
 use Rattle.std.specs.List.{flat_map, AllByRecursion, All}
 use Rattle.std.proofs.lemmas.List.Elements.{All-nil}
+use Rattle.std.proofs.lemmas.List.{length-map}
 use Rattle.mari_market.specs.declared.certificate.Leaf.TheVariants as leaves
 use Rattle.mari_market.specs.declared.certificate.TreeItem.{TreeItem}
 use Rattle.mari_market.specs.declared.certificate.TreeItem.TheVariants as items
@@ -158,10 +159,6 @@ items_few (i ∷ is) = let n = length-append (item_lines i) (flat_map item_lines
     four (items.Leaf (leaves.Cut c)) = omega arith
     four (items.Leaf (leaves.Conflict c)) = omega arith
 
-mapped : {X : Type 0} (f : X → Line) (xs : List X) → length (map f xs) ≡ length xs
-mapped f [] = refl
-mapped f (x ∷ xs) = ap suc (mapped f xs)
-
 demands_few : (k : ℕ) (ms : List ℕ) → length (demand_lines k ms) ≡ length ms
 demands_few k [] = refl
 demands_few k (m ∷ ms) = ap suc (demands_few (k + 1) ms)
@@ -182,13 +179,13 @@ block_few (block.Published b) f =
     let ft = f.tree.0.1 in
     let fo = f.operators.0.1 in
     let fp = f.providers.0.1 in
-    let z : length (map line.Zone b.zones) ≤ 64 = let n = mapped line.Zone b.zones in omega (arith, n, fz) in
-    let x : length (map line.Border b.borders) ≤ 256 = let n = mapped line.Border b.borders in omega (arith, n, fb) in
-    let d : length (map line.Bid b.bids) ≤ 4096 = let n = mapped line.Bid b.bids in omega (arith, n, fd) in
+    let z : length (map line.Zone b.zones) ≤ 64 = let n = length-map b.zones line.Zone in omega (arith, n, fz) in
+    let x : length (map line.Border b.borders) ≤ 256 = let n = length-map b.borders line.Border in omega (arith, n, fb) in
+    let d : length (map line.Bid b.bids) ≤ 4096 = let n = length-map b.bids line.Bid in omega (arith, n, fd) in
     let m : length (demand_lines 1 b.demands) ≤ 512 = let n = demands_few 1 b.demands in omega (arith, n, fm) in
     let t : length (tree_lines b.tree) ≤ 1 + 200000 = let n = items_few b.tree in omega (arith, n, ft) in
-    let o : length (map line.Operator b.operators) ≤ 64 = let n = mapped line.Operator b.operators in omega (arith, n, fo) in
-    let p : length (map line.Provider b.providers) ≤ 4096 = let n = mapped line.Provider b.providers in omega (arith, n, fp) in
+    let o : length (map line.Operator b.operators) ≤ 64 = let n = length-map b.operators line.Operator in omega (arith, n, fo) in
+    let p : length (map line.Provider b.providers) ≤ 4096 = let n = length-map b.providers line.Provider in omega (arith, n, fp) in
     let market = two _ _ 64 (256 + (4096 + 512)) z (two _ _ 256 (4096 + 512) x (two _ _ 4096 512 d m)) in
     let ending : length (ending_lines b) ≤ 64 + (4096 + 1) = two _ _ 64 (4096 + 1) o (two _ (line.End b.heading.run ∷ []) 4096 1 p (omega arith)) in
     let behind = two (market_lines b) (tree_lines b.tree ++ ending_lines b) (64 + (256 + (4096 + 512))) ((1 + 200000) + (64 + (4096 + 1))) market (two (tree_lines b.tree) (ending_lines b) (1 + 200000) (64 + (4096 + 1)) t ending) in
@@ -209,7 +206,7 @@ lines_few p h =
     let fp = h.totals.providers.0.1 in
     let done = line.Done (published_in p.blocks) (unpublished_in p.blocks) ∷ [] in
     let b : length (flat_map block_lines p.blocks) ≤ 300000000 = let m = blocks_few p.blocks h.blocks in omega (arith, m, runs) in
-    let o : length (map line.TotalOperator p.operators) ≤ 64 = let n = mapped line.TotalOperator p.operators in omega (arith, n, fo) in
-    let q : length (map line.TotalProvider p.providers) ≤ 1638400 = let n = mapped line.TotalProvider p.providers in omega (arith, n, fp) in
+    let o : length (map line.TotalOperator p.operators) ≤ 64 = let n = length-map p.operators line.TotalOperator in omega (arith, n, fo) in
+    let q : length (map line.TotalProvider p.providers) ≤ 1638400 = let n = length-map p.providers line.TotalProvider in omega (arith, n, fp) in
     let all = two (flat_map block_lines p.blocks) (closing_lines p) 300000000 (64 + (1638400 + 1)) b (two (map line.TotalOperator p.operators) _ 64 (1638400 + 1) o (two (map line.TotalProvider p.providers) done 1638400 1 q (omega arith))) in
     omega (arith, all)

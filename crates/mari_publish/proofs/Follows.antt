@@ -1,9 +1,9 @@
 -- The lines of a publication may follow one another, and give that publication.
-use Rattle.std.proofs.Common.{◌≡◌, ◌≤◌, ◌<◌, ℕ, ◌+◌, Bool, true, cond, ◌&&◌, List, [], ◌∷◌, ◌++◌, map, length, Option, Some, None, refl, sym, ap, ◌∙◌, append_assoc, length-append, arith, eqb}
+use Rattle.std.proofs.Common.{◌≡◌, ◌≤◌, ◌<◌, ℕ, ◌+◌, Bool, true, cond, List, [], ◌∷◌, ◌++◌, map, length, Option, Some, None, refl, sym, ap, ◌∙◌, append_assoc, arith, eqb}
 use Rattle.std.specs.List.{flat_map, AllByRecursion}
 use Rattle.std.specs.Prelude.{option_and_then}
-use Rattle.std.proofs.lemmas.Bool.{lt-ltb, eq-eqb}
-use Rattle.std.proofs.lemmas.List.{append-nil}
+use Rattle.std.proofs.lemmas.Bool.{lt-ltb, eq-eqb, and_from}
+use Rattle.std.proofs.lemmas.List.{append-nil, length_push}
 use Rattle.mari_market.specs.declared.certificate.Leaf.TheVariants as leaves
 use Rattle.mari_market.specs.declared.certificate.TreeItem.{TreeItem}
 use Rattle.mari_market.specs.declared.certificate.TreeItem.TheVariants as items
@@ -60,17 +60,11 @@ in_parts p k (x ∷ xs) ys = through p xs ys (after k k.held x) (λ q r. in_part
 pub if_true : {A : Type 0} (b : Bool) (x : A) → b ≡ true → cond b (Some x) None ≡ Some x
 if_true b x e = rw e refl
 
-pub and_true : (a b : Bool) → a ≡ true → b ≡ true → (a && b) ≡ true
-and_true a b ea eb = rw (ea, eb) refl
-
 pub kept_some : (k : Kept) (o : Option Held) (new : Held) → o ≡ Some new → keeps k o ≡ Some (kept_with k new, None)
 kept_some k o new e = rw e refl
 
 pub same : (n : ℕ) → eqb n n ≡ true
 same n = eq-eqb n n refl
-
-longer : {X : Type 0} (xs : List X) (x : X) → length (xs ++ x ∷ []) ≡ length xs + 1
-longer xs x = simp (length-append)
 
 abbrev listing : Heading → ℕ → List ZoneLine → List BorderLine → List BidLine → List ℕ → Listing
 listing h w zs bs ds ms = record { heading = h; welfare = w; zones = zs; borders = bs; bids = ds; demands = ms }
@@ -87,7 +81,7 @@ zones_follow p m n h w before [] rest le = ap (λ (zs : List ZoneLine). after_al
 zones_follow p m n h w before (z ∷ zs) rest le =
     let old = listing h w before [] [] [] in
     let new = held.Listing (listing h w (before ++ z ∷ []) [] [] []) in
-    let len = longer before z in
+    let len = length_push before z in
     let o : after_listing old (line.Zone z) ≡ Some new = if_true _ new (lt-ltb _ _ (omega (arith, le))) in
     step p (at m n (held.Listing old)) (line.Zone z) (map line.Zone zs ++ rest) (at m n new, None) (kept_some (at m n (held.Listing old)) _ new o)
     ∙ zones_follow p m n h w (before ++ z ∷ []) zs rest (omega (arith, len, le))
@@ -99,8 +93,8 @@ borders_follow p m n h w zs before [] rest some le = ap (λ (bs : List BorderLin
 borders_follow p m n h w zs before (b ∷ bs) rest some le =
     let old = listing h w zs before [] [] in
     let new = held.Listing (listing h w zs (before ++ b ∷ []) [] []) in
-    let len = longer before b in
-    let o : after_listing old (line.Border b) ≡ Some new = if_true _ new (and_true _ _ (and_true _ _ (and_true _ _ (lt-ltb _ _ some) refl) refl) (lt-ltb _ _ (omega (arith, le)))) in
+    let len = length_push before b in
+    let o : after_listing old (line.Border b) ≡ Some new = if_true _ new (and_from _ _ (and_from _ _ (and_from _ _ (lt-ltb _ _ some) refl) refl) (lt-ltb _ _ (omega (arith, le)))) in
     step p (at m n (held.Listing old)) (line.Border b) (map line.Border bs ++ rest) (at m n new, None) (kept_some (at m n (held.Listing old)) _ new o)
     ∙ borders_follow p m n h w zs (before ++ b ∷ []) bs rest some (omega (arith, len, le))
     ∙ ap (λ (xs : List BorderLine). after_all p (at m n (held.Listing (listing h w zs xs [] []))) rest) (append_assoc before (b ∷ []) bs)
@@ -111,8 +105,8 @@ bids_follow p m n h w zs bs before [] rest some le = ap (λ (ds : List BidLine).
 bids_follow p m n h w zs bs before (d ∷ ds) rest some le =
     let old = listing h w zs bs before [] in
     let new = held.Listing (listing h w zs bs (before ++ d ∷ []) []) in
-    let len = longer before d in
-    let o : after_listing old (line.Bid d) ≡ Some new = if_true _ new (and_true _ _ (and_true _ _ (lt-ltb _ _ some) refl) (lt-ltb _ _ (omega (arith, le)))) in
+    let len = length_push before d in
+    let o : after_listing old (line.Bid d) ≡ Some new = if_true _ new (and_from _ _ (and_from _ _ (lt-ltb _ _ some) refl) (lt-ltb _ _ (omega (arith, le)))) in
     step p (at m n (held.Listing old)) (line.Bid d) (map line.Bid ds ++ rest) (at m n new, None) (kept_some (at m n (held.Listing old)) _ new o)
     ∙ bids_follow p m n h w zs bs (before ++ d ∷ []) ds rest some (omega (arith, len, le))
     ∙ ap (λ (xs : List BidLine). after_all p (at m n (held.Listing (listing h w zs bs xs []))) rest) (append_assoc before (d ∷ []) ds)
@@ -123,8 +117,8 @@ demands_follow p m n h w zs bs ds k before [] rest some e = ap (λ (ms : List �
 demands_follow p m n h w zs bs ds k before (x ∷ ms) rest some e =
     let old = listing h w zs bs ds before in
     let new = held.Listing (listing h w zs bs ds (before ++ x ∷ [])) in
-    let len = longer before x in
-    let o : after_listing old (line.Demand k x) ≡ Some new = if_true _ new (and_true _ _ (lt-ltb _ _ some) (eq-eqb _ _ e)) in
+    let len = length_push before x in
+    let o : after_listing old (line.Demand k x) ≡ Some new = if_true _ new (and_from _ _ (lt-ltb _ _ some) (eq-eqb _ _ e)) in
     step p (at m n (held.Listing old)) (line.Demand k x) (demand_lines (k + 1) ms ++ rest) (at m n new, None) (kept_some (at m n (held.Listing old)) _ new o)
     ∙ demands_follow p m n h w zs bs ds (k + 1) (before ++ x ∷ []) ms rest some (omega (arith, len, e))
     ∙ ap (λ (xs : List ℕ). after_all p (at m n (held.Listing (listing h w zs bs ds xs))) rest) (append_assoc before (x ∷ []) ms)
@@ -141,7 +135,7 @@ items_follow : (p : Publication) (m n : ℕ) (b : Listing) (count : ℕ) (before
     → after_all p (at m n (held.Growing (growing b count before))) (flat_map item_lines is ++ rest) ≡ after_all p (at m n (held.Growing (growing b count (before ++ is)))) rest
 items_follow p m n b count before [] rest le = ap (λ (is : List TreeItem). after_all p (at m n (held.Growing (growing b count is))) rest) (sym (append-nil before))
 items_follow p m n b count before (i ∷ is) rest le =
-    let len = longer before i in
+    let len = length_push before i in
     ap (λ (ls : List Line). after_all p (at m n (held.Growing (growing b count before))) ls) (append_assoc (item_lines i) (flat_map item_lines is) rest)
     ∙ item_follows p m n b count before i (flat_map item_lines is ++ rest) (omega (arith, le))
     ∙ items_follow p m n b count (before ++ i ∷ []) is rest (omega (arith, len, le))
@@ -153,7 +147,7 @@ operators_follow p m n b is before [] rest le = ap (λ (os : List MoneyLine). af
 operators_follow p m n b is before (o ∷ os) rest le =
     let old = ending b is before [] in
     let new = held.Ending (ending b is (before ++ o ∷ []) []) in
-    let len = longer before o in
+    let len = length_push before o in
     let e : after_ending old (line.Operator o) ≡ Some new = if_true _ new (lt-ltb _ _ (omega (arith, le))) in
     step p (at m n (held.Ending old)) (line.Operator o) (map line.Operator os ++ rest) (at m n new, None) (kept_some (at m n (held.Ending old)) _ new e)
     ∙ operators_follow p m n b is (before ++ o ∷ []) os rest (omega (arith, len, le))
@@ -165,7 +159,7 @@ providers_follow p m n b is os before [] rest le = ap (λ (ps : List AmountLine)
 providers_follow p m n b is os before (a ∷ ps) rest le =
     let old = ending b is os before in
     let new = held.Ending (ending b is os (before ++ a ∷ [])) in
-    let len = longer before a in
+    let len = length_push before a in
     let e : after_ending old (line.Provider a) ≡ Some new = if_true _ new (lt-ltb _ _ (omega (arith, le))) in
     step p (at m n (held.Ending old)) (line.Provider a) (map line.Provider ps ++ rest) (at m n new, None) (kept_some (at m n (held.Ending old)) _ new e)
     ∙ providers_follow p m n b is os (before ++ a ∷ []) ps rest (omega (arith, len, le))
@@ -274,7 +268,7 @@ total_operators_follow : (p : Publication) (m n : ℕ) (before os : List MoneyLi
 total_operators_follow p m n before [] rest le = ap (λ (os : List MoneyLine). after_all p (at m n (held.Totals os [])) rest) (sym (append-nil before))
 total_operators_follow p m n before (o ∷ os) rest le =
     let new = held.Totals (before ++ o ∷ []) [] in
-    let len = longer before o in
+    let len = length_push before o in
     let e : after_totals before [] (line.TotalOperator o) ≡ Some new = if_true _ new (lt-ltb _ _ (omega (arith, le))) in
     step p (at m n (held.Totals before [])) (line.TotalOperator o) (map line.TotalOperator os ++ rest) (at m n new, None) (kept_some (at m n (held.Totals before [])) _ new e)
     ∙ total_operators_follow p m n (before ++ o ∷ []) os rest (omega (arith, len, le))
@@ -285,7 +279,7 @@ total_providers_follow : (p : Publication) (m n : ℕ) (os : List MoneyLine) (be
 total_providers_follow p m n os before [] rest le = ap (λ (ps : List AmountLine). after_all p (at m n (held.Totals os ps)) rest) (sym (append-nil before))
 total_providers_follow p m n os before (a ∷ ps) rest le =
     let new = held.Totals os (before ++ a ∷ []) in
-    let len = longer before a in
+    let len = length_push before a in
     let e : after_totals os before (line.TotalProvider a) ≡ Some new = if_true _ new (lt-ltb _ _ (omega (arith, le))) in
     step p (at m n (held.Totals os before)) (line.TotalProvider a) (map line.TotalProvider ps ++ rest) (at m n new, None) (kept_some (at m n (held.Totals os before)) _ new e)
     ∙ total_providers_follow p m n os (before ++ a ∷ []) ps rest (omega (arith, len, le))
@@ -298,7 +292,7 @@ last_follows p m n (o ∷ os) ps some few =
     total_operators_follow p m n (o ∷ []) os (map line.TotalProvider ps ++ line.Done m n ∷ []) (omega (arith, some.1))
     ∙ total_providers_follow p m n (o ∷ os) [] ps (line.Done m n ∷ []) (omega (arith, few))
     ∙ step p (at m n (held.Totals (o ∷ os) ps)) (line.Done m n) [] (at m n held.Done, Some (part.Totals (o ∷ os) ps))
-    (if_true _ (at m n held.Done, Some (part.Totals (o ∷ os) ps)) (and_true _ _ (same m) (same n)))
+    (if_true _ (at m n held.Done, Some (part.Totals (o ∷ os) ps)) (and_from _ _ (same m) (same n)))
 
 -- the lines of a publication may follow one another, and give it
 pub accepted : (p : Publication) → HasText p → after_all nothing_read nothing_kept (lines_of p) ≡ Some (p, at (published_in p.blocks) (unpublished_in p.blocks) held.Done)

@@ -17,8 +17,7 @@ use Rattle.mari_publish.specs.Texts.{text_of_lines}
 use Rattle.mari_publish.specs.Order.{nothing_kept}
 use Rattle.mari_publish.specs.Faults.{IsText, BadLineAt, BadOrderAt, TruncatedAt}
 use Rattle.mari_publish.specs.Pieces.{Gives, parts_so_far, ComeState, IsAhead, ComesFrom, NoLineIn, HasNoLine, IsWhole, HasPart, IsEnd}
-use Rattle.std.proofs.lemmas.Bool.{and_parts}
-use Rattle.mari_publish.proofs.Follows.{and_true}
+use Rattle.std.proofs.lemmas.Bool.{and_parts, and_from}
 use Rattle.mari_publish.proofs.Progress.{whole_text, truncated}
 use Rattle.mari_publish.proofs.Outcomes.{text_truncated, truncated_number}
 use Rattle.mari_publish.proofs.PartsGiven.{gives_nothing}
@@ -45,7 +44,7 @@ lacks_both : (u v : List ℕ) → Lacks 10 u → Lacks 10 v → Lacks 10 (u ++ v
 lacks_both [] v a b = b
 lacks_both (c ∷ u) v a b =
     let h = and_parts (not (eqb c 10)) (list_all (λ b. not (eqb b 10)) u) a in
-    and_true (not (eqb c 10)) (list_all (λ b. not (eqb b 10)) (u ++ v)) h.0 (lacks_both u v h.1 b)
+    and_from (not (eqb c 10)) (list_all (λ b. not (eqb b 10)) (u ++ v)) h.0 (lacks_both u v h.1 b)
 
 -- a line that is too long ends
 pub long_ends : (u v piece front behind rest : List ℕ) → Lacks 10 front → piece ≡ front ++ 10 ∷ behind → IsAhead mark.TooLong u rest → IsAhead mark.Ended v (rest ++ piece)

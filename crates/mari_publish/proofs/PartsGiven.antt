@@ -2,6 +2,7 @@
 use Rattle.std.proofs.Common.{◌≡◌, ◌+◌, Bool, cond, ◌&&◌, List, [], ◌∷◌, ◌++◌, length, Option, Some, None, refl, sym, ap, subst, ◌∙◌, append_assoc, length-append, arith, ltb, eqb}
 use Rattle.std.specs.Prelude.{option_and_then}
 use Rattle.std.proofs.lemmas.List.{append-nil, map_push}
+use Rattle.std.proofs.lemmas.Option.{cond_some}
 use Rattle.mari_publish.specs.declared.publication.Part.{Part}
 use Rattle.mari_publish.specs.declared.publication.Part.TheVariants as part
 use Rattle.mari_publish.specs.declared.publication.Block.{Block}
@@ -21,7 +22,7 @@ use Rattle.mari_publish.specs.declared.held.Held.TheVariants as held
 use Rattle.mari_publish.specs.declared.held.Kept.{Kept}
 use Rattle.mari_publish.specs.Order.{kept_with, one_published, one_unpublished, keeps, starts_block, after_listing, after_growing, after_ending, after_totals, full_block, after, grown, nothing_read, nothing_kept, after_all}
 use Rattle.mari_publish.specs.Pieces.{front_parts, parts_so_far, with_part, Gives}
-use Rattle.mari_publish.proofs.Steps.{some_if, some_is}
+use Rattle.mari_publish.proofs.Steps.{some_is}
 use Rattle.mari_publish.proofs.Whole.{Stands, next}
 use Rattle.mari_publish.proofs.Follows.{Came, came_more, in_parts, stands_first}
 
@@ -30,7 +31,7 @@ abbrev Inner : Held → Type 0
 Inner h = (p : Publication) → parts_so_far p h ≡ front_parts p
 
 inner_if : (b : Bool) (x y : Held) → cond b (Some x) None ≡ Some y → Inner x → Inner y
-inner_if b x y e i = subst Inner (some_if b x y e).1 i
+inner_if b x y e i = subst Inner (cond_some b x y e).1 i
 
 listing_inner : (b : Listing) (l : Line) (h : Held) → after_listing b l ≡ Some h → Inner h
 listing_inner b (line.Zone z) h e = inner_if _ _ h e (λ p. refl)
@@ -72,10 +73,10 @@ block_parts : (p : Publication) (b : Block) → front_parts (grown p (Some (part
 block_parts p b = ap (λ (xs : List Part). part.Head p.date p.quarters p.budget ∷ xs) (map_push (λ x. part.Block x) p.blocks b)
 
 between_parts : (p : Publication) (k : Kept) (l : Line) (x : Kept × Option Part) → starts_block k l ≡ Some x → StepParts p held.Between x
-between_parts p k (line.Run h) x e = subst (λ y. StepParts p held.Between y) (some_if (ltb (k.counts.published + k.counts.unpublished) 1000) (kept_with k (held.Run h), None) x e).1 refl
+between_parts p k (line.Run h) x e = subst (λ y. StepParts p held.Between y) (cond_some (ltb (k.counts.published + k.counts.unpublished) 1000) (kept_with k (held.Run h), None) x e).1 refl
 between_parts p k (line.Unpublished h count) x e =
     let new : Kept = record { held = held.Between; counts = one_unpublished k.counts } in
-    let t = some_if (ltb (k.counts.published + k.counts.unpublished) 1000) (new, Some (part.Block (block.Unpublished h count))) x e in
+    let t = cond_some (ltb (k.counts.published + k.counts.unpublished) 1000) (new, Some (part.Block (block.Unpublished h count))) x e in
     subst (λ y. StepParts p held.Between y) t.1 (block_parts p (block.Unpublished h count))
 between_parts p k (line.TotalOperator t) x e = subst (λ y. StepParts p held.Between y) (some_is (kept_with k (held.Totals (t ∷ []) []), None) x e) refl
 between_parts p k _ x e = absurd cc
@@ -91,11 +92,11 @@ step_parts p k (held.Listing b) l x e = kept_parts p k (held.Listing b) (after_l
 step_parts p k (held.Growing g) l x e = kept_parts p k (held.Growing g) (after_growing g g.pending l) x (λ q. refl) (λ new o. growing_inner g g.pending l new o) e
 step_parts p k (held.Ending g) (line.End run) x e =
     let new : Kept = record { held = held.Between; counts = one_published k.counts } in
-    let t = some_if (eqb run g.listing.heading.run) (new, Some (part.Block (full_block g))) x e in
+    let t = cond_some (eqb run g.listing.heading.run) (new, Some (part.Block (full_block g))) x e in
     subst (λ y. StepParts p (held.Ending g) y) t.1 (block_parts p (full_block g))
 step_parts p k (held.Ending g) l x e = kept_parts p k (held.Ending g) (after_ending g l) x (λ q. refl) (λ new o. ending_inner g l new o) e
 step_parts p k (held.Totals os ps) (line.Done m n) x e =
-    let t = some_if (eqb m k.counts.published && eqb n k.counts.unpublished) (kept_with k held.Done, Some (part.Totals os ps)) x e in
+    let t = cond_some (eqb m k.counts.published && eqb n k.counts.unpublished) (kept_with k held.Done, Some (part.Totals os ps)) x e in
     subst (λ y. StepParts p (held.Totals os ps) y) t.1 refl
 step_parts p k (held.Totals os ps) l x e = kept_parts p k (held.Totals os ps) (after_totals os ps l) x (λ q. refl) (λ new o. totals_inner os ps l new o) e
 step_parts p k _ _ x e = absurd cc

@@ -1,9 +1,10 @@
 -- A line that may follow is the next line of what has come.
-use Rattle.std.proofs.Common.{◌≡◌, ◌≤◌, ◌<◌, ◌+◌, ℕ, Bool, true, false, cond, ◌&&◌, List, [], ◌∷◌, ◌++◌, map, length, Option, Some, None, refl, sym, ap, subst, ◌∙◌, append_assoc, length-append, arith, ltb, eqb}
+use Rattle.std.proofs.Common.{◌≡◌, ◌≤◌, ◌<◌, ◌+◌, ℕ, true, false, ◌&&◌, List, [], ◌∷◌, ◌++◌, map, length, Option, Some, refl, sym, ap, subst, ◌∙◌, append_assoc, arith, ltb, eqb}
 use Rattle.std.specs.List.{flat_map}
 use Rattle.std.proofs.lemmas.Bool.{eqb-true, ltb-true, and_parts}
-use Rattle.std.proofs.lemmas.List.{append-nil, nil_from_length, map_push}
+use Rattle.std.proofs.lemmas.List.{append-nil, nil_from_length, map_push, length_push}
 use Rattle.std.proofs.lemmas.Grind.{flat_map-append}
+use Rattle.std.proofs.lemmas.Option.{cond_some}
 use Rattle.mari_market.specs.declared.certificate.Leaf.TheVariants as leaves
 use Rattle.mari_market.specs.declared.certificate.TreeItem.{TreeItem}
 use Rattle.mari_market.specs.declared.certificate.TreeItem.TheVariants as items
@@ -26,10 +27,6 @@ use Rattle.mari_publish.specs.declared.held.Held.TheVariants as held
 use Rattle.mari_publish.specs.Lines.{item_lines, demand_lines, front_lines}
 use Rattle.mari_lines.specs.Ranges.{Between}
 use Rattle.mari_publish.specs.Order.{pending_lines, listing_lines, growing_lines, ending_part, held_lines, is_nothing, empty, with_item, with_pending, conflict_item, after_listing, after_growing, after_ending, after_totals, lines_so_far}
-
-pub some_if : {A : Type 0} (b : Bool) (x y : A) → cond b (Some x) None ≡ Some y → (b ≡ true) × (x ≡ y)
-some_if true x y e = (refl, cc)
-some_if false x y e = absurd cc
 
 abbrev pub some : {A : Type 0} → A → Option A
 some x = Some x
@@ -75,9 +72,6 @@ Moves p old l new = (lines_so_far p new ≡ lines_so_far p old ++ l ∷ []) × H
 
 one_more : (F new old : List Line) (l : Line) → new ≡ old ++ l ∷ [] → F ++ new ≡ (F ++ old) ++ l ∷ []
 one_more F new old l e = ap (λ (xs : List Line). F ++ xs) e ∙ sym (append_assoc F old (l ∷ []))
-
-longer : {X : Type 0} (xs : List X) (x : X) → length (xs ++ x ∷ []) ≡ length xs + 1
-longer xs x = simp (length-append)
 
 none : {X : Type 0} (xs : List X) → empty xs ≡ true → xs ≡ []
 none xs e = nil_from_length xs (eqb-true (length xs) 0 e)
@@ -127,44 +121,44 @@ demand_more h w zs bs ds ms place m e =
 pub listing_step : (p : Publication) (b : Listing) (l : Line) (h : Held) → HeldFits p (held.Listing b) → after_listing b l ≡ Some h → Moves p (held.Listing b) l h
 listing_step p b (line.Zone z) h fits e =
     let made = held.Listing (record { heading = b.heading; welfare = b.welfare; zones = b.zones ++ z ∷ []; borders = b.borders; bids = b.bids; demands = b.demands }) in
-    let t = some_if (empty b.borders && empty b.bids && empty b.demands && ltb (length b.zones) 64) made h e in
+    let t = cond_some (empty b.borders && empty b.bids && empty b.demands && ltb (length b.zones) 64) made h e in
     let s1 = and_parts (empty b.borders && empty b.bids && empty b.demands) (ltb (length b.zones) 64) t.0 in
     let s2 = and_parts (empty b.borders && empty b.bids) (empty b.demands) s1.0 in
     let s3 = and_parts (empty b.borders) (empty b.bids) s2.0 in
     let room : length b.zones < 64 = ltb-true _ _ s1.1 in
-    let len = longer b.zones z in
+    let len = length_push b.zones z in
     let f = fits.1 in
     let new : HeldFits p made = (fits.0, record { zones = omega (arith, len, room); borders = f.borders; bids = f.bids; border_later = λ _. omega (arith, len); bid_later = λ _. omega (arith, len); demand_later = λ _. omega (arith, len) }) in
     subst (λ x. Moves p (held.Listing b) (line.Zone z) x) t.1
     (one_more (front_lines p) _ (listing_lines b) (line.Zone z) (zone_more b.heading b.welfare b.zones z b.borders b.bids b.demands (none b.borders s3.0) (none b.bids s3.1) (none b.demands s2.1)), new)
 listing_step p b (line.Border x) h fits e =
     let made = held.Listing (record { heading = b.heading; welfare = b.welfare; zones = b.zones; borders = b.borders ++ x ∷ []; bids = b.bids; demands = b.demands }) in
-    let t = some_if (ltb 0 (length b.zones) && empty b.bids && empty b.demands && ltb (length b.borders) 256) made h e in
+    let t = cond_some (ltb 0 (length b.zones) && empty b.bids && empty b.demands && ltb (length b.borders) 256) made h e in
     let s1 = and_parts (ltb 0 (length b.zones) && empty b.bids && empty b.demands) (ltb (length b.borders) 256) t.0 in
     let s2 = and_parts (ltb 0 (length b.zones) && empty b.bids) (empty b.demands) s1.0 in
     let s3 = and_parts (ltb 0 (length b.zones)) (empty b.bids) s2.0 in
     let some : 0 < length b.zones = ltb-true _ _ s3.0 in
     let room : length b.borders < 256 = ltb-true _ _ s1.1 in
-    let len = longer b.borders x in
+    let len = length_push b.borders x in
     let f = fits.1 in
     let new : HeldFits p made = (fits.0, record { zones = f.zones; borders = omega (arith, len, room); bids = f.bids; border_later = λ _. some; bid_later = λ _. some; demand_later = λ _. some }) in
     subst (λ y. Moves p (held.Listing b) (line.Border x) y) t.1
     (one_more (front_lines p) _ (listing_lines b) (line.Border x) (border_more b.heading b.welfare b.zones b.borders x b.bids b.demands (none b.bids s3.1) (none b.demands s2.1)), new)
 listing_step p b (line.Bid d) h fits e =
     let made = held.Listing (record { heading = b.heading; welfare = b.welfare; zones = b.zones; borders = b.borders; bids = b.bids ++ d ∷ []; demands = b.demands }) in
-    let t = some_if (ltb 0 (length b.zones) && empty b.demands && ltb (length b.bids) 4096) made h e in
+    let t = cond_some (ltb 0 (length b.zones) && empty b.demands && ltb (length b.bids) 4096) made h e in
     let s1 = and_parts (ltb 0 (length b.zones) && empty b.demands) (ltb (length b.bids) 4096) t.0 in
     let s2 = and_parts (ltb 0 (length b.zones)) (empty b.demands) s1.0 in
     let some : 0 < length b.zones = ltb-true _ _ s2.0 in
     let room : length b.bids < 4096 = ltb-true _ _ s1.1 in
-    let len = longer b.bids d in
+    let len = length_push b.bids d in
     let f = fits.1 in
     let new : HeldFits p made = (fits.0, record { zones = f.zones; borders = f.borders; bids = omega (arith, len, room); border_later = λ _. some; bid_later = λ _. some; demand_later = λ _. some }) in
     subst (λ y. Moves p (held.Listing b) (line.Bid d) y) t.1
     (one_more (front_lines p) _ (listing_lines b) (line.Bid d) (bid_more b.heading b.welfare b.zones b.borders b.bids d b.demands (none b.demands s2.1)), new)
 listing_step p b (line.Demand place m) h fits e =
     let made = held.Listing (record { heading = b.heading; welfare = b.welfare; zones = b.zones; borders = b.borders; bids = b.bids; demands = b.demands ++ m ∷ [] }) in
-    let t = some_if (ltb 0 (length b.zones) && eqb place (length b.demands + 1)) made h e in
+    let t = cond_some (ltb 0 (length b.zones) && eqb place (length b.demands + 1)) made h e in
     let s1 = and_parts (ltb 0 (length b.zones)) (eqb place (length b.demands + 1)) t.0 in
     let some : 0 < length b.zones = ltb-true _ _ s1.0 in
     let f = fits.1 in
@@ -173,7 +167,7 @@ listing_step p b (line.Demand place m) h fits e =
     (one_more (front_lines p) _ (listing_lines b) (line.Demand place m) (demand_more b.heading b.welfare b.zones b.borders b.bids b.demands place m (eqb-true _ _ s1.1)), new)
 listing_step p b (line.Tree n) h fits e =
     let made = held.Growing (record { listing = b; count = n; tree = []; pending = Nothing }) in
-    let t = some_if (ltb 0 (length b.zones)) made h e in
+    let t = cond_some (ltb 0 (length b.zones)) made h e in
     let new : HeldFits p made = (fits.0, record { listing = fits.1; some = ltb-true _ _ t.0; items = omega arith; due = λ no. absurd cc }) in
     subst (λ x. Moves p (held.Listing b) (line.Tree n) x) t.1 (one_more (front_lines p) _ (listing_lines b) (line.Tree n) refl, new)
 listing_step p b _ h fits e = absurd cc
@@ -191,7 +185,7 @@ more_pending xs t is ps l = one_more xs _ (t ∷ (is ++ ps)) l (ap (λ (ys : Lis
 with_item_step : (p : Publication) (g : Growing) (i : TreeItem) (l : Line) → HeldFits p (held.Growing g) → length g.tree < g.count
     → item_lines i ≡ pending_lines g.pending ++ l ∷ [] → Moves p (held.Growing g) l (with_item g i)
 with_item_step p g i l fits room e =
-    let len = longer g.tree i in (
+    let len = length_push g.tree i in (
       one_more (front_lines p) _ (growing_lines g) l (more_items (listing_lines g.listing) (line.Tree g.count) g.tree i (pending_lines g.pending) l e),
       (fits.0, record { listing = fits.1.listing; some = fits.1.some; items = omega (arith, len, room); due = λ no. absurd cc }),
     )
@@ -219,21 +213,21 @@ operator_step p g o fits full nothing = (
 pub growing_step : (p : Publication) (g : Growing) (pending : Pending) (l : Line) (h : Held) → g.pending ≡ pending → HeldFits p (held.Growing g)
     → after_growing g pending l ≡ Some h → Moves p (held.Growing g) l h
 growing_step p g Nothing line.Branch h is fits e =
-    let t = some_if (ltb (length g.tree) g.count) (with_item g items.Branch) h e in
+    let t = cond_some (ltb (length g.tree) g.count) (with_item g items.Branch) h e in
     subst (λ x. Moves p (held.Growing g) line.Branch x) t.1 (with_item_step p g items.Branch line.Branch fits (ltb-true _ _ t.0) (ap (λ x. pending_lines x ++ line.Branch ∷ []) (sym is)))
 growing_step p g Nothing (line.Bound prices) h is fits e =
     let i = items.Leaf (leaves.Bound (record { cents = prices })) in
-    let t = some_if (ltb (length g.tree) g.count) (with_item g i) h e in
+    let t = cond_some (ltb (length g.tree) g.count) (with_item g i) h e in
     subst (λ x. Moves p (held.Growing g) (line.Bound prices) x) t.1 (with_item_step p g i (line.Bound prices) fits (ltb-true _ _ t.0) (ap (λ x. pending_lines x ++ line.Bound prices ∷ []) (sym is)))
 growing_step p g Nothing (line.Cut cut) h is fits e =
     let i = items.Leaf (leaves.Cut cut) in
-    let t = some_if (ltb (length g.tree) g.count) (with_item g i) h e in
+    let t = cond_some (ltb (length g.tree) g.count) (with_item g i) h e in
     subst (λ x. Moves p (held.Growing g) (line.Cut cut) x) t.1 (with_item_step p g i (line.Cut cut) fits (ltb-true _ _ t.0) (ap (λ x. pending_lines x ++ line.Cut cut ∷ []) (sym is)))
 growing_step p g Nothing (line.Conflict zones) h is fits e =
-    let t = some_if (ltb (length g.tree) g.count) (with_pending g (Zones zones)) h e in
+    let t = cond_some (ltb (length g.tree) g.count) (with_pending g (Zones zones)) h e in
     subst (λ x. Moves p (held.Growing g) (line.Conflict zones) x) t.1 (with_pending_step p g (Zones zones) (line.Conflict zones) fits (ltb-true _ _ t.0) (ap (λ x. pending_lines x ++ line.Conflict zones ∷ []) (sym is)))
 growing_step p g Nothing (line.Operator o) h is fits e =
-    let t = some_if (eqb (length g.tree) g.count) (held.Ending (record { listing = g.listing; tree = g.tree; operators = o ∷ []; providers = [] })) h e in
+    let t = cond_some (eqb (length g.tree) g.count) (held.Ending (record { listing = g.listing; tree = g.tree; operators = o ∷ []; providers = [] })) h e in
     subst (λ x. Moves p (held.Growing g) (line.Operator o) x) t.1 (operator_step p g o fits (eqb-true _ _ t.0) (ap pending_lines is))
 growing_step p g (Zones zones) (line.At prices) h is fits e =
     subst (λ x. Moves p (held.Growing g) (line.At prices) x) (some_is _ _ e) (with_pending_step p g (At zones prices) (line.At prices) fits (fits.1.due (ap is_nothing is)) (ap (λ x. pending_lines x ++ line.At prices ∷ []) (sym is)))
@@ -248,10 +242,10 @@ growing_step p g _ _ h is fits e = absurd cc
 pub ending_step : (p : Publication) (n : Ending) (l : Line) (h : Held) → HeldFits p (held.Ending n) → after_ending n l ≡ Some h → Moves p (held.Ending n) l h
 ending_step p n (line.Operator o) h fits e =
     let made = held.Ending (record { listing = n.listing; tree = n.tree; operators = n.operators ++ o ∷ []; providers = n.providers }) in
-    let t = some_if (empty n.providers && ltb (length n.operators) 64) made h e in
+    let t = cond_some (empty n.providers && ltb (length n.operators) 64) made h e in
     let s = and_parts (empty n.providers) (ltb (length n.operators) 64) t.0 in
     let room : length n.operators < 64 = ltb-true _ _ s.1 in
-    let len = longer n.operators o in
+    let len = length_push n.operators o in
     let lines : (ps : List AmountLine) → ps ≡ [] → listing_lines n.listing ++ line.Tree (length n.tree) ∷ (flat_map item_lines n.tree ++ (map line.Operator (n.operators ++ o ∷ []) ++ map line.Provider ps))
     ≡ (listing_lines n.listing ++ line.Tree (length n.tree) ∷ (flat_map item_lines n.tree ++ (map line.Operator n.operators ++ map line.Provider ps))) ++ line.Operator o ∷ []
     = λ ps none. subst (λ (qs : List AmountLine). listing_lines n.listing ++ line.Tree (length n.tree) ∷ (flat_map item_lines n.tree ++ (map line.Operator (n.operators ++ o ∷ []) ++ map line.Provider qs))
@@ -266,9 +260,9 @@ ending_step p n (line.Operator o) h fits e =
     )
 ending_step p n (line.Provider a) h fits e =
     let made = held.Ending (record { listing = n.listing; tree = n.tree; operators = n.operators; providers = n.providers ++ a ∷ [] }) in
-    let t = some_if (ltb (length n.providers) 4096) made h e in
+    let t = cond_some (ltb (length n.providers) 4096) made h e in
     let room : length n.providers < 4096 = ltb-true _ _ t.0 in
-    let len = longer n.providers a in
+    let len = length_push n.providers a in
     let f = fits.1 in
     subst (λ x. Moves p (held.Ending n) (line.Provider a) x) t.1 (
       one_more (front_lines p) _ (ending_part n) (line.Provider a)
@@ -281,10 +275,10 @@ ending_step p n _ h fits e = absurd cc
 -- a line of the totals
 pub totals_step : (p : Publication) (os : List MoneyLine) (ps : List AmountLine) (l : Line) (h : Held) → HeldFits p (held.Totals os ps) → after_totals os ps l ≡ Some h → Moves p (held.Totals os ps) l h
 totals_step p os ps (line.TotalOperator o) h fits e =
-    let t = some_if (empty ps && ltb (length os) 64) (held.Totals (os ++ o ∷ []) ps) h e in
+    let t = cond_some (empty ps && ltb (length os) 64) (held.Totals (os ++ o ∷ []) ps) h e in
     let s = and_parts (empty ps) (ltb (length os) 64) t.0 in
     let room : length os < 64 = ltb-true _ _ s.1 in
-    let len = longer os o in
+    let len = length_push os o in
     let lines : (qs : List AmountLine) → qs ≡ [] → map line.TotalOperator (os ++ o ∷ []) ++ map line.TotalProvider qs ≡ (map line.TotalOperator os ++ map line.TotalProvider qs) ++ line.TotalOperator o ∷ []
     = λ qs none. subst (λ (qs : List AmountLine). map line.TotalOperator (os ++ o ∷ []) ++ map line.TotalProvider qs ≡ (map line.TotalOperator os ++ map line.TotalProvider qs) ++ line.TotalOperator o ∷ []) (sym none)
     (push_nil (λ x. line.TotalOperator x) os o) in
@@ -292,9 +286,9 @@ totals_step p os ps (line.TotalOperator o) h fits e =
     subst (λ x. Moves p (held.Totals os ps) (line.TotalOperator o) x) t.1
     (one_more (front_lines p) _ (held_lines (held.Totals os ps)) (line.TotalOperator o) (lines ps (none ps s.0)), ((omega (arith, len, few), omega (arith, len, room)), fits.1))
 totals_step p os ps (line.TotalProvider a) h fits e =
-    let t = some_if (ltb (length ps) 1638400) (held.Totals os (ps ++ a ∷ [])) h e in
+    let t = cond_some (ltb (length ps) 1638400) (held.Totals os (ps ++ a ∷ [])) h e in
     let room : length ps < 1638400 = ltb-true _ _ t.0 in
-    let len = longer ps a in
+    let len = length_push ps a in
     subst (λ x. Moves p (held.Totals os ps) (line.TotalProvider a) x) t.1 (
       one_more (front_lines p) _ (held_lines (held.Totals os ps)) (line.TotalProvider a) (one_more (map line.TotalOperator os) _ (map line.TotalProvider ps) (line.TotalProvider a) (map_push (λ x. line.TotalProvider x) ps a)),
       (fits.0, omega (arith, len, room)),

@@ -4,6 +4,7 @@ use Rattle.std.specs.List.{flat_map, AllByRecursion}
 use Rattle.std.proofs.lemmas.Bool.{eqb-true, ltb-true, and_parts}
 use Rattle.std.proofs.lemmas.List.{append-nil}
 use Rattle.std.proofs.lemmas.Grind.{flat_map-append}
+use Rattle.std.proofs.lemmas.Option.{cond_some}
 use Rattle.mari_publish.specs.declared.publication.Block.{Block}
 use Rattle.mari_publish.specs.declared.publication.Block.TheVariants as block
 use Rattle.mari_publish.specs.declared.publication.Publication.{Publication}
@@ -19,7 +20,7 @@ use Rattle.mari_publish.specs.Lines.{item_lines, demand_lines, block_lines, publ
 use Rattle.mari_lines.specs.Ranges.{Between}
 use Rattle.mari_publish.specs.Order.{ending_part, after_listing, after_growing, after_ending, after_totals, full_block, keeps, kept_with, one_published, one_unpublished, starts_block, after, grown, lines_so_far}
 use Rattle.mari_publish.proofs.Counts.{both_kinds}
-use Rattle.mari_publish.proofs.Steps.{some_if, some_is, ListingFits, HeldFits, Moves, listing_step, growing_step, ending_step, totals_step}
+use Rattle.mari_publish.proofs.Steps.{some_is, ListingFits, HeldFits, Moves, listing_step, growing_step, ending_step, totals_step}
 
 pub all_front : {X : Type 0} (P : X → Type 0) (xs ys : List X) → AllByRecursion P (xs ++ ys) → AllByRecursion P xs
 all_front P [] ys a = tt
@@ -117,11 +118,11 @@ room_of ls p k h s e = let c = both_kinds p.blocks in let lt = ltb-true (k.count
 
 between_step : (ls : List Line) (p : Publication) (k : Kept) (l : Line) (x : Kept × Option Part) → Stands ls p k held.Between → starts_block k l ≡ Some x → Next ls p l x
 between_step ls p k (line.Run h) x s e =
-    let t = some_if (ltb (k.counts.published + k.counts.unpublished) 1000) (kept_with k (held.Run h), None) x e in
+    let t = cond_some (ltb (k.counts.published + k.counts.unpublished) 1000) (kept_with k (held.Run h), None) x e in
     subst (λ y. Next ls p (line.Run h) y) t.1 (moved ls p k held.Between (held.Run h) (line.Run h) s (first (front_lines p) (line.Run h), room_of ls p k held.Between s t.0))
 between_step ls p k (line.Unpublished h count) x s e =
     let new : Kept = record { held = held.Between; counts = one_unpublished k.counts } in
-    let t = some_if (ltb (k.counts.published + k.counts.unpublished) 1000) (new, Some (part.Block (block.Unpublished h count))) x e in
+    let t = cond_some (ltb (k.counts.published + k.counts.unpublished) 1000) (new, Some (part.Block (block.Unpublished h count))) x e in
     subst (λ y. Next ls p (line.Unpublished h count) y) t.1
     (block_next ls p k new held.Between (line.Unpublished h count) (block.Unpublished h count) s tt (room_of ls p k held.Between s t.0) (sym (first (front_lines p) (line.Unpublished h count))) (omega arith) refl)
 between_step ls p k (line.TotalOperator t) x s e =
@@ -132,7 +133,7 @@ between_step ls p k _ x s e = absurd cc
 end_step : (ls : List Line) (p : Publication) (k : Kept) (g : Ending) (run : ℕ) (x : Kept × Option Part) → Stands ls p k (held.Ending g) → after k (held.Ending g) (line.End run) ≡ Some x → Next ls p (line.End run) x
 end_step ls p k g run x s e =
     let new : Kept = record { held = held.Between; counts = one_published k.counts } in
-    let t = some_if (eqb run g.listing.heading.run) (new, Some (part.Block (full_block g))) x e in
+    let t = cond_some (eqb run g.listing.heading.run) (new, Some (part.Block (full_block g))) x e in
     let same_run : run ≡ g.listing.heading.run = eqb-true _ _ t.0 in
     let b = g.listing in
     let goal1 = ended (front_lines p) (map line.Zone b.zones ++ (map line.Border b.borders ++ (map line.Bid b.bids ++ demand_lines 1 b.demands))) (flat_map item_lines g.tree) (map line.Operator g.operators) (map line.Provider g.providers)
@@ -172,7 +173,7 @@ next ls p k (held.Ending g) (line.End run) x s e = end_step ls p k g run x s e
 next ls p k (held.Ending g) l x s e = kept_step ls p k (held.Ending g) l (after_ending g l) x s (λ new o. ending_step p g l new s.fits o) e
 next ls p k (held.Totals os ps) (line.Done m n) x s e =
     let new : Kept = kept_with k held.Done in
-    let c = some_if (eqb m k.counts.published && eqb n k.counts.unpublished) (new, Some (part.Totals os ps)) x e in
+    let c = cond_some (eqb m k.counts.published && eqb n k.counts.unpublished) (new, Some (part.Totals os ps)) x e in
     let bs = and_parts (eqb m k.counts.published) (eqb n k.counts.unpublished) c.0 in
     let em : m ≡ published_in p.blocks = eqb-true _ _ bs.0 ∙ s.published in
     let en : n ≡ unpublished_in p.blocks = eqb-true _ _ bs.1 ∙ s.unpublished in

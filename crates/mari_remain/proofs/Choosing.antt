@@ -18,6 +18,7 @@ use Rattle.mari_bids.specs.Bids.{bid_numbered, no_bid}
 use Rattle.mari_bids.specs.declared.bids.Bid.{Bid}
 use Rattle.mari_bids.specs.declared.bids.BidBook.{BidBook}
 use Rattle.mari_links.specs.Links.{has_gate, quarter_of}
+use Rattle.mari_links.proofs.LinkEq.{list_any-alike}
 use Rattle.mari_demands.specs.declared.demands.Demand.{Demand}
 use Rattle.mari_demands.specs.declared.runs.Run.{Run}
 use Rattle.mari_remain.specs.declared.books.Books.{Books}
@@ -38,11 +39,6 @@ any-filter f g (x ∷ xs) = by (g x) refl (any-filter f g xs)
     by : (b : Bool) → g x ≡ b → list_any f (filter g xs) ≡ list_any (λ y. g y && f y) xs → list_any f (cond b (x ∷ filter g xs) (filter g xs)) ≡ ((b && f x) || list_any (λ y. g y && f y) xs)
     by true e more = ap (λ b. f x || b) more
     by false e more = more
-
--- tests that agree
-any-same : {X : Type 0} (f g : X → Bool) (xs : List X) → ((x : X) → f x ≡ g x) → list_any f xs ≡ list_any g xs
-any-same f g [] same = refl
-any-same f g (x ∷ xs) same = rw (same x, any-same f g xs same) refl
 
 -- the bids of a quarter are the numbers whose bid is of it
 pub of_the_quarter : (bids : List Bid) (quarter : ℕ) → bids_of_quarter bids quarter ≡ filter (λ i. (bid_numbered bids i).quarter == quarter) (range_with_len 0 (length bids))
@@ -73,7 +69,7 @@ free books kept quarter i ok =
     any-filter f (rivals_in books kept) (bids_of_quarter books.bids.bids quarter)
     ∙ ap (list_any (λ j. rivals_in books kept j && f j)) (of_the_quarter books.bids.bids quarter)
     ∙ any-filter (λ j. rivals_in books kept j && f j) own (range_with_len 0 (length books.bids.bids))
-    ∙ any-same (λ j. own j && (rivals_in books kept j && f j)) (λ j. not (j == i) && (share_group books.links.links i j && is_used (taken_in books kept quarter) j)) (range_with_len 0 (length books.bids.bids))
+    ∙ list_any-alike (λ j. own j && (rivals_in books kept j && f j)) (λ j. not (j == i) && (share_group books.links.links i j && is_used (taken_in books kept quarter) j)) (range_with_len 0 (length books.bids.bids))
     (λ j. rival (own j) (not (j == i)) (get_or kept.mw j 0) (group_at books.links.links i) (group_at books.links.links j))
     ∙ ap (λ n. list_any (λ j. not (j == i) && (share_group books.links.links i j && is_used (taken_in books kept quarter) j)) (range_with_len 0 n)) (sym all)
 

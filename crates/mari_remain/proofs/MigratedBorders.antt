@@ -1,7 +1,6 @@
 -- The printed page of borders is read as these borders without their limits.
-use Rattle.std.proofs.Common.{◌≡◌, ◌∙◌, ◌<◌, ◌+◌, ◌==◌, ◌&&◌, ◌||◌, ℕ, Bool, true, false, List, [], ◌∷◌, ◌++◌, Option, Some, None, Result, Ok, Err, All, length, map, refl, sym, ap, arith, is_some, not, nat_le, nat_lt, position, option_map, length-append}
+use Rattle.std.proofs.Common.{◌≡◌, ◌∙◌, ◌<◌, ◌+◌, ◌==◌, ◌&&◌, ◌||◌, ℕ, Bool, true, false, List, [], ◌∷◌, ◌++◌, Some, None, Result, Ok, Err, All, length, map, refl, sym, ap, arith, is_some, not, nat_le, nat_lt, position, length-append}
 use Rattle.std.specs.List.{list_all, list_any, position_or_len}
-use Rattle.std.specs.Option.{option_or}
 use Rattle.std.proofs.lemmas.Bool.{eq-eqb, eqb-true, lt-ltb, ltb-true, ne_eqb}
 use Rattle.std.proofs.lemmas.Bool.Decides.{nat_tests}
 use Rattle.std.proofs.lemmas.List.{get_or_past, length-map, map-append}
@@ -11,12 +10,12 @@ use Rattle.mari_rows.specs.Books.{Grammar, book_in, book_of_read, first_failing,
 use Rattle.mari_rows.specs.First.{first_fault, first_fault_behind}
 use Rattle.mari_rows.specs.Names.{name_at}
 use Rattle.mari_rows.specs.Rows.{columns_of, rows_from, rows_in}
-use Rattle.mari_rows.specs.declared.faults.BookFault.TheVariants as refused
 use Rattle.mari_rows.specs.declared.faults.RowFault.{RowFault}
 use Rattle.mari_rows.specs.declared.rows.Row.{Row}
-use Rattle.mari_rows.proofs.BookFacts.{all-passed}
+use Rattle.mari_rows.proofs.BookFacts.{all-passed, no-failing}
 use Rattle.mari_rows.proofs.FirstLemmas.{value-no-fault}
 use Rattle.mari_rows.proofs.NameLemmas.{list_any-map, place-of-name}
+use Rattle.mari_rows.proofs.FirstMeaning.{option_or-parts}
 use Rattle.mari_zones.specs.Borders.{IsBorder, bare_columns, border_checks, border_grammar, border_of, borders_in, is_between_same, version_in, zone_named}
 use Rattle.mari_zones.specs.Zones.{IsZoneBook}
 use Rattle.mari_zones.specs.declared.borders.BorderBook.{BorderBook}
@@ -104,19 +103,11 @@ module _ (zones : ZoneBook) (is : IsZoneBook zones) where
       passes : first_fault_behind (line_refusal (border_grammar zones 2)) earlier (rows_from line (map printed (map said rows))) ≡ None
       none_repeated : NoneRepeated (map said before) (map said rows)
 
-    both-none : {F : Type 0} (o p : Option F) → option_or o p ≡ None → (o ≡ None) × (p ≡ None)
-    both-none None p none = (refl, none)
-    both-none (Some f) p none = cc none
-
-    no-failing : (line : ℕ) (failing : Option ℕ) → option_map (λ number. refused.At line number) failing ≡ None → failing ≡ None
-    no-failing line None none = refl
-    no-failing line (Some number) none = cc none
-
     moves : (before earlier rows : List Row) (line : ℕ) → All (IsBorder zones) (map said rows) → map (border_of zones 2) earlier ≡ map bare (map said before)
         → first_fault_behind (line_refusal (border_grammar zones version)) before rows ≡ None → Moves before earlier rows line
     moves before earlier [] line ok same none = record { passes = refl; none_repeated = tt }
     moves before earlier (row ∷ rows) line ok same none =
-        let parts = both-none (line_refusal (border_grammar zones version) before row) (first_fault_behind (line_refusal (border_grammar zones version)) (before ++ row ∷ []) rows) none in
+        let parts = option_or-parts (line_refusal (border_grammar zones version) before row) (first_fault_behind (line_refusal (border_grammar zones version)) (before ++ row ∷ []) rows) none in
         let all = all-passed (border_checks zones version before row) (no-failing row.line (first_failing (border_checks zones version before row)) parts.0) in
         let few : length (map said before) < 256 = rw (length-map before said) (grind (arith, nat_tests, all.0)) in
         let new : list_any (is_between_same (said row)) (map said before) ≡ false = all.1.1.1.0 in
@@ -156,7 +147,7 @@ module _ (zones : ZoneBook) (is : IsZoneBook zones) where
       by : (r : Result (List Row) RowFault) → book_of_read g r ≡ Ok book → HasRows g page book
       by (Ok rows) e =
           let value = value-no-fault (first_refusal g rows) (g.book rows) book (sym e) in
-          record { rows = rows; none = (both-none 2 (first_fault (line_refusal g) rows) _ value.0).0; says = value.1 }
+          record { rows = rows; none = (option_or-parts (first_fault (line_refusal g) rows) _ value.0).0; says = value.1 }
       by (Err fault) e = cc e
 
 columns-two : AreColumns bare_columns 2

@@ -57,7 +57,7 @@ least_fits gates b None taken h one there = (omega arith, refl)
 least_fits gates b (Some g) taken h one there = let in_order : cond (b.least == 0) 1 b.least ≤ b.greatest = grind arith in let some : 1 ≤ cond (b.least == 0) 1 b.least = grind arith in (in_order, (there g refl, some))
 
 -- what is left of an offer is no more than the offer
-most_left : (gate : Option ℕ) (offer taken : ℕ) → greatest_left gate offer taken ≤ offer
+pub most_left : (gate : Option ℕ) (offer taken : ℕ) → greatest_left gate offer taken ≤ offer
 most_left None offer taken = omega arith
 most_left (Some g) offer taken = omega arith
 

@@ -1,6 +1,6 @@
 -- What holds of a book's lines, line by line.
 use Rattle.std.proofs.Common.{◌≡◌, ◌≢◌, ◌∙◌, ◌≤◌, ◌<◌, ◌+◌, ◌==◌, ◌⊎◌, ℕ, Bool, true, false, List, [], ◌∷◌, ◌++◌, Option, Some, None, append_assoc, length, map, get_or, fold, refl, sym, ap, arith, inl, inr, if◌then◌else◌}
-use Rattle.std.specs.Prelude.{◌||◌, ℤ, pos, negsuc, neg_ℤ, nat_le, nat_lt, int_le, not, is_some, unwrap_or, option_map, count_by, position, ◌&&◌}
+use Rattle.std.specs.Prelude.{◌||◌, ℤ, pos, negsuc, neg_ℤ, nat_le, nat_lt, int_le, is_some, unwrap_or, option_map, count_by, position, ◌&&◌}
 use Rattle.std.specs.List.{AllPairs, All, position_or_len}
 use Rattle.std.specs.Option.{option_and_then}
 use Rattle.std.specs.Str.{bytes_eq}
@@ -42,13 +42,14 @@ module _ {X F : Type 0} (fault_of : List X → X → Option F) (P : List X → T
   pub along : (xs : List X) → P [] → HasNoFault fault_of xs → P xs
   along xs start none = from-behind [] xs start none
 
+-- a line that is not refused has no check that fails
+pub no-failing : (line : ℕ) (failing : Option ℕ) → option_map (λ number. refused.At line number) failing ≡ None → failing ≡ None
+no-failing line None none = refl
+no-failing line (Some number) none = cc none
+
 -- the same of the lines of a book
 module _ {Book : Type 0} (g : Grammar Book) (P : List Row → Type 0)
     (step : (before : List Row) (line : Row) → first_failing (g.line_checks before line) ≡ None → P before → P (before ++ line ∷ [])) where
-  no-failing : (line : ℕ) (failing : Option ℕ) → option_map (λ number. refused.At line number) failing ≡ None → failing ≡ None
-  no-failing line None none = refl
-  no-failing line (Some number) none = cc none
-
   pub along-lines : (rows : List Row) (book : Book) → IsBookOf g rows book → P [] → P rows
   along-lines rows book is start =
       along (line_refusal g) P (λ before line none. step before line (no-failing line.line (first_failing (g.line_checks before line)) none)) rows start is.lines
@@ -76,11 +77,6 @@ AllPassed (check ∷ checks) = (check.0 ≡ false) × AllPassed checks
 pub all-passed : (checks : Checks) → first_failing checks ≡ None → AllPassed checks
 all-passed [] none = tt
 all-passed (check ∷ checks) none = let first = passed check checks none in (first.0, all-passed checks first.1)
-
--- a test that fails
-pub not-false : (b : Bool) → not b ≡ false → b ≡ true
-not-false true e = refl
-not-false false e = cc e
 
 -- a number that a text writes is within its bounds
 pub number-bounds : (least greatest : ℕ) (text : List ℕ) → is_some (number_in least greatest text) ≡ true

@@ -109,14 +109,15 @@ widths columns page rows read = by (rows_behind_header (columns_of columns) (rec
         let good = value-no-fault (first_row_fault (length (columns_of columns)) all) all rows (sym e) in
         rw good.1 (widths-behind (length (columns_of columns)) [] all good.0)
 
+-- a row of each record
+pub length-rows_from : (line : ℕ) (records : List (List (List ℕ))) → length (rows_from line records) ≡ length records
+length-rows_from line [] = refl
+length-rows_from line (fields ∷ records) = rw (length-rows_from (line + 1) records) refl
+
 -- a page has no more rows than bytes
 pub length-rows_in : (columns page : List ℕ) (rows : List Row) → rows_in columns page ≡ Ok rows → length rows ≤ length page
 length-rows_in columns page rows read = by (records_in page) (length-records_in page) read
   where
-    length-rows_from : (line : ℕ) (records : List (List (List ℕ))) → length (rows_from line records) ≡ length records
-    length-rows_from line [] = refl
-    length-rows_from line (fields ∷ records) = rw (length-rows_from (line + 1) records) refl
-
     checked : (all : List Row) → rows_of_width (length (columns_of columns)) all ≡ Ok rows → rows ≡ all
     checked all e = (value-no-fault (first_row_fault (length (columns_of columns)) all) all rows (sym e)).1
 

@@ -1,12 +1,12 @@
 -- The first record of very many fields, by a walk along the bytes.
-use Rattle.std.proofs.Common.{◌≡◌, ◌≤◌, ◌<◌, ◌+◌, ◌==◌, ◌||◌, ◌&&◌, ◌∙◌, eqb, take, Bor, add-one, sym, ℕ, zero, suc, Bool, true, false, List, [], ◌∷◌, ◌++◌, Option, Some, None, length, length-append, refl, ap, arith, drop, get_or, if◌then◌else◌}
+use Rattle.std.proofs.Common.{◌≡◌, ◌≤◌, ◌<◌, ◌+◌, ◌==◌, ◌||◌, ◌&&◌, ◌∙◌, eqb, take, Bor, add-one, sym, ℕ, zero, suc, Bool, true, false, List, [], ◌∷◌, ◌++◌, Option, Some, None, length, refl, ap, arith, drop, get_or, if◌then◌else◌}
 use Rattle.std.specs.Bool.{then_some}
 use Rattle.std.specs.Cmp.Lexicographic.{pointwise}
 use Rattle.std.specs.Prelude.{nat_le, nat_lt, unwrap_or, MatchOption}
 use Rattle.std.specs.List.{count_by}
 use Rattle.std.proofs.lemmas.Bool.{le-leb, lt-leb}
 use Rattle.std.proofs.lemmas.Bool.Decides.{nat_tests}
-use Rattle.std.proofs.lemmas.List.{at_drop_all, at_drop_more}
+use Rattle.std.proofs.lemmas.List.{at_drop_all, at_drop_more, length_push}
 use Rattle.std.proofs.lemmas.List.Sums.{sum_by-cons}
 use Rattle.csv.specs.Machine.{ends_at_end, fields_after, field_after, in_field, is_end, next_record, start_field, start_record, step}
 use Rattle.csv.specs.Reading.{default_config, records, records_from, records_next, strip_bom}
@@ -66,11 +66,8 @@ module _ (most : ℕ) where
   wider : (n : ℕ) → nat_lt most (n + 1) ≡ nat_le most n
   wider n = grind (arith, nat_tests)
 
-  one-more : (fields : List (List ℕ)) (field : List ℕ) → length (fields ++ (field ∷ [])) ≡ length fields + 1
-  one-more fields field = length-append fields (field ∷ [])
-
   last-width : (fields : List (List ℕ)) (field : List ℕ) → nat_lt most (length (fields ++ (field ∷ []))) ≡ nat_le most (length fields)
-  last-width fields field = ap (nat_lt most) (one-more fields field) ∙ wider (length fields)
+  last-width fields field = ap (nat_lt most) (length_push fields field) ∙ wider (length fields)
 
   no-more : (n : ℕ) → records_from default_config n st.StartRecord [] ≡ []
   unfolding records_from next_record
@@ -86,7 +83,7 @@ module _ (most : ℕ) where
       by : (b : Bool) → (if b then at_end line (length fields) None else None)
           ≡ first_wide most (rows_from line (records_next (records_from default_config n) (if b then Some (fields ++ (field ∷ []), st.StartRecord, []) else None)))
       by false = refl
-      by true = rw (no-more n, one-more fields field, wider (length fields)) refl
+      by true = rw (no-more n, length_push fields field, wider (length fields)) refl
   first_from-records (c ∷ rest) zero s line fields field enough = absurd (omega (arith, enough))
   first_from-records (c ∷ rest) (suc n) s line fields field enough =
       by (step default_config s c).0 (step default_config s c).1
@@ -103,7 +100,7 @@ module _ (most : ℕ) where
           else next_record default_config t (fields_after a fields field) (field_after a c field) rest)))
       by t act.Skip same next = same t fields field
       by t act.Copy same next = same t fields (field ++ (c ∷ []))
-      by t act.EndField same next = rw (one-more fields field) at (same t (fields ++ (field ∷ [])) [])
+      by t act.EndField same next = rw (length_push fields field) at (same t (fields ++ (field ∷ [])) [])
       by t act.EndRecord same next =
           ap (at_end line (length fields)) (next t)
           ∙ ap (λ b. if b then Some line else first_wide most (rows_from (line + 1) (records_from default_config (suc n) t rest))) (sym (last-width fields field))

@@ -7,6 +7,7 @@ use Rattle.mari_rows.specs.First.{first_fault, first_fault_behind}
 use Rattle.mari_rows.specs.Rows.{columns_of, is_header, rows_from}
 use Rattle.mari_rows.specs.declared.rows.Row.{Row}
 use Rattle.mari_rows.proofs.BookFacts.{AllPassed}
+use Rattle.mari_rows.proofs.RowLemmas.{length-rows_from}
 use Rattle.mari_scenario.specs.Draws.{Drawn, lines}
 use Rattle.mari_scenario.proofs.Written.{AreLines, AreLines-append, IsLine, line_text, lines_text, lines_text-append, page-read}
 
@@ -20,10 +21,6 @@ rows_from-append line [] ys = rw (add-zero line) refl
 rows_from-append line (x ∷ xs) ys =
     let same : line + 1 + length xs ≡ line + length (x ∷ xs) = omega arith in
     ap (λ l. record { line = line; fields = x } ∷ l) (rows_from-append (line + 1) xs ys ∙ rw same refl)
-
-length-rows_from : (line : ℕ) (xs : List (List (List ℕ))) → length (rows_from line xs) ≡ length xs
-length-rows_from line [] = refl
-length-rows_from line (x ∷ xs) = rw (length-rows_from (line + 1) xs) refl
 
 -- no fault in a list, nor in what stands behind it
 behind-append : {X F : Type 0} (fault_of : List X → X → Option F) (earlier xs ys : List X) → first_fault_behind fault_of earlier xs ≡ None

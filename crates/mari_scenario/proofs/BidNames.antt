@@ -13,7 +13,7 @@ use Rattle.std.proofs.lemmas.Slice.Eq.{bytes_eq-Decides}
 use Rattle.mari_units.specs.Names.{is_name, is_name_byte}
 use Rattle.mari_scenario.specs.Pages.{bid, group, provider}
 use Rattle.mari_scenario.proofs.FieldBytes.{IsPlain, decimal-plain, joined}
-use Rattle.mari_units.proofs.Digits.{AreDigits, own}
+use Rattle.mari_units.proofs.Digits.{AreDigits, own, digit_name}
 
 -- 1 to 16 bytes of names
 abbrev AreNameBytes : List ℕ → Type 0
@@ -25,12 +25,9 @@ named text some few all =
     let b : nat_le (length text) 16 ≡ true = grind (arith, nat_tests) in
     rw (a, b, all) refl
 
-digit-name : (d : ℕ) → is_ascii_digit d ≡ true → is_name_byte d ≡ true
-digit-name d e = grind (arith, nat_tests)
-
 digits-name : (ds : List ℕ) → AreDigits ds → AreNameBytes ds
 digits-name [] e = refl
-digits-name (d ∷ ds) e = let p = and_parts (is_ascii_digit d) (list_all is_ascii_digit ds) e in rw (digit-name d p.0) (digits-name ds p.1)
+digits-name (d ∷ ds) e = let p = and_parts (is_ascii_digit d) (list_all is_ascii_digit ds) e in rw (digit_name d p.0) (digits-name ds p.1)
 
 decimal-name : (n : ℕ) → n < 100 → AreNameBytes (decimal n)
 decimal-name n small = digits-name (decimal n) (digits_decimal own n (omega arith))

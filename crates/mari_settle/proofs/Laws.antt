@@ -1,5 +1,5 @@
 -- The laws of a run's ledger: no rent is negative, and the nets of the operators sum to 0.
-use Rattle.std.proofs.Common.{◌≡◌, ◌==◌, if◌then◌else◌, ℕ, zero, suc, ◌+◌, ◌<◌, ℤ, pos, ◌+ℤ◌, ◌-ℤ◌, ◌*ℤ◌, ◌≤ℤ◌, List, [], ◌∷◌, length, map, arith, refl, sym, ap, ◌∙◌}
+use Rattle.std.proofs.Common.{◌≡◌, ◌==◌, if◌then◌else◌, ℕ, zero, suc, ◌+◌, ◌<◌, ℤ, pos, ◌+ℤ◌, ◌-ℤ◌, ◌*ℤ◌, ◌≤ℤ◌, List, [], ◌∷◌, length, arith, refl, sym, ap, ◌∙◌}
 use Rattle.std.proofs.lemmas.Int.{ints}
 use Rattle.std.proofs.lemmas.List.Elements.{All-cons}
 use Rattle.std.specs.List.{All, AllZip, range_with_len}
@@ -15,7 +15,7 @@ use Rattle.mari_market.specs.Market.{IsValid, IsValidBorder}
 use Rattle.mari_market.specs.Price.{price_at}
 use Rattle.mari_market.specs.Sums.{int_sum, sum_along}
 use Rattle.mari_market.proofs.Ints.{sub-mul_z}
-use Rattle.mari_market.proofs.Sums.{spread, sum_below, sum_below-+, sum_below--, sum_below-place, sum_below-same}
+use Rattle.mari_market.proofs.Sums.{spread, sum_below, sum_below-+, sum_below-place, sum_below-same, int_sum-map, sum_below--}
 use Rattle.mari_market.proofs.Surplus.{rent_at_least_0}
 use Rattle.mari_settle.specs.Ledger.{rent_of, rents_of, half_of, operator_at, share_of, operator_rent, carried_in, net_import, payment_at, operator_payment, operator_line, operator_lines, net_of}
 use Rattle.mari_settle.specs.Lines.{map_along}
@@ -64,10 +64,6 @@ range_is_below f (suc n) =
     let e : suc n ≡ n + 1 = omega arith in
     let k : 0 + n ≡ n = omega arith in
     ap (λ (m : ℕ). int_sum f (range_with_len 0 m)) e ∙ range_sum_more f 0 n ∙ ap (λ (m : ℕ). int_sum f (range_with_len 0 n) +ℤ f m) k ∙ ap (λ v. v +ℤ f n) (range_is_below f n)
-
-int_sum-map : {X Y : Type 0} (g : Y → ℤ) (f : X → Y) (xs : List X) → int_sum g (map f xs) ≡ int_sum (λ x. g (f x)) xs
-int_sum-map g f [] = refl
-int_sum-map g f (x ∷ xs) = ap (λ v. g (f x) +ℤ v) (int_sum-map g f xs)
 
 -- a border's rent is what its flow brings to each zone at that zone's price
 rent_by_zones : (ps : List Cents) (n : ℕ) (b : Border) (f : ℤ) → IsValidBorder n b → rent_of ps b f ≡ sum_below n (λ z. price_at ps z *ℤ carried_in z b f)

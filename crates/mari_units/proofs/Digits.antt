@@ -7,6 +7,7 @@ use Rattle.std.proofs.lemmas.Bool.{and_parts}
 use Rattle.std.proofs.lemmas.Bool.Decides.{nat_tests}
 use Rattle.std.proofs.lemmas.Fmt.{digits_decimal, digits_value-decimal, decimal_nonempty}
 use Rattle.std.proofs.lemmas.Str.Parse.{IsNumeralModel, numerals_by_fold}
+use Rattle.mari_units.specs.Names.{is_name_byte}
 use Rattle.mari_units.specs.Numbers.{has_minus, natural_of, value_of_digits, whole_of, without_minus}
 
 -- digits, and the number that they write
@@ -45,3 +46,7 @@ decimal_whole n small = by (decimal n) (digits_decimal own n small) (decimal_non
 -- the byte of a number below 10 is a digit
 pub digit_byte : (x : ℕ) → x < 10 → is_ascii_digit (48 + x) ≡ true
 digit_byte x lt = grind (arith, nat_tests)
+
+-- a digit may stand in a name
+pub digit_name : (d : ℕ) → is_ascii_digit d ≡ true → is_name_byte d ≡ true
+digit_name d e = rw e refl

@@ -25,6 +25,10 @@ same_over f g a zero same = refl
 same_over f g a (suc n) same =
     ap (λ x. x ∷ map f (range_with_len (a + 1) n)) (same a (omega arith) (omega arith)) ∙ ap (λ xs. g a ∷ xs) (same_over f g (a + 1) n (λ k from below. same k (omega (arith, from)) (omega (arith, below))))
 
+-- and below a number
+pub same_map : {X : Type 0} (f g : ℕ → X) (n : ℕ) → ((k : ℕ) → k < n → f k ≡ g k) → map f (range_with_len 0 n) ≡ map g (range_with_len 0 n)
+same_map f g n same = same_over f g 0 n (λ k low high. same k (omega (arith, high)))
+
 -- one number more
 pub range_more : (a n m : ℕ) → a + n ≡ m → range_with_len a (suc n) ≡ range_with_len a n ++ m ∷ []
 range_more a zero m e = ap (λ k. k ∷ []) (omega arith)

@@ -1,5 +1,6 @@
 -- One more word: what `clap` makes of it, and what the definition makes of it.
 use Rattle.std.proofs.Common.{◌≡◌, ◌∙◌, ◌≤◌, ◌&&◌, ℕ, Bool, suc, true, false, not, cond, List, [], ◌∷◌, fold, length, Option, Some, None, is_some, option_map, find, slice_get, bytes_eq, chars, codes, refl, sym, ap, subst, true≢false}
+use Rattle.std.proofs.lemmas.Bool.{not-true}
 use Rattle.std.specs.Prelude.{⊤}
 use Rattle.std.specs.List.{list_all}
 use Rattle.clap.specs.Walk.{Held, Row, Rule, Waiting, Walk, arg_by_id, arg_by_index, arg_by_long, arg_by_short, is_pending, settled_rows, takes_several, walked}
@@ -153,12 +154,8 @@ value_bad verb rows pending position bad h = go (arg_by_index (rules verb) posit
     go : (o : Option Rule) → arg_by_index (rules verb) position ≡ o → step_fault (leaf verb) position (held rows pending) step.value ≡ [] → ⊥
     go None e n = filled_not n (rw e refl)
     go (Some a) e n =
-        let one : takes_several a ≡ false = several (takes_several a) (find_in single _ (rules verb) a (all_single verb) e) in
+        let one : takes_several a ≡ false = not-true (takes_several a) (find_in single _ (rules verb) a (all_single verb) e) in
         bad (sym (not_both (is_pending a pending) [] (settle_fault (rules verb) false (held rows pending))) ∙ rw (e, one) at n)
-      where
-        several : (b : Bool) → not b ≡ true → b ≡ false
-        several true t = absurd (true≢false (sym t))
-        several false t = refl
 
 -- one dash and more is no argument
 pub short_bad : (verb : Verb) (h : Held) (y c : ℕ) (ys cs : List ℕ) → h.skip ≡ 0 → chars (y ∷ ys) ≡ c ∷ cs → bundle_fault (rules verb) false (y ∷ ys) h ≡ [] → ⊥

@@ -24,7 +24,7 @@ use Rattle.mari_market.specs.Bounds.{IsWithin, GateState, gated_span, own_bounds
 use Rattle.mari_market.specs.Bounds.GateState.{Open, Closed}
 use Rattle.mari_market.specs.Conflict.{IsConflict}
 use Rattle.mari_market.specs.Consistent.{IsConsistentOrder, IsConsistentTrade, standing_of}
-use Rattle.mari_market.specs.declared.price_rules.Standing.TheVariants.{InOpen, InClosed, Plain}
+use Rattle.mari_market.specs.declared.price_rules.Standing.TheVariants.{InOpen, InClosed}
 use Rattle.mari_market.specs.Cut.{IsCut}
 use Rattle.mari_market.specs.Dual.{IsTightOrder, IsTightTrade}
 use Rattle.mari_market.specs.Finding.{IsAttained, IsFinding, IsRefuted, IsRelaxedFinding, IsSettled}
@@ -41,6 +41,7 @@ use Rattle.mari_market.proofs.Prefixes.{state_rule}
 use Rattle.mari_market.proofs.Search.{parents_earlier}
 use Rattle.mari_market.proofs.Sums.{AllZip-both, AllZip-with}
 use Rattle.mari_market.proofs.Words.{begins_get, begins_own, Begins}
+use Rattle.mari_market.proofs.Standings.{plain_consistent}
 
 -- ---- the closed word
 
@@ -101,12 +102,8 @@ closed_not_cut m cut v h = cut_is_empty (bounds_of_word m (all_closed m)) m (idl
 
 -- ---- what is tight is consistent where every gate is closed
 
-tight_plain : (side : Side) (c p : ℤ) (o : Order) (q : ℕ) → IsTightTrade side c p (record { lo = 0; hi = o.greatest }) q → IsConsistentTrade Plain side c o.greatest q p
-tight_plain Inject c p o q h = record { lower = h.0; upper = h.1 }
-tight_plain Withdraw c p o q h = record { lower = h.1; upper = h.0 }
-
 closed_order : (n : ℕ) (opens : ℕ → Bool) (gate : Option ℕ) (side : Side) (c p : ℤ) (o : Order) (q : ℕ) → ((g : ℕ) → g < n → opens g ≡ false) → MatchOption gate (o.least ≡ 0) (λ g. (g < n) × (1 ≤ o.least)) → IsTightTrade side c p (span_of (λ g. if opens g then Open else Closed) gate o) q → IsConsistentTrade (standing_of opens gate) side c o.greatest q p
-closed_order n opens None side c p o q shut fits h = tight_plain side c p o q h
+closed_order n opens None side c p o q shut fits h = plain_consistent side c p o.greatest q h
 closed_order n opens (Some g) side c p o q shut fits h =
     subst (λ (b : Bool). IsConsistentTrade (if b then InOpen else InClosed) side c o.greatest q p) (sym (shut g fits.0)) (record { lower = λ no. absurd no; upper = λ no. absurd no })
 

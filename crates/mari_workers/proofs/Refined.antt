@@ -29,6 +29,7 @@ use Rattle.mari_market.proofs.Words.{length-gate_word_of}
 use Rattle.mari_gates.specs.Preorder.{left_at, waiting_after}
 use Rattle.mari_core.specs.Preorder.{shape_of}
 use Rattle.mari_core.proofs.Seeds.{larger_by}
+use Rattle.mari_core.proofs.Parts.{contains_head, contains_tail}
 use Rattle.mari_proofs.specs.Places.{LeavesWords}
 use Rattle.mari_proofs.proofs.TreeWalk.{none_left}
 use Rattle.mari_workers.specs.declared.refining.Aim.{Aim}
@@ -80,17 +81,11 @@ found_clears m aim x a done left items v h e =
 
 -- ---- the budget is spent
 
-contains_here : (x : List Bool) (xs : List (List Bool)) → Contains (x ∷ xs) x
-contains_here x xs = (0, omega arith, refl)
-
-contains_later : (y x : List Bool) (xs : List (List Bool)) → Contains xs x → Contains (y ∷ xs) x
-contains_later y x xs c = (suc c.0, omega (arith, c.1), c.2)
-
 -- the next word is that of a leaf
 leaf_there : (m : Market) (P : List Bool → LeafRecord → Type 0) (words : List (List Bool)) (done rest : List TreeItem) (leaf : LeafRecord) (word : List Bool) (left : List (List Bool)) → LeavesWords m P words done (word ∷ left) → Contains (leaves_of m words (map shape_of (done ++ Leaf leaf ∷ rest))) word
-leaf_there m P words [] rest leaf word left h = subst (λ (ws : List (List Bool)). Contains (leaves_of m ws (map shape_of (Leaf leaf ∷ rest))) word) (sym h) (contains_here word (leaves_of m left (map shape_of rest)))
+leaf_there m P words [] rest leaf word left h = subst (λ (ws : List (List Bool)). Contains (leaves_of m ws (map shape_of (Leaf leaf ∷ rest))) word) (sym h) (contains_head word (leaves_of m left (map shape_of rest)))
 leaf_there m P [] (item ∷ items) rest leaf word left h = absurd h
-leaf_there m P (w ∷ ws) (Leaf l ∷ items) rest leaf word left h = contains_later w word (leaves_of m ws (map shape_of (items ++ Leaf leaf ∷ rest))) (leaf_there m P ws items rest leaf word left h.1)
+leaf_there m P (w ∷ ws) (Leaf l ∷ items) rest leaf word left h = contains_tail word w (leaves_of m ws (map shape_of (items ++ Leaf leaf ∷ rest))) (leaf_there m P ws items rest leaf word left h.1)
 leaf_there m P (w ∷ ws) (Branch ∷ items) rest leaf word left h = leaf_there m P (children m.gates w ++ ws) items rest leaf word left h.1
 
 -- leaves of some words, and parts of others

@@ -7,7 +7,6 @@ use Rattle.std.proofs.lemmas.Int.{ints, clamps}
 use Rattle.std.proofs.lemmas.List.{length-map}
 use Rattle.std.proofs.lemmas.Option.{slice_get-get_or, slice_get-map, slice_get_within}
 use Rattle.std.proofs.lemmas.List.Sorted.{length_permutation}
-use Rattle.mari_units.specs.Lists.{greatest_by}
 use Rattle.mari_market.specs.declared.certificate.Leaf.{Leaf}
 use Rattle.mari_market.specs.declared.certificate.Conflict.{Conflict as ConflictRecord}
 use Rattle.mari_market.specs.declared.finding.Attained.{Attained}
@@ -34,7 +33,7 @@ use Rattle.mari_core.specs.Nodes.{TreeNode, branch_of, in_state, new_node, state
 use Rattle.mari_core.specs.Preorder.{shape_of}
 use Rattle.mari_core.proofs.Changes.{IsAt, length-with_state, node_at, state_same}
 use Rattle.mari_core.proofs.Lists.{changed_same}
-use Rattle.mari_core.proofs.Machines.{actor_there, by_actor_there}
+use Rattle.mari_core.proofs.Machines.{actor_there, by_actor_there, greatest_above}
 use Rattle.mari_pool.specs.Pooled.{taken_among}
 use Rattle.mari_pool.specs.Queued.{Queued, no_nodes, first_key, LeavesFirst, IsIdleQueue, IsMore, IsQueueOf}
 use Rattle.mari_pool.proofs.Keeps.{grown_longer}
@@ -369,10 +368,6 @@ start_under_way m s q budget e facts closed more =
 
 -- ---- the end of a search
 
-above_first : (w : ℕ) (actors : List Actor) → w ≤ greatest_by (λ (a : Actor). a.offered) w actors
-above_first w [] = omega arith
-above_first w (a ∷ others) = omega (arith, above_first w others)
-
 -- what a search comes to may be refined
 pub may_refine : (s : Machine) (c : Clearing) → IsFinished s → IsOptimalClearing s.tree.market s.tree.budget c → c.welfare ≡ s.incumbent → (s.incumbent ≡ s.first.welfare → c.activation ≡ s.first.activation) → ArePartsOfSearch s.tree.market ([] ∷ []) (map shape_of c.tree) → MayRefine s.tree.market s.tree.budget c
 may_refine s c done clearing w first parts = record {
@@ -383,7 +378,7 @@ may_refine s c done clearing w first parts = record {
     is_closed = done.facts.closed;
     above = elim (cases_eq s.incumbent s.first.welfare) [
       | inl e ↦ inl (ap (gate_word_of s.tree.market) (first e) ∙ done.from_closed)
-      | inr other ↦ inr (omega (arith, other, w, done.facts.incumbent_is, above_first s.first.welfare s.actors))
+      | inr other ↦ inr (omega (arith, other, w, done.facts.incumbent_is, greatest_above s.first.welfare s.actors))
     ];
   };
 }

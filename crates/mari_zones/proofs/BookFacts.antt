@@ -14,8 +14,8 @@ use Rattle.mari_rows.specs.Rows.{field_of}
 use Rattle.mari_rows.specs.declared.faults.BookFault.{BookFault}
 use Rattle.mari_rows.specs.declared.rows.Row.{Row}
 use Rattle.mari_rows.proofs.BookLemmas.{book-page}
-use Rattle.mari_rows.proofs.BookFacts.{all-distinct, all-passed, along-lines, distinct-more, found-below, not-false, number-bounds, places-below}
-use Rattle.std.proofs.lemmas.Bool.{and_parts}
+use Rattle.mari_rows.proofs.BookFacts.{all-distinct, all-passed, along-lines, distinct-more, found-below, number-bounds, places-below}
+use Rattle.std.proofs.lemmas.Bool.{and_parts, not-false}
 use Rattle.mari_rows.proofs.PlaceLemmas.{length-distinct}
 use Rattle.mari_zones.specs.Zones.{IsZoneBook, operator_of, operators_of, zone_book, zone_checks, zone_file_checks, zone_grammar, zone_of, zones_of}
 use Rattle.mari_zones.specs.Borders.{IsBorder, IsBorderBook, border_book, border_checks, border_grammar, border_of, limit_in, zone_named}

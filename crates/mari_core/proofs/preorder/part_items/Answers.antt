@@ -1,11 +1,12 @@
 use Rattle.std.proofs.Common.{◌≡◌, ◌<◌, ℕ, List, [], ◌∷◌, ◌++◌, map, take, get_or, length, Some, arith, sym, ap, subst, ◌∙◌}
+use Rattle.std.proofs.lemmas.List.{map_more}
 use Rattle.mari_market.specs.declared.clearing.PartItem.{PartItem}
 use Rattle.mari_core.specs.declared.node.NodeState.{NodeState}
 use Rattle.mari_core.specs.Nodes.{state_at}
 use Rattle.mari_core.specs.Preorder.{IsPreorder, part_item}
 use Rattle.mari_core.proofs.Changes.{state_of_node}
 use Rattle.mari_core.proofs.Entries.{there_by}
-use Rattle.mari_core.proofs.Walks.{item_within, map_more, map_all}
+use Rattle.mari_core.proofs.Walks.{item_within, map_all}
 use Rattle.mari_core.proofs.preorder.part_items.Goals as goal
 
 pub loop-node-init : goal.loop-node-init

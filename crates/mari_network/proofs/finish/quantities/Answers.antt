@@ -1,11 +1,10 @@
 use Rattle.std.proofs.Common.{◌<◌, ap, ℕ, ℤ, pos, ◌+◌, List, to_z-of_z, sym, ◌∙◌, rules, FitsSigned, w64, subst, arith, take, get_or, length}
 use Rattle.std.proofs.lemmas.Int.{ints}
-use Rattle.std.proofs.lemmas.List.{length_push}
+use Rattle.std.proofs.lemmas.List.{length_push, get_or-take}
 use Rattle.mari_market.specs.declared.market.Order.{Order}
 use Rattle.mari_market.specs.Activation.{order_gain}
 use Rattle.mari_market.specs.Sums.{int_at}
 use Rattle.mari_network.specs.Orders.{no_order, CanPut, ArePuts}
-use Rattle.mari_network.proofs.Lists.{at_take}
 use Rattle.mari_network.proofs.Transfers.{gains_more, puts_more}
 use Rattle.mari_network.proofs.finish.quantities.Goals as goal
 use Rattle.mari_market.proofs.Sums.{AllZip-at}
@@ -14,7 +13,7 @@ pub quantity-mw-requires : goal.quantity-mw-requires
 quantity-mw-requires c =
     let fits : FitsSigned w64 (int_at c.args.amounts.now c.loop-i.i) = search rules in
     let can = AllZip-at (λ (o : Order) (x : ℤ). CanPut o.side x) c.args.orders.now (take (length c.args.orders.now) c.args.amounts.now) c.loop-i.i no_order (pos 0) c.loop-i-test.true c.requires.fits in
-    subst (λ (x : ℤ). CanPut (get_or c.args.orders.now c.loop-i.i no_order).side x) (at_take (length c.args.orders.now) c.args.amounts.now c.loop-i.i (pos 0) c.loop-i-test.true ∙ sym (to_z-of_z fits)) can
+    subst (λ (x : ℤ). CanPut (get_or c.args.orders.now c.loop-i.i no_order).side x) (get_or-take (length c.args.orders.now) c.args.amounts.now c.loop-i.i (pos 0) c.loop-i-test.true ∙ sym (to_z-of_z fits)) can
 
 pub loop-i-preserved : goal.loop-i-preserved
 loop-i-preserved c =

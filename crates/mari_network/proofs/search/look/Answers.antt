@@ -1,6 +1,6 @@
 use Rattle.std.proofs.Common.{◌≡◌, ℕ, ℤ, true, false, Bool, pos, ◌<ℤ◌, sym, ap, ◌∙◌, arith, subst, take, get_or, List}
 use Rattle.std.specs.List.{All}
-use Rattle.std.proofs.lemmas.List.{take_more, take_all}
+use Rattle.std.proofs.lemmas.List.{take_more, take_all, get_or_default}
 use Rattle.std.proofs.lemmas.List.Elements.{All-push}
 use Rattle.mari_market.specs.declared.market.Border.{Border}
 use Rattle.mari_network.specs.declared.chain.Hop.{Hop}
@@ -8,7 +8,6 @@ use Rattle.mari_market.specs.Sums.{int_at}
 use Rattle.mari_network.specs.Network.{border_at, AreMeeting}
 use Rattle.mari_network.specs.Chain.{no_hop, hop_at, hop_of, room_of, head_of, tail_of}
 use Rattle.mari_network.specs.Spread.{MarkedInto, Keeps, is_marked}
-use Rattle.mari_network.proofs.Lists.{same_default}
 use Rattle.mari_network.proofs.Spread.{all_into, by_ways}
 use Rattle.mari_network.proofs.search.look.Goals as goal
 
@@ -55,7 +54,7 @@ loop-border-preserved c =
 
 pub returns-clause-into : goal.returns-clause-into
 returns-clause-into c =
-    let zone : c.index.result.now.zone ≡ (hop_at c.args.hops.now.items c.args.at).zone = ap (λ (x : Hop). x.zone) (c.index.ensures ∙ same_default c.args.hops.now.items c.args.at c.index.result.now no_hop c.requires.at) in
+    let zone : c.index.result.now.zone ≡ (hop_at c.args.hops.now.items c.args.at).zone = ap (λ (x : Hop). x.zone) (c.index.ensures ∙ get_or_default c.args.hops.now.items c.args.at c.index.result.now no_hop c.requires.at) in
     let all : take c.loop-border.border-index c.meeting_at-places.result.now ≡ c.meeting_at-places.result.now = take_all c.loop-border.border-index c.meeting_at-places.result.now c.loop-border-test.false in
     all_into c.args.network.now.borders.now c.args.flows.now c.loop-border.marked (hop_at c.args.hops.now.items c.args.at).zone c.meeting_at-places.result.now (sym c.requires.flows)
     (subst (λ (z : ℕ). AreMeeting c.args.network.now.borders.now z c.meeting_at-places.result.now) zone c.meeting_at-places.ensures)

@@ -1,12 +1,12 @@
 use Rattle.std.proofs.Common.{◌≡◌, ◌<◌, true, false, ℕ, pos, ◌<ℤ◌, to_z-of_z, sym, ap, ◌∙◌, rules, FitsSigned, w64, arith, set, subst, List, length, ◌++◌, ◌∷◌, []}
 use Rattle.std.proofs.lemmas.Int.{ints}
+use Rattle.std.proofs.lemmas.List.{get_or_default}
 use Rattle.mari_market.specs.Activation.{IsWithinLimits}
 use Rattle.mari_network.specs.declared.chain.Hop.{Hop}
 use Rattle.mari_market.specs.Sums.{int_at}
 use Rattle.mari_network.specs.Network.{no_border, border_at}
 use Rattle.mari_network.specs.Chain.{no_hop, room_of}
 use Rattle.mari_network.specs.Spread.{IsSpread, is_marked}
-use Rattle.mari_network.proofs.Lists.{same_default}
 use Rattle.mari_network.proofs.Spread.{spread_more}
 use Rattle.mari_network.proofs.search.reach_over.Goals as goal
 use Rattle.mari_market.proofs.Sums.{AllZip-at}
@@ -29,7 +29,7 @@ returns-clause-spread c = λ old start s.
       at = c.requires.before;
       there = c.requires.border;
       tail = c.requires.zone;
-      head = ap (λ (x : Hop). x.zone) (same_default c.args.hops.now.items c.args.hop.before no_hop c.index.result.now c.requires.before ∙ sym c.index.ensures) ∙ sym yes.1;
+      head = ap (λ (x : Hop). x.zone) (get_or_default c.args.hops.now.items c.args.hop.before no_hop c.index.result.now c.requires.before ∙ sym c.index.ensures) ∙ sym yes.1;
       room = omega (arith, ints, room);
       fresh = subst (λ (z : ℕ). is_marked c.args.marked.now z ≡ false) (sym c.requires.zone) yes.0;
       long = long;

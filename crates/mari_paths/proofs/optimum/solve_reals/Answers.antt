@@ -1,12 +1,13 @@
 use Rattle.std.proofs.Common.{◌≡◌, ◌++◌, ℤ, pos, List, length, sym, ap, ◌∙◌, subst, arith, length-append}
 use Rattle.std.specs.List.{All, AllZip}
 use Rattle.std.proofs.lemmas.List.Elements.{All-append}
+use Rattle.std.proofs.lemmas.List.{get_or_default}
 use Rattle.mari_network.specs.declared.slots.Slot.{Slot}
 use Rattle.mari_market.specs.Sums.{int_at}
 use Rattle.mari_network.specs.Slots.{IsWithinSlot, IsRunning}
 use Rattle.mari_paths.specs.Starts.{stand_ins, IsNear, AreShort}
 use Rattle.mari_network.specs.Fits.{IsNetworkSlot}
-use Rattle.mari_network.proofs.Lists.{same_default, zip_long}
+use Rattle.mari_network.proofs.Lists.{zip_long}
 use Rattle.mari_network.proofs.Fits.{network_slots}
 use Rattle.mari_paths.proofs.Starts.{stand_ins_network, stand_ins_are, starts_running}
 use Rattle.mari_paths.proofs.optimum.solve_reals.Goals as goal
@@ -19,7 +20,7 @@ solve_slots-requires-clause-slots c =
     subst (λ (ss : List Slot). All (IsNetworkSlot c.args.market.now.zones) ss) (sym all)
     (All-append (IsNetworkSlot c.args.market.now.zones) c.args.reals.items (stand_ins 0 c.deref-5.result.now) (network_slots c.args.market.now.zones c.args.reals.items c.requires.reals.fine)
     (stand_ins_network c.args.market.now.zones 0 c.deref-5.result.now (omega (arith, ap (λ (xs : List ℤ). length xs) d5, long))
-    (λ k d l. subst (λ (x : ℤ). IsNear 700000000 x) (ap (λ (xs : List ℤ). int_at xs k) (sym d5) ∙ same_default c.deref-5.result.now k (pos 0) d l) (c.in_ok-short.ensures.near k))))
+    (λ k d l. subst (λ (x : ℤ). IsNear 700000000 x) (ap (λ (xs : List ℤ). int_at xs k) (sym d5) ∙ get_or_default c.deref-5.result.now k (pos 0) d l) (c.in_ok-short.ensures.near k))))
 
 pub solve_slots-requires-clause-runs : goal.solve_slots-requires-clause-runs
 solve_slots-requires-clause-runs c =

@@ -1,5 +1,6 @@
 use Rattle.std.proofs.Common.{◌≡◌, ◌-◌, ◌<◌, ◌≤◌, ℕ, ℤ, subst, arith, true, false, length, ap, sym}
 use Rattle.std.proofs.lemmas.Bool.Decides.{nat_tests}
+use Rattle.std.proofs.lemmas.Bool.{eqb-true}
 use Rattle.mari_market.specs.Prefix.{word_of}
 use Rattle.mari_market.specs.Tree.{LeafHolds}
 use Rattle.mari_gates.proofs.Decisions.{length-decisions}
@@ -28,9 +29,6 @@ returns-then-check_leaf c =
 all_or_less : (n k : ℕ) → n ≤ k → eqb n k ≡ false → n < k
 all_or_less n k l e = grind (arith, nat_tests)
 
-all_of : (n k : ℕ) → eqb n k ≡ true → n ≡ k
-all_of n k e = grind (arith, nat_tests)
-
 pub returns : goal.returns
 returns c =
     let m = c.args.market.now in
@@ -43,5 +41,5 @@ returns c =
     let within : x.length ≤ length m.gates = length_feasible m x c.requires.prefix in
     subst (IsFate m aim.welfare (word_of aim.word) (word_of x)) (sym c.fate_by.ensures)
     (found_fate m aim (aim.welfare - 1) (word_of x) c.args.leaf c.in_ok-finding.finding (eqb x.length (length c.as_slice.result.now)) c.requires.aim (omega (arith, some)) c.requires.leaf early c.in_ok-finding.ensures.finding (omega (arith, long, within))
-    (λ e. omega (arith, long, gates, all_of x.length (length c.as_slice.result.now) e))
+    (λ e. omega (arith, long, gates, eqb-true x.length (length c.as_slice.result.now) e))
     (λ e. omega (arith, long, gates, within, all_or_less x.length (length c.as_slice.result.now) (omega (arith, gates, within)) e)))

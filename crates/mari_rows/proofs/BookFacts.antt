@@ -77,6 +77,10 @@ pub all-passed : (checks : Checks) → first_failing checks ≡ None → AllPass
 all-passed [] none = tt
 all-passed (check ∷ checks) none = let first = passed check checks none in (first.0, all-passed checks first.1)
 
+pub none-fails : (checks : Checks) → AllPassed checks → first_failing checks ≡ None
+none-fails [] all = refl
+none-fails (check ∷ checks) all = rw all.0 (none-fails checks all.1)
+
 -- a test that fails
 pub not-false : (b : Bool) → not b ≡ false → b ≡ true
 not-false true e = refl

@@ -93,6 +93,6 @@ module _ (line : ℕ → ℕ → Drawn) (records : ℕ → ℕ → List (List (L
         → ((n : ℕ) → n < most → Passes n x) → first_failing (g.file_checks (rows most x)) ≡ None
         → book_in g (g.columns ++ 10 ∷ (lines line most x).text) ≡ Ok (g.book (rows most x))
     accepted width most x are text plain pass file =
-        ap (λ lines. book_in g (g.columns ++ 10 ∷ lines)) (drawn-text text most x)
+        ap (λ t. book_in g (g.columns ++ 10 ∷ t)) (drawn-text text most x)
         ∙ book-read g (page_text g.columns (drawn most x)) (rows most x)
         (page-rows g.columns width are (drawn most x) (drawn-plain width most plain most x (omega arith))) (none-refused most x pass most (omega arith)) file

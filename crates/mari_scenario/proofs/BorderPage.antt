@@ -117,7 +117,7 @@ text-of i x = sym (append-nil (line_of (border_fields i x)))
 pub version-one : (x : ℕ) → version_in (page x) ≡ 1
 unfolding bare_columns border_columns
 version-one x =
-    ap (λ lines. version_in (border_columns ++ 10 ∷ lines)) (drawn-text border_line border_records text-of 10 x)
+    ap (λ t. version_in (border_columns ++ 10 ∷ t)) (drawn-text border_line border_records text-of 10 x)
     ∙ rw (records-read border_columns 4 columns-four (drawn border_line border_records 10 x) (drawn-plain border_line border_records 4 10 plain-lines 10 x (omega arith))) refl
 
 pub count-borders : (x : ℕ) → length (the_borders x).borders ≡ 10

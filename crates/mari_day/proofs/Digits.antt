@@ -3,14 +3,9 @@ use Rattle.std.proofs.Common.{◌≡◌, ℕ, ◌+◌, ◌*◌, ◌-◌, Bool, t
 use Rattle.std.specs.Prelude.{◌&&◌, ◌==◌, is_some, slice_index, Result}
 use Rattle.std.specs.Char.{is_ascii_digit}
 use Rattle.std.proofs.lemmas.Bool.{eqb-true, and_parts}
-<<<<<<< HEAD
-use Rattle.mari_units.specs.Names.{is_name_byte}
 use Rattle.mari_units.specs.Numbers.{two_digits}
-use Rattle.mari_calendar.specs.Dates.{day_by, day_in, number_at}
-=======
 use Rattle.mari_units.proofs.Digits.{digit_name}
 use Rattle.mari_calendar.specs.Dates.{day_by, day_in, number_at}
->>>>>>> 211f5d207d322dd4491e53210ad65574d8fac99d
 use Rattle.mari_calendar.specs.Midnights.{◌>>>◌, or_fault, quarters_at}
 use Rattle.mari_calendar.specs.declared.quarters.CalendarFault.{CalendarFault}
 use Rattle.mari_calendar.specs.declared.quarters.CalendarFault.TheVariants.{BadDate}

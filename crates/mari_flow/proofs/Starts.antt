@@ -58,30 +58,16 @@ starts_running n slots bs fs a e none =
     }
 
 -- what stands in is among what may
-<<<<<<< HEAD
 pub stand_ins_are : (slots : List Slot) → All (IsStandIn BEYOND) (stand_ins_for slots)
 stand_ins_are slots = λ k d l.
     let there : k < length slots = omega (arith, length-map slots stand_in_for, l) in
-    subst (λ (s : Slot). IsStandIn BEYOND s) (sym (map_at stand_in_for slots k no_slot d there)) (stands_in (slot_at slots k).zone (neg_ℤ (slot_at slots k).low)).kind
-=======
-pub extras_extra : (slots : List Slot) → All (IsExtra BEYOND) (extras slots)
-extras_extra slots = λ k d l.
-    let there : k < length slots = omega (arith, length-map slots extra_of, l) in
-    subst (λ (s : Slot). IsExtra BEYOND s) (sym (get_or-map extra_of slots k no_slot d there)) (extra_fits (slot_at slots k)).kind
->>>>>>> 211f5d207d322dd4491e53210ad65574d8fac99d
+    subst (λ (s : Slot). IsStandIn BEYOND s) (sym (get_or-map stand_in_for slots k no_slot d there)) (stands_in (slot_at slots k).zone (neg_ℤ (slot_at slots k).low)).kind
 
 stand_in_fits : (n : ℕ) (s : Slot) → IsOrderSlot n s → IsNetworkSlot n (stand_in_for s)
 stand_in_fits n s f = (stands_in s.zone (neg_ℤ s.low)).network n f.zone (omega (arith, ints, f.in_order, f.high)) (omega (arith, ints, f.low))
 
 -- the orders' slots and what stands in for their least make a network
-<<<<<<< HEAD
 pub all_slots : (n : ℕ) (slots : List Slot) → All (IsOrderSlot n) slots → All (IsNetworkSlot n) (slots ++ stand_ins_for slots)
 all_slots n slots a = All-append (IsNetworkSlot n) slots (stand_ins_for slots) (network_slots n slots a)
     (λ k d l. let there : k < length slots = omega (arith, length-map slots stand_in_for, l) in
-    subst (λ (s : Slot). IsNetworkSlot n s) (sym (map_at stand_in_for slots k no_slot d there)) (stand_in_fits n (get_or slots k no_slot) (a k no_slot there)))
-=======
-pub all_slots : (n : ℕ) (slots : List Slot) → All (IsOrderSlot n) slots → All (IsNetworkSlot n) (slots ++ extras slots)
-all_slots n slots a = All-append (IsNetworkSlot n) slots (extras slots) (network_slots n slots a)
-    (λ k d l. let there : k < length slots = omega (arith, length-map slots extra_of, l) in
-    subst (λ (s : Slot). IsNetworkSlot n s) (sym (get_or-map extra_of slots k no_slot d there)) (extra_fine n (get_or slots k no_slot) (a k no_slot there)))
->>>>>>> 211f5d207d322dd4491e53210ad65574d8fac99d
+    subst (λ (s : Slot). IsNetworkSlot n s) (sym (get_or-map stand_in_for slots k no_slot d there)) (stand_in_fits n (get_or slots k no_slot) (a k no_slot there)))

@@ -10,8 +10,6 @@ pub mod Offers
 pub mod After
 pub mod Beside
 pub mod ExampleRuns
-pub mod ReadBack
-pub mod PrintedFields
 pub mod MigratedBorders
 pub mod MigratedLimits
 pub mod MigratedBooks

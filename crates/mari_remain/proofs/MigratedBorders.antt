@@ -1,6 +1,6 @@
 -- The printed page of borders is read as these borders without their limits.
-use Rattle.std.proofs.Common.{◌≡◌, ◌∙◌, ◌<◌, ◌+◌, ◌==◌, ◌&&◌, ◌||◌, ℕ, Bool, true, false, List, [], ◌∷◌, ◌++◌, Some, None, Result, Ok, Err, All, length, map, refl, sym, ap, arith, is_some, not, nat_le, nat_lt, position, length-append}
-use Rattle.std.specs.List.{list_all, list_any, position_or_len}
+use Rattle.std.proofs.Common.{◌≡◌, ◌∙◌, ◌<◌, ◌+◌, ◌==◌, ◌&&◌, ℕ, Bool, true, false, List, [], ◌∷◌, ◌++◌, Some, None, Result, Ok, Err, All, length, map, refl, sym, ap, arith, is_some, not, nat_le, nat_lt}
+use Rattle.std.specs.List.{list_all, list_any}
 use Rattle.std.proofs.lemmas.Bool.{eq-eqb, eqb-true, lt-ltb, ltb-true, ne_eqb}
 use Rattle.std.proofs.lemmas.Bool.Decides.{nat_tests}
 use Rattle.std.proofs.lemmas.List.{get_or_past, length-map, map-append}
@@ -9,36 +9,22 @@ use Rattle.csv.specs.Reading.{strip_bom}
 use Rattle.mari_rows.specs.Books.{Grammar, book_in, book_of_read, first_failing, first_refusal, line_refusal}
 use Rattle.mari_rows.specs.First.{first_fault, first_fault_behind}
 use Rattle.mari_rows.specs.Names.{name_at}
+use Rattle.mari_rows.specs.Printed.{page_text}
 use Rattle.mari_rows.specs.Rows.{columns_of, rows_from, rows_in}
 use Rattle.mari_rows.specs.declared.faults.RowFault.{RowFault}
 use Rattle.mari_rows.specs.declared.rows.Row.{Row}
-use Rattle.mari_rows.proofs.BookFacts.{all-passed, no-failing}
+use Rattle.mari_rows.proofs.BookFacts.{all-passed, no-failing, none-fails}
+use Rattle.mari_rows.proofs.BookLemmas.{book-read, row-passes}
 use Rattle.mari_rows.proofs.FirstLemmas.{value-no-fault}
-use Rattle.mari_rows.proofs.NameLemmas.{list_any-map, place-of-name}
 use Rattle.mari_rows.proofs.FirstMeaning.{option_or-parts}
+use Rattle.mari_rows.proofs.NameLemmas.{list_any-map, place-of-name}
+use Rattle.mari_rows.proofs.PrintedLemmas.{AreColumns, is_plain_field, is_plain_record, itself, name-plain, page-rows, records-read}
 use Rattle.mari_zones.specs.Borders.{IsBorder, bare_columns, border_checks, border_grammar, border_of, borders_in, is_between_same, version_in, zone_named}
 use Rattle.mari_zones.specs.Zones.{IsZoneBook}
 use Rattle.mari_zones.specs.declared.borders.BorderBook.{BorderBook}
 use Rattle.mari_zones.specs.declared.borders.BorderEnds.{BorderEnds}
 use Rattle.mari_zones.specs.declared.zones.ZoneBook.{ZoneBook}
-use Rattle.mari_remain.specs.Migrated.{border_record, page_text}
-use Rattle.mari_remain.proofs.PrintedFields.{name-plain}
-use Rattle.mari_remain.proofs.ReadBack.{AreColumns, book-read, five-pass, is_plain_field, is_plain_record, itself, page-rows, records-read, row-passes}
-
--- the first item that passes
-first-position : {X : Type 0} (test : X → Bool) (xs ys : List X) (y : X) → list_any test xs ≡ false → test y ≡ true → position_or_len test (xs ++ y ∷ ys) ≡ length xs
-first-position test [] ys y none here = rw here refl
-first-position test (x ∷ xs) ys y none here = by (test x) refl none (first-position test xs ys y)
-  where
-    by : (b : Bool) → test x ≡ b → (b || list_any test xs) ≡ false → (list_any test xs ≡ false → test y ≡ true → position_or_len test (xs ++ y ∷ ys) ≡ length xs)
-        → position_or_len test (x ∷ (xs ++ y ∷ ys)) ≡ length (x ∷ xs)
-    by true e n more = cc n
-    by false e n more = rw (e, more n here) (omega arith)
-
-pub position-behind : {X : Type 0} (test : X → Bool) (xs ys : List X) (y : X) → list_any test xs ≡ false → test y ≡ true → position test (xs ++ y ∷ ys) ≡ Some (length xs)
-position-behind test xs ys y none here =
-    let within : length xs < length (xs ++ y ∷ ys) = grind (arith, length-append) in
-    rw (first-position test xs ys y none here, lt-ltb (length xs) (length (xs ++ y ∷ ys)) within) refl
+use Rattle.mari_remain.specs.Migrated.{border_record}
 
 pub zone-found : (zones : ZoneBook) → IsZoneBook zones → (i : ℕ) → i < length zones.zones → zone_named zones (name_at zones.zones i) ≡ Some i
 zone-found zones is i within = rw (place-of-name zones.zones is.distinct i within, lt-ltb i (length zones.zones) within) refl
@@ -92,7 +78,7 @@ module _ (zones : ZoneBook) (is : IsZoneBook zones) where
       let ends : border_of zones 2 row ≡ bare x = line-read line x ok in
       let repeated : list_any (is_between_same (border_of zones 2 row)) (map (border_of zones 2) earlier) ≡ false =
       (λ i. list_any (is_between_same (ends i)) (same i)) ∙ fresh in
-      five-pass _ _ _ _ _ 11 12 13 14 15 room (ap not found) ((λ i. (ends i).from == (ends i).to) ∙ apart) repeated refl
+      none-fails (border_checks zones 2 earlier row) (room, (ap not found, ((λ i. (ends i).from == (ends i).to) ∙ apart, (repeated, (refl, tt)))))
 
   module _ (version : ℕ) where
     abbrev pub said : Row → BorderEnds
@@ -120,7 +106,7 @@ module _ (zones : ZoneBook) (is : IsZoneBook zones) where
         ∙ ap (map bare) (sym (map-append said before (row ∷ []))) in
         let more = moves (before ++ row ∷ []) (earlier ++ next ∷ []) rows (line + 1) (All-tail (IsBorder zones) (said row) (map said rows) ok) longer parts.1 in
         record {
-          passes = row-passes (border_grammar zones 2) [] (rows_from (line + 1) (map printed (map said rows))) earlier next
+          passes = row-passes (border_grammar zones 2) earlier (rows_from (line + 1) (map printed (map said rows))) next
               (line-passes earlier (map said before) line (said row) here same few new) more.passes;
           none_repeated = (new, rw (map-append said before (row ∷ [])) at more.none_repeated);
         }

@@ -11,9 +11,14 @@ use Rattle.csv.specs.Reading.{strip_bom}
 use Rattle.mari_units.specs.Numbers.{whole_of}
 use Rattle.mari_rows.specs.Books.{book_in, first_failing, line_refusal}
 use Rattle.mari_rows.specs.First.{first_fault_behind}
+use Rattle.mari_rows.specs.Printed.{page_text}
 use Rattle.mari_rows.specs.Rows.{field_of, rows_from}
 use Rattle.mari_rows.specs.declared.rows.Row.{Row}
-use Rattle.mari_rows.proofs.NameLemmas.{list_any-map, position-map}
+use Rattle.mari_rows.proofs.BookFacts.{none-fails}
+use Rattle.mari_rows.proofs.BookLemmas.{book-read, row-passes}
+use Rattle.mari_rows.proofs.NameLemmas.{list_any-map, position-behind, position-map}
+use Rattle.mari_rows.proofs.NumberLemmas.{decimal_in}
+use Rattle.mari_rows.proofs.PrintedLemmas.{AreColumns, is_plain_record, number-plain, page-rows}
 use Rattle.mari_zones.specs.Borders.{IsBorder, is_between_same}
 use Rattle.mari_zones.specs.Zones.{IsZoneBook}
 use Rattle.mari_zones.specs.declared.borders.BorderBook.{BorderBook}
@@ -23,13 +28,10 @@ use Rattle.mari_demands.specs.Demands.{run_at, run_in}
 use Rattle.mari_demands.specs.LimitPairs.{limits_in, no_limits}
 use Rattle.mari_demands.specs.Limits.{border_at, border_in, is_of, leads, limit_columns, limit_grammar, limit_table, limits_at, limits_of, line_checks}
 use Rattle.mari_demands.specs.declared.limits.Limits.{Limits}
-use Rattle.mari_remain.specs.Migrated.{limit_record, page_text}
+use Rattle.mari_remain.specs.Migrated.{limit_record}
 use Rattle.mari_remain.specs.RunMarket.{ends_at}
-use Rattle.mari_remain.proofs.MigratedBorders.{NoneRepeated, bare, no-way, position-behind, zone-found, zone-plain}
-use Rattle.mari_remain.proofs.PrintedFields.{number-plain}
-use Rattle.mari_rows.proofs.NumberLemmas.{decimal_in}
+use Rattle.mari_remain.proofs.MigratedBorders.{NoneRepeated, bare, no-way, zone-found, zone-plain}
 use Rattle.mari_units.proofs.Digits.{decimal_whole}
-use Rattle.mari_remain.proofs.ReadBack.{AreColumns, book-read, five-pass, is_plain_record, page-rows, row-passes}
 use Rattle.mari_units.proofs.Lists.{same_over}
 
 -- a border is the first that leads between its zones, where none is repeated
@@ -213,8 +215,10 @@ module _ (zones : ZoneBook) (is : IsZoneBook zones) (borders : List BorderEnds) 
       let fresh : list_any (is_of zones book runs (run_at runs at) (border_at zones book at)) earlier ≡ false =
       sym (list_any-map key (is_pair (run_at runs at) (border_at zones book at)) earlier)
       ∙ (λ i. list_any (is_pair (key-of line p there i).0 (key-of line p there i).1) (same i)) ∙ new in
-      five-pass _ _ _ _ _ 11 12 13 14 15 (ap not numbers) (ap (λ o. not (is_some o)) (run-read line p there)) (ap (λ o. not (is_some o)) (border-read line p there)) fresh
-      (ap (λ o. not (is_some o)) (limits-read line p there))
+      none-fails (line_checks zones book runs earlier at) (
+        ap not numbers,
+        (ap (λ o. not (is_some o)) (run-read line p there), (ap (λ o. not (is_some o)) (border-read line p there), (fresh, (ap (λ o. not (is_some o)) (limits-read line p there), tt)))),
+      )
 
   no-refusal : (done pairs : List Pair) (earlier : List Row) (line : ℕ) → map key earlier ≡ done → AreFresh runs (length borders) done pairs
       → first_fault_behind (line_refusal (limit_grammar zones book runs)) earlier (rows_from line (map fields pairs)) ≡ None
@@ -222,7 +226,7 @@ module _ (zones : ZoneBook) (is : IsZoneBook zones) (borders : List BorderEnds) 
   no-refusal done (p ∷ ps) earlier line same fresh =
       let at = row line p fresh.0 in
       let longer : map key (earlier ++ at ∷ []) ≡ done ++ p ∷ [] = map-append key earlier (at ∷ []) ∙ (λ i. same i ++ key-of line p fresh.0 i ∷ []) in
-      row-passes (limit_grammar zones book runs) [] (rows_from (line + 1) (map fields ps)) earlier at (line-passes done earlier line p fresh.0 same fresh.1)
+      row-passes (limit_grammar zones book runs) earlier (rows_from (line + 1) (map fields ps)) at (line-passes done earlier line p fresh.0 same fresh.1)
       (no-refusal (done ++ p ∷ []) ps (earlier ++ at ∷ []) (line + 1) longer fresh.2)
 
   all-plain : (done pairs : List Pair) → AreFresh runs (length borders) done pairs → list_all (is_plain_record 5) (map fields pairs) ≡ true

@@ -8,6 +8,8 @@ use Rattle.std.proofs.lemmas.Fmt.{length-decimal-le}
 use Rattle.std.proofs.lemmas.Grind.{flat_map-append}
 use Rattle.mari_units.specs.Names.{is_name, is_name_byte}
 use Rattle.mari_rows.specs.Names.{name_at}
+use Rattle.mari_rows.specs.Printed.{line_of}
+use Rattle.mari_rows.proofs.PrintedLemmas.{length-line}
 use Rattle.mari_zones.specs.Borders.{bare_columns}
 use Rattle.mari_zones.specs.Zones.{IsZoneBook}
 use Rattle.mari_zones.specs.declared.borders.BorderEnds.{BorderEnds}
@@ -15,7 +17,7 @@ use Rattle.mari_zones.specs.declared.zones.ZoneBook.{ZoneBook}
 use Rattle.mari_demands.specs.Limits.{limit_columns}
 use Rattle.mari_remain.specs.declared.books.Books.{Books}
 use Rattle.mari_remain.specs.Accepted.{IsAccepted}
-use Rattle.mari_remain.specs.Migrated.{border_record, borders_page, limit_record, limits_page, line_of, run_records}
+use Rattle.mari_remain.specs.Migrated.{border_record, borders_page, limit_record, limits_page, run_records}
 use Rattle.mari_remain.specs.RunMarket.{ends_at, run_limits}
 use Rattle.mari_remain.proofs.Validity.{in_range}
 
@@ -31,19 +33,12 @@ short-zone zones is i = by (nat_lt i (length zones.zones)) refl
     by true e = short-name (name_at zones.zones i) (is.zones i [] (ltb-true i (length zones.zones) e))
     by false e = rw (get_or_past zones.zones i [] (grind (arith, nat_tests))) (omega arith)
 
--- the length of a line of two fields, and of five
-two-fields : (a b : List ℕ) → length (line_of (a ∷ b ∷ [])) ≡ length a + length b + 2
-two-fields a b = grind (arith, length-append)
-
-five-fields : (a b c d e : List ℕ) → length (line_of (a ∷ b ∷ c ∷ d ∷ e ∷ [])) ≡ length a + length b + length c + length d + length e + 5
-five-fields a b c d e = grind (arith, length-append)
-
 short-lines : (zones : ZoneBook) → IsZoneBook zones → (borders : List BorderEnds) → length (flat_map line_of (map (border_record zones) borders)) ≤ 34 * length borders
 short-lines zones is [] = omega arith
 short-lines zones is (x ∷ xs) =
     let line = line_of (border_record zones x) in
     let rest = flat_map line_of (map (border_record zones) xs) in
-    let here : length line ≤ 34 = omega (arith, two-fields (name_at zones.zones x.from) (name_at zones.zones x.to), short-zone zones is x.from, short-zone zones is x.to) in
+    let here : length line ≤ 34 = omega (arith, length-line (name_at zones.zones x.from) (name_at zones.zones x.to ∷ []), short-zone zones is x.from, short-zone zones is x.to) in
     rw (length-append line rest) (omega (arith, here, short-lines zones is xs))
 
 -- so many lines of at most 51 bytes
@@ -64,7 +59,7 @@ module _ (books : Books) (ok : IsAccepted books) where
       let small = in_range books books.limits run border ok.limits (ok.borders.borders border _ within) in
       omega (
         arith,
-        five-fields (decimal run) (name_at books.zones.zones ends.from) (name_at books.zones.zones ends.to) (decimal limits.limit) (decimal limits.back),
+        length-line (decimal run) (name_at books.zones.zones ends.from ∷ name_at books.zones.zones ends.to ∷ decimal limits.limit ∷ decimal limits.back ∷ []),
         short-zone books.zones ok.zones ends.from,
         short-zone books.zones ok.zones ends.to,
         length-decimal-le 4 run (omega arith) (omega (arith, last)) (omega (arith, last)),

@@ -1,9 +1,10 @@
 -- The pages that state a folder's limits for each run, and the books that they make.
-use Rattle.std.specs.Prelude.{◌≡◌, ℕ, List, [], ◌∷◌, ◌++◌, Some, Ok, length, map}
+use Rattle.std.specs.Prelude.{◌≡◌, ℕ, List, [], ◌∷◌, Some, Ok, length, map}
 use Rattle.std.specs.Fmt.{decimal}
-use Rattle.std.specs.List.{flat_map, join_with_byte, range_with_len}
+use Rattle.std.specs.List.{flat_map, range_with_len}
 use Rattle.mari_rows.specs.Books.{book_in}
 use Rattle.mari_rows.specs.Names.{name_at}
+use Rattle.mari_rows.specs.Printed.{page_text}
 use Rattle.mari_zones.specs.Borders.{bare_columns, borders_in, version_in}
 use Rattle.mari_zones.specs.declared.borders.BorderBook.{BorderBook}
 use Rattle.mari_zones.specs.declared.borders.BorderEnds.{BorderEnds}
@@ -12,14 +13,6 @@ use Rattle.mari_demands.specs.Limits.{limit_columns, limit_grammar}
 use Rattle.mari_demands.specs.declared.limits.Limits.{Limits}
 use Rattle.mari_remain.specs.declared.books.Books.{Books}
 use Rattle.mari_remain.specs.RunMarket.{ends_at, run_limits}
-
--- a line: its fields with commas between, and the line's end
-abbrev pub line_of : List (List ℕ) → List ℕ
-line_of fields = join_with_byte 44 fields ++ 10 ∷ []
-
--- a page: the names of its columns, with commas between, and then its records, a line each
-abbrev pub page_text : List ℕ → List (List (List ℕ)) → List ℕ
-page_text columns records = columns ++ 10 ∷ flat_map line_of records
 
 -- the record of a border: its two zones
 abbrev pub border_record : ZoneBook → BorderEnds → List (List ℕ)

@@ -5,8 +5,9 @@ ghost use Rattle.std.specs.Prelude.{◌≡◌, ◌≤◌, [], ◌∷◌, ◌++�
 ghost use Rattle.std.specs.Fmt.{decimal};
 ghost use Rattle.std.specs.List.{flat_map, range_with_len};
 ghost use Rattle.mari_rows.specs.Names.{name_at};
+ghost use Rattle.mari_rows.specs.Printed.{line_of};
 ghost use Rattle.mari_remain.specs.Accepted.{IsAccepted};
-ghost use Rattle.mari_remain.specs.Migrated.{border_record, borders_page, limit_record, limits_page, line_of, run_records};
+ghost use Rattle.mari_remain.specs.Migrated.{border_record, borders_page, limit_record, limits_page, run_records};
 
 use crate::books::Books;
 use crate::market::limits_of;

@@ -78,6 +78,10 @@ pub all-passed : (checks : Checks) → first_failing checks ≡ None → AllPass
 all-passed [] none = tt
 all-passed (check ∷ checks) none = let first = passed check checks none in (first.0, all-passed checks first.1)
 
+pub none-fails : (checks : Checks) → AllPassed checks → first_failing checks ≡ None
+none-fails [] all = refl
+none-fails (check ∷ checks) all = rw all.0 (none-fails checks all.1)
+
 -- a number that a text writes is within its bounds
 pub number-bounds : (least greatest : ℕ) (text : List ℕ) → is_some (number_in least greatest text) ≡ true
     → (least ≤ unwrap_or (number_in least greatest text) 0) × (unwrap_or (number_in least greatest text) 0 ≤ greatest)

@@ -1,5 +1,5 @@
 -- Steps that every book takes.
-use Rattle.std.proofs.Common.{◌≡◌, ◌∙◌, ℕ, Bool, true, false, if◌then◌else◌, Option, List, [], ◌∷◌, ◌++◌, Some, None, Result, Ok, Err, append_assoc, refl, sym}
+use Rattle.std.proofs.Common.{◌≡◌, ◌∙◌, ℕ, Bool, true, false, if◌then◌else◌, Option, List, [], ◌∷◌, ◌++◌, Some, None, Result, Ok, Err, append_assoc, refl, sym, ap}
 use Rattle.std.proofs.lemmas.List.{append-nil}
 use Rattle.mari_rows.specs.Books.{Checks, Grammar, GivesBook, book_in, book_of_read, book_of_rows, first_failing, line_refusal, refusal_of}
 use Rattle.std.specs.Prelude.{option_map, ⊤}
@@ -125,6 +125,21 @@ module _ {Book : Type 0} (g : Grammar Book) where
           → (rows : List Row) × (rows_in g.columns page ≡ Ok rows) × IsBookOf rows book
       by (Ok rows) e b = (rows, e, book-rows rows book b)
       by (Err fault) e b = cc b
+
+  whole-book : (lines : Option BookFault) (file : Option ℕ) (rows : List Row) → lines ≡ None → file ≡ None
+      → unless_fault (option_or lines (option_map (λ number. refused.At 1 number) file)) (g.book rows) ≡ Ok (g.book rows)
+  whole-book lines file rows l f = rw (l, f) refl
+
+  -- a page whose rows are not refused is the book of its rows
+  pub book-read : (page : List ℕ) (rows : List Row) → rows_in g.columns page ≡ Ok rows → first_fault (line_refusal g) rows ≡ None → first_failing (g.file_checks rows) ≡ None
+      → book_in g page ≡ Ok (g.book rows)
+  book-read page rows read lines file = ap (book_of_read g) read ∙ whole-book (first_fault (line_refusal g) rows) (first_failing (g.file_checks rows)) rows lines file
+
+  -- one more row that passes its checks
+  pub row-passes : (earlier rows : List Row) (row : Row) → first_failing (g.line_checks earlier row) ≡ None
+      → first_fault_behind (line_refusal g) (earlier ++ row ∷ []) rows ≡ None → first_fault_behind (line_refusal g) earlier (row ∷ rows) ≡ None
+  row-passes earlier rows row none more =
+      sym (first_fault-go (line_refusal g) earlier (row ∷ rows) rows row refl (ap (option_map (λ number. refused.At row.line number)) none)) ∙ more
 
 -- checks and further ones behind them
 module _ (further : Checks) where

@@ -7,6 +7,7 @@ pub mod FirstMeaning
 pub mod NameLemmas
 pub mod NumberLemmas
 pub mod PlaceLemmas
+pub mod PrintedLemmas
 pub mod RecordLemmas
 pub mod RowLemmas
 pub mod WalkLemmas

@@ -1,5 +1,6 @@
 -- A test of what a list is mapped to.
-use Rattle.std.proofs.Common.{◌≡◌, ◌∙◌, ℕ, Bool, true, false, List, [], ◌∷◌, ◌++◌, refl, sym, ap, length, arith, ◌≢◌, ◌<◌, zero, suc, get_or, true≢false, Result, Ok, Err, IfOk, OnErr}
+use Rattle.std.proofs.Common.{◌≡◌, ◌∙◌, ℕ, Bool, true, false, List, [], ◌∷◌, ◌++◌, refl, sym, ap, length, arith, ◌≢◌, ◌<◌, zero, suc, get_or, true≢false, Some, Result, Ok, Err, IfOk, OnErr}
+use Rattle.std.proofs.lemmas.Bool.{lt-ltb}
 use Rattle.std.proofs.lemmas.List.{length-append, length-map, map-append}
 use Rattle.std.proofs.lemmas.List.Quantifiers.{all_pairs_push}
 use Rattle.std.proofs.lemmas.List.Sums.{position_or_len_is}
@@ -51,6 +52,21 @@ position_or_len-none test (x ∷ xs) none = by (test x) refl none (position_or_l
         → position_or_len test (x ∷ xs) ≡ length (x ∷ xs)
     by true e n more = cc (rw e at n)
     by false e n more = rw (e, more (rw e at n)) (grind arith)
+
+-- the first item that passes, behind others that do not
+first-position : {X : Type 0} (test : X → Bool) (xs ys : List X) (y : X) → list_any test xs ≡ false → test y ≡ true → position_or_len test (xs ++ y ∷ ys) ≡ length xs
+first-position test [] ys y none here = rw here refl
+first-position test (x ∷ xs) ys y none here = by (test x) refl none (first-position test xs ys y)
+  where
+    by : (b : Bool) → test x ≡ b → (b || list_any test xs) ≡ false → (list_any test xs ≡ false → test y ≡ true → position_or_len test (xs ++ y ∷ ys) ≡ length xs)
+        → position_or_len test (x ∷ (xs ++ y ∷ ys)) ≡ length (x ∷ xs)
+    by true e n more = cc n
+    by false e n more = rw (e, more n here) (omega arith)
+
+pub position-behind : {X : Type 0} (test : X → Bool) (xs ys : List X) (y : X) → list_any test xs ≡ false → test y ≡ true → position test (xs ++ y ∷ ys) ≡ Some (length xs)
+position-behind test xs ys y none here =
+    let within : length xs < length (xs ++ y ∷ ys) = grind (arith, length-append) in
+    rw (first-position test xs ys y none here, lt-ltb (length xs) (length (xs ++ y ∷ ys)) within) refl
 
 -- a new name goes last, at the place that the length gives
 module _ {V : Type 0} (items : V → List ℕ) (keys : List V) (text : V) (names : List (List ℕ)) (name : List ℕ)

@@ -4,6 +4,7 @@ pub mod Fields
 pub mod First
 pub mod Headers
 pub mod Names
+pub mod Printed
 pub mod Records
 pub mod Rows
 pub mod Widths

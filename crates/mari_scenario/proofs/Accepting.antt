@@ -1,20 +1,18 @@
 -- A page of drawn lines is a book, where no check of any of its lines fails.
 use Rattle.std.proofs.Common.{length-append, ◌≡◌, ◌≤◌, ◌<◌, ◌+◌, ◌∙◌, ℕ, zero, suc, true, List, [], ◌∷◌, ◌++◌, Option, Some, None, Ok, append_assoc, append-nil, length, refl, ap, arith, add-zero}
 use Rattle.std.specs.Option.{option_or}
-use Rattle.csv.specs.Reading.{strip_bom}
-use Rattle.mari_rows.specs.Books.{Checks, Grammar, book_in, first_failing, line_refusal}
+use Rattle.std.specs.List.{flat_map, list_all}
+use Rattle.std.proofs.lemmas.Grind.{flat_map-append}
+use Rattle.std.proofs.lemmas.List.Folds.{list_all-append}
+use Rattle.mari_rows.specs.Books.{Grammar, book_in, first_failing, line_refusal}
 use Rattle.mari_rows.specs.First.{first_fault, first_fault_behind}
-use Rattle.mari_rows.specs.Rows.{columns_of, is_header, rows_from}
+use Rattle.mari_rows.specs.Printed.{line_of, page_text}
+use Rattle.mari_rows.specs.Rows.{rows_from}
 use Rattle.mari_rows.specs.declared.rows.Row.{Row}
-use Rattle.mari_rows.proofs.BookFacts.{AllPassed}
+use Rattle.mari_rows.proofs.BookLemmas.{book-read}
+use Rattle.mari_rows.proofs.PrintedLemmas.{AreColumns, is_plain_record, page-rows}
 use Rattle.mari_rows.proofs.RowLemmas.{length-rows_from}
 use Rattle.mari_scenario.specs.Draws.{Drawn, lines}
-use Rattle.mari_scenario.proofs.Written.{AreLines, AreLines-append, IsLine, line_text, lines_text, lines_text-append, page-read}
-
--- checks of which none fails
-pub none-fails : (checks : Checks) → AllPassed checks → first_failing checks ≡ None
-none-fails [] all = refl
-none-fails (check ∷ checks) all = rw all.0 (none-fails checks all.1)
 
 pub rows_from-append : (line : ℕ) (xs ys : List (List (List ℕ))) → rows_from line (xs ++ ys) ≡ rows_from line xs ++ rows_from (line + length xs) ys
 rows_from-append line [] ys = rw (add-zero line) refl
@@ -45,16 +43,18 @@ module _ (line : ℕ → ℕ → Drawn) (records : ℕ → ℕ → List (List (L
   abbrev pub rows : (n state : ℕ) → List Row
   rows n x = rows_from 2 (drawn n x)
 
-  pub drawn-text : ((i x : ℕ) → (line i x).text ≡ lines_text (records i x)) → (n x : ℕ) → (lines line n x).text ≡ lines_text (drawn n x)
+  pub drawn-text : ((i x : ℕ) → (line i x).text ≡ flat_map line_of (records i x)) → (n x : ℕ) → (lines line n x).text ≡ flat_map line_of (drawn n x)
   unfolding lines
   drawn-text same zero x = refl
   drawn-text same (suc n) x =
-      rw (lines_text-append (drawn n x) (records n (lines line n x).state), drawn-text same n x, same n (lines line n x).state) refl
+      rw (flat_map-append line_of (drawn n x) (records n (lines line n x).state), drawn-text same n x, same n (lines line n x).state) refl
 
-  pub drawn-lines : (width most : ℕ) → ((i x : ℕ) → i < most → AreLines width (records i x)) → (n x : ℕ) → n ≤ most → AreLines width (drawn n x)
-  drawn-lines width most are zero x few = tt
-  drawn-lines width most are (suc n) x few =
-      AreLines-append width (drawn n x) (records n (lines line n x).state) (drawn-lines width most are n x (omega arith)) (are n (lines line n x).state (omega arith))
+  pub drawn-plain : (width most : ℕ) → ((i x : ℕ) → i < most → list_all (is_plain_record width) (records i x) ≡ true)
+      → (n x : ℕ) → n ≤ most → list_all (is_plain_record width) (drawn n x) ≡ true
+  drawn-plain width most plain zero x few = refl
+  drawn-plain width most plain (suc n) x few =
+      list_all-append (is_plain_record width) (drawn n x) (records n (lines line n x).state)
+      ∙ rw (drawn-plain width most plain n x (omega arith), plain n (lines line n x).state (omega arith)) refl
 
   -- as many rows as steps, where a step writes one line
   drawn-length : ((i x : ℕ) → length (records i x) ≡ 1) → (n x : ℕ) → length (drawn n x) ≡ n
@@ -85,15 +85,11 @@ module _ (line : ℕ → ℕ → Drawn) (records : ℕ → ℕ → List (List (L
     one-line n x fields is none at = rw (is, none at) refl
 
     -- so the page is a book
-    pub accepted : (w most x : ℕ) (page : List ℕ) (header : List (List ℕ)) → page ≡ line_text header ++ (lines line most x).text → strip_bom page ≡ page
-        → columns_of g.columns ≡ header → is_header header header ≡ true → IsLine (suc (suc w)) header
-        → ((i x : ℕ) → (line i x).text ≡ lines_text (records i x)) → ((i x : ℕ) → i < most → AreLines (suc (suc w)) (records i x))
+    pub accepted : (width most x : ℕ) → AreColumns g.columns width → ((i x : ℕ) → (line i x).text ≡ flat_map line_of (records i x))
+        → ((i x : ℕ) → i < most → list_all (is_plain_record width) (records i x) ≡ true)
         → ((n : ℕ) → n < most → Passes n x) → first_failing (g.file_checks (rows most x)) ≡ None
-        → book_in g page ≡ Ok (g.book (rows most x))
-    accepted w most x page header whole bare named same is text are pass file =
-        rw (
-          page-read w g.columns page header (drawn most x) (whole ∙ ap (λ t. line_text header ++ t) (drawn-text text most x)) bare named same is (drawn-lines (suc (suc w)) most are most x (omega arith)),
-          none-refused most x pass most (omega arith),
-          file,
-        )
-        refl
+        → book_in g (g.columns ++ 10 ∷ (lines line most x).text) ≡ Ok (g.book (rows most x))
+    accepted width most x are text plain pass file =
+        ap (λ t. book_in g (g.columns ++ 10 ∷ t)) (drawn-text text most x)
+        ∙ book-read g (page_text g.columns (drawn most x)) (rows most x)
+        (page-rows g.columns width are (drawn most x) (drawn-plain width most plain most x (omega arith))) (none-refused most x pass most (omega arith)) file

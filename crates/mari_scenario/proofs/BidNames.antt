@@ -11,9 +11,9 @@ use Rattle.std.proofs.lemmas.List.{length-append}
 use Rattle.std.proofs.lemmas.List.Folds.{list_all-append}
 use Rattle.std.proofs.lemmas.Slice.Eq.{bytes_eq-Decides}
 use Rattle.mari_units.specs.Names.{is_name, is_name_byte}
-use Rattle.mari_scenario.specs.Pages.{bid, group, provider}
-use Rattle.mari_scenario.proofs.FieldBytes.{IsPlain, decimal-plain, joined}
 use Rattle.mari_units.proofs.Digits.{AreDigits, own, digit_name}
+use Rattle.mari_rows.proofs.PrintedLemmas.{is_plain_field, name-plain}
+use Rattle.mari_scenario.specs.Pages.{bid, group, provider}
 
 -- 1 to 16 bytes of names
 abbrev AreNameBytes : List ℕ → Type 0
@@ -60,15 +60,14 @@ bid-name t j a b =
     (name-joined (codes "q" ++ decimal t ++ codes "b") (decimal j) (name-joined (codes "q" ++ decimal t) (codes "b") (name-joined (codes "q") (decimal t) refl (decimal-name t a)) refl) (decimal-name j b))
 
 -- they stand in a page without quotes
-pub provider-plain : (n : ℕ) → n < 100 → IsPlain (provider n)
-provider-plain n small = joined (codes "P") (decimal n) refl (decimal-plain n (omega arith))
+pub provider-plain : (n : ℕ) → n < 100 → is_plain_field (provider n) ≡ true
+provider-plain n small = name-plain (provider n) (provider-name n small)
 
-pub group-plain : (n : ℕ) → n < 100 → IsPlain (group n)
-group-plain n small = joined (codes "g") (decimal n) refl (decimal-plain n (omega arith))
+pub group-plain : (n : ℕ) → n < 100 → is_plain_field (group n) ≡ true
+group-plain n small = name-plain (group n) (group-name n small)
 
-pub bid-plain : (t j : ℕ) → t < 100 → j < 100 → IsPlain (bid t j)
-bid-plain t j a b =
-    joined (codes "q" ++ decimal t ++ codes "b") (decimal j) (joined (codes "q" ++ decimal t) (codes "b") (joined (codes "q") (decimal t) refl (decimal-plain t (omega arith))) refl) (decimal-plain j (omega arith))
+pub bid-plain : (t j : ℕ) → t < 100 → j < 100 → is_plain_field (bid t j) ≡ true
+bid-plain t j a b = name-plain (bid t j) (bid-name t j a b)
 
 -- digits before a `b` are told by the text
 no-b : (d : ℕ) → is_ascii_digit d ≡ true → 98 ≡ d → ⊥

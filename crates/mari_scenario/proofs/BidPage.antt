@@ -1,30 +1,32 @@
 -- The page of bids is a book.
-use Rattle.std.proofs.Common.{◌≡◌, ◌≤◌, ◌<◌, ◌+◌, ◌-◌, ◌/◌, ◌%◌, ◌^◌, ◌==◌, ℕ, zero, suc, Bool, true, false, List, [], ◌∷◌, ◌++◌, Some, Ok, codes, decimal, length, map, refl, sym, append-nil, arith, pos, ◌-ℤ◌, unsigned_abs, if◌then◌else◌}
+use Rattle.std.proofs.Common.{◌≡◌, ◌≤◌, ◌<◌, ◌+◌, ◌-◌, ◌/◌, ◌%◌, ◌^◌, ◌==◌, ℕ, zero, suc, Bool, true, false, List, [], ◌∷◌, ◌++◌, Some, Ok, decimal, length, map, refl, sym, append-nil, arith, pos, ◌-ℤ◌, unsigned_abs, if◌then◌else◌}
 use Rattle.std.specs.Prelude.{nat_le, nat_lt, count_by}
+use Rattle.std.specs.List.{flat_map, list_all}
 use Rattle.std.proofs.lemmas.Bool.Decides.{nat_tests}
 use Rattle.std.proofs.lemmas.Int.{ints}
 use Rattle.std.proofs.lemmas.List.{map-append}
 use Rattle.std.proofs.lemmas.List.Sums.{count_by-le-length}
 use Rattle.csv.specs.Reading.{strip_bom}
 use Rattle.mari_units.specs.Numbers.{printed_cents}
+use Rattle.mari_units.proofs.Digits.{decimal_whole}
 use Rattle.mari_rows.specs.Books.{book_in}
 use Rattle.mari_rows.specs.Fields.{is_first_of, number_in}
 use Rattle.mari_rows.specs.Names.{is_among}
+use Rattle.mari_rows.specs.Printed.{line_of}
 use Rattle.mari_rows.specs.declared.rows.Row.{Row}
+use Rattle.mari_rows.proofs.BookFacts.{none-fails}
+use Rattle.mari_rows.proofs.NumberLemmas.{decimal_in}
 use Rattle.mari_rows.proofs.PlaceLemmas.{among-push}
+use Rattle.mari_rows.proofs.PrintedLemmas.{AreColumns, is_plain_field, is_plain_record, number-plain}
 use Rattle.mari_bids.specs.Bids.{bid_book, bid_columns, bid_grammar, both_word, down_word, id_of, line_checks, quarter_at, scheduled_word as scheduled, up_word}
 use Rattle.mari_bids.specs.declared.bids.BidBook.{BidBook}
 use Rattle.mari_scenario.specs.Draws.{draw, lines}
 use Rattle.mari_scenario.specs.Pages.{bid_least, bid_line, bid_price, bids_at, direction, greatest, is_both, is_up, kind, provider, zone}
-use Rattle.mari_scenario.proofs.Accepting.{Passes, accepted, drawn, none-fails, one-line, rows, rows-length, rows-more}
+use Rattle.mari_scenario.proofs.Accepting.{Passes, accepted, drawn, one-line, rows, rows-length, rows-more}
 use Rattle.mari_scenario.proofs.BidNames.{bid-name, bid-plain, bid_id, ids-differ, provider-name, provider-plain}
 use Rattle.mari_scenario.proofs.DrawBounds.{draw-lt}
-use Rattle.mari_scenario.proofs.FieldBytes.{IsPlain, decimal-plain}
 use Rattle.mari_scenario.proofs.PlainNumbers.{cents-plain}
 use Rattle.mari_scenario.proofs.ReadBack.{cents-price, cents-within}
-use Rattle.mari_rows.proofs.NumberLemmas.{decimal_in}
-use Rattle.mari_units.proofs.Digits.{decimal_whole}
-use Rattle.mari_scenario.proofs.Written.{IsLine, line_text}
 use Rattle.mari_scenario.proofs.ZonePage.{the_zones, drawn-known, drawn-plain}
 
 abbrev zone_number : ℕ → ℕ
@@ -45,8 +47,8 @@ bid_fields i x =
 abbrev pub bid_records : (i state : ℕ) → List (List (List ℕ))
 bid_records i x = bid_fields i x ∷ []
 
-text-of : (i x : ℕ) → (bid_line i x).text ≡ line_text (bid_fields i x) ++ []
-text-of i x = sym (append-nil (line_text (bid_fields i x)))
+text-of : (i x : ℕ) → (bid_line i x).text ≡ flat_map line_of (bid_records i x)
+text-of i x = sym (append-nil (line_of (bid_fields i x)))
 
 pub price-small : (x : ℕ) → unsigned_abs (bid_price x) < 12000
 price-small x = by (is_up x)
@@ -71,37 +73,27 @@ least-small i x = by ((i % 40 + 1) % 5 == 0)
 in-zones : (x : ℕ) → zone_number x < 8
 in-zones x = draw-lt 1 8 x (omega arith)
 
-direction-plain : (b : Bool) → IsPlain (direction b)
+direction-plain : (b : Bool) → is_plain_field (direction b) ≡ true
 direction-plain true = refl
 direction-plain false = refl
 
-kind-plain : (b : Bool) → IsPlain (kind b)
+kind-plain : (b : Bool) → is_plain_field (kind b) ≡ true
 kind-plain true = refl
 kind-plain false = refl
 
-bid-is-line : (i x : ℕ) → i < 960 → IsLine 9 (bid_fields i x)
-bid-is-line i x few = record {
-  sized = refl;
-  plain = (
-    bid-plain (i / 40 + 1) (i % 40 + 1) (omega arith) (omega arith),
-    (
+plain-lines : (i x : ℕ) → i < 960 → list_all (is_plain_record 9) (bid_records i x) ≡ true
+plain-lines i x few =
+    rw (
+      bid-plain (i / 40 + 1) (i % 40 + 1) (omega arith) (omega arith),
       provider-plain (turn i) (omega arith),
-      (
-        drawn-plain (zone_number x) (in-zones x),
-        (
-          decimal-plain (i / 40 + 1) (omega arith),
-          (
-            direction-plain (is_up x),
-            (
-              cents-plain (bid_price x) (omega (arith, price-small x)),
-              (decimal-plain (least i x) (omega (arith, least-small i x, greatest-small x)), (decimal-plain (greatest x) (omega (arith, greatest-small x)), (kind-plain (is_both x), tt))),
-            ),
-          ),
-        ),
-      ),
-    ),
-  );
-}
+      drawn-plain (zone_number x) (in-zones x),
+      number-plain (i / 40 + 1) (omega arith),
+      direction-plain (is_up x),
+      cents-plain (bid_price x) (omega (arith, price-small x)),
+      number-plain (least i x) (omega (arith, least-small i x, greatest-small x)),
+      number-plain (greatest x) (omega (arith, greatest-small x)),
+      kind-plain (is_both x),
+    ) refl
 
 -- the rows of the first bids
 abbrev pub bid_rows : (n state : ℕ) → List Row
@@ -198,10 +190,10 @@ bid-passes x n few = one-line bid_line bid_records (bid_grammar the_zones 96) n 
 unfoldable pub the_bids : ℕ → BidBook
 the_bids x = bid_book the_zones 96 (bid_rows 960 x)
 
-abbrev header : List (List ℕ)
-header = codes "id" ∷ codes "provider" ∷ codes "zone" ∷ codes "quarter" ∷ codes "direction" ∷ codes "price" ∷ codes "least" ∷ codes "greatest" ∷ codes "kind" ∷ []
+columns-nine : AreColumns bid_columns 9
+unfolding bid_columns strip_bom
+columns-nine = record { wide = omega arith; plain = refl; unmarked = λ rest. refl }
 
 pub bids-accepted : (x : ℕ) → book_in (bid_grammar the_zones 96) (bid_columns ++ 10 ∷ (bids_at x).text) ≡ Ok (the_bids x)
-unfolding bid_columns strip_bom the_bids
-bids-accepted x = accepted bid_line bid_records (bid_grammar the_zones 96) 7 960 x (bid_columns ++ 10 ∷ (bids_at x).text) header refl refl refl refl
-    (record { sized = refl; plain = (refl, (refl, (refl, (refl, (refl, (refl, (refl, (refl, (refl, tt))))))))) }) text-of (λ i x few. (bid-is-line i x few, tt)) (bid-passes x) refl
+unfolding the_bids
+bids-accepted x = accepted bid_line bid_records (bid_grammar the_zones 96) 9 960 x columns-nine text-of plain-lines (bid-passes x) refl

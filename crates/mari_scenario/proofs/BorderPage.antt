@@ -1,23 +1,24 @@
 -- The page of borders is a book.
-use Rattle.std.proofs.Common.{◌≡◌, ◌<◌, ◌+◌, ◌∙◌, ◌==◌, ℕ, true, false, List, [], ◌∷◌, ◌++◌, Some, Ok, codes, decimal, length, map, refl, sym, ap, append-nil, arith}
+use Rattle.std.proofs.Common.{◌≡◌, ◌<◌, ◌+◌, ◌∙◌, ◌==◌, ℕ, true, false, List, [], ◌∷◌, ◌++◌, Some, Ok, decimal, length, map, refl, sym, ap, append-nil, arith}
 use Rattle.std.specs.Prelude.{is_some, ◌&&◌, unwrap_or}
 use Rattle.std.specs.Fmt.{digits}
-use Rattle.std.specs.List.{list_any}
+use Rattle.std.specs.List.{flat_map, list_all, list_any}
 use Rattle.std.proofs.lemmas.Bool.Decides.{nat_tests}
 use Rattle.std.proofs.lemmas.List.{length-map}
 use Rattle.csv.specs.Reading.{strip_bom}
 use Rattle.mari_rows.specs.Fields.{number_in}
+use Rattle.mari_rows.specs.Printed.{line_of}
 use Rattle.mari_rows.specs.declared.rows.Row.{Row}
+use Rattle.mari_rows.proofs.BookFacts.{none-fails}
+use Rattle.mari_rows.proofs.NumberLemmas.{decimal_in}
+use Rattle.mari_rows.proofs.PrintedLemmas.{AreColumns, is_plain_field, is_plain_record, number-plain, records-read}
 use Rattle.mari_zones.specs.Borders.{bare_columns, border_book, border_checks, border_columns, border_grammar, border_of, borders_in, is_between_same, version_in, zone_named}
 use Rattle.mari_zones.specs.declared.borders.BorderBook.{BorderBook}
 use Rattle.mari_scenario.specs.Draws.{draw, lines}
 use Rattle.mari_scenario.specs.Pages.{border_line, borders_at, from_of, to_of, zone}
-use Rattle.mari_scenario.proofs.Accepting.{Passes, accepted, drawn, drawn-lines, drawn-text, none-fails, one-line, rows, rows-length}
+use Rattle.mari_scenario.proofs.Accepting.{Passes, accepted, drawn, drawn-plain, drawn-text, one-line, rows, rows-length}
 use Rattle.mari_scenario.proofs.DrawBounds.{draw-lt}
-use Rattle.mari_scenario.proofs.FieldBytes.{IsPlain, decimal-plain}
 use Rattle.mari_scenario.proofs.Places.{first-ten}
-use Rattle.mari_rows.proofs.NumberLemmas.{decimal_in}
-use Rattle.mari_scenario.proofs.Written.{AreLines, IsLine, lines_text, records-read}
 use Rattle.mari_scenario.proofs.ZonePage.{the_zones}
 
 -- the limits of a border
@@ -37,16 +38,19 @@ border_records i x = border_fields i x ∷ []
 abbrev border_row : (i state at : ℕ) → Row
 border_row i x at = record { line = at; fields = border_fields i x }
 
-zones-plain : (i : ℕ) → i < 10 → IsPlain (zone (from_of i)) × IsPlain (zone (to_of i))
+zones-plain : (i : ℕ) → i < 10 → (is_plain_field (zone (from_of i)) ≡ true) × (is_plain_field (zone (to_of i)) ≡ true)
 unfolding digits
-zones-plain = first-ten (λ i. IsPlain (zone (from_of i)) × IsPlain (zone (to_of i)))
+zones-plain = first-ten (λ i. (is_plain_field (zone (from_of i)) ≡ true) × (is_plain_field (zone (to_of i)) ≡ true))
     (refl, refl) (refl, refl) (refl, refl) (refl, refl) (refl, refl) (refl, refl) (refl, refl) (refl, refl) (refl, refl) (refl, refl)
 
-border-is-line : (i x : ℕ) → i < 10 → IsLine 4 (border_fields i x)
-border-is-line i x few = record {
-  sized = refl;
-  plain = ((zones-plain i few).0, ((zones-plain i few).1, (decimal-plain (limit x) (omega (arith, draw-lt 1 80 x (omega arith))), (decimal-plain (back x) (omega (arith, draw-lt 2 80 x (omega arith))), tt))));
-}
+plain-lines : (i x : ℕ) → i < 10 → list_all (is_plain_record 4) (border_records i x) ≡ true
+plain-lines i x few =
+    rw (
+      (zones-plain i few).0,
+      (zones-plain i few).1,
+      number-plain (limit x) (omega (arith, draw-lt 1 80 x (omega arith))),
+      number-plain (back x) (omega (arith, draw-lt 2 80 x (omega arith))),
+    ) refl
 
 -- the rows of the first borders
 abbrev border_rows : (n state : ℕ) → List Row
@@ -103,29 +107,23 @@ the_borders x = border_book the_zones 1 (border_rows 10 x)
 abbrev page : ℕ → List ℕ
 page x = border_columns ++ 10 ∷ (borders_at x).text
 
-abbrev header : List (List ℕ)
-header = codes "from" ∷ codes "to" ∷ codes "limit" ∷ codes "back" ∷ []
+columns-four : AreColumns border_columns 4
+unfolding border_columns strip_bom
+columns-four = record { wide = omega arith; plain = refl; unmarked = λ rest. refl }
 
-header-line : IsLine 4 header
-header-line = record { sized = refl; plain = (refl, (refl, (refl, (refl, tt)))) }
-
-text-of : (i x : ℕ) → (border_line i x).text ≡ lines_text (border_records i x)
-text-of i x = sym (append-nil (border_line i x).text)
-
-lines-of : (i x : ℕ) → i < 10 → AreLines 4 (border_records i x)
-lines-of i x few = (border-is-line i x few, tt)
+text-of : (i x : ℕ) → (border_line i x).text ≡ flat_map line_of (border_records i x)
+text-of i x = sym (append-nil (line_of (border_fields i x)))
 
 pub version-one : (x : ℕ) → version_in (page x) ≡ 1
-unfolding strip_bom bare_columns border_columns
+unfolding bare_columns border_columns
 version-one x =
-    rw (records-read 2 (page x) header (drawn border_line border_records 10 x)
-    (ap (λ t. border_columns ++ 10 ∷ t) (drawn-text border_line border_records text-of 10 x))
-    refl header-line (drawn-lines border_line border_records 4 10 lines-of 10 x (omega arith))) refl
+    ap (λ t. version_in (border_columns ++ 10 ∷ t)) (drawn-text border_line border_records text-of 10 x)
+    ∙ rw (records-read border_columns 4 columns-four (drawn border_line border_records 10 x) (drawn-plain border_line border_records 4 10 plain-lines 10 x (omega arith))) refl
 
 pub count-borders : (x : ℕ) → length (the_borders x).borders ≡ 10
 unfolding the_borders
 count-borders x = length-map (border_rows 10 x) (border_of the_zones 1) ∙ length-rows 10 x
 
 pub borders-accepted : (x : ℕ) → borders_in the_zones (border_columns ++ 10 ∷ (borders_at x).text) ≡ Ok (the_borders x)
-unfolding border_columns strip_bom the_borders
-borders-accepted x = rw (version-one x) (accepted border_line border_records (border_grammar the_zones 1) 2 10 x (page x) header refl refl refl refl header-line text-of lines-of (border-passes x) refl)
+unfolding the_borders
+borders-accepted x = rw (version-one x) (accepted border_line border_records (border_grammar the_zones 1) 4 10 x columns-four text-of plain-lines (border-passes x) refl)

@@ -1,28 +1,30 @@
 -- The page of demands is a book.
-use Rattle.std.proofs.Common.{◌≡◌, ◌<◌, ◌+◌, ◌/◌, ◌%◌, ◌∙◌, ◌==◌, ℕ, Bool, true, false, List, [], ◌∷◌, ◌++◌, Some, Ok, codes, decimal, length, refl, sym, append-nil, arith, mod-lt, ℤ, pos, negsuc, ◌-ℤ◌, neg_ℤ, unsigned_abs, if◌then◌else◌}
+use Rattle.std.proofs.Common.{◌≡◌, ◌<◌, ◌+◌, ◌/◌, ◌%◌, ◌∙◌, ◌==◌, ℕ, Bool, true, false, List, [], ◌∷◌, ◌++◌, Some, Ok, decimal, length, refl, sym, append-nil, arith, mod-lt, ℤ, pos, negsuc, ◌-ℤ◌, neg_ℤ, unsigned_abs, if◌then◌else◌}
 use Rattle.std.specs.Prelude.{nat_le, int_le, is_some, ◌||◌, count_by}
 use Rattle.std.specs.Fmt.{signed_decimal}
+use Rattle.std.specs.List.{flat_map, list_all}
 use Rattle.std.proofs.lemmas.Bool.Decides.{nat_tests}
 use Rattle.std.proofs.lemmas.Int.{ints}
 use Rattle.std.proofs.lemmas.List.Sums.{count_by-le-length}
 use Rattle.std.proofs.Math.Bool.{or-true}
 use Rattle.csv.specs.Reading.{strip_bom}
 use Rattle.mari_units.specs.Numbers.{printed_cents, price_of}
+use Rattle.mari_units.proofs.Digits.{decimal_whole}
 use Rattle.mari_rows.specs.Books.{book_in}
 use Rattle.mari_rows.specs.Fields.{cents_in}
+use Rattle.mari_rows.specs.Printed.{line_of}
 use Rattle.mari_rows.specs.declared.rows.Row.{Row}
+use Rattle.mari_rows.proofs.BookFacts.{none-fails}
+use Rattle.mari_rows.proofs.NumberLemmas.{decimal_in}
+use Rattle.mari_rows.proofs.PrintedLemmas.{AreColumns, is_plain_field, is_plain_record, number-plain}
 use Rattle.mari_demands.specs.Demands.{demand_book, demand_columns, demand_grammar, is_inelastic, line_checks, run_at, within_mw}
 use Rattle.mari_demands.specs.declared.demands.DemandBook.{DemandBook}
 use Rattle.mari_scenario.specs.Draws.{Drawn, after, draw, lines}
 use Rattle.mari_scenario.specs.Pages.{demand_line, demand_text, demands_at, zone}
-use Rattle.mari_scenario.proofs.Accepting.{Passes, accepted, none-fails, one-line, rows, rows-length}
+use Rattle.mari_scenario.proofs.Accepting.{Passes, accepted, one-line, rows, rows-length}
 use Rattle.mari_scenario.proofs.DrawBounds.{draw-lt}
-use Rattle.mari_scenario.proofs.FieldBytes.{IsPlain, decimal-plain}
 use Rattle.mari_scenario.proofs.PlainNumbers.{cents-plain, signed-plain}
 use Rattle.mari_scenario.proofs.ReadBack.{cents-price, cents-within, signed-whole}
-use Rattle.mari_rows.proofs.NumberLemmas.{decimal_in}
-use Rattle.mari_units.proofs.Digits.{decimal_whole}
-use Rattle.mari_scenario.proofs.Written.{IsLine, line_text}
 use Rattle.mari_scenario.proofs.ZonePage.{the_zones, zone-known, zone-plain}
 
 -- the quantity of a demand, in MW, and its price as it stands in the page
@@ -48,15 +50,15 @@ demand_fields i x = fields_by (is_elastic x) i x
 abbrev demand_records : (i state : ℕ) → List (List (List ℕ))
 demand_records i x = demand_fields i x ∷ []
 
-text-of : (i x : ℕ) → (demand_line i x).text ≡ line_text (demand_fields i x) ++ []
-text-of i x = by (is_elastic x) ∙ sym (append-nil (line_text (demand_fields i x)))
+text-of : (i x : ℕ) → (demand_line i x).text ≡ flat_map line_of (demand_records i x)
+text-of i x = by (is_elastic x) ∙ sym (append-nil (line_of (demand_fields i x)))
   where
     line_by : Bool → Drawn
     line_by b =
         if b then record { text = demand_text i x (printed_cents (price x)); state = after 3 x }
         else record { text = demand_text i x []; state = after 2 x }
 
-    by : (b : Bool) → (line_by b).text ≡ line_text (fields_by b i x)
+    by : (b : Bool) → (line_by b).text ≡ line_of (fields_by b i x)
     by true = refl
     by false = refl
 
@@ -69,15 +71,18 @@ quantity-small x = by (draw 1 61 x) (draw-lt 1 61 x (omega arith))
 pub price-small : (x : ℕ) → 5000 + draw 3 10000 x < 15000
 price-small x = omega (arith, draw-lt 3 10000 x (omega arith))
 
-price-plain : (b : Bool) (x : ℕ) → IsPlain (price_text b x)
+price-plain : (b : Bool) (x : ℕ) → is_plain_field (price_text b x) ≡ true
 price-plain true x = cents-plain (price x) (omega (arith, price-small x))
 price-plain false x = refl
 
-demand-is-line : (i x : ℕ) → i < 192 → IsLine 4 (demand_fields i x)
-demand-is-line i x few = record {
-  sized = refl;
-  plain = (decimal-plain (i / 8 + 1) (omega arith), (zone-plain (i % 8) (mod-lt i (omega arith)), (signed-plain (quantity x) (omega (arith, quantity-small x)), (price-plain (is_elastic x) x, tt))));
-}
+plain-lines : (i x : ℕ) → i < 192 → list_all (is_plain_record 4) (demand_records i x) ≡ true
+plain-lines i x few =
+    rw (
+      number-plain (i / 8 + 1) (omega arith),
+      zone-plain (i % 8) (mod-lt i (omega arith)),
+      signed-plain (quantity x) (omega (arith, quantity-small x)),
+      price-plain (is_elastic x) x,
+    ) refl
 
 -- the rows of the first demands
 abbrev demand_rows : (n state : ℕ) → List Row
@@ -139,7 +144,10 @@ demand-passes x n few = one-line demand_line demand_records (demand_grammar the_
 pub the_demands : ℕ → DemandBook
 the_demands x = demand_book the_zones 24 (demand_rows 192 x)
 
+columns-four : AreColumns demand_columns 4
+unfolding demand_columns strip_bom
+columns-four = record { wide = omega arith; plain = refl; unmarked = λ rest. refl }
+
 pub demands-accepted : (x : ℕ) → book_in (demand_grammar the_zones 24) (demand_columns ++ 10 ∷ (demands_at x).text) ≡ Ok (the_demands x)
-unfolding demand_columns strip_bom the_demands
-demands-accepted x = accepted demand_line demand_records (demand_grammar the_zones 24) 2 192 x (demand_columns ++ 10 ∷ (demands_at x).text) (codes "run" ∷ codes "zone" ∷ codes "mw" ∷ codes "price" ∷ []) refl refl refl refl
-    (record { sized = refl; plain = (refl, (refl, (refl, (refl, tt)))) }) text-of (λ i x few. (demand-is-line i x few, tt)) (demand-passes x) refl
+unfolding the_demands
+demands-accepted x = accepted demand_line demand_records (demand_grammar the_zones 24) 4 192 x columns-four text-of plain-lines (demand-passes x) refl

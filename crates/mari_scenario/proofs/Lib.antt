@@ -9,7 +9,6 @@ pub mod DayPage
 pub mod DemandPage
 pub mod DrawBounds
 pub mod FewGates
-pub mod FieldBytes
 pub mod LinkPage
 pub mod OneMore
 pub mod Places
@@ -17,5 +16,4 @@ pub mod PlainNumbers
 pub mod ReadBack
 pub mod RunPage
 pub mod Sizes
-pub mod Written
 pub mod ZonePage

@@ -1,7 +1,7 @@
 -- The page of links is a book, between bids that have the names, the places and the quarters of a generated day.
 use Rattle.std.proofs.Common.{get_or, ◌≡◌, ◌≢◌, ◌≤◌, ◌<◌, ◌+◌, ◌-◌, ◌*◌, ◌/◌, ◌∙◌, ◌==◌, ◌⊎◌, ℕ, zero, suc, Bool, true, false, List, [], ◌∷◌, ◌++◌, Option, Some, None, Ok, codes, decimal, length, refl, sym, append-nil, append_assoc, inl, inr, arith, if◌then◌else◌}
 use Rattle.std.specs.Prelude.{nat_lt, count_by, filter}
-use Rattle.std.specs.List.{filter_map, find, list_any, range_with_len}
+use Rattle.std.specs.List.{filter_map, find, flat_map, list_all, list_any, range_with_len}
 use Rattle.std.specs.Option.{option_and_then}
 use Rattle.std.specs.Str.{bytes_eq}
 use Rattle.std.proofs.lemmas.Bool.Decides.{eqb_tells, nat_tests}
@@ -13,17 +13,19 @@ use Rattle.std.proofs.lemmas.Slice.Eq.{bytes_eq-Decides}
 use Rattle.std.proofs.lemmas.Bool.{false_from_ne_true}
 use Rattle.csv.specs.Reading.{strip_bom}
 use Rattle.mari_rows.specs.Books.{book_in, first_failing}
+use Rattle.mari_rows.specs.Printed.{line_of}
 use Rattle.mari_rows.specs.declared.rows.Row.{Row}
+use Rattle.mari_rows.proofs.BookFacts.{none-fails}
 use Rattle.mari_rows.proofs.NameLemmas.{bytes_eq-same}
+use Rattle.mari_rows.proofs.PrintedLemmas.{AreColumns, is_plain_record}
 use Rattle.mari_bids.specs.declared.bids.BidBook.{BidBook}
 use Rattle.mari_links.specs.Links.{bid_named, child_of, child_word, gated_bids, group_word, has_too_many, is_gated, kind_of, line_checks, link_book, link_columns, link_grammar, member_of, quarter_of, said_by, Member}
 use Rattle.mari_links.specs.declared.lines.Link.{Link}
 use Rattle.mari_links.specs.declared.lines.LinkKind.TheVariants.{Child}
 use Rattle.mari_links.specs.declared.links.LinkBook.{LinkBook}
-use Rattle.mari_scenario.specs.Pages.{bid, group, link_lines, links_text, row}
-use Rattle.mari_scenario.proofs.Accepting.{Passes, accepted, drawn, none-fails, rows, rows-more}
+use Rattle.mari_scenario.specs.Pages.{bid, group, link_lines, links_text}
+use Rattle.mari_scenario.proofs.Accepting.{Passes, accepted, drawn, rows, rows-more}
 use Rattle.mari_scenario.proofs.BidNames.{bid-plain, group-name, group-plain}
-use Rattle.mari_scenario.proofs.Written.{AreLines, IsLine, lines_text}
 
 -- the fields of the three lines of a quarter
 abbrev pub member_fields : (i place : ℕ) → List (List ℕ)
@@ -41,17 +43,22 @@ link_rows n = rows link_lines link_records n 0
 three : (a b c : List ℕ) → a ++ b ++ c ≡ a ++ (b ++ (c ++ []))
 three a b c = rw (append-nil c) (append_assoc a b c)
 
-text-of : (i x : ℕ) → (link_lines i x).text ≡ lines_text (link_records i x)
-text-of i x = three (row (codes "group") (group (i + 1) ∷ bid (i + 1) 10 ∷ [])) (row (codes "group") (group (i + 1) ∷ bid (i + 1) 15 ∷ [])) (row (codes "child") (bid (i + 1) 25 ∷ bid (i + 1) 20 ∷ []))
+text-of : (i x : ℕ) → (link_lines i x).text ≡ flat_map line_of (link_records i x)
+text-of i x = three (line_of (member_fields i 10)) (line_of (member_fields i 15)) (line_of (child_fields i))
 
-member-line : (i j : ℕ) → i < 24 → j < 100 → IsLine 3 (member_fields i j)
-member-line i j few small = record { sized = refl; plain = (refl, (group-plain (i + 1) (omega arith), (bid-plain (i + 1) j (omega arith) small, tt))) }
+plain-lines : (i x : ℕ) → i < 24 → list_all (is_plain_record 3) (link_records i x) ≡ true
+plain-lines i x few =
+    rw (
+      group-plain (i + 1) (omega arith),
+      bid-plain (i + 1) 10 (omega arith) (omega arith),
+      bid-plain (i + 1) 15 (omega arith) (omega arith),
+      bid-plain (i + 1) 25 (omega arith) (omega arith),
+      bid-plain (i + 1) 20 (omega arith) (omega arith),
+    ) refl
 
-child-line : (i : ℕ) → i < 24 → IsLine 3 (child_fields i)
-child-line i few = record { sized = refl; plain = (refl, (bid-plain (i + 1) 25 (omega arith) (omega arith), (bid-plain (i + 1) 20 (omega arith) (omega arith), tt))) }
-
-links-are-lines : (i x : ℕ) → i < 24 → AreLines 3 (link_records i x)
-links-are-lines i x few = (member-line i 10 few (omega arith), (member-line i 15 few (omega arith), (child-line i few, tt)))
+columns-three : AreColumns link_columns 3
+unfolding link_columns strip_bom
+columns-three = record { wide = omega arith; plain = refl; unmarked = λ rest. refl }
 
 -- what the lines of a quarter say, the first quarter counting as 0
 abbrev pub member : (quarter place : ℕ) → Member
@@ -313,6 +320,5 @@ module _ (bids : BidBook) (named : (n j : ℕ) → n < 24 → j < 40 → bid_nam
   the_links = link_book bids (link_rows 24)
 
   pub links-accepted : book_in (link_grammar bids) links_text ≡ Ok the_links
-  unfolding link_columns strip_bom the_links
-  links-accepted = accepted link_lines link_records (link_grammar bids) 1 24 0 links_text (codes "kind" ∷ codes "first" ∷ codes "second" ∷ []) refl refl refl refl
-      (record { sized = refl; plain = (refl, (refl, (refl, tt))) }) text-of links-are-lines link-passes (rw few-gates refl)
+  unfolding the_links
+  links-accepted = accepted link_lines link_records (link_grammar bids) 3 24 0 columns-three text-of plain-lines link-passes (rw few-gates refl)

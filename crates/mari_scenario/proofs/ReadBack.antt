@@ -1,15 +1,17 @@
 -- A printed number is read as itself.
-use Rattle.std.proofs.Common.{◌≡◌, ◌≤◌, ◌<◌, ◌+◌, ◌*◌, ◌/◌, ◌%◌, ◌^◌, ◌==◌, ℕ, suc, Bool, true, false, List, [], ◌∷◌, ◌++◌, Some, None, ℤ, pos, negsuc, neg_ℤ, int_lt, unsigned_abs, decimal, length, take, drop, position, refl, ap, arith, if◌then◌else◌, add-one}
-use Rattle.std.specs.Prelude.{◌&&◌, nat_le, nat_lt, int_le}
+use Rattle.std.proofs.Common.{◌≡◌, ◌≤◌, ◌<◌, ◌+◌, ◌*◌, ◌/◌, ◌%◌, ◌^◌, ◌==◌, ℕ, suc, Bool, true, false, List, [], ◌∷◌, ◌++◌, Some, None, ℤ, pos, negsuc, neg_ℤ, int_lt, unsigned_abs, decimal, length, position, refl, ap, arith, if◌then◌else◌}
+use Rattle.std.specs.Prelude.{◌&&◌, nat_le, int_le}
 use Rattle.std.specs.Char.{is_ascii_digit}
 use Rattle.std.specs.Fmt.{signed_decimal}
-use Rattle.std.specs.List.{list_all, position_or_len}
+use Rattle.std.specs.List.{list_all, list_any}
+use Rattle.std.proofs.Math.Seq.{drop-append-add, take-append_seam}
 use Rattle.std.proofs.lemmas.Bool.Decides.{nat_tests}
 use Rattle.std.proofs.lemmas.Int.{ints}
 use Rattle.std.proofs.lemmas.Fmt.{digits_decimal, decimal_nonempty}
 use Rattle.mari_units.specs.Numbers.{cents_at, hundredths_of, price_of, printed_cents, whole_of}
 use Rattle.std.proofs.lemmas.Bool.{and_parts}
 use Rattle.mari_rows.specs.Fields.{cents_in, number_in, within_cap}
+use Rattle.mari_rows.proofs.NameLemmas.{position-behind}
 use Rattle.mari_units.proofs.Digits.{AreDigits, own, digits_unsigned, decimal_natural, decimal_whole, digit_byte}
 
 no-point : (d : ℕ) → is_ascii_digit d ≡ true → (d == 46) ≡ false
@@ -31,48 +33,26 @@ decimal-above least greatest n small above =
     by false = refl
 
 -- the point behind digits
-point-behind : (ds rest : List ℕ) → AreDigits ds → position_or_len (λ b. b == 46) (ds ++ 46 ∷ rest) ≡ length ds
-point-behind [] rest e = refl
-point-behind (d ∷ ds) rest e =
-    rw (no-point d ((and_parts (is_ascii_digit d) (list_all is_ascii_digit ds) e).0), point-behind ds rest ((and_parts (is_ascii_digit d) (list_all is_ascii_digit ds) e).1)) (omega arith)
+no-points : (ds : List ℕ) → AreDigits ds → list_any (λ b. b == 46) ds ≡ false
+no-points [] e = refl
+no-points (d ∷ ds) e =
+    let parts = and_parts (is_ascii_digit d) (list_all is_ascii_digit ds) e in
+    rw (no-point d parts.0, no-points ds parts.1) refl
 
-pub point-at : (ds rest : List ℕ) → AreDigits ds → position (λ b. b == 46) (ds ++ 46 ∷ rest) ≡ Some (length ds)
-point-at ds rest e =
-    let at = point-behind ds rest e in
-    let below : nat_lt (length ds) (length (ds ++ 46 ∷ rest)) ≡ true = below ds in
-    rw (at, below) refl
-  where
-    longer : (xs : List ℕ) → length xs < length (xs ++ 46 ∷ rest)
-    longer [] = omega arith
-    longer (x ∷ xs) = omega (arith, longer xs)
-
-    below : (xs : List ℕ) → nat_lt (length xs) (length (xs ++ 46 ∷ rest)) ≡ true
-    below xs = let l = longer xs in grind (arith, nat_tests)
-
-pub front : (ds rest : List ℕ) → take (length ds) (ds ++ rest) ≡ ds
-front [] [] = refl
-front [] (r ∷ rest) = refl
-front (d ∷ ds) rest = ap (λ l. d ∷ l) (front ds rest)
-
-past : (ds rest : List ℕ) (b : ℕ) → drop (suc (length ds)) (ds ++ b ∷ rest) ≡ rest
-past [] [] b = refl
-past [] (r ∷ rest) b = refl
-past (d ∷ ds) rest b = past ds rest b
-
-pub behind : (ds rest : List ℕ) (b : ℕ) → drop (length ds + 1) (ds ++ b ∷ rest) ≡ rest
-behind ds rest b = rw (add-one (length ds)) (past ds rest b)
+point-at : (ds rest : List ℕ) → AreDigits ds → position (λ b. b == 46) (ds ++ 46 ∷ rest) ≡ Some (length ds)
+point-at ds rest e = position-behind (λ b. b == 46) ds rest 46 (no-points ds e) refl
 
 -- two digits of cents
-pub two-digits : (a b : ℕ) → a < 10 → b < 10 → hundredths_of ((48 + a) ∷ (48 + b) ∷ []) ≡ Some (10 * a + b)
+two-digits : (a b : ℕ) → a < 10 → b < 10 → hundredths_of ((48 + a) ∷ (48 + b) ∷ []) ≡ Some (10 * a + b)
 two-digits a b x y = rw (digit_byte a x, digit_byte b y) (ap Some (omega arith))
 
 -- whole euros, a point and two digits
-pub cents-behind : (n : ℕ) → n < 2 ^ 64 → cents_at (position (λ b. b == 46) (decimal (n / 100) ++ 46 ∷ (48 + n % 100 / 10) ∷ (48 + n % 10) ∷ [])) (decimal (n / 100) ++ 46 ∷ (48 + n % 100 / 10) ∷ (48 + n % 10) ∷ []) ≡ Some n
+cents-behind : (n : ℕ) → n < 2 ^ 64 → cents_at (position (λ b. b == 46) (decimal (n / 100) ++ 46 ∷ (48 + n % 100 / 10) ∷ (48 + n % 10) ∷ [])) (decimal (n / 100) ++ 46 ∷ (48 + n % 100 / 10) ∷ (48 + n % 10) ∷ []) ≡ Some n
 cents-behind n small =
     let euros = decimal (n / 100) in
     let rest = (48 + n % 100 / 10) ∷ (48 + n % 10) ∷ [] in
     let digits = digits_decimal own (n / 100) (omega arith) in
-    rw (point-at euros rest digits, front euros (46 ∷ rest), behind euros rest 46, decimal_natural (n / 100) (omega arith), two-digits (n % 100 / 10) (n % 10) (omega arith) (omega arith))
+    rw (point-at euros rest digits, take-append_seam euros (46 ∷ rest), drop-append-add euros (46 ∷ rest) 1, decimal_natural (n / 100) (omega arith), two-digits (n % 100 / 10) (n % 10) (omega arith) (omega arith))
     (ap Some (omega arith))
 
 -- a price

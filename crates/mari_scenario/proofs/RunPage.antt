@@ -1,25 +1,27 @@
 -- The page of runs is a book.
-use Rattle.std.proofs.Common.{◌≡◌, ◌<◌, ◌+◌, ◌∙◌, ℕ, zero, suc, false, List, [], ◌∷◌, ◌++◌, Option, Some, None, Ok, codes, decimal, length, refl, sym, ap, append-nil, arith, pos}
+use Rattle.std.proofs.Common.{◌≡◌, ◌<◌, ◌+◌, ◌∙◌, ℕ, zero, suc, true, false, List, [], ◌∷◌, ◌++◌, Option, Some, None, Ok, decimal, length, refl, sym, ap, append-nil, arith, pos}
 use Rattle.std.specs.Prelude.{nat_lt}
+use Rattle.std.specs.List.{flat_map, list_all}
 use Rattle.std.proofs.lemmas.Bool.Decides.{nat_tests}
 use Rattle.std.proofs.lemmas.List.{length-map}
 use Rattle.std.proofs.lemmas.List.Sums.{fold-append}
 use Rattle.csv.specs.Reading.{strip_bom}
 use Rattle.mari_units.specs.Numbers.{printed_cents}
+use Rattle.mari_units.proofs.Digits.{decimal_whole}
 use Rattle.mari_rows.specs.Books.{book_in}
+use Rattle.mari_rows.specs.Printed.{line_of}
 use Rattle.mari_rows.specs.declared.rows.Row.{Row}
+use Rattle.mari_rows.proofs.BookFacts.{none-fails}
+use Rattle.mari_rows.proofs.NumberLemmas.{decimal_in}
+use Rattle.mari_rows.proofs.PrintedLemmas.{AreColumns, is_plain_record, number-plain}
 use Rattle.mari_demands.specs.Runs.{comes_too_late, direct_word, last_quarter, quarter_at, run_book, run_checks, run_columns, run_grammar, run_of, scheduled_word}
 use Rattle.mari_demands.specs.declared.runs.RunBook.{RunBook}
 use Rattle.mari_scenario.specs.Draws.{draw, lines}
 use Rattle.mari_scenario.specs.Pages.{run_line, runs_at}
-use Rattle.mari_scenario.proofs.Accepting.{Passes, accepted, drawn, none-fails, one-line, rows, rows-length, rows-more}
-use Rattle.mari_scenario.proofs.FieldBytes.{decimal-plain}
+use Rattle.mari_scenario.proofs.Accepting.{Passes, accepted, drawn, one-line, rows, rows-length, rows-more}
+use Rattle.mari_scenario.proofs.DrawBounds.{draw-lt}
 use Rattle.mari_scenario.proofs.PlainNumbers.{cents-plain}
 use Rattle.mari_scenario.proofs.ReadBack.{cents-price, cents-within, decimal-above}
-use Rattle.mari_rows.proofs.NumberLemmas.{decimal_in}
-use Rattle.mari_units.proofs.Digits.{decimal_whole}
-use Rattle.mari_scenario.proofs.Written.{IsLine}
-use Rattle.mari_scenario.proofs.DrawBounds.{draw-lt}
 
 -- the reference price of a run, in cents
 abbrev reference : ℕ → ℕ
@@ -35,12 +37,12 @@ run_fields i x = decimal (i + 1) ∷ decimal (i + 1) ∷ scheduled_word ∷ prin
 abbrev pub run_records : (i state : ℕ) → List (List (List ℕ))
 run_records i x = run_fields i x ∷ []
 
-run-line : (i x : ℕ) → i < 24 → IsLine 4 (run_fields i x)
+text-of : (i x : ℕ) → (run_line i x).text ≡ flat_map line_of (run_records i x)
+text-of i x = sym (append-nil (line_of (run_fields i x)))
+
+plain-lines : (i x : ℕ) → i < 24 → list_all (is_plain_record 4) (run_records i x) ≡ true
 unfolding scheduled_word
-run-line i x few = record {
-  sized = refl;
-  plain = (decimal-plain (i + 1) (omega arith), (decimal-plain (i + 1) (omega arith), (refl, (cents-plain (pos (reference x)) (omega (arith, small x)), tt))));
-}
+plain-lines i x few = rw (number-plain (i + 1) (omega arith), cents-plain (pos (reference x)) (omega (arith, small x))) refl
 
 -- the rows of the first runs
 abbrev run_rows : (n state : ℕ) → List Row
@@ -103,7 +105,10 @@ pub count-runs : (x : ℕ) → length (the_runs x).runs ≡ 24
 unfolding the_runs
 count-runs x = length-map (run_rows 24 x) (run_of 96) ∙ length-rows 24 x
 
+columns-four : AreColumns run_columns 4
+unfolding run_columns strip_bom
+columns-four = record { wide = omega arith; plain = refl; unmarked = λ rest. refl }
+
 pub runs-accepted : (x : ℕ) → book_in (run_grammar 96) (run_columns ++ 10 ∷ (runs_at x).text) ≡ Ok (the_runs x)
-unfolding run_columns strip_bom the_runs
-runs-accepted x = accepted run_line run_records (run_grammar 96) 2 24 x _ (codes "run" ∷ codes "quarter" ∷ codes "kind" ∷ codes "reference" ∷ []) refl refl refl refl
-    (record { sized = refl; plain = (refl, (refl, (refl, (refl, tt)))) }) (λ i x. sym (append-nil (run_line i x).text)) (λ i x few. (run-line i x few, tt)) (run-passes x) refl
+unfolding the_runs
+runs-accepted x = accepted run_line run_records (run_grammar 96) 4 24 x columns-four text-of plain-lines (run-passes x) refl

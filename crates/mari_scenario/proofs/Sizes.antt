@@ -5,6 +5,8 @@ use Rattle.std.proofs.lemmas.Fmt.{length-decimal-le}
 use Rattle.std.proofs.lemmas.List.{length-append}
 use Rattle.std.proofs.lemmas.List.Elements.{All-cons, All-nil}
 use Rattle.mari_units.specs.Numbers.{printed_cents, sign_of}
+use Rattle.mari_rows.specs.Printed.{line_of}
+use Rattle.mari_rows.proofs.PrintedLemmas.{length-line}
 use Rattle.mari_zones.specs.Zones.{zone_columns}
 use Rattle.mari_zones.specs.Borders.{border_columns}
 use Rattle.mari_bids.specs.Bids.{bid_columns}
@@ -13,24 +15,12 @@ use Rattle.mari_scenario.specs.Accepted.{IsShort}
 use Rattle.mari_scenario.specs.Draws.{Drawn, after, draw, lines}
 use Rattle.mari_demands.specs.Runs.{run_columns, scheduled_word}
 use Rattle.mari_demands.specs.Demands.{demand_columns}
-use Rattle.mari_scenario.specs.Pages.{before_bids, before_demands, before_runs, bid, bid_least, bid_line, bid_price, bids_at, border_line, borders_at, day_text, demand_line, demand_text, demands_at, direction, from_of, further, greatest, group, is_both, is_up, kind, link_lines, links_text, provider, row, run_line, runs_at, scenario_at, to_of, zone, zones_text}
+use Rattle.mari_scenario.specs.Pages.{before_bids, before_demands, before_runs, bid, bid_least, bid_line, bid_price, bids_at, border_line, borders_at, day_text, demand_line, demand_text, demands_at, direction, from_of, greatest, group, is_both, is_up, kind, link_lines, links_text, provider, run_line, runs_at, scenario_at, to_of, zone, zones_text}
 use Rattle.mari_scenario.proofs.BidNames.{length-bid}
 use Rattle.mari_scenario.proofs.BidPage.{greatest-small, least-small, price-small}
 use Rattle.mari_scenario.proofs.DemandPage.{price-small as elastic-small, quantity-small}
 use Rattle.mari_scenario.proofs.DrawBounds.{draw-lt}
 use Rattle.mari_scenario.proofs.Places.{first-ten}
-
--- the length of a line: each field with the byte behind it
-abbrev total : List (List ℕ) → ℕ
-total [] = 0
-total (field ∷ fields) = length field + 1 + total fields
-
-length-further : (fields : List (List ℕ)) → length (further fields) ≡ 1 + total fields
-length-further [] = refl
-length-further (field ∷ fields) = omega (arith, length-append field (further fields), length-further fields)
-
-length-row : (field : List ℕ) (fields : List (List ℕ)) → length (row field fields) ≡ total (field ∷ fields)
-length-row field fields = omega (arith, length-append field (further fields), length-further fields)
 
 -- the lengths of fields
 number : (n : ℕ) → n < 2 ^ 64 → length (decimal n) ≤ 20
@@ -88,7 +78,7 @@ border-size i x few =
     let back = decimal (20 + draw 2 80 x) in
     omega (
       arith,
-      length-row (zone (from_of i)) (zone (to_of i) ∷ limit ∷ back ∷ []),
+      length-line (zone (from_of i)) (zone (to_of i) ∷ limit ∷ back ∷ []),
       (border-zones i few).0,
       (border-zones i few).1,
       number (20 + draw 1 80 x) (omega (arith, draw-lt 1 80 x (omega arith))),
@@ -103,7 +93,7 @@ bid-size i x few =
     let least = bid_least j (greatest x) in
     omega (
       arith,
-      length-row (bid t j) (provider ((j - 1) % 10 + 1) ∷ zone (1 + draw 1 8 x) ∷ decimal t ∷ direction (is_up x) ∷ printed_cents (bid_price x) ∷ decimal least ∷ decimal (greatest x) ∷ kind (is_both x) ∷ []),
+      length-line (bid t j) (provider ((j - 1) % 10 + 1) ∷ zone (1 + draw 1 8 x) ∷ decimal t ∷ direction (is_up x) ∷ printed_cents (bid_price x) ∷ decimal least ∷ decimal (greatest x) ∷ kind (is_both x) ∷ []),
       of-bid t j (omega arith) (omega arith),
       of-provider ((j - 1) % 10 + 1) (omega arith),
       of-zone (1 + draw 1 8 x) (omega (arith, draw-lt 1 8 x (omega arith))),
@@ -117,16 +107,16 @@ bid-size i x few =
 
 link-size : (i x : ℕ) → i < 24 → length (link_lines i x).text ≤ 250
 link-size i x few =
-    let first = row (codes "group") (group (i + 1) ∷ bid (i + 1) 10 ∷ []) in
-    let second = row (codes "group") (group (i + 1) ∷ bid (i + 1) 15 ∷ []) in
-    let third = row (codes "child") (bid (i + 1) 25 ∷ bid (i + 1) 20 ∷ []) in
+    let first = line_of (codes "group" ∷ group (i + 1) ∷ bid (i + 1) 10 ∷ []) in
+    let second = line_of (codes "group" ∷ group (i + 1) ∷ bid (i + 1) 15 ∷ []) in
+    let third = line_of (codes "child" ∷ bid (i + 1) 25 ∷ bid (i + 1) 20 ∷ []) in
     omega (
       arith,
       length-append (first ++ second) third,
       length-append first second,
-      length-row (codes "group") (group (i + 1) ∷ bid (i + 1) 10 ∷ []),
-      length-row (codes "group") (group (i + 1) ∷ bid (i + 1) 15 ∷ []),
-      length-row (codes "child") (bid (i + 1) 25 ∷ bid (i + 1) 20 ∷ []),
+      length-line (codes "group") (group (i + 1) ∷ bid (i + 1) 10 ∷ []),
+      length-line (codes "group") (group (i + 1) ∷ bid (i + 1) 15 ∷ []),
+      length-line (codes "child") (bid (i + 1) 25 ∷ bid (i + 1) 20 ∷ []),
       of-group (i + 1) (omega arith),
       of-bid (i + 1) 10 (omega arith) (omega arith),
       of-bid (i + 1) 15 (omega arith) (omega arith),
@@ -138,14 +128,14 @@ run-size : (i x : ℕ) → i < 24 → length (run_line i x).text ≤ 250
 unfolding scheduled_word
 run-size i x few =
     let reference = pos (4000 + draw 1 4000 x) in
-    omega (arith, length-row (decimal (i + 1)) (decimal (i + 1) ∷ scheduled_word ∷ printed_cents reference ∷ []), number (i + 1) (omega arith), of-price reference (omega (arith, draw-lt 1 4000 x (omega arith))))
+    omega (arith, length-line (decimal (i + 1)) (decimal (i + 1) ∷ scheduled_word ∷ printed_cents reference ∷ []), number (i + 1) (omega arith), of-price reference (omega (arith, draw-lt 1 4000 x (omega arith))))
 
 demand-by : (i x : ℕ) (price : List ℕ) → i < 192 → length price ≤ 24 → length (demand_text i x price) ≤ 250
 demand-by i x price few small =
     let mw = signed_decimal (pos (draw 1 61 x) -ℤ pos 20) in
     omega (
       arith,
-      length-row (decimal (i / 8 + 1)) (zone (i % 8 + 1) ∷ mw ∷ price ∷ []),
+      length-line (decimal (i / 8 + 1)) (zone (i % 8 + 1) ∷ mw ∷ price ∷ []),
       number (i / 8 + 1) (omega arith),
       of-zone (i % 8 + 1) (omega arith),
       of-whole (pos (draw 1 61 x) -ℤ pos 20) (omega (arith, quantity-small x)),

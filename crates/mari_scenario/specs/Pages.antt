@@ -4,6 +4,7 @@ use lib.Chars.{codes}
 use Rattle.std.specs.Fmt.{decimal, signed_decimal}
 use Rattle.mari_units.specs.Numbers.{printed_cents}
 use Rattle.mari_io.specs.Outside.{Pages}
+use Rattle.mari_rows.specs.Printed.{line_of}
 use Rattle.mari_zones.specs.Zones.{zone_columns}
 use Rattle.mari_zones.specs.Borders.{border_columns}
 use Rattle.mari_bids.specs.Bids.{bid_columns}
@@ -11,15 +12,6 @@ use Rattle.mari_links.specs.Links.{link_columns}
 use Rattle.mari_demands.specs.Runs.{run_columns, scheduled_word}
 use Rattle.mari_demands.specs.Demands.{demand_columns}
 use Rattle.mari_scenario.specs.Draws.{Drawn, after, draw, lines}
-
--- further fields of a line, each behind a comma, and the line's end
-abbrev pub further : List (List ℕ) → List ℕ
-further [] = 10 ∷ []
-further (field ∷ fields) = 44 ∷ field ++ further fields
-
--- a line of these fields
-abbrev pub row : List ℕ → List (List ℕ) → List ℕ
-row field fields = field ++ further fields
 
 -- the names of zones, operators, providers, bids and groups, by their numbers from 1
 abbrev pub zone : ℕ → List ℕ
@@ -43,7 +35,7 @@ still text x = record { text = text; state = x }
 
 -- zone number i + 1 of eight; each of four operators has two
 abbrev pub zone_line : ℕ → ℕ → Drawn
-zone_line i x = still (row (zone (i + 1)) (operator (i % 4 + 1) ∷ [])) x
+zone_line i x = still (line_of (zone (i + 1) ∷ operator (i % 4 + 1) ∷ [])) x
 
 -- a ring of eight zones, and two borders across it
 abbrev pub from_of : ℕ → ℕ
@@ -55,7 +47,7 @@ to_of i = if nat_lt i 7 then i + 2 else (if i == 7 then 1 else (if i == 8 then 5
 -- border number i + 1 of ten
 abbrev pub border_line : ℕ → ℕ → Drawn
 border_line i x = record {
-  text = row (zone (from_of i)) (zone (to_of i) ∷ decimal (20 + draw 1 80 x) ∷ decimal (20 + draw 2 80 x) ∷ []);
+  text = line_of (zone (from_of i) ∷ zone (to_of i) ∷ decimal (20 + draw 1 80 x) ∷ decimal (20 + draw 2 80 x) ∷ []);
   state = after 2 x;
 }
 
@@ -86,7 +78,7 @@ bid_least j greatest = if j % 5 == 0 then greatest else 0
 -- the bid at a place from 1 of a quarter; ten providers take turns
 abbrev pub bid_text : (quarter place state : ℕ) → List ℕ
 bid_text t j x =
-    row (bid t j) (provider ((j - 1) % 10 + 1) ∷ zone (1 + draw 1 8 x) ∷ decimal t ∷ direction (is_up x)
+    line_of (bid t j ∷ provider ((j - 1) % 10 + 1) ∷ zone (1 + draw 1 8 x) ∷ decimal t ∷ direction (is_up x)
     ∷ printed_cents (bid_price x) ∷ decimal (bid_least j (greatest x)) ∷ decimal (greatest x) ∷ kind (is_both x) ∷ [])
 
 -- bid number i + 1 of 24 quarters with forty bids each
@@ -96,20 +88,20 @@ bid_line i x = record { text = bid_text (i / 40 + 1) (i % 40 + 1) x; state = aft
 -- the links of quarter i + 1: two of its bids in a group, and another two child and parent
 abbrev pub link_lines : ℕ → ℕ → Drawn
 link_lines i x = still (
-    row (codes "group") (group (i + 1) ∷ bid (i + 1) 10 ∷ [])
-    ++ row (codes "group") (group (i + 1) ∷ bid (i + 1) 15 ∷ [])
-    ++ row (codes "child") (bid (i + 1) 25 ∷ bid (i + 1) 20 ∷ [])) x
+    line_of (codes "group" ∷ group (i + 1) ∷ bid (i + 1) 10 ∷ [])
+    ++ line_of (codes "group" ∷ group (i + 1) ∷ bid (i + 1) 15 ∷ [])
+    ++ line_of (codes "child" ∷ bid (i + 1) 25 ∷ bid (i + 1) 20 ∷ [])) x
 
 -- the run of quarter i + 1
 abbrev pub run_line : ℕ → ℕ → Drawn
 run_line i x = record {
-  text = row (decimal (i + 1)) (decimal (i + 1) ∷ scheduled_word ∷ printed_cents (pos (4000 + draw 1 4000 x)) ∷ []);
+  text = line_of (decimal (i + 1) ∷ decimal (i + 1) ∷ scheduled_word ∷ printed_cents (pos (4000 + draw 1 4000 x)) ∷ []);
   state = after 1 x;
 }
 
 -- demand number i + 1 of 24 runs with eight zones each, with this price or with none
 abbrev pub demand_text : (i state : ℕ) → List ℕ → List ℕ
-demand_text i x price = row (decimal (i / 8 + 1)) (zone (i % 8 + 1) ∷ signed_decimal (pos (draw 1 61 x) -ℤ pos 20) ∷ price ∷ [])
+demand_text i x price = line_of (decimal (i / 8 + 1) ∷ zone (i % 8 + 1) ∷ signed_decimal (pos (draw 1 61 x) -ℤ pos 20) ∷ price ∷ [])
 
 -- one of three values of the second draw makes it elastic, at a price that the third gives
 abbrev pub demand_line : ℕ → ℕ → Drawn

@@ -3,9 +3,10 @@
 ghost use Rattle.std.specs.Prelude.{◌≡◌, ◌++◌, ◌∷◌, [], ◌<◌, ◌≤◌, ◌+◌, ◌-◌, ◌/◌, ◌%◌, ◌-ℤ◌, pos, IfOk, OnOk, codes, if◌then◌else◌};
 ghost use Rattle.std.specs.Fmt.{decimal, signed_decimal};
 ghost use Rattle.mari_units.specs.Numbers.{printed_cents};
+ghost use Rattle.mari_rows.specs.Printed.{line_of};
 ghost use Rattle.mari_demands.specs.Runs.{scheduled_word};
 ghost use Rattle.mari_scenario.specs.Draws.{after, below as below_of, draw};
-ghost use Rattle.mari_scenario.specs.Pages.{bid, bid_least, bid_line, bid_price as bid_price_of, border_line, demand_line, direction, from_of, greatest as greatest_of, group, is_both, is_up, kind, link_lines, provider, row, run_line, to_of, zone, zone_line};
+ghost use Rattle.mari_scenario.specs.Pages.{bid, bid_least, bid_line, bid_price as bid_price_of, border_line, demand_line, direction, from_of, greatest as greatest_of, group, is_both, is_up, kind, link_lines, provider, run_line, to_of, zone, zone_line};
 
 use crate::draws::{below, next};
 use crate::text::{
@@ -69,7 +70,7 @@ fn put_ends(alloc: Global, out: &mut Vec<u8>, from: u32, to: u32) -> Result<(), 
 
 /// Appends two numbers that end a line.
 fn put_last_two(alloc: Global, out: &mut Vec<u8>, first: u32, second: u32) -> Result<(), Memory>
-    ensures { OnOk result (out.new.items ≡ out.old.items ++ row (decimal first) (decimal second ∷ [])) }
+    ensures { OnOk result (out.new.items ≡ out.old.items ++ line_of (decimal first ∷ decimal second ∷ [])) }
 {
     put_number(alloc, out, u128::from(first))?;
     put_comma(out)?;
@@ -207,7 +208,7 @@ fn put_bid_offer(alloc: Global, out: &mut Vec<u8>, price: i64, least: u32) -> Re
 
 /// Appends the greatest quantity and the kind of a bid.
 fn put_bid_end(alloc: Global, out: &mut Vec<u8>, greatest: u32, both: bool) -> Result<(), Memory>
-    ensures { OnOk result (out.new.items ≡ out.old.items ++ row (decimal greatest) (kind both ∷ [])) }
+    ensures { OnOk result (out.new.items ≡ out.old.items ++ line_of (decimal greatest ∷ kind both ∷ [])) }
 {
     put_number(alloc, out, u128::from(greatest))?;
     put_comma(out)?;
@@ -232,7 +233,7 @@ pub fn put_bid_line(alloc: Global, out: &mut Vec<u8>, i: u32, state: u32) -> Res
 
 /// Appends a line that puts a bid into a quarter's group.
 fn put_member(alloc: Global, out: &mut Vec<u8>, quarter: u32, place: u32) -> Result<(), Memory>
-    ensures { OnOk result (out.new.items ≡ out.old.items ++ row (codes "group") (group quarter ∷ bid quarter place ∷ [])) }
+    ensures { OnOk result (out.new.items ≡ out.old.items ++ line_of (codes "group" ∷ group quarter ∷ bid quarter place ∷ [])) }
 {
     put(out, b"group,")?;
     put_group(alloc, out, quarter)?;
@@ -277,7 +278,7 @@ fn put_run_front(alloc: Global, out: &mut Vec<u8>, run: u32) -> Result<(), Memor
 
 /// Appends a run's fields, its reference price as it is printed.
 fn put_run(alloc: Global, out: &mut Vec<u8>, run: u32, reference: &[u8]) -> Result<(), Memory>
-    ensures { OnOk result (out.new.items ≡ out.old.items ++ row (decimal run) (decimal run ∷ scheduled_word ∷ reference.now ∷ [])) }
+    ensures { OnOk result (out.new.items ≡ out.old.items ++ line_of (decimal run ∷ decimal run ∷ scheduled_word ∷ reference.now ∷ [])) }
 {
     put_run_front(alloc, out, run)?;
     put_scheduled(out)?;

@@ -1,6 +1,7 @@
 use Rattle.std.proofs.Common.{◌≡◌, ◌++◌, drop, map}
 use Rattle.std.specs.List.{flat_map}
-use Rattle.mari_remain.specs.Migrated.{border_record, line_of}
+use Rattle.mari_rows.specs.Printed.{line_of}
+use Rattle.mari_remain.specs.Migrated.{border_record}
 use Rattle.mari_remain.proofs.migration.put_borders.Given as goal
 
 -- with the lines of those still to come it is the whole

@@ -2,7 +2,8 @@ use Rattle.std.proofs.Common.{◌≡◌, ◌∙◌, ◌++◌, ℕ, List, ap, sym
 use Rattle.std.specs.List.{flat_map, range_with_len}
 use Rattle.std.proofs.lemmas.List.{flat_map_more}
 use Rattle.std.proofs.lemmas.List.FromFn.{map-range_with_len_more}
-use Rattle.mari_remain.specs.Migrated.{limit_record, line_of}
+use Rattle.mari_rows.specs.Printed.{line_of}
+use Rattle.mari_remain.specs.Migrated.{limit_record}
 use Rattle.mari_remain.specs.RunMarket.{ends_at, run_limits}
 use Rattle.mari_remain.proofs.migration.put_run.Goals as goal
 

@@ -1,6 +1,7 @@
 use Rattle.std.proofs.Common.{◌≡◌, ◌++◌, map}
 use Rattle.std.specs.List.{flat_map, range_with_len}
-use Rattle.mari_remain.specs.Migrated.{limit_record, line_of}
+use Rattle.mari_rows.specs.Printed.{line_of}
+use Rattle.mari_remain.specs.Migrated.{limit_record}
 use Rattle.mari_remain.specs.RunMarket.{ends_at, run_limits}
 use Rattle.mari_remain.proofs.migration.put_run.Given as goal
 

@@ -1,6 +1,7 @@
 use Rattle.std.proofs.Common.{◌≡◌, ◌++◌}
 use Rattle.std.specs.List.{flat_map, range_with_len}
-use Rattle.mari_remain.specs.Migrated.{line_of, run_records}
+use Rattle.mari_rows.specs.Printed.{line_of}
+use Rattle.mari_remain.specs.Migrated.{run_records}
 use Rattle.mari_remain.proofs.migration.put_runs.Given as goal
 
 -- the lines so far

@@ -1,9 +1,12 @@
--- Records that are printed without quotes are read back as they were.
-use Rattle.std.proofs.Common.{◌≡◌, ◌∙◌, ◌≤◌, ◌<◌, ◌+◌, ◌==◌, ◌&&◌, not, ℕ, zero, suc, Bool, true, false, List, [], ◌∷◌, ◌++◌, Option, Some, None, Ok, length, refl, sym, ap, arith, append_assoc, append-nil, length-append, flat_map, nat_lt, IsAscii, option_map}
+-- Records that are printed without quotes are read back as they were; a printed number and a name stand without quotes.
+use Rattle.std.proofs.Common.{◌≡◌, ◌∙◌, ◌≤◌, ◌<◌, ◌^◌, ◌+◌, ◌==◌, ◌&&◌, not, ℕ, zero, suc, Bool, true, false, List, [], ◌∷◌, ◌++◌, Some, None, Ok, decimal, length, refl, sym, ap, arith, append_assoc, append-nil, length-append, flat_map, nat_le, nat_lt, leb, IsAscii}
+use Rattle.std.specs.Char.{is_ascii_digit}
 use Rattle.std.specs.List.{join_with_byte, list_all, list_any}
-use Rattle.std.specs.Option.{option_or}
 use Rattle.std.specs.Str.{is_utf8}
-use Rattle.std.proofs.lemmas.Bool.{eqb-true, ltb-true, and_parts}
+use Rattle.std.proofs.lemmas.Bool.{eqb-true, leb-true, lt-ltb, ltb-true, ne_eqb, not-true, and_parts}
+use Rattle.std.proofs.lemmas.Bool.Decides.{nat_tests}
+use Rattle.std.proofs.lemmas.Fmt.{digits_decimal}
+use Rattle.std.proofs.lemmas.List.Folds.{list_all-append}
 use Rattle.std.proofs.lemmas.List.Splits.{join_with_byte-slice_split}
 use Rattle.std.proofs.lemmas.Str.{IsUtf8-from_ascii, is_utf8-from_IsUtf8}
 use Rattle.csv.specs.Machine.{next_record}
@@ -11,16 +14,14 @@ use Rattle.csv.specs.Reading.{default_config, records_from, strip_bom}
 use Rattle.csv.specs.Writing.{default_writer, field_text, fields_text, is_blank, needs_byte, row_text}
 use Rattle.csv.specs.declared.parser.State.TheVariants as st
 use Rattle.csv.proofs.RoundTrip.{read-write-many}
-use Rattle.mari_rows.specs.Books.{Grammar, book_in, book_of_read, first_failing, line_refusal}
-use Rattle.mari_rows.specs.First.{first_fault, first_fault_behind, unless_fault}
+use Rattle.mari_units.specs.Names.{is_name, is_name_byte}
+use Rattle.mari_units.proofs.Digits.{own}
+use Rattle.mari_rows.specs.First.{first_fault_behind}
+use Rattle.mari_rows.specs.Printed.{line_of, page_text}
 use Rattle.mari_rows.specs.Records.{records_in}
 use Rattle.mari_rows.specs.Rows.{columns_of, fault_of_row, is_header, rows_from, rows_in}
-use Rattle.mari_rows.specs.declared.faults.BookFault.{BookFault}
-use Rattle.mari_rows.specs.declared.faults.BookFault.TheVariants as refused
 use Rattle.mari_rows.specs.declared.rows.Row.{Row}
-use Rattle.mari_rows.proofs.FirstLemmas.{first_fault-go}
 use Rattle.mari_rows.proofs.NameLemmas.{bytes_eq-same}
-use Rattle.mari_remain.specs.Migrated.{line_of, page_text}
 
 -- an ASCII byte that stands in a field without quotes
 abbrev pub is_plain : ℕ → Bool
@@ -32,10 +33,6 @@ is_plain_field field = list_all is_plain field
 -- so many fields, each of such bytes
 abbrev pub is_plain_record : (width : ℕ) → List (List ℕ) → Bool
 is_plain_record width fields = (length fields == width) && list_all is_plain_field fields
-
-not-true : (b : Bool) → not b ≡ true → b ≡ false
-not-true true e = cc e
-not-true false e = refl
 
 no-mark : (field : List ℕ) → is_plain_field field ≡ true → list_any (needs_byte default_writer) field ≡ false
 no-mark [] e = refl
@@ -146,22 +143,47 @@ module _ (columns : List ℕ) (width : ℕ) (are : AreColumns columns width) (re
   page-rows =
       rw (records-read, itself (columns_of columns), (same-width width (columns_of columns) are.plain).0, no-fault width are.wide [] 2 records plain) refl
 
--- a page whose rows are not refused is the book of its rows
-module _ {Book : Type 0} (g : Grammar Book) (page : List ℕ) (rows : List Row) where
-  whole-book : (lines : Option BookFault) (file : Option ℕ) → lines ≡ None → file ≡ None
-      → unless_fault (option_or lines (option_map (λ number. refused.At 1 number) file)) (g.book rows) ≡ Ok (g.book rows)
-  whole-book lines file l f = rw (l, f) refl
+digit-range : (d : ℕ) → is_ascii_digit d ≡ true → (48 ≤ d) × (d ≤ 57)
+digit-range d e = let range = and_parts (leb 48 d) (leb d 57) e in (leb-true 48 d range.0, leb-true d 57 range.1)
 
-  pub book-read : rows_in g.columns page ≡ Ok rows → first_fault (line_refusal g) rows ≡ None → first_failing (g.file_checks rows) ≡ None → book_in g page ≡ Ok (g.book rows)
-  book-read read lines file = ap (book_of_read g) read ∙ whole-book (first_fault (line_refusal g) rows) (first_failing (g.file_checks rows)) lines file
+-- no mark of the format is from a minus on
+pub plain-byte : (b : ℕ) → 45 ≤ b → b < 128 → is_plain b ≡ true
+plain-byte b low high =
+    let other : (mark : ℕ) → mark < 45 → (b == mark) ≡ false = λ mark below. ne_eqb b mark (λ same. absurd (omega (arith, same, below, low))) in
+    rw (lt-ltb b 128 high, other 44 (omega arith), other 34 (omega arith), other 13 (omega arith), other 10 (omega arith)) refl
 
-  -- one more row that passes its checks
-  pub row-passes : (earlier : List Row) (row : Row) → first_failing (g.line_checks earlier row) ≡ None
-      → first_fault_behind (line_refusal g) (earlier ++ row ∷ []) rows ≡ None → first_fault_behind (line_refusal g) earlier (row ∷ rows) ≡ None
-  row-passes earlier row none more =
-      sym (first_fault-go (line_refusal g) earlier (row ∷ rows) rows row refl (ap (option_map (λ number. refused.At row.line number)) none)) ∙ more
+module _ (test : ℕ → Bool) (passes : (b : ℕ) → test b ≡ true → is_plain b ≡ true) where
+  all-plain : (text : List ℕ) → list_all test text ≡ true → is_plain_field text ≡ true
+  all-plain [] e = refl
+  all-plain (b ∷ bs) e =
+      let parts = and_parts (test b) (list_all test bs) e in
+      rw (passes b parts.0) (all-plain bs parts.1)
 
--- five checks of which none fails
-pub five-pass : (a b c d e : Bool) (k l m n o : ℕ) → a ≡ false → b ≡ false → c ≡ false → d ≡ false → e ≡ false
-    → first_failing ((a, k) ∷ (b, l) ∷ (c, m) ∷ (d, n) ∷ (e, o) ∷ []) ≡ None
-five-pass a b c d e k l m n o ea eb ec ed ee = rw (ea, eb, ec, ed, ee) refl
+-- a printed number stands without quotes
+pub number-plain : (n : ℕ) → n < 2 ^ 64 → is_plain_field (decimal n) ≡ true
+number-plain n small =
+    all-plain is_ascii_digit (λ d e. let range = digit-range d e in plain-byte d (omega (arith, range.0)) (omega (arith, range.1))) (decimal n) (digits_decimal own n small)
+
+name-range : (b : ℕ) → is_name_byte b ≡ true → (45 ≤ b) × (b < 128)
+name-range b e = grind (arith, nat_tests)
+
+-- and so does a name
+pub name-plain : (name : List ℕ) → is_name name ≡ true → is_plain_field name ≡ true
+name-plain name e =
+    let parts = and_parts (nat_le 1 (length name) && nat_le (length name) 16) (list_all is_name_byte name) e in
+    all-plain is_name_byte (λ b named. let range = name-range b named in plain-byte b range.0 range.1) name parts.1
+
+-- two fields that stand without quotes, joined
+pub plain-joined : (xs ys : List ℕ) → is_plain_field xs ≡ true → is_plain_field ys ≡ true → is_plain_field (xs ++ ys) ≡ true
+plain-joined xs ys x y = list_all-append is_plain xs ys ∙ rw (x, y) refl
+
+-- the bytes of a line: each field with the byte behind it
+abbrev pub bytes_of : List (List ℕ) → ℕ
+bytes_of [] = 0
+bytes_of (field ∷ fields) = length field + 1 + bytes_of fields
+
+pub length-line : (field : List ℕ) (fields : List (List ℕ)) → length (line_of (field ∷ fields)) ≡ bytes_of (field ∷ fields)
+length-line field [] = omega (arith, length-append field (10 ∷ []))
+length-line field (next ∷ fields) =
+    let rest = join_with_byte 44 (next ∷ fields) in
+    omega (arith, length-append (field ++ 44 ∷ rest) (10 ∷ []), length-append field (44 ∷ rest), length-append rest (10 ∷ []), length-line next fields)

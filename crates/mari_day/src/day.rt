@@ -1,6 +1,6 @@
 //! The day of books: its head, a block for each run, and the totals, each written as soon as it is made.
 
-ghost use Rattle.std.specs.Prelude.{◌≡◌, ◌≤◌, ◌-◌, ℕ, List, IfErr, IfOk, OnErr, OnOk, Err, length, map};
+ghost use Rattle.std.specs.Prelude.{◌≡◌, ◌≤◌, ◌-◌, ℕ, List, IfErr, IfOk, Err, length, map};
 ghost use Rattle.std.specs.List.{All, range_with_len};
 ghost use Rattle.mari_units.specs.Names.{IsName};
 ghost use Rattle.mari_io.specs.Outside.{Counts};

@@ -1,6 +1,6 @@
 //! The lines of a block: zones, borders, bids, operators and providers, each by its name.
 
-ghost use Rattle.std.specs.Prelude.{◌≡◌, ◌≤◌, ◌<◌, ◌==◌, ◌*◌, ◌^◌, ℕ, List, IfOk, length, map, take, drop};
+ghost use Rattle.std.specs.Prelude.{◌≡◌, ◌≤◌, ◌<◌, ◌*◌, ◌^◌, IfOk, length, map, take, drop};
 ghost use Rattle.std.specs.List.{All};
 ghost use Rattle.mari_units.specs.Names.{IsName};
 ghost use Rattle.mari_zones.specs.declared.borders.BorderEnds.{BorderEnds as Ends};

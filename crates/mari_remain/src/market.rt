@@ -1,17 +1,15 @@
 //! The market of a run behind earlier blocks.
 
-ghost use Rattle.std.specs.Prelude.{◌≡◌, ◌≤◌, ◌<◌, ◌≤ℤ◌, ◌+◌, ◌==◌, ◌∷◌, ◌++◌, ℕ, ℤ, pos, List, [], IfOk, IfSome, position, unsigned_abs, filter, get_or, length, map, option_and_then, slice_get};
+ghost use Rattle.std.specs.Prelude.{◌≡◌, ◌≤◌, ◌<◌, ◌≤ℤ◌, ◌+◌, ◌==◌, ◌∷◌, ◌++◌, ℤ, pos, List, [], IfOk, IfSome, position, unsigned_abs, length, map};
 ghost use Rattle.std.specs.List.{All, range_with_len};
 ghost use Rattle.mari_bids.specs.Bids.{bid_numbered};
 ghost use Rattle.mari_market.specs.Market.{IsValid};
 ghost use Rattle.mari_market.specs.Optimal.{IsFeasible};
-ghost use Rattle.mari_links.specs.Links.{has_gate};
 ghost use Rattle.mari_remain.specs.Accepted.{IsAccepted};
-ghost use Rattle.mari_remain.specs.Available.{Taken};
 ghost use Rattle.mari_remain.specs.Blocks.{PastBlock};
-ghost use Rattle.mari_remain.specs.FirstBlocks.{Tally, StandsFor, block_of, taken_in};
+ghost use Rattle.mari_remain.specs.FirstBlocks.{StandsFor, block_of, taken_in};
 ghost use Rattle.mari_remain.specs.Lists.{bids_of_quarter, demand_at, numbers_of_run, run_numbered};
-ghost use Rattle.mari_remain.specs.RunMarket.{at_least_0 as at_least_0_of, bid_order as bid_order_of, border_left as border_in, borders_left, demand_order as demand_order_of, demands_of_run as demands_in, ends_at, gate_at, gate_of as gate_in, gated_left, gates_of as gates_in, inelastic_price as inelastic_price_of, numbers_left, orders_of as orders_in, run_limits, run_market_left, run_market_of};
+ghost use Rattle.mari_remain.specs.RunMarket.{at_least_0 as at_least_0_of, bid_order as bid_order_of, border_left as border_in, borders_left, demand_order as demand_order_of, demands_of_run as demands_in, ends_at, gate_at, gate_of as gate_in, gates_of as gates_in, inelastic_price as inelastic_price_of, orders_of as orders_in, run_limits, run_market_left, run_market_of};
 
 use crate::adding::{add_mw, carry, mark_if};
 use crate::books::Books;

@@ -1,6 +1,6 @@
 //! What earlier blocks of a day left.
 
-ghost use Rattle.std.specs.Prelude.{◌≡◌, ◌≤◌, ◌<◌, ◌+◌, ◌++◌, ◌∷◌, [], IfOk, get_or, length, map, unsigned_abs};
+ghost use Rattle.std.specs.Prelude.{◌≡◌, ◌≤◌, ◌<◌, ◌+◌, [], IfOk, get_or, length, map, unsigned_abs};
 ghost use Rattle.std.specs.List.{All, range_with_len};
 ghost use Rattle.mari_remain.specs.Accepted.{IsAccepted};
 ghost use Rattle.mari_remain.specs.FirstBlocks.{StandsFor, activated_in, direct_in, is_kept_of, kept_flow};

@@ -18,12 +18,14 @@ use Rattle.mari_links.specs.declared.links.LinkBook.{LinkBook}
 use Rattle.mari_demands.specs.Demands.{demand_grammar}
 use Rattle.mari_demands.specs.Runs.{run_grammar}
 use Rattle.mari_remain.specs.declared.books.Books.{Books}
+use Rattle.mari_calendar.specs.Columns.{day_columns}
 use Rattle.mari_day.specs.CalendarPage.{calendar_day_in}
 use Rattle.mari_day.specs.declared.calendar_page.CalendarDay.{CalendarDay}
 use Rattle.mari_day.specs.declared.files.File.TheVariants.{Day, Zones, Borders, Bids, Links, Runs, Demands}
 use Rattle.mari_day.specs.Files.{files_in, page_in}
 use Rattle.mari_day.specs.Reading.{HasBooks, books_at}
-use Rattle.mari_scenario.specs.Accepted.{AreAccepted, HasPage, date_text, rule_text}
+use Rattle.mari_scenario.specs.Accepted.{AreAccepted, HasPage}
+use Rattle.mari_scenario.specs.Pages.{date_text, rule_text}
 use Rattle.mari_app.proofs.Folder.{some_same}
 
 -- a page that is there, and what is said of it
@@ -52,8 +54,7 @@ module _ (pages : Pages) (a : AreAccepted pages) where
   abbrev day : CalendarDay
   day = record { date = date_text; quarters = 96 }
 
-  day-is : (page : List ℕ) → rows_in (codes "date,rule") page ≡ Ok (record { line = 2; fields = date_text ∷ rule_text ∷ [] } ∷ []) → calendar_day_in page ≡ Ok day
-  unfolding day_columns
+  day-is : (page : List ℕ) → rows_in day_columns page ≡ Ok (record { line = 2; fields = date_text ∷ rule_text ∷ [] } ∷ []) → calendar_day_in page ≡ Ok day
   day-is page e = rw (e, a.quarters) refl
 
   -- the books by which they are accepted
@@ -77,7 +78,7 @@ module _ (pages : Pages) (a : AreAccepted pages) where
   -- the books that the folder's pages give are these
   pub same-books : (books : Books) → HasBooks pages (codes "s") books → books ≡ whole
   same-books books h =
-      let d = there pages (codes "s/day.csv") (λ page. rows_in (codes "date,rule") page ≡ Ok (record { line = 2; fields = date_text ∷ rule_text ∷ [] } ∷ [])) a.day_read in
+      let d = there pages (codes "s/day.csv") (λ page. rows_in day_columns page ≡ Ok (record { line = 2; fields = date_text ∷ rule_text ∷ [] } ∷ [])) a.day_read in
       let z = there pages (codes "s/zones.csv") (λ page. book_in zone_grammar page ≡ Ok a.zones) a.zones_read in
       let v = there pages (codes "s/borders.csv") (λ page. version_in page ≡ 1) a.version in
       let b = there pages (codes "s/borders.csv") (λ page. borders_in a.zones page ≡ Ok a.borders) a.borders_read in

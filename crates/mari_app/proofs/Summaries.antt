@@ -1,5 +1,5 @@
 -- The summary of a day that was printed and read.
-use Rattle.std.proofs.Common.{◌≡◌, ◌∙◌, ℕ, List, ap, arith, length, subst}
+use Rattle.std.proofs.Common.{◌≡◌, ℕ, List, arith, subst, sym}
 use Rattle.std.specs.Prelude.{IfOk, Result, Ok, Err}
 use lib.Chars.{codes}
 use Rattle.mari_publish.specs.declared.publication.Publication.{Publication}
@@ -9,7 +9,7 @@ use Rattle.mari_remain.specs.declared.books.Books.{Books}
 use Rattle.mari_day.specs.Day.{IsDay, IsPrintedDay}
 use Rattle.mari_day.specs.Reading.{HasBooks}
 use Rattle.mari_day.specs.declared.text.PrintedDay.{PrintedDay}
-use Rattle.mari_scenario.specs.Accepted.{AreAccepted}
+use Rattle.mari_scenario.specs.Accepted.{AreAccepted, HasSize}
 use Rattle.mari_scenario.specs.Pages.{scenario_at}
 use Rattle.mari_words.specs.declared.command.TheConstants.{USUAL_NODES}
 use Rattle.mari_app.proofs.Gates.{generated-published}
@@ -31,10 +31,7 @@ summarised number books day p text accepted gives is read spelled =
     record {
       books = books;
       gives = gives;
-      zones = ap (λ (b : Books). length b.zones.zones) whole-is ∙ accepted.eight_zones;
-      borders = ap (λ (b : Books). length b.borders.borders) whole-is ∙ accepted.ten_borders;
-      bids = ap (λ (b : Books). length b.bids.bids) whole-is ∙ accepted.bids_there;
-      runs = ap (λ (b : Books). length b.runs.runs) whole-is ∙ accepted.runs_there;
+      sized = subst (λ (b : Books). HasSize b.zones b.borders b.bids b.runs) (sym whole-is) accepted.sized;
       publication = p;
       is_day = day-is;
       published = generated-published number USUAL_NODES books p accepted gives (omega arith) day-is;

@@ -37,10 +37,12 @@ are-accepted number =
       links_read = links-accepted bids named told count;
       runs_read = runs-accepted (before_runs number);
       demands_read = rw (count-runs (before_runs number)) (demands-accepted (before_demands number));
-      eight_zones = count-zones;
-      ten_borders = count-borders number;
-      bids_there = count-bids (before_bids number);
-      runs_there = count-runs (before_runs number);
+      sized = record {
+        eight_zones = count-zones;
+        ten_borders = count-borders number;
+        bids_there = count-bids (before_bids number);
+        runs_there = count-runs (before_runs number);
+      };
       few_gates = few-gates bids named told count (divisible (before_bids number));
     }
 

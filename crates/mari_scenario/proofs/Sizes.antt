@@ -11,6 +11,7 @@ use Rattle.mari_zones.specs.Zones.{zone_columns}
 use Rattle.mari_zones.specs.Borders.{border_columns}
 use Rattle.mari_bids.specs.Bids.{bid_columns}
 use Rattle.mari_links.specs.Links.{link_columns}
+use Rattle.mari_calendar.specs.Columns.{day_columns}
 use Rattle.mari_scenario.specs.Accepted.{IsShort}
 use Rattle.mari_scenario.specs.Draws.{Drawn, after, draw, lines}
 use Rattle.mari_demands.specs.Runs.{run_columns, scheduled_word}
@@ -159,6 +160,10 @@ page-short : (header : List ℕ) (line : ℕ → ℕ → Drawn) (n x : ℕ) → 
     → length (header ++ (lines line n x).text) ≤ 268435456
 page-short header line n x head few all = omega (arith, length-append header (lines line n x).text, size-lines line n all n x (omega arith))
 
+day-short : length day_text ≡ 26
+unfolding day_columns
+day-short = refl
+
 zones-short : length zones_text ≡ 62
 unfolding lines digits zone_columns
 zones-short = refl
@@ -182,6 +187,6 @@ pages-short n =
     let demands = codes "run,zone,mw,price\n" in
     seven IsShort (codes "s/day.csv", day_text) (codes "s/zones.csv", zones_text) (codes "s/borders.csv", borders ++ (borders_at n).text) (codes "s/bids.csv", bids ++ (bids_at (before_bids n)).text)
     (codes "s/links.csv", links_text) (codes "s/runs.csv", runs ++ (runs_at (before_runs n)).text) (codes "s/demands.csv", demands ++ (demands_at (before_demands n)).text)
-    (omega arith) (omega (arith, zones-short)) (page-short borders border_line 10 n (omega arith) (omega arith) border-size) (page-short bids bid_line 960 (before_bids n) (omega arith) (omega arith) bid-size)
+    (omega (arith, day-short)) (omega (arith, zones-short)) (page-short borders border_line 10 n (omega arith) (omega arith) border-size) (page-short bids bid_line 960 (before_bids n) (omega arith) (omega arith) bid-size)
     (page-short (codes "kind,first,second\n") link_lines 24 0 (omega arith) (omega arith) link-size) (page-short runs run_line 24 (before_runs n) (omega arith) (omega arith) run-size)
     (page-short demands demand_line 192 (before_demands n) (omega arith) (omega arith) demand-size)

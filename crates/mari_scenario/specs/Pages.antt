@@ -4,7 +4,8 @@ use lib.Chars.{codes}
 use Rattle.std.specs.Fmt.{decimal, signed_decimal}
 use Rattle.mari_units.specs.Numbers.{printed_cents}
 use Rattle.mari_io.specs.Outside.{Pages}
-use Rattle.mari_rows.specs.Printed.{line_of}
+use Rattle.mari_calendar.specs.Columns.{day_columns}
+use Rattle.mari_rows.specs.Printed.{line_of, page_text}
 use Rattle.mari_zones.specs.Zones.{zone_columns}
 use Rattle.mari_zones.specs.Borders.{border_columns}
 use Rattle.mari_bids.specs.Bids.{bid_columns}
@@ -28,6 +29,13 @@ bid t j = codes "q" ++ decimal t ++ codes "b" ++ decimal j
 
 abbrev pub group : ℕ → List ℕ
 group t = codes "g" ++ decimal t
+
+-- the one date of the day, and the rule of its clock
+abbrev pub date_text : List ℕ
+date_text = codes "2025-03-12"
+
+abbrev pub rule_text : List ℕ
+rule_text = codes "UTC0"
 
 -- a line of a file without draws
 abbrev pub still : List ℕ → ℕ → Drawn
@@ -111,7 +119,7 @@ demand_line i x =
 
 -- the pages' texts, from the states before them
 abbrev pub day_text : List ℕ
-day_text = codes "date,rule\n2025-03-12,UTC0\n"
+day_text = page_text day_columns ((date_text ∷ rule_text ∷ []) ∷ [])
 
 abbrev pub zones_text : List ℕ
 zones_text = zone_columns ++ 10 ∷ (lines zone_line 8 0).text

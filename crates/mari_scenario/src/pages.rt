@@ -1,6 +1,6 @@
 //! The pages of a number.
 
-ghost use Rattle.std.specs.Prelude.{◌≡◌, ◌++◌, ◌≤◌, IfOk, OnOk, codes, length};
+ghost use Rattle.std.specs.Prelude.{◌≡◌, ◌++◌, ◌≤◌, IfOk, OnOk, length};
 ghost use Rattle.std.specs.List.{All};
 ghost use Rattle.mari_io.specs.Memory.{pages_of};
 ghost use Rattle.mari_scenario.specs.Accepted.{AreAccepted, IsShort};
@@ -107,7 +107,7 @@ fn put_demands(alloc: Global, out: &mut Vec<u8>, number: u32) -> Result<u32, Mem
 }
 
 /// Draws the lines of the borders, the bids, the runs and the demands in this order.
-#[tactic(auto, unfolding(crate::specs::Pages::scenario_at, mari_zones::specs::Zones::zone_columns, mari_zones::specs::Borders::border_columns, mari_bids::specs::Bids::bid_columns, mari_links::specs::Links::link_columns, mari_demands::specs::Runs::run_columns, mari_demands::specs::Demands::demand_columns))]
+#[tactic(auto, unfolding(crate::specs::Pages::scenario_at, mari_calendar::specs::Columns::day_columns, mari_zones::specs::Zones::zone_columns, mari_zones::specs::Borders::border_columns, mari_bids::specs::Bids::bid_columns, mari_links::specs::Links::link_columns, mari_demands::specs::Runs::run_columns, mari_demands::specs::Demands::demand_columns))]
 fn drawn_pages(alloc: Global, number: u32) -> Result<Vec<Page>, Memory>
     ensures pages { IfOk result (λ pages. pages_of pages.items ≡ scenario_at number) }
 {

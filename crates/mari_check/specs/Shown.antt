@@ -11,8 +11,8 @@ use Rattle.mari_progress.specs.Money.{HasLedger}
 use Rattle.mari_progress.specs.Prices.{HasPrices}
 use Rattle.mari_progress.specs.Told.{activation_of}
 
--- the first activation of the market, whoever printed it; its welfare; the prices, intervals and areas; the ledger,
--- whose nets sum to 0 and in which no rent is negative
+-- the first activation of the market, whoever printed it; its welfare; the prices, which are consistent with it, the
+-- intervals and areas; the ledger, whose nets sum to 0 and in which no rent is negative
 pub record ShowsRun (books : Books) (made : RunMarket) (also : Option (List Cents)) (b : FullBlock) : Type 0 where
   pub first : IsFirst made.market (activation_of b)
   pub welfare : welfare_of made.market (activation_of b) ≡ pos b.welfare

@@ -18,7 +18,8 @@ ghost use Rattle.mari_check.specs.declared.fault.Fault.{Fault as TheFault};
 use mari_remain::Books;
 
 /// A published block that has none of the faults tells the first activation of its run's market, with its welfare, the
-/// prices, the intervals and areas, and the ledger. In it the operators' nets sum to 0, and no rent is negative.
+/// prices, which together are consistent with it, the intervals and areas, and the ledger. In it the operators' nets
+/// sum to 0, and no rent is negative.
 ///
 /// The call does nothing: its contract is the law.
 pub fn free_blocks_show(books: &Books)

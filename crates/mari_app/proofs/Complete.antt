@@ -34,7 +34,7 @@ use Rattle.mari_app.specs.Commands.{IsClearable, IsMigratable, IsReadable, Lacks
 use Rattle.mari_app.specs.Commands.LacksPage.{OfBooks as lacks-book, NoPublication as lacks-publication, LongPublication as lacks-long}
 use Rattle.mari_app.specs.Commands.RefusesFiles.{OfBooks as refuses-books, OfVersion as refuses-version}
 use Rattle.mari_app.specs.Headline.{HasBudget}
-use Rattle.mari_app.specs.Outcome.{AsksForText, CheckTells, IsMigrated, IsOfWords, IsSummarised, Reported, Reports, Says, day_status, fetch_of}
+use Rattle.mari_app.specs.Outcome.{CheckTells, IsMigrated, IsOfWords, Reported, Reports, Says, day_status, fetch_of}
 use Rattle.mari_app.specs.Outcome.Reports.{Printed, CutOff, Starved}
 use Rattle.mari_app.specs.Outcome.Says.{OfUsage, OfRefusal, OfGap, OfClear, OfCheck, OfMigrate, OfGenerate, Fails, Starves}
 use Rattle.mari_app.specs.Printing.{file_line, invalid_line, refused_line}
@@ -401,45 +401,3 @@ module _ (before after : Option (List ℕ)) (result : Status) where
 
     pub migrated-answer : IsMigratable asked pages → OrFault (IsStatus status.Done) result
     migrated-answer h = text-of-answer o (migrated-comes asked pages o says h) reported
-
-  -- words that are no command
-  abbrev IsMade : Outcome → Type 0
-  IsMade NoCommand = ⊥
-  IsMade NoMemory = ⊥
-  IsMade _ = ⊤
-
-  no-text : (t : List ℕ) (asked : Option Asked) → asked ≡ None → AsksForText asked t → ⊥
-  no-text t None e h = h
-  no-text t (Some x) e h = cc
-
-  no-words : (asked : Option Asked) (o : Outcome) → asked ≡ None → IsOfWords asked o → IsMade o → ⊥
-  no-words asked NoCommand e w x = x
-  no-words asked (Day job) e (folder, f) x = cc
-  no-words asked (Text t) e w x = no-text t.items asked e w
-  no-words asked (Invalid run n) e (folder, f) x = cc
-  no-words asked (NoPage k why) e (folder, r) x = reads_none asked folder e r
-  no-words asked (Refused refusal) e (folder, r) x = reads_none asked folder e r
-  no-words asked NoMemory e w x = x
-
-  pub usage-answer : (asked : Option Asked) (o : Outcome) → asked ≡ None → IsOfWords asked o → Reported o before after result → (result ≡ status.Usage) ⊎ ((result ≡ status.WriteFault) ⊎ (result ≡ status.Memory))
-  usage-answer asked NoCommand e w (Printed s p) = inl s
-  usage-answer asked NoCommand e w (CutOff s p) = inr (inl s)
-  usage-answer asked NoCommand e w (Starved s p) = inr (inr s)
-  usage-answer asked (Day job) e w r = absurd (no-words asked (Day job) e w tt)
-  usage-answer asked (Text t) e w r = absurd (no-words asked (Text t) e w tt)
-  usage-answer asked (Invalid run n) e w r = absurd (no-words asked (Invalid run n) e w tt)
-  usage-answer asked (NoPage k why) e w r = absurd (no-words asked (NoPage k why) e w tt)
-  usage-answer asked (Refused refusal) e w r = absurd (no-words asked (Refused refusal) e w tt)
-  usage-answer asked NoMemory e w r = inr (inr r.0)
-
-  -- a generated day
-  pub generated-answer : (o : Outcome) (number : ℕ) → IsSummarised number o → Reported o before after result → (result ≡ status.Done) ⊎ ((result ≡ status.WriteFault) ⊎ (result ≡ status.Memory))
-  generated-answer NoCommand n is r = absurd is
-  generated-answer (Day job) n is r = absurd is
-  generated-answer (Text t) n is (Printed s p) = inl s
-  generated-answer (Text t) n is (CutOff s p) = inr (inl s)
-  generated-answer (Text t) n is (Starved s p) = inr (inr s)
-  generated-answer (Invalid run k) n is r = absurd is
-  generated-answer (NoPage k why) n is r = absurd is
-  generated-answer (Refused refusal) n is r = absurd is
-  generated-answer NoMemory n is r = inr (inr r.0)

@@ -4,7 +4,6 @@ pub mod Folder
 pub mod Gates
 pub mod GeneratedBooks
 pub mod Limits
-pub mod Marks
 pub mod Naming
 pub mod Reporting
 pub mod ShortWords

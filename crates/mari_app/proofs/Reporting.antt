@@ -5,6 +5,3 @@ use Rattle.mari_app.specs.Outcome.{Reports}
 
 pub same_text : (text other : List ℕ) (wanted : Status) (before after : Option (List ℕ)) (result : Status) → text ≡ other → Reports text wanted before after result → Reports other wanted before after result
 same_text text other wanted before after result e r = let P : List ℕ → Type 0 = λ t. Reports t wanted before after result in subst P e r
-
-pub same_status : (text : List ℕ) (wanted other : Status) (before after : Option (List ℕ)) (result : Status) → wanted ≡ other → Reports text wanted before after result → Reports text other before after result
-same_status text wanted other before after result e r = let P : Status → Type 0 = λ s. Reports text s before after result in subst P e r

@@ -2,7 +2,6 @@
 use Rattle.std.proofs.Common.{◌≡◌, ◌⊎◌, ℕ, ◌+◌, ◌<◌, ◌≤◌, ℤ, List, length, take, get_or, arith, refl, sym, set, subst, inl, inr, get_or-set_same, get_or-set_other, [], ◌∷◌}
 use Rattle.std.specs.List.{All}
 use Rattle.std.proofs.lemmas.Int.{ints}
-use Rattle.std.proofs.lemmas.List.{take_all}
 use Rattle.std.proofs.lemmas.Bool.{cases_eq}
 use Rattle.std.proofs.lemmas.List.Elements.{All-from_get_or, All-head, All-tail, All-weaker}
 use Rattle.mari_market.specs.declared.market.Order.{Order}
@@ -13,26 +12,12 @@ use Rattle.mari_market.specs.Sums.{AnyZip}
 use Rattle.mari_market.proofs.Sums.{AnyZip_cases, AnyZip_kept, AnyZip_new}
 use Rattle.mari_check.specs.declared.ends.End.{End}
 use Rattle.mari_check.specs.declared.ends.End.TheVariants.{Greatest, Least}
-use Rattle.mari_check.specs.Ends.{IsBoundBy, IsHeight, IsRaised, IsTightest, IsTightestOf, SetsAt, SetsAtEnd}
-use Rattle.mari_market.specs.Consistent.{own_standing}
+use Rattle.mari_check.specs.Ends.{IsBoundBy, IsHeight, IsRaised, IsTightest, IsTightestOf, SetsAt}
 use Rattle.mari_check.specs.Spread.{AreSmall, most_value}
-
--- a price has one height
-pub one_height : (end : End) (c : ℤ) (n k : ℕ) → IsHeight end c n → IsHeight end c k → n ≡ k
-one_height Least c n k h l = omega (arith, ints, h, l)
-one_height Greatest c n k h l = omega (arith, ints, h, l)
 
 pub height_most : (end : End) (c : ℤ) (n : ℕ) → IsPrice c → IsHeight end c n → n ≤ most_value
 height_most Least c n p h = omega (arith, ints, p.low, p.high, h)
 height_most Greatest c n p h = omega (arith, ints, p.low, p.high, h)
-
--- no order yet
-pub tightest_none : (end : End) (os : List Order) (qs : List ℕ) (z n : ℕ) → n ≡ 0 → IsTightestOf end (take 0 os) (take 0 qs) z n
-tightest_none end os qs z n e = record { bound = inl e; tightest = λ k b. none k b }
-  where
-    none : (k : ℕ) → IsBoundBy end (take 0 os) (take 0 qs) z k → k ≤ n
-    none k (inl h) = omega (arith, h)
-    none k (inr a) = absurd a
 
 -- one more order
 pub tightest_more : (end : End) (os : List Order) (qs : List ℕ) (i z : ℕ) (d : Order) (old new : ℕ) → i < length os → i < length qs → IsTightestOf end (take i os) (take i qs) z old → IsRaised end (get_or os i d) (get_or qs i 0) z old new → IsTightestOf end (take (i + 1) os) (take (i + 1) qs) z new
@@ -54,9 +39,6 @@ tightest_more end os qs i z d old new h l t r = record { bound = bound r.from; t
     tightest k (inl e) = omega (arith, t.tightest k (inl e), r.kept)
     tightest k (inr a) = by k (AnyZip_cases (SetsAt end z k) os qs i d 0 h l a)
 
-pub tightest_all : (end : End) (os : List Order) (qs : List ℕ) (i z n : ℕ) → length os ≤ i → length qs ≤ i → IsTightestOf end (take i os) (take i qs) z n → IsTightestOf end os qs z n
-tightest_all end os qs i z n h l t = subst (λ (ys : List ℕ). IsTightestOf end os ys z n) (take_all i qs l) (subst (λ (xs : List Order). IsTightestOf end xs (take i qs) z n) (take_all i os h) t)
-
 -- an order raises its own zone's bound, and sets nothing in other zones
 pub raised_at : (end : End) (o : Order) (q : ℕ) (values : List ℕ) (new : ℕ) → o.zone < length values → IsRaised end o q o.zone (get_or values o.zone 0) new → (z : ℕ) → IsRaised end o q z (get_or values z 0) (get_or (set values o.zone new) z 0)
 raised_at end o q values new h r z = elim (cases_eq z o.zone) [
@@ -65,17 +47,6 @@ raised_at end o q values new h r z = elim (cases_eq z o.zone) [
       subst (λ (x : ℕ). IsRaised end o q x (get_or values x 0) (get_or (set values o.zone new) x 0)) (sym same) (subst (λ (v : ℕ). IsRaised end o q o.zone (get_or values o.zone 0) v) (sym at) r)
   | inr other ↦ subst (λ (v : ℕ). IsRaised end o q z (get_or values z 0) v) (sym (get_or-set_other values o.zone z new 0 other)) (record { kept = omega arith; met = λ n s. absurd (other (sym s.zone)); from = inl refl })
 ]
-
--- to the greater of the old bound and its own
-pub raise_to : (end : End) (o : Order) (q old own new : ℕ) → IsHeight end o.price.0 own → SetsAtEnd end (own_standing o.gate q) o.side o.greatest q → old ≤ new → own ≤ new → (new ≡ old) ⊎ (new ≡ own) → IsRaised end o q o.zone old new
-raise_to end o q old own new e sets k l from = record {
-  kept = k;
-  met = λ n s. omega (arith, one_height end o.price.0 n own s.height e, l);
-  from = elim from [
-    | inl same ↦ inl same
-    | inr mine ↦ inr (subst (λ (n : ℕ). SetsAt end o.zone n o q) (sym mine) (record { zone = refl; height = e; sets = sets }))
-  ];
-}
 
 set_small : (end : End) (z n : ℕ) (os : List Order) (qs : List ℕ) → All (λ (o : Order). IsPrice o.price.0) os → AnyZip (SetsAt end z n) os qs → n ≤ most_value
 set_small end z n [] qs p a = absurd a

@@ -1,9 +1,8 @@
 -- Verdicts on a publication, by what was found.
-use Rattle.std.proofs.Common.{◌≡◌, ◌∙◌, ◌≤◌, ◌<◌, ◌+◌, ◌*◌, ◌^◌, ℕ, zero, suc, Bool, true, false, List, [], ◌∷◌, ◌++◌, Option, Some, None, get_or, length, map, take, refl, sym, ap, subst, arith, inl, inr}
+use Rattle.std.proofs.Common.{◌≡◌, ◌∙◌, ◌≤◌, ◌<◌, ◌+◌, ℕ, Bool, true, false, List, Option, Some, None, get_or, length, map, take, refl, sym, ap, subst, arith, inl, inr}
 use Rattle.std.specs.Prelude.{◌↔◌, slice_get}
-use Rattle.std.specs.List.{All, range_with_len}
+use Rattle.std.specs.List.{range_with_len}
 use Rattle.std.proofs.lemmas.List.{length-take-le}
-use Rattle.std.proofs.lemmas.List.Elements.{All-weaker}
 use Rattle.std.proofs.lemmas.Option.{slice_get-get_or}
 use Rattle.mari_lines.specs.declared.line.AmountLine.{AmountLine}
 use Rattle.mari_publish.specs.declared.publication.Block.{Block}
@@ -13,9 +12,7 @@ use Rattle.mari_lines.specs.declared.line.MoneyLine.{MoneyLine}
 use Rattle.mari_publish.specs.declared.publication.Publication.{Publication}
 use Rattle.mari_remain.specs.Accepted.{IsAccepted}
 use Rattle.mari_remain.specs.declared.books.Books.{Books}
-use Rattle.mari_settle.specs.Conditions.{LineIsWithin, most_of_operator}
 use Rattle.mari_settle.specs.declared.ledger.Ledger.{Ledger}
-use Rattle.mari_settle.specs.declared.ledger.OperatorLine.{OperatorLine}
 use Rattle.mari_check.specs.declared.day.DayCheck.{DayCheck}
 use Rattle.mari_check.specs.declared.fault.Fault.{Fault}
 use Rattle.mari_check.specs.declared.fault.Fault.TheVariants as fault
@@ -24,13 +21,12 @@ use Rattle.mari_progress.specs.Progress.{AreTotals}
 use Rattle.mari_check.specs.declared.verdict.Verdict.{Verdict}
 use Rattle.mari_check.specs.declared.verdict.Verdict.TheVariants.{Invalid, Valid}
 use Rattle.mari_check.specs.Checked.{FindsHead, IsChecked}
-use Rattle.mari_check.specs.Day.{AreFree, FillsBudget, IsFirstFault, IsFreeIn, IsHeadFault, IsNextHeading, IsValidPublication}
-use Rattle.mari_check.specs.Faults.{FindsNumber, IsLeast, NoneBelow}
+use Rattle.mari_check.specs.Day.{AreFree, IsFirstFault, IsFreeIn, IsHeadFault, IsNextHeading, IsValidPublication}
+use Rattle.mari_check.specs.Faults.{FindsNumber, IsLeast}
 use Rattle.mari_check.specs.Verdicts.{BlockTells, HeadTells, IsVerdict}
 use Rattle.mari_progress.specs.Money.{amount_line, money_lines_of}
 use Rattle.mari_progress.specs.Told.{heading_of}
 use Rattle.mari_progress.specs.Totals.{HasHead, HasTotals, operator_totals, provider_totals}
-use Rattle.mari_check.proofs.Least.{least-is, none-first}
 use Rattle.mari_publish.proofs.Counts.{both_kinds}
 use Rattle.mari_progress.proofs.Sums.{provider-lines}
 use Rattle.mari_check.proofs.Zips.{refuted}
@@ -62,45 +58,9 @@ module _ (books : Books) (budget : ℕ) (blocks : List Block) (told : Heading) (
   abbrev free : Fault → Type 0
   free any = IsFreeIn books budget blocks (block.Unpublished told count) any
 
-  pub other-heading : (IsNextHeading books blocks told → ⊥) → IsLeast free fault.Heading
-  other-heading h = least-is free fault.Heading (none-first free) h
-
-  pub other-tree : IsNextHeading books blocks told → (FillsBudget budget count → ⊥) → IsLeast free fault.Tree
-  other-tree next h = least-is free fault.Tree below h
-    where
-      below : NoneBelow free 9
-      below fault.Heading l = next
-      below fault.Lines l = tt
-      below fault.Infeasible l = tt
-      below fault.Welfare l = tt
-      below fault.Inconsistent l = tt
-      below fault.Interval l = tt
-      below fault.Price l = tt
-      below fault.Area l = tt
-      below fault.Tree l = absurd (omega (arith, l))
-      below fault.Leaf l = tt
-      below fault.Ledger l = tt
-      below fault.Totals l = tt
-
-  pub no-other : IsNextHeading books blocks told → FillsBudget budget count → (any : Fault) → free any
-  no-other next fills fault.Heading = next
-  no-other next fills fault.Lines = tt
-  no-other next fills fault.Infeasible = tt
-  no-other next fills fault.Welfare = tt
-  no-other next fills fault.Inconsistent = tt
-  no-other next fills fault.Interval = tt
-  no-other next fills fault.Price = tt
-  no-other next fills fault.Area = tt
-  no-other next fills fault.Tree = fills
-  no-other next fills fault.Leaf = tt
-  no-other next fills fault.Ledger = tt
-  no-other next fills fault.Totals = tt
-
 -- ---- the totals
 
 module _ (books : Books) (blocks : List Block) (ledger : Ledger) (sums : AreTotals books blocks ledger) where
-  pub small-lines : length blocks ≤ 1000 → All (LineIsWithin (10 ^ 30)) ledger.operators
-  small-lines few = All-weaker (LineIsWithin (length blocks * most_of_operator)) (LineIsWithin (10 ^ 30)) (λ (x : OperatorLine) s. record { payment = omega (arith, few, s.payment); rent = omega (arith, few, s.rent) }) ledger.operators sums.operators_within
 
   module _ (p : Publication) (same : p.blocks ≡ blocks) (operators : List MoneyLine) (providers : List AmountLine) (first : p.operators ≡ operators) (second : p.providers ≡ providers)
       (lines : Bool) (test : (lines ≡ true) ↔ (operators ≡ money_lines_of books.zones.operators ledger.operators)) where
@@ -116,21 +76,10 @@ module _ (books : Books) (blocks : List Block) (ledger : Ledger) (sums : AreTota
 
 -- ---- the whole
 
-pub take-more : {X : Type 0} (xs : List X) (i : ℕ) (x : X) → i < length xs → x ≡ get_or xs i x → take i xs ++ x ∷ [] ≡ take (i + 1) xs
-take-more [] i x l at = absurd (omega (arith, l))
-take-more (y ∷ ys) zero x l at = ap (λ z. z ∷ []) at
-take-more {X} (y ∷ ys) (suc i) x l at =
-    let k : suc (i + 1) ≡ suc i + 1 = omega arith in
-    subst (λ (n : ℕ). take (suc i) (y ∷ ys) ++ x ∷ [] ≡ take n (y ∷ ys)) k (ap (λ zs. y ∷ zs) (take-more ys i x (omega (arith, l)) at))
-
 -- the first line
 pub head-fault : (books : Books) (p : Publication) (found : Option ℕ) (number : ℕ) → found ≡ Some number → FindsHead (HasHead books p) found → IsHeadFault books p 0 number
 head-fault books p None number e f = cc e
 head-fault books p (Some n) number e f = let same : n ≡ number = cc e in record { differs = f.0; run_is = refl; number_is = sym same ∙ f.1 }
-
-pub head-right : (books : Books) (p : Publication) (found : Option ℕ) → found ≡ None → FindsHead (HasHead books p) found → HasHead books p
-head-right books p None e f = f
-head-right books p (Some n) e f = absurd (cc e)
 
 pub head-told : (books : Books) (p : Publication) (found : Option Verdict) (v : Verdict) → found ≡ Some v → HeadTells books p found → IsVerdict books p v
 head-told books p None v e h = cc e

@@ -36,20 +36,6 @@ own fault.Leaf = refl
 own fault.Ledger = refl
 own fault.Totals = refl
 
-from_one : (f : Fault) → 1 ≤ fault_number f
-from_one fault.Heading = omega arith
-from_one fault.Lines = omega arith
-from_one fault.Infeasible = omega arith
-from_one fault.Welfare = omega arith
-from_one fault.Inconsistent = omega arith
-from_one fault.Interval = omega arith
-from_one fault.Price = omega arith
-from_one fault.Area = omega arith
-from_one fault.Tree = omega arith
-from_one fault.Leaf = omega arith
-from_one fault.Ledger = omega arith
-from_one fault.Totals = omega arith
-
 to_twelve : (f : Fault) → fault_number f ≤ 12
 to_twelve fault.Heading = omega arith
 to_twelve fault.Lines = omega arith
@@ -65,8 +51,6 @@ to_twelve fault.Ledger = omega arith
 to_twelve fault.Totals = omega arith
 
 module _ (free_of : Fault → Type 0) where
-  pub none-first : NoneBelow free_of 1
-  none-first f l = absurd (omega (arith, l, from_one f))
 
   -- one fault more that isn't there
   pub none-more : (f : Fault) (n : ℕ) → n ≡ fault_number f → NoneBelow free_of n → free_of f → NoneBelow free_of (n + 1)

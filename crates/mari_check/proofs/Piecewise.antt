@@ -11,14 +11,12 @@ use Rattle.mari_io.specs.declared.shelf.Fetch.TheVariants as fetch
 use Rattle.mari_io.specs.declared.shelf.TheConstants.{MOST_GIVEN, MOST_PIECE}
 use Rattle.mari_publish.specs.Faults.{IsOutcome, IsText, IsTextFault}
 use Rattle.mari_publish.specs.Pieces.{ComeState, HasPart, IsEnd, IsNext, NoFault, ComesFrom, found_none, with_part}
-use Rattle.mari_lines.specs.Spelling.{spelling}
-use Rattle.mari_publish.specs.Texts.{text_of_lines}
 use Rattle.mari_publish.specs.declared.fault.TextFault.{TextFault}
 use Rattle.mari_publish.specs.declared.fault.TextFault.TheVariants as fault
 use Rattle.mari_publish.specs.declared.publication.Part.{Part}
 use Rattle.mari_publish.specs.declared.publication.Publication.{Publication}
 use Rattle.mari_publish.proofs.MoreText.{line_stays, order_stays}
-use Rattle.mari_publish.proofs.Outcomes.{line_answer, order_answer, order_text, text_answer, truncated_answer}
+use Rattle.mari_publish.proofs.Outcomes.{line_answer, order_answer, text_answer, truncated_answer}
 use Rattle.mari_remain.specs.declared.books.Books.{Books}
 use Rattle.mari_check.specs.declared.day.DayCheck.{DayCheck}
 use Rattle.mari_check.specs.declared.stream.Stream.{Stream}
@@ -30,20 +28,6 @@ use Rattle.mari_check.specs.Streams.IsToldFault.{OfPage as of-page, OfGiven as o
 use Rattle.mari_check.specs.Verdicts.{IsVerdict}
 
 -- ---- faults
-
--- no line of nothing has a fault
-none-so : (before here after : List ℕ) → [] ≡ before ++ (here ++ 10 ∷ after) → ⊥
-none-so before here after e =
-    let outer = length-append before (here ++ 10 ∷ after) in
-    let inner = length-append here (10 ∷ after) in
-    let none = ap length e in
-    absurd (omega (arith, outer, inner, none))
-
-pub nothing-faulty : NoFault []
-nothing-faulty n = (
-  λ b. none-so (text_of_lines b.before) b.here b.after b.parts,
-  λ b. none-so (text_of_lines b.before) (spelling b.here) b.after (b.parts ∙ ap (λ (xs : List ℕ). text_of_lines b.before ++ xs) (order_text b.here b.after)),
-)
 
 -- the fault of a line stays, whatever comes behind it, and is the first of its text
 fault-stays : (text more : List ℕ) (f : TextFault) → IsLineFault text f → IsLineFault (text ++ more) f
@@ -152,19 +136,6 @@ all-read books text parts stream None e n s w f = record { parts = parts; read =
 
 -- ---- faults of the shelf
 
--- any fault but want of memory is told as it is
-pub other-fetch : (f : Fetch) → (f ≡ fetch.Memory → ⊥) → OfFetch f ≡ fault_of_fetch f
-other-fetch fetch.Failed h = refl
-other-fetch fetch.Missing h = refl
-other-fetch fetch.TooLong h = refl
-other-fetch fetch.Memory h = absurd (h refl)
-
-pub other-text : (f : TextFault) → (f ≡ fault.Memory → ⊥) → OfText f ≡ fault_of_text f
-other-text (fault.BadLine n) h = refl
-other-text (fault.BadOrder n) h = refl
-other-text (fault.Truncated n) h = refl
-other-text fault.Memory h = absurd (h refl)
-
 pub never-wrapped : (T : Type 0) (f : Fetch) → IsWrappedMemory {T = T} (Err (fault_of_fetch f)) → ⊥
 never-wrapped T fetch.Failed h = absurd cc
 never-wrapped T fetch.Missing h = absurd cc
@@ -208,9 +179,6 @@ pub record Under (books : Books) (page rest : Option (List ℕ)) (given : ℕ) (
   pub few : given ≤ MOST_GIVEN
   pub no_fault : NoFault text
   pub told : (whole : List ℕ) → page ≡ Some whole → (left : List ℕ) × (rest ≡ Some left) × (text ++ left ≡ whole)
-
-pub nothing-yet : (books : Books) (page : Option (List ℕ)) (given : ℕ) (stream : Stream) → given ≡ 0 → HasRead books [] [] stream → Under books page page given stream
-nothing-yet books page given stream e read = record { text = []; parts = []; read = read; given_is = e; few = omega (arith, e); no_fault = nothing-faulty; told = λ whole is. (whole, is, refl) }
 
 dropped : (rest now : Option (List ℕ)) (left : List ℕ) (n : ℕ) → rest ≡ Some left → now ≡ option_map (λ l. drop n l) rest → now ≡ Some (drop n left)
 dropped rest now left n e f = f ∙ ap (option_map (λ l. drop n l)) e
@@ -324,11 +292,6 @@ open-fault T (Some page) rest fetch.Failed h = tt
 open-fault T (Some page) rest fetch.Missing h = absurd cc
 open-fault T (Some page) rest fetch.TooLong h = absurd h
 open-fault T (Some page) rest fetch.Memory h = tt
-
--- without memory nothing is said
-pub memory-tells : (page : Option (List ℕ)) → FaultTells page NoMemory
-memory-tells None = tt
-memory-tells (Some page) = tt
 
 -- a page that was opened
 pub opened-page : {T : Type 0} (done : T) (page rest : Option (List ℕ)) → OpenTells page rest (Ok done) → (bytes : List ℕ) × (page ≡ Some bytes) × (rest ≡ Some bytes)

@@ -1,5 +1,5 @@
 -- The parts of a publication, one behind the other, and what they settle.
-use Rattle.std.proofs.Common.{◌≡◌, ◌∙◌, ◌+◌, ◌<◌, ◌≤◌, ◌-◌, ℕ, true, false, List, [], ◌∷◌, ◌++◌, map, length, take, get_or, Option, Some, None, refl, sym, ap, subst, arith, append_assoc, length-append}
+use Rattle.std.proofs.Common.{◌≡◌, ◌∙◌, ◌+◌, ◌<◌, ◌≤◌, ◌-◌, ℕ, true, List, [], ◌∷◌, ◌++◌, map, length, take, get_or, Option, Some, None, refl, sym, ap, subst, arith, append_assoc, length-append}
 use Rattle.std.specs.Prelude.{is_some, Result as Res, Ok, Err, IfOk, ⊤}
 use Rattle.std.proofs.Math.Seq.{take-append_seam}
 use Rattle.std.proofs.lemmas.List.{append-nil, length-map, map_push}
@@ -107,17 +107,6 @@ fewer-left old new text parts x s t =
     omega (arith, before, after, one, few)
 
 -- ---- what is settled stays so
-
-pub still-settled : (books : Books) (parts : List Part) (x : Part) (v : Verdict) → SettlesVerdict books parts v → SettlesVerdict books (parts ++ x ∷ []) v
-still-settled books parts x v s p more e = s p (x ∷ more) (e ∙ append_assoc parts (x ∷ []) more)
-
-pub found-stays : (books : Books) (parts : List Part) (x : Part) (day : DayCheck) (found : Option Verdict) → is_some found ≡ true → IsFound books parts day found → IsFound books (parts ++ x ∷ []) day found
-found-stays books parts x day None t f = absurd cc
-found-stays books parts x day (Some v) t f = still-settled books parts x v f
-
-pub found-open : (books : Books) (parts : List Part) (day : DayCheck) (found : Option Verdict) → is_some found ≡ false → IsFound books parts day found → IsOpen books parts day
-found-open books parts day None t f = f
-found-open books parts day (Some v) t f = absurd cc
 
 -- ---- what a part settles
 

@@ -229,7 +229,3 @@ settles_by_branch g k x cutoff l = ap (λ (b : Bool). if b then Branch k x cutof
 
 pub settles_by_mark : (g : Grown) (k x cutoff : ℕ) → g.budget < length g.nodes + length (children_at g x) → settling_by g k x cutoff None ≡ Full k x cutoff
 settles_by_mark g k x cutoff l = ap (λ (b : Bool). if b then Branch k x cutoff else Full k x cutoff) (test_gt (length g.nodes + length (children_at g x)) g.budget l)
-
-pub child_count : (w : List Bool) (may : Bool) → length (child_words w may) ≡ (if may then 2 else 1)
-child_count w true = refl
-child_count w false = refl

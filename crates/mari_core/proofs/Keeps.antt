@@ -110,9 +110,3 @@ crowded_stays s g x n full e is c = by_place (cases_eq c.number x)
       promising = c.promising;
       more = more;
     }
-
-pub untaken_leaf : (s : NodeState) → s ≡ Untaken → is_branched s ≡ false
-untaken_leaf s e = ap is_branched e
-
-pub taken_leaf : (s : NodeState) (k : ℕ) → s ≡ Taken k → is_branched s ≡ false
-taken_leaf s k e = ap is_branched e

@@ -16,7 +16,7 @@ use Rattle.mari_market.specs.Market.{IsValid}
 use Rattle.mari_market.specs.Relaxation.{IsClosedWelfare}
 use Rattle.mari_core.specs.declared.search.Actor.{Actor}
 use Rattle.mari_core.specs.declared.event.StepFault.{StepFault}
-use Rattle.mari_core.specs.declared.event.StepFault.TheVariants.{NoActor, Memory}
+use Rattle.mari_core.specs.declared.event.StepFault.TheVariants.{Memory}
 use Rattle.mari_core.specs.declared.node.NodeState.{NodeState}
 use Rattle.mari_core.specs.declared.node.NodeState.TheVariants.{Untaken, Taken, Branched, Closed}
 use Rattle.mari_core.specs.Nodes.{TreeNode, new_node, in_state, changed, branch_of}
@@ -182,15 +182,9 @@ entry_step_kept s e tree (Err f) h grows c change same =
 
 -- ---- answers
 
-pub answer_by_actor : {X : Type 0} (o : Option Actor) (a : Actor) (refused : Option StepFault) (r : Result X StepFault) → o ≡ Some a → IsAnswer refused r → IsAnswer (by_actor o refused) r
-answer_by_actor o a refused r e h = subst (λ (p : Option Actor). IsAnswer (by_actor p refused) r) (sym e) h
-
 pub answer_by_refusal : {X : Type 0} (refused : Option StepFault) (r : Result X StepFault) → IsRefusal refused r → IsAnswer refused r
 answer_by_refusal refused (Ok x) h = h
 answer_by_refusal refused (Err f) h = subst (λ (o : Option StepFault). MatchOption o (f ≡ Memory) (λ g. f ≡ g)) (sym h) refl
-
-pub answer_no_actor : (o : Option Actor) (refused : Option StepFault) → o ≡ None → MatchOption (by_actor o refused) (NoActor ≡ Memory) (λ r. NoActor ≡ r)
-answer_no_actor o refused e = subst (λ (p : Option Actor). MatchOption (by_actor p refused) (NoActor ≡ Memory) (λ r. NoActor ≡ r)) (sym e) refl
 
 -- ---- the start
 

@@ -235,6 +235,3 @@ tree_is_of_search g items k t =
       preorder = t.preorder;
       items_are = ap (map shape_of) t.items_are ∙ shapes_done g.nodes t.numbers t.done;
     })
-
-pub tree_within : (g : Grown) (items : List TreeItem) → IsGrowth g → IsTree g.nodes items → length items ≤ g.budget
-tree_within g items k t = omega (arith, ap length t.items_are, length-map t.numbers (λ x. tree_item (state_at g.nodes x)), t.preorder.all, k.within_budget)

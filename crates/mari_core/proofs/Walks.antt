@@ -1,10 +1,10 @@
 -- A walk through the nodes in preorder, with a stack of the numbers that wait.
-use Rattle.std.proofs.Common.{◌≡◌, ℕ, zero, suc, ◌+◌, ◌<◌, ◌≤◌, if◌then◌else◌, nat_lt, List, [], ◌∷◌, ◌++◌, length, map, take, get_or, reverse, Option, Some, arith, sym, ap, subst, ◌∙◌, append_assoc, length-append}
+use Rattle.std.proofs.Common.{◌≡◌, ℕ, zero, suc, ◌+◌, ◌<◌, ◌≤◌, if◌then◌else◌, nat_lt, List, [], ◌∷◌, ◌++◌, length, map, take, get_or, reverse, Option, Some, arith, sym, ap, subst, ◌∙◌, append_assoc}
 use Rattle.std.proofs.lemmas.Bool.Decides.{nat_tests}
-use Rattle.std.proofs.lemmas.List.{append-nil, reverse-append, reverse-reverse, take_all}
+use Rattle.std.proofs.lemmas.List.{reverse-append, reverse-reverse, take_all}
 use Rattle.mari_core.specs.declared.node.NodeState.{NodeState}
 use Rattle.mari_core.specs.Nodes.{TreeNode, state_at, child_numbers, numbers_below, children_of}
-use Rattle.mari_core.specs.Preorder.{IsWalk, IsPreorder, HasPreorder, occurs}
+use Rattle.mari_core.specs.Preorder.{IsWalk, IsPreorder, occurs}
 use Rattle.mari_core.proofs.Insertions.{occurs-append, occurs_here}
 
 -- where a walk is: what it visited, with what is left to visit from the numbers that wait, is a preorder
@@ -12,9 +12,6 @@ pub record AtWalk (nodes : List TreeNode) (waiting order : List ℕ) : Type 0 wh
   pub rest : List ℕ
   pub walk : IsWalk nodes (reverse waiting) rest
   pub whole : IsPreorder nodes (order ++ rest)
-
-pub walk_starts : (nodes : List TreeNode) → HasPreorder nodes → AtWalk nodes (0 ∷ []) []
-walk_starts nodes p = record { rest = p.numbers; walk = p.preorder.walk; whole = p.preorder }
 
 -- a walk at its next number
 pub record AtNumber (nodes : List TreeNode) (front order : List ℕ) (x : ℕ) : Type 0 where
@@ -41,10 +38,6 @@ pub number_within : (nodes : List TreeNode) (before rest : List ℕ) (x : ℕ) �
 number_within nodes before rest x p =
     test_lt x (length nodes) (occurs x (before ++ x ∷ rest)) (omega (arith, occurs-append x before (x ∷ rest), occurs_here x rest)) (p.once x)
 
--- and there are nodes left before it is visited
-pub visits_left : (nodes : List TreeNode) (before rest : List ℕ) (x : ℕ) → IsPreorder nodes (before ++ x ∷ rest) → length before < length nodes
-visits_left nodes before rest x p = omega (arith, p.all, length-append before (x ∷ rest))
-
 -- then its children wait
 pub walk_goes : (nodes : List TreeNode) (front order : List ℕ) (x : ℕ) (s : NodeState) → AtNumber nodes front order x → state_at nodes x ≡ Some s → AtWalk nodes (front ++ reverse (child_numbers s)) (order ++ x ∷ [])
 walk_goes nodes front order x s a e = record {
@@ -53,14 +46,6 @@ walk_goes nodes front order x s a e = record {
       (ap (λ (o : Option NodeState). numbers_below o ++ reverse front) e ∙ ap (λ (w : List ℕ). w ++ reverse front) (sym (reverse-reverse (child_numbers s))) ∙ sym (reverse-append front (reverse (child_numbers s)))) a.walk;
   whole = subst (IsPreorder nodes) (sym (append_assoc order (x ∷ []) a.rest)) a.whole;
 }
-
--- and in the end all nodes were visited
-pub walk_done : (nodes : List TreeNode) (waiting order : List ℕ) → waiting ≡ [] → AtWalk nodes waiting order → IsPreorder nodes order
-walk_done nodes waiting order e a = by_rest a.rest (subst (λ (w : List ℕ). IsWalk nodes (reverse w) a.rest) e a.walk) a.whole
-  where
-    by_rest : (rest : List ℕ) → IsWalk nodes [] rest → IsPreorder nodes (order ++ rest) → IsPreorder nodes order
-    by_rest [] w p = subst (IsPreorder nodes) (append-nil order) p
-    by_rest (y ∷ ys) w p = absurd w
 
 -- ---- the items of a preorder
 

@@ -6,7 +6,7 @@ use Rattle.mari_day.specs.declared.files.File.TheVariants.{Day}
 use Rattle.mari_day.specs.declared.pages.PagesFault.{PagesFault}
 use Rattle.mari_day.specs.declared.pages.PagesFault.TheVariants.{Fetch as OfFetch, Memory as NoMemory}
 use Rattle.mari_day.specs.Fetching.{FetchedOne, FetchedUpTo, IsFaultOfFile, SomeFetched}
-use Rattle.mari_day.specs.Files.{files, place_of, page_in, gap_of, first_gap, ArePages, Gap}
+use Rattle.mari_day.specs.Files.{files, place_of, page_in, gap_of, first_gap, ArePages}
 
 -- the file at a place has that place
 place_is : (n : ℕ) → n < 7 → place_of (slice_index_or files n Day) ≡ n
@@ -31,10 +31,6 @@ at_fault n before mid now (OfFetch file why) e l one is =
     let placed : place_of file ≡ n = ap place_of is ∙ place_is n l in
     one_more n before mid now e one ∙ ap (λ (k : ℕ). counted_by (k + 1) before) (sym placed)
 
--- all were fetched
-pub all_fetched : (n before now : ℕ) → now ≡ counted_by n before → n ≡ 7 → now ≡ counted_by 7 before
-all_fetched n before now e is = e ∙ ap (λ (k : ℕ). counted_by k before) is
-
 pub some_fetched : (n before now : ℕ) → now ≡ counted_by n before → n ≤ 7 → SomeFetched 7 before now
 some_fetched n before now e l = record { count = n; within = l; fetched = e }
 
@@ -45,13 +41,6 @@ module _ (pages : Pages) (folder : List ℕ) where
   gap_behind [] i d l e = absurd (omega arith)
   gap_behind (f ∷ fs) zero d l e = rw e refl
   gap_behind (f ∷ fs) (suc i) d l e = gap_behind fs i d (omega arith) e
-
-  -- a page with a gap is the first with one
-  pub gap_here : (fs : List File) (i : ℕ) (d : File) (gap : Gap) → i < length fs → gap_of (page_in pages folder (slice_index_or fs i d)) ≡ Some gap
-      → first_gap pages folder (drop i fs) ≡ Some (record { file = slice_index_or fs i d; gap = gap })
-  gap_here [] i d gap l e = absurd (omega arith)
-  gap_here (f ∷ fs) zero d gap l e = rw e refl
-  gap_here (f ∷ fs) (suc i) d gap l e = gap_here fs i d gap (omega arith) e
 
   -- one page more is held
   pub held_more : (fs : List File) (texts : List (List ℕ)) (text : List ℕ) (i : ℕ) (d : File) → i < length fs → map (page_in pages folder) (take i fs) ≡ map Some texts

@@ -7,8 +7,6 @@ use Rattle.mari_demands.specs.LimitPairs.{limits_in, limits_there, no_limits, ta
 use Rattle.mari_demands.specs.declared.limits.Limits.{Limits}
 
 module _ (runs borders : ℕ) (flat : List (Option Limits)) where
-  row_of : ℕ → List Limits
-  row_of run = map (λ border. limits_there flat (run * borders + border)) (range_with_len 0 borders)
 
   -- there is a line for each run
   pub table-length : length (table_of runs borders flat) ≡ runs

@@ -1,16 +1,16 @@
 -- Words read gate by gate, and the groups that they take.
-use Rattle.std.proofs.Common.{◌≡◌, Bool, true, false, ℕ, ◌+◌, ◌<◌, ◌≤◌, List, [], ◌∷◌, ◌++◌, length, take, Option, Some, None, get_or, arith, refl, sym, ap, ◌∙◌, inl, inr, ◌&&◌, not, zero, suc, subst}
+use Rattle.std.proofs.Common.{◌≡◌, Bool, true, false, ℕ, ◌+◌, ◌<◌, ◌≤◌, List, [], ◌∷◌, ◌++◌, length, Option, Some, None, get_or, arith, refl, sym, ap, ◌∙◌, inl, inr, zero, suc, subst}
 use Rattle.std.specs.Prelude.{slice_get, option_and_then, nat_eq, if◌then◌else◌}
 use Rattle.std.specs.Option.{option_eq}
 use Rattle.std.proofs.lemmas.Bool.{cases_lt}
 use Rattle.std.proofs.lemmas.Bool.Decides.{nat_tests}
 use Rattle.std.proofs.lemmas.List.{get_or_past}
-use Rattle.std.proofs.lemmas.List.FromFn.{get_or-map-range_with_len, length-map-range_with_len, take-map-range_with_len, map-range_with_len_more}
+use Rattle.std.proofs.lemmas.List.FromFn.{get_or-map-range_with_len, length-map-range_with_len, map-range_with_len_more}
 use Rattle.std.proofs.lemmas.Option.{slice_get-get_or, slice_get_past}
 use Rattle.mari_market.specs.declared.market.GateInfo.{GateInfo}
 use Rattle.mari_market.specs.declared.prefix.Prefix.{Prefix}
 use Rattle.mari_market.specs.Gates.{group_of, parent_of, ParentsEarlier}
-use Rattle.mari_market.specs.Prefix.{bit_of, word_of, opens_in, group_taken, is_taken, may_open, parent_opens, children, IsFeasibleWord}
+use Rattle.mari_market.specs.Prefix.{bit_of, word_of, opens_in, group_taken, may_open, children, IsFeasibleWord}
 use Rattle.mari_market.proofs.Words.{Found, found}
 use Rattle.mari_market.proofs.Prefixes.{open_child, closed_child, open_child_only, taken_by, opened_get}
 use Rattle.mari_gates.specs.Prefixes.{decisions}
@@ -26,9 +26,6 @@ get-decisions x n g h = slice_get-get_or (decisions x n) g false (omega (arith, 
 
 pub decisions_past : (x : Prefix) (n g : ℕ) → n ≤ g → slice_get (decisions x n) g ≡ None
 decisions_past x n g h = slice_get_past (decisions x n) g (omega (arith, length-decisions x n))
-
-pub take-decisions : (x : Prefix) (n k : ℕ) → k ≤ n → take k (decisions x n) ≡ decisions x k
-take-decisions x n k h = take-map-range_with_len (bit_of x) 0 n k h
 
 pub decisions_more : (x : Prefix) (n : ℕ) → decisions x (n + 1) ≡ decisions x n ++ bit_of x n ∷ []
 decisions_more x n = map-range_with_len_more (bit_of x) 0 n n (omega arith)
@@ -94,12 +91,6 @@ opens_test x n h answer inside past = elim (cases_lt h n) [
   | inr l ↦ past l ∙ sym (get_or_past (decisions x n) h false (omega (arith, length-decisions x n)))
 ]
 
--- a gate may be opened as its parent and its group let it
-pub may_open_read : (gates : List GateInfo) (word : List Bool) (g : ℕ) (d : GateInfo) (parent_open taken : Bool) → g < length gates → parent_open ≡ parent_opens word (get_or gates g d).parent → taken ≡ is_taken (get_or gates g d).group gates word → (parent_open && not taken) ≡ may_open gates word g
-may_open_read gates word g d parent_open taken h p t =
-    ap (λ b. b && not taken) (p ∙ ap (parent_opens word) (sym (parent_at gates g d h)))
-    ∙ ap (λ b. parent_opens word (parent_of gates g) && not b) (t ∙ ap (λ (o : Option ℕ). is_taken o gates word) (sym (group_at gates g d h)))
-
 -- ---- feasible words
 
 is_opened : (x : Prefix) (n g : ℕ) → g < n → bit_of x g ≡ true → opens_in (decisions x n) g ≡ true
@@ -120,12 +111,6 @@ feasible_start gates x n k early le f = record {
         let two = opened_within x k h q in
         f.rules.groups g h j (is_opened x n g (omega arith) one.1) (is_opened x n h (omega arith) two.1) in_g in_h;
   };
-}
-
-pub feasible_empty : (gates : List GateInfo) (x : Prefix) → IsFeasibleWord gates (decisions x 0)
-feasible_empty gates x = record {
-  decided = omega arith;
-  rules = record { parents = λ g h o p. absurd (omega (arith, (opened_within x 0 g o).0)); groups = λ g h j o q in_g in_h. absurd (omega (arith, (opened_within x 0 g o).0)) };
 }
 
 pub may_open_at : (gates : List GateInfo) (x : Prefix) (i : ℕ) → may_open gates (decisions x i) i ≡ may_open gates (decisions x i) (length (decisions x i))

@@ -1,17 +1,17 @@
 -- States of gates, computed gate by gate.
 use Rattle.std.proofs.Common.{◌≡◌, Bool, true, false, ℕ, ◌+◌, ◌<◌, ◌≤◌, List, [], ◌∷◌, length, map, take, set, Option, Some, None, get_or, arith, refl, sym, ap, ◌∙◌, get_or-set_same, get_or-set_other, below_more, ◌≢◌, subst, take_all}
-use Rattle.std.specs.Prelude.{IfSome, if◌then◌else◌, MatchOption}
+use Rattle.std.specs.Prelude.{IfSome, if◌then◌else◌}
 use Rattle.std.specs.List.{All, AllZip}
 use Rattle.std.proofs.lemmas.List.Elements.{All-head, All-tail}
 use Rattle.mari_market.specs.declared.market.Order.{Order}
 use Rattle.mari_market.specs.declared.market.Market.{Market}
-use Rattle.mari_market.specs.Market.{IsValid, IsValidOrder, GateFits}
+use Rattle.mari_market.specs.Market.{IsValid, IsValidOrder}
 use Rattle.mari_market.specs.declared.market.GateInfo.{GateInfo}
 use Rattle.mari_market.specs.declared.prefix.Prefix.{Prefix}
 use Rattle.mari_market.specs.Bounds.{GateState, span_of, span_in, gated_span}
 use Rattle.mari_market.specs.Bounds.GateState.{Open, Closed, Free}
 use Rattle.mari_market.specs.Gates.{group_of, parent_of, ParentsEarlier}
-use Rattle.mari_market.specs.Prefix.{bit_of, word_of, is_taken, below_parent, undecided, decided, state_of, bounds_of_word, bounds_at}
+use Rattle.mari_market.specs.Prefix.{bit_of, word_of, is_taken, below_parent, undecided, decided, state_of, bounds_at}
 use Rattle.mari_market.proofs.Prefixes.{state_rule, same_below}
 use Rattle.mari_gates.specs.declared.states.GateState.{GateState as TableState}
 use Rattle.mari_gates.specs.declared.states.GateState.TheVariants.{Free as TableFree}
@@ -62,22 +62,6 @@ pub states_more : (gates : List GateInfo) (word : List Bool) (states : List Tabl
 states_more gates word states i s l before e = below_more _ _
     (λ g h. let apart : g ≢ i = omega arith in ap meaning_of (get_or-set_other states i g s TableFree apart) ∙ before g h)
     (ap meaning_of (get_or-set_same states i s TableFree l) ∙ e)
-
--- an order's bounds by the table are its bounds at the word
-pub span_read : (m : Market) (word : List Bool) (states : List TableState) (o : Order) → AreStatesBelow m.gates word states (length m.gates) → GateFits (length m.gates) o → span_in (state_in states) o ≡ bounds_of_word m word o
-span_read m word states o same fits = by_gate o.gate o.least fits
-  where
-    by_gate : (gate : Option ℕ) (least : ℕ) → MatchOption gate (least ≡ 0) (λ g. (g < length m.gates) × (1 ≤ least)) → span_of (state_in states) gate o ≡ span_of (state_of m.gates word) gate o
-    by_gate None least f = refl
-    by_gate (Some g) least f = ap (λ (s : GateState). gated_span s o) (same g f.0)
-
--- the gate of a valid order is one of the 512
-pub gate_small : (gates : ℕ) (o : Order) → gates ≤ 512 → GateFits gates o → IfSome o.gate (λ g. g < 512)
-gate_small gates o few fits = small o.gate o.least fits
-  where
-    small : (gate : Option ℕ) (least : ℕ) → MatchOption gate (least ≡ 0) (λ g. (g < gates) × (1 ≤ least)) → IfSome gate (λ g. g < 512)
-    small None least f = tt
-    small (Some g) least f = let l : g < gates = f.0 in omega arith
 
 -- the bounds of a valid order are in order, and at most its greatest quantity
 pub span_in_order : (state : ℕ → GateState) (o : Order) → o.least ≤ o.greatest → ((span_in state o).lo ≤ (span_in state o).hi) × ((span_in state o).hi ≤ o.greatest)

@@ -1,7 +1,7 @@
 -- The gate word of an activation, marked order by order.
-use Rattle.std.proofs.Common.{◌≡◌, Bool, true, false, ℕ, ◌<◌, ◌≤◌, List, [], length, map, take, get_or, Option, Some, None, arith, refl, sym, ap, ◌∙◌, subst, not, ◌⊎◌, inl, inr}
+use Rattle.std.proofs.Common.{◌≡◌, Bool, true, false, ℕ, ◌<◌, ◌≤◌, List, [], length, map, take, arith, refl, sym, ap, ◌∙◌, subst, not, ◌⊎◌, inl, inr}
 use mathlib.Core.Bool.{beq}
-use Rattle.std.specs.Prelude.{MatchOption, IfSome, IsTrue, ◌↔◌}
+use Rattle.std.specs.Prelude.{IsTrue, ◌↔◌}
 use Rattle.std.specs.List.{range_with_len}
 use Rattle.std.proofs.lemmas.Bool.{cases_lt}
 use Rattle.std.proofs.lemmas.List.{get_or_past}
@@ -34,14 +34,6 @@ none_set x g e cleared l =
 -- a feasible activation has as many quantities as there are orders
 pub as_many : (m : Market) (a : Activation) (os : List Order) (qs : List ℕ) → IsFeasible m a → os ≡ m.orders → qs ≡ a.mw → length qs ≡ length os
 as_many m a os qs f e h = ap length h ∙ AllZip-long (λ o q. IsWithin (own_bounds m a o) q) m.orders a.mw f.orders ∙ sym (ap length e)
-
--- in a valid market an order's gate is one of 512
-pub few_at : (m : Market) (os : List Order) (i : ℕ) (d : Order) → IsValid m → os ≡ m.orders → i < length os → IfSome (get_or os i d).gate (λ g. g < 512)
-few_at m os i d v e l = of_gate (get_or os i d).gate (subst (λ (xs : List Order). MatchOption (get_or xs i d).gate ((get_or xs i d).least ≡ 0) (λ g. (g < length m.gates) × (1 ≤ (get_or xs i d).least))) (sym e) (v.orders i d (omega (arith, l, ap length e))).gate)
-  where
-    of_gate : (gate : Option ℕ) → MatchOption gate ((get_or os i d).least ≡ 0) (λ g. (g < length m.gates) × (1 ≤ (get_or os i d).least)) → IfSome gate (λ g. g < 512)
-    of_gate None f = tt
-    of_gate (Some g) f = omega (arith, f.0, v.few_gates)
 
 -- ---- the answer
 

@@ -58,9 +58,6 @@ digits_in_ten_thousandths n small =
 pub no_minus : (n : ℕ) (rest : List ℕ) → n < 2 ^ 64 → has_minus (decimal n ++ rest) ≡ false
 no_minus n rest small = (digits_unsigned (decimal n) rest (digits_decimal own n small) (decimal_nonempty n small)).0
 
-abbrev pub Fits63 : ℤ → Type 0
-Fits63 z = unsigned_abs z < 2 ^ 63
-
 -- a whole number
 pub digits_in_signed : (z : ℤ) → unsigned_abs z < 2 ^ 64 → digits_in (signed_decimal z) ≡ unsigned_abs z
 digits_in_signed (pos n) small = digits_in_decimal n small

@@ -1,18 +1,14 @@
 -- What lines say, with one more line.
-use Rattle.std.proofs.Common.{◌≡◌, ◌∙◌, ◌≤◌, length, arith, true, false, List, [], ◌∷◌, ◌++◌, Option, Some, None, refl, sym, ap}
-use Rattle.std.specs.Prelude.{is_some, unwrap_or}
+use Rattle.std.proofs.Common.{◌≡◌, ◌∙◌, ◌≤◌, length, arith, false, List, [], ◌∷◌, ◌++◌, Option, Some, None, refl, ap}
 use Rattle.std.specs.List.{cons_option, filter_map}
 use Rattle.std.specs.Option.{option_and_then}
 use Rattle.std.proofs.lemmas.List.{append-nil}
 use Rattle.std.proofs.lemmas.List.Elements.{filter_map-append}
-use Rattle.std.proofs.lemmas.Bool.{not-false}
 use Rattle.mari_rows.specs.Books.{first_failing}
 use Rattle.mari_rows.specs.declared.rows.Row.{Row}
 use Rattle.mari_rows.proofs.BookFacts.{all-passed}
 use Rattle.mari_bids.specs.declared.bids.BidBook.{BidBook}
-use Rattle.mari_links.specs.Entries.{some_link}
-use Rattle.mari_links.specs.Links.{bid_of, child_of, first_of, is_repeated, kind_of, link_of, member_of, name_checks, place_checks, said_by, second_of, timed_of, Member, Said}
-use Rattle.mari_links.specs.declared.lines.Link.{Link}
+use Rattle.mari_links.specs.Links.{bid_of, child_of, first_of, is_repeated, kind_of, link_of, member_of, place_checks, said_by, second_of, timed_of, Member, Said}
 use Rattle.mari_links.specs.declared.lines.LinkKind.{LinkKind}
 use Rattle.mari_links.specs.declared.lines.LinkKind.TheVariants.{Group, Child}
 use Rattle.mari_links.proofs.EntryLemmas.{with_child, with_member, with_timed}
@@ -58,22 +54,6 @@ module _ (bids : BidBook) (earlier : List Row) (row : Row) where
   said-timed kind is no_member no_child timed =
       let more = push-some (λ r. option_and_then (timed_of bids r) (kind_of r)) earlier row (link_of bids row kind) (ap (option_and_then (timed_of bids row)) is ∙ timed) in
       λ i. record { members = members-more kind is no_member i; children = children-more kind is no_child i; timed = more i }
-
--- a value that is there
-some-kept : (o : Option LinkKind) → is_some o ≡ true → o ≡ Some (unwrap_or o Group)
-some-kept None there = cc there
-some-kept (Some kind) there = refl
-
-module _ (bids : BidBook) (row : Row) (link : Link) (passes : first_failing (name_checks bids row) ≡ None) (same : link ≡ some_link bids row) where
-  -- a link that is read has its line's kind
-  pub read-kind : kind_of row ≡ Some link.kind
-  read-kind =
-      some-kept (kind_of row) (not-false (is_some (kind_of row)) (all-passed (name_checks bids row) passes).0)
-      ∙ ap Some (sym (ap (λ (l : Link). l.kind) same))
-
-  -- and says what its line says
-  pub read-link : link ≡ link_of bids row link.kind
-  read-link = same ∙ ap (link_of bids row) (sym (ap (λ (l : Link). l.kind) same))
 
 -- what is not refused behind lines that say this repeats none of them
 pub not-repeated : (bids : BidBook) (said : Said) (row : Row) (kind : LinkKind) → kind_of row ≡ Some kind

@@ -1,5 +1,5 @@
 -- Products and sums of 64 bits fit 128.
-use Rattle.std.proofs.Common.{◌≡◌, ℕ, ◌*◌, ◌^◌, ◌≤◌, ℤ, pos, negsuc, ◌*ℤ◌, arith, lit<, w64, w32, Fits, to_z, of_z, to_z-of_z, refl, ◌∙◌, suc, neg_ℤ, ◌≤ℤ◌}
+use Rattle.std.proofs.Common.{◌≡◌, ℕ, ◌*◌, ◌^◌, ◌≤◌, ℤ, pos, negsuc, ◌*ℤ◌, arith, lit<, w64, w32, Fits, to_z, of_z, to_z-of_z, ◌∙◌, suc, neg_ℤ, ◌≤ℤ◌}
 use Rattle.std.proofs.Math.Nat.{mul-le-mul}
 use Rattle.std.specs.Int.{w128}
 use Rattle.std.specs.Prelude.{FitsSigned, unsigned_abs}
@@ -27,12 +27,6 @@ mul_small k q m n h l = mul-le-mul h l
 pub scaled : (k : ℤ) (q m n : ℕ) → neg_ℤ (pos m) ≤ℤ k → k ≤ℤ pos m → q ≤ n → (neg_ℤ (pos (m * n)) ≤ℤ (k *ℤ pos q)) × ((k *ℤ pos q) ≤ℤ pos (m * n))
 scaled (pos k) q m n l h b = let e : k ≤ m = omega (arith, ints) in (omega (arith, ints, mul_small k q m n e b), omega (arith, ints, mul_small k q m n e b))
 scaled (negsuc k) q m n l h b = let e : suc k ≤ m = omega (arith, ints) in (omega (arith, ints, mul_small (suc k) q m n e b), omega (arith, ints, mul_small (suc k) q m n e b))
-
--- a product with a cast factor, as the code has it
-pub product_read : (a : ℤ) (q : ℕ) (b r : ℤ) → FitsSigned w64 a → Fits w32 q → b ≡ pos q → r ≡ to_z w64 (of_z w64 a) *ℤ to_z w64 (of_z w64 b) → r ≡ a *ℤ pos q
-product_read a q b r f g e h =
-    let k : FitsSigned w64 b = omega (arith, ints) in
-    h ∙ rw (to_z-of_z f, to_z-of_z k, e) refl
 
 -- a product with a factor of 64 bits
 pub worth_small : (price mw : ℤ) → FitsSigned w64 price → unsigned_abs (price *ℤ mw) ≤ 2 ^ 63 * unsigned_abs mw

@@ -1,5 +1,5 @@
 -- The slots of a valid market's orders make a network.
-use Rattle.std.proofs.Common.{◌≡◌, ℕ, ℤ, ◌≤◌, ◌<◌, pos, neg_ℤ, ◌≤ℤ◌, List, ◌++◌, length, get_or, arith, refl, sym, ap, subst, zero, suc, [], ◌∷◌, take, map}
+use Rattle.std.proofs.Common.{◌≡◌, ℕ, ℤ, ◌≤◌, ◌<◌, pos, neg_ℤ, ◌≤ℤ◌, List, length, get_or, arith, refl, sym, ap, subst, zero, suc, [], ◌∷◌, map}
 use Rattle.std.proofs.lemmas.Int.{ints}
 use Rattle.std.proofs.lemmas.List.{length-map, get_or-map}
 use lib.ListN.{replicate}
@@ -63,24 +63,12 @@ order_slots_fine spans n gates os v f =
 slot_small : (s : Slot) (n : ℕ) → IsOrderSlot n s → IsSmallSlot s
 slot_small s n f = record { low = omega (arith, ints, f.low); high = omega (arith, ints, f.high); cheap = omega (arith, ints, f.price.low); dear = omega (arith, ints, f.price.high) }
 
-pub slots_small : (n : ℕ) (slots : List Slot) → All (IsOrderSlot n) slots → All IsSmallSlot slots
-slots_small n slots a = λ k d l. slot_small (get_or slots k d) n (a k d l)
-
 pub slots_ordered : (n : ℕ) (slots : List Slot) → All (IsOrderSlot n) slots → All (λ (s : Slot). s.low ≤ℤ s.high) slots
 slots_ordered n slots a = λ k d l. (a k d l).in_order
 
 -- the orders' slots in a network
 pub network_slots : (n : ℕ) (slots : List Slot) → All (IsOrderSlot n) slots → All (IsNetworkSlot n) slots
 network_slots n slots a = λ k d l. record { zone = (a k d l).zone; small = slot_small (get_or slots k d) n (a k d l) }
-
-take_append : (os : List Order) (slots rest : List Slot) → length slots ≡ length os → take (length os) (slots ++ rest) ≡ slots
-take_append [] [] rest e = refl
-take_append [] (s ∷ ss) rest e = absurd (omega arith)
-take_append (o ∷ os) [] rest e = absurd (omega arith)
-take_append (o ∷ os) (s ∷ ss) rest e = ap (λ (xs : List Slot). s ∷ xs) (take_append os ss rest (omega arith))
-
-pub sides_first : (n : ℕ) (os : List Order) (slots rest : List Slot) → AreOrderSlots n os slots → AllZip (λ (o : Order) (s : Slot). CanPut o.side s.low × CanPut o.side s.high) os (take (length os) (slots ++ rest))
-sides_first n os slots rest a = subst (λ (ss : List Slot). AllZip (λ (o : Order) (s : Slot). CanPut o.side s.low × CanPut o.side s.high) os ss) (sym (take_append os slots rest a.long)) a.sides
 
 pub zeros_at : (n k : ℕ) → get_or (replicate n (pos 0)) k (pos 0) ≡ pos 0
 zeros_at zero k = refl

@@ -1,4 +1,3 @@
-pub mod Hops
 pub mod Merits
 pub mod Shortages
 pub mod Starts

@@ -1,12 +1,11 @@
 -- Which node a queue gives, and that each waits with its key.
-use Rattle.std.proofs.Common.{◌≡◌, ◌∙◌, Bool, true, false, cond, ℕ, ◌+◌, ◌≤◌, ◌==◌, nat_lt, Less, Equal, Greater, nat_cmp, is_lt, List, [], ◌∷◌, ◌++◌, length, map, get_or, All, IsPermutation, Some, arith, refl, sym, ap, true≢false, ltb-false, eq-eqb}
-use Rattle.std.specs.Prelude.{slice_get}
+use Rattle.std.proofs.Common.{◌≡◌, ◌∙◌, Bool, true, false, cond, ℕ, ◌+◌, ◌≤◌, ◌==◌, nat_lt, Less, Equal, Greater, nat_cmp, is_lt, List, [], ◌∷◌, ◌++◌, map, get_or, All, IsPermutation, arith, refl, sym, true≢false, ltb-false, eq-eqb}
 use Rattle.std.specs.Ordering.{ordering_then}
 use Rattle.std.specs.BinaryHeap.{IsUpperBound}
 use Rattle.std.proofs.lemmas.Option.{get_or_from_slice_get, slice_get_within}
 use Rattle.std.proofs.lemmas.List.Elements.{All-from_recursion, All-cons, All-head, All-tail, All-map, All-weaker}
 use Rattle.std.proofs.lemmas.List.Sorted.{All-permutation}
-use Rattle.mari_units.proofs.Lists.{get_front, get_back}
+use Rattle.mari_units.proofs.Lists.{get_front}
 use Rattle.mari_pool.specs.Queued.{Waiting, number_in, by_key, IsAhead, IsKeyed}
 
 -- ---- the order
@@ -55,6 +54,3 @@ keyed_joined keys xs ys w own keyed joins = All-permutation (IsKeyed keys) (w �
 -- a key more
 pub keyed_more : (keys : List ℕ) (key : ℕ) (xs : List Waiting) → All (IsKeyed keys) xs → All (IsKeyed (keys ++ key ∷ [])) xs
 keyed_more keys key xs keyed = All-weaker (IsKeyed keys) (IsKeyed (keys ++ key ∷ [])) (λ w h. get_front keys (key ∷ []) (number_in w) (slice_get_within keys (number_in w) w.0 h) ∙ h) xs keyed
-
-pub last_key : (keys : List ℕ) (key n : ℕ) → n ≡ length keys → slice_get (keys ++ key ∷ []) n ≡ Some key
-last_key keys key n e = let at : n ≡ length keys + 0 = omega (arith, e) in ap (slice_get (keys ++ key ∷ [])) at ∙ get_back keys (key ∷ []) 0

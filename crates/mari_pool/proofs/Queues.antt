@@ -6,7 +6,7 @@ use Rattle.std.proofs.lemmas.Bool.{cases_eq, cases_lt}
 use Rattle.std.proofs.lemmas.List.{length-map, length-replicate, replicate_more}
 use Rattle.std.proofs.lemmas.List.Elements.{All-head, All-tail}
 use Rattle.std.proofs.lemmas.List.Sums.{sum_by-cons, sum_by-append, sum_by_push}
-use Rattle.std.proofs.lemmas.List.Sorted.{IsPermutation-refl, IsPermutation-trans, IsPermutation-append_left, IsPermutation-to_front, length_permutation, sum_by-IsPermutation}
+use Rattle.std.proofs.lemmas.List.Sorted.{IsPermutation-trans, IsPermutation-append_left, IsPermutation-to_front, length_permutation, sum_by-IsPermutation}
 use Rattle.std.proofs.lemmas.Option.{slice_get-map, slice_get_past}
 use Rattle.mari_core.specs.declared.node.NodeState.{NodeState}
 use Rattle.mari_core.specs.declared.node.NodeState.TheVariants.{Untaken, Taken, Branched, Closed}
@@ -127,11 +127,6 @@ has_word nodes x s e none =
 
 -- ---- one queue more
 
-pub more_none : (key n : ℕ) (q : Queued) → n ≡ 0 → IsMore key n q q
-more_none key n q e = subst (λ (m : ℕ). IsMore key m q q) (sym e) (record {
-  keys = sym (append-nil q.keys);
-  waiting = subst (λ (ws : List ℕ). IsPermutation ws q.waiting) (sym (append-nil q.waiting)) (IsPermutation-refl q.waiting);
-  room = refl;
 })
 
 pub length_more : (key n : ℕ) (q r : Queued) → IsMore key n q r → length r.keys ≡ length q.keys + n

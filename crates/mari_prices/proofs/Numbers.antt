@@ -13,18 +13,6 @@ record Adds (a b : ℕ → ℕ) (n v : ℕ) : Type 0 where
 at_last : (n z : ℕ) → z < n + 1 → (z < n) ⊎ (z ≡ n)
 at_last n z h = elim (cases_lt z n) [ inl l ↦ inl l | inr l ↦ inr (omega arith) ]
 
--- no zone yet
-pub numbering_none : (f a : ℕ → ℕ) → IsNumbering f a 0 0
-numbering_none f a = record {
-  few = omega arith;
-  from_one = λ z h. absurd (omega arith);
-  to_count = λ z h. absurd (omega arith);
-  as_first = λ z h. absurd (omega arith);
-  apart = λ y z h. absurd (omega arith);
-  each = λ k h l. absurd (omega arith);
-  in_order = λ z k h. absurd (omega arith);
-}
-
 -- a first zone gets the next number
 new_area : (f a b : ℕ → ℕ) (n count : ℕ) → IsNumbering f a n count → ((z : ℕ) → z < n → f z ≤ z) → f n ≡ n → Adds a b n (count + 1) → IsNumbering f b (n + 1) (count + 1)
 new_area f a b n count h back first k = record {

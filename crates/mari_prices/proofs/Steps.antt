@@ -1,5 +1,5 @@
 -- One more zone settled.
-use Rattle.std.proofs.Common.{◌≡◌, ◌⊎◌, ◌+◌, ℕ, ◌<◌, ◌≤◌, ℤ, ◌≤ℤ◌, List, [], ◌∷◌, Option, Some, None, length, get_or, set, zero, suc, arith, refl, sym, ap, ◌∙◌, subst, inl, inr, get_or-set_same, get_or-set_other, length-set, replicate}
+use Rattle.std.proofs.Common.{◌≡◌, ◌⊎◌, ◌+◌, ℕ, ◌<◌, ◌≤◌, ℤ, ◌≤ℤ◌, List, [], ◌∷◌, Option, Some, None, length, get_or, set, zero, suc, arith, refl, sym, ap, ◌∙◌, subst, inl, inr, get_or-set_same, get_or-set_other, length-set}
 use Rattle.std.proofs.lemmas.Int.{ints}
 use Rattle.std.proofs.lemmas.Bool.{cases_eq}
 use Rattle.mari_prices.specs.declared.spread.SettledZone.{SettledZone}
@@ -138,22 +138,6 @@ settle_next lead own xs z e h (inr n) = settle lead own xs z e h (start_fits lea
 pub next_free : (lead : ℕ → ℕ → Type 0) (own : ℕ → ℤ) (xs : List (Option SettledZone)) (z : ℕ) (e : SettledZone) → IsNext lead own xs z e → IsFree xs z
 next_free lead own xs z e (inl n) = n.free
 next_free lead own xs z e (inr n) = n.greatest.free
-
-entry_of_free : (n z : ℕ) (s : SettledZone) → entry_at (replicate n None) z ≡ Some s → ⊥
-entry_of_free zero z s k = absurd (cc)
-entry_of_free (suc n) zero s k = absurd (cc)
-entry_of_free (suc n) (suc z) s k = entry_of_free n z s k
-
--- nothing settled yet
-pub spreading_none : (lead : ℕ → ℕ → Type 0) (own : ℕ → ℤ) (n : ℕ) → IsSpreading lead own (replicate n None)
-spreading_none lead own n = record {
-  above = λ z s k. absurd (entry_of_free n z s k);
-  rises = λ y z s t k l r. absurd (entry_of_free n y s k);
-  newest = λ y z u s t k l f r. absurd (entry_of_free n y s k);
-  rest = λ y u s k f. absurd (entry_of_free n y s k);
-  source = λ z s k. absurd (entry_of_free n z s k);
-  short = λ z s k. absurd (entry_of_free n z s k);
-}
 
 -- where no zone is free, all are settled
 pub all_settled : (xs : List (Option SettledZone)) → ((z : ℕ) → IsFree xs z → ⊥) → (z : ℕ) → z < length xs → (s : SettledZone) × (entry_at xs z ≡ Some s)

@@ -1,24 +1,14 @@
 -- Bounds of prices, order by order.
-use Rattle.std.proofs.Common.{◌≡◌, ◌⊎◌, ℕ, ◌+◌, ◌<◌, ◌≤◌, ℤ, pos, neg_ℤ, ◌≤ℤ◌, List, length, take, get_or, arith, refl, sym, set, subst, inl, inr, get_or-set_same, get_or-set_other, ◌∙◌}
+use Rattle.std.proofs.Common.{◌≡◌, ◌⊎◌, ℕ, ◌+◌, ◌<◌, ◌≤◌, ℤ, pos, ◌≤ℤ◌, List, length, take, get_or, arith, refl, sym, set, subst, inl, inr, get_or-set_same, get_or-set_other, ◌∙◌}
 use Rattle.std.proofs.lemmas.Int.{ints, clamps, by_lt_z}
 use Rattle.std.specs.Int.{int_max}
-use Rattle.std.proofs.lemmas.List.{take_all}
 use Rattle.std.proofs.lemmas.Bool.{cases_eq}
 use Rattle.mari_market.specs.declared.market.Order.{Order}
-use Rattle.mari_units.specs.declared.numbers.TheConstants.{CAP}
 use Rattle.mari_market.specs.Sums.{AnyZip, int_at}
 use Rattle.mari_prices.specs.declared.bounds.End.{End}
 use Rattle.mari_prices.specs.Tightest.{SetsAt, SetsAtEnd, IsBoundBy, IsTightest, IsRaised, signed}
 use Rattle.mari_market.specs.Consistent.{own_standing}
 use Rattle.mari_market.proofs.Sums.{AnyZip_cases, AnyZip_kept, AnyZip_new}
-
--- no order yet
-pub tightest_none : (end : End) (os : List Order) (qs : List ℕ) (z : ℕ) (c : ℤ) → c ≡ neg_ℤ CAP → IsTightest end (take 0 os) (take 0 qs) z c
-tightest_none end os qs z c e = record { bound = inl e; tightest = λ d b. none d b }
-  where
-    none : (d : ℤ) → IsBoundBy end (take 0 os) (take 0 qs) z d → d ≤ℤ c
-    none d (inl k) = omega (arith, ints)
-    none d (inr a) = absurd a
 
 -- one more order
 pub tightest_more : (end : End) (os : List Order) (qs : List ℕ) (i z : ℕ) (d : Order) (old new : ℤ) → i < length os → i < length qs → IsTightest end (take i os) (take i qs) z old → IsRaised end (get_or os i d) (get_or qs i 0) z old new → IsTightest end (take (i + 1) os) (take (i + 1) qs) z new
@@ -39,9 +29,6 @@ tightest_more end os qs i z d old new h l t r = record { bound = bound r.from; t
     tightest : (c : ℤ) → IsBoundBy end (take (i + 1) os) (take (i + 1) qs) z c → c ≤ℤ new
     tightest c (inl e) = omega (arith, ints, t.tightest c (inl e), r.kept)
     tightest c (inr a) = by c (AnyZip_cases (SetsAt end z c) os qs i d 0 h l a)
-
-pub tightest_all : (end : End) (os : List Order) (qs : List ℕ) (i z : ℕ) (c : ℤ) → length os ≤ i → length qs ≤ i → IsTightest end (take i os) (take i qs) z c → IsTightest end os qs z c
-tightest_all end os qs i z c h l t = subst (λ (ys : List ℕ). IsTightest end os ys z c) (take_all i qs l) (subst (λ (xs : List Order). IsTightest end xs (take i qs) z c) (take_all i os h) t)
 
 -- an order sets nothing in other zones
 elsewhere : (end : End) (o : Order) (q z : ℕ) (old : ℤ) → (z ≡ o.zone → ⊥) → IsRaised end o q z old old

@@ -15,7 +15,7 @@ use Rattle.mari_gates.proofs.Decisions.{length-decisions}
 use Rattle.mari_proofs.specs.declared.trees.TreeVerdict.{TreeVerdict}
 use Rattle.mari_proofs.specs.declared.trees.TreeVerdict.TheVariants.{Holds, BadShape, BadLeaf}
 use Rattle.mari_proofs.specs.Places.{LeavesWords, ShapeFails, LeafFails, IsBadShape, IsTreeVerdict}
-use Rattle.mari_gates.specs.Preorder.{waiting_after, left_at}
+use Rattle.mari_gates.specs.Preorder.{left_at}
 use Rattle.mari_proofs.specs.Steps.{FitsItem, IsFullBranch}
 use Rattle.mari_gates.proofs.WaitingWords.{first_child}
 
@@ -52,9 +52,6 @@ walk_more m holds items i d x at next h is before fits =
     subst (λ (xs : List TreeItem). LeavesWords m holds ([] ∷ []) xs (left_at m.gates next)) (sym (take_more items i d h))
     (leaves_append m holds ([] ∷ []) (take i items) (get_or items i d ∷ []) (left_at m.gates at) (left_at m.gates next) before
     (subst (λ (o : Option Prefix). LeavesWords m holds (left_at m.gates o) (get_or items i d ∷ []) (left_at m.gates next)) (sym is) (fits_leaves m holds x (get_or items i d) next fits)))
-
-pub walk_start : (m : Market) (holds : List Bool → LeafRecord → Type 0) (x : Prefix) → word_of x ≡ [] → LeavesWords m holds ([] ∷ []) [] (left_at m.gates (Some x))
-walk_start m holds x e = sym (ap (λ (w : List Bool). w ∷ waiting_after m.gates w) e)
 
 -- ---- the answers
 

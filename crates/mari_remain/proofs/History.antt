@@ -58,10 +58,6 @@ pub mw-none : (i : ℕ) (blocks : List PastBlock) → All (λ b. mw_in_block i b
 mw-none i [] h = refl
 mw-none i (b ∷ bs) h = sum_by-cons (mw_in_block i) b bs ∙ rw (All-head (λ b. mw_in_block i b ≡ 0) b bs h, mw-none i bs (All-tail (λ b. mw_in_block i b ≡ 0) b bs h)) refl
 
-pub flow-none : (k : ℕ) (blocks : List PastBlock) → All (λ b. flow_in k b ≡ pos 0) blocks → flow_of blocks k ≡ pos 0
-flow-none k [] h = refl
-flow-none k (b ∷ bs) h = rw (All-head (λ b. flow_in k b ≡ pos 0) b bs h, flow-none k bs (All-tail (λ b. flow_in k b ≡ pos 0) b bs h)) refl
-
 module _ (books : Books) (ok : IsAccepted books) where
   -- a block that gives MW to bids of its quarter alone, which is one of the day, and flows to borders that are there
   pub record IsOwnBlock (b : PastBlock) : Type 0 where

@@ -1,5 +1,5 @@
 -- The first fault along a list, item by item.
-use Rattle.std.proofs.Common.{◌≡◌, List, [], ◌∷◌, ◌++◌, Option, Some, None, Ok, Err, refl}
+use Rattle.std.proofs.Common.{◌≡◌, List, [], ◌∷◌, ◌++◌, Option, Some, None, Ok, refl}
 use Rattle.mari_rows.specs.First.{first_fault_behind, unless_fault}
 
 module _ {X F : Type 0} (fault_of : List X → X → Option F) (earlier xs rest : List X) (x : X) (next : xs ≡ x ∷ rest) where
@@ -15,7 +15,3 @@ module _ {X F : Type 0} (fault_of : List X → X → Option F) (earlier xs rest 
 pub value-no-fault : {A F : Type 0} (fault : Option F) (want value : A) → Ok value ≡ unless_fault fault want → (fault ≡ None) × (value ≡ want)
 value-no-fault None want value given = (refl, cc given)
 value-no-fault (Some f) want value given = cc given
-
-pub fault-first : {A F : Type 0} (fault : Option F) (want : A) (found : F) → Err found ≡ unless_fault fault want → fault ≡ Some found
-fault-first None want found given = cc given
-fault-first (Some f) want found given = cc given

@@ -62,9 +62,6 @@ last-of n x few =
     rw (rows-more run_line run_records n x)
     (fold-append (λ before row. Some (quarter_at 96 row)) None (run_rows n x) (record { line = at; fields = run_fields n state } ∷ []) ∙ ap Some (quarter-of n state at few))
 
-in-time : (n x at : ℕ) (last : Option ℕ) → n < 24 → last ≡ None → comes_too_late last (record { line = at; fields = run_fields n x }) ≡ false
-in-time n x at last few none = rw none refl
-
 after : (n x at : ℕ) → n < 24 → comes_too_late (Some n) (record { line = at; fields = run_fields n x }) ≡ false
 unfolding scheduled_word direct_word
 after n x at few =

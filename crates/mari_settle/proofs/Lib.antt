@@ -5,5 +5,4 @@ pub mod Amounts
 pub mod Laws
 pub mod Books
 pub mod Sizes
-pub mod Named
 pub mod Bounds

@@ -4,7 +4,7 @@ use Rattle.std.proofs.lemmas.Int.{ints}
 use Rattle.std.proofs.lemmas.List.{get_or-replicate, length-replicate}
 use Rattle.std.proofs.lemmas.List.Elements.{All-head, All-tail}
 use Rattle.std.proofs.lemmas.Option.{slice_get-get_or}
-use Rattle.std.specs.Prelude.{slice_get, IfSome, IsSomeAnd, MatchOption}
+use Rattle.std.specs.Prelude.{slice_get, IsSomeAnd, MatchOption}
 use Rattle.std.specs.List.{All, AllZip, range_with_len}
 use Rattle.mari_market.specs.declared.activation.Activation.{Activation}
 use Rattle.mari_market.specs.declared.certificate.Conflict.{Conflict as ConflictRecord}
@@ -27,16 +27,15 @@ use Rattle.mari_market.specs.Consistent.{IsConsistentOrder, IsConsistentTrade, s
 use Rattle.mari_market.specs.declared.price_rules.Standing.TheVariants.{InOpen, InClosed}
 use Rattle.mari_market.specs.Cut.{IsCut}
 use Rattle.mari_market.specs.Dual.{IsTightOrder, IsTightTrade}
-use Rattle.mari_market.specs.Finding.{IsAttained, IsFinding, IsRefuted, IsRelaxedFinding, IsSettled}
+use Rattle.mari_market.specs.Finding.{IsFinding, IsRefuted, IsRelaxedFinding, IsSettled}
 use Rattle.mari_market.specs.Market.{IsValid, IsValidOrder}
 use Rattle.mari_market.specs.Optimal.{IsAdmissible}
-use Rattle.mari_market.specs.Prefix.{bit_of, bounds_of_word, decided, opens_in, state_of, undecided, word_of, IsFeasiblePrefix, IsFeasibleWord, IsCleared}
+use Rattle.mari_market.specs.Prefix.{bit_of, bounds_of_word, decided, state_of, undecided, word_of}
 use Rattle.mari_market.specs.Price.{price_at}
 use Rattle.mari_market.specs.Relaxation.{all_closed, IsClosedWelfare, IsRelaxedWelfare, IsWithinBounds}
 use Rattle.mari_market.specs.Sums.{sum_along}
 use Rattle.mari_market.proofs.Conflicts.{conflict_refutes}
 use Rattle.mari_market.proofs.Cuts.{cut_is_empty}
-use Rattle.mari_market.proofs.Ties.{closed_opens}
 use Rattle.mari_market.proofs.Prefixes.{state_rule}
 use Rattle.mari_market.proofs.Search.{parents_earlier}
 use Rattle.mari_market.proofs.Sums.{AllZip-both, AllZip-with}
@@ -149,9 +148,6 @@ closed_has_best m r v f e =
     let P : Option Attained → Type 0 = λ o. MatchOption o (IsRefuted m (all_closed m) r) (IsSettled m (all_closed m) r) in
     not_refuted m r v (subst P e (f.at_the_end (length-all_closed m)))
 
-pub closed_attained : (m : Market) (r : RelaxedRecord) (best : Attained) → IsRelaxedFinding m (all_closed m) r → r.best ≡ Some best → IsAttained m best
-closed_attained m r best f e = let P : Option Attained → Type 0 = λ o. IfSome o (IsAttained m) in subst P e f.attained
-
 pub closed_welfare : (m : Market) (r : RelaxedRecord) (best : Attained) → IsRelaxedFinding m (all_closed m) r → r.best ≡ Some best → IsClosedWelfare m (pos best.welfare)
 closed_welfare m r best f e =
     let P : Option Attained → Type 0 = λ o. MatchOption o (IsRefuted m (all_closed m) r) (IsSettled m (all_closed m) r) in
@@ -174,21 +170,6 @@ pub closed_found : (m : Market) (word : List Bool) (f : Finding) (r : RelaxedRec
 closed_found m word f r e is h = subst (λ (w : List Bool). IsRelaxedFinding m w r) e (subst (IsFinding m word) is h)
 
 -- ---- the closed prefix is feasible
-
-none_opened : (n g : ℕ) → opens_in (replicate n false) g ≡ true → ⊥
-none_opened n g e = let no : opens_in (replicate n false) g ≡ false = closed_opens n g in absurd (cc)
-
-closed_word : (m : Market) → IsFeasibleWord m.gates (all_closed m)
-closed_word m = record {
-  decided = omega (arith, length-all_closed m);
-  rules = record {
-    parents = λ g h opens up. absurd (none_opened (length m.gates) g opens);
-    groups = λ g h k opens other one two. absurd (none_opened (length m.gates) g opens);
-  };
-}
-
-pub closed_feasible : (m : Market) (x : Prefix) → word_of x ≡ all_closed m → IsCleared x → IsFeasiblePrefix m x
-closed_feasible m x e cleared = record { word = subst (IsFeasibleWord m.gates) (sym e) (closed_word m); rest = cleared }
 
 -- a prefix without a bit that is 1 closes what it decides
 pub word-closed : (x : Prefix) (n : ℕ) → x.length ≡ n → ((g : ℕ) → g < n → bit_of x g ≡ false) → word_of x ≡ replicate n false

@@ -1,5 +1,5 @@
 -- What becomes of an early leaf by what is found at its word.
-use Rattle.std.proofs.Common.{◌≡◌, ◌∙◌, Bool, true, false, ℕ, ◌+◌, ◌<◌, ◌≤◌, nat_le, if◌then◌else◌, ℤ, pos, ◌-ℤ◌, List, length, Option, Some, None, arith, refl, ap, subst}
+use Rattle.std.proofs.Common.{◌≡◌, ◌∙◌, Bool, true, false, ℕ, ◌+◌, ◌<◌, ◌≤◌, nat_le, if◌then◌else◌, pos, ◌-ℤ◌, List, length, Option, Some, None, arith, refl, ap, subst}
 use Rattle.std.specs.Prelude.{IfSome, IsSomeAnd, MatchOption}
 use Rattle.std.proofs.lemmas.Int.{ints, clamps}
 use Rattle.mari_market.specs.declared.certificate.Conflict.{Conflict as ConflictRecord}
@@ -20,10 +20,6 @@ use Rattle.mari_core.proofs.Settling.{closing_leaf_holds, gt_by_test, must_branc
 use Rattle.mari_workers.specs.Alone.{best_in, without_best}
 use Rattle.mari_workers.specs.declared.refining.Aim.{Aim}
 use Rattle.mari_workers.specs.Refine.{fate_by, replaced, unbounded, IsAim, IsEarlier, IsFate, IsToBranch}
-
--- a leaf that isn't early stays
-pub late_stays : (m : Market) (w : ℤ) (gates word : List Bool) (leaf : LeafRecord) → LeafHolds m w word leaf → (IsEarly gates word → ⊥) → LeafHoldsFor m w gates word leaf
-late_stays m w gates word leaf h n = record { holds = h; early = λ e. absurd (n e) }
 
 -- a leaf that holds at the welfare less 1 stays
 pub low_stays : (m : Market) (w most : ℕ) (gates word : List Bool) (leaf : LeafRecord) → most + 1 ≡ w → LeafHolds m (pos most) word leaf → LeafHoldsFor m (pos w) gates word leaf

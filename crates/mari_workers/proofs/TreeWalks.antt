@@ -45,16 +45,6 @@ leaves_map m P Q k [] (item ∷ items) left h = absurd h
 leaves_map m P Q k (word ∷ words) (Leaf leaf ∷ items) left h = (k word leaf h.0, leaves_map m P Q k words items left h.1)
 leaves_map m P Q k (word ∷ words) (Branch ∷ items) left h = (h.0, leaves_map m P Q k (children m.gates word ++ words) items left h.1)
 
--- parts of no words are no items
-pub none_behind : (m : Market) (P : List Bool → LeafRecord → Type 0) (rest : List TreeItem) → AreParts m P [] rest → rest ≡ []
-none_behind m P [] a = refl
-none_behind m P (item ∷ items) a = absurd a
-
--- and parts of some words are some
-pub some_behind : (m : Market) (P : List Bool → LeafRecord → Type 0) (word : List Bool) (words : List (List Bool)) (rest : List TreeItem) → AreParts m P (word ∷ words) rest → 1 ≤ length rest
-some_behind m P word words [] a = absurd a
-some_behind m P word words (item ∷ items) a = omega arith
-
 -- ---- nodes
 
 -- the leaves of a tree that holds and has only nodes
@@ -159,15 +149,6 @@ branch_done m aim x y done left more f child h e =
 -- what a branch says of its prefix
 pub branch_room : (m : Market) (aim : Aim) (x : Prefix) (done left more : List TreeItem) → IsTreeWalk m aim done more (Some x) → more ≡ left ++ Branch ∷ [] → length (word_of x) < length m.gates
 branch_room m aim x done left more h e = let rest : AreParts m (IsOldLeaf m aim.welfare) (left_at m.gates (Some x)) (Branch ∷ reverse left) = subst (AreParts m (IsOldLeaf m aim.welfare) (left_at m.gates (Some x))) (ap reverse e ∙ popped left Branch) h.behind in rest.0
-
--- a leaf is taken out
-pub at_leaf : (m : Market) (aim : Aim) (x : Prefix) (leaf : LeafRecord) (done left more : List TreeItem) → IsTreeWalk m aim done more (Some x) → more ≡ left ++ Leaf leaf ∷ [] → IsAtLeaf m aim x leaf done left
-at_leaf m aim x leaf done left more h e = record {
-  before = h.before;
-  behind = subst (AreParts m (IsOldLeaf m aim.welfare) (left_at m.gates (Some x))) (ap reverse e ∙ popped left (Leaf leaf)) h.behind;
-  feasible = h.feasible;
-  within = omega (arith, h.within, ap length e, length-append left (Leaf leaf ∷ []));
-}
 
 -- a leaf that holds for the gate word takes its place
 pub leaf_done : (m : Market) (aim : Aim) (x : Prefix) (old leaf : LeafRecord) (done left : List TreeItem) (next : Option Prefix) → IsAtLeaf m aim x old done left → LeafHoldsFor m (pos aim.welfare) (word_of aim.word) (word_of x) leaf → left_at m.gates next ≡ waiting_after m.gates (word_of x) → IfSome next (IsFeasiblePrefix m) → IsTreeWalk m aim (done ++ Leaf leaf ∷ []) left next

@@ -1,7 +1,6 @@
 -- What each turn of a walk does, as its calls tell it.
 use Rattle.std.proofs.Common.{◌≡◌, if◌then◌else◌, Bool, true, false, ℕ, ◌+◌, ◌<◌, ◌≤◌, pos, List, [], ◌∷◌, ◌++◌, length, reverse, Option, Some, None, arith, sym, ap, subst, ◌∙◌, length-append}
 use Rattle.std.specs.Prelude.{IfSome, IsSomeAnd}
-use Rattle.std.proofs.lemmas.Int.{ints}
 use Rattle.std.proofs.lemmas.List.{length-reverse}
 use Rattle.mari_market.specs.declared.certificate.Leaf.{Leaf as LeafRecord}
 use Rattle.mari_market.specs.declared.certificate.TreeItem.{TreeItem}
@@ -9,7 +8,6 @@ use Rattle.mari_market.specs.declared.certificate.TreeItem.TheVariants.{Branch, 
 use Rattle.mari_market.specs.declared.clearing.Clearing.{Clearing}
 use Rattle.mari_market.specs.declared.market.Market.{Market}
 use Rattle.mari_market.specs.declared.prefix.Prefix.{Prefix}
-use Rattle.mari_market.specs.Activation.{gate_word_of}
 use Rattle.mari_market.specs.Market.{IsValid}
 use Rattle.mari_market.specs.Prefix.{word_of, children, IsFeasiblePrefix, IsFeasibleWord, IsCleared}
 use Rattle.mari_market.specs.Tree.{AreParts, LeafHolds, LeafHoldsFor}
@@ -18,8 +16,8 @@ use Rattle.mari_gates.specs.Preorder.{left_at, waiting_after}
 use Rattle.mari_gates.proofs.Decisions.{length-decisions}
 use Rattle.mari_proofs.specs.Places.{LeavesWords}
 use Rattle.mari_workers.specs.declared.refining.Aim.{Aim}
-use Rattle.mari_workers.specs.Refine.{IsAim, IsAtLeaf, IsNewLeaf, IsOldLeaf, IsToBranch, IsTreeWalk, MayRefine, OpensForMore}
-use Rattle.mari_workers.proofs.TreeWalks.{branch_done, branch_room, child_leaves, leaf_branched, leaf_done, old_leaves, some_behind}
+use Rattle.mari_workers.specs.Refine.{IsAim, IsAtLeaf, IsNewLeaf, IsOldLeaf, IsToBranch, IsTreeWalk, MayRefine}
+use Rattle.mari_workers.proofs.TreeWalks.{branch_done, branch_room, child_leaves, leaf_branched, leaf_done, old_leaves}
 
 -- the next prefix is the closed child of this one
 abbrev pub IsDescended : Prefix → Option Prefix → Type 0
@@ -64,15 +62,6 @@ turned_branched m aim x old leaf may done left new_done new_left (Some y) v k h 
 
 -- ---- the start
 
--- a clearing that may be refined says what is aimed at
-pub aim_of : (m : Market) (budget : ℕ) (found : Clearing) (x : Prefix) → MayRefine m budget found → IsFeasiblePrefix m x → word_of x ≡ gate_word_of m found.activation → budget ≤ 50000 → IsAim m (record { word = x; welfare = found.welfare; budget = budget })
-aim_of m budget found x h f e few = record {
-  budget = few;
-  word = f;
-  greatest = λ a adm. omega (arith, ints, h.clearing.welfare, h.clearing.optimal.greatest a adm);
-  opens = subst (λ (w : List Bool). OpensForMore m w found.welfare) (sym e) h.opens;
-}
-
 nothing_opened : (gates : List Rattle.mari_market.specs.declared.market.GateInfo.GateInfo) → IsFeasibleWord gates []
 nothing_opened gates = record { decided = omega arith; rules = record { parents = λ g h e p. absurd (cc); groups = λ g h k e f p q. absurd (cc) } }
 
@@ -88,7 +77,3 @@ walk_started m aim budget found done left (Some x) h w b d l n =
       feasible = record { word = subst (IsFeasibleWord m.gates) (sym n.0) (nothing_opened m.gates); rest = n.1 };
       within = omega (arith, b, ap length d, ap length l, length-reverse left, h.clearing.within_budget);
     }
-
--- a walk at a prefix has an item left, so less is done than the budget
-pub not_done : (m : Market) (aim : Aim) (x : Prefix) (done left : List TreeItem) → IsTreeWalk m aim done left (Some x) → length done < aim.budget
-not_done m aim x done left h = omega (arith, h.within, length-reverse left, some_behind m (IsOldLeaf m aim.welfare) (word_of x) (waiting_after m.gates (word_of x)) (reverse left) h.behind)

@@ -26,7 +26,7 @@ use Rattle.mari_core.specs.declared.event.Event.TheVariants.{Offer, Take as Take
 use Rattle.mari_core.specs.declared.event.StepFault.{StepFault}
 use Rattle.mari_core.specs.declared.node.NodeState.TheVariants.{Untaken, Taken, Closed}
 use Rattle.mari_core.specs.declared.search.Actor.{Actor}
-use Rattle.mari_core.specs.Growth.{Entry, Grown, MaySettle, IsReached, children_at, closing_leaf, grown, settling_by, take_refused, return_refused, seed, with_state}
+use Rattle.mari_core.specs.Growth.{Entry, Grown, MaySettle, IsReached, children_at, closing_leaf, grown, settling_by, return_refused, seed, with_state}
 use Rattle.mari_core.specs.Growth.Entry.{Take, Close, Branch, Full, GiveBack}
 use Rattle.mari_core.specs.Machine.{Machine, after, by_actor, offering, refusal, seen_by, IsProper, KeepsFacts}
 use Rattle.mari_core.specs.Nodes.{TreeNode, branch_of, in_state, new_node, state_at, words_of}
@@ -159,9 +159,6 @@ at_node m s q r x u f = record { market = u.market; facts = u.facts; waits = fir
 by_actor_none : (actors : List Actor) (refused : Option StepFault) → 1 ≤ length actors → refused ≡ None → by_actor (slice_get actors 0) refused ≡ None
 by_actor_none actors refused l e = by_actor_there actors 0 refused l ∙ e
 
-pub take_accepted : (m : Market) (s : Machine) (x : ℕ) → IsAtNode m s x → refusal s (TakeEvent 0 x) ≡ None
-take_accepted m s x u = by_actor_none s.actors (take_refused (state_at s.tree.nodes x)) u.facts.some_actor (ap take_refused u.waits)
-
 -- what is offered is a copy of the finding's best
 pub offered_as : {X : Type 0} (s new : Machine) (copy best : Attained) (o : Option Attained) (r : Result (Unit {0}) X) → copy ≡ best → Some best ≡ o → OnOk r (new ≡ after s (Offer 0 copy)) → OnOk r (new ≡ after_offer s o)
 offered_as s new copy best o r same is h =
@@ -216,10 +213,6 @@ reached m s word (Relaxed r) l f = reached_by m word r (seen_by (slice_get (afte
 offer_tree : (s : Machine) (o : Option Attained) → (after_offer s o).tree ≡ s.tree
 offer_tree s None = refl
 offer_tree s (Some best) = refl
-
-pub best_attained : (m : Market) (word : List Bool) (finding : Finding) → IsFinding m word finding → IfSome (best_in finding) (IsAttained m)
-best_attained m word (Empty cut) f = tt
-best_attained m word (Relaxed r) f = f.attained
 
 -- a node that is taken, where what is found there was offered, may be settled with it
 pub record MayVisit (s : Machine) (x : ℕ) (finding : Finding) : Type 0 where

@@ -121,6 +121,5 @@ numbered_areas m a values xs areas v h k =
                 area_on m a y (first_at xs y) z (area_back m a (first_at xs y) y fy.1) (subst (λ (x : ℕ). InOneArea m a x z) (sym one) fz.1),
             λ j. n.as_first y ly ∙ ap (area_at areas) (same_first m a values xs y z v h l o j) ∙ sym (n.as_first z lz),
           );
-      from_one = λ z l. n.from_one z (omega (arith, l, h.one_each));
-      by_first = λ z c l i o. n.in_order z c (omega (arith, l, h.one_each)) i o;
+      numbered = λ z l. record { from_one = n.from_one z (omega (arith, l, h.one_each)); by_first = λ c i o. n.in_order z c (omega (arith, l, h.one_each)) i o };
     }

@@ -10,7 +10,7 @@ use Rattle.mari_market.specs.Market.{IsValid}
 use Rattle.mari_market.specs.declared.along.Along.TheVariants.{Joined}
 use Rattle.mari_prices.specs.declared.spread.SettledZone.{SettledZone}
 use Rattle.mari_market.specs.Along.{LeadsTo}
-use Rattle.mari_prices.specs.Firsts.{ArePlaces, first_in, first_at, AreFirsts, AreNumbered}
+use Rattle.mari_prices.specs.Firsts.{ArePlaces, first_in, first_at, AreFirsts, AreNumberedByFirsts}
 use Rattle.mari_market.specs.Sums.{int_at}
 use Rattle.mari_prices.specs.Spread.{entry_at, IsByItself, IsAfter, SpreadsAlong}
 use Rattle.mari_prices.proofs.Extremes.{entry_within}
@@ -105,7 +105,7 @@ firsts m a values xs v h = record {
 
 -- ---- areas
 
-pub numbered_areas : (m : Market) (a : Activation) (values : List ℤ) (xs : List (Option SettledZone)) (areas : List ℕ) → IsValid m → AreSpread m a values xs → AreNumbered xs areas → AreAreas m a areas
+pub numbered_areas : (m : Market) (a : Activation) (values : List ℤ) (xs : List (Option SettledZone)) (areas : List ℕ) → IsValid m → AreSpread m a values xs → AreNumberedByFirsts xs areas → AreAreas m a areas
 numbered_areas m a values xs areas v h k =
     let f = firsts m a values xs v h in
     let n = k.numbering in

@@ -30,8 +30,7 @@ module _ (m : Market) (a : Activation) where
         λ e. one-area y z (omega (arith, long, ly)) (omega (arith, long, lz)) ((agree y (omega (arith, many, ly)) z (omega (arith, many, lz))).0 e),
         λ j. (agree y (omega (arith, many, ly)) z (omega (arith, many, lz))).1 (same-label y z j),
       );
-      from_one = λ z l. (numbered z (omega (arith, many, l))).from_one;
-      by_first = λ z k l one up. (numbered z (omega (arith, many, l))).by_first k one up;
+      numbered = λ z l. numbered z (omega (arith, many, l));
     }
 
     pub labels-by-areas : (areas : List ℕ) → length own ≡ m.zones → AreAreas m a areas → (zone : ℕ) → zone < length areas → AgreeAt areas labels zone
@@ -41,7 +40,7 @@ module _ (m : Market) (a : Activation) where
     )
 
   pub numbered-areas : (areas : List ℕ) → AreAreas m a areas → AreNumbered areas
-  numbered-areas areas is z l = record { from_one = is.from_one z (omega (arith, is.one_each, l)); by_first = λ k one up. is.by_first z k (omega (arith, is.one_each, l)) one up }
+  numbered-areas areas is z l = is.numbered z (omega (arith, is.one_each, l))
 
 -- ---- places
 

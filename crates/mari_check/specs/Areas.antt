@@ -1,6 +1,6 @@
 -- The numbers of areas, held against labels that the zones of one area share.
-use Rattle.std.specs.Prelude.{◌≡◌, ◌<◌, ◌≤◌, ◌↔◌, ℕ, List, length, slice_index}
-use Rattle.mari_market.specs.Area.{HasBefore, area_at}
+use Rattle.std.specs.Prelude.{◌≡◌, ◌<◌, ◌↔◌, ℕ, List, length, slice_index}
+use Rattle.mari_market.specs.Area.{IsNumbered, area_at}
 
 -- two zones have one number exactly where they have one label
 abbrev pub AreAlike : (areas labels : List ℕ) → (zone other : ℕ) → Type 0
@@ -10,10 +10,6 @@ AreAlike areas labels zone other = (area_at areas zone ≡ area_at areas other) 
 abbrev pub AgreeAt : (areas labels : List ℕ) → ℕ → Type 0
 AgreeAt areas labels zone = (other : ℕ) → other < length areas → AreAlike areas labels zone other
 
--- a zone's number is at least 1, and each number up to it is that of a zone no later
-pub record IsNumbered (areas : List ℕ) (zone : ℕ) : Type 0 where
-  pub from_one : 1 ≤ area_at areas zone
-  pub by_first : (number : ℕ) → 1 ≤ number → number ≤ area_at areas zone → HasBefore areas zone number
-
+-- areas are numbered from 1 by their first zone
 abbrev pub AreNumbered : List ℕ → Type 0
 AreNumbered areas = (zone : ℕ) → zone < length areas → IsNumbered areas zone

@@ -2,10 +2,10 @@
 
 ghost use Rattle.std.specs.Prelude.{◌≡◌, ◌<◌, ◌≤◌, ℕ, length, IfOk, IsTrue, ◌↔◌, slice_index};
 ghost use Rattle.std.specs.List.{range_with_len};
-ghost use Rattle.mari_market.specs.Area.{AreAreas, HasBefore};
+ghost use Rattle.mari_market.specs.Area.{AreAreas, HasBefore, IsNumbered};
 ghost use Rattle.mari_market.specs.Market.{IsValid};
 ghost use Rattle.mari_market.specs.Optimal.{IsFeasible};
-ghost use Rattle.mari_check.specs.Areas.{AgreeAt, AreAlike, AreNumbered, IsNumbered};
+ghost use Rattle.mari_check.specs.Areas.{AgreeAt, AreAlike, AreNumbered};
 
 use crate::spread::spread;
 use mari_market::{Activation, Along, Market};

@@ -197,9 +197,7 @@ still_crowded g x n may opens e fits c = record {
   node = c.node;
   there = get_front (with_state (made_state g n may) g.nodes x) (map new_node (child_words n.word may)) c.number (omega (arith, length-with_state (made_state g n may) g.nodes x, slice_get_within g.nodes c.number c.node c.there)) ∙ changed_other (in_state (made_state g n may)) g.nodes x c.number (λ same. apart same) ∙ c.there;
   leaf = c.leaf;
-  undecided = c.undecided;
-  promising = c.promising;
-  more = omega (arith, c.more, length-grown_by g.nodes x n.word may);
+  crowded = record { undecided = c.crowded.undecided; promising = c.crowded.promising; more = omega (arith, c.crowded.more, length-grown_by g.nodes x n.word may) };
 }
   where
     apart : c.number ≡ x → ⊥
@@ -207,7 +205,7 @@ still_crowded g x n may opens e fits c = record {
         let there : slice_get g.nodes x ≡ Some c.node = ap (λ (i : ℕ). slice_get g.nodes i) (sym same) ∙ c.there in
         let one : n ≡ c.node = cc in
         let count : length (child_words n.word may) ≡ length (children g.market.gates c.node.word) = ap (λ (b : Bool). length (child_words n.word b)) (sym opens) ∙ ap (λ (i : TreeNode). length (children g.market.gates i.word)) one in
-        omega (arith, c.more, fits, count)
+        omega (arith, c.crowded.more, fits, count)
 
 -- a leaf among the nodes branches where its children fit
 grown_kept : (g : Grown) (x : ℕ) (n : TreeNode) (may : Bool) → may_open g.market.gates n.word (length n.word) ≡ may → IsGrowth g → slice_get g.nodes x ≡ Some n → is_branched n.state ≡ false → length n.word < length g.market.gates → IsPromising g.market n.word → length g.nodes + length (child_words n.word may) ≤ g.budget → IsGrowth (record g { nodes = grown_by g.nodes x n.word may })

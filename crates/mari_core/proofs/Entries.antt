@@ -66,9 +66,11 @@ full_kept g k x cutoff grows may more =
       node = in_state Untaken at.node;
       there = changed_same (in_state Untaken) g.nodes x at.node at.there;
       leaf = refl;
-      undecided = subst (λ (w : List Bool). length w < length g.market.gates) word may.undecided;
-      promising = subst (λ (w : List Bool). IsPromising g.market w) word (promising_by g.market (word_at g.nodes x) cutoff may.exceeds may.cutoff_is);
-      more = omega (arith, more, length-with_state Untaken g.nodes x, ap (λ (w : List Bool). length (children g.market.gates w)) word);
+      crowded = record {
+        undecided = subst (λ (w : List Bool). length w < length g.market.gates) word may.undecided;
+        promising = subst (λ (w : List Bool). IsPromising g.market w) word (promising_by g.market (word_at g.nodes x) cutoff may.exceeds may.cutoff_is);
+        more = omega (arith, more, length-with_state Untaken g.nodes x, ap (λ (w : List Bool). length (children g.market.gates w)) word);
+      };
     })
 
 branching_kept : (g : Grown) (k x cutoff : ℕ) → IsGrowth g → MayBranch g k x cutoff → length g.nodes + length (children_at g x) ≤ g.budget → IsGrowth (record g { nodes = branched g x })

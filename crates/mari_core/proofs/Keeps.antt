@@ -87,7 +87,7 @@ pub crowded_stays : (s : NodeState) (g : Grown) (x : ℕ) (n : TreeNode) (full :
 crowded_stays s g x n full e is c = by_place (cases_eq c.number x)
   where
     more : g.budget < length (with_state s g.nodes x) + length (children g.market.gates c.node.word)
-    more = omega (arith, length-with_state s g.nodes x, c.more)
+    more = omega (arith, length-with_state s g.nodes x, c.crowded.more)
 
     by_place : (c.number ≡ x) ⊎ (c.number ≡ x → ⊥) → IsCrowded (record g { nodes = with_state s g.nodes x; full = full })
     by_place (inl same) =
@@ -97,16 +97,12 @@ crowded_stays s g x n full e is c = by_place (cases_eq c.number x)
           node = in_state s c.node;
           there = changed_same (in_state s) g.nodes x c.node there;
           leaf = is;
-          undecided = c.undecided;
-          promising = c.promising;
-          more = more;
+          crowded = record { undecided = c.crowded.undecided; promising = c.crowded.promising; more = more };
         }
     by_place (inr other) = record {
       number = c.number;
       node = c.node;
       there = changed_other (in_state s) g.nodes x c.number other ∙ c.there;
       leaf = c.leaf;
-      undecided = c.undecided;
-      promising = c.promising;
-      more = more;
+      crowded = record { undecided = c.crowded.undecided; promising = c.crowded.promising; more = more };
     }

@@ -176,9 +176,7 @@ part_is_spent g items k p full =
         of_part = subst (λ (is : List PartItem). Contains (leaves_of g.market ([] ∷ []) is) c.node.word) (sym p.items_are)
             (subst (λ (ws : List (List Bool)). Contains (leaves_of g.market ws (map (λ x. part_item (state_at g.nodes x)) p.numbers)) c.node.word) (root_word g k)
             (walk_leaf g k c.number c.node c.there c.leaf (0 ∷ []) p.numbers there (are_within g.nodes p.numbers p.preorder) p.preorder.walk));
-        undecided = c.undecided;
-        promising = c.promising;
-        more = omega (arith, all, c.more);
+        crowded = record { undecided = c.crowded.undecided; promising = c.crowded.promising; more = omega (arith, all, c.crowded.more) };
       };
     }
 

@@ -79,5 +79,5 @@ larger_by m n words a l = record {
 pub crowded_is_larger : (g : Grown) → IsGrowth g → IsCrowded g → IsLarger g.market g.budget
 crowded_is_larger g k c =
     larger_by g.market g.budget (words_of g.nodes ++ children g.market.gates c.node.word)
-    (nodes_with_children g c.number c.node k c.there c.leaf c.undecided c.promising)
-    (omega (arith, c.more, length-append (words_of g.nodes) (children g.market.gates c.node.word), length-map g.nodes (λ (n : TreeNode). n.word)))
+    (nodes_with_children g c.number c.node k c.there c.leaf c.crowded.undecided c.crowded.promising)
+    (omega (arith, c.crowded.more, length-append (words_of g.nodes) (children g.market.gates c.node.word), length-map g.nodes (λ (n : TreeNode). n.word)))

@@ -10,7 +10,7 @@ use Rattle.mari_market.specs.declared.finding.Finding.TheVariants.{Empty, Relaxe
 use Rattle.mari_market.specs.Market.{IsValid}
 use Rattle.mari_market.specs.Prefix.{children}
 use Rattle.mari_market.specs.Relaxation.{IsRelaxedWelfare, IsClosedWelfare}
-use Rattle.mari_market.specs.SearchTree.{IsPromising, AreNodes}
+use Rattle.mari_market.specs.SearchTree.{AreNodes}
 use Rattle.mari_market.specs.Finding.{IsFinding}
 use Rattle.mari_market.specs.Tree.{LeafHolds}
 use Rattle.mari_core.specs.declared.node.NodeState.{NodeState}
@@ -21,7 +21,7 @@ use Rattle.mari_core.specs.declared.event.StepFault.{StepFault}
 use Rattle.mari_core.specs.declared.event.StepFault.TheVariants.{NoNode, NotUntaken, NotTaken, Memory}
 use Rattle.mari_core.specs.Nodes.{TreeNode, new_node, in_state, changed, words_of, word_at, state_at, child_numbers, branch_of}
 use Rattle.mari_core.specs.Preorder.{HasPreorder}
-use Rattle.mari_market.specs.Clearing.{IsBudget}
+use Rattle.mari_market.specs.Clearing.{IsBudget, IsCrowdedOut}
 
 -- ---- what grows
 
@@ -224,9 +224,7 @@ pub record IsCrowded (g : Grown) : Type 0 where
   pub node : TreeNode
   pub there : slice_get g.nodes number ≡ Some node
   pub leaf : is_branched node.state ≡ false
-  pub undecided : length node.word < length g.market.gates
-  pub promising : IsPromising g.market node.word
-  pub more : g.budget < length g.nodes + length (children g.market.gates node.word)
+  pub crowded : IsCrowdedOut g.market g.budget (length g.nodes) node.word
 
 -- what every entry keeps: the nodes are distinct nodes of the search tree, at most as many as the budget; the first is
 -- the empty word; the children of a node are nodes exactly where it is branched; closed leaves hold at their cutoffs;

@@ -16,7 +16,7 @@ module _ (m : Market) (a : Activation) where
   -- a zone whose area isn't the first stands behind one of the area before
   behind : (areas : List ℕ) → AreAreas m a areas → (z : ℕ) → z < m.zones → 1 < area_at areas z → (y : ℕ) × (y < z) × (area_at areas z ≡ area_at areas y + 1)
   behind areas is z there more =
-      let before = is.by_first z (area_at areas z - 1) there (omega arith) (omega arith) in
+      let before = (is.numbered z there).by_first (area_at areas z - 1) (omega arith) (omega arith) in
       let other : before.0 ≢ z = λ same. let e : area_at areas before.0 ≡ area_at areas z = ap (area_at areas) same in omega (arith, before.2) in
       (before.0, omega (arith, before.1, other), omega (arith, before.2))
 
@@ -34,7 +34,7 @@ module _ (m : Market) (a : Activation) where
   pub areas-fit : (areas : List ℕ) → AreAreas m a areas → m.zones ≤ 64 → All (Between 1 64) areas
   areas-fit areas is few = All-from_get_or (Between 1 64) areas 0 (λ z l.
       let there : z < m.zones = omega (arith, is.one_each) in
-      (is.from_one z there, omega (arith, area-most areas is z z (omega arith) there)))
+      ((is.numbered z there).from_one, omega (arith, area-most areas is z z (omega arith) there)))
 
   pub least-fit : (ps : List Cents) → AreLeastPrices m a ps → All IsCapped ps
   least-fit ps is = All-from_get_or IsCapped ps _ (λ z l.

@@ -10,7 +10,7 @@ use Rattle.mari_market.specs.Market.{IsValid}
 use Rattle.mari_market.specs.declared.along.Along.TheVariants.{Joined}
 use Rattle.mari_prices.specs.declared.spread.SettledZone.{SettledZone}
 use Rattle.mari_market.specs.Along.{LeadsTo}
-use Rattle.mari_prices.specs.Firsts.{ArePlaces, first_in, first_at, AreFirsts, AreNumbered}
+use Rattle.mari_prices.specs.Firsts.{ArePlaces, first_in, first_at, AreFirsts, AreNumberedByFirsts}
 use Rattle.mari_market.specs.Sums.{int_at}
 use Rattle.mari_prices.specs.Spread.{entry_at, IsByItself, IsAfter, SpreadsAlong}
 use Rattle.mari_prices.proofs.Extremes.{entry_within}
@@ -105,7 +105,7 @@ firsts m a values xs v h = record {
 
 -- ---- areas
 
-pub numbered_areas : (m : Market) (a : Activation) (values : List ℤ) (xs : List (Option SettledZone)) (areas : List ℕ) → IsValid m → AreSpread m a values xs → AreNumbered xs areas → AreAreas m a areas
+pub numbered_areas : (m : Market) (a : Activation) (values : List ℤ) (xs : List (Option SettledZone)) (areas : List ℕ) → IsValid m → AreSpread m a values xs → AreNumberedByFirsts xs areas → AreAreas m a areas
 numbered_areas m a values xs areas v h k =
     let f = firsts m a values xs v h in
     let n = k.numbering in
@@ -121,6 +121,5 @@ numbered_areas m a values xs areas v h k =
                 area_on m a y (first_at xs y) z (area_back m a (first_at xs y) y fy.1) (subst (λ (x : ℕ). InOneArea m a x z) (sym one) fz.1),
             λ j. n.as_first y ly ∙ ap (area_at areas) (same_first m a values xs y z v h l o j) ∙ sym (n.as_first z lz),
           );
-      from_one = λ z l. n.from_one z (omega (arith, l, h.one_each));
-      by_first = λ z c l i o. n.in_order z c (omega (arith, l, h.one_each)) i o;
+      numbered = λ z l. record { from_one = n.from_one z (omega (arith, l, h.one_each)); by_first = λ c i o. n.in_order z c (omega (arith, l, h.one_each)) i o };
     }

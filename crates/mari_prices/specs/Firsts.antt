@@ -33,7 +33,7 @@ pub record IsNumbering (f a : ℕ → ℕ) (n count : ℕ) : Type 0 where
   pub in_order : (z k : ℕ) → z < n → 1 ≤ k → k ≤ a z → (y : ℕ) × (y ≤ z) × (a y ≡ k)
 
 -- areas are numbered so
-pub record AreNumbered (xs : List (Option SettledZone)) (areas : List ℕ) : Type 0 where
+pub record AreNumberedByFirsts (xs : List (Option SettledZone)) (areas : List ℕ) : Type 0 where
   pub one_each : length areas ≡ length xs
   pub count : ℕ
   pub numbering : IsNumbering (first_at xs) (area_at areas) (length xs) count

@@ -4,7 +4,7 @@ ghost use Rattle.std.specs.Prelude.{◌≡◌, ◌≤◌, ◌<◌, ℕ, length, 
 ghost use Rattle.mari_market.specs.Area.{AreAreas};
 ghost use Rattle.mari_market.specs.Market.{IsValid};
 ghost use Rattle.mari_market.specs.Optimal.{IsFeasible};
-ghost use Rattle.mari_prices.specs.Firsts.{AreFirsts, AreNumbered, ArePlaces, first_at, first_in};
+ghost use Rattle.mari_prices.specs.Firsts.{AreFirsts, AreNumberedByFirsts, ArePlaces, first_at, first_in};
 
 use crate::spread::{SettledZone, spread};
 use mari_market::{Activation, Along, Market};
@@ -37,7 +37,7 @@ fn first_of(entry: &Option<SettledZone>) -> usize
 fn number(alloc: Global, settled: &[Option<SettledZone>]) -> Result<Vec<u32>, AllocError>
     requires few { length settled.now ≤ MOST_ZONES }
     requires firsts { AreFirsts (length settled.now) (first_at settled.now) }
-    ensures { IfOk result (λ v. AreNumbered settled.now v.items) }
+    ensures { IfOk result (λ v. AreNumberedByFirsts settled.now v.items) }
 {
     let mut areas = Vec::new(alloc);
     let mut count = 0;

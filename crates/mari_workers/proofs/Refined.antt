@@ -109,21 +109,19 @@ crowded_spends m aim x done left whole items v h e f =
     let behind : AreParts m O (word_of x ∷ waits) (Leaf h.leaf ∷ h.rest) = subst (AreParts m O (word_of x ∷ waits)) h.left_is h.walk.behind in
     let all : AreParts m O ([] ∷ []) (done ++ Leaf h.leaf ∷ h.rest) = parts_join m O ([] ∷ []) done (Leaf h.leaf ∷ h.rest) (word_of x ∷ waits) front behind in
     let more : AreParts m O ([] ∷ []) (done ++ Branch ∷ (map (λ (w : List Bool). Leaf h.leaf) kids ++ h.rest)) =
-    parts_join m O ([] ∷ []) done (Branch ∷ (map (λ (w : List Bool). Leaf h.leaf) kids ++ h.rest)) (word_of x ∷ waits) front (h.undecided, leaves_then m O h.leaf kids waits h.rest h.below behind.1) in
+    parts_join m O ([] ∷ []) done (Branch ∷ (map (λ (w : List Bool). Leaf h.leaf) kids ++ h.rest)) (word_of x ∷ waits) front (h.crowded.undecided, leaves_then m O h.leaf kids waits h.rest h.below behind.1) in
     let same : items ≡ map shape_of (done ++ Leaf h.leaf ∷ h.rest) = f ∙ ap (map shape_of) (e ∙ ap (λ (is : List TreeItem). done ++ is) h.left_is) in
     let count : length items ≡ length done + length left = ap length same ∙ length-map (done ++ Leaf h.leaf ∷ h.rest) shape_of ∙ omega (arith, length-append done (Leaf h.leaf ∷ h.rest), sym (ap length h.left_is), length-reverse left) in
     let long : length left ≡ suc (length h.rest) = omega (arith, ap length h.left_is, length-reverse left) in
     record {
       larger = larger_tree m aim.welfare aim.budget (done ++ Branch ∷ (map (λ (w : List Bool). Leaf h.leaf) kids ++ h.rest)) v more
-          (omega (arith, h.more, long, length-append done (Branch ∷ (map (λ (w : List Bool). Leaf h.leaf) kids ++ h.rest)), length-append (map (λ (w : List Bool). Leaf h.leaf) kids) h.rest, length-map kids (λ (w : List Bool). Leaf h.leaf)));
+          (omega (arith, h.crowded.more, long, length-append done (Branch ∷ (map (λ (w : List Bool). Leaf h.leaf) kids ++ h.rest)), length-append (map (λ (w : List Bool). Leaf h.leaf) kids) h.rest, length-map kids (λ (w : List Bool). Leaf h.leaf)));
       part = subst (ArePartsOfSearch m ([] ∷ [])) (sym same) (search_parts m ([] ∷ []) (done ++ Leaf h.leaf ∷ h.rest) v (AreParts-map m O (λ word leaf. IsNode m word) (λ word leaf k. k.node) ([] ∷ []) (done ++ Leaf h.leaf ∷ h.rest) all)).0;
       within_budget = omega (arith, count, h.walk.within);
       overflows = record {
         leaf = word_of x;
         of_part = subst (λ (is : List PartItem). Contains (leaves_of m ([] ∷ []) is) (word_of x)) (sym same) (leaf_there m O ([] ∷ []) done h.rest h.leaf (word_of x) waits front);
-        undecided = h.undecided;
-        promising = h.promising;
-        more = omega (arith, count, h.more);
+        crowded = record { undecided = h.crowded.undecided; promising = h.crowded.promising; more = omega (arith, count, h.crowded.more) };
       };
     }
 

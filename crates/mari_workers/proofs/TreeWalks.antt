@@ -256,7 +256,9 @@ leaf_crowded m aim x old leaf may done left more v k h t f g kids e over =
       below = subst (λ (ws : List (List Bool)). AreParts m O ws (map (λ (w : List Bool). Leaf leaf) ws)) (sym kids)
           (subst (λ (ws : List (List Bool)). AreParts m O ws (map (λ (w : List Bool). Leaf leaf) ((word_of x ++ false ∷ []) ∷ (if may then (word_of x ++ true ∷ []) ∷ [] else [])))) (no_more_words (word_of x) may)
           (subst (AreParts m O (((word_of x ++ false ∷ []) ∷ (if may then (word_of x ++ true ∷ []) ∷ [] else [])) ++ [])) (map_leaves leaf (word_of x) may) below));
-      undecided = t.undecided;
-      promising = to_branch_promising m aim (word_of x) leaf k t;
-      more = omega (arith, over, ap length e, length-append left (Leaf leaf ∷ []), ap length kids, children_count (word_of x) may);
+      crowded = record {
+        undecided = t.undecided;
+        promising = to_branch_promising m aim (word_of x) leaf k t;
+        more = omega (arith, over, ap length e, length-append left (Leaf leaf ∷ []), ap length kids, children_count (word_of x) may);
+      };
     }

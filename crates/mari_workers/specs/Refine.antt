@@ -12,11 +12,11 @@ use Rattle.mari_market.specs.declared.clearing.Cleared.TheVariants.{Published, S
 use Rattle.mari_market.specs.declared.market.Market.{Market}
 use Rattle.mari_market.specs.declared.prefix.Prefix.{Prefix}
 use Rattle.mari_market.specs.Activation.{gate_word_of, welfare_of}
-use Rattle.mari_market.specs.Clearing.{ArePartsOfSearch, IsOptimalClearing, IsSpent}
+use Rattle.mari_market.specs.Clearing.{ArePartsOfSearch, IsCrowdedOut, IsOptimalClearing, IsSpent}
 use Rattle.mari_market.specs.Optimal.{IsAdmissible}
 use Rattle.mari_market.specs.Prefix.{word_of, children, IsFeasiblePrefix}
 use Rattle.mari_market.specs.Relaxation.{all_closed, IsClosedWelfare, IsRelaxedWelfare}
-use Rattle.mari_market.specs.SearchTree.{IsNode, IsPromising}
+use Rattle.mari_market.specs.SearchTree.{IsNode}
 use Rattle.mari_market.specs.Tree.{AreParts, IsEarly, LeafHolds, LeafHoldsFor}
 use Rattle.mari_gates.specs.Preorder.{left_at}
 use Rattle.mari_core.specs.Growth.{closing_leaf}
@@ -135,9 +135,7 @@ pub record IsCrowdedAt (m : Market) (aim : Aim) (x : Prefix) (done left : List T
   pub rest : List TreeItem
   pub left_is : reverse left ≡ Leaf leaf ∷ rest
   pub below : AreParts m (IsOldLeaf m aim.welfare) (children m.gates (word_of x)) (map (λ word. Leaf leaf) (children m.gates (word_of x)))
-  pub undecided : length (word_of x) < length m.gates
-  pub promising : IsPromising m (word_of x)
-  pub more : aim.budget < length done + length left + length (children m.gates (word_of x))
+  pub crowded : IsCrowdedOut m aim.budget (length done + length left) (word_of x)
 
 -- at the next prefix, which decides every gate, an activation of the welfare is found, and that gate word is early
 pub record IsFoundAt (m : Market) (aim : Aim) (x : Prefix) (done left : List TreeItem) (a : Activation) : Type 0 where

@@ -5,7 +5,7 @@ use Rattle.mari_market.specs.declared.market.Market.{Market}
 use Rattle.mari_market.specs.declared.activation.Activation.{Activation}
 use Rattle.mari_market.specs.declared.along.Along.TheVariants.{Joined}
 use Rattle.mari_prices.specs.declared.spread.SettledZone.{SettledZone}
-use Rattle.mari_prices.specs.Firsts.{AreFirsts, AreNumbered, ArePlaces, first_at}
+use Rattle.mari_prices.specs.Firsts.{AreFirsts, AreNumberedByFirsts, ArePlaces, first_at}
 use Rattle.mari_prices.specs.Spread.{SpreadsAlong}
 use Rattle.mari_prices.proofs.AreaLaws.{AreSpread, firsts, numbered_areas}
 use Rattle.mari_prices.proofs.numbering.areas.Goals as goal
@@ -34,4 +34,4 @@ returns c =
     let s = spread_read c.args.market.now c.args.activation.now c.as_slice-borders.result.now c.as_slice-flow.result.now c.deref.result.now c.in_ok-places.places.items c.in_ok-settled.settled.items c.as_slice-borders.ensures c.as_slice-flow.ensures c.deref.ensures.value
     c.in_ok-places.ensures.one_each c.in_ok-places.ensures.places c.in_ok-settled.ensures.one_each c.in_ok-settled.ensures.spread in
     numbered_areas c.args.market.now c.args.activation.now c.in_ok-places.places.items c.in_ok-settled.settled.items c.in_ok-number.field-0.items c.requires.valid s
-    (subst (λ (xs : List (Option SettledZone)). AreNumbered xs c.in_ok-number.field-0.items) c.deref-2.ensures.value c.in_ok-number.ensures)
+    (subst (λ (xs : List (Option SettledZone)). AreNumberedByFirsts xs c.in_ok-number.field-0.items) c.deref-2.ensures.value c.in_ok-number.ensures)

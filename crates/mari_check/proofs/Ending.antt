@@ -124,11 +124,11 @@ take-more {X} (y ∷ ys) (suc i) x l at =
     subst (λ (n : ℕ). take (suc i) (y ∷ ys) ++ x ∷ [] ≡ take n (y ∷ ys)) k (ap (λ zs. y ∷ zs) (take-more ys i x (omega (arith, l)) at))
 
 -- the first line
-pub head-fault : (books : Books) (p : Publication) (found : Option ℕ) (number : ℕ) → found ≡ Some number → FindsHead (HasHead books p) found → IsHeadFault books p 0 number
+pub head-fault : (books : Books) (p : Publication) (found : Option ℕ) (number : ℕ) → found ≡ Some number → FindsHead (HasHead books p.date p.quarters) found → IsHeadFault books p 0 number
 head-fault books p None number e f = cc e
 head-fault books p (Some n) number e f = let same : n ≡ number = cc e in record { differs = f.0; run_is = refl; number_is = sym same ∙ f.1 }
 
-pub head-right : (books : Books) (p : Publication) (found : Option ℕ) → found ≡ None → FindsHead (HasHead books p) found → HasHead books p
+pub head-right : (books : Books) (p : Publication) (found : Option ℕ) → found ≡ None → FindsHead (HasHead books p.date p.quarters) found → HasHead books p.date p.quarters
 head-right books p None e f = f
 head-right books p (Some n) e f = absurd (cc e)
 
@@ -137,11 +137,11 @@ head-told books p None v e h = cc e
 head-told books p (Some (Valid published unpublished)) v e h = absurd h
 head-told books p (Some (Invalid run number)) v e h = let same : Invalid run number ≡ v = cc e in subst (IsVerdict books p) same (inl h)
 
-pub head-clear : (books : Books) (p : Publication) (found : Option Verdict) → found ≡ None → HeadTells books p found → HasHead books p
+pub head-clear : (books : Books) (p : Publication) (found : Option Verdict) → found ≡ None → HeadTells books p found → HasHead books p.date p.quarters
 head-clear books p None e h = h
 head-clear books p (Some v) e h = absurd (cc e)
 
-module _ (books : Books) (p : Publication) (head : HasHead books p) (kept : DayCheck) (budget : p.budget ≡ kept.budget) where
+module _ (books : Books) (p : Publication) (head : HasHead books p.date p.quarters) (kept : DayCheck) (budget : p.budget ≡ kept.budget) where
   free-of : (blocks : List Block) → AreFree books kept.budget blocks → AreFree books p.budget blocks
   free-of blocks h = let P : ℕ → Type 0 = λ n. AreFree books n blocks in subst P (sym budget) h
 

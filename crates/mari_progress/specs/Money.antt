@@ -1,6 +1,5 @@
 -- The money of a block: its lines of operators and providers, and its ledger.
-use Rattle.std.specs.Prelude.{◌≡◌, ℕ, ◌==◌, ℤ, List, Option, length, map, slice_index_or}
-use Rattle.std.specs.List.{range_with_len}
+use Rattle.std.specs.Prelude.{◌≡◌, ℕ, ◌==◌, ℤ, List, Option, map, slice_index_or}
 use Rattle.mari_units.specs.declared.numbers.Cents.{Cents}
 use Rattle.mari_units.specs.declared.numbers.Quarters.{Quarters}
 use Rattle.mari_bids.specs.Bids.{bid_numbered}
@@ -12,7 +11,7 @@ use Rattle.mari_remain.specs.declared.books.Books.{Books}
 use Rattle.mari_remain.specs.declared.market.RunMarket.{RunMarket}
 use Rattle.mari_settle.specs.declared.ledger.Ledger.{Ledger}
 use Rattle.mari_settle.specs.declared.ledger.OperatorLine.{OperatorLine}
-use Rattle.mari_settle.specs.Ledger.{net_of, operator_lines, provider_amount, rents_of, scheduled_or}
+use Rattle.mari_settle.specs.Ledger.{net_of, operator_lines, provider_amount, provider_amounts, rents_of, scheduled_or}
 use Rattle.mari_settle.specs.Lines.{map_along, nothing}
 use Rattle.mari_progress.specs.Told.{activation_of, prices_of, rents_told}
 use Rattle.mari_rows.specs.Names.{listed_once, listed_with, name_at}
@@ -45,7 +44,7 @@ amount_of books made also b provider = provider_amount books.bids made.bids (act
 
 -- what each provider gets in it
 abbrev pub amounts_of : Books → RunMarket → (also : Option (List Cents)) → FullBlock → List Quarters
-amounts_of books made also b = map (λ provider. record { 0 = amount_of books made also b provider }) (range_with_len 0 (length books.bids.providers))
+amounts_of books made also b = provider_amounts books.bids made.bids (activation_of b) (prices_of b) (scheduled_or (prices_of b) also)
 
 -- a block tells this ledger, and of the providers those at these places
 pub record TellsLedger (books : Books) (b : FullBlock) (ledger : Ledger) (places : List ℕ) : Type 0 where

@@ -9,7 +9,7 @@ use Rattle.mari_remain.specs.declared.books.Books.{Books}
 use Rattle.mari_day.specs.Day.{IsDay, IsPrintedDay}
 use Rattle.mari_day.specs.Reading.{HasBooks}
 use Rattle.mari_day.specs.declared.text.PrintedDay.{PrintedDay}
-use Rattle.mari_scenario.specs.Accepted.{AreAccepted, HasSize}
+use Rattle.mari_scenario.specs.Accepted.{AreAccepted, IsOfDaySize}
 use Rattle.mari_scenario.specs.Pages.{scenario_at}
 use Rattle.mari_words.specs.declared.command.TheConstants.{USUAL_NODES}
 use Rattle.mari_app.proofs.Gates.{generated-published}
@@ -31,7 +31,7 @@ summarised number books day p text accepted gives is read spelled =
     record {
       books = books;
       gives = gives;
-      sized = subst (λ (b : Books). HasSize b.zones b.borders b.bids b.runs) (sym whole-is) accepted.sized;
+      sized = subst (λ (b : Books). IsOfDaySize b.zones b.borders b.bids b.runs) (sym whole-is) accepted.sized;
       publication = p;
       is_day = day-is;
       published = generated-published number USUAL_NODES books p accepted gives (omega arith) day-is;

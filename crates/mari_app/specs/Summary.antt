@@ -10,7 +10,7 @@ use Rattle.mari_publish.specs.Lines.{unpublished_in}
 use Rattle.mari_remain.specs.declared.books.Books.{Books}
 use Rattle.mari_day.specs.Day.{IsDay}
 use Rattle.mari_day.specs.Reading.{HasBooks}
-use Rattle.mari_scenario.specs.Accepted.{HasSize}
+use Rattle.mari_scenario.specs.Accepted.{IsOfDaySize}
 use Rattle.mari_scenario.specs.Pages.{scenario_at}
 use Rattle.mari_words.specs.declared.command.TheConstants.{USUAL_NODES}
 
@@ -51,7 +51,7 @@ summary_of number books blocks = heading_line number books ++ flat_map run_line 
 pub record IsGenerated (number : ℕ) (text : List ℕ) : Type 0 where
   pub books : Books
   pub gives : HasBooks (scenario_at number) (codes "s") books
-  pub sized : HasSize books.zones books.borders books.bids books.runs
+  pub sized : IsOfDaySize books.zones books.borders books.bids books.runs
   pub publication : Publication
   pub is_day : IsDay books USUAL_NODES publication
   pub published : unpublished_in publication.blocks ≡ 0

@@ -77,7 +77,7 @@ module _ (books : Books) (blocks : List Block) (ledger : Ledger) (sums : AreTota
 -- ---- the whole
 
 -- the first line
-pub head-fault : (books : Books) (p : Publication) (found : Option ℕ) (number : ℕ) → found ≡ Some number → FindsHead (HasHead books p) found → IsHeadFault books p 0 number
+pub head-fault : (books : Books) (p : Publication) (found : Option ℕ) (number : ℕ) → found ≡ Some number → FindsHead (HasHead books p.date p.quarters) found → IsHeadFault books p 0 number
 head-fault books p None number e f = cc e
 head-fault books p (Some n) number e f = let same : n ≡ number = cc e in record { differs = f.0; run_is = refl; number_is = sym same ∙ f.1 }
 
@@ -86,11 +86,11 @@ head-told books p None v e h = cc e
 head-told books p (Some (Valid published unpublished)) v e h = absurd h
 head-told books p (Some (Invalid run number)) v e h = let same : Invalid run number ≡ v = cc e in subst (IsVerdict books p) same (inl h)
 
-pub head-clear : (books : Books) (p : Publication) (found : Option Verdict) → found ≡ None → HeadTells books p found → HasHead books p
+pub head-clear : (books : Books) (p : Publication) (found : Option Verdict) → found ≡ None → HeadTells books p found → HasHead books p.date p.quarters
 head-clear books p None e h = h
 head-clear books p (Some v) e h = absurd (cc e)
 
-module _ (books : Books) (p : Publication) (head : HasHead books p) (kept : DayCheck) (budget : p.budget ≡ kept.budget) where
+module _ (books : Books) (p : Publication) (head : HasHead books p.date p.quarters) (kept : DayCheck) (budget : p.budget ≡ kept.budget) where
   free-of : (blocks : List Block) → AreFree books kept.budget blocks → AreFree books p.budget blocks
   free-of blocks h = let P : ℕ → Type 0 = λ n. AreFree books n blocks in subst P (sym budget) h
 

@@ -11,7 +11,7 @@ use Rattle.mari_remain.specs.declared.books.Books.{Books}
 use Rattle.mari_remain.specs.declared.market.RunMarket.{RunMarket}
 use Rattle.mari_settle.specs.declared.ledger.Ledger.{Ledger}
 use Rattle.mari_settle.specs.Ledger.{operator_lines, provider_amounts, rents_of, scheduled_or}
-use Rattle.mari_progress.specs.Money.{HasLedger, providers_among}
+use Rattle.mari_progress.specs.Money.{HasLedger, TellsLedger, providers_among}
 use Rattle.mari_progress.specs.Runs.{IsBalancedLedger, IsMarketOf}
 use Rattle.mari_progress.specs.Told.{activation_of, prices_of}
 use Rattle.mari_check.specs.declared.block.Examined.{Examined}
@@ -20,7 +20,6 @@ use Rattle.mari_check.specs.declared.fault.Fault.{Fault}
 use Rattle.mari_check.specs.declared.fault.Fault.TheVariants as fault
 use Rattle.mari_check.specs.Examined.{IsExamined, IsToldLedger}
 use Rattle.mari_check.specs.Faults.{IsFreeOf, IsLeast, NoneBelow}
-use Rattle.mari_check.specs.Lines.{TellsLedger}
 use Rattle.mari_check.proofs.Least.{last-passes, least-is}
 use Rattle.mari_check.proofs.Providers.{run-of, tells-is}
 

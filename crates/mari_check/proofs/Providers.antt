@@ -17,11 +17,11 @@ use Rattle.mari_remain.specs.declared.market.RunMarket.{RunMarket}
 use Rattle.mari_settle.specs.declared.ledger.Ledger.{Ledger}
 use Rattle.mari_settle.specs.Ledger.{operator_lines, provider_amounts, rent_of, rents_of, scheduled_or}
 use Rattle.mari_settle.specs.Lines.{map_along}
-use Rattle.mari_progress.specs.Money.{HasLedger, amount_line, amounts_of, money_lines_of, providers_among}
+use Rattle.mari_progress.specs.Money.{HasLedger, TellsLedger, amount_line, amounts_of, money_lines_of, providers_among}
 use Rattle.mari_progress.specs.Runs.{IsBalancedLedger, IsMarketOf, IsRunOf}
 use Rattle.mari_progress.specs.Told.{activation_of, prices_of}
 use Rattle.mari_progress.proofs.Lists.{along-length}
-use Rattle.mari_check.specs.Lines.{TellsLedger, TellsRent}
+use Rattle.mari_check.specs.Lines.{TellsRent}
 use Rattle.mari_check.proofs.Zips.{map-itself, zip-from, zip-to}
 
 pub rents-to : (lines : List BorderLine) (rents : List Quarters) → AllZip TellsRent lines rents → map (λ (l : BorderLine). l.rent) lines ≡ rents
@@ -45,8 +45,8 @@ module _ (books : Books) (made : RunMarket) (also : Option (List Cents)) (b : Fu
       let own_amounts : ledger.providers ≡ amounts_of books made also b = providers ∙ same2 (λ x qs. provider_amounts books.bids made.bids x qs (scheduled_or qs also)) in
       let lines = ap (money_lines_of books.zones.operators) own_lines in
       let amounts = ap (λ (qs : List Quarters). map (amount_line books.bids.providers qs) places) own_amounts ∙ ap (map (amount_line books.bids.providers (amounts_of books made also b))) listed in (
-        λ e. let h = test.0 e in record { rents = h.rents ∙ own_rents; operators = h.operators ∙ lines; providers = h.providers ∙ amounts },
-        λ h. test.1 (record { rents = h.rents ∙ sym own_rents; operators = h.operators ∙ sym lines; providers = h.providers ∙ sym amounts }),
+        λ e. let h = test.0 e in record { tells = record { rents = h.rents ∙ own_rents; operators = h.operators ∙ lines; providers = h.providers ∙ amounts } },
+        λ h. test.1 (record { rents = h.tells.rents ∙ sym own_rents; operators = h.tells.operators ∙ sym lines; providers = h.tells.providers ∙ sym amounts }),
       )
 
 -- what the block adds to its day
@@ -57,7 +57,7 @@ run-of books made also b ledger a ps told priced of agrees h rents operators pro
   market = refl;
   activation = told;
   prices = priced;
-  operators = h.operators ∙ ap (money_lines_of books.zones.operators) (sym (operators ∙ same2 books made also b ledger [] a ps.cents told priced (operator_lines books.zones made.market)));
+  operators = h.tells.operators ∙ ap (money_lines_of books.zones.operators) (sym (operators ∙ same2 books made also b ledger [] a ps.cents told priced (operator_lines books.zones made.market)));
   providers = providers ∙ same2 books made also b ledger [] a ps.cents told priced (λ x qs. provider_amounts books.bids made.bids x qs (scheduled_or qs also));
   one_each = ap length operators ∙ length-map-range_with_len _ 0 (length books.zones.operators);
   rents =

@@ -150,7 +150,7 @@ module _ (books : Books) (parts : List Part) (old : DayCheck) (fine : IsOpen boo
       let p = c.whole in
       let s = starts p date quarters budget c.more (c.are ∙ sym (append_assoc parts (x ∷ []) c.more) ∙ ap (λ (ps : List Part). ps ++ c.more) alone) in
       let right = head-clear books p found e (tells p s.date_is s.quarters_is) in
-      let now : IsFaultlessSoFar books date quarters budget [] new = record { date_is = sym s.date_is ∙ right.date; quarters_is = sym s.quarters_is ∙ right.quarters; budget_is = sym b; blocks = []; are = refl; checked = checked } in
+      let now : IsFaultlessSoFar books date quarters budget [] new = record { head = record { date_is = sym s.date_is ∙ right.date_is; quarters_is = sym s.quarters_is ∙ right.quarters_is }; budget_is = sym b; blocks = []; are = refl; checked = checked } in
       subst (λ (ps : List Part). IsOpen books ps new) (sym alone) now
 
   pub head-found : (new : DayCheck) → IsChecked books [] new → new.budget ≡ budget → IsFound books (parts ++ x ∷ []) new found
@@ -201,7 +201,7 @@ way books (part.Totals os ps ∷ rest) day x l o c = absurd o
 
 -- where a part stands in a publication that begins with it and those before it
 record Placed (books : Books) (day : DayCheck) (blocks : List Block) (x : Part) (p : Publication) : Type 0 where
-  pub head : HasHead books p
+  pub head : HasHead books p.date p.quarters
   pub budget : p.budget ≡ day.budget
   pub stands : Behind p.blocks p.operators p.providers blocks x
 
@@ -210,7 +210,7 @@ module _ (books : Books) (parts : List Part) (old : DayCheck) (x : Part) (w : Wa
   placed p more e =
       let s = starts p w.date w.quarters w.budget (w.rest ++ x ∷ more) (e ∙ append_assoc parts (x ∷ []) more ∙ ap (λ (ps : List Part). ps ++ x ∷ more) w.is) in
       record {
-        head = record { date = s.date_is ∙ w.clear.date_is; quarters = s.quarters_is ∙ w.clear.quarters_is };
+        head = record { date_is = s.date_is ∙ w.clear.head.date_is; quarters_is = s.quarters_is ∙ w.clear.head.quarters_is };
         budget = s.budget_is ∙ w.clear.budget_is;
         stands = behind p.blocks p.operators p.providers w.clear.blocks x more (s.rest_is ∙ ap (λ (ps : List Part). ps ++ x ∷ more) w.clear.are);
       }
@@ -235,8 +235,7 @@ module _ (books : Books) (parts : List Part) (old : DayCheck) (x : Part) (w : Wa
   block-opens b is new checked budget =
       let longer : parts ++ x ∷ [] ≡ part.Head w.date w.quarters w.budget ∷ (w.rest ++ x ∷ []) = ap (λ (ps : List Part). ps ++ x ∷ []) w.is in
       let now : IsFaultlessSoFar books w.date w.quarters w.budget (w.rest ++ x ∷ []) new = record {
-        date_is = w.clear.date_is;
-        quarters_is = w.clear.quarters_is;
+        head = w.clear.head;
         budget_is = w.clear.budget_is ∙ sym budget;
         blocks = w.clear.blocks ++ b ∷ [];
         are = ap (λ (ps : List Part). ps ++ x ∷ []) w.clear.are ∙ ap (λ (y : Part). map part.Block w.clear.blocks ++ y ∷ []) is ∙ sym (map_push part.Block w.clear.blocks b);
@@ -251,7 +250,7 @@ module _ (books : Books) (parts : List Part) (old : DayCheck) (x : Part) (w : Wa
   block-found b is new (Err why) tells stands budget = tt
 
   pub totals-settle : (os : List MoneyLine) (ps : List AmountLine) → x ≡ part.Totals os ps → (v : Verdict)
-      → ((p : Publication) → HasHead books p → p.budget ≡ old.budget → IsChecked books p.blocks old → p.operators ≡ os → p.providers ≡ ps → IsVerdict books p v) → SettlesVerdict books (parts ++ x ∷ []) v
+      → ((p : Publication) → HasHead books p.date p.quarters → p.budget ≡ old.budget → IsChecked books p.blocks old → p.operators ≡ os → p.providers ≡ ps → IsVerdict books p v) → SettlesVerdict books (parts ++ x ∷ []) v
   totals-settle os ps is v ends = λ p more e.
       let spot = placed p more e in
       let own : Behind p.blocks p.operators p.providers w.clear.blocks (part.Totals os ps) = subst (Behind p.blocks p.operators p.providers w.clear.blocks) is spot.stands in

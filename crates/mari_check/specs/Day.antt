@@ -56,14 +56,14 @@ AreFree books budget blocks = (k : ℕ) (b : Block) → slice_get blocks k ≡ S
 -- a valid publication: its first line is that of the books, there is a block for each run and none of them has a fault,
 -- and the totals are their sums
 pub record IsValidPublication (books : Books) (p : Publication) : Type 0 where
-  pub head : HasHead books p
+  pub head : HasHead books p.date p.quarters
   pub blocks : AreFree books p.budget p.blocks
   pub every : length p.blocks ≡ length books.runs.runs
   pub totals : HasTotals books p
 
 -- a block is the first that has a fault: the run at its place is told, with the block's least fault
 pub record IsBlockFault (books : Books) (p : Publication) (run number : ℕ) : Type 0 where
-  pub head : HasHead books p
+  pub head : HasHead books p.date p.quarters
   pub place : ℕ
   pub block : Block
   pub there : slice_get p.blocks place ≡ Some block
@@ -75,7 +75,7 @@ pub record IsBlockFault (books : Books) (p : Publication) (run number : ℕ) : T
 
 -- no block has a fault, and the block of a run is missing: the run is told, with the fault of a heading
 pub record IsMissing (books : Books) (p : Publication) (run number : ℕ) : Type 0 where
-  pub head : HasHead books p
+  pub head : HasHead books p.date p.quarters
   pub blocks : AreFree books p.budget p.blocks
   pub missing : length p.blocks < length books.runs.runs
   pub run_is : run ≡ run_behind p.blocks
@@ -83,7 +83,7 @@ pub record IsMissing (books : Books) (p : Publication) (run number : ℕ) : Type
 
 -- nothing else is wrong, and a line of the totals is: the last run is told, or 0 where there is none
 pub record IsTotalsFault (books : Books) (p : Publication) (run number : ℕ) : Type 0 where
-  pub head : HasHead books p
+  pub head : HasHead books p.date p.quarters
   pub blocks : AreFree books p.budget p.blocks
   pub every : length p.blocks ≡ length books.runs.runs
   pub differ : HasTotals books p → ⊥
@@ -92,7 +92,7 @@ pub record IsTotalsFault (books : Books) (p : Publication) (run number : ℕ) : 
 
 -- the first line is another: run 0 is told, with the fault of a heading
 pub record IsHeadFault (books : Books) (p : Publication) (run number : ℕ) : Type 0 where
-  pub differs : HasHead books p → ⊥
+  pub differs : HasHead books p.date p.quarters → ⊥
   pub run_is : run ≡ 0
   pub number_is : number ≡ fault_number fault.Heading
 

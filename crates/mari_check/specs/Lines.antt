@@ -1,5 +1,5 @@
 -- Lines of a block beside what they are to tell, one beside the other.
-use Rattle.std.specs.Prelude.{◌≡◌, ◌≤ℤ◌, ℕ, List, map}
+use Rattle.std.specs.Prelude.{◌≡◌, ◌≤ℤ◌, ℕ, List}
 use Rattle.mari_units.specs.declared.numbers.Cents.{Cents}
 use Rattle.mari_units.specs.declared.numbers.Quarters.{Quarters}
 use Rattle.mari_rows.specs.Names.{name_at}
@@ -10,11 +10,6 @@ use Rattle.mari_lines.specs.declared.line.BidLine.{BidLine}
 use Rattle.mari_lines.specs.declared.line.BorderLine.{BorderLine}
 use Rattle.mari_lines.specs.declared.line.MoneyLine.{MoneyLine}
 use Rattle.mari_lines.specs.declared.line.ZoneLine.{ZoneLine}
-use Rattle.mari_publish.specs.declared.publication.FullBlock.{FullBlock}
-use Rattle.mari_remain.specs.declared.books.Books.{Books}
-use Rattle.mari_settle.specs.declared.ledger.Ledger.{Ledger}
-use Rattle.mari_progress.specs.Money.{amount_line, money_lines_of}
-use Rattle.mari_progress.specs.Told.{rents_told}
 
 -- the line of a zone has the name
 abbrev pub NamesZone : ZoneLine → List ℕ → Type 0
@@ -51,9 +46,3 @@ IsSameMoneyLine l own = l ≡ own
 
 abbrev pub IsSameAmountLine : AmountLine → AmountLine → Type 0
 IsSameAmountLine l own = l ≡ own
-
--- a block tells this ledger, and of the providers those at these places
-pub record TellsLedger (books : Books) (b : FullBlock) (ledger : Ledger) (places : List ℕ) : Type 0 where
-  pub rents : rents_told b ≡ ledger.rents
-  pub operators : b.operators ≡ money_lines_of books.zones.operators ledger.operators
-  pub providers : b.providers ≡ map (amount_line books.bids.providers ledger.providers) places

@@ -13,6 +13,7 @@ use Rattle.mari_publish.specs.declared.publication.Part.{Part}
 use Rattle.mari_publish.specs.declared.publication.Part.TheVariants as part
 use Rattle.mari_publish.specs.declared.publication.Publication.{Publication}
 use Rattle.mari_remain.specs.declared.books.Books.{Books}
+use Rattle.mari_progress.specs.Totals.{HasHead}
 use Rattle.mari_check.specs.declared.day.DayCheck.{DayCheck}
 use Rattle.mari_check.specs.declared.stream.Stream.{Stream}
 use Rattle.mari_check.specs.declared.stream.StreamFault.{StreamFault}
@@ -141,8 +142,7 @@ pub record Comes (parts : List Part) (x : Part) : Type 0 where
 
 -- the head that was given is that of the books, and the blocks behind it have no fault
 pub record IsFaultlessSoFar (books : Books) (date : List ℕ) (quarters budget : ℕ) (rest : List Part) (day : DayCheck) : Type 0 where
-  pub date_is : date ≡ books.date
-  pub quarters_is : quarters ≡ books.quarters
+  pub head : HasHead books date quarters
   pub budget_is : budget ≡ day.budget
   pub blocks : List Block
   pub are : rest ≡ map part.Block blocks

@@ -19,7 +19,7 @@ IsVerdict books p (Invalid run number) = IsFirstFault books p run number
 
 -- the verdict on the first line: run 0 where it isn't that of the books, and none where it is
 abbrev pub HeadTells : Books → Publication → Option Verdict → Type 0
-HeadTells books p None = HasHead books p
+HeadTells books p None = HasHead books p.date p.quarters
 HeadTells books p (Some (Valid published unpublished)) = ⊥
 HeadTells books p (Some (Invalid run number)) = IsHeadFault books p run number
 

@@ -53,7 +53,7 @@ impl DayCheck {
     /// called once, before any block.
     pub fn head(&mut self, books: &Books, date: &Name, quarters: u32, budget: u32) -> Option<u8>
         requires { IsChecked books.now [] self.old }
-        ensures finds { (p : ThePublication) → p.date ≡ date.now → p.quarters ≡ quarters → FindsHead (HasHead books.now p) result }
+        ensures finds { (p : ThePublication) → p.date ≡ date.now → p.quarters ≡ quarters → FindsHead (HasHead books.now p.date p.quarters) result }
         ensures stands { IsChecked books.now [] self.new }
         ensures budget { self.new.budget ≡ budget }
     {

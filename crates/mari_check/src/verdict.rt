@@ -54,7 +54,7 @@ impl DayCheck {
     pub fn end(&self, books: &Books, operators: &[MoneyLine], providers: &[AmountLine]) -> Verdict
         requires accepted { IsAccepted books.now }
         requires stands { (blocks : List PrintedBlock) × IsChecked books.now blocks self.now }
-        ensures { (p : ThePublication) → HasHead books.now p → p.budget ≡ self.now.budget → IsChecked books.now p.blocks self.now → p.operators ≡ operators.now → p.providers ≡ providers.now
+        ensures { (p : ThePublication) → HasHead books.now p.date p.quarters → p.budget ≡ self.now.budget → IsChecked books.now p.blocks self.now → p.operators ≡ operators.now → p.providers ≡ providers.now
             → IsVerdict books.now p result }
     {
         let runs = run_count(books);
@@ -124,7 +124,7 @@ impl DayCheck {
     ) -> Result<Option<Verdict>, Memory>
         requires accepted { IsAccepted books.now }
         requires stands { IsChecked books.now [] self.old }
-        ensures found { (p : ThePublication) → HasHead books.now p → p.budget ≡ self.old.budget → p.blocks ≡ blocks.now → IfOk result (λ found. IfSome found (IsVerdict books.now p)) }
+        ensures found { (p : ThePublication) → HasHead books.now p.date p.quarters → p.budget ≡ self.old.budget → p.blocks ≡ blocks.now → IfOk result (λ found. IfSome found (IsVerdict books.now p)) }
         ensures none { IfOk result (λ found. found ≡ None → IsChecked books.now blocks.now self.new) }
         ensures budget { self.new.budget ≡ self.old.budget }
     {

@@ -30,10 +30,10 @@ same2 f a a' b b' e g = ap (λ x. f x b') e ∙ ap (f a) g
 module _ (books : Books) (budget run : ℕ) (made : RunMarket) (also : Option (List Cents)) (clearing : Clearing) (priced : Priced) (b : FullBlock) (is : IsAssembled books run made.bids clearing priced b) where
   -- the block tells the activation that was cleared
   pub same_activation : activation_of b ≡ clearing.activation
-  same_activation = rw (is.orders.mw, is.orders.demands, is.borders.flow, take-append-drop) refl
+  same_activation = rw (is.orders.mw, is.orders.demands, is.flow, take-append-drop) refl
 
   pub same_clearing : clearing_of b ≡ clearing
-  same_clearing = rw (is.orders.mw, is.orders.demands, is.borders.flow, take-append-drop, is.welfare, is.tree) refl
+  same_clearing = rw (is.orders.mw, is.orders.demands, is.flow, take-append-drop, is.welfare, is.tree) refl
 
   -- the amounts of all providers are those of the block's activation at its prices
   pub same_amounts : IsPriced books made also clearing priced → priced.ledger.providers ≡ amounts_of books made also b
@@ -61,9 +61,11 @@ module _ (books : Books) (budget run : ℕ) (made : RunMarket) (also : Option (L
           areas = along2 (AreAreas m) a (activation_of b) _ _ same_activation is.zones.areas p.prices.areas;
         };
         ledger = record {
-          rents = is.borders.rents ∙ p.rents ∙ sym (same2 (rents_of m) a (activation_of b) ps (prices_of b) same_activation is.zones.prices);
-          operators = is.operators ∙ ap (money_lines_of books.zones.operators) (p.operators ∙ sym (same2 (operator_lines books.zones m) a (activation_of b) ps (prices_of b) same_activation is.zones.prices));
-          providers = is.providers ∙ ap (λ amounts. map (amount_line books.bids.providers amounts) (providers_among books.bids.bids made.bids)) (same_amounts p);
+          tells = record {
+            rents = is.ledger.rents ∙ p.rents ∙ sym (same2 (rents_of m) a (activation_of b) ps (prices_of b) same_activation is.zones.prices);
+            operators = is.ledger.operators ∙ ap (money_lines_of books.zones.operators) (p.operators ∙ sym (same2 (operator_lines books.zones m) a (activation_of b) ps (prices_of b) same_activation is.zones.prices));
+            providers = is.ledger.providers ∙ ap (λ amounts. map (amount_line books.bids.providers amounts) (providers_among books.bids.bids made.bids)) (same_amounts p);
+          };
         };
       }
 
@@ -74,7 +76,7 @@ module _ (books : Books) (budget run : ℕ) (made : RunMarket) (also : Option (L
     market = same;
     activation = of ∙ sym same_activation;
     prices = ap (λ (ps : Prices). ps.cents) prices ∙ sym is.zones.prices;
-    operators = rw ledger is.operators;
+    operators = rw ledger is.ledger.operators;
     providers = rw ledger (same_amounts p);
     one_each = rw ledger shapes.operators;
     rents = rw ledger shapes.rents;

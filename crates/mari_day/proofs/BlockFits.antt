@@ -99,9 +99,9 @@ module _ (books : Books) (ok : IsAccepted books) (dated : IsDated books) (budget
       let from = of-map (λ (l : BorderLine). l.from) IsName b.borders _ is.names.from (ends-named (λ x. x.from) (λ x h. h.from)) in
       let to = of-map (λ (l : BorderLine). l.to) IsName b.borders _ is.names.to (ends-named (λ x. x.to) (λ x h. h.to)) in
       let flows = flows-fit made.market of.valid clearing.activation feasible in
-      let flow = of-map (λ (l : BorderLine). l.flow) (λ f. Within 199998 f) b.borders _ is.borders.flow flows.1 in
-      let rents = of-map (λ (l : BorderLine). l.rent) IsMoney b.borders _ is.borders.rents (All-weaker IsSmall IsMoney money priced.ledger.rents p.balanced.small.rents) in
-      let many = as-many (λ (l : BorderLine). l.flow) b.borders _ is.borders.flow in
+      let flow = of-map (λ (l : BorderLine). l.flow) (λ f. Within 199998 f) b.borders _ is.flow flows.1 in
+      let rents = of-map (λ (l : BorderLine). l.rent) IsMoney b.borders _ is.ledger.rents (All-weaker IsSmall IsMoney money priced.ledger.rents p.balanced.small.rents) in
+      let many = as-many (λ (l : BorderLine). l.flow) b.borders _ is.flow in
       ((omega arith, omega (arith, many, flows.0.1)), λ k d l. (from k d l, to k d l, flow k d l, rents k d l))
 
   bids-fit : Listed 0 4096 (λ x. InRange (line.Bid x)) b.bids
@@ -122,7 +122,7 @@ module _ (books : Books) (ok : IsAccepted books) (dated : IsDated books) (budget
   operators-fit =
       let many = along-length money_line books.zones.operators priced.ledger.operators shapes.operators in
       let some : 0 < length books.zones.operators = omega (arith, ok.zones.operators_there.there 0 0 (omega (arith, ok.zones.operators_there.one_each, ok.zones.some))) in
-      rw is.operators ((omega (arith, many, some), omega (arith, many, ok.zones.few_operators)), lines-fit books.zones.operators priced.ledger.operators ok.zones.operators (halves priced.ledger.operators p.balanced.small.operators))
+      rw is.ledger.operators ((omega (arith, many, some), omega (arith, many, ok.zones.few_operators)), lines-fit books.zones.operators priced.ledger.operators ok.zones.operators (halves priced.ledger.operators p.balanced.small.operators))
 
   amount-fits : (place : ℕ) → place < length books.bids.providers → IsAmountLine (amount_line books.bids.providers priced.ledger.providers place)
   amount-fits place l = (ok.bids.providers place [] l, money (slice_index_or priced.ledger.providers place nothing) (p.balanced.small.providers place nothing (omega (arith, shapes.providers))))
@@ -132,7 +132,7 @@ module _ (books : Books) (ok : IsAccepted books) (dated : IsDated books) (budget
       let places = providers_among books.bids.bids made.bids in
       let below : All (λ place. place < length books.bids.providers) places = providers-there books.bids.bids made.bids (length books.bids.providers) (λ k d l. (ok.bids.bids k d l).provider) of.there in
       let many = length-map places (amount_line books.bids.providers priced.ledger.providers) in
-      rw is.providers (
+      rw is.ledger.providers (
         (omega arith, omega (arith, many, few-providers books.bids.bids made.bids, of.few)),
         All-map IsAmountLine (amount_line books.bids.providers priced.ledger.providers) places (λ k d l. amount-fits _ (below k d l)),
       )

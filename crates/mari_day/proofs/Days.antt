@@ -118,7 +118,7 @@ module _ (books : Books) (ok : IsAccepted books) (dated : IsDated books) where
     pub is-day : IsDayOf books budget blocks day-of-blocks
     is-day = record {
       day = record {
-        head = record { date = refl; quarters = refl };
+        head = record { date_is = refl; quarters_is = refl };
         budget = refl;
         part = progress.part;
         every = every;

@@ -48,8 +48,8 @@ module _ (books : Books) (budget : ℕ) where
       let totals = total_text_of p in
       append_assoc head (flat_map block_text_of blocks) totals
       ∙ ap (λ t. t ++ (flat_map block_text_of blocks ++ totals)) (append-nil (first-line books.date books.quarters budget))
-      ∙ ap (λ (date : List ℕ). first-line date books.quarters budget ++ (flat_map block_text_of blocks ++ totals)) (sym is.day.head.date)
-      ∙ ap (λ (quarters : ℕ). first-line p.date quarters budget ++ (flat_map block_text_of blocks ++ totals)) (sym is.day.head.quarters)
+      ∙ ap (λ (date : List ℕ). first-line date books.quarters budget ++ (flat_map block_text_of blocks ++ totals)) (sym is.day.head.date_is)
+      ∙ ap (λ (quarters : ℕ). first-line p.date quarters budget ++ (flat_map block_text_of blocks ++ totals)) (sym is.day.head.quarters_is)
       ∙ ap (λ (nodes : ℕ). first-line p.date p.quarters nodes ++ (flat_map block_text_of blocks ++ totals)) (sym is.day.budget)
       ∙ ap (λ (bs : List Block). first-line p.date p.quarters p.budget ++ (flat_map block_text_of bs ++ totals)) (sym is.of_blocks)
       ∙ ap (λ (t : List ℕ). first-line p.date p.quarters p.budget ++ (t ++ totals)) (sym (text_of_blocks p.blocks))

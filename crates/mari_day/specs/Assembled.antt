@@ -10,9 +10,9 @@ use Rattle.mari_remain.specs.declared.market.RunMarket.{RunMarket}
 use Rattle.mari_settle.specs.Ledger.{operator_lines, provider_amounts, rents_of, scheduled_or}
 use Rattle.mari_settle.specs.Conditions.{HasSmallNumbers}
 use Rattle.mari_day.specs.declared.block.Priced.{Priced}
-use Rattle.mari_progress.specs.Money.{amount_line, money_lines_of, providers_among}
+use Rattle.mari_progress.specs.Money.{TellsLedger, providers_among}
 use Rattle.mari_progress.specs.Runs.{IsBalancedLedger}
-use Rattle.mari_progress.specs.Told.{NamesLines, areas_of, greatest_told, heading_of, least_told, prices_of, rents_told}
+use Rattle.mari_progress.specs.Told.{NamesLines, areas_of, greatest_told, heading_of, least_told, prices_of}
 use Rattle.mari_progress.specs.Prices.{AreZonePrices}
 
 -- what the lines of zones tell
@@ -21,11 +21,6 @@ pub record HasZoneLines (priced : Priced) (b : FullBlock) : Type 0 where
   pub least : least_told b ≡ priced.pricing.least.cents
   pub greatest : greatest_told b ≡ priced.pricing.greatest.cents
   pub areas : areas_of b ≡ priced.areas.items
-
--- what the lines of borders tell
-pub record HasBorderLines (clearing : Clearing) (priced : Priced) (b : FullBlock) : Type 0 where
-  pub flow : map (λ (l : BorderLine). l.flow) b.borders ≡ clearing.activation.flow
-  pub rents : rents_told b ≡ priced.ledger.rents
 
 -- what the lines of bids tell, and the demands
 pub record HasOrderLines (numbers : List ℕ) (clearing : Clearing) (b : FullBlock) : Type 0 where
@@ -39,10 +34,9 @@ pub record IsAssembled (books : Books) (run : ℕ) (numbers : List ℕ) (clearin
   pub tree : b.tree ≡ clearing.tree
   pub names : NamesLines books numbers b
   pub zones : HasZoneLines priced b
-  pub borders : HasBorderLines clearing priced b
+  pub flow : map (λ (l : BorderLine). l.flow) b.borders ≡ clearing.activation.flow
   pub orders : HasOrderLines numbers clearing b
-  pub operators : b.operators ≡ money_lines_of books.zones.operators priced.ledger.operators
-  pub providers : b.providers ≡ map (amount_line books.bids.providers priced.ledger.providers) (providers_among books.bids.bids numbers)
+  pub ledger : TellsLedger books b priced.ledger (providers_among books.bids.bids numbers)
 
 -- one price of each kind and one area for each zone, a flow and a rent for each border, a quantity for each bid, an
 -- amount for each provider, and a line for each operator, all of them small

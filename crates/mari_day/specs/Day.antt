@@ -25,7 +25,7 @@ pub record IsDayPart (books : Books) (budget : ℕ) (blocks : List Block) : Type
 
 -- a day: the date, the quarters and the budget, a block for every run, and the sums over the published blocks
 pub record IsDay (books : Books) (nodes : ℕ) (p : Publication) : Type 0 where
-  pub head : HasHead books p
+  pub head : HasHead books p.date p.quarters
   pub budget : p.budget ≡ nodes
   pub part : IsDayPart books nodes p.blocks
   pub every : length p.blocks ≡ length books.runs.runs

@@ -6,7 +6,7 @@ use Rattle.mari_units.specs.Numbers.{whole_of}
 use Rattle.mari_rows.specs.Books.{Checks, Grammar}
 use Rattle.mari_rows.specs.Rows.{field_of}
 use Rattle.mari_rows.specs.declared.rows.Row.{Row}
-use Rattle.mari_zones.specs.Borders.{flow_limit_in, zone_named}
+use Rattle.mari_zones.specs.Borders.{file_limit_in, zone_named}
 use Rattle.mari_zones.specs.declared.borders.BorderBook.{BorderBook}
 use Rattle.mari_zones.specs.declared.borders.BorderEnds.{BorderEnds}
 use Rattle.mari_zones.specs.declared.zones.ZoneBook.{ZoneBook}
@@ -32,8 +32,8 @@ border_at zones borders row = unwrap_or (border_in zones borders row) 0
 -- the limits that a line states
 abbrev pub limits_of : Row → Option Limits
 limits_of row =
-    option_and_then (λ limit. option_map (λ back. record { limit = limit; back = back }) (flow_limit_in (field_of row 4)))
-    (flow_limit_in (field_of row 3))
+    option_and_then (λ limit. option_map (λ back. record { limit = limit; back = back }) (file_limit_in (field_of row 4)))
+    (file_limit_in (field_of row 3))
 
 abbrev pub limits_at : Row → Limits
 limits_at row = unwrap_or (limits_of row) no_limits

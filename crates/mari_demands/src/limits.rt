@@ -10,7 +10,7 @@ ghost use Rattle.mari_demands.specs.Limits.{border_in, leads, limit_columns, lim
 use crate::runs::RunBook;
 use mari_rows::{BookFault, BookSoFar, FileCheck, LineFault, Row, is_whole, number_of, read_book};
 use mari_units::{MOST_BORDERS, MOST_PAGE, MOST_RUNS};
-use mari_zones::{BorderBook, ZoneBook, flow_limit_of};
+use mari_zones::{BorderBook, ZoneBook, file_limit_of};
 use std::alloc::{AllocError, Global};
 use std::marker::Model;
 
@@ -138,10 +138,10 @@ fn border_of(zones: &ZoneBook, borders: &BorderBook, line: &Row) -> Option<usize
 fn limits_of(line: &Row) -> Option<Limits>
     ensures { result ≡ limits_of_line line.now }
 {
-    let Some(limit) = flow_limit_of(line.field(3)) else {
+    let Some(limit) = file_limit_of(line.field(3)) else {
         return None;
     };
-    match flow_limit_of(line.field(4)) {
+    match file_limit_of(line.field(4)) {
         Some(back) => Some(Limits { limit, back }),
         None => None,
     }

@@ -76,10 +76,10 @@ module _ (books : Books) (ok : IsAccepted books) where
       let lines = operator_lines books.zones made.market (activation_of b) (prices_of b) in
       let many : length lines ≡ length names = length-map-range_with_len _ 0 (length names) in
       record {
-        one_each = ap length ledger.operators ∙ along-length money_line names lines many;
+        one_each = ap length ledger.tells.operators ∙ along-length money_line names lines many;
         to_zero = record {
-          nets = ap net_sum ledger.operators ∙ net-lines names lines many ∙ nets_sum_to_0 books.zones made.market (activation_of b) (prices_of b) ok.zones.operators_there own.zones own.valid;
-          rents = subst (All (λ (rent : Quarters). pos 0 ≤ℤ rent.0)) (sym ledger.rents) (no_rent_below_0 made.market (activation_of b) (prices_of b) consistent.borders);
+          nets = ap net_sum ledger.tells.operators ∙ net-lines names lines many ∙ nets_sum_to_0 books.zones made.market (activation_of b) (prices_of b) ok.zones.operators_there own.zones own.valid;
+          rents = subst (All (λ (rent : Quarters). pos 0 ≤ℤ rent.0)) (sym ledger.tells.rents) (no_rent_below_0 made.market (activation_of b) (prices_of b) consistent.borders);
         };
       }
 

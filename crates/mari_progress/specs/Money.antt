@@ -1,6 +1,5 @@
 -- The money of a block: its lines of operators and providers, and its ledger.
-use Rattle.std.specs.Prelude.{◌≡◌, ℕ, ◌==◌, ℤ, List, Option, length, map, slice_index_or}
-use Rattle.std.specs.List.{range_with_len}
+use Rattle.std.specs.Prelude.{◌≡◌, ℕ, ◌==◌, ℤ, List, Option, map, slice_index_or}
 use Rattle.mari_units.specs.declared.numbers.Cents.{Cents}
 use Rattle.mari_units.specs.declared.numbers.Quarters.{Quarters}
 use Rattle.mari_bids.specs.Bids.{bid_numbered}
@@ -10,8 +9,9 @@ use Rattle.mari_publish.specs.declared.publication.FullBlock.{FullBlock}
 use Rattle.mari_lines.specs.declared.line.MoneyLine.{MoneyLine}
 use Rattle.mari_remain.specs.declared.books.Books.{Books}
 use Rattle.mari_remain.specs.declared.market.RunMarket.{RunMarket}
+use Rattle.mari_settle.specs.declared.ledger.Ledger.{Ledger}
 use Rattle.mari_settle.specs.declared.ledger.OperatorLine.{OperatorLine}
-use Rattle.mari_settle.specs.Ledger.{net_of, operator_lines, provider_amount, rents_of, scheduled_or}
+use Rattle.mari_settle.specs.Ledger.{net_of, operator_lines, provider_amount, provider_amounts, rents_of, scheduled_or}
 use Rattle.mari_settle.specs.Lines.{map_along, nothing}
 use Rattle.mari_progress.specs.Told.{activation_of, prices_of, rents_told}
 use Rattle.mari_rows.specs.Names.{listed_once, listed_with, name_at}
@@ -44,11 +44,22 @@ amount_of books made also b provider = provider_amount books.bids made.bids (act
 
 -- what each provider gets in it
 abbrev pub amounts_of : Books → RunMarket → (also : Option (List Cents)) → FullBlock → List Quarters
-amounts_of books made also b = map (λ provider. record { 0 = amount_of books made also b provider }) (range_with_len 0 (length books.bids.providers))
+amounts_of books made also b = provider_amounts books.bids made.bids (activation_of b) (prices_of b) (scheduled_or (prices_of b) also)
 
--- the block tells the run's ledger: each border's rent, each operator's line, and a line for each provider of the run's
--- bids
+-- a block tells this ledger, and of the providers those at these places
+pub record TellsLedger (books : Books) (b : FullBlock) (ledger : Ledger) (places : List ℕ) : Type 0 where
+  pub rents : rents_told b ≡ ledger.rents
+  pub operators : b.operators ≡ money_lines_of books.zones.operators ledger.operators
+  pub providers : b.providers ≡ map (amount_line books.bids.providers ledger.providers) places
+
+-- the run's ledger: each operator's line, what each provider gets, and each border's rent
+abbrev pub run_ledger : Books → RunMarket → (also : Option (List Cents)) → FullBlock → Ledger
+run_ledger books made also b = record {
+  operators = operator_lines books.zones made.market (activation_of b) (prices_of b);
+  providers = amounts_of books made also b;
+  rents = rents_of made.market (activation_of b) (prices_of b);
+}
+
+-- the block tells it, and of the providers those of the run's bids
 pub record HasLedger (books : Books) (made : RunMarket) (also : Option (List Cents)) (b : FullBlock) : Type 0 where
-  pub rents : rents_told b ≡ rents_of made.market (activation_of b) (prices_of b)
-  pub operators : b.operators ≡ money_lines_of books.zones.operators (operator_lines books.zones made.market (activation_of b) (prices_of b))
-  pub providers : b.providers ≡ map (amount_line books.bids.providers (amounts_of books made also b)) (providers_among books.bids.bids made.bids)
+  pub tells : TellsLedger books b (run_ledger books made also b) (providers_among books.bids.bids made.bids)

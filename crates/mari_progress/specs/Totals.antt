@@ -42,10 +42,10 @@ provider_total books blocks provider = record { name = name_at books.bids.provid
 abbrev pub provider_totals : Books → List Block → List AmountLine
 provider_totals books blocks = map (provider_total books blocks) (range_with_len 0 (length books.bids.providers))
 
--- the first line states the date and the quarters of the books
-pub record HasHead (books : Books) (p : Publication) : Type 0 where
-  pub date : p.date ≡ books.date
-  pub quarters : p.quarters ≡ books.quarters
+-- the date and the quarters that a first line states are those of the books
+pub record HasHead (books : Books) (date : List ℕ) (quarters : ℕ) : Type 0 where
+  pub date_is : date ≡ books.date
+  pub quarters_is : quarters ≡ books.quarters
 
 -- the totals are the sums over the published blocks
 pub record HasTotals (books : Books) (p : Publication) : Type 0 where

@@ -199,15 +199,38 @@ fn unpublished_in(blocks: &[Block]) -> u32
     blocks.len() as u32 - published_in(blocks)
 }
 
-/// Appends the lines behind all blocks.
+/// Appends the lines behind the last block, of a day of which so many blocks are published and so many are not.
+fn put_closing(
+    alloc: Global,
+    out: &mut Vec<u8>,
+    operators: &[MoneyLine],
+    providers: &[AmountLine],
+    published: u32,
+    unpublished: u32,
+) -> Result<(), Memory>
+    requires operators { All IsMoneyLine operators.now }
+    requires providers { All IsAmountLine providers.now }
+    ensures { OnOk result (out.new.items ≡ out.old.items ++ text_of_lines (closing_lines_by operators.now providers.now published unpublished)) }
+{
+    put_total_operators(alloc, out, operators)?;
+    put_total_providers(alloc, out, providers)?;
+    put_done(alloc, out, published, unpublished)
+}
+
+/// Appends those of a publication.
 fn put_totals(alloc: Global, out: &mut Vec<u8>, publication: &Publication) -> Result<(), Memory>
     requires { TotalsFit publication.now }
     ensures { OnOk result (out.new.items ≡ out.old.items ++ total_text_of publication.now) }
 {
-    put_total_operators(alloc, out, publication.operators.as_slice())?;
-    put_total_providers(alloc, out, publication.providers.as_slice())?;
     let blocks = publication.blocks.as_slice();
-    put_done(alloc, out, published_in(blocks), unpublished_in(blocks))
+    put_closing(
+        alloc,
+        out,
+        publication.operators.as_slice(),
+        publication.providers.as_slice(),
+        published_in(blocks),
+        unpublished_in(blocks),
+    )
 }
 
 /// The text of the first line.
@@ -230,7 +253,7 @@ pub fn block_text(alloc: Global, block: &Block) -> Result<Vec<u8>, Memory>
     Ok(out)
 }
 
-/// The text behind the last block.
+/// The text behind the last block of a publication.
 pub fn total_text(alloc: Global, publication: &Publication) -> Result<Vec<u8>, Memory>
     requires { TotalsFit publication.now }
     ensures { IfOk result (λ text. text.items ≡ total_text_of publication.now) }
@@ -240,7 +263,8 @@ pub fn total_text(alloc: Global, publication: &Publication) -> Result<Vec<u8>, M
     Ok(out)
 }
 
-/// The text behind the last block, of a day of which so many blocks are published and so many are not.
+/// The same text by what it tells, for a day that isn't held as a publication: so many of its blocks are published, and
+/// so many are not.
 pub fn closing_text(
     alloc: Global,
     operators: &[MoneyLine],
@@ -253,9 +277,14 @@ pub fn closing_text(
     ensures { IfOk result (λ text. text.items ≡ text_of_lines (closing_lines_by operators.now providers.now published unpublished)) }
 {
     let mut out = Vec::new(alloc);
-    put_total_operators(alloc, &mut out, operators)?;
-    put_total_providers(alloc, &mut out, providers)?;
-    put_done(alloc, &mut out, published, unpublished)?;
+    put_closing(
+        alloc,
+        &mut out,
+        operators,
+        providers,
+        published,
+        unpublished,
+    )?;
     Ok(out)
 }
 

@@ -30,7 +30,7 @@ abbrev pub HasPage : Pages → List ℕ → (List ℕ → Type 0) → Type 0
 HasPage pages name Is = IsSomeAnd (page_of pages name) Is
 
 -- how many zones, borders, bids and runs a generated day has
-pub record HasSize (zones : ZoneBook) (borders : BorderBook) (bids : BidBook) (runs : RunBook) : Type 0 where
+pub record IsOfDaySize (zones : ZoneBook) (borders : BorderBook) (bids : BidBook) (runs : RunBook) : Type 0 where
   pub eight_zones : length zones.zones ≡ 8
   pub ten_borders : length borders.borders ≡ 10
   pub bids_there : length bids.bids ≡ 960
@@ -55,5 +55,5 @@ pub record AreAccepted (pages : Pages) : Type 0 where
   pub links_read : HasPage pages (codes "s/links.csv") (λ page. book_in (link_grammar bids) page ≡ Ok links)
   pub runs_read : HasPage pages (codes "s/runs.csv") (λ page. book_in (run_grammar 96) page ≡ Ok runs)
   pub demands_read : HasPage pages (codes "s/demands.csv") (λ page. book_in (demand_grammar zones (length runs.runs)) page ≡ Ok demands)
-  pub sized : HasSize zones borders bids runs
+  pub sized : IsOfDaySize zones borders bids runs
   pub few_gates : (quarter : ℕ) → count_of bids (gated_in links) quarter ≤ 8

@@ -33,13 +33,13 @@ version_in page = if has_header bare_columns page then 2 else 1
 abbrev pub columns_in : (version : ℕ) → List ℕ
 columns_in version = if version == 2 then bare_columns else border_columns
 
--- the limit of a flow that a field writes, in MW
-abbrev pub flow_limit_in : List ℕ → Option ℕ
-flow_limit_in text = number_in 0 MOST_MW text
+-- the limit of a border, in MW, as a file states it: from 0 to `MOST_MW`
+abbrev pub file_limit_in : List ℕ → Option ℕ
+file_limit_in text = number_in 0 MOST_MW text
 
 -- the limit that a field of a border writes; in version 2 there is no such field, and the limit is 0
 abbrev pub limit_in : (version : ℕ) → List ℕ → Option ℕ
-limit_in version text = if version == 2 then Some 0 else flow_limit_in text
+limit_in version text = if version == 2 then Some 0 else file_limit_in text
 
 -- the border of a line
 abbrev pub border_of : ZoneBook → (version : ℕ) → Row → BorderEnds

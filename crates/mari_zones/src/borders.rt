@@ -5,7 +5,7 @@ ghost use Rattle.mari_rows.specs.Books.{first_failing, GivesBook};
 ghost use Rattle.mari_rows.specs.Checks.{IsRead};
 ghost use Rattle.mari_rows.specs.declared.rows.Row.{Row as Line};
 ghost use Rattle.mari_zones.specs.BorderChecks.{border_check_name, border_check_number};
-ghost use Rattle.mari_zones.specs.Borders.{IsBorderBook, bare_columns, border_checks, border_columns, border_grammar, border_of as border_in, borders_in, columns_in, flow_limit_in, is_between_same as is_between_same_in, limit_in, version_in};
+ghost use Rattle.mari_zones.specs.Borders.{IsBorderBook, bare_columns, border_checks, border_columns, border_grammar, border_of as border_in, borders_in, columns_in, file_limit_in, is_between_same as is_between_same_in, limit_in, version_in};
 
 use crate::zones::ZoneBook;
 use mari_rows::{
@@ -98,9 +98,9 @@ fn columns_of(version: u8) -> &'static str
     if version == 2 { BARE_COLUMNS } else { COLUMNS }
 }
 
-/// The limit of a flow that a field writes, in MW.
-pub fn flow_limit_of(text: &[u8]) -> Option<u32>
-    ensures { result ≡ flow_limit_in text.now }
+/// The limit of a border, in MW, as a file states it: from 0 to `MOST_MW`.
+pub fn file_limit_of(text: &[u8]) -> Option<u32>
+    ensures { result ≡ file_limit_in text.now }
 {
     number_of(text, 0, MOST_MW)
 }
@@ -112,7 +112,7 @@ fn limit_of(version: u8, text: &[u8]) -> Option<u32>
     if version == 2 {
         Some(0)
     } else {
-        flow_limit_of(text)
+        file_limit_of(text)
     }
 }
 

@@ -1,4 +1,4 @@
-use Rattle.mari_check.specs.Lines.{TellsLedger}
+use Rattle.mari_progress.specs.Money.{TellsLedger}
 use Rattle.mari_check.proofs.Providers.{rents-from, rents-to}
 use Rattle.mari_check.proofs.Zips.{refuted}
 use Rattle.mari_check.proofs.ledger.tells_ledger.Goals as goal

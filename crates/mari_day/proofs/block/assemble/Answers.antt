@@ -32,14 +32,14 @@ returns-clause-block c = record {
     greatest = rw c.of.ensures c.in_ok-zones.ensures.greatest;
     areas = rw c.of.ensures (c.in_ok-zones.ensures.areas ∙ c.deref.ensures.value);
   };
-  borders = record {
-    flow = rw c.of-2.ensures (c.in_ok-borders.ensures.flow ∙ c.as_slice-flow.ensures);
-    rents = rw c.of-2.ensures (c.in_ok-borders.ensures.rents ∙ c.as_slice.ensures);
-  };
+  flow = rw c.of-2.ensures (c.in_ok-borders.ensures.flow ∙ c.as_slice-flow.ensures);
   orders = record {
     mw = rw c.of-3.ensures (rw c.as_slice-mw.ensures at c.in_ok-bids.ensures.mw);
     demands = rw c.of-4.ensures (rw c.as_slice-mw.ensures at c.in_ok-demands.ensures);
   };
-  operators = c.of-5.ensures ∙ rw c.as_slice-2.ensures at c.in_ok-operators.ensures;
-  providers = c.of-6.ensures ∙ rw c.as_slice-3.ensures at c.in_ok-providers.ensures;
+  ledger = record {
+    rents = rw c.of-2.ensures (c.in_ok-borders.ensures.rents ∙ c.as_slice.ensures);
+    operators = c.of-5.ensures ∙ rw c.as_slice-2.ensures at c.in_ok-operators.ensures;
+    providers = c.of-6.ensures ∙ rw c.as_slice-3.ensures at c.in_ok-providers.ensures;
+  };
 }

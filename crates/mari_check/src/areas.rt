@@ -1,6 +1,6 @@
 //! The numbers of price areas.
 
-ghost use Rattle.std.specs.Prelude.{◌≡◌, ◌<◌, ◌≤◌, ℕ, length, IfOk, IsTrue, ◌↔◌, slice_index};
+ghost use Rattle.std.specs.Prelude.{◌≡◌, ◌<◌, ◌≤◌, ℕ, length, IfOk, IsTrue, ◌↔◌};
 ghost use Rattle.std.specs.List.{range_with_len};
 ghost use Rattle.mari_market.specs.Area.{AreAreas, HasBefore, IsNumbered};
 ghost use Rattle.mari_market.specs.Market.{IsValid};

@@ -12,8 +12,6 @@ ghost use Rattle.mari_check.specs.Lines.{TellsRent};
 ghost use Rattle.mari_progress.specs.Money.{TellsLedger, amount_line, money_line, money_lines_of};
 ghost use Rattle.mari_progress.specs.Runs.{IsMarketOf};
 ghost use Rattle.mari_progress.specs.Told.{activation_of as activation_told, prices_of as prices_told};
-ghost use Rattle.mari_lines.specs.declared.line.AmountLine.{AmountLine as TheAmountLine};
-ghost use Rattle.mari_lines.specs.declared.line.MoneyLine.{MoneyLine as TheMoneyLine};
 
 use crate::names::is_named;
 use mari_market::{Activation, Prices};

@@ -1,6 +1,6 @@
 //! Price areas.
 
-ghost use Rattle.std.specs.Prelude.{◌≡◌, ◌≤◌, ◌<◌, ℕ, length, IfOk, unsigned_abs, IfSome, IsSome};
+ghost use Rattle.std.specs.Prelude.{◌≡◌, ◌≤◌, ◌<◌, length, IfOk, unsigned_abs};
 ghost use Rattle.mari_market.specs.Area.{AreAreas};
 ghost use Rattle.mari_market.specs.Market.{IsValid};
 ghost use Rattle.mari_market.specs.Optimal.{IsFeasible};

@@ -1,8 +1,8 @@
 //! The texts of a publication's parts.
 
-ghost use Rattle.std.specs.Prelude.{◌≡◌, ◌++◌, ◌+◌, ◌≤◌, ◌<◌, ◌^◌, OnOk, IfOk, map, length};
+ghost use Rattle.std.specs.Prelude.{◌≡◌, ◌++◌, ◌+◌, ◌≤◌, ◌<◌, OnOk, IfOk, map, length};
 ghost use Rattle.std.specs.List.{All, flat_map};
-ghost use Rattle.mari_publish.specs.Lines.{demand_lines, opening_lines, market_lines, ending_lines, full_lines, block_lines, closing_lines, closing_lines_by, published_in as published_of, unpublished_in as unpublished_of};
+ghost use Rattle.mari_publish.specs.Lines.{demand_lines, opening_lines, market_lines, ending_lines, full_lines, block_lines, closing_lines_by, published_in as published_of, unpublished_in as unpublished_of};
 ghost use Rattle.mari_lines.specs.Ranges.{InRange, IsMoney, IsMoneyLine, IsAmountLine};
 ghost use Rattle.mari_publish.specs.Ranges.{FullFits, BlockFits, TotalsFit, HasText};
 ghost use Rattle.mari_publish.specs.Texts.{text_of_lines, head_text_of, block_text_of, total_text_of, text_of};

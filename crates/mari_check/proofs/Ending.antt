@@ -61,7 +61,6 @@ module _ (books : Books) (budget : ℕ) (blocks : List Block) (told : Heading) (
 -- ---- the totals
 
 module _ (books : Books) (blocks : List Block) (ledger : Ledger) (sums : AreTotals books blocks ledger) where
-
   module _ (p : Publication) (same : p.blocks ≡ blocks) (operators : List MoneyLine) (providers : List AmountLine) (first : p.operators ≡ operators) (second : p.providers ≡ providers)
       (lines : Bool) (test : (lines ≡ true) ↔ (operators ≡ money_lines_of books.zones.operators ledger.operators)) where
     pub other-operators : lines ≡ false → (false ≡ true) ↔ HasTotals books p

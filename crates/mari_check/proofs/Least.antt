@@ -51,7 +51,6 @@ to_twelve fault.Ledger = omega arith
 to_twelve fault.Totals = omega arith
 
 module _ (free_of : Fault → Type 0) where
-
   -- one fault more that isn't there
   pub none-more : (f : Fault) (n : ℕ) → n ≡ fault_number f → NoneBelow free_of n → free_of f → NoneBelow free_of (n + 1)
   none-more f n e before here g l = elim (cases_lt (fault_number g) n) [

@@ -7,7 +7,6 @@ use Rattle.mari_demands.specs.LimitPairs.{limits_in, limits_there, no_limits, ta
 use Rattle.mari_demands.specs.declared.limits.Limits.{Limits}
 
 module _ (runs borders : ℕ) (flat : List (Option Limits)) where
-
   -- there is a line for each run
   pub table-length : length (table_of runs borders flat) ≡ runs
   table-length = length-map-range_with_len (λ run. map (λ border. limits_there flat (run * borders + border)) (range_with_len 0 borders)) 0 runs

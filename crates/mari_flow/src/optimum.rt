@@ -15,7 +15,7 @@ ghost use Rattle.mari_network.specs.Orders.{slots_of, AreOrderSlots};
 ghost use Rattle.mari_network.specs.Solving.{NoneWithin, OfCut, IsAnswer};
 
 use crate::run::run;
-use crate::start::{with_stand_ins, first_amounts};
+use crate::start::{first_amounts, with_stand_ins};
 use mari_market::{Market, Prefix};
 use mari_network::{Slot, SolveFault, Solved, answer, network_of, order_slots};
 use std::alloc::Global;

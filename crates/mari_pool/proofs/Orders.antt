@@ -1,5 +1,5 @@
 -- Which node a queue gives, and that each waits with its key.
-use Rattle.std.proofs.Common.{◌≡◌, ◌∙◌, Bool, true, false, cond, ℕ, ◌+◌, ◌≤◌, ◌==◌, nat_lt, Less, Equal, Greater, nat_cmp, is_lt, List, [], ◌∷◌, ◌++◌, map, get_or, All, IsPermutation, arith, refl, sym, true≢false, ltb-false, eq-eqb}
+use Rattle.std.proofs.Common.{◌≡◌, ◌∙◌, Bool, true, false, cond, ℕ, ◌≤◌, ◌==◌, nat_lt, Less, Equal, Greater, nat_cmp, is_lt, List, [], ◌∷◌, ◌++◌, map, get_or, All, IsPermutation, arith, refl, sym, true≢false, ltb-false, eq-eqb}
 use Rattle.std.specs.Ordering.{ordering_then}
 use Rattle.std.specs.BinaryHeap.{IsUpperBound}
 use Rattle.std.proofs.lemmas.Option.{get_or_from_slice_get, slice_get_within}

@@ -127,8 +127,6 @@ has_word nodes x s e none =
 
 -- ---- one queue more
 
-})
-
 pub length_more : (key n : ℕ) (q r : Queued) → IsMore key n q r → length r.keys ≡ length q.keys + n
 length_more key n q r h = ap length h.keys ∙ length-append q.keys (replicate n key) ∙ ap (λ (m : ℕ). length q.keys + m) (length-replicate n key)
 

@@ -19,9 +19,9 @@ use Rattle.mari_day.specs.Files.{Gap}
 use Rattle.mari_day.specs.Files.Gap.{NotHeld, OverLimit}
 use Rattle.mari_day.specs.Reading.{HasBooks, HasGap, HasRefusal}
 use Rattle.mari_day.proofs.Enough.{all-published}
-use Rattle.mari_check.specs.Streams.{IsToldFault, IsTooLong}
-use Rattle.mari_check.specs.Streams.IsToldFault.{OfPage as of-page, OfGiven as of-given}
-use Rattle.mari_check.proofs.Piecewise.{no-line-fault, told-first}
+use Rattle.mari_publish.specs.Paged.{IsToldFault, IsTooLong}
+use Rattle.mari_publish.specs.Paged.IsToldFault.{OfPage as of-page, OfGiven as of-given}
+use Rattle.mari_publish.proofs.Paging.{no-line-fault, told-first}
 use Rattle.mari_words.specs.Asked.{Asked}
 use Rattle.mari_words.specs.Asked.Asked.{Clear, Check, Migrate}
 use Rattle.mari_words.specs.declared.command.FilePart.{FilePart}

@@ -17,7 +17,7 @@ use Rattle.mari_day.specs.Files.{Gap, file_named, file_number, path_in}
 use Rattle.mari_day.specs.Files.Gap.{NotHeld, OverLimit}
 use Rattle.mari_day.specs.Reading.{HasBooks, HasGap, HasRefusal}
 use Rattle.mari_check.specs.Day.{IsFirstFault, IsValidPublication}
-use Rattle.mari_check.specs.Streams.{IsToldFault, IsTooLong}
+use Rattle.mari_publish.specs.Paged.{IsToldFault, IsTooLong}
 use Rattle.mari_words.specs.Asked.{Asked}
 use Rattle.mari_words.specs.Asked.Asked.{Clear, Check, Generate, Migrate}
 use Rattle.mari_words.specs.declared.command.FilePart.{FilePart}

@@ -16,6 +16,7 @@ mod shelf;
 mod sink;
 #[cfg(test)]
 mod tests;
+mod writing;
 
 pub use disk::DiskShelf;
 pub use memory_shelf::MemoryShelf;
@@ -25,3 +26,4 @@ pub use page::{Name64, Page};
 pub use plan::FaultPlan;
 pub use shelf::{Fetch, MOST_GIVEN, MOST_PIECE, Shelf};
 pub use sink::{Failed, Sink};
+pub use writing::write_all;

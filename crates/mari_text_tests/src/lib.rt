@@ -1,12 +1,17 @@
-//! Tests of texts: the lines of a day, whole publications, texts that come in pieces, and the words of a command.
+//! Tests of texts: the lines of a day, whole publications, texts that come in pieces, parts as JSON, and the words of a
+//! command.
 //!
 //! They call what is public alone, so they stand apart from what they test, which then is proved once.
 #![tactic(auto)]
 
 #[cfg(test)]
+mod feed;
+#[cfg(test)]
 mod lines;
 #[cfg(test)]
 mod pieces;
+#[cfg(test)]
+mod printing;
 #[cfg(test)]
 mod publications;
 #[cfg(test)]

@@ -2,9 +2,9 @@
 
 ghost use Rattle.std.specs.Prelude.{◌≡◌, OnOk, OnErr, IsErr};
 ghost use Rattle.mari_io.specs.Outside.{Counts};
-ghost use Rattle.mari_day.specs.Day.{TookPart, then_took};
+ghost use Rattle.mari_io.specs.Taken.{TookPart, then_took};
 
-use mari_io::{Failed, Sink};
+use crate::sink::{Failed, Sink};
 
 /// Writes the whole text. After an error the sink has taken a first part of it.
 pub fn write_all<K: Sink>(sink: &mut K, text: &[u8]) -> Result<(), Failed>

@@ -1,6 +1,6 @@
 use Rattle.std.proofs.Common.{◌≡◌, ◌≤◌, ◌-◌, length, take}
-use Rattle.mari_day.specs.Day.{then_took}
-use Rattle.mari_day.proofs.writing.write_all.Given as goal
+use Rattle.mari_io.specs.Taken.{then_took}
+use Rattle.mari_io.proofs.writing.write_all.Given as goal
 
 abbrev pub invariant-loop-at : goal.invariant-loop-at
 invariant-loop-at g l = record {

@@ -1,7 +1,7 @@
 //! Publications that were altered, each with its answer.
 
-use crate::checks::checks_text;
 use crate::cases::{Folder, ONE_ZONE, TWO_ZONES, TWO_ZONES_DAY, joined};
+use crate::checks::checks_text;
 use std::alloc::Global;
 use std::process::Abort;
 use std::sync::Wait;

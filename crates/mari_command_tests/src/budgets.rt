@@ -1,8 +1,8 @@
 //! Budgets of nodes that hold a search, and budgets that don't.
 
 use crate::cases::Printed::Whole;
-use crate::gated_bids::OVERSIZED;
 use crate::cases::{CLEARS, CLEARS_A_PART, CLEARS_ALIKE, Case, Folder, ONE_ZONE, agree};
+use crate::gated_bids::OVERSIZED;
 use std::test::Fail;
 
 const CASES: &[Case] = &[

@@ -251,7 +251,12 @@ pub(crate) fn shelf(
 }
 
 /// A sink that takes so many bytes in a call, with room for so many, in which the writes of these numbers fail.
-pub(crate) fn sink(alloc: Global, most: u32, room: u32, faults: &[u32]) -> Result<MemorySink, Fail> {
+pub(crate) fn sink(
+    alloc: Global,
+    most: u32,
+    room: u32,
+    faults: &[u32],
+) -> Result<MemorySink, Fail> {
     let plan = plan(alloc, faults)?;
     Ok(MemorySink::new(alloc, most, room, plan)?)
 }

@@ -1,12 +1,12 @@
 //! Publications that are checked: as they were printed, cut off, in pieces, and where they can't be had.
 
 use crate::cases::Printed::Whole;
-use crate::days::{LINKED_DAY, LINKED_DAY_TEXT};
-use crate::gated_bids::OVERSIZED;
 use crate::cases::{
     BLOCK, CLEARS, Case, Folder, HEAD, ONE_ZONE, TWO_ZONES, TWO_ZONES_DAY, agree, compare, shelf,
     sink,
 };
+use crate::days::{LINKED_DAY, LINKED_DAY_TEXT};
+use crate::gated_bids::OVERSIZED;
 use mari_io::MemoryShelf;
 use std::alloc::Global;
 use std::process::Abort;

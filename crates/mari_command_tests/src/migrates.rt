@@ -1,8 +1,8 @@
 //! Folders whose files are printed in the form that states limits for each run.
 
 use crate::cases::Printed::Whole;
-use crate::limits::STATED;
 use crate::cases::{CLEARS, Case, Folder, TWO_ZONES, agree};
+use crate::limits::STATED;
 use std::test::Fail;
 
 const CASES: &[Case] = &[

@@ -1,7 +1,9 @@
 //! Days of one run whose bids have no gates: prices, flows and money.
 
 use crate::cases::Printed::{Lines, Whole};
-use crate::cases::{BIDS, CLEARS, Case, DEMANDS, Folder, ONE_ZONE, TWO_ZONES, TWO_ZONES_DAY, agree};
+use crate::cases::{
+    BIDS, CLEARS, Case, DEMANDS, Folder, ONE_ZONE, TWO_ZONES, TWO_ZONES_DAY, agree,
+};
 use std::test::Fail;
 
 const CASES: &[Case] = &[

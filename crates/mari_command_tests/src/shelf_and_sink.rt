@@ -1,7 +1,9 @@
 //! Pages that can't be had, and sinks that take a part of the day.
 
 use crate::cases::Printed::Whole;
-use crate::cases::{Folder, ONE_ZONE, TWO_ZONES, TWO_ZONES_DAY, compare, page, pages, plan, shelf, sink};
+use crate::cases::{
+    Folder, ONE_ZONE, TWO_ZONES, TWO_ZONES_DAY, compare, page, pages, plan, shelf, sink,
+};
 use mari_io::{MemoryShelf, MemorySink, Page};
 use std::alloc::Global;
 use std::process::Abort;

@@ -1,8 +1,8 @@
 //! Two workers at the two leaves of a search, each held until the other has come.
 
 use crate::cases::Printed::Whole;
-use crate::pair::Pair;
 use crate::cases::{Folder, ONE_ZONE, run, shelf, sink};
+use crate::pair::Pair;
 use std::sync::atomic::Ordering;
 use std::test::Fail;
 

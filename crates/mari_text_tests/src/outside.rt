@@ -88,9 +88,15 @@ fn a_page_is_given_in_pieces_and_the_plan_numbers_all_calls(rt: HostRuntime) -> 
     let failed = shelf.open_page("F/zones.csv");
     let given = pieces(&mut shelf, &mut into, &mut whole);
     drop(shelf);
-    assert_eq!(rt; (missing, failed), (Err(Fetch::Missing), Err(Fetch::Failed)));
+    assert_eq!(rt;
+        (missing, failed),
+        (Err(Fetch::Missing), Err(Fetch::Failed))
+    );
     assert_eq!(rt; given, Ok([Ok(3), Err(Fetch::Failed), Ok(2), Ok(0)]));
-    assert_eq!(rt; (into.as_slice(), whole.as_slice()), (b"AZ,T\nA".as_slice(), b"Z,T\nA".as_slice()));
+    assert_eq!(rt;
+        (into.as_slice(), whole.as_slice()),
+        (b"AZ,T\nA".as_slice(), b"Z,T\nA".as_slice())
+    );
     Ok(())
 }
 

@@ -129,7 +129,7 @@ text_no_fetch T fault.Memory g h = h
 pub start_fed : (start : Option (List ℕ)) (come : ComeState) → ComesFrom come [] [] → HasFed start [] [] come start
 start_fed start come s = record { stands = s; took = took_nothing start }
 
-took_none : (page : List ℕ) (start now : Option (List ℕ)) → now ≡ start → TookFirst page start now
+pub took_none : (page : List ℕ) (start now : Option (List ℕ)) → now ≡ start → TookFirst page start now
 took_none page start now e = record {
   parts = [];
   first = record { lines = []; after = page; is = refl; in_range = tt; kept = nothing_kept; gives = gives_nothing };

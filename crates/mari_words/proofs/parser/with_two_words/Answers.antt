@@ -1,6 +1,6 @@
 use Rattle.std.proofs.Common.{◌∙◌, ◌||◌, ap, ap₂}
 use Rattle.clap.specs.Words.{App, app_of, with_rule, with_subcommand}
-use Rattle.mari_words.proofs.parser.migrate.Goals as goal
+use Rattle.mari_words.proofs.parser.with_two_words.Goals as goal
 
 pub returns : goal.returns
 returns c = λ old new adds.

@@ -9,6 +9,8 @@ mod certificates;
 #[cfg(test)]
 mod gates;
 #[cfg(test)]
+mod looking;
+#[cfg(test)]
 mod machine;
 #[cfg(test)]
 mod markets;

@@ -88,7 +88,8 @@ fn offer_rounded(
     }
 }
 
-/// Finds out about a node, and offers what was found. The node may be settled with that then, at what the seat saw.
+/// Finds out about a node, offers what was found, and looks at the incumbent. The node may be settled with that then, at
+/// the greatest welfare that any worker had offered.
 pub(crate) fn visit<G: Turnstile>(
     alloc: Global,
     market: &Market,
@@ -108,6 +109,7 @@ pub(crate) fn visit<G: Turnstile>(
 {
     let finding = turnstile.through(alloc, worker, market, prefix, start)?;
     offer_found(market, incumbent, worked, &finding)?;
+    incumbent.look(&mut worked.seat);
     Ok(finding)
 }
 

@@ -32,7 +32,7 @@ use Rattle.mari_core.proofs.Seeds.{larger_by}
 use Rattle.mari_core.proofs.Parts.{contains_head, contains_tail}
 use Rattle.mari_proofs.specs.Places.{LeavesWords}
 use Rattle.mari_proofs.proofs.TreeWalk.{none_left}
-use Rattle.mari_workers.specs.declared.refining.Aim.{Aim}
+use Rattle.mari_workers.specs.declared.fate.Aim.{Aim}
 use Rattle.mari_workers.specs.declared.refining.Turn.{Turn}
 use Rattle.mari_workers.specs.declared.refining.Turn.TheVariants.{On, Full, Yield}
 use Rattle.mari_workers.specs.declared.refining.Walk.{Walk}

@@ -8,9 +8,12 @@
 
 mod alone;
 mod crew;
+mod fate;
 mod first;
 mod refining;
+mod root;
 mod rounding;
+mod seats;
 mod together;
 mod turnstile;
 mod worker;

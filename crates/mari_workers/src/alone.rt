@@ -13,7 +13,7 @@ ghost use Rattle.mari_workers.specs.Alone.{best_in, after_offer, IsAtNode, IsFin
 ghost use Rattle.mari_workers.specs.Refine.{IsSearched};
 
 use crate::first::first_of;
-use crate::refining::refined_from;
+use crate::publishing::published_from;
 use crate::root::Root;
 use crate::rounding::best_rounded;
 use mari_core::{Event, FinishFault, Search};
@@ -247,7 +247,7 @@ fn cleared(alloc: Global, market: &Market, budget: u32) -> Result<Cleared, Memor
     let search = Search::start(alloc, market, ACTOR + 1, first, budget)?;
     let queue = Queue::start(alloc, budget)?;
     match searched(alloc, market, search, queue, &root)? {
-        Cleared::Published(found) => refined_from(alloc, market, found, budget, &root),
+        Cleared::Published(found) => published_from(alloc, market, found, budget, &root),
         spent => Ok(spent),
     }
 }

@@ -10,6 +10,7 @@ mod alone;
 mod crew;
 mod fate;
 mod first;
+mod publishing;
 mod refining;
 mod root;
 mod rounding;

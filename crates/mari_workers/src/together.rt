@@ -14,7 +14,7 @@ ghost use Rattle.mari_workers.specs.Together.{IsSeated};
 ghost use Rattle.mari_workers.specs.Worked.{HoldsBest, IsWorked};
 
 use crate::first::first_of;
-use crate::refining::refined_from;
+use crate::publishing::published_from;
 use crate::root::Root;
 use crate::seats::{Seated, gather, seated_of};
 use crate::turnstile::{FreeTurnstile, Turnstile};
@@ -299,7 +299,7 @@ fn searched<N: SearchName + Send + Sync, G: Turnstile, R: Threads + Wait + Sync>
     let ended = match ran {
         Ok((pool, true)) => {
             let found = published(alloc, pool, incumbent, mine, first)?;
-            return refined_from(alloc, market, found, budget, root);
+            return published_from(alloc, market, found, budget, root);
         }
         Ok((pool, false)) => spent(alloc, pool),
         Err(Memory) => Err(Memory),

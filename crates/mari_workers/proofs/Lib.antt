@@ -4,5 +4,6 @@ pub mod TreeWalks
 pub mod Fates
 pub mod Refined
 pub mod FirstWord
+pub mod Cuts
 pub mod Turns
 pub mod Rest

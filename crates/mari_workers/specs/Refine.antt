@@ -12,7 +12,7 @@ use Rattle.mari_market.specs.declared.clearing.Cleared.TheVariants.{Published, S
 use Rattle.mari_market.specs.declared.market.Market.{Market}
 use Rattle.mari_market.specs.declared.prefix.Prefix.{Prefix}
 use Rattle.mari_market.specs.Activation.{gate_word_of, welfare_of}
-use Rattle.mari_market.specs.Clearing.{ArePartsOfSearch, IsCrowdedOut, IsOptimalClearing, IsSpent}
+use Rattle.mari_market.specs.Clearing.{ArePartsOfSearch, IsCrowdedOut, IsOptimalClearing}
 use Rattle.mari_market.specs.Optimal.{IsAdmissible}
 use Rattle.mari_market.specs.Prefix.{word_of, children, IsFeasiblePrefix}
 use Rattle.mari_market.specs.Relaxation.{all_closed, IsClosedWelfare, IsRelaxedWelfare}
@@ -43,12 +43,6 @@ pub record MayRefine (m : Market) (budget : ℕ) (c : Clearing) : Type 0 where
   pub clearing : IsOptimalClearing m budget c
   pub nodes : ArePartsOfSearch m ([] ∷ []) (map shape_of c.tree)
   pub opens : OpensForMore m (gate_word_of m c.activation) c.welfare
-
--- what a search comes to: a clearing that may be refined, or a part of the search tree that the budget can't extend
-abbrev pub IsSearched : Market → ℕ → Cleared → Type 0
-IsSearched m budget (Published c) = MayRefine m budget c
-IsSearched m budget (Spent s) = IsSpent m budget s
-IsSearched m budget Memory = ⊤
 
 -- what is published opens no gate, where its welfare is the closed welfare
 abbrev pub ClosesAtClosed : Market → Cleared → Type 0

@@ -10,14 +10,17 @@ ghost use Rattle.mari_market.specs.Market.{IsValid};
 ghost use Rattle.mari_market.specs.Prefix.{word_of, IsFeasiblePrefix};
 ghost use Rattle.mari_pool.specs.Queued.{IsMore};
 ghost use Rattle.mari_workers.specs.Alone.{best_in, after_offer, IsAtNode, IsFinished, IsUnderWay, IsVisited};
-ghost use Rattle.mari_workers.specs.Refine.{IsSearched};
+ghost use Rattle.mari_workers.specs.Refine.{MayRefine};
 
+use crate::bounds::Bounds;
 use crate::first::first_of;
 use crate::publishing::published_from;
 use crate::root::Root;
 use crate::rounding::best_rounded;
 use mari_core::{Event, FinishFault, Search};
-use mari_market::{Activation, Attained, Cleared, Clearer, Finding, Market, Prefix, Spent};
+use mari_market::{
+    Activation, Attained, Cleared, Clearer, Clearing, Finding, Market, Prefix, Spent,
+};
 use mari_node::examine_from;
 use mari_pool::{Queue, child_key};
 use mari_units::{Items, Memory};
@@ -189,13 +192,19 @@ fn visit_all(
     Ok(true)
 }
 
+/// The keys of a search's nodes, in preorder.
+fn keys_of(alloc: Global, search: &Search<'_>, queue: &Queue) -> Result<Vec<u64>, Memory> {
+    let order = search.preorder(alloc)?;
+    queue.keys_of(alloc, &order)
+}
+
 /// The optimal clearing of a search whose nodes are all branched or closed. It may be refined.
-fn published(alloc: Global, search: Search<'_>) -> Result<Cleared, Memory>
+fn published(alloc: Global, search: Search<'_>) -> Result<Clearing, Memory>
     requires { IsFinished search }
-    ensures { IfOk result (IsSearched search.entry.tree.market search.entry.tree.budget) }
+    ensures { IfOk result (MayRefine search.entry.tree.market search.entry.tree.budget) }
 {
     match search.finish(alloc) {
-        Ok(clearing) => Ok(Cleared::Published(clearing)),
+        Ok(clearing) => Ok(clearing),
         Err(FinishFault::Memory) => Err(Memory),
         Err(FinishFault::NotClosed(_)) => unreachable!(),
     }
@@ -204,7 +213,7 @@ fn published(alloc: Global, search: Search<'_>) -> Result<Cleared, Memory>
 /// The part of the search tree of a search in which a node could not branch within the budget.
 fn part_of(alloc: Global, search: Search<'_>) -> Result<Cleared, Memory>
     requires { search.tree.full ≡ true }
-    ensures { IfOk result (IsSearched search.entry.tree.market search.entry.tree.budget) }
+    ensures { IfOk result (Clears search.entry.tree.market search.entry.tree.budget) }
 {
     let part = search.part(alloc);
     drop(search);
@@ -212,31 +221,63 @@ fn part_of(alloc: Global, search: Search<'_>) -> Result<Cleared, Memory>
     Ok(Cleared::Spent(Spent { items }))
 }
 
-/// Visits the nodes of a search, and ends it: where none waits any more there is an optimal clearing, which may be
-/// refined, and else a part of the search tree.
+/// The first activation's clearing, or want of memory, of a search whose nodes are all branched or closed.
+fn settled(
+    alloc: Global,
+    market: &Market,
+    search: Search<'_>,
+    queue: Queue,
+    budget: u32,
+    root: &Root,
+) -> Result<Cleared, Memory>
+    requires market { IsValid market.now }
+    requires budget { IsBudget budget }
+    requires search { (search.tree.market ≡ market.now) × (search.tree.budget ≡ budget) }
+    requires finished { IsFinished search }
+    ensures { IfOk result (Clears market.now budget) }
+{
+    let keys = keys_of(alloc, &search, &queue);
+    drop(queue);
+    let found = published(alloc, search)?;
+    match Bounds::of(alloc, found.tree.as_slice(), keys) {
+        Ok(bounds) => published_from(alloc, market, found, budget, bounds, root),
+        Err(Memory) => {
+            drop(found);
+            Err(Memory)
+        }
+    }
+}
+
+/// Visits the nodes of a search, and ends it: where none waits any more there is an optimal clearing, which is refined,
+/// and else a part of the search tree.
 fn searched(
     alloc: Global,
     market: &Market,
     mut search: Search<'_>,
     mut queue: Queue,
+    budget: u32,
     root: &Root,
 ) -> Result<Cleared, Memory>
-    requires { IsUnderWay market.now search queue }
-    ensures { IfOk result (IsSearched market.now search.entry.tree.budget) }
+    requires market { IsValid market.now }
+    requires budget { IsBudget budget × (search.tree.budget ≡ budget) }
+    requires under_way { IsUnderWay market.now search queue }
+    ensures { IfOk result (Clears market.now budget) }
 {
-    let visited = visit_all(alloc, market, &mut search, &mut queue, root);
-    drop(queue);
-    match visited {
-        Ok(true) => published(alloc, search),
-        Ok(false) => part_of(alloc, search),
+    match visit_all(alloc, market, &mut search, &mut queue, root) {
+        Ok(true) => settled(alloc, market, search, queue, budget, root),
+        Ok(false) => {
+            drop(queue);
+            part_of(alloc, search)
+        }
         Err(Memory) => {
+            drop(queue);
             drop(search);
             Err(Memory)
         }
     }
 }
 
-/// Clears a market from its best activation with every gate closed, and refines what is found.
+/// Clears a market from its best activation with every gate closed.
 fn cleared(alloc: Global, market: &Market, budget: u32) -> Result<Cleared, Memory>
     requires market { IsValid market.now }
     requires budget { IsBudget budget }
@@ -246,10 +287,7 @@ fn cleared(alloc: Global, market: &Market, budget: u32) -> Result<Cleared, Memor
     let root = Root::of(alloc, market, &first.activation)?;
     let search = Search::start(alloc, market, ACTOR + 1, first, budget)?;
     let queue = Queue::start(alloc, budget)?;
-    match searched(alloc, market, search, queue, &root)? {
-        Cleared::Published(found) => published_from(alloc, market, found, budget, &root),
-        spent => Ok(spent),
-    }
+    searched(alloc, market, search, queue, budget, &root)
 }
 
 /// Clears a market by branch and bound on this thread, within a budget of 1 to `MOST_NODES` nodes.

@@ -7,7 +7,9 @@
 #![tactic(auto)]
 
 mod alone;
+mod bounds;
 mod crew;
+mod cutting;
 mod fate;
 mod first;
 mod publishing;

@@ -8,6 +8,8 @@ ghost use Rattle.mari_market.specs.Optimal.{IsAdmissible, IsOptimal};
 ghost use Rattle.mari_market.specs.Prefix.{word_of, IsFeasiblePrefix};
 ghost use Rattle.mari_workers.specs.Refine.{MayRefine};
 
+use crate::bounds::Bounds;
+use crate::cutting::{Goal, cut_back};
 use crate::refining::refined_from;
 use crate::root::Root;
 use mari_gates::{empty_prefix, gate_word};
@@ -52,12 +54,15 @@ fn of_its_word(
 }
 
 /// The clearing of the first activation, from that of an optimal one whose tree has only nodes of the search tree.
-/// Prefixes are examined from the root's optimum.
+/// Prefixes are examined from the root's optimum, and what was found at the tree's branches are its bounds.
+///
+/// The tree is cut back at the published welfare and gate word, so that it has no more branches than these need.
 pub(crate) fn published_from(
     alloc: Global,
     market: &Market,
     found: Clearing,
     budget: u32,
+    mut bounds: Bounds,
     root: &Root,
 ) -> Result<Cleared, Memory>
     requires market { IsValid market.now }
@@ -65,7 +70,7 @@ pub(crate) fn published_from(
     requires found { MayRefine market.now budget found }
     ensures { IfOk result (Clears market.now budget) }
 {
-    match refined_from(alloc, market, found, budget, root)? {
+    match refined_from(alloc, market, found, budget, &mut bounds, root)? {
         Cleared::Published(clearing) => {
             let Clearing {
                 activation,
@@ -73,6 +78,16 @@ pub(crate) fn published_from(
                 tree,
             } = clearing;
             let word = gate_word(market, &activation);
+            let goal = Goal { word, welfare };
+            let cut = cut_back(alloc, market, tree, &mut bounds, &goal, root);
+            drop(bounds);
+            let tree = match cut {
+                Ok(tree) => tree,
+                Err(Memory) => {
+                    drop(activation);
+                    return Err(Memory);
+                }
+            };
             match of_its_word(alloc, market, &word, activation, root) {
                 Ok(activation) => Ok(Cleared::Published(Clearing {
                     activation,

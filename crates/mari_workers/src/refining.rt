@@ -7,6 +7,7 @@ ghost use Rattle.mari_market.specs.Market.{IsValid};
 ghost use Rattle.mari_market.specs.Prefix.{word_of, IsFeasiblePrefix, IsCleared};
 ghost use Rattle.mari_workers.specs.Refine.{ended, ClosesAtClosed, IsAim, IsAtLeaf, IsLastTurn, IsToBranch, IsTreeWalk, IsTurn, MayRefine};
 
+use crate::bounds::Bounds;
 use crate::fate::{Aim, Fate, fate_of};
 use crate::root::Root;
 use mari_gates::{child_of, empty_prefix, gate_word, may_branch_up, next_after};
@@ -22,12 +23,13 @@ enum Turn {
     Yield(Activation),
 }
 
-/// A walk through a tree that is made anew: the items that are done, those that are left, the next at the end, and the
-/// next prefix.
+/// A walk through a tree that is made anew: the items that are done; those that are left, the next at the end; how many
+/// of these the tree had; and the next prefix. The others are leaves of children, which are their parents' as yet.
 #[derive(Drop)]
 struct Walk {
     done: Vec<TreeItem>,
     left: Vec<TreeItem>,
+    own: usize,
     next: Option<Prefix>,
 }
 
@@ -49,6 +51,7 @@ impl Walk {
         left.reverse();
         Walk {
             done: Vec::new(alloc),
+            own: left.len(),
             left,
             next: Some(empty_prefix()),
         }
@@ -87,6 +90,7 @@ impl Walk {
         prefix: &Prefix,
         leaf: Leaf,
         aim: &Aim,
+        bounds: &mut Bounds,
     ) -> Result<Turn, Memory>
         requires market { IsValid market.now }
         requires aim { IsAim market.now aim.now }
@@ -100,6 +104,7 @@ impl Walk {
             self.left.push(TreeItem::Leaf(leaf))?;
             return Ok(Turn::Full);
         }
+        bounds.add(aim.welfare)?;
         self.give(leaf, may_open)?;
         self.descend(prefix)?;
         Ok(Turn::On)
@@ -112,7 +117,9 @@ impl Walk {
         market: &Market,
         prefix: &Prefix,
         leaf: Leaf,
+        is_own: bool,
         aim: &Aim,
+        bounds: &mut Bounds,
         root: &Root,
     ) -> Result<Turn, Memory>
         requires market { IsValid market.now }
@@ -120,13 +127,13 @@ impl Walk {
         requires walk { IsAtLeaf market.now aim.now prefix.now leaf self.old.done.items self.old.left.items }
         ensures { IfOk result (IsTurn market.now aim.now prefix.now (length self.old.done.items) self.new) }
     {
-        match fate_of(alloc, market, prefix, leaf, aim, root)? {
+        match fate_of(alloc, market, prefix, leaf, is_own, aim, root)? {
             Fate::Stays(leaf) => {
                 self.done.push(TreeItem::Leaf(leaf))?;
                 self.next = next_after(market, prefix);
                 Ok(Turn::On)
             }
-            Fate::Branches(leaf) => self.branch(market, prefix, leaf, aim),
+            Fate::Branches(leaf) => self.branch(market, prefix, leaf, aim, bounds),
             Fate::Yields(leaf, activation) => {
                 self.left.push(TreeItem::Leaf(leaf))?;
                 Ok(Turn::Yield(activation))
@@ -141,6 +148,7 @@ impl Walk {
         market: &Market,
         prefix: &Prefix,
         aim: &Aim,
+        bounds: &mut Bounds,
         root: &Root,
     ) -> Result<Turn, Memory>
         requires market { IsValid market.now }
@@ -151,10 +159,15 @@ impl Walk {
         match self.left.pop() {
             None => unreachable!(),
             Some(TreeItem::Branch) => {
+                bounds.pass()?;
                 self.descend(prefix)?;
                 Ok(Turn::On)
             }
-            Some(TreeItem::Leaf(leaf)) => self.settle(alloc, market, prefix, leaf, aim, root),
+            Some(TreeItem::Leaf(leaf)) => {
+                let is_own = self.left.len() < self.own;
+                self.own = self.own.min(self.left.len());
+                self.settle(alloc, market, prefix, leaf, is_own, aim, bounds, root)
+            }
         }
     }
 
@@ -200,6 +213,7 @@ fn walked(
     market: &Market,
     aim: &Aim,
     walk: &mut Walk,
+    bounds: &mut Bounds,
     root: &Root,
 ) -> Result<Turn, Memory>
     requires market { IsValid market.now }
@@ -208,7 +222,7 @@ fn walked(
     ensures { IfOk result (IsLastTurn market.now aim.now walk.new) }
 {
     while let Some(prefix) = walk.next {
-        match walk.advance(alloc, market, &prefix, aim, root)? {
+        match walk.advance(alloc, market, &prefix, aim, bounds, root)? {
             Turn::On => {}
             Turn::Full => return Ok(Turn::Full),
             Turn::Yield(activation) => return Ok(Turn::Yield(activation)),
@@ -262,12 +276,14 @@ fn ended(
     }
 }
 
-/// The clearing of the first activation, from that of an optimal one. Prefixes are examined from the root's optimum.
+/// The clearing of the first activation, from that of an optimal one. Prefixes are examined from the root's optimum,
+/// and the bounds become those of the new tree's branches.
 pub(crate) fn refined_from(
     alloc: Global,
     market: &Market,
     found: Clearing,
     budget: u32,
+    bounds: &mut Bounds,
     root: &Root,
 ) -> Result<Cleared, Memory>
     requires market { IsValid market.now }
@@ -286,7 +302,7 @@ pub(crate) fn refined_from(
         budget,
     };
     let mut walk = Walk::start(alloc, tree);
-    match walked(alloc, market, &aim, &mut walk, root) {
+    match walked(alloc, market, &aim, &mut walk, bounds, root) {
         Ok(last) => ended(alloc, walk, last, activation, welfare),
         Err(Memory) => {
             drop(walk);
@@ -304,7 +320,14 @@ fn refined(alloc: Global, market: &Market, found: Clearing, budget: u32) -> Resu
     ensures { IfOk result (Clears market.now budget) }
 {
     match Root::find(alloc, market) {
-        Ok(root) => refined_from(alloc, market, found, budget, &root),
+        Ok(root) => refined_from(
+            alloc,
+            market,
+            found,
+            budget,
+            &mut Bounds::none(alloc),
+            &root,
+        ),
         Err(Memory) => {
             drop(found);
             Err(Memory)

@@ -13,6 +13,7 @@ ghost use Rattle.mari_workers.specs.Refine.{MayRefine};
 ghost use Rattle.mari_workers.specs.Together.{IsSeated};
 ghost use Rattle.mari_workers.specs.Worked.{HoldsBest, IsWorked};
 
+use crate::bounds::Bounds;
 use crate::first::first_of;
 use crate::publishing::published_from;
 use crate::root::Root;
@@ -298,8 +299,15 @@ fn searched<N: SearchName + Send + Sync, G: Turnstile, R: Threads + Wait + Sync>
     let incumbent = incumbent.into_inner();
     let ended = match ran {
         Ok((pool, true)) => {
+            let keys = pool.keys(alloc);
             let found = published(alloc, pool, incumbent, mine, first)?;
-            return published_from(alloc, market, found, budget, root);
+            return match Bounds::of(alloc, found.tree.as_slice(), keys) {
+                Ok(bounds) => published_from(alloc, market, found, budget, bounds, root),
+                Err(Memory) => {
+                    drop(found);
+                    Err(Memory)
+                }
+            };
         }
         Ok((pool, false)) => spent(alloc, pool),
         Err(Memory) => Err(Memory),

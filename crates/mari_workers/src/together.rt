@@ -13,6 +13,7 @@ ghost use Rattle.mari_workers.specs.Refine.{MayRefine};
 ghost use Rattle.mari_workers.specs.Together.{IsSeated};
 ghost use Rattle.mari_workers.specs.Worked.{HoldsBest, IsWorked};
 
+use crate::alone::search_alone;
 use crate::bounds::Bounds;
 use crate::first::first_of;
 use crate::publishing::published_from;
@@ -344,7 +345,9 @@ fn named<G: Turnstile, R: Threads + Wait + Sync>(
 /// Clears a market by branch and bound in 1 to `MOST_WORKERS` threads, within a budget of 1 to `MOST_NODES` nodes.
 ///
 /// Workers take their findings from the turnstile, outside the lock. When all have ended this thread settles what is
-/// left by itself. The answer is as that of `search_alone`; it comes if every worker ends.
+/// left by itself. Where a node could not branch within the budget, this thread searches again, alone: workers make
+/// other nodes than one does, and whether a run is published is not to rest on that. The answer is as that of
+/// `search_alone`; it comes if every worker ends.
 pub fn search<G: Turnstile, R: Threads + Wait + Sync>(
     rt: &R,
     alloc: Global,
@@ -359,6 +362,10 @@ pub fn search<G: Turnstile, R: Threads + Wait + Sync>(
     ensures { Clears market.now budget result }
 {
     match named(rt, alloc, market, workers, budget, turnstile) {
+        Ok(Cleared::Spent(spent)) => {
+            drop(spent);
+            search_alone(alloc, market, budget)
+        }
         Ok(cleared) => cleared,
         Err(Memory) => Cleared::Memory,
     }

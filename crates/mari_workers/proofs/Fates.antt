@@ -18,7 +18,7 @@ use Rattle.mari_market.proofs.Search.{leaf_rises}
 use Rattle.mari_core.specs.Growth.{closing_leaf, closing_relaxed}
 use Rattle.mari_core.proofs.Settling.{closing_leaf_holds, gt_by_test, must_branch, MustBranch}
 use Rattle.mari_workers.specs.Alone.{best_in, without_best}
-use Rattle.mari_workers.specs.declared.refining.Aim.{Aim}
+use Rattle.mari_workers.specs.declared.fate.Aim.{Aim}
 use Rattle.mari_workers.specs.Refine.{fate_by, replaced, unbounded, IsAim, IsEarlier, IsFate, IsToBranch}
 
 -- a leaf that holds at the welfare less 1 stays

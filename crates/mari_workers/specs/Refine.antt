@@ -23,9 +23,9 @@ use Rattle.mari_core.specs.Growth.{closing_leaf}
 use Rattle.mari_core.specs.Preorder.{shape_of}
 use Rattle.mari_proofs.specs.Places.{LeavesWords}
 use Rattle.mari_workers.specs.Alone.{best_in}
-use Rattle.mari_workers.specs.declared.refining.Aim.{Aim}
-use Rattle.mari_workers.specs.declared.refining.Fate.{Fate}
-use Rattle.mari_workers.specs.declared.refining.Fate.TheVariants.{Stays, Branches, Yields}
+use Rattle.mari_workers.specs.declared.fate.Aim.{Aim}
+use Rattle.mari_workers.specs.declared.fate.Fate.{Fate}
+use Rattle.mari_workers.specs.declared.fate.Fate.TheVariants.{Stays, Branches, Yields}
 use Rattle.mari_workers.specs.declared.refining.Turn.{Turn}
 use Rattle.mari_workers.specs.declared.refining.Turn.TheVariants.{On, Full, Yield}
 use Rattle.mari_workers.specs.declared.refining.Walk.{Walk}

@@ -13,7 +13,8 @@ ghost use Rattle.mari_workers.specs.Alone.{best_in, after_offer, IsAtNode, IsFin
 ghost use Rattle.mari_workers.specs.Refine.{IsSearched};
 
 use crate::first::first_of;
-use crate::refining::refine;
+use crate::publishing::published_from;
+use crate::root::Root;
 use crate::rounding::best_rounded;
 use mari_core::{Event, FinishFault, Search};
 use mari_market::{Activation, Attained, Cleared, Clearer, Finding, Market, Prefix, Spent};
@@ -106,7 +107,8 @@ fn offer_rounded(
     }
 }
 
-/// Takes a node, and settles it with what is found there. The answer is the key of its children.
+/// Takes a node, and settles it with what is found there from the root's optimum. The answer is the key of its
+/// children, and the relaxed optimum is left.
 ///
 /// What is found is offered first, so the node is settled at the greatest welfare that is known by then.
 fn visit(
@@ -115,6 +117,7 @@ fn visit(
     search: &mut Search<'_>,
     node: u32,
     prefix: &Prefix,
+    root: &Root,
     start: &mut Option<Activation>,
 ) -> Result<u64, Memory>
     requires waits { IsAtNode market.now search.old node }
@@ -124,6 +127,7 @@ fn visit(
     ensures facts { KeepsFacts search.new }
 {
     step(search, Event::Take { actor: ACTOR, node })?;
+    *start = root.start()?;
     let finding = examine_from(alloc, market, prefix, start)?;
     offer_best(search, &finding)?;
     let key = child_key(&finding);
@@ -160,7 +164,7 @@ fn visit_all(
     market: &Market,
     search: &mut Search<'_>,
     queue: &mut Queue,
-    start: &mut Option<Activation>,
+    root: &Root,
 ) -> Result<bool, Memory>
     requires { IsUnderWay market.now search.old queue.old }
     ensures closed { IfOk result (λ closed. closed ≡ true → IsFinished search.new) }
@@ -168,17 +172,18 @@ fn visit_all(
     ensures market { OnOk result (search.new.tree.market ≡ market.now) }
     ensures budget { OnOk result (search.new.tree.budget ≡ search.old.tree.budget) }
 {
+    let mut start = None;
     while let Some(node) = queue.take_first() {
         let Some(prefix) = search.prefix_of(node) else {
             unreachable!()
         };
-        let key = visit(alloc, market, search, node, &prefix, start)?;
+        let key = visit(alloc, market, search, node, &prefix, root, &mut start)?;
         if search.is_full() {
             return Ok(false);
         }
         admit(search, queue, key);
         if node == ROOT && queue.len() > 1 {
-            offer_rounded(alloc, market, search, start)?;
+            offer_rounded(alloc, market, search, &mut start)?;
         }
     }
     Ok(true)
@@ -214,14 +219,13 @@ fn searched(
     market: &Market,
     mut search: Search<'_>,
     mut queue: Queue,
-    mut start: Option<Activation>,
+    root: &Root,
 ) -> Result<Cleared, Memory>
     requires { IsUnderWay market.now search queue }
     ensures { IfOk result (IsSearched market.now search.entry.tree.budget) }
 {
-    let visited = visit_all(alloc, market, &mut search, &mut queue, &mut start);
+    let visited = visit_all(alloc, market, &mut search, &mut queue, root);
     drop(queue);
-    drop(start);
     match visited {
         Ok(true) => published(alloc, search),
         Ok(false) => part_of(alloc, search),
@@ -239,11 +243,11 @@ fn cleared(alloc: Global, market: &Market, budget: u32) -> Result<Cleared, Memor
     ensures { IfOk result (Clears market.now budget) }
 {
     let first = first_of(alloc, market)?;
-    let start = Some(first.activation.clone()?);
+    let root = Root::of(alloc, market, &first.activation)?;
     let search = Search::start(alloc, market, ACTOR + 1, first, budget)?;
     let queue = Queue::start(alloc, budget)?;
-    match searched(alloc, market, search, queue, start)? {
-        Cleared::Published(found) => Ok(refine(alloc, market, found, budget)),
+    match searched(alloc, market, search, queue, &root)? {
+        Cleared::Published(found) => published_from(alloc, market, found, budget, &root),
         spent => Ok(spent),
     }
 }

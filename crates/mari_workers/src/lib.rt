@@ -8,9 +8,13 @@
 
 mod alone;
 mod crew;
+mod fate;
 mod first;
+mod publishing;
 mod refining;
+mod root;
 mod rounding;
+mod seats;
 mod together;
 mod turnstile;
 mod worker;

@@ -1,4 +1,4 @@
-use Rattle.std.proofs.Common.{◌≡◌, ◌-◌, ◌<◌, ◌≤◌, ℕ, ℤ, subst, arith, true, false, length, ap, sym}
+use Rattle.std.proofs.Common.{◌≡◌, ◌-◌, ◌<◌, ◌≤◌, ℕ, ℤ, subst, arith, false, length, ap, sym}
 use Rattle.std.proofs.lemmas.Bool.Decides.{nat_tests}
 use Rattle.std.proofs.lemmas.Bool.{eqb-true}
 use Rattle.mari_market.specs.Prefix.{word_of}
@@ -8,7 +8,7 @@ use Rattle.mari_gates.proofs.WaitingWords.{length_feasible}
 use Rattle.mari_workers.specs.Refine.{IsFate}
 use Rattle.mari_workers.proofs.Fates.{found_fate, low_stays}
 use Rattle.mari_workers.proofs.TreeWalks.{early_above}
-use Rattle.mari_workers.proofs.refining.fate_of.Goals as goal
+use Rattle.mari_workers.proofs.fate.fate_of.Goals as goal
 use lib.Dec.{eqb}
 
 pub comes_before-requires-clause-few : goal.comes_before-requires-clause-few

@@ -2,7 +2,7 @@ use Rattle.std.proofs.Common.{◌≡◌, ℕ, ◌+◌, ◌<◌, vec_len}
 use Rattle.std.specs.Prelude.{slice_index_or}
 use Rattle.mari_workers.specs.Worked.{HoldsBest, IsWorked}
 use Rattle.mari_workers.specs.declared.worker.Worked.{Worked}
-use Rattle.mari_workers.proofs.together.gather.Given as goal
+use Rattle.mari_workers.proofs.seats.gather.Given as goal
 
 abbrev pub invariant-loop-one : goal.invariant-loop-one
 invariant-loop-one l = record {

@@ -1,6 +1,6 @@
 use Rattle.std.proofs.Common.{◌≡◌}
 use Rattle.mari_workers.specs.Worked.{HoldsBest}
-use Rattle.mari_workers.proofs.worker.work.Given as goal
+use Rattle.mari_workers.proofs.worker.work_from.Given as goal
 
 abbrev pub invariant-loop : goal.invariant-loop
 invariant-loop g l = record {

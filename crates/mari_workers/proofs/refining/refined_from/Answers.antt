@@ -1,9 +1,9 @@
 use Rattle.std.proofs.Common.{refl, sym}
-use Rattle.mari_workers.specs.declared.refining.Aim.{Aim}
+use Rattle.mari_workers.specs.declared.fate.Aim.{Aim}
 use Rattle.mari_workers.specs.Refine.{ended}
 use Rattle.mari_workers.proofs.Refined.{clears_as, last_clears}
 use Rattle.mari_workers.proofs.Turns.{walk_started}
-use Rattle.mari_workers.proofs.refining.refined.Goals as goal
+use Rattle.mari_workers.proofs.refining.refined_from.Goals as goal
 
 pub walked-requires-clause-walk : goal.walked-requires-clause-walk
 walked-requires-clause-walk c =

@@ -2,8 +2,8 @@ use Rattle.std.proofs.Common.{◌≡◌, ℕ, ◌-◌, ◌<◌, vec_len}
 use Rattle.std.specs.Prelude.{slice_index_or}
 use Rattle.mari_incumbent.specs.Incumbent.{seat_view}
 use Rattle.mari_workers.specs.Together.{IsSeated}
-use Rattle.mari_workers.specs.declared.together.Seated.{Seated}
-use Rattle.mari_workers.proofs.together.seated_of.Given as goal
+use Rattle.mari_workers.specs.declared.seats.Seated.{Seated}
+use Rattle.mari_workers.proofs.seats.seated_of.Given as goal
 
 abbrev pub invariant-loop-worker : goal.invariant-loop-worker
 invariant-loop-worker l = record {

@@ -1,6 +1,6 @@
 use Rattle.std.proofs.Common.{◌∙◌, Some, None, sym}
 use Rattle.mari_workers.proofs.Fates.{fate_apart}
-use Rattle.mari_workers.proofs.refining.fate_by.Goals as goal
+use Rattle.mari_workers.proofs.fate.fate_by.Goals as goal
 
 pub returns-in-Some : goal.returns-in-Some
 returns-in-Some c =

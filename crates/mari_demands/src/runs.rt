@@ -19,14 +19,27 @@ const COLUMNS: &str = "run,quarter,kind,reference";
 /// A check of runs.csv.
 #[derive(Clone, Copy, Debug, PartialEq, Eq)]
 pub enum RunCheck {
+    /// A field isn't written as its column asks.
     BadField,
+    /// The runs aren't numbered from 1 on, or one comes before a run or a quarter that it should follow.
     RunsOutOfOrder,
+    /// The day has no such quarter.
     Quarter,
+    /// The reference lies beyond `CAP`.
     Range,
+    /// There are more than `MOST_RUNS` runs.
     TooMany,
 }
 
 impl FileCheck for RunCheck {
+    const ALL: &'static [Self] = &[
+        RunCheck::BadField,
+        RunCheck::RunsOutOfOrder,
+        RunCheck::Quarter,
+        RunCheck::Range,
+        RunCheck::TooMany,
+    ];
+
     ghost number = { run_check_number };
 
     ghost name = { run_check_name };
@@ -43,23 +56,26 @@ impl FileCheck for RunCheck {
     }
 }
 
-/// A run in a quarter, which counts from 1: scheduled or direct, with its reference price in cents per MWh.
+/// A run of a day.
 #[derive(Clone, Copy, Debug, PartialEq, Eq)]
 pub struct Run {
+    /// Its quarter hour, from 1.
     pub quarter: u32,
+    /// Whether it is direct, and not scheduled.
     pub direct: bool,
+    /// Its reference price, in cents per MWh.
     pub reference: Cents,
 }
 
 /// The runs in the order of the file: run 1 first.
 #[derive(Debug, Drop)]
 pub struct RunBook {
+    /// The runs; run 1 stands at place 0.
     pub runs: Items<Run>,
 }
 
 impl RunBook {
     /// The book of a page on a day of so many quarters, or its first refusal.
-    #[tactic(auto, unfolding(crate::specs::Runs::run_columns))]
     pub fn read(alloc: Global, runs: &[u8], quarters: u32) -> Result<RunBook, BookFault>
         requires { length runs.now ≤ MOST_PAGE }
         ensures book { GivesBook result (book_in (run_grammar quarters) runs.now) }

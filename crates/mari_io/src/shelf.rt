@@ -2,8 +2,8 @@
 
 ghost use Rattle.std.specs.Prelude.{◌≡◌, ◌≤◌, ◌+◌, ◌↔◌, ℕ, List, Bool, true, Option, IsErrOf, IfOk, OnOk, OnErr, Some, None};
 ghost use Rattle.mari_units.specs.declared.limits.TheConstants.{MOST_PAGE};
-ghost use Rattle.mari_io.specs.declared.shelf.Fetch.TheVariants.{Failed, Missing, TooLong};
-ghost use Rattle.mari_io.specs.Outside.{Counts, Pages, counted, page_of, FetchTells, AppendsAtMost, OpenTells, AppendsExactly, IsPiece, rest_after, IsOverlong, taken_count};
+ghost use Rattle.mari_io.specs.declared.shelf.Fetch.TheVariants.{Failed, Missing, TooLong, Memory};
+ghost use Rattle.mari_io.specs.Outside.{Counts, Pages, counted, page_of, FetchTells, AppendsAtMost, OpenTells, AppendsExactly, IsPiece, rest_after, IsOverlong, most_given, taken_count};
 
 /// The most bytes of a piece.
 pub const MOST_PIECE: usize = 65_536;
@@ -108,12 +108,12 @@ pub trait Shelf {
         ensures open_stays { is_open self.new ≡ true }
         ensures rest { rest self.new ≡ rest_after (rest self.old) result }
         ensures given { given self.new ≡ given self.old + taken_count result }
-        ensures limit { given self.new ≤ MOST_GIVEN }
+        ensures limit { given self.new ≤ most_given }
 
         // Why nothing was given; that there is no such page is no cause.
         ensures failed { Counts (IsErrOf result Failed) (faults self.old) (faults self.new) }
         ensures missing { Counts (IsErrOf result Missing) (misses self.old) (misses self.new) }
         ensures not_missing { IsErrOf result Missing → ⊥ }
         ensures too_long { Counts (IsErrOf result TooLong) (overs self.old) (overs self.new) }
-        ensures over { (IsErrOf result Failed → ⊥) → IsErrOf result TooLong ↔ IsOverlong (rest self.old) (given self.old) };
+        ensures over { (IsErrOf result Failed → ⊥) → (IsErrOf result Memory → ⊥) → IsErrOf result TooLong ↔ IsOverlong (rest self.old) (given self.old) };
 }

@@ -3,7 +3,7 @@
 ghost use Rattle.std.specs.Prelude.{◌≡◌, ◌≤◌, ◌<◌, ◌+◌, ◌++◌, ◌^◌, ℕ, List, Ok, None, OnOk, OnErr, true, false, vec_len};
 ghost use Rattle.mari_publish.specs.declared.publication.Part.{Part as PartValue};
 ghost use Rattle.mari_publish.specs.Order.{HasRoom};
-ghost use Rattle.mari_publish.specs.Pieces.{ComesFrom, IsCome, IsNext, HasNoLine, IsWhole, with_answer, come_of};
+ghost use Rattle.mari_publish.specs.Pieces.{ComesFrom, IsCome, IsNext, HasNoLine, IsWhole, KeepsFew, with_answer, come_of};
 ghost use Rattle.mari_publish.specs.Handling.{Handles};
 
 use crate::fault::TextFault;
@@ -92,13 +92,14 @@ pub fn next_part(alloc: Global, coming: &mut Coming) -> Result<Option<Part>, Tex
     }
 }
 
-/// Forgets the bytes of handled lines, and those of a line that is too long.
+/// Forgets the bytes of handled lines, and those of a line that is too long: no more than `MOST_LINE` bytes stay.
 pub fn forget(coming: &mut Coming)
     requires handled { coming.old.handled ≤ vec_len coming.old.bytes }
     requires no_line { HasNoLine (come_of coming.old) }
     ensures handled { coming.new.handled ≤ vec_len coming.new.bytes }
     ensures stands { (text : List ℕ) (parts : List PartValue) → ComesFrom (come_of coming.old) text parts → ComesFrom (come_of coming.new) text parts }
     ensures no_line { HasNoLine (come_of coming.new) }
+    ensures few { KeepsFew (come_of coming.new) }
 {
     let handled = coming.handled;
     coming.handled = 0;

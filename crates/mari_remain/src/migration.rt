@@ -10,7 +10,7 @@ ghost use Rattle.mari_remain.specs.Accepted.{IsAccepted};
 ghost use Rattle.mari_remain.specs.Migrated.{border_record, borders_page, limit_record, limits_page, run_records};
 
 use crate::books::Books;
-use crate::market::limits_of;
+use crate::borders::limits_of;
 use mari_demands::{LIMIT_COLUMNS, Limits};
 use mari_units::{Memory, put, put_number};
 use mari_zones::{BARE_COLUMNS, BorderEnds, ZoneBook};

@@ -1,0 +1,8 @@
+use Rattle.mari_day.proofs.Migrated.{days-same, parts-same}
+use Rattle.mari_day.proofs.laws.migration_keeps_days.Goals as goal
+
+pub returns-clause-parts : goal.returns-clause-parts
+returns-clause-parts c = λ borders limits is budget blocks. parts-same c.args.books.now c.requires.accepted c.requires.read.0 c.requires.read.1 borders limits is budget blocks
+
+pub returns-clause-days : goal.returns-clause-days
+returns-clause-days c = λ borders limits is budget p. days-same c.args.books.now c.requires.accepted c.requires.read.0 c.requires.read.1 borders limits is budget p

@@ -13,3 +13,4 @@ pub mod Keeping
 pub mod Enough
 pub mod Texts
 pub mod Migrated
+pub mod MigratedFolder

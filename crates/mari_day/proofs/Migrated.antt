@@ -123,7 +123,7 @@ module _ (books : Books) (ok : IsAccepted books) (own : List ℕ) (read : border
   providers-same : (blocks : List Block) → length blocks ≤ length books.runs.runs → provider_totals migrated blocks ≡ provider_totals books blocks
   providers-same blocks l =
       ap (λ (f : ℕ → AmountLine). map f (range_with_len 0 (length books.bids.providers)))
-        (fun_ext (λ provider. ap (λ (z : ℤ). record { name = name_at books.bids.providers provider; amount = record { 0 = z } }) (over-same [] blocks provider (omega (arith, l)))))
+      (fun_ext (λ provider. ap (λ (z : ℤ). record { name = name_at books.bids.providers provider; amount = record { 0 = z } }) (over-same [] blocks provider (omega (arith, l)))))
 
   names-on : (numbers : List ℕ) (b : FullBlock) → NamesLines books numbers b → NamesLines migrated numbers b
   names-on numbers b h = record { zones = h.zones; from = h.from ∙ sym from-same; to = h.to ∙ sym to-same; bids = h.bids }

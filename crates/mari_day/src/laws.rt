@@ -13,6 +13,9 @@ ghost use Rattle.mari_day.specs.Day.{HasEnough, IsDay, IsDayPart};
 ghost use Rattle.mari_progress.specs.Keeps.{KeepsOffers, net_sum};
 ghost use Rattle.mari_progress.specs.Totals.{operator_totals};
 ghost use Rattle.mari_day.specs.Keeps.{BlockSumsToZero};
+ghost use Rattle.mari_day.specs.Migrating.{IsMigratedFolder};
+ghost use Rattle.mari_day.specs.Reading.{HasBooks};
+ghost use Rattle.mari_io.specs.Outside.{Pages};
 
 use mari_remain::Books;
 
@@ -34,10 +37,16 @@ pub fn days_keep(books: &Books)
 pub fn migration_keeps_days(books: &Books)
     requires accepted { IsAccepted books.now }
     requires read { (page : List ℕ) × (borders_in books.now.zones page ≡ Ok books.now.borders) }
+
+    // Nothing that is printed changes.
     ensures parts { (borders : BorderBook) (limits : List (List Limits)) → AreRead books.now borders limits
         → (budget : ℕ) (blocks : List PrintedBlock) → IsDayPart books.now budget blocks ↔ IsDayPart (with_limits books.now borders limits) budget blocks }
     ensures days { (borders : BorderBook) (limits : List (List Limits)) → AreRead books.now borders limits
         → (budget : ℕ) (p : ThePublication) → IsDay books.now budget p ↔ IsDay (with_limits books.now borders limits) budget p }
+
+    // With the two pages in place, the folder of these books is read as that of those with the same limits for each run.
+    ensures folder { (folder : List ℕ) (before after : Pages) → HasBooks before folder books.now → IsMigratedFolder books.now folder before after
+        → (borders : BorderBook) (limits : List (List Limits)) → AreRead books.now borders limits → HasBooks after folder (with_limits books.now borders limits) }
 {
     let _books = books;
 }

@@ -88,16 +88,19 @@ pub struct Bid {
     pub both: bool,
 }
 
-/// The bids in the order of the file, with one name per bid, and the providers in order of first appearance.
+/// The bids in the order of the file.
 #[derive(Debug, Drop)]
 pub struct BidBook {
+    /// The name of each bid.
     pub ids: NameIndex,
+    /// The providers, in order of first appearance.
     pub providers: NameIndex,
+    /// The bids.
     pub bids: Items<Bid>,
 }
 
 impl BidBook {
-    /// The book of a page on a day of so many quarters, or its first refusal.
+    /// The book of a page on a day of `quarters` quarters, or its first refusal.
     pub fn read(
         alloc: Global,
         bids: &[u8],
@@ -143,7 +146,7 @@ fn has_bad_field(line: &Row) -> bool
         && is_both(line).is_some())
 }
 
-/// The bid of a line behind others with these names, but for the place of its provider, or the first check that fails.
+/// The bid of a line after others with these names, but for the place of its provider, or the first check that fails.
 fn bid_of(zones: &ZoneBook, quarters: u32, ids: &NameIndex, line: &Row) -> Result<Bid, BidCheck>
     ensures bid { (earlier : List Line) → ids.now ≡ map id_of earlier
         → IsRead bid_check_number result (first_failing (bid_checks zones.now quarters earlier line.now)) (bid_at zones.now quarters 0 line.now) }

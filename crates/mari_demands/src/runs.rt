@@ -75,7 +75,7 @@ pub struct RunBook {
 }
 
 impl RunBook {
-    /// The book of a page on a day of so many quarters, or its first refusal.
+    /// The book of a page on a day of `quarters` quarters, or its first refusal.
     pub fn read(alloc: Global, runs: &[u8], quarters: u32) -> Result<RunBook, BookFault>
         requires { length runs.now ≤ MOST_PAGE }
         ensures book { GivesBook result (book_in (run_grammar quarters) runs.now) }
@@ -109,7 +109,7 @@ fn is_below(text: &[u8], bound: u32) -> bool
     }
 }
 
-/// Whether a line comes too late behind a run of this quarter.
+/// Whether a line comes too late after a run of this quarter.
 fn comes_too_late(last: Option<u32>, line: &Row) -> bool
     ensures { result ≡ comes_too_late_in last line.now }
 {
@@ -123,7 +123,7 @@ fn comes_too_late(last: Option<u32>, line: &Row) -> bool
     }
 }
 
-/// The run of a line behind so many, the last of which has this quarter, or the first check that fails.
+/// The run of a line after `runs` runs, the last of which has this quarter, or the first check that fails.
 fn run_of(quarters: u32, runs: usize, last: Option<u32>, line: &Row) -> Result<Run, RunCheck>
     ensures { (earlier : List Line) → runs ≡ length earlier → last ≡ last_quarter quarters earlier
         → IsRead run_check_number result (first_failing (run_checks quarters earlier line.now)) (run_in quarters line.now) }

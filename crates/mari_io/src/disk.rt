@@ -177,7 +177,7 @@ fn read_page<F: Read>(file: &mut F, into: &mut Vec<u8>) -> Result<(), Fetch>
     Err(Fetch::Failed)
 }
 
-/// Appends the next bytes of a file, at most so many. Room for them is made before they are read, so that none is
+/// Appends the next bytes of a file, at most `most`. Room for them is made before they are read, so that none is
 /// lost.
 fn read_piece<F: Read>(file: &mut F, into: &mut Vec<u8>, most: u64) -> Result<u32, Fetch>
     // Something is asked for.
@@ -193,7 +193,7 @@ fn read_piece<F: Read>(file: &mut F, into: &mut Vec<u8>, most: u64) -> Result<u3
     ensures err { OnErr result (into.new.items ≡ into.old.items) }
     ensures none_lost { OnErr result (Keeps (F.remaining file.old) (F.remaining file.new)) }
 
-    // Why nothing was read: a failure, or want of memory.
+    // Why nothing was read: a failure, or no memory.
     ensures not_missing { IsErrOf result Missing → ⊥ }
     ensures not_too_long { IsErrOf result TooLong → ⊥ }
 {
@@ -211,7 +211,7 @@ fn read_piece<F: Read>(file: &mut F, into: &mut Vec<u8>, most: u64) -> Result<u3
     }
 }
 
-/// What the opening of a file comes to: its bytes are appended, or why they aren't is told, and nothing is.
+/// What the opening of a file comes to: its bytes are appended, or why they aren't is answered, and nothing is.
 fn fetch_opened<F: Read + Drop>(opened: io::Result<F>, into: &mut Vec<u8>) -> Result<(), Fetch>
     ensures ok { OnOk result (AppendsAtMost MOST_PAGE into.old.items into.new.items) }
     ensures err { OnErr result (into.new.items ≡ into.old.items) }
@@ -221,7 +221,7 @@ fn fetch_opened<F: Read + Drop>(opened: io::Result<F>, into: &mut Vec<u8>) -> Re
     ensures bytes { OnOk result (IfOk opened (λ file. IfSome (F.remaining file) (λ xs. into.new.items ≡ into.old.items ++ xs))) }
     ensures too_long { IsErrOf result TooLong → IfOk opened (λ file. IfSome (F.remaining file) (λ xs. MOST_PAGE < length xs)) }
 
-    // A file that can't be opened is told by the system's error; only such a one is missing.
+    // Why a file can't be opened is the system's error; only such a one is missing.
     ensures unopened { IfErr opened (λ error. result ≡ Err (fault_of_opening (error_kind error))) }
     ensures missing { IsErrOf result Missing → IsErr opened }
 {

@@ -49,7 +49,7 @@ impl MemoryShelf {
         MemoryShelf::with_piece(pages, plan, MOST_PIECE as u32)
     }
 
-    /// The same, where a piece has at most so many bytes, 1 to `MOST_PIECE`. It takes no memory.
+    /// The same, where a piece has at most `piece` bytes, 1 to `MOST_PIECE`. It takes no memory.
     pub fn with_piece(pages: Vec<Page>, plan: FaultPlan, piece: u32) -> MemoryShelf
         requires some { 1 ≤ piece }
         requires few { piece ≤ MOST_PIECE }

@@ -11,13 +11,16 @@ pub const MOST_PIECE: usize = 65_536;
 /// The most bytes that are given of a page in pieces.
 pub const MOST_GIVEN: u64 = 1_099_511_627_776;
 
-/// Why a call gave nothing: it failed, there is no such page, the page is longer than `MOST_PAGE`, or in pieces than
-/// `MOST_GIVEN`, or there was no memory for it.
+/// Why a call gave nothing.
 #[derive(Clone, Copy, Debug, PartialEq, Eq)]
 pub enum Fetch {
+    /// The call failed.
     Failed,
+    /// There is no such page.
     Missing,
+    /// The page is longer than `MOST_PAGE`, or in pieces than `MOST_GIVEN`.
     TooLong,
+    /// Out of memory.
     Memory,
 }
 
@@ -98,7 +101,7 @@ pub trait Shelf {
         ensures same { pages self.new ≡ pages self.old }
         ensures fetched { fetches self.new ≡ counted (fetches self.old) }
 
-        // What was given: so many bytes, and where it is told what was left, the first of these.
+        // What was given: `n` bytes, and where it is told what was left, its first ones.
         ensures ok { IfOk result (λ n. AppendsExactly n into.old.items into.new.items) }
         ensures few { IfOk result (λ n. n ≤ MOST_PIECE) }
         ensures told { (left : List ℕ) → rest self.old ≡ Some left → IfOk result (λ n. IsPiece left into.old.items into.new.items n) }

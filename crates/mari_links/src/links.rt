@@ -84,6 +84,7 @@ pub struct BidLinks {
 /// The links of each bid, in the order of the bids.
 #[derive(Debug, Drop)]
 pub struct LinkBook {
+    /// What the links say of each bid.
     pub links: Items<BidLinks>,
 }
 

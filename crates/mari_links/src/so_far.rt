@@ -118,7 +118,7 @@ impl LinksSoFar {
         }
     }
 
-    /// The first check that a link fails behind the lines so far.
+    /// The first check that a link fails after the lines so far.
     fn failing_check(&self, bids: &BidBook, line: &Row, link: Link) -> Option<LinkCheck>
         requires first { link.first < length bids.now.ids }
         requires second { link.second < length bids.now.ids }
@@ -164,7 +164,7 @@ impl LinksSoFar {
         Ok(())
     }
 
-    /// Adds what a line says, or tells the first check that it fails.
+    /// Adds what a line says, or reports the first check that it fails.
     pub fn add(
         &mut self,
         alloc: Global,

@@ -16,7 +16,7 @@ use mari_units::Memory;
 use std::alloc::Global;
 use std::marker::Model;
 
-/// A text that comes in pieces. The reader keeps what has come of the part that is being read, and the bytes behind
+/// A text that comes in pieces. The reader keeps what has come of the part that is being read, and the bytes after
 /// the lines that are handled: neither the text nor the parts that were given. Where `next` finds no further part and
 /// more than `MOST_LINE` bytes of a line have come, it keeps of them only that the line is too long.
 #[derive(Drop)]
@@ -89,7 +89,7 @@ impl TextReader {
         // The text so far and the parts given have no other answer, in whatever pieces the text came.
         ensures one { (text : List ℕ) (parts : List PartValue) (answer : Result (Option PartValue) TextFaultValue) → ComesFrom self.old.come text parts → IsNext text parts answer → SameAnswer answer result }
 
-        // A part that is there and a fault stay what they are, whatever text comes behind them.
+        // A part that is there and a fault stay what they are, whatever text comes after them.
         ensures part { (text more : List ℕ) (parts : List PartValue) (x : PartValue) → HasPart text parts x → HasPart (text ++ more) parts x }
         ensures bad_line { (text more : List ℕ) (n : ℕ) → BadLineAt text n → BadLineAt (text ++ more) n }
         ensures bad_order { (text more : List ℕ) (n : ℕ) → BadOrderAt text n → BadOrderAt (text ++ more) n }

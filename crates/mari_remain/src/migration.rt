@@ -49,7 +49,7 @@ fn put_border(text: &mut Vec<u8>, zones: &ZoneBook, ends: BorderEnds) -> Result<
     put(text, b"\n")
 }
 
-/// Appends limits, each behind a comma.
+/// Appends limits, each after a comma.
 fn put_limits(alloc: Global, text: &mut Vec<u8>, limits: Limits) -> Result<(), Memory>
     ensures { OnOk result (text.new.items ≡ text.old.items ++ 44 ∷ decimal limits.limit ++ 44 ∷ decimal limits.back) }
 {

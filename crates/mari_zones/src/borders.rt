@@ -149,7 +149,7 @@ fn is_repeated(border: BorderEnds, earlier: &[BorderEnds]) -> bool
     earlier.iter().any(|other| is_between_same(border, *other))
 }
 
-/// The border of a line behind these, or the first check that fails.
+/// The border of a line after these, or the first check that fails.
 fn border_of(
     zones: &ZoneBook,
     version: u8,

@@ -84,7 +84,7 @@ struct ZonesSoFar {
     operator_of: Vec<u32>,
 }
 
-/// The first check that a line fails behind others with these zones.
+/// The first check that a line fails after others with these zones.
 fn failing_check(zones: &NameIndex, line: &Row) -> Option<ZoneCheck>
     ensures first { (earlier : List Line) → zones.now ≡ zones_of earlier
         → option_map zone_check_number result ≡ first_failing (zone_checks earlier line.now) }

@@ -169,7 +169,7 @@ fn borders_without_limits(rt: HostRuntime) -> Result<(), Fail> {
     Ok(())
 }
 
-// Borders from each of the first zones to each of the 60 zones behind them, as many as are wanted.
+// Borders from each of the first zones to each of the 60 zones after them, as many as are wanted.
 fn border_page(alloc: Global, count: u32) -> Result<Vec<u8>, Fail> {
     let mut page = b"from,to,limit,back\n".to_vec(alloc)?;
     for i in 0..count {

@@ -1,0 +1,47 @@
+//! The checks of the program's own: of a publication's text, and of a folder that is migrated.
+
+ghost use Rattle.mari_commands.specs.Checks.{migration_check_name, migration_check_number, text_check_name, text_check_number};
+
+use mari_rows::FileCheck;
+
+/// A check of a publication's text.
+#[derive(Clone, Copy, Debug, PartialEq, Eq)]
+pub enum TextCheck {
+    BadLine,
+    BadOrder,
+    Truncated,
+}
+
+impl FileCheck for TextCheck {
+    ghost number = { text_check_number };
+
+    ghost name = { text_check_name };
+
+    #[tactic(auto, unfolding(crate::specs::Checks::text_check_name))]
+    fn entry(self) -> (u8, &'static str) {
+        match self {
+            TextCheck::BadLine => (11, "BadLine"),
+            TextCheck::BadOrder => (12, "BadOrder"),
+            TextCheck::Truncated => (13, "Truncated"),
+        }
+    }
+}
+
+/// A check of a folder that is migrated. It is told of borders.csv, beside the checks of that file.
+#[derive(Clone, Copy, Debug, PartialEq, Eq)]
+pub enum MigrationCheck {
+    AlreadyTwo,
+}
+
+impl FileCheck for MigrationCheck {
+    ghost number = { migration_check_number };
+
+    ghost name = { migration_check_name };
+
+    #[tactic(auto, unfolding(crate::specs::Checks::migration_check_name))]
+    fn entry(self) -> (u8, &'static str) {
+        match self {
+            MigrationCheck::AlreadyTwo => (17, "AlreadyTwo"),
+        }
+    }
+}

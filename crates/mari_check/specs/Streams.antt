@@ -2,8 +2,8 @@
 use Rattle.std.specs.Prelude.{◌≡◌, ◌<◌, ◌≤◌, ◌⊎◌, ℕ, true, List, [], ◌∷◌, ◌++◌, length, map, take, Option, Some, None, Result, Ok, Err, ⊤}
 use Rattle.mari_io.specs.declared.shelf.Fetch.{Fetch}
 use Rattle.mari_io.specs.declared.shelf.Fetch.TheVariants as fetch
-use Rattle.mari_io.specs.declared.shelf.TheConstants.{MOST_GIVEN, MOST_PIECE}
-use Rattle.mari_io.specs.Outside.{counted}
+use Rattle.mari_io.specs.declared.shelf.TheConstants.{MOST_PIECE}
+use Rattle.mari_io.specs.Outside.{counted, most_given}
 use Rattle.mari_publish.specs.Faults.{IsText, IsTextFault, BadLineAt, BadOrderAt, TruncatedAt}
 use Rattle.mari_publish.specs.Pieces.{NoFault, ComesFrom, parts_of}
 use Rattle.mari_publish.specs.declared.fault.TextFault.{TextFault}
@@ -34,13 +34,13 @@ IsLineFault text fault.Memory = ⊥
 -- the fault that is told of a page: the first of its text, where the page may be given whole; of a longer page that of
 -- a whole line of the bytes that are given, and never that the text is cut off
 pub data IsToldFault (page : List ℕ) (fault : TextFault) : Type 0 where
-  OfPage : length page ≤ MOST_GIVEN → IsTextFault page fault → IsToldFault page fault
-  OfGiven : MOST_GIVEN < length page → IsLineFault (take MOST_GIVEN page) fault → IsToldFault page fault
+  OfPage : length page ≤ most_given → IsTextFault page fault → IsToldFault page fault
+  OfGiven : most_given < length page → IsLineFault (take most_given page) fault → IsToldFault page fault
 
 -- a page has more bytes than are given in pieces, and as far as they are given no whole line has a fault
 pub record IsTooLong (page : List ℕ) : Type 0 where
-  pub longer : MOST_GIVEN < length page
-  pub no_fault : NoFault (take MOST_GIVEN page)
+  pub longer : most_given < length page
+  pub no_fault : NoFault (take most_given page)
 
 -- why there is no verdict on a page, or where it isn't held
 abbrev pub FaultTells : Option (List ℕ) → StreamFault → Type 0
@@ -64,7 +64,7 @@ IsVerdictOn books text verdict = (p : Publication) × IsText text p × IsVerdict
 -- the verdict on the publication whose text the page is, which may be given whole
 abbrev pub VerdictTells : Books → Option (List ℕ) → Verdict → Type 0
 VerdictTells books None verdict = ⊥
-VerdictTells books (Some page) verdict = (length page ≤ MOST_GIVEN) × IsVerdictOn books page verdict
+VerdictTells books (Some page) verdict = (length page ≤ most_given) × IsVerdictOn books page verdict
 
 -- what the check says of the page of a name, where pages are told
 abbrev pub StreamTells : Books → Option (List ℕ) → Result Verdict StreamFault → Type 0
@@ -187,7 +187,7 @@ PushTells books text stream (Err why) = LineTells text why
 
 -- what is told when the page was read to its end, or as far as could be
 abbrev pub PiecesTell : {T : Type 0} → Books → List ℕ → Stream → Result T StreamFault → Type 0
-PiecesTell books page stream (Ok done) = (length page ≤ MOST_GIVEN) × IsAllRead books page stream
+PiecesTell books page stream (Ok done) = (length page ≤ most_given) × IsAllRead books page stream
 PiecesTell books page stream (Err why) = FaultTells (Some page) why
 
 -- what is told at the end of a text

@@ -19,7 +19,9 @@ use std::alloc::Global;
 /// there may be, or, at the greatest end, below the greatest. So upper bounds are handled as lower bounds are.
 #[derive(Clone, Copy, Debug, Drop, PartialEq, Eq)]
 pub(crate) enum End {
+    /// The least price.
     Least,
+    /// The greatest price.
     Greatest,
 }
 

@@ -133,7 +133,7 @@ fn put_opening(alloc: Global, out: &mut Vec<u8>, block: &FullBlock) -> Result<()
     put_welfare(alloc, out, block.welfare)
 }
 
-/// Appends a block's lines behind its tree.
+/// Appends a block's lines after its tree.
 fn put_ending(alloc: Global, out: &mut Vec<u8>, block: &FullBlock) -> Result<(), Memory>
     requires { FullFits block.now }
     ensures { OnOk result (out.new.items ≡ out.old.items ++ text_of_lines (ending_lines block.now)) }
@@ -199,7 +199,7 @@ fn unpublished_in(blocks: &[Block]) -> u32
     blocks.len() as u32 - published_in(blocks)
 }
 
-/// Appends the lines behind the last block, of a day of which so many blocks are published and so many are not.
+/// Appends the lines after the last block, of a day with these numbers of published and of other blocks.
 fn put_closing(
     alloc: Global,
     out: &mut Vec<u8>,
@@ -253,7 +253,7 @@ pub fn block_text(alloc: Global, block: &Block) -> Result<Vec<u8>, Memory>
     Ok(out)
 }
 
-/// The text behind the last block of a publication.
+/// The text after the last block of a publication.
 pub fn total_text(alloc: Global, publication: &Publication) -> Result<Vec<u8>, Memory>
     requires { TotalsFit publication.now }
     ensures { IfOk result (λ text. text.items ≡ total_text_of publication.now) }
@@ -263,8 +263,8 @@ pub fn total_text(alloc: Global, publication: &Publication) -> Result<Vec<u8>, M
     Ok(out)
 }
 
-/// The same text by what it tells, for a day that isn't held as a publication: so many of its blocks are published, and
-/// so many are not.
+/// The same text by what it says, for a day that isn't held as a publication: the totals, and how many of its blocks
+/// are published, and how many are not.
 pub fn closing_text(
     alloc: Global,
     operators: &[MoneyLine],

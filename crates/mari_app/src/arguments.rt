@@ -2,7 +2,7 @@
 
 ghost use Rattle.std.specs.Prelude.{◌≡◌, drop};
 
-use crate::status::Status;
+use mari_commands::Status;
 use std::env;
 use std::io::ErrorKind;
 use std::rt::Env;

@@ -10,6 +10,14 @@ fn at(line: u32, number: u8) -> Option<BookFault> {
     Some(BookFault::At { line, number })
 }
 
+/// The refusal of a line by a check, if one is wanted.
+fn fault_of(want: Option<(u32, u8)>) -> Option<BookFault> {
+    match want {
+        Some((line, number)) => at(line, number),
+        None => None,
+    }
+}
+
 #[test]
 fn bids_with_their_providers(rt: HostRuntime) -> Result<(), Fail> {
     let zones = ZoneBook::read(rt.alloc(), b"zone,operator\nA,TA\nB,TB\n")?;
@@ -54,35 +62,35 @@ u1,P1,B,96,up,99999,9999,9999,both\nd1,P2,A,1,down,-99999.00,0,1,scheduled\nu2,P
     Ok(())
 }
 
+/// Last lines of a page of bids, with the line and the check that refuses each, or none.
+const LAST_BIDS: &[(&[u8], Option<(u32, u8)>)] = &[
+    (b"u2,P1,A,1,up,1,0,1\n", Some((3, 2))),
+    (b"u2,P1,A,1,up,1,0,1,\xff\n", Some((3, 3))),
+    (b"u.2,P1,X,1,up,1,0,1,both\n", Some((3, 11))),
+    (b"u2,,A,1,up,1,0,1,both\n", Some((3, 11))),
+    (b"u2,P1,A,1.0,up,1,0,1,both\n", Some((3, 11))),
+    (b"u2,P1,A,1,Up,1,0,1,both\n", Some((3, 11))),
+    (b"u2,P1,A,1,up,1.,0,1,both\n", Some((3, 11))),
+    (b"u2,P1,A,1,up,1,+1,1,both\n", Some((3, 11))),
+    (b"u2,P1,A,1,up,1,0,,both\n", Some((3, 11))),
+    (b"u2,P1,A,1,up,1,0,1,direct\n", Some((3, 11))),
+    (b"u1,P1,X,1,up,1,0,1,both\n", Some((3, 12))),
+    (b"u2,P1,a,0,up,1,0,1,both\n", Some((3, 13))),
+    (b"u2,P1,A,0,up,99999.01,0,1,both\n", Some((3, 14))),
+    (b"u2,P1,A,97,up,1,0,1,both\n", Some((3, 14))),
+    (b"u2,P1,A,1,up,99999.01,0,1,both\n", Some((3, 15))),
+    (b"u2,P1,A,1,up,1,5,0,both\n", Some((3, 15))),
+    (b"u2,P1,A,1,up,1,0,10000,both\n", Some((3, 15))),
+    (b"u2,P1,A,1,up,1,-1,1,both\n", Some((3, 15))),
+    (b"u2,P1,A,1,up,99999.00,9999,9998,both\n", Some((3, 16))),
+    (b"u2,P1,A,96,down,1,1,1,scheduled\n", None),
+];
+
 #[test]
 fn each_refusal_of_bids(rt: HostRuntime) -> Result<(), Fail> {
     let zones = ZoneBook::read(rt.alloc(), b"zone,operator\nA,TA\n")?;
     let good = b"u1,P1,A,1,up,1,0,1,both\n";
-    for (line, want) in [
-        (b"u2,P1,A,1,up,1,0,1\n".as_slice(), at(3, 2)),
-        (b"u2,P1,A,1,up,1,0,1,\xff\n".as_slice(), at(3, 3)),
-        (b"u.2,P1,X,1,up,1,0,1,both\n".as_slice(), at(3, 11)),
-        (b"u2,,A,1,up,1,0,1,both\n".as_slice(), at(3, 11)),
-        (b"u2,P1,A,1.0,up,1,0,1,both\n".as_slice(), at(3, 11)),
-        (b"u2,P1,A,1,Up,1,0,1,both\n".as_slice(), at(3, 11)),
-        (b"u2,P1,A,1,up,1.,0,1,both\n".as_slice(), at(3, 11)),
-        (b"u2,P1,A,1,up,1,+1,1,both\n".as_slice(), at(3, 11)),
-        (b"u2,P1,A,1,up,1,0,,both\n".as_slice(), at(3, 11)),
-        (b"u2,P1,A,1,up,1,0,1,direct\n".as_slice(), at(3, 11)),
-        (b"u1,P1,X,1,up,1,0,1,both\n".as_slice(), at(3, 12)),
-        (b"u2,P1,a,0,up,1,0,1,both\n".as_slice(), at(3, 13)),
-        (b"u2,P1,A,0,up,99999.01,0,1,both\n".as_slice(), at(3, 14)),
-        (b"u2,P1,A,97,up,1,0,1,both\n".as_slice(), at(3, 14)),
-        (b"u2,P1,A,1,up,99999.01,0,1,both\n".as_slice(), at(3, 15)),
-        (b"u2,P1,A,1,up,1,5,0,both\n".as_slice(), at(3, 15)),
-        (b"u2,P1,A,1,up,1,0,10000,both\n".as_slice(), at(3, 15)),
-        (b"u2,P1,A,1,up,1,-1,1,both\n".as_slice(), at(3, 15)),
-        (
-            b"u2,P1,A,1,up,99999.00,9999,9998,both\n".as_slice(),
-            at(3, 16),
-        ),
-        (b"u2,P1,A,96,down,1,1,1,scheduled\n".as_slice(), None),
-    ] {
+    for (line, want) in LAST_BIDS {
         let header = b"id,provider,zone,quarter,direction,price,least,greatest,kind\n";
         let mut page = header.to_vec(rt.alloc())?;
         page.extend_from_slice(good)?;
@@ -90,7 +98,7 @@ fn each_refusal_of_bids(rt: HostRuntime) -> Result<(), Fail> {
         assert!(rt; page.len() < 1_000);
         assert_eq!(rt;
             BidBook::read(rt.alloc(), page.as_slice(), &zones, 96).err(),
-            want
+            fault_of(*want)
         );
     }
     assert_eq!(rt;

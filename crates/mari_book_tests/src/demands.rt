@@ -26,48 +26,39 @@ fn runs_in_order(rt: HostRuntime) -> Result<(), Fail> {
     Ok(())
 }
 
+/// Pages of runs of a day of two quarter hours, with the line and the check that refuses each.
+const REFUSED_RUNS: &[(&[u8], (u32, u8))] = &[
+    (b"run,quarter,kind\n", (1, 1)),
+    (b"run,quarter,kind,reference\n1,1,x,y\n1\n", (3, 2)),
+    (b"run,quarter,kind,reference\n1,1,x,\xff\n", (2, 3)),
+    (b"run,quarter,kind,reference\n2,0,both,1\n", (2, 11)),
+    (b"run,quarter,kind,reference\n2,0,direct,1\n", (2, 12)),
+    (
+        b"run,quarter,kind,reference\n1,2,direct,1\n2,-9,direct,1\n",
+        (3, 12),
+    ),
+    (
+        b"run,quarter,kind,reference\n1,2,direct,1\n2,2,scheduled,1\n",
+        (3, 12),
+    ),
+    (b"run,quarter,kind,reference\n1,-1,direct,1\n", (2, 13)),
+    (
+        b"run,quarter,kind,reference\n1,3,direct,99999.01\n",
+        (2, 13),
+    ),
+    (
+        b"run,quarter,kind,reference\n1,2,direct,99999.01\n",
+        (2, 14),
+    ),
+];
+
 #[test]
 fn each_refusal_of_runs(rt: HostRuntime) {
-    for (page, want) in [
-        (b"run,quarter,kind\n".as_slice(), at(1, 1)),
-        (
-            b"run,quarter,kind,reference\n1,1,x,y\n1\n".as_slice(),
-            at(3, 2),
-        ),
-        (
-            b"run,quarter,kind,reference\n1,1,x,\xff\n".as_slice(),
-            at(2, 3),
-        ),
-        (
-            b"run,quarter,kind,reference\n2,0,both,1\n".as_slice(),
-            at(2, 11),
-        ),
-        (
-            b"run,quarter,kind,reference\n2,0,direct,1\n".as_slice(),
-            at(2, 12),
-        ),
-        (
-            b"run,quarter,kind,reference\n1,2,direct,1\n2,-9,direct,1\n".as_slice(),
-            at(3, 12),
-        ),
-        (
-            b"run,quarter,kind,reference\n1,2,direct,1\n2,2,scheduled,1\n".as_slice(),
-            at(3, 12),
-        ),
-        (
-            b"run,quarter,kind,reference\n1,-1,direct,1\n".as_slice(),
-            at(2, 13),
-        ),
-        (
-            b"run,quarter,kind,reference\n1,3,direct,99999.01\n".as_slice(),
-            at(2, 13),
-        ),
-        (
-            b"run,quarter,kind,reference\n1,2,direct,99999.01\n".as_slice(),
-            at(2, 14),
-        ),
-    ] {
-        assert_eq!(rt; RunBook::read(rt.alloc(), page, 2).err(), want);
+    for (page, want) in REFUSED_RUNS {
+        assert_eq!(rt;
+            RunBook::read(rt.alloc(), page, 2).err(),
+            at(want.0, want.1)
+        );
     }
 }
 
@@ -85,6 +76,18 @@ fn a_thousand_runs_and_no_more(rt: HostRuntime) -> Result<(), Fail> {
     );
     Ok(())
 }
+
+/// Pages of demands, with the line and the check that refuses each.
+const REFUSED_DEMANDS: &[(&[u8], (u32, u8))] = &[
+    (b"run,zone,price,mw\n", (1, 1)),
+    (b"run,zone,mw,price\n9,X,1,x\n1\n", (3, 2)),
+    (b"run,zone,mw,price\n9,X,1,\xff\n", (2, 3)),
+    (b"run,zone,mw,price\n9,X,1,x\n", (2, 11)),
+    (b"run,zone,mw,price\n4,X,1,\n", (2, 12)),
+    (b"run,zone,mw,price\n3,X,100000,\n", (2, 13)),
+    (b"run,zone,mw,price\n3,A,100000,\n", (2, 14)),
+    (b"run,zone,mw,price\n3,A,1,-99999.01\n", (2, 14)),
+];
 
 #[test]
 fn demands_with_and_without_a_price(rt: HostRuntime) -> Result<(), Fail> {
@@ -107,22 +110,10 @@ fn demands_with_and_without_a_price(rt: HostRuntime) -> Result<(), Fail> {
         },
     ];
     assert_eq!(rt; book.demands.as_slice(), want.as_slice());
-    for (page, want) in [
-        (b"run,zone,price,mw\n".as_slice(), at(1, 1)),
-        (b"run,zone,mw,price\n9,X,1,x\n1\n".as_slice(), at(3, 2)),
-        (b"run,zone,mw,price\n9,X,1,\xff\n".as_slice(), at(2, 3)),
-        (b"run,zone,mw,price\n9,X,1,x\n".as_slice(), at(2, 11)),
-        (b"run,zone,mw,price\n4,X,1,\n".as_slice(), at(2, 12)),
-        (b"run,zone,mw,price\n3,X,100000,\n".as_slice(), at(2, 13)),
-        (b"run,zone,mw,price\n3,A,100000,\n".as_slice(), at(2, 14)),
-        (
-            b"run,zone,mw,price\n3,A,1,-99999.01\n".as_slice(),
-            at(2, 14),
-        ),
-    ] {
+    for (page, want) in REFUSED_DEMANDS {
         assert_eq!(rt;
             DemandBook::read(rt.alloc(), page, &runs, &zones).err(),
-            want
+            at(want.0, want.1)
         );
     }
     Ok(())
@@ -141,6 +132,24 @@ fn five_hundred_and_twelve_demands_of_a_run_and_no_more(rt: HostRuntime) -> Resu
     assert_eq!(rt; refused, at(515, 15));
     Ok(())
 }
+
+/// Pages of limits, with the line and the check that refuses each.
+const REFUSED_LIMITS: &[(&[u8], (u32, u8))] = &[
+    (b"run,from,to,back,limit\n", (1, 1)),
+    (b"run,from,to,limit,back\n9,X,A,x,1\n1\n", (3, 2)),
+    (b"run,from,to,limit,back\n9,X,A,1,\xff\n", (2, 3)),
+    (b"run,from,to,limit,back\n9,X,A,1,x\n", (2, 11)),
+    (b"run,from,to,limit,back\n4,X,A,1,1\n", (2, 12)),
+    (b"run,from,to,limit,back\n0,B,A,1,1\n", (2, 12)),
+    (b"run,from,to,limit,back\n3,A,B,100000,1\n", (2, 13)),
+    (b"run,from,to,limit,back\n3,X,A,1,1\n", (2, 13)),
+    (
+        b"run,from,to,limit,back\n3,A,C,1,1\n2,A,C,1,1\n3,A,C,-1,1\n",
+        (4, 14),
+    ),
+    (b"run,from,to,limit,back\n3,A,C,-1,1\n", (2, 15)),
+    (b"run,from,to,limit,back\n3,A,C,1,100000\n", (2, 15)),
+];
 
 #[test]
 fn limits_of_each_border_in_each_run(rt: HostRuntime) -> Result<(), Fail> {
@@ -161,40 +170,10 @@ fn limits_of_each_border_in_each_run(rt: HostRuntime) -> Result<(), Fail> {
     ] {
         assert_eq!(rt; book.of(run, border), want);
     }
-    for (page, want) in [
-        (b"run,from,to,back,limit\n".as_slice(), at(1, 1)),
-        (
-            b"run,from,to,limit,back\n9,X,A,x,1\n1\n".as_slice(),
-            at(3, 2),
-        ),
-        (
-            b"run,from,to,limit,back\n9,X,A,1,\xff\n".as_slice(),
-            at(2, 3),
-        ),
-        (b"run,from,to,limit,back\n9,X,A,1,x\n".as_slice(), at(2, 11)),
-        (b"run,from,to,limit,back\n4,X,A,1,1\n".as_slice(), at(2, 12)),
-        (b"run,from,to,limit,back\n0,B,A,1,1\n".as_slice(), at(2, 12)),
-        (
-            b"run,from,to,limit,back\n3,A,B,100000,1\n".as_slice(),
-            at(2, 13),
-        ),
-        (b"run,from,to,limit,back\n3,X,A,1,1\n".as_slice(), at(2, 13)),
-        (
-            b"run,from,to,limit,back\n3,A,C,1,1\n2,A,C,1,1\n3,A,C,-1,1\n".as_slice(),
-            at(4, 14),
-        ),
-        (
-            b"run,from,to,limit,back\n3,A,C,-1,1\n".as_slice(),
-            at(2, 15),
-        ),
-        (
-            b"run,from,to,limit,back\n3,A,C,1,100000\n".as_slice(),
-            at(2, 15),
-        ),
-    ] {
+    for (page, want) in REFUSED_LIMITS {
         assert_eq!(rt;
             LimitBook::read(rt.alloc(), page, &zones, &borders, &runs).err(),
-            want
+            at(want.0, want.1)
         );
     }
     Ok(())

@@ -10,6 +10,14 @@ fn at(line: u32, number: u8) -> Option<BookFault> {
     Some(BookFault::At { line, number })
 }
 
+/// The refusal of a line by a check, if one is wanted.
+fn fault_of(want: Option<(u32, u8)>) -> Option<BookFault> {
+    match want {
+        Some((line, number)) => at(line, number),
+        None => None,
+    }
+}
+
 #[test]
 fn links_of_all_five_kinds(rt: HostRuntime) -> Result<(), Fail> {
     let zones = ZoneBook::read(rt.alloc(), b"zone,operator\nA,T\n")?;
@@ -68,6 +76,34 @@ a,P,A,1,up,1,0,1,both\nb,P,A,1,up,1,0,1,both\nc,P,A,1,up,1,0,1,both\nd,P,A,1,up,
     Ok(())
 }
 
+/// Last lines of a page of links, with the line and the check that refuses each, or none.
+const LAST_LINKS: &[(&[u8], Option<(u32, u8)>)] = &[
+    (b"group,h\n", Some((5, 2))),
+    (b"group,h,\xff\n", Some((5, 3))),
+    (b"Group,h,b4\n", Some((5, 11))),
+    (b",x9,x9\n", Some((5, 11))),
+    (b"group,h.1,x9\n", Some((5, 16))),
+    (b"group,h,x9\n", Some((5, 12))),
+    (b"child,x9,a1\n", Some((5, 12))),
+    (b"needs,a4,x.9\n", Some((5, 12))),
+    (b"group,g,a3\n", Some((5, 13))),
+    (b"child,b4,a3\n", Some((5, 13))),
+    (b"needs,a4,a1\n", Some((5, 13))),
+    (b"needs,a4,b4\n", Some((5, 13))),
+    (b"bars,a3,a4\n", Some((5, 13))),
+    (b"technical,a4,a2\n", Some((5, 13))),
+    (b"child,b4,c4\n", Some((5, 14))),
+    (b"child,b4,b4\n", Some((5, 14))),
+    (b"group,h,a4\n", Some((5, 15))),
+    (b"child,c4,a4\n", Some((5, 15))),
+    (b"needs,a4,a3\n", Some((5, 15))),
+    (b"bars,a4,a3\n", None),
+    (b"needs,a4,a2\n", None),
+    (b"technical,a4,a3\n", None),
+    (b"group,g,b4\n", None),
+    (b"child,b4,a4\n", None),
+];
+
 #[test]
 fn each_refusal_of_links(rt: HostRuntime) -> Result<(), Fail> {
     let zones = ZoneBook::read(rt.alloc(), b"zone,operator\nA,T\n")?;
@@ -75,32 +111,7 @@ fn each_refusal_of_links(rt: HostRuntime) -> Result<(), Fail> {
 a1,P,A,1,up,1,0,1,both\na2,P,A,2,up,1,0,1,both\na3,P,A,3,up,1,0,1,both\na4,P,A,4,up,1,0,1,both\n\
 b4,P,A,4,up,1,0,1,both\nc4,P,A,4,up,1,0,1,both\n";
     let bids = BidBook::read(rt.alloc(), bids, &zones, 4)?;
-    for (line, want) in [
-        (b"group,h\n".as_slice(), at(5, 2)),
-        (b"group,h,\xff\n".as_slice(), at(5, 3)),
-        (b"Group,h,b4\n".as_slice(), at(5, 11)),
-        (b",x9,x9\n".as_slice(), at(5, 11)),
-        (b"group,h.1,x9\n".as_slice(), at(5, 16)),
-        (b"group,h,x9\n".as_slice(), at(5, 12)),
-        (b"child,x9,a1\n".as_slice(), at(5, 12)),
-        (b"needs,a4,x.9\n".as_slice(), at(5, 12)),
-        (b"group,g,a3\n".as_slice(), at(5, 13)),
-        (b"child,b4,a3\n".as_slice(), at(5, 13)),
-        (b"needs,a4,a1\n".as_slice(), at(5, 13)),
-        (b"needs,a4,b4\n".as_slice(), at(5, 13)),
-        (b"bars,a3,a4\n".as_slice(), at(5, 13)),
-        (b"technical,a4,a2\n".as_slice(), at(5, 13)),
-        (b"child,b4,c4\n".as_slice(), at(5, 14)),
-        (b"child,b4,b4\n".as_slice(), at(5, 14)),
-        (b"group,h,a4\n".as_slice(), at(5, 15)),
-        (b"child,c4,a4\n".as_slice(), at(5, 15)),
-        (b"needs,a4,a3\n".as_slice(), at(5, 15)),
-        (b"bars,a4,a3\n".as_slice(), None),
-        (b"needs,a4,a2\n".as_slice(), None),
-        (b"technical,a4,a3\n".as_slice(), None),
-        (b"group,g,b4\n".as_slice(), None),
-        (b"child,b4,a4\n".as_slice(), None),
-    ] {
+    for (line, want) in LAST_LINKS {
         let mut page = b"kind,first,second\ngroup,g,a4\nchild,c4,b4\nneeds,a4,a3\n".to_vec(
             rt.alloc(),
         )?;
@@ -108,7 +119,7 @@ b4,P,A,4,up,1,0,1,both\nc4,P,A,4,up,1,0,1,both\n";
         assert!(rt; page.len() < 1_000);
         assert_eq!(rt;
             LinkBook::read(rt.alloc(), page.as_slice(), &bids).err(),
-            want
+            fault_of(*want)
         );
     }
     assert_eq!(rt;

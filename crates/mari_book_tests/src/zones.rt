@@ -96,36 +96,30 @@ fn borders_between_zones(rt: HostRuntime) -> Result<(), Fail> {
     Ok(())
 }
 
+/// Pages of borders, with the line and the check that refuses each.
+const REFUSED_BORDERS: &[(&[u8], (u32, u8))] = &[
+    (b"from,to,back,limit\n", (1, 1)),
+    (b"from,to,limit,back\nX,A,1,1\nA,B,1\n", (3, 2)),
+    (b"from,to,limit,back\nX,A,1,1\nA,B,1,\xff\n", (3, 3)),
+    (b"from,to,limit,back\nA,B,1,1\nX,A,+1,1\n", (3, 12)),
+    (b"from,to,limit,back\nA,a,1,1\n", (2, 12)),
+    (b"from,to,limit,back\nA,A,x,1\n", (2, 13)),
+    (b"from,to,limit,back\nA,B,1,1\nB,A,x,1\n", (3, 14)),
+    (b"from,to,limit,back\nA,B,1,1\nA,B,1,1\n", (3, 14)),
+    (b"from,to,limit,back\nA,B,1,100000\n", (2, 15)),
+    (b"from,to,limit,back\nA,B,-1,1\n", (2, 15)),
+    (b"from,to,limit,back\nA,B,+1,1\n", (2, 15)),
+    (b"from,to,limit,back\nA,B,1,\n", (2, 15)),
+];
+
 #[test]
 fn each_refusal_of_borders(rt: HostRuntime) -> Result<(), Fail> {
     let zones = ZoneBook::read(rt.alloc(), b"zone,operator\nA,TA\nB,TB\nC,TB\n")?;
-    for (page, want) in [
-        (b"from,to,back,limit\n".as_slice(), at(1, 1)),
-        (b"from,to,limit,back\nX,A,1,1\nA,B,1\n".as_slice(), at(3, 2)),
-        (
-            b"from,to,limit,back\nX,A,1,1\nA,B,1,\xff\n".as_slice(),
-            at(3, 3),
-        ),
-        (
-            b"from,to,limit,back\nA,B,1,1\nX,A,+1,1\n".as_slice(),
-            at(3, 12),
-        ),
-        (b"from,to,limit,back\nA,a,1,1\n".as_slice(), at(2, 12)),
-        (b"from,to,limit,back\nA,A,x,1\n".as_slice(), at(2, 13)),
-        (
-            b"from,to,limit,back\nA,B,1,1\nB,A,x,1\n".as_slice(),
-            at(3, 14),
-        ),
-        (
-            b"from,to,limit,back\nA,B,1,1\nA,B,1,1\n".as_slice(),
-            at(3, 14),
-        ),
-        (b"from,to,limit,back\nA,B,1,100000\n".as_slice(), at(2, 15)),
-        (b"from,to,limit,back\nA,B,-1,1\n".as_slice(), at(2, 15)),
-        (b"from,to,limit,back\nA,B,+1,1\n".as_slice(), at(2, 15)),
-        (b"from,to,limit,back\nA,B,1,\n".as_slice(), at(2, 15)),
-    ] {
-        assert_eq!(rt; BorderBook::read(rt.alloc(), page, &zones).err(), want);
+    for (page, want) in REFUSED_BORDERS {
+        assert_eq!(rt;
+            BorderBook::read(rt.alloc(), page, &zones).err(),
+            at(want.0, want.1)
+        );
     }
     Ok(())
 }

@@ -108,9 +108,12 @@ impl Stream {
         ensures reader { self.new.reader ≡ self.old.reader }
     {
         if self.found.is_some() {
+            drop(part);
             return Ok(());
         }
-        self.found = self.day.part(alloc, books, &part)?;
+        let found = self.day.part(alloc, books, &part);
+        drop(part);
+        self.found = found?;
         Ok(())
     }
 
@@ -229,10 +232,16 @@ pub fn check_stream<S: Shelf>(
     };
     match shelf.open_page(name) {
         Ok(()) => {}
-        Err(fault) => return Err(fault_of_shelf(fault)),
+        Err(fault) => {
+            drop(stream);
+            return Err(fault_of_shelf(fault));
+        }
     }
     match read_pieces(alloc, books, shelf, &mut stream) {
         Ok(()) => stream.end(),
-        Err(fault) => Err(fault),
+        Err(fault) => {
+            drop(stream);
+            Err(fault)
+        }
     }
 }

@@ -151,13 +151,19 @@ pub fn check_day(alloc: Global, books: &Books, publication: &Publication) -> Res
         publication.budget,
     );
     if let Some(verdict) = head {
+        drop(day);
         return Ok(verdict);
     }
     match day.all_blocks(alloc, books, publication.blocks.as_slice())? {
-        Some(verdict) => Ok(verdict),
+        Some(verdict) => {
+            drop(day);
+            Ok(verdict)
+        }
         None => {
             let operators = publication.operators.as_slice();
-            Ok(day.end(books, operators, publication.providers.as_slice()))
+            let verdict = day.end(books, operators, publication.providers.as_slice());
+            drop(day);
+            Ok(verdict)
         }
     }
 }

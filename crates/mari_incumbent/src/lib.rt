@@ -17,6 +17,3 @@ mod rule;
 
 pub use incumbent::{Incumbent, Seat};
 pub use law::rule_is_kept;
-
-#[cfg(test)]
-mod tests;

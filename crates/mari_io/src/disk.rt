@@ -9,9 +9,6 @@ ghost use Rattle.mari_io.specs.declared.shelf.Fetch.TheVariants.{Failed, Missing
 ghost use Rattle.mari_io.specs.Outside.{Counts, Pages, counted, page_of, FetchTells, AppendsAtMost, OpenTells, AppendsExactly, IsPiece, rest_after, IsOverlong, most_given, taken_count};
 ghost use Rattle.mari_io.specs.System.{fault_of_opening, fault_of_reading, after_disk_call, new_disk, opened, more_given};
 
-#[cfg(test)]
-mod tests;
-
 use crate::shelf::MOST_GIVEN;
 use crate::{Fetch, Shelf};
 use mari_units::MOST_PAGE;
@@ -61,6 +58,27 @@ impl<R: Files + Drop> DiskShelf<R> {
             file: None,
             given: 0,
         }
+    }
+
+    /// How many calls failed.
+    pub fn faults(&self) -> u64
+        ensures { result ≡ self.now.faults }
+    {
+        self.faults
+    }
+
+    /// How many calls named a file that isn't there.
+    pub fn misses(&self) -> u64
+        ensures { result ≡ self.now.misses }
+    {
+        self.misses
+    }
+
+    /// How many calls met a file that is too long.
+    pub fn overs(&self) -> u64
+        ensures { result ≡ self.now.overs }
+    {
+        self.overs
     }
 
     /// Counts what a call answered.
@@ -177,9 +195,11 @@ fn read_page<F: Read>(file: &mut F, into: &mut Vec<u8>) -> Result<(), Fetch>
     Err(Fetch::Failed)
 }
 
-/// Appends the next bytes of a file, at most `most`. Room for them is made before they are read, so that none is
-/// lost.
-fn read_piece<F: Read>(file: &mut F, into: &mut Vec<u8>, most: u64) -> Result<u32, Fetch>
+/// Appends the next bytes of an open file, at most `most` and at most `MOST_PIECE`, and answers how many; 0 is the end
+/// of the file. Room for them is made before they are read, so that none is lost.
+///
+/// It answers `Failed` where the file can't be read and `Memory`, and leaves `into` as it was then.
+pub fn read_piece<F: Read>(file: &mut F, into: &mut Vec<u8>, most: u64) -> Result<u32, Fetch>
     // Something is asked for.
     requires some { 1 ≤ most }
 
@@ -211,8 +231,11 @@ fn read_piece<F: Read>(file: &mut F, into: &mut Vec<u8>, most: u64) -> Result<u3
     }
 }
 
-/// What the opening of a file comes to: its bytes are appended, or why they aren't is answered, and nothing is.
-fn fetch_opened<F: Read + Drop>(opened: io::Result<F>, into: &mut Vec<u8>) -> Result<(), Fetch>
+/// Appends the whole of a file, at most `MOST_PAGE` bytes, or says why it couldn't be opened or read.
+///
+/// It answers `Missing` where there is no such file, `Failed` where it can't be opened or read, `TooLong` where it is
+/// longer, and `Memory`. It leaves `into` as it was then.
+pub fn fetch_opened<F: Read + Drop>(opened: io::Result<F>, into: &mut Vec<u8>) -> Result<(), Fetch>
     ensures ok { OnOk result (AppendsAtMost MOST_PAGE into.old.items into.new.items) }
     ensures err { OnErr result (into.new.items ≡ into.old.items) }
 

@@ -14,10 +14,8 @@ mod page;
 mod plan;
 mod shelf;
 mod sink;
-#[cfg(test)]
-mod tests;
 
-pub use disk::DiskShelf;
+pub use disk::{DiskShelf, fetch_opened, read_piece};
 pub use memory_shelf::MemoryShelf;
 pub use memory_sink::MemorySink;
 pub use output::StdSink;

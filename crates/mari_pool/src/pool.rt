@@ -13,6 +13,7 @@ ghost use Rattle.mari_market.specs.Prefix.{word_of};
 ghost use Rattle.mari_market.specs.Relaxation.{IsClosedWelfare};
 ghost use Rattle.mari_market.specs.Tree.{TreeHolds};
 ghost use Rattle.mari_pool.specs.Pooled.{new_pool, IsPool, IsTakenAt, settled_with, answer_of, giving_back, entered, entered_by, returns_of, put_back_from, roomy, owed, taken_among};
+ghost use Rattle.mari_pool.specs.Queued.{AreKeys};
 ghost use Rattle.mari_pool.specs.Taking.{Takes, IsOpenAt};
 ghost use Rattle.mari_pool.specs.declared.ticket.Settled.TheVariants.{Stale};
 
@@ -322,6 +323,14 @@ impl<'m, N: SearchName> Pool<'m, N> {
         ensures spent { self.now.tree.full ≡ true → IfOk result (λ v. IsSpent N.market N.budget (record { items = v.items })) }
     {
         self.tree.part(alloc)
+    }
+
+    /// The keys of the nodes, in preorder.
+    pub fn keys(&self, alloc: Global) -> Result<Vec<u64>, Memory>
+        ensures { IfOk result (λ v. AreKeys self.now.tree.nodes self.now.keys v.items) }
+    {
+        let order = self.tree.preorder(alloc)?;
+        self.queue.keys_of(alloc, &order)
     }
 
     /// What always holds of a pool. The call does nothing: its contract is the law.

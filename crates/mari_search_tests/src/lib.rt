@@ -1,5 +1,6 @@
 //! Tests of what clears a market: markets themselves, gates, welfare, certificates, the merit order, both solvers of a
-//! network, prices, a node, the machine of a search, the pool, and searches on one thread and by several workers.
+//! network, prices, a node, the machine of a search, the incumbent, the pool, and searches on one thread and by several
+//! workers.
 //!
 //! They call what is public alone, so they stand apart from what they test, which then is proved once.
 #![tactic(auto)]
@@ -8,6 +9,10 @@
 mod certificates;
 #[cfg(test)]
 mod gates;
+#[cfg(test)]
+mod incumbent;
+#[cfg(test)]
+mod looking;
 #[cfg(test)]
 mod machine;
 #[cfg(test)]

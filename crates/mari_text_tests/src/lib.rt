@@ -1,10 +1,15 @@
-//! Tests of texts: the lines of a day, whole publications, texts that come in pieces, and the words of a command.
+//! Tests of texts: pages and sinks in memory and real files, the lines of a day, whole publications, texts that come in
+//! pieces, and the words of a command.
 //!
 //! They call what is public alone, so they stand apart from what they test, which then is proved once.
 #![tactic(auto)]
 
 #[cfg(test)]
+mod files;
+#[cfg(test)]
 mod lines;
+#[cfg(test)]
+mod outside;
 #[cfg(test)]
 mod pieces;
 #[cfg(test)]

@@ -34,9 +34,11 @@ pub fn cents_text(alloc: Global, cents: Cents) -> Result<Vec<u8>, Memory>
     let mut text = sign_text(alloc, cents.0 < 0)?;
     let euros = (size / 100).to_string(alloc)?;
     text.extend_from_slice(euros.as_bytes())?;
-    text.push(b'.')?;
-    text.push(b'0' + (size % 100 / 10) as u8)?;
-    text.push(b'0' + (size % 10) as u8)?;
+    text.extend_from_slice(&[
+        b'.',
+        b'0' + (size % 100 / 10) as u8,
+        b'0' + (size % 10) as u8,
+    ])?;
     Ok(text)
 }
 
@@ -49,10 +51,12 @@ pub fn euros_text(alloc: Global, quarters: Quarters) -> Result<Vec<u8>, Memory>
     let mut text = sign_text(alloc, quarters.0 < 0)?;
     let euros = (size / 10_000).to_string(alloc)?;
     text.extend_from_slice(euros.as_bytes())?;
-    text.push(b'.')?;
-    text.push(b'0' + (size % 10_000 / 1_000) as u8)?;
-    text.push(b'0' + (size % 1_000 / 100) as u8)?;
-    text.push(b'0' + (size % 100 / 10) as u8)?;
-    text.push(b'0' + (size % 10) as u8)?;
+    text.extend_from_slice(&[
+        b'.',
+        b'0' + (size % 10_000 / 1_000) as u8,
+        b'0' + (size % 1_000 / 100) as u8,
+        b'0' + (size % 100 / 10) as u8,
+        b'0' + (size % 10) as u8,
+    ])?;
     Ok(text)
 }

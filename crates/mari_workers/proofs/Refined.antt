@@ -32,7 +32,7 @@ use Rattle.mari_core.proofs.Seeds.{larger_by}
 use Rattle.mari_core.proofs.Parts.{contains_head, contains_tail}
 use Rattle.mari_proofs.specs.Places.{LeavesWords}
 use Rattle.mari_proofs.proofs.TreeWalk.{none_left}
-use Rattle.mari_workers.specs.declared.refining.Aim.{Aim}
+use Rattle.mari_workers.specs.declared.fate.Aim.{Aim}
 use Rattle.mari_workers.specs.declared.refining.Turn.{Turn}
 use Rattle.mari_workers.specs.declared.refining.Turn.TheVariants.{On, Full, Yield}
 use Rattle.mari_workers.specs.declared.refining.Walk.{Walk}
@@ -42,7 +42,7 @@ use Rattle.mari_workers.proofs.TreeWalks.{behind_is_late, leaves_map, parts_join
 -- ---- an activation is the first
 
 -- the clearing of an activation whose tree holds for its gate word
-clears_by : (m : Market) (budget w : ℕ) (gates : List Bool) (a : Activation) (items : List TreeItem) → IsValid m → IsAdmissible m a → welfare_of m a ≡ pos w → gate_word_of m a ≡ gates → TreeHoldsFor m (pos w) gates items → length items ≤ budget → IsClearing m budget (record { activation = a; welfare = w; tree = items })
+pub clears_by : (m : Market) (budget w : ℕ) (gates : List Bool) (a : Activation) (items : List TreeItem) → IsValid m → IsAdmissible m a → welfare_of m a ≡ pos w → gate_word_of m a ≡ gates → TreeHoldsFor m (pos w) gates items → length items ≤ budget → IsClearing m budget (record { activation = a; welfare = w; tree = items })
 clears_by m budget w gates a items v adm e g t l =
     let own : TreeHoldsFor m (pos w) (gate_word_of m a) items = subst (λ (gs : List Bool). TreeHoldsFor m (pos w) gs items) (sym g) t in
     record {

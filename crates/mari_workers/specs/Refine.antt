@@ -12,7 +12,7 @@ use Rattle.mari_market.specs.declared.clearing.Cleared.TheVariants.{Published, S
 use Rattle.mari_market.specs.declared.market.Market.{Market}
 use Rattle.mari_market.specs.declared.prefix.Prefix.{Prefix}
 use Rattle.mari_market.specs.Activation.{gate_word_of, welfare_of}
-use Rattle.mari_market.specs.Clearing.{ArePartsOfSearch, IsCrowdedOut, IsOptimalClearing, IsSpent}
+use Rattle.mari_market.specs.Clearing.{ArePartsOfSearch, IsCrowdedOut, IsOptimalClearing}
 use Rattle.mari_market.specs.Optimal.{IsAdmissible}
 use Rattle.mari_market.specs.Prefix.{word_of, children, IsFeasiblePrefix}
 use Rattle.mari_market.specs.Relaxation.{all_closed, IsClosedWelfare, IsRelaxedWelfare}
@@ -23,9 +23,9 @@ use Rattle.mari_core.specs.Growth.{closing_leaf}
 use Rattle.mari_core.specs.Preorder.{shape_of}
 use Rattle.mari_proofs.specs.Places.{LeavesWords}
 use Rattle.mari_workers.specs.Alone.{best_in}
-use Rattle.mari_workers.specs.declared.refining.Aim.{Aim}
-use Rattle.mari_workers.specs.declared.refining.Fate.{Fate}
-use Rattle.mari_workers.specs.declared.refining.Fate.TheVariants.{Stays, Branches, Yields}
+use Rattle.mari_workers.specs.declared.fate.Aim.{Aim}
+use Rattle.mari_workers.specs.declared.fate.Fate.{Fate}
+use Rattle.mari_workers.specs.declared.fate.Fate.TheVariants.{Stays, Branches, Yields}
 use Rattle.mari_workers.specs.declared.refining.Turn.{Turn}
 use Rattle.mari_workers.specs.declared.refining.Turn.TheVariants.{On, Full, Yield}
 use Rattle.mari_workers.specs.declared.refining.Walk.{Walk}
@@ -43,12 +43,6 @@ pub record MayRefine (m : Market) (budget : ℕ) (c : Clearing) : Type 0 where
   pub clearing : IsOptimalClearing m budget c
   pub nodes : ArePartsOfSearch m ([] ∷ []) (map shape_of c.tree)
   pub opens : OpensForMore m (gate_word_of m c.activation) c.welfare
-
--- what a search comes to: a clearing that may be refined, or a part of the search tree that the budget can't extend
-abbrev pub IsSearched : Market → ℕ → Cleared → Type 0
-IsSearched m budget (Published c) = MayRefine m budget c
-IsSearched m budget (Spent s) = IsSpent m budget s
-IsSearched m budget Memory = ⊤
 
 -- what is published opens no gate, where its welfare is the closed welfare
 abbrev pub ClosesAtClosed : Market → Cleared → Type 0

@@ -22,10 +22,10 @@ returns-in-Some-2 c =
     let head = head-clear c.args.books.now p c.head_verdict-head.result c.in_default.is (c.head_verdict-head.ensures.tells p refl refl) in
     told-some c.args.books.now p c.in_ok-verdict.field-0 c.in-Some-2.verdict c.in-Some-2.is (c.in_ok-verdict.ensures.found p head (sym c.head_verdict-head.ensures.budget) (sym c.as_slice.ensures))
 
-pub returns : goal.returns
-returns c =
+pub returns-in-None : goal.returns-in-None
+returns-in-None c =
     let books = c.args.books.now in
     let p = c.args.publication.now in
     let head = head-clear books p c.head_verdict-head.result c.in_default.is (c.head_verdict-head.ensures.tells p refl refl) in
     let B : List Block → Type 0 = λ bs. IsChecked books bs c.all_blocks.new.self in
-    c.end.ensures p head (sym (c.all_blocks.ensures.budget ∙ c.head_verdict-head.ensures.budget)) (subst B c.as_slice.ensures (c.in_ok-verdict.ensures.none c.in-None.is)) (sym c.as_slice-operators.ensures) (sym c.as_slice-in-None.ensures)
+    c.end-verdict.ensures p head (sym (c.all_blocks.ensures.budget ∙ c.head_verdict-head.ensures.budget)) (subst B c.as_slice.ensures (c.in_ok-verdict.ensures.none c.in-None.is)) (sym c.as_slice-operators.ensures) (sym c.as_slice-in-None.ensures)

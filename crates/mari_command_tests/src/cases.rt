@@ -1,0 +1,322 @@
+//! Worked folders and words, with the lines that they print.
+
+use mari_commands::run_program;
+use mari_io::{FaultPlan, MemoryShelf, MemorySink, Name64, Page};
+use mari_units::Items;
+use mari_workers::{FreeTurnstile, Turnstile};
+use std::alloc::Global;
+use std::process::Abort;
+use std::sync::Wait;
+use std::test::Fail;
+use std::thread::Threads;
+
+pub(crate) const DAY: &str = "date,rule\n2025-03-12,\"CET-1CEST,M3.5.0,M10.5.0/3\"\n";
+
+pub(crate) const BIDS: &str = "id,provider,zone,quarter,direction,price,least,greatest,kind\n";
+
+pub(crate) const ONE_BID: &str =
+    "id,provider,zone,quarter,direction,price,least,greatest,kind\nu1,P,Z,1,up,50.00,0,100,both\n";
+
+pub(crate) const TWO_BIDS: &str =
+    "id,provider,zone,quarter,direction,price,least,greatest,kind\na1,P1,A,1,up,20.00,0,100,both\nb1,P2,B,1,up,60.00,0,100,both\n";
+
+pub(crate) const DEMANDS: &str = "run,zone,mw,price\n";
+
+pub(crate) const ONE_DEMAND: &str = "run,zone,mw,price\n1,Z,60,\n";
+
+/// The pages of folder F that differ from case to case. The publication is in parts.
+#[derive(Clone, Copy)]
+pub(crate) struct Folder<'a> {
+    pub(crate) zones: &'a str,
+    pub(crate) borders: &'a str,
+    pub(crate) bids: &'a str,
+    pub(crate) links: &'a str,
+    pub(crate) runs: &'a str,
+    pub(crate) demands: &'a str,
+    pub(crate) limits: Option<&'a str>,
+    pub(crate) publication: Option<&'a [&'a str]>,
+}
+
+/// A folder of one zone, without a border or a link, and with one run.
+pub(crate) const ONE_ZONE: Folder<'static> = Folder {
+    zones: "zone,operator\nZ,T\n",
+    borders: "from,to,limit,back\n",
+    bids: ONE_BID,
+    links: "kind,first,second\n",
+    runs: "run,quarter,kind,reference\n1,1,scheduled,40.00\n",
+    demands: ONE_DEMAND,
+    limits: None,
+    publication: None,
+};
+
+/// A folder of two zones, joined by a border of 50 MW.
+pub(crate) const TWO_ZONES: Folder<'static> = Folder {
+    zones: "zone,operator\nA,TA\nB,TB\n",
+    borders: "from,to,limit,back\nA,B,50,50\n",
+    bids: TWO_BIDS,
+    demands: "run,zone,mw,price\n1,B,80,\n",
+    ..ONE_ZONE
+};
+
+/// The head of the day that the two zones print.
+pub(crate) const HEAD: &str = "mari 1 2025-03-12 96 10000\n";
+
+/// Its block.
+pub(crate) const BLOCK: &str = "\
+run 1 1 scheduled published
+welfare 799712000
+zone A 20.00 20.00 20.00 1
+zone B 60.00 60.00 60.00 2
+border A B 50 500.0000
+bid a1 50
+bid b1 30
+demand 1 80
+tree 1
+bound 20.00 60.00
+operator TA -250.0000 250.0000 -500.0000
+operator TB 750.0000 250.0000 500.0000
+provider P1 250.0000
+provider P2 450.0000
+end 1
+";
+
+/// Its totals.
+pub(crate) const TOTALS: &str = "\
+total-operator TA -250.0000 250.0000 -500.0000
+total-operator TB 750.0000 250.0000 500.0000
+total-provider P1 250.0000
+total-provider P2 450.0000
+done 1 0
+";
+
+/// The day that the two zones print, in its parts.
+pub(crate) const TWO_ZONES_DAY: &[&str] = &[HEAD, BLOCK, TOTALS];
+
+/// What is wanted of a printed text: that it is these parts, that it stands so before and behind a certificate, or that
+/// it has each of these lines.
+#[derive(Clone, Copy)]
+pub(crate) enum Printed<'a> {
+    Whole(&'a [&'a str]),
+    Around(&'a str, &'a str),
+    Lines(&'a [&'a str]),
+}
+
+impl Printed<'_> {
+    /// Whether a text is as it is wanted.
+    pub(crate) fn is(&self, text: &str) -> bool {
+        match self {
+            Printed::Whole(parts) => is_joined(text, parts),
+            Printed::Around(before, after) => text.starts_with(*before) && text.ends_with(*after),
+            Printed::Lines(lines) => has_each(text, lines),
+        }
+    }
+}
+
+/// Whether a text is these parts, one behind the other.
+pub(crate) fn is_joined(text: &str, parts: &[&str]) -> bool {
+    let mut rest = text;
+    for part in parts {
+        let Some(behind) = rest.strip_prefix(*part) else {
+            return false;
+        };
+        rest = behind;
+    }
+    rest.is_empty()
+}
+
+/// Whether a text has each of these lines.
+pub(crate) fn has_each(text: &str, lines: &[&str]) -> bool {
+    for part in lines {
+        if !text.contains(*part) {
+            return false;
+        }
+    }
+    true
+}
+
+/// Calls of the program, all answered alike: their words, the folder that they find, the numbers of the calls on the
+/// shelf that fail, whether it gives one byte at a time, their exit code, and what they print. The name says what they
+/// show.
+#[derive(Clone, Copy)]
+pub(crate) struct Case {
+    pub(crate) name: &'static str,
+    pub(crate) calls: &'static [&'static [&'static str]],
+    pub(crate) folder: Folder<'static>,
+    pub(crate) faults: &'static [u32],
+    pub(crate) by_bytes: bool,
+    pub(crate) code: u8,
+    pub(crate) printed: Printed<'static>,
+}
+
+/// How many bytes a sink has room for.
+pub(crate) const ROOM: u32 = 1_000_000;
+
+/// A folder that is cleared.
+pub(crate) const CLEARS: Case = Case {
+    name: "",
+    calls: &[&["clear", "F"]],
+    folder: ONE_ZONE,
+    faults: &[],
+    by_bytes: false,
+    code: 0,
+    printed: Printed::Whole(&[]),
+};
+
+/// A folder that 1, 2 and 4 workers clear alike.
+pub(crate) const CLEARS_ALIKE: Case = Case {
+    calls: &[
+        &["clear", "F", "--workers", "1"],
+        &["clear", "F", "--workers", "2"],
+        &["clear", "F", "--workers", "4"],
+    ],
+    ..CLEARS
+};
+
+/// A folder that 1, 2 and 4 workers don't clear wholly within one node.
+pub(crate) const CLEARS_A_PART: Case = Case {
+    calls: &[
+        &["clear", "F", "--nodes", "1", "--workers", "1"],
+        &["clear", "F", "--nodes", "1", "--workers", "2"],
+        &["clear", "F", "--nodes", "1", "--workers", "4"],
+    ],
+    code: 1,
+    ..CLEARS
+};
+
+/// The bytes of texts, one behind the other.
+pub(crate) fn joined(alloc: Global, parts: &[&str]) -> Result<Vec<u8>, Fail> {
+    let mut bytes = Vec::new(alloc);
+    for part in parts {
+        bytes.extend_from_slice(part.as_bytes())?;
+    }
+    Ok(bytes)
+}
+
+/// A page of this name.
+pub(crate) fn page(alloc: Global, name: &str, bytes: Vec<u8>) -> Result<Page, Fail> {
+    if name.is_empty() || name.len() > 64 {
+        return Err(Fail::from("a page's name has 1 to 64 bytes"));
+    }
+    Ok(Page {
+        name: Name64::of(alloc, name)?,
+        bytes: Items::of(bytes),
+    })
+}
+
+/// The pages of folder F.
+pub(crate) fn pages(alloc: Global, folder: Folder<'_>) -> Result<Vec<Page>, Fail> {
+    let mut pages = Vec::new(alloc);
+    for (name, text) in &[
+        ("F/day.csv", Some(DAY)),
+        ("F/zones.csv", Some(folder.zones)),
+        ("F/borders.csv", Some(folder.borders)),
+        ("F/bids.csv", Some(folder.bids)),
+        ("F/links.csv", Some(folder.links)),
+        ("F/runs.csv", Some(folder.runs)),
+        ("F/demands.csv", Some(folder.demands)),
+        ("F/limits.csv", folder.limits),
+    ] {
+        if let Some(text) = text {
+            let bytes = joined(alloc, &[*text])?;
+            pages.push(page(alloc, name, bytes)?)?;
+        }
+    }
+    if let Some(parts) = folder.publication {
+        let bytes = joined(alloc, parts)?;
+        pages.push(page(alloc, "F/publication.txt", bytes)?)?;
+    }
+    Ok(pages)
+}
+
+/// A plan by which the calls of these numbers fail.
+pub(crate) fn plan(alloc: Global, calls: &[u32]) -> Result<FaultPlan, Fail> {
+    Ok(FaultPlan {
+        calls: Items::of(calls.to_vec(alloc)?),
+    })
+}
+
+/// A shelf with folder F, of which the calls of these numbers fail. It may give one byte at a time.
+pub(crate) fn shelf(
+    alloc: Global,
+    folder: Folder<'_>,
+    faults: &[u32],
+    by_bytes: bool,
+) -> Result<MemoryShelf, Fail> {
+    let plan = plan(alloc, faults)?;
+    let pages = pages(alloc, folder)?;
+    if by_bytes {
+        return Ok(MemoryShelf::with_piece(pages, plan, 1));
+    }
+    Ok(MemoryShelf::new(pages, plan))
+}
+
+/// A sink that takes so many bytes in a call, with room for so many, in which the writes of these numbers fail.
+pub(crate) fn sink(
+    alloc: Global,
+    most: u32,
+    room: u32,
+    faults: &[u32],
+) -> Result<MemorySink, Fail> {
+    let plan = plan(alloc, faults)?;
+    Ok(MemorySink::new(alloc, most, room, plan)?)
+}
+
+/// The words of a call.
+pub(crate) fn words(alloc: Global, texts: &[&str]) -> Result<Vec<String>, Fail> {
+    let mut words = Vec::new(alloc);
+    for text in texts {
+        words.push(String::from_str(alloc, text)?)?;
+    }
+    Ok(words)
+}
+
+/// Runs the program on these words, this shelf and this sink. It answers the exit code.
+pub(crate) fn run<G: Turnstile>(
+    rt: &(impl Abort + Threads + Wait + Sync),
+    alloc: Global,
+    texts: &[&str],
+    mut shelf: MemoryShelf,
+    sink: &mut MemorySink,
+    turnstile: &G,
+) -> Result<u8, Fail> {
+    let words = words(alloc, texts)?;
+    let status = run_program(rt, alloc, &words, &mut shelf, sink, turnstile);
+    Ok(status.code())
+}
+
+/// Runs the program on these words, this shelf and this sink, and compares its exit code and what it printed.
+pub(crate) fn compare(
+    rt: &(impl Abort + Threads + Wait + Sync),
+    alloc: Global,
+    name: &str,
+    texts: &[&str],
+    shelf: MemoryShelf,
+    mut sink: MemorySink,
+    want: (u8, Printed<'_>),
+) -> Result<(), Fail> {
+    let code = run(rt, alloc, texts, shelf, &mut sink, &FreeTurnstile)?;
+    let text = str::from_utf8(sink.bytes())?;
+    let agrees = code == want.0 && want.1.is(text);
+    assert!(rt;
+        agrees,
+        "{name}: {texts:?} answers {code} and prints {text}"
+    );
+    Ok(())
+}
+
+/// Makes each call of these cases, and compares its exit code and what it printed.
+pub(crate) fn agree(
+    rt: &(impl Abort + Threads + Wait + Sync),
+    alloc: Global,
+    cases: &[Case],
+) -> Result<(), Fail> {
+    for case in cases {
+        for texts in case.calls {
+            let shelf = shelf(alloc, case.folder, case.faults, case.by_bytes)?;
+            let sink = sink(alloc, 10, ROOM, &[])?;
+            let want = (case.code, case.printed);
+            compare(rt, alloc, case.name, texts, shelf, sink, want)?;
+        }
+    }
+    Ok(())
+}

@@ -1,0 +1,263 @@
+-- What each answer says, by the outcome that is reported.
+use Rattle.std.proofs.Common.{◌≡◌, ◌∙◌, inl, inr, ℕ, List, Option, Some, None, ap, refl, subst, sym}
+use Rattle.std.specs.Global.{Vec}
+use Rattle.std.specs.Prelude.{◌==◌, ◌≤◌, Bool, true, false, if◌then◌else◌, length}
+use lib.Chars.{codes}
+use Rattle.mari_units.specs.declared.faults.Refusal.{Refusal}
+use Rattle.mari_io.specs.declared.shelf.Fetch.TheVariants as fetch
+use Rattle.mari_io.specs.declared.shelf.TheConstants.{MOST_GIVEN}
+use Rattle.mari_io.specs.Outside.{Pages, page_of}
+use Rattle.mari_publish.specs.declared.publication.Publication.{Publication}
+use Rattle.mari_publish.specs.Faults.{IsText}
+use Rattle.mari_publish.specs.Lines.{published_in}
+use Rattle.mari_remain.specs.declared.books.Books.{Books}
+use Rattle.mari_day.specs.Day.{EndsDay, WroteWholeDay, then_took}
+use Rattle.mari_day.specs.declared.day.DayEnd.{DayEnd}
+use Rattle.mari_day.specs.declared.day.DayEnd.TheVariants as end
+use Rattle.mari_day.specs.Files.{Gap}
+use Rattle.mari_day.specs.Files.Gap.{NotHeld, OverLimit}
+use Rattle.mari_day.specs.Reading.{HasBooks, HasGap}
+use Rattle.mari_progress.specs.Keeps.{net_sum}
+use Rattle.mari_day.proofs.Keeping.{balanced, keeps-offers, totals-balance}
+use Rattle.mari_words.specs.Asked.{Asked}
+use Rattle.mari_words.specs.Asked.Asked.{Clear, Check}
+use Rattle.mari_commands.specs.declared.outcome.Job.{Job}
+use Rattle.mari_commands.specs.declared.outcome.Outcome.{Outcome}
+use Rattle.mari_commands.specs.declared.outcome.Outcome.TheVariants.{NoCommand, Day, Text, Invalid, NoPage, Refused, Memory as NoMemory}
+use Rattle.mari_commands.specs.declared.status.Status.{Status}
+use Rattle.mari_commands.specs.declared.status.Status.TheVariants as status
+use Rattle.mari_commands.specs.Commands.{AreCleared, AsksForFiles, AsksToClear, HasPublication, IsInvalid, IsReadable, IsRefused, LacksPage, Prints, ReadsFolder, publication_path}
+use Rattle.mari_commands.specs.Commands.IsRefused.{OfFiles as refused-files, OfText as refused-text}
+use Rattle.mari_commands.specs.Commands.RefusesFiles.{OfBooks as refuses-books, OfVersion as refuses-version}
+use Rattle.mari_commands.specs.Commands.LacksPage.{OfBooks as lacks-book, NoPublication as lacks-publication, LongPublication as lacks-long}
+use Rattle.mari_commands.specs.Commands.Prints.{Valid as prints-valid, Migrated as prints-migrated, Generated as prints-generated}
+use Rattle.mari_commands.specs.Headline.{WroteDay}
+use Rattle.mari_commands.specs.Outcome.{AsksForText, CheckTells, IsNoPage, IsOfWords, IsReady, IsReportable, Reported, Reports, ReportsDay, Says, day_status, fetch_of}
+use Rattle.mari_commands.specs.Outcome.Reports.{Printed, CutOff, Starved}
+use Rattle.mari_commands.specs.Outcome.Says.{OfUsage, OfRefusal, OfGap, OfClear, OfCheck, OfMigrate, OfGenerate, Fails, Starves}
+use Rattle.mari_commands.specs.Printing.{file_line, invalid_line, refused_line, usage_line, valid_line}
+use Rattle.mari_commands.specs.Program.{Answers, IsLine, TookSummary, WhereTold}
+use Rattle.mari_commands.specs.Program.IsDone.{Cleared as done-cleared, Printed as done-printed}
+use Rattle.mari_commands.specs.Program.IsLine.{OfUsage as line-usage, OfRefusal as line-refusal, OfFault as line-fault, OfMissing as line-missing, OfTooLong as line-too-long, OfInvalid as line-invalid, OfText as line-text}
+use Rattle.mari_commands.specs.Program.IsCutOff.{Day as cut-day, Line as cut-line}
+use Rattle.mari_commands.specs.Program.IsStarved.{Nothing as starved-before, Part as starved-part}
+use Rattle.mari_commands.proofs.Folder.{reads}
+use Rattle.mari_commands.proofs.valid.Days.{day-is-valid}
+
+module _ (asked : Option Asked) where
+  -- what there is of the publication of a folder that is checked
+  publication : (pages : Pages) (folder : List ℕ) (books : Books) (page : List ℕ) → asked ≡ Some (Check folder) → HasBooks pages folder books → page_of pages (publication_path folder) ≡ Some page → HasPublication asked pages books page
+  publication pages folder books page c g h = record { folder = folder; check = c; gives = g; held = h }
+
+  abbrev readable : (pages : Pages) (folder : List ℕ) (books : Books) (page : List ℕ) (p : Publication) → asked ≡ Some (Check folder) → HasBooks pages folder books → page_of pages (publication_path folder) ≡ Some page → length page ≤ MOST_GIVEN → IsText page p
+      → IsReadable asked pages
+  readable pages folder books page p c g h short read = record { books = books; page = page; publication = p; checked = publication pages folder books page c g h; short = short; read = read }
+
+  -- a text that is printed where all is well
+  checked-text : (pages : Pages) (folder : List ℕ) (books : Books) (t : Vec ℕ) (page : Option (List ℕ)) → asked ≡ Some (Check folder) → HasBooks pages folder books → page_of pages (publication_path folder) ≡ page
+      → CheckTells books page (Text t) → Prints asked pages t.items
+  checked-text pages folder books t None c g h (n, u, tells, spelled) = absurd tells
+  checked-text pages folder books t (Some page) c g h (n, u, (short, (p, read, (valid, published, unpublished))), spelled) =
+      prints-valid (readable pages folder books page p c g h short read) valid (spelled ∙ ap (λ (m : ℕ). valid_line m u) published ∙ ap (λ (m : ℕ). valid_line (published_in p.blocks) m) unpublished)
+
+  text-prints : (pages : Pages) (t : Vec ℕ) → Says asked pages (Text t) → Prints asked pages t.items
+  text-prints pages t (OfUsage e f) = absurd (cc)
+  text-prints pages t (OfRefusal folder refusal r h f) = absurd (cc)
+  text-prints pages t (OfGap folder n g r h f) = absurd (cc)
+  text-prints pages t (OfClear folder job e h f) = absurd (cc)
+  text-prints pages t (OfCheck folder books e h tells) = checked-text pages folder books t (page_of pages (publication_path folder)) e h refl tells
+  text-prints pages t (OfMigrate folder part books e h (first, spelled)) =
+      prints-migrated (record { folder = folder; part = part; migrate = e; books = books; gives = h; first = first }) spelled
+  text-prints pages t (OfGenerate number e is) = prints-generated number e is
+  text-prints pages t (Fails x n y f) = absurd (cc)
+  text-prints pages t (Starves f) = absurd (cc)
+
+  -- a fault of the publication that is checked
+  checked-invalid : (pages : Pages) (folder : List ℕ) (books : Books) (run number : ℕ) (page : Option (List ℕ)) → asked ≡ Some (Check folder) → HasBooks pages folder books → page_of pages (publication_path folder) ≡ page
+      → CheckTells books page (Invalid run number) → IsInvalid asked pages run number
+  checked-invalid pages folder books run number None c g h tells = absurd tells
+  checked-invalid pages folder books run number (Some page) c g h (short, (p, read, first)) = record { is_read = readable pages folder books page p c g h short read; first = first }
+
+  invalid-is : (pages : Pages) (run number : ℕ) → Says asked pages (Invalid run number) → IsInvalid asked pages run number
+  invalid-is pages run number (OfUsage e f) = absurd (cc)
+  invalid-is pages run number (OfRefusal folder refusal r h f) = absurd (cc)
+  invalid-is pages run number (OfGap folder n g r h f) = absurd (cc)
+  invalid-is pages run number (OfClear folder job e h f) = absurd (cc)
+  invalid-is pages run number (OfCheck folder books e h tells) = checked-invalid pages folder books run number (page_of pages (publication_path folder)) e h refl tells
+  invalid-is pages run number (OfMigrate folder part books e h bad) = absurd bad
+  invalid-is pages run number (OfGenerate n e bad) = absurd bad
+  invalid-is pages run number (Fails x n y f) = absurd (cc)
+  invalid-is pages run number (Starves f) = absurd (cc)
+
+  -- a refusal
+  checked-refused : (pages : Pages) (folder : List ℕ) (books : Books) (refusal : Refusal) (page : Option (List ℕ)) → asked ≡ Some (Check folder) → HasBooks pages folder books → page_of pages (publication_path folder) ≡ page
+      → CheckTells books page (Refused refusal) → IsRefused asked pages refusal
+  checked-refused pages folder books refusal None c g h (f, told, is) = absurd told
+  checked-refused pages folder books refusal (Some page) c g h (f, told, is) = refused-text page f (record { books = books; checked = publication pages folder books page c g h; told = told }) is
+
+  refused-is : (pages : Pages) (refusal : Refusal) → Says asked pages (Refused refusal) → IsRefused asked pages refusal
+  refused-is pages refusal (OfUsage e f) = absurd (cc)
+  refused-is pages refusal (OfRefusal folder r reads h f) =
+      let same : r ≡ refusal = cc in
+      let P : Refusal → Type 0 = λ x. IsRefused asked pages x in
+      subst P same (refused-files (refuses-books folder reads h))
+  refused-is pages refusal (OfGap folder n g r h f) = absurd (cc)
+  refused-is pages refusal (OfClear folder job e h f) = absurd (cc)
+  refused-is pages refusal (OfCheck folder books e h tells) = checked-refused pages folder books refusal (page_of pages (publication_path folder)) e h refl tells
+  refused-is pages refusal (OfMigrate folder part books e h (again, is)) = refused-files (refuses-version folder part books e h again is)
+  refused-is pages refusal (OfGenerate n e bad) = absurd bad
+  refused-is pages refusal (Fails x n y f) = absurd (cc)
+  refused-is pages refusal (Starves f) = absurd (cc)
+
+  -- a page that can't be had
+  gap-is : (pages : Pages) (folder : List ℕ) (n k : ℕ) (g h : Gap) → ReadsFolder asked folder → HasGap pages folder n g → NoPage k (fetch_of h) ≡ NoPage n (fetch_of g) → fetch_of h ≡ fetch_of g → LacksPage asked pages k h
+  gap-is pages folder n k NotHeld NotHeld r has same f =
+      let number : n ≡ k = cc in
+      let P : ℕ → Type 0 = λ x. LacksPage asked pages x NotHeld in
+      subst P number (lacks-book folder r has)
+  gap-is pages folder n k OverLimit OverLimit r has same f =
+      let number : n ≡ k = cc in
+      let P : ℕ → Type 0 = λ x. LacksPage asked pages x OverLimit in
+      subst P number (lacks-book folder r has)
+  gap-is pages folder n k NotHeld OverLimit r has same f = absurd (cc)
+  gap-is pages folder n k OverLimit NotHeld r has same f = absurd (cc)
+
+  checked-too-long : (pages : Pages) (folder : List ℕ) (books : Books) (k : ℕ) (page : Option (List ℕ)) → asked ≡ Some (Check folder) → HasBooks pages folder books → page_of pages (publication_path folder) ≡ page
+      → CheckTells books page (NoPage k fetch.TooLong) → LacksPage asked pages k OverLimit
+  checked-too-long pages folder books k None c g h (long, number) = absurd long
+  checked-too-long pages folder books k (Some page) c g h (long, number) = lacks-long books page (publication pages folder books page c g h) long number refl
+
+  checked-missing : (pages : Pages) (folder : List ℕ) (books : Books) (k : ℕ) (page : Option (List ℕ)) → asked ≡ Some (Check folder) → HasBooks pages folder books → page_of pages (publication_path folder) ≡ page
+      → CheckTells books page (NoPage k fetch.Missing) → LacksPage asked pages k NotHeld
+  checked-missing pages folder books k None c g h (none, number) = lacks-publication folder books c g h number refl
+  checked-missing pages folder books k (Some page) c g h (none, number) = absurd none
+
+  missing-is : (pages : Pages) (k : ℕ) → Says asked pages (NoPage k fetch.Missing) → LacksPage asked pages k NotHeld
+  missing-is pages k (OfUsage e f) = absurd (cc)
+  missing-is pages k (OfRefusal folder r reads h f) = absurd (cc)
+  missing-is pages k (OfGap folder n g r h f) = gap-is pages folder n k g NotHeld r h f (cc)
+  missing-is pages k (OfClear folder job e h f) = absurd (cc)
+  missing-is pages k (OfCheck folder books e h tells) = checked-missing pages folder books k (page_of pages (publication_path folder)) e h refl tells
+  missing-is pages k (OfMigrate folder part books e h bad) = absurd bad
+  missing-is pages k (OfGenerate n e bad) = absurd bad
+  missing-is pages k (Fails x n y f) = absurd (cc)
+  missing-is pages k (Starves f) = absurd (cc)
+
+  too-long-is : (pages : Pages) (k : ℕ) → Says asked pages (NoPage k fetch.TooLong) → LacksPage asked pages k OverLimit
+  too-long-is pages k (OfUsage e f) = absurd (cc)
+  too-long-is pages k (OfRefusal folder r reads h f) = absurd (cc)
+  too-long-is pages k (OfGap folder n g r h f) = gap-is pages folder n k g OverLimit r h f (cc)
+  too-long-is pages k (OfClear folder job e h f) = absurd (cc)
+  too-long-is pages k (OfCheck folder books e h tells) = checked-too-long pages folder books k (page_of pages (publication_path folder)) e h refl tells
+  too-long-is pages k (OfMigrate folder part books e h bad) = absurd bad
+  too-long-is pages k (OfGenerate n e bad) = absurd bad
+  too-long-is pages k (Fails x n y f) = absurd (cc)
+  too-long-is pages k (Starves f) = absurd (cc)
+
+  -- a day to clear
+  day-is : (pages : Pages) (job : Job) → Says asked pages (Day job) → AreCleared asked pages job.books job.nodes
+  day-is pages job (OfUsage e f) = absurd (cc)
+  day-is pages job (OfRefusal folder r reads h f) = absurd (cc)
+  day-is pages job (OfGap folder n g r h f) = absurd (cc)
+  day-is pages job (OfClear folder other e h f) =
+      let same : other ≡ job = cc in
+      let P : Job → Type 0 = λ x. AreCleared asked pages x.books x.nodes in
+      subst P same (record { folder = folder; workers = other.workers; clear = e; gives = h })
+  day-is pages job (OfCheck folder books e h bad) = absurd bad
+  day-is pages job (OfMigrate folder part books e h bad) = absurd bad
+  day-is pages job (OfGenerate n e bad) = absurd bad
+  day-is pages job (Fails x n y f) = absurd (cc)
+  day-is pages job (Starves f) = absurd (cc)
+
+  -- where a fetch failed, the words ask for what reads a folder's files
+  fails-is : (pages : Pages) (k : ℕ) → Says asked pages (NoPage k fetch.Failed) → AsksForFiles asked
+  fails-is pages k (OfUsage e f) = absurd (cc)
+  fails-is pages k (OfRefusal folder r reads h f) = (folder, reads)
+  fails-is pages k (OfGap folder n g r h f) = (folder, r)
+  fails-is pages k (OfClear folder job e h f) = absurd (cc)
+  fails-is pages k (OfCheck folder books e h tells) = (folder, reads asked (Check folder) folder e refl)
+  fails-is pages k (OfMigrate folder part books e h bad) = absurd bad
+  fails-is pages k (OfGenerate n e bad) = absurd bad
+  fails-is pages k (Fails folder n r f) = (folder, r)
+  fails-is pages k (Starves f) = absurd (cc)
+
+  -- the summary of a generated day, where the words ask for one
+  summary-is : (before after : Option (List ℕ)) (t : List ℕ) → AsksForText asked t → after ≡ then_took before t → TookSummary asked before after
+  summary-is before after t w p number e = let P : Option Asked → Type 0 = λ a. AsksForText a t in (t, subst P e w, p)
+
+  no-summary : (before after : Option (List ℕ)) (folder : List ℕ) (nodes workers : ℕ) → asked ≡ Some (Clear folder nodes workers) → TookSummary asked before after
+  no-summary before after folder nodes workers c number e = absurd (cc)
+
+  module _ (pages : Option Pages) (failed : Type 0) (before after : Option (List ℕ)) where
+    abbrev Ends : Status → Type 0
+    Ends = Answers asked pages failed before after
+
+    starved : after ≡ before → Ends status.Memory
+    starved p = (λ told t. starved-before p, inl p)
+
+    -- a line that is reported
+    of-line : (text : List ℕ) (wanted result : Status) → Reports text wanted before after result → (after ≡ then_took before text → Ends wanted) → WhereTold pages (λ told. IsLine asked told failed text) → Ends result
+    of-line text wanted result (Printed e p) done is = subst Ends (sym e) (done p)
+    of-line text wanted result (CutOff e p) done is = let cut : Ends status.WriteFault = λ told t. cut-line text (is told t) p in subst Ends (sym e) cut
+    of-line text wanted result (Starved e p) done is = subst Ends (sym e) (starved p)
+
+    of-nothing : (result : Status) → result ≡ status.Memory → after ≡ before → Ends result
+    of-nothing result e p = subst Ends (sym e) (starved p)
+
+    -- a day that is written whole
+    wrote : (told : Pages) (job : Job) (published unpublished : ℕ) (whole : Bool) → IsReady job → AreCleared asked told job.books job.nodes → WroteWholeDay job.books job.nodes published unpublished before after
+        → (unpublished == 0) ≡ whole → WroteDay asked told whole before after
+    wrote told job published unpublished whole ready is w e = record {
+      text = w.text;
+      day = record {
+        books = job.books;
+        nodes = job.nodes;
+        cleared = is;
+        publication = w.printed.publication;
+        is_day = w.printed.is_day;
+        in_range = w.printed.in_range;
+        offers = keeps-offers job.books ready.accepted job.nodes w.printed.publication.blocks w.printed.is_day.part;
+        sums = balanced job.books ready.accepted job.nodes w.printed.publication.blocks w.printed.is_day.part;
+        totals = ap net_sum w.printed.is_day.totals.operators ∙ totals-balance job.books ready.accepted job.nodes w.printed.publication.blocks w.printed.is_day.part;
+        valid = day-is-valid job.books job.nodes w.printed.publication w.printed.is_day;
+        printed = w.printed.text;
+        published = ap (λ (n : ℕ). n == 0) (sym w.printed.unpublished) ∙ e;
+      };
+      taken = w.taken;
+    }
+
+    module _ (job : Job) (folder : List ℕ) (clear : asked ≡ Some (Clear folder job.nodes job.workers)) (ready : IsReady job) (is : WhereTold pages (λ told. AreCleared asked told job.books job.nodes)) where
+      clears : AsksToClear asked
+      clears = (folder, job.nodes, job.workers, clear)
+
+      of-done : (published unpublished : ℕ) (whole : Bool) → WroteWholeDay job.books job.nodes published unpublished before after → (unpublished == 0) ≡ whole → Ends (if whole then status.Done else status.Unpublished)
+      of-done published unpublished true w e = (λ told t. done-cleared (wrote told job published unpublished true ready (is told t) w e), no-summary before after folder job.nodes job.workers clear)
+      of-done published unpublished false w e = (clears, λ told t. wrote told job published unpublished false ready (is told t) w e)
+
+      of-end : (ended : DayEnd) → EndsDay job.books job.nodes before after ended → Ends (day_status ended)
+      of-end (end.Done published unpublished) w = of-done published unpublished (unpublished == 0) w refl
+      of-end end.WriteFault w = λ told t. cut-day job.books job.nodes (is told t) w
+      of-end end.Memory (inl same) = starved same
+      of-end end.Memory (inr part) = (λ told t. starved-part job.books job.nodes (is told t) part, inr clears)
+
+      of-day : (result : Status) → ReportsDay job before after result → Ends result
+      of-day result r = subst Ends (sym r.status) (of-end r.ended r.ends)
+
+    pub answers : (o : Outcome) (result : Status) → WhereTold pages (λ told. Says asked told o) → IsOfWords asked o → IsReportable o → (IsNoPage fetch.Failed o → failed) → Reported o before after result → Ends result
+    answers NoCommand result says words ready cause r = of-line usage_line status.Usage result r (λ p. (words, p)) (λ told t. line-usage words refl)
+    answers (Day job) result says words ready cause r = of-day job words.0 words.1 ready (λ told t. day-is told job (says told t)) result r
+    answers (Text text) result says words ready cause r =
+        of-line text.items status.Done result r (λ p. (λ told t. done-printed text.items (text-prints told text (says told t)) p, summary-is before after text.items words p)) (λ told t. line-text (text-prints told text (says told t)))
+    answers (Invalid run number) result says words ready cause r =
+        of-line (invalid_line run number) (status.Invalid run number) result r (λ p. (words, (λ told t. invalid-is told run number (says told t)), p))
+        (λ told t. line-invalid run number (invalid-is told run number (says told t)) refl)
+    answers (NoPage k fetch.Failed) result says words ready cause r =
+        of-line (file_line (codes "readfault") k) status.ReadFault result r (λ p. (words, (k, p))) (λ told t. let f = fails-is told k (says told t) in line-fault (cause refl) f.0 k f.1 refl)
+    answers (NoPage k fetch.Missing) result says words ready cause r =
+        of-line (file_line (codes "missing") k) status.Missing result r (λ p. (words, record { file = k; first = λ told t. missing-is told k (says told t); line = p })) (λ told t. line-missing k (missing-is told k (says told t)) refl)
+    answers (NoPage k fetch.TooLong) result says words ready cause r =
+        of-line (file_line (codes "toolong") k) status.TooLong result r (λ p. (words, record { file = k; first = λ told t. too-long-is told k (says told t); line = p })) (λ told t. line-too-long k (too-long-is told k (says told t)) refl)
+    answers (NoPage k fetch.Memory) result says words ready cause r = of-nothing result r.0 r.1
+    answers (Refused refusal) result says words ready cause r =
+        of-line (refused_line refusal) (status.Refused refusal) result r (λ p. (words, (λ told t. refused-is told refusal (says told t)), p, ready.1)) (λ told t. line-refusal refusal (refused-is told refusal (says told t)) refl)
+    answers NoMemory result says words ready cause r = of-nothing result r.0 r.1

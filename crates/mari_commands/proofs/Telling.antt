@@ -1,0 +1,58 @@
+-- What an outcome says of the words and the pages, by how it came.
+use Rattle.std.proofs.Common.{ℕ, List, Option, Some, refl}
+use Rattle.std.specs.Prelude.{Err}
+use Rattle.mari_io.specs.declared.shelf.Fetch.TheVariants as fetch
+use Rattle.mari_io.specs.Outside.{Pages}
+use Rattle.mari_publish.specs.declared.fault.TextFault.{TextFault}
+use Rattle.mari_publish.specs.declared.fault.TextFault.TheVariants as text_fault
+use Rattle.mari_remain.specs.declared.books.Books.{Books}
+use Rattle.mari_day.specs.Files.Gap.{NotHeld, OverLimit}
+use Rattle.mari_day.specs.Reading.{BooksTell}
+use Rattle.mari_day.specs.declared.reading.BooksFault.{BooksFault}
+use Rattle.mari_day.specs.declared.reading.BooksFault.TheVariants as why
+use Rattle.mari_words.specs.Asked.{Asked}
+use Rattle.mari_words.specs.Asked.Asked.{Check, Generate, Migrate}
+use Rattle.mari_words.specs.declared.command.FilePart.{FilePart}
+use Rattle.mari_commands.specs.declared.outcome.Outcome.{Outcome}
+use Rattle.mari_commands.specs.declared.outcome.Outcome.TheVariants.{NoCommand, Day, Text, Invalid, NoPage, Refused, Memory as NoMemory}
+use Rattle.mari_commands.specs.Commands.{ReadsFolder}
+use Rattle.mari_commands.specs.Outcome.{IsMigrated, IsOfWords, IsSummarised, Says, no_books, text_outcome}
+use Rattle.mari_commands.specs.Outcome.Says.{OfRefusal, OfGap, Fails, Starves}
+
+pub says-fault : (asked : Option Asked) (pages : Pages) (folder : List ℕ) (fault : BooksFault) → ReadsFolder asked folder → BooksTell pages folder (Err fault) → Says asked pages (no_books fault)
+says-fault asked pages folder (why.Fetch n fetch.Failed) r tells = Fails folder n r refl
+says-fault asked pages folder (why.Fetch n fetch.Missing) r tells = OfGap folder n NotHeld r tells refl
+says-fault asked pages folder (why.Fetch n fetch.TooLong) r tells = OfGap folder n OverLimit r tells refl
+says-fault asked pages folder (why.Fetch n fetch.Memory) r tells = absurd tells
+says-fault asked pages folder (why.Refused refusal) r tells = OfRefusal folder refusal r tells refl
+says-fault asked pages folder why.Memory r tells = Starves refl
+
+-- what the words ask for, by the outcome
+pub words-of-fault : (asked : Option Asked) (folder : List ℕ) (fault : BooksFault) → ReadsFolder asked folder → IsOfWords asked (no_books fault)
+words-of-fault asked folder (why.Fetch n w) r = (folder, r)
+words-of-fault asked folder (why.Refused refusal) r = (folder, r)
+words-of-fault asked folder why.Memory r = tt
+
+pub words-of-migrated : (folder : List ℕ) (part : FilePart) (books : Books) (o : Outcome) → IsMigrated books part o → IsOfWords (Some (Migrate folder part)) o
+words-of-migrated folder part books NoCommand is = absurd is
+words-of-migrated folder part books (Day job) is = absurd is
+words-of-migrated folder part books (Text t) is = tt
+words-of-migrated folder part books (Invalid run n) is = absurd is
+words-of-migrated folder part books (NoPage n w) is = absurd is
+words-of-migrated folder part books (Refused refusal) is = (folder, refl)
+words-of-migrated folder part books NoMemory is = tt
+
+pub words-of-summary : (number : ℕ) (o : Outcome) → IsSummarised number o → IsOfWords (Some (Generate number)) o
+words-of-summary number NoCommand is = absurd is
+words-of-summary number (Day job) is = absurd is
+words-of-summary number (Text t) is = is
+words-of-summary number (Invalid run n) is = absurd is
+words-of-summary number (NoPage n w) is = absurd is
+words-of-summary number (Refused refusal) is = absurd is
+words-of-summary number NoMemory is = tt
+
+pub words-of-text : (folder : List ℕ) (f : TextFault) → IsOfWords (Some (Check folder)) (text_outcome f)
+words-of-text folder (text_fault.BadLine n) = (folder, refl)
+words-of-text folder (text_fault.BadOrder n) = (folder, refl)
+words-of-text folder (text_fault.Truncated n) = (folder, refl)
+words-of-text folder text_fault.Memory = tt

@@ -1,0 +1,41 @@
+use Rattle.std.proofs.Common.{◌∙◌, Global, Some, ap, map, subst, sym}
+use Rattle.std.specs.Prelude.{string_bytes}
+use Rattle.mari_words.specs.Asked.{asked}
+use Rattle.mari_words.specs.declared.command.Command.{Command}
+use Rattle.mari_commands.specs.Outcome.Says.{OfGenerate}
+use Rattle.mari_commands.proofs.Limits.{IsWithin, within}
+use Rattle.mari_commands.proofs.Telling.{words-of-summary}
+use Rattle.mari_commands.proofs.program.outcome_of.Goals as goal
+
+abbrev is_within : Command → Type 0
+is_within x = IsWithin (asked x)
+
+pub to_clear-requires-clause-nodes : goal.to_clear-requires-clause-nodes
+to_clear-requires-clause-nodes g c = (subst is_within c.in-Ok-Clear.field-0-is (within (map (string_bytes {Z = Global}) c.args.words.now) (asked c.in-Ok-Clear.field-0) c.in-Ok-Clear.ensures)).0
+
+pub to_clear-requires-clause-workers : goal.to_clear-requires-clause-workers
+to_clear-requires-clause-workers g c = (subst is_within c.in-Ok-Clear.field-0-is (within (map (string_bytes {Z = Global}) c.args.words.now) (asked c.in-Ok-Clear.field-0) c.in-Ok-Clear.ensures)).1
+
+pub returns-in-Ok-Clear-clause-told : goal.returns-in-Ok-Clear-clause-told
+returns-in-Ok-Clear-clause-told g c = λ told e. rw (c.in-Ok-Clear.ensures, c.in-Ok-Clear.field-0-is, sym c.deref.ensures) (c.to_clear.ensures.told told e)
+
+pub returns-in-Ok-Check-clause-told : goal.returns-in-Ok-Check-clause-told
+returns-in-Ok-Check-clause-told g c = λ told e. rw (c.in-Ok-Check.ensures, c.in-Ok-Check.field-0-is, sym c.deref-in-Ok-Check.ensures) (c.checked.ensures.told told e)
+
+pub returns-in-Ok-Generate-clause-told : goal.returns-in-Ok-Generate-clause-told
+returns-in-Ok-Generate-clause-told g c = λ told e. OfGenerate c.in-Ok-Generate.number (c.in-Ok-Generate.ensures ∙ ap (λ (x : Command). Some (asked x)) c.in-Ok-Generate.field-0-is) c.generated.ensures
+
+pub returns-in-Ok-Migrate-clause-told : goal.returns-in-Ok-Migrate-clause-told
+returns-in-Ok-Migrate-clause-told g c = λ told e. rw (c.in-Ok-Migrate.ensures, c.in-Ok-Migrate.field-0-is, sym c.deref-in-Ok-Migrate.ensures) (c.migrated.ensures.told told e)
+
+pub returns-in-Ok-Clear-clause-words : goal.returns-in-Ok-Clear-clause-words
+returns-in-Ok-Clear-clause-words g c = rw (c.in-Ok-Clear.ensures, c.in-Ok-Clear.field-0-is, sym c.deref.ensures) c.to_clear.ensures.words
+
+pub returns-in-Ok-Check-clause-words : goal.returns-in-Ok-Check-clause-words
+returns-in-Ok-Check-clause-words g c = rw (c.in-Ok-Check.ensures, c.in-Ok-Check.field-0-is, sym c.deref-in-Ok-Check.ensures) c.checked.ensures.words
+
+pub returns-in-Ok-Generate-clause-words : goal.returns-in-Ok-Generate-clause-words
+returns-in-Ok-Generate-clause-words g c = rw (c.in-Ok-Generate.ensures, c.in-Ok-Generate.field-0-is) (words-of-summary c.in-Ok-Generate.number c.generated.result c.generated.ensures)
+
+pub returns-in-Ok-Migrate-clause-words : goal.returns-in-Ok-Migrate-clause-words
+returns-in-Ok-Migrate-clause-words g c = rw (c.in-Ok-Migrate.ensures, c.in-Ok-Migrate.field-0-is, sym c.deref-in-Ok-Migrate.ensures) c.migrated.ensures.words

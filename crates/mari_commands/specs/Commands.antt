@@ -1,0 +1,152 @@
+-- What the words and the pages decide: which folder is read, what is refused, which page can't be had, and what is
+-- printed.
+use Rattle.std.specs.Prelude.{ℕ, ◌≡◌, ◌≢◌, ◌≤◌, List, length, Option, Some, None, option_and_then}
+use Rattle.mari_units.specs.declared.faults.Refusal.{Refusal}
+use Rattle.mari_io.specs.Outside.{Pages, page_of}
+use Rattle.mari_io.specs.declared.shelf.TheConstants.{MOST_GIVEN}
+use Rattle.mari_publish.specs.declared.fault.TextFault.{TextFault}
+use Rattle.mari_publish.specs.declared.fault.TextFault.TheVariants as text_fault
+use Rattle.mari_publish.specs.declared.publication.Publication.{Publication}
+use Rattle.mari_publish.specs.Faults.{IsText}
+use Rattle.mari_publish.specs.Lines.{published_in, unpublished_in}
+use Rattle.mari_remain.specs.declared.books.Books.{Books}
+use Rattle.mari_remain.specs.Migrated.{borders_page, limits_page}
+use Rattle.mari_day.specs.declared.files.File.TheVariants as file
+use Rattle.mari_day.specs.declared.files.TheConstants.{PUBLICATION}
+use Rattle.mari_day.specs.Files.{Gap, file_named, file_number, path_in}
+use Rattle.mari_day.specs.Files.Gap.{NotHeld, OverLimit}
+use Rattle.mari_day.specs.Reading.{HasBooks, HasGap, HasRefusal}
+use Rattle.mari_check.specs.Day.{IsFirstFault, IsValidPublication}
+use Rattle.mari_check.specs.Streams.{IsToldFault, IsTooLong}
+use Rattle.mari_words.specs.Asked.{Asked}
+use Rattle.mari_words.specs.Asked.Asked.{Clear, Check, Generate, Migrate}
+use Rattle.mari_words.specs.declared.command.FilePart.{FilePart}
+use Rattle.mari_words.specs.declared.command.FilePart.TheVariants.{Borders, Limits}
+use Rattle.mari_commands.specs.declared.checks.MigrationCheck.TheVariants.{AlreadyTwo}
+use Rattle.mari_commands.specs.declared.checks.TextCheck.TheVariants.{BadLine, BadOrder, Truncated}
+use Rattle.mari_commands.specs.Checks.{migration_check_number, text_check_number}
+use Rattle.mari_commands.specs.Printing.{valid_line}
+use Rattle.mari_commands.specs.Summary.{IsGenerated}
+
+-- the folder whose market files a command reads
+abbrev pub folder_of : Asked → Option (List ℕ)
+folder_of (Clear folder nodes workers) = Some folder
+folder_of (Check folder) = Some folder
+folder_of (Generate number) = None
+folder_of (Migrate folder part) = Some folder
+
+-- the words ask for what reads the market files of this folder
+abbrev pub ReadsFolder : Option Asked → List ℕ → Type 0
+ReadsFolder asked folder = option_and_then folder_of asked ≡ Some folder
+
+-- the words ask to clear a folder, or to check its publication, or for what reads its market files
+abbrev pub AsksToClear : Option Asked → Type 0
+AsksToClear asked = (folder : List ℕ) × (nodes : ℕ) × (workers : ℕ) × (asked ≡ Some (Clear folder nodes workers))
+
+abbrev pub AsksToCheck : Option Asked → Type 0
+AsksToCheck asked = (folder : List ℕ) × (asked ≡ Some (Check folder))
+
+abbrev pub AsksForFiles : Option Asked → Type 0
+AsksForFiles asked = (folder : List ℕ) × ReadsFolder asked folder
+
+-- the name of a folder's publication
+abbrev pub publication_path : List ℕ → List ℕ
+publication_path folder = path_in folder (file_named PUBLICATION)
+
+-- the folder's publication is checked: its market files give these books, and it is this page
+pub record HasPublication (asked : Option Asked) (pages : Pages) (books : Books) (page : List ℕ) : Type 0 where
+  pub folder : List ℕ
+  pub check : asked ≡ Some (Check folder)
+  pub gives : HasBooks pages folder books
+  pub held : page_of pages (publication_path folder) ≡ Some page
+
+-- the publication that is checked is read: its page may be given whole, and is the text of this one
+pub record IsReadable (asked : Option Asked) (pages : Pages) : Type 0 where
+  pub books : Books
+  pub page : List ℕ
+  pub publication : Publication
+  pub checked : HasPublication asked pages books page
+  pub short : length page ≤ MOST_GIVEN
+  pub read : IsText page publication
+
+-- the publication is refused at a line, by the number of a check
+abbrev pub text_refusal_at : (line number : ℕ) → Refusal
+text_refusal_at line number = record { file = PUBLICATION; line = line; number = number }
+
+-- the refusal of a text with this fault
+abbrev pub text_refusal : TextFault → Refusal
+text_refusal (text_fault.BadLine n) = text_refusal_at n (text_check_number BadLine)
+text_refusal (text_fault.BadOrder n) = text_refusal_at n (text_check_number BadOrder)
+text_refusal (text_fault.Truncated n) = text_refusal_at n (text_check_number Truncated)
+text_refusal text_fault.Memory = text_refusal_at 0 0
+
+-- the refusal of borders that leave their limits to limits.csv already
+abbrev pub already_two : Refusal
+already_two = record { file = file_number file.Borders; line = 1; number = migration_check_number AlreadyTwo }
+
+-- the market files are refused: the first refusal of the folder's; or the folder is migrated though it has limits.csv
+-- already
+pub data RefusesFiles (asked : Option Asked) (pages : Pages) (refusal : Refusal) : Type 0 where
+  OfBooks : (folder : List ℕ) → ReadsFolder asked folder → HasRefusal pages folder refusal → RefusesFiles asked pages refusal
+  OfVersion : (folder : List ℕ) (part : FilePart) (books : Books) → asked ≡ Some (Migrate folder part) → HasBooks pages folder books
+      → books.limits ≢ None → refusal ≡ already_two → RefusesFiles asked pages refusal
+
+-- the text of the publication that is checked has a fault, which is told
+pub record RefusesText (asked : Option Asked) (pages : Pages) (page : List ℕ) (fault : TextFault) : Type 0 where
+  pub books : Books
+  pub checked : HasPublication asked pages books page
+  pub told : IsToldFault page fault
+
+-- what is refused: the market files, or the text of the publication
+pub data IsRefused (asked : Option Asked) (pages : Pages) (refusal : Refusal) : Type 0 where
+  OfFiles : RefusesFiles asked pages refusal → IsRefused asked pages refusal
+  OfText : (page : List ℕ) (fault : TextFault) → RefusesText asked pages page fault → refusal ≡ text_refusal fault → IsRefused asked pages refusal
+
+-- the first file whose page can't be had, by its number, and why: a market file of the folder; or the publication that
+-- is checked, which isn't held, or is longer than may be given in pieces
+pub data LacksPage (asked : Option Asked) (pages : Pages) (file : ℕ) (gap : Gap) : Type 0 where
+  OfBooks : (folder : List ℕ) → ReadsFolder asked folder → HasGap pages folder file gap → LacksPage asked pages file gap
+  NoPublication : (folder : List ℕ) (books : Books) → asked ≡ Some (Check folder) → HasBooks pages folder books → page_of pages (publication_path folder) ≡ None
+      → file ≡ PUBLICATION → gap ≡ NotHeld → LacksPage asked pages file gap
+  LongPublication : (books : Books) (page : List ℕ) → HasPublication asked pages books page → IsTooLong page → file ≡ PUBLICATION → gap ≡ OverLimit → LacksPage asked pages file gap
+
+-- the new form of a file
+abbrev pub page_of_part : FilePart → Books → List ℕ
+page_of_part Borders books = borders_page books
+page_of_part Limits books = limits_page books
+
+-- the folder that is migrated has borders that state their limits
+pub record IsMigratable (asked : Option Asked) (pages : Pages) : Type 0 where
+  pub folder : List ℕ
+  pub part : FilePart
+  pub migrate : asked ≡ Some (Migrate folder part)
+  pub books : Books
+  pub gives : HasBooks pages folder books
+  pub first : books.limits ≡ None
+
+-- a text that is printed whole, where all is well: that the publication that is checked is valid, with the numbers of
+-- its published and of its other blocks; the new form of a file of a folder whose borders state their limits; or the
+-- summary of a generated day
+pub data Prints (asked : Option Asked) (pages : Pages) (text : List ℕ) : Type 0 where
+  Valid : (is : IsReadable asked pages) → IsValidPublication is.books is.publication
+      → text ≡ valid_line (published_in is.publication.blocks) (unpublished_in is.publication.blocks) → Prints asked pages text
+  Migrated : (is : IsMigratable asked pages) → text ≡ page_of_part is.part is.books → Prints asked pages text
+  Generated : (number : ℕ) → asked ≡ Some (Generate number) → IsGenerated number text → Prints asked pages text
+
+-- the publication that is checked has a fault: the first run that has one, and its least
+pub record IsInvalid (asked : Option Asked) (pages : Pages) (run fault : ℕ) : Type 0 where
+  pub is_read : IsReadable asked pages
+  pub first : IsFirstFault is_read.books is_read.publication run fault
+
+-- the books of the folder that the words ask to clear, and its budget of nodes
+pub record AreCleared (asked : Option Asked) (pages : Pages) (books : Books) (nodes : ℕ) : Type 0 where
+  pub folder : List ℕ
+  pub workers : ℕ
+  pub clear : asked ≡ Some (Clear folder nodes workers)
+  pub gives : HasBooks pages folder books
+
+-- the folder's pages give books that may be cleared within this budget of nodes
+pub record IsClearable (asked : Option Asked) (pages : Pages) : Type 0 where
+  pub books : Books
+  pub nodes : ℕ
+  pub cleared : AreCleared asked pages books nodes

@@ -1,0 +1,187 @@
+-- What the words and the pages come to, and how it is reported.
+use Rattle.std.specs.Prelude.{ℕ, ◌≡◌, ◌≢◌, ◌==◌, if◌then◌else◌, List, Option, Some, None, Result, Ok, Err, ⊤}
+use lib.Chars.{codes}
+use Rattle.mari_io.specs.declared.shelf.Fetch.{Fetch}
+use Rattle.mari_io.specs.declared.shelf.Fetch.TheVariants as fetch
+use Rattle.mari_io.specs.Outside.{Pages, page_of}
+use Rattle.mari_units.specs.declared.faults.Refusal.{Refusal}
+use Rattle.mari_publish.specs.declared.fault.TextFault.{TextFault}
+use Rattle.mari_publish.specs.declared.fault.TextFault.TheVariants as text_fault
+use Rattle.mari_remain.specs.declared.books.Books.{Books}
+use Rattle.mari_remain.specs.Accepted.{IsAccepted}
+use Rattle.mari_day.specs.Dated.{IsDated}
+use Rattle.mari_day.specs.Day.{EndsDay, TookPart, then_took}
+use Rattle.mari_day.specs.declared.day.DayEnd.{DayEnd}
+use Rattle.mari_day.specs.declared.day.DayEnd.TheVariants as end
+use Rattle.mari_day.specs.declared.files.TheConstants.{PUBLICATION}
+use Rattle.mari_day.specs.Files.{Gap, IsNamed}
+use Rattle.mari_day.specs.Files.Gap.{NotHeld, OverLimit}
+use Rattle.mari_day.specs.Reading.{HasBooks, HasGap, HasRefusal}
+use Rattle.mari_day.specs.declared.reading.BooksFault.{BooksFault}
+use Rattle.mari_day.specs.declared.reading.BooksFault.TheVariants as why
+use Rattle.mari_check.specs.declared.verdict.Verdict.{Verdict}
+use Rattle.mari_check.specs.declared.verdict.Verdict.TheVariants as verdict
+use Rattle.mari_check.specs.Streams.{StreamTells}
+use Rattle.mari_check.specs.declared.stream.StreamFault.TheVariants as stream
+use Rattle.mari_words.specs.Asked.{Asked}
+use Rattle.mari_words.specs.Asked.Asked.{Clear, Check, Generate, Migrate}
+use Rattle.mari_market.specs.Clearing.{IsBudget, IsWorkerCount}
+use Rattle.mari_commands.specs.declared.outcome.Job.{Job}
+use Rattle.mari_commands.specs.declared.outcome.Outcome.{Outcome}
+use Rattle.mari_commands.specs.declared.outcome.Outcome.TheVariants.{NoCommand, Day, Text, Invalid, NoPage, Refused, Memory as NoMemory}
+use Rattle.mari_commands.specs.declared.status.Status.{Status}
+use Rattle.mari_commands.specs.declared.status.Status.TheVariants as status
+use Rattle.mari_words.specs.declared.command.FilePart.{FilePart}
+use Rattle.mari_commands.specs.Commands.{AsksForFiles, AsksToCheck, ReadsFolder, already_two, page_of_part, publication_path, text_refusal}
+use Rattle.mari_commands.specs.Summary.{IsGenerated}
+use Rattle.mari_commands.specs.Printing.{file_line, invalid_line, refused_line, usage_line, valid_line}
+use Rattle.mari_commands.specs.Refusals.{HasName}
+
+-- the words ask for a text: for the check or for a new file of a folder, or for the summary of a generated day, which
+-- it is
+abbrev pub AsksForText : Option Asked → List ℕ → Type 0
+AsksForText None text = ⊥
+AsksForText (Some (Clear folder nodes workers)) text = ⊥
+AsksForText (Some (Check folder)) text = ⊤
+AsksForText (Some (Migrate folder part)) text = ⊤
+AsksForText (Some (Generate number)) text = IsGenerated number text
+
+-- the words ask for what may come to this outcome, whatever the pages are
+abbrev pub IsOfWords : Option Asked → Outcome → Type 0
+IsOfWords asked NoCommand = asked ≡ None
+IsOfWords asked (Day job) = (folder : List ℕ) × (asked ≡ Some (Clear folder job.nodes job.workers))
+IsOfWords asked (Text text) = AsksForText asked text.items
+IsOfWords asked (Invalid run number) = AsksToCheck asked
+IsOfWords asked (NoPage file why) = AsksForFiles asked
+IsOfWords asked (Refused refusal) = AsksForFiles asked
+IsOfWords asked NoMemory = ⊤
+
+-- the fetch of some file gave this answer
+abbrev pub IsNoPage : Fetch → Outcome → Type 0
+IsNoPage why (NoPage file w) = w ≡ why
+IsNoPage why _ = ⊥
+
+-- a job that can be done: its books are a folder's, and its numbers are within their limits
+pub record IsReady (job : Job) : Type 0 where
+  pub accepted : IsAccepted job.books
+  pub dated : IsDated job.books
+  pub nodes : IsBudget job.nodes
+  pub workers : IsWorkerCount job.workers
+
+-- an outcome that can be reported
+abbrev pub IsReportable : Outcome → Type 0
+IsReportable (Day job) = IsReady job
+IsReportable (NoPage file why) = IsNamed file
+IsReportable (Refused refusal) = IsNamed refusal.file × HasName refusal
+IsReportable _ = ⊤
+
+-- the status of a day, by how it ended
+abbrev pub day_status : DayEnd → Status
+day_status (end.Done published unpublished) = if unpublished == 0 then status.Done else status.Unpublished
+day_status end.WriteFault = status.WriteFault
+day_status end.Memory = status.Memory
+
+-- how a text is reported with a status: it is printed whole; or a write failed, and a first part of it was taken; or
+-- there was no memory for it, and nothing was taken
+pub data Reports (text : List ℕ) (wanted : Status) (before after : Option (List ℕ)) (result : Status) : Type 0 where
+  Printed : result ≡ wanted → after ≡ then_took before text → Reports text wanted before after result
+  CutOff : result ≡ status.WriteFault → TookPart before after text → Reports text wanted before after result
+  Starved : result ≡ status.Memory → after ≡ before → Reports text wanted before after result
+
+-- how a job is reported: its day is written as it is made
+pub record ReportsDay (job : Job) (before after : Option (List ℕ)) (result : Status) : Type 0 where
+  pub ended : DayEnd
+  pub ends : EndsDay job.books job.nodes before after ended
+  pub status : result ≡ day_status ended
+
+-- how a page that can't be had is reported
+abbrev pub ReportsNoPage : ℕ → Fetch → (before after : Option (List ℕ)) → Status → Type 0
+ReportsNoPage file fetch.Failed before after result = Reports (file_line (codes "readfault") file) status.ReadFault before after result
+ReportsNoPage file fetch.Missing before after result = Reports (file_line (codes "missing") file) status.Missing before after result
+ReportsNoPage file fetch.TooLong before after result = Reports (file_line (codes "toolong") file) status.TooLong before after result
+ReportsNoPage file fetch.Memory before after result = (result ≡ status.Memory) × (after ≡ before)
+
+-- how an outcome is reported
+abbrev pub Reported : Outcome → (before after : Option (List ℕ)) → Status → Type 0
+Reported NoCommand before after result = Reports usage_line status.Usage before after result
+Reported (Day job) before after result = ReportsDay job before after result
+Reported (Text text) before after result = Reports text.items status.Done before after result
+Reported (Invalid run fault) before after result = Reports (invalid_line run fault) (status.Invalid run fault) before after result
+Reported (NoPage file why) before after result = ReportsNoPage file why before after result
+Reported (Refused refusal) before after result = Reports (refused_line refusal) (status.Refused refusal) before after result
+Reported NoMemory before after result = (result ≡ status.Memory) × (after ≡ before)
+
+-- the fetch of some file gave this answer, and there are no books
+abbrev pub IsNoBooks : Fetch → Result Books Outcome → Type 0
+IsNoBooks why (Ok books) = ⊥
+IsNoBooks why (Err outcome) = IsNoPage why outcome
+
+-- what comes of a folder that has no books
+abbrev pub no_books : BooksFault → Outcome
+no_books (why.Fetch file fault) = NoPage file fault
+no_books (why.Refused refusal) = Refused refusal
+no_books why.Memory = NoMemory
+
+-- what comes of books whose file is asked for in its new form
+abbrev pub IsMigrated : Books → FilePart → Outcome → Type 0
+IsMigrated books part (Text text) = (books.limits ≡ None) × (text.items ≡ page_of_part part books)
+IsMigrated books part (Refused refusal) = (books.limits ≢ None) × (refusal ≡ already_two)
+IsMigrated books part NoMemory = ⊤
+IsMigrated books part _ = ⊥
+
+-- what comes of a number whose day is generated
+abbrev pub IsSummarised : ℕ → Outcome → Type 0
+IsSummarised number (Text text) = IsGenerated number text.items
+IsSummarised number NoMemory = ⊤
+IsSummarised number _ = ⊥
+
+-- what comes of a publication whose text has a fault
+abbrev pub text_outcome : TextFault → Outcome
+text_outcome (text_fault.BadLine n) = Refused (text_refusal (text_fault.BadLine n))
+text_outcome (text_fault.BadOrder n) = Refused (text_refusal (text_fault.BadOrder n))
+text_outcome (text_fault.Truncated n) = Refused (text_refusal (text_fault.Truncated n))
+text_outcome text_fault.Memory = NoMemory
+
+-- what comes of the verdict on a publication
+abbrev pub IsToldVerdict : Verdict → Outcome → Type 0
+IsToldVerdict (verdict.Valid published unpublished) (Text text) = text.items ≡ valid_line published unpublished
+IsToldVerdict (verdict.Valid published unpublished) NoMemory = ⊤
+IsToldVerdict (verdict.Invalid run fault) (Invalid r f) = (r ≡ run) × (f ≡ fault)
+IsToldVerdict _ _ = ⊥
+
+-- what is said of the page of a publication that is checked against these books: what its check tells of it
+abbrev pub CheckTells : Books → Option (List ℕ) → Outcome → Type 0
+CheckTells books page NoCommand = ⊥
+CheckTells books page (Day job) = ⊥
+CheckTells books page (Text text) =
+    (published : ℕ) × (unpublished : ℕ) × StreamTells books page (Ok (verdict.Valid published unpublished))
+    × (text.items ≡ valid_line published unpublished)
+CheckTells books page (Invalid run fault) = StreamTells books page (Ok (verdict.Invalid run fault))
+CheckTells books page (NoPage file why) = StreamTells books page (Err (stream.Fetch why)) × (file ≡ PUBLICATION)
+CheckTells books page (Refused refusal) =
+    (fault : TextFault) × StreamTells books page (Err (stream.Text fault)) × (refusal ≡ text_refusal fault)
+CheckTells books page NoMemory = ⊤
+
+-- the answer of a fetch of a page that can't be had
+abbrev pub fetch_of : Gap → Fetch
+fetch_of NotHeld = fetch.Missing
+fetch_of OverLimit = fetch.TooLong
+
+-- what an outcome says of what the words ask for and of the pages: the words are no command; a folder's market files
+-- are refused, or a page of them can't be had; or they give books, which are cleared, checked or migrated; a day is
+-- generated; or a fetch failed, or there was no memory
+pub data Says (asked : Option Asked) (pages : Pages) (o : Outcome) : Type 0 where
+  OfUsage : asked ≡ None → o ≡ NoCommand → Says asked pages o
+  OfRefusal : (folder : List ℕ) (refusal : Refusal) → ReadsFolder asked folder → HasRefusal pages folder refusal → o ≡ Refused refusal → Says asked pages o
+  OfGap : (folder : List ℕ) (file : ℕ) (gap : Gap) → ReadsFolder asked folder → HasGap pages folder file gap → o ≡ NoPage file (fetch_of gap) → Says asked pages o
+  OfClear : (folder : List ℕ) (job : Job) → asked ≡ Some (Clear folder job.nodes job.workers) → HasBooks pages folder job.books → o ≡ Day job → Says asked pages o
+  OfCheck : (folder : List ℕ) (books : Books) → asked ≡ Some (Check folder) → HasBooks pages folder books → CheckTells books (page_of pages (publication_path folder)) o → Says asked pages o
+  OfMigrate : (folder : List ℕ) (part : FilePart) (books : Books) → asked ≡ Some (Migrate folder part) → HasBooks pages folder books → IsMigrated books part o → Says asked pages o
+  OfGenerate : (number : ℕ) → asked ≡ Some (Generate number) → IsSummarised number o → Says asked pages o
+  Fails : (folder : List ℕ) (file : ℕ) → ReadsFolder asked folder → o ≡ NoPage file fetch.Failed → Says asked pages o
+  Starves : o ≡ NoMemory → Says asked pages o
+
+-- books, or the outcome of a folder that has none
+abbrev pub Found : Option Asked → Pages → List ℕ → Result Books Outcome → Type 0
+Found asked pages folder (Ok books) = HasBooks pages folder books
+Found asked pages folder (Err outcome) = Says asked pages outcome

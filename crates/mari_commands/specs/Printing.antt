@@ -1,0 +1,31 @@
+-- The lines that the program prints where it prints no day.
+use Rattle.std.specs.Prelude.{ℕ, List, [], ◌∷◌, ◌++◌, unwrap_or}
+use lib.Chars.{codes}
+use Rattle.std.specs.Fmt.{decimal}
+use Rattle.mari_units.specs.declared.faults.Refusal.{Refusal}
+use Rattle.mari_day.specs.Files.{file_named}
+use Rattle.mari_commands.specs.Refusals.{check_name}
+
+-- the line that tells how the program is called
+unfoldable pub usage_line : List ℕ
+usage_line = codes "usage: mari clear FOLDER [--nodes N] [--workers K] | mari check FOLDER | mari generate NUMBER | mari migrate FOLDER borders | mari migrate FOLDER limits\n"
+
+-- the line of a file, by its number from 1, whose page can't be had
+abbrev pub file_line : List ℕ → ℕ → List ℕ
+file_line word file = word ++ 32 ∷ file_named file ++ 10 ∷ []
+
+-- the line of a refusal: the file, the line in it, and the check by its number and its name
+abbrev pub refused_line : Refusal → List ℕ
+refused_line r = codes "refused " ++ file_named r.file ++ 32 ∷ decimal r.line ++ 32 ∷ decimal r.number ++ 32 ∷ unwrap_or (check_name r.file r.number) [] ++ 10 ∷ []
+
+-- a line of a word and two numbers
+abbrev pub pair_line : List ℕ → ℕ → ℕ → List ℕ
+pair_line word first second = word ++ decimal first ++ 32 ∷ decimal second ++ 10 ∷ []
+
+-- the line of a publication that is valid: how many of its blocks are published, and how many aren't
+abbrev pub valid_line : ℕ → ℕ → List ℕ
+valid_line published unpublished = pair_line (codes "valid ") published unpublished
+
+-- the line of a publication that isn't: the first run that has a fault, and the fault's number
+abbrev pub invalid_line : ℕ → ℕ → List ℕ
+invalid_line run fault = pair_line (codes "invalid ") run fault

@@ -1,0 +1,112 @@
+//! `check FOLDER`: whether a folder's publication is valid for its books.
+
+ghost use Rattle.std.specs.Prelude.{◌≡◌, Some};
+ghost use Rattle.mari_io.specs.Outside.{Counts, Pages, page_of};
+ghost use Rattle.mari_io.specs.declared.shelf.Fetch.TheVariants as fetch;
+ghost use Rattle.mari_remain.specs.Accepted.{IsAccepted};
+ghost use Rattle.mari_words.specs.Asked.Asked.{Check};
+ghost use Rattle.mari_commands.specs.Checks.{text_check_number};
+ghost use Rattle.mari_commands.specs.Commands.{publication_path as path_of, text_refusal_at};
+ghost use Rattle.mari_commands.specs.Outcome.{CheckTells, IsNoPage, IsOfWords, IsReportable, IsToldVerdict, Says, text_outcome as outcome_of_text};
+
+use crate::books::books_in;
+use crate::checks::TextCheck;
+use crate::outcome::Outcome;
+use crate::writing::pair_line;
+use mari_check::{StreamFault, Verdict, check_stream};
+use mari_day::{PUBLICATION, file_name, path_in};
+use mari_io::Shelf;
+use mari_publish::TextFault;
+use mari_remain::Books;
+use mari_rows::FileCheck;
+use mari_units::{Memory, Refusal};
+use std::alloc::Global;
+
+/// The refusal of the publication's text at a line, by a check.
+fn refused_text(line: u32, check: TextCheck) -> Outcome
+    ensures { result ≡ Outcome.Refused (text_refusal_at line (text_check_number check)) }
+{
+    Outcome::Refused(Refusal {
+        file: PUBLICATION,
+        line,
+        number: check.entry().0,
+    })
+}
+
+/// What comes of a publication whose text has a fault.
+fn text_outcome(fault: TextFault) -> Outcome
+    ensures { result ≡ outcome_of_text fault }
+{
+    match fault {
+        TextFault::BadLine(line) => refused_text(line, TextCheck::BadLine),
+        TextFault::BadOrder(line) => refused_text(line, TextCheck::BadOrder),
+        TextFault::Truncated(line) => refused_text(line, TextCheck::Truncated),
+        TextFault::Memory => Outcome::Memory,
+    }
+}
+
+/// What comes of the verdict on a publication.
+fn verdict_outcome(alloc: Global, verdict: Verdict) -> Outcome
+    ensures { IsToldVerdict verdict result }
+{
+    match verdict {
+        Verdict::Valid {
+            published,
+            unpublished,
+        } => match pair_line(alloc, b"valid ", published, unpublished) {
+            Ok(line) => Outcome::Text(line),
+            Err(Memory) => Outcome::Memory,
+        },
+        Verdict::Invalid { run, fault } => Outcome::Invalid { run, fault },
+    }
+}
+
+/// What comes of books whose publication is checked. It is read in pieces.
+fn checked_books<S: Shelf>(alloc: Global, shelf: &mut S, books: &Books, folder: &str) -> Outcome
+    // The market files are accepted.
+    requires { IsAccepted books.now }
+
+    // What is found of the publication's page, where the shelf tells it.
+    ensures same { S.pages shelf.new ≡ S.pages shelf.old }
+    ensures told { (told : Pages) → S.pages shelf.old ≡ Some told → CheckTells books.now (page_of told (path_of folder.now)) result }
+
+    // What comes of the words on any shelf.
+    ensures words { IsOfWords (Some (Check folder.now)) result }
+    ensures reportable { IsReportable result }
+
+    // Why the page wasn't had.
+    ensures failed { Counts (IsNoPage fetch.Failed result) (S.faults shelf.old) (S.faults shelf.new) }
+    ensures missing { Counts (IsNoPage fetch.Missing result) (S.misses shelf.old) (S.misses shelf.new) }
+    ensures too_long { Counts (IsNoPage fetch.TooLong result) (S.overs shelf.old) (S.overs shelf.new) }
+{
+    let Ok(path) = path_in(alloc, folder, file_name(PUBLICATION)) else {
+        return Outcome::Memory;
+    };
+    match check_stream(alloc, books, shelf, &path) {
+        Ok(verdict) => verdict_outcome(alloc, verdict),
+        Err(StreamFault::Fetch(why)) => Outcome::NoPage(PUBLICATION, why),
+        Err(StreamFault::Text(fault)) => text_outcome(fault),
+        Err(StreamFault::Memory) => Outcome::Memory,
+    }
+}
+
+/// What comes of a folder whose publication is checked against its market files. It waits for nobody.
+pub fn checked<S: Shelf>(alloc: Global, shelf: &mut S, folder: &str) -> Outcome
+    // What is found of the folder's pages, where the shelf tells them.
+    ensures same { S.pages shelf.new ≡ S.pages shelf.old }
+    ensures told { (told : Pages) → S.pages shelf.old ≡ Some told → Says (Some (Check folder.now)) told result }
+
+    // What comes of the words on any shelf.
+    ensures words { IsOfWords (Some (Check folder.now)) result }
+    ensures reportable { IsReportable result }
+
+    // Why a page wasn't had.
+    ensures failed { Counts (IsNoPage fetch.Failed result) (S.faults shelf.old) (S.faults shelf.new) }
+    ensures missing { Counts (IsNoPage fetch.Missing result) (S.misses shelf.old) (S.misses shelf.new) }
+    ensures too_long { Counts (IsNoPage fetch.TooLong result) (S.overs shelf.old) (S.overs shelf.new) }
+{
+    match books_in(alloc, shelf, folder) {
+        Ok(books) => checked_books(alloc, shelf, &books, folder),
+        Err(outcome) => outcome,
+    }
+}

@@ -1,0 +1,23 @@
+//! The commands of the program: `mari clear FOLDER [--nodes N] [--workers K]`, `mari check FOLDER`,
+//! `mari generate NUMBER`, `mari migrate FOLDER borders` and `mari migrate FOLDER limits`.
+//!
+//! `run_program` is all of them over any shelf and sink: words, the books of a folder, the text of their day, its check,
+//! and bytes. Its contract carries the headline (`specs/Headline.antt`). It stands on all the crates of the program.
+#![tactic(auto)]
+
+mod books;
+mod checking;
+mod checks;
+mod clearing;
+mod generating;
+mod migrating;
+mod outcome;
+mod program;
+mod refusals;
+mod saying;
+mod status;
+mod summary;
+mod writing;
+
+pub use program::run_program;
+pub use status::Status;

@@ -1,0 +1,139 @@
+//! The top call.
+
+ghost use Rattle.std.specs.Prelude.{◌≡◌, ℕ, List, None, Some, map, string_bytes, ◌⊎◌};
+ghost use Rattle.mari_units.specs.declared.faults.Refusal.{Refusal};
+ghost use Rattle.mari_io.specs.Outside.{Counts, Pages, Rose};
+ghost use Rattle.mari_io.specs.declared.shelf.Fetch.TheVariants as fetch;
+ghost use Rattle.mari_publish.specs.declared.fault.TextFault.{TextFault};
+ghost use Rattle.mari_day.specs.Files.{Gap};
+ghost use Rattle.mari_words.specs.Asked.Asked.{Generate};
+ghost use Rattle.mari_words.specs.Words.{command_at};
+ghost use Rattle.mari_commands.specs.Commands.{IsClearable, IsMigratable, IsReadable, LacksPage, RefusesFiles, RefusesText, text_refusal};
+ghost use Rattle.mari_commands.specs.Headline.{HasBudget};
+ghost use Rattle.mari_commands.specs.Outcome.{IsNoPage, IsOfWords, IsReportable, IsSummarised, Reported, Says};
+ghost use Rattle.mari_commands.specs.Program.{Answers, IsDayStatus, IsStatus, IsVerdictStatus, OrFault, gap_status};
+
+use crate::checking::checked;
+use crate::clearing::{clear_together, to_clear};
+use crate::generating::generated;
+use crate::migrating::migrated;
+use crate::outcome::Outcome;
+use crate::saying::report;
+use crate::status::Status;
+use mari_io::{Shelf, Sink};
+use mari_words::{Command, WordsFault, read_words};
+use mari_workers::Turnstile;
+use std::alloc::Global;
+use std::sync::Wait;
+use std::thread::Threads;
+
+/// What the words and the shelf's pages come to. It waits for workers only where a day is generated.
+fn outcome_of<S: Shelf, G: Turnstile, R: Threads + Wait + Sync>(
+    rt: &R,
+    alloc: Global,
+    words: &[String],
+    shelf: &mut S,
+    turnstile: &G,
+) -> Outcome
+    // What is found of the pages, where the shelf tells them.
+    ensures same { S.pages shelf.new ≡ S.pages shelf.old }
+    ensures told { (told : Pages) → S.pages shelf.old ≡ Some told → Says (command_at (map string_bytes words.now)) told result }
+
+    // What comes of the words on any shelf.
+    ensures words { IsOfWords (command_at (map string_bytes words.now)) result }
+    ensures generated { (number : ℕ) → command_at (map string_bytes words.now) ≡ Some (Generate number) → IsSummarised number result }
+    ensures reportable { IsReportable result }
+
+    // Why a page wasn't had.
+    ensures failed { Counts (IsNoPage fetch.Failed result) (S.faults shelf.old) (S.faults shelf.new) }
+    ensures missing { Counts (IsNoPage fetch.Missing result) (S.misses shelf.old) (S.misses shelf.new) }
+    ensures too_long { Counts (IsNoPage fetch.TooLong result) (S.overs shelf.old) (S.overs shelf.new) }
+{
+    match read_words(alloc, words) {
+        Ok(
+            Command::Clear {
+                folder,
+                nodes,
+                workers,
+            },
+        ) => to_clear(alloc, shelf, &folder, nodes, workers),
+        Ok(Command::Check { folder }) => checked(alloc, shelf, &folder),
+        Ok(Command::Generate { number }) => generated(rt, alloc, number, turnstile),
+        Ok(Command::Migrate { folder, part }) => migrated(alloc, shelf, &folder, part),
+        Err(WordsFault::Usage) => Outcome::NoCommand,
+        Err(WordsFault::Memory) => Outcome::Memory,
+    }
+}
+
+/// Writes what is printed of an outcome, and answers its status. It waits for workers only where a day is cleared by
+/// several.
+fn finish<K: Sink, G: Turnstile, R: Threads + Wait + Sync>(
+    rt: &R,
+    alloc: Global,
+    outcome: &Outcome,
+    sink: &mut K,
+    turnstile: &G,
+) -> Status
+    requires { IsReportable outcome.now }
+    ensures reported { Reported outcome.now (K.taken sink.old) (K.taken sink.new) result }
+    ensures cause { Counts (result ≡ Status.WriteFault) (K.faults sink.old) (K.faults sink.new) }
+{
+    match outcome {
+        Outcome::Day(job) if job.workers > 1 => clear_together(rt, alloc, job, sink, turnstile),
+        other => report(alloc, sink, other),
+    }
+}
+
+/// Does all that the program does, by the words behind its name:
+///
+/// - `clear FOLDER [--nodes N] [--workers K]` clears the runs of the folder's day and prints the day as it is made. A
+///   run's search makes at most N nodes, 1 to `MOST_NODES`, or `USUAL_NODES` where the words don't say; K workers
+///   search, 1 to `MOST_WORKERS`, or `USUAL_WORKERS`.
+/// - `check FOLDER` checks the folder's publication.txt against its market files.
+/// - `generate NUMBER` clears a generated day and prints its summary.
+/// - `migrate FOLDER borders` and `migrate FOLDER limits` print these files in the form that states limits for each
+///   run.
+///
+/// The market files of a folder are fetched in their order and then read in that order. Two or more workers take their
+/// findings from the turnstile, and the call may then wait for them. On `check`, on `migrate`, and on `clear` with one
+/// worker it uses only calls that return.
+pub fn run_program<S: Shelf, K: Sink, G: Turnstile, R: Threads + Wait + Sync>(
+    rt: &R,
+    alloc: Global,
+    words: &[String],
+    shelf: &mut S,
+    sink: &mut K,
+    turnstile: &G,
+) -> Status
+    // The headline is in here: what each answer says of the words, of the pages and of what is printed.
+    ensures answers { Answers (command_at (map string_bytes words.now)) (S.pages shelf.old) (Rose (S.faults shelf.old) (S.faults shelf.new)) (K.taken sink.old) (K.taken sink.new) result }
+    ensures same { S.pages shelf.new ≡ S.pages shelf.old }
+
+    // Why a page wasn't had, or a text not written.
+    ensures read_fault { Counts (result ≡ Status.ReadFault) (S.faults shelf.old) (S.faults shelf.new) }
+    ensures missing { Counts (result ≡ Status.Missing) (S.misses shelf.old) (S.misses shelf.new) }
+    ensures too_long { Counts (result ≡ Status.TooLong) (S.overs shelf.old) (S.overs shelf.new) }
+    ensures write_fault { Counts (result ≡ Status.WriteFault) (K.faults sink.old) (K.faults sink.new) }
+
+    // Words that are no command are answered so, the first refusal of the market files, the fault that is told of the
+    // publication's text, and the first page that isn't held or is too long.
+    ensures no_command { command_at (map string_bytes words.now) ≡ None → (result ≡ Status.Usage) ⊎ ((result ≡ Status.WriteFault) ⊎ (result ≡ Status.Memory)) }
+    ensures refuses { (told : Pages) (refusal : Refusal) → S.pages shelf.old ≡ Some told → RefusesFiles (command_at (map string_bytes words.now)) told refusal
+        → OrFault (IsStatus (Status.Refused refusal)) result }
+    ensures refuses_text { (told : Pages) (page : List ℕ) (fault : TextFault) → S.pages shelf.old ≡ Some told → RefusesText (command_at (map string_bytes words.now)) told page fault
+        → OrFault (IsStatus (Status.Refused (text_refusal fault))) result }
+    ensures gaps { (told : Pages) (file : ℕ) (gap : Gap) → S.pages shelf.old ≡ Some told → LacksPage (command_at (map string_bytes words.now)) told file gap
+        → OrFault (IsStatus (gap_status gap)) result }
+
+    // Folders whose pages are accepted are cleared, and wholly where the budget holds each run's search tree; a
+    // publication that is read is checked; files that state their limits for the day are migrated; and days are
+    // generated.
+    ensures cleared { (told : Pages) → S.pages shelf.old ≡ Some told → IsClearable (command_at (map string_bytes words.now)) told → OrFault IsDayStatus result }
+    ensures complete { (told : Pages) → S.pages shelf.old ≡ Some told → HasBudget (command_at (map string_bytes words.now)) told → OrFault (IsStatus Status.Done) result }
+    ensures checked { (told : Pages) → S.pages shelf.old ≡ Some told → IsReadable (command_at (map string_bytes words.now)) told → OrFault IsVerdictStatus result }
+    ensures migrated { (told : Pages) → S.pages shelf.old ≡ Some told → IsMigratable (command_at (map string_bytes words.now)) told → OrFault (IsStatus Status.Done) result }
+    ensures generated { (number : ℕ) → command_at (map string_bytes words.now) ≡ Some (Generate number) → (result ≡ Status.Done) ⊎ ((result ≡ Status.WriteFault) ⊎ (result ≡ Status.Memory)) }
+{
+    let outcome = outcome_of(rt, alloc, words, shelf, turnstile);
+    finish(rt, alloc, &outcome, sink, turnstile)
+}

@@ -1,0 +1,98 @@
+//! What is printed of an outcome, and the status that it ends with.
+
+ghost use Rattle.std.specs.Prelude.{◌≡◌, ◌≢◌};
+ghost use Rattle.mari_io.specs.Outside.{Counts};
+ghost use Rattle.mari_day.specs.Files.{IsNamed};
+ghost use Rattle.mari_commands.specs.Outcome.{IsReportable, Reported, Reports, ReportsNoPage};
+ghost use Rattle.mari_commands.specs.Printing.{file_line as file_text, invalid_line as invalid_text, refused_line as refused_text};
+ghost use Rattle.mari_commands.specs.Refusals.{HasName};
+
+use crate::clearing::clear_alone;
+use crate::outcome::Outcome;
+use crate::status::Status;
+use crate::writing::{file_line, pair_line, refused_line, usage_line};
+use mari_day::write_all;
+use mari_io::{Fetch, Sink};
+use mari_units::Refusal;
+use std::alloc::Global;
+
+/// Writes a text, and answers its status, or that of a write fault.
+fn say<K: Sink>(sink: &mut K, text: &[u8], status: Status) -> Status
+    requires { status ≢ Status.WriteFault }
+    ensures reports { Reports text.now status (K.taken sink.old) (K.taken sink.new) result }
+    ensures cause { Counts (result ≡ Status.WriteFault) (K.faults sink.old) (K.faults sink.new) }
+{
+    match write_all(sink, text) {
+        Ok(()) => status,
+        Err(_) => Status::WriteFault,
+    }
+}
+
+/// Writes a line that names a file.
+fn say_file<K: Sink>(alloc: Global, sink: &mut K, word: &[u8], file: u8, status: Status) -> Status
+    requires number { IsNamed file }
+    requires status { status ≢ Status.WriteFault }
+    ensures reports { Reports (file_text word.now file) status (K.taken sink.old) (K.taken sink.new) result }
+    ensures cause { Counts (result ≡ Status.WriteFault) (K.faults sink.old) (K.faults sink.new) }
+{
+    match file_line(alloc, word, file) {
+        Ok(line) => say(sink, &line, status),
+        Err(_) => Status::Memory,
+    }
+}
+
+/// Writes the line of a file whose page can't be had.
+fn say_no_page<K: Sink>(alloc: Global, sink: &mut K, file: u8, why: Fetch) -> Status
+    requires { IsNamed file }
+    ensures reports { ReportsNoPage file why (K.taken sink.old) (K.taken sink.new) result }
+    ensures cause { Counts (result ≡ Status.WriteFault) (K.faults sink.old) (K.faults sink.new) }
+{
+    match why {
+        Fetch::Failed => say_file(alloc, sink, b"readfault", file, Status::ReadFault),
+        Fetch::Missing => say_file(alloc, sink, b"missing", file, Status::Missing),
+        Fetch::TooLong => say_file(alloc, sink, b"toolong", file, Status::TooLong),
+        Fetch::Memory => Status::Memory,
+    }
+}
+
+/// Writes the line of a refusal.
+fn say_refused<K: Sink>(alloc: Global, sink: &mut K, refusal: Refusal) -> Status
+    requires file { IsNamed refusal.file }
+    requires name { HasName refusal }
+    ensures reports { Reports (refused_text refusal) (Status.Refused refusal) (K.taken sink.old) (K.taken sink.new) result }
+    ensures cause { Counts (result ≡ Status.WriteFault) (K.faults sink.old) (K.faults sink.new) }
+{
+    match refused_line(alloc, refusal) {
+        Ok(line) => say(sink, &line, Status::Refused(refusal)),
+        Err(_) => Status::Memory,
+    }
+}
+
+/// Writes the line of a publication that isn't valid.
+fn say_invalid<K: Sink>(alloc: Global, sink: &mut K, run: u32, fault: u8) -> Status
+    ensures reports { Reports (invalid_text run fault) (Status.Invalid run fault) (K.taken sink.old) (K.taken sink.new) result }
+    ensures cause { Counts (result ≡ Status.WriteFault) (K.faults sink.old) (K.faults sink.new) }
+{
+    match pair_line(alloc, b"invalid ", run, u32::from(fault)) {
+        Ok(line) => say(sink, &line, Status::Invalid { run, fault }),
+        Err(_) => Status::Memory,
+    }
+}
+
+/// Writes what is printed of an outcome, and answers its status. A day is cleared by this thread, so that the call
+/// waits for nobody.
+pub fn report<K: Sink>(alloc: Global, sink: &mut K, outcome: &Outcome) -> Status
+    requires { IsReportable outcome.now }
+    ensures reported { Reported outcome.now (K.taken sink.old) (K.taken sink.new) result }
+    ensures cause { Counts (result ≡ Status.WriteFault) (K.faults sink.old) (K.faults sink.new) }
+{
+    match outcome {
+        Outcome::NoCommand => say(sink, usage_line(), Status::Usage),
+        Outcome::Day(job) => clear_alone(alloc, job, sink),
+        Outcome::Text(text) => say(sink, text, Status::Done),
+        Outcome::Invalid { run, fault } => say_invalid(alloc, sink, *run, *fault),
+        Outcome::NoPage(file, why) => say_no_page(alloc, sink, *file, *why),
+        Outcome::Refused(refusal) => say_refused(alloc, sink, *refusal),
+        Outcome::Memory => Status::Memory,
+    }
+}

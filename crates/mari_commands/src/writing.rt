@@ -1,0 +1,65 @@
+//! The lines that the program prints where it prints no day.
+
+ghost use Rattle.std.specs.Prelude.{◌≡◌, OnOk, IfOk, ◌++◌};
+ghost use Rattle.std.specs.Fmt.{decimal};
+ghost use Rattle.mari_day.specs.Files.{IsNamed};
+ghost use Rattle.mari_commands.specs.Printing.{usage_line as usage_text, file_line as file_text, pair_line as pair_text, refused_line as refused_text};
+ghost use Rattle.mari_commands.specs.Refusals.{HasName};
+
+use crate::refusals::check_name;
+use mari_day::file_name;
+use mari_units::{Memory, Refusal, put, put_number};
+use std::alloc::Global;
+
+/// The line that tells how the program is called.
+#[tactic(auto, unfolding(crate::specs::Printing::usage_line))]
+pub fn usage_line() -> &'static [u8]
+    ensures { result.now ≡ usage_text }
+{
+    b"usage: mari clear FOLDER [--nodes N] [--workers K] | mari check FOLDER | mari generate NUMBER | mari migrate FOLDER borders | mari migrate FOLDER limits\n"
+}
+
+/// The line of a file, by its number from 1, whose page can't be had.
+pub fn file_line(alloc: Global, word: &[u8], file: u8) -> Result<Vec<u8>, Memory>
+    requires { IsNamed file }
+    ensures { IfOk result (λ line. line.items ≡ file_text word.now file) }
+{
+    let mut line = Vec::new(alloc);
+    put(&mut line, word)?;
+    put(&mut line, b" ")?;
+    put(&mut line, file_name(file).as_bytes())?;
+    put(&mut line, b"\n")?;
+    Ok(line)
+}
+
+/// The line of a refusal.
+pub fn refused_line(alloc: Global, refusal: Refusal) -> Result<Vec<u8>, Memory>
+    requires file { IsNamed refusal.file }
+    requires name { HasName refusal }
+    ensures { IfOk result (λ line. line.items ≡ refused_text refusal) }
+{
+    let mut line = Vec::new(alloc);
+    put(&mut line, b"refused ")?;
+    put(&mut line, file_name(refusal.file).as_bytes())?;
+    put(&mut line, b" ")?;
+    put_number(alloc, &mut line, u128::from(refusal.line))?;
+    put(&mut line, b" ")?;
+    put_number(alloc, &mut line, u128::from(refusal.number))?;
+    put(&mut line, b" ")?;
+    put(&mut line, check_name(refusal).as_bytes())?;
+    put(&mut line, b"\n")?;
+    Ok(line)
+}
+
+/// A line of two numbers behind a word, which brings its space along.
+pub fn pair_line(alloc: Global, word: &[u8], first: u32, second: u32) -> Result<Vec<u8>, Memory>
+    ensures { IfOk result (λ line. line.items ≡ pair_text word.now first second) }
+{
+    let mut line = Vec::new(alloc);
+    put(&mut line, word)?;
+    put_number(alloc, &mut line, u128::from(first))?;
+    put(&mut line, b" ")?;
+    put_number(alloc, &mut line, u128::from(second))?;
+    put(&mut line, b"\n")?;
+    Ok(line)
+}

@@ -14,7 +14,7 @@ use Rattle.mari_words.specs.Asked.{Asked}
 use Rattle.mari_words.specs.Asked.Asked.{Check, Generate, Migrate}
 use Rattle.mari_words.specs.declared.command.FilePart.{FilePart}
 use Rattle.mari_commands.specs.declared.outcome.Outcome.{Outcome}
-use Rattle.mari_commands.specs.declared.outcome.Outcome.TheVariants.{NoCommand, Day, Text, Invalid, NoPage, Refused, Memory as NoMemory}
+use Rattle.mari_commands.specs.declared.outcome.Outcome.TheVariants.{NoCommand, Day, Feed as Feeds, Text, Invalid, NoPage, Refused, Memory as NoMemory}
 use Rattle.mari_commands.specs.Commands.{ReadsFolder}
 use Rattle.mari_commands.specs.Outcome.{IsMigrated, IsOfWords, IsSummarised, Says, no_books, text_outcome}
 use Rattle.mari_commands.specs.Outcome.Says.{OfRefusal, OfGap, Fails, Starves}
@@ -36,6 +36,7 @@ words-of-fault asked folder why.Memory r = tt
 pub words-of-migrated : (folder : List ℕ) (part : FilePart) (books : Books) (o : Outcome) → IsMigrated books part o → IsOfWords (Some (Migrate folder part)) o
 words-of-migrated folder part books NoCommand is = absurd is
 words-of-migrated folder part books (Day job) is = absurd is
+words-of-migrated folder part books (Feeds other) is = absurd is
 words-of-migrated folder part books (Text t) is = tt
 words-of-migrated folder part books (Invalid run n) is = absurd is
 words-of-migrated folder part books (NoPage n w) is = absurd is
@@ -45,6 +46,7 @@ words-of-migrated folder part books NoMemory is = tt
 pub words-of-summary : (number : ℕ) (o : Outcome) → IsSummarised number o → IsOfWords (Some (Generate number)) o
 words-of-summary number NoCommand is = absurd is
 words-of-summary number (Day job) is = absurd is
+words-of-summary number (Feeds folder) is = absurd is
 words-of-summary number (Text t) is = is
 words-of-summary number (Invalid run n) is = absurd is
 words-of-summary number (NoPage n w) is = absurd is

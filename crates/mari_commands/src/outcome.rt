@@ -13,13 +13,15 @@ pub struct Job {
     pub workers: u32,
 }
 
-/// What the words and the pages come to: no command; a day to clear; a text to print; a publication that isn't valid,
+/// What the words and the pages come to: no command; a day to clear; a folder whose publication is printed as a feed; a
+/// text to print; a publication that isn't valid,
 /// with the first run that has a fault and the fault's number; a file, by its number, whose page can't be had, and
 /// why; a refusal; or no memory.
 #[derive(Drop)]
 pub enum Outcome {
     NoCommand,
     Day(Job),
+    Feed(String),
     Text(Vec<u8>),
     Invalid { run: u32, fault: u8 },
     NoPage(u8, Fetch),

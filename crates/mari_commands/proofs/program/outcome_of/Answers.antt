@@ -1,8 +1,8 @@
-use Rattle.std.proofs.Common.{◌∙◌, Global, Some, ap, map, subst, sym}
+use Rattle.std.proofs.Common.{◌∙◌, Global, Some, ap, map, refl, subst, sym}
 use Rattle.std.specs.Prelude.{string_bytes}
 use Rattle.mari_words.specs.Asked.{asked}
 use Rattle.mari_words.specs.declared.command.Command.{Command}
-use Rattle.mari_commands.specs.Outcome.Says.{OfGenerate}
+use Rattle.mari_commands.specs.Outcome.Says.{OfFeed, OfGenerate}
 use Rattle.mari_commands.proofs.Limits.{IsWithin, within}
 use Rattle.mari_commands.proofs.Telling.{words-of-summary}
 use Rattle.mari_commands.proofs.program.outcome_of.Goals as goal
@@ -39,3 +39,9 @@ returns-in-Ok-Generate-clause-words g c = rw (c.in-Ok-Generate.ensures, c.in-Ok-
 
 pub returns-in-Ok-Migrate-clause-words : goal.returns-in-Ok-Migrate-clause-words
 returns-in-Ok-Migrate-clause-words g c = rw (c.in-Ok-Migrate.ensures, c.in-Ok-Migrate.field-0-is, sym c.deref-in-Ok-Migrate.ensures) c.migrated.ensures.words
+
+pub returns-in-Ok-Feed-clause-told : goal.returns-in-Ok-Feed-clause-told
+returns-in-Ok-Feed-clause-told g c = λ told e. OfFeed c.in-Ok-Feed.folder (c.in-Ok-Feed.ensures ∙ ap (λ (x : Command). Some (asked x)) c.in-Ok-Feed.field-0-is) refl
+
+pub returns-in-Ok-Feed-clause-words : goal.returns-in-Ok-Feed-clause-words
+returns-in-Ok-Feed-clause-words g c = c.in-Ok-Feed.ensures ∙ ap (λ (x : Command). Some (asked x)) c.in-Ok-Feed.field-0-is

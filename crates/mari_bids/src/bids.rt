@@ -22,16 +22,33 @@ const COLUMNS: &str = "id,provider,zone,quarter,direction,price,least,greatest,k
 /// A check of bids.csv.
 #[derive(Clone, Copy, Debug, PartialEq, Eq)]
 pub enum BidCheck {
+    /// A field isn't written as its column asks.
     BadField,
+    /// An earlier line has this id.
     Repeated,
+    /// The zone isn't in zones.csv.
     UnknownZone,
+    /// The day has no such quarter.
     Quarter,
+    /// The price, the least or the greatest quantity lies outside its range.
     Range,
+    /// The least quantity is above the greatest.
     LeastAboveGreatest,
+    /// The quarter has more than `MOST_BIDS` bids.
     TooMany,
 }
 
 impl FileCheck for BidCheck {
+    const ALL: &'static [Self] = &[
+        BidCheck::BadField,
+        BidCheck::Repeated,
+        BidCheck::UnknownZone,
+        BidCheck::Quarter,
+        BidCheck::Range,
+        BidCheck::LeastAboveGreatest,
+        BidCheck::TooMany,
+    ];
+
     ghost number = { bid_check_number };
 
     ghost name = { bid_check_name };
@@ -50,33 +67,40 @@ impl FileCheck for BidCheck {
     }
 }
 
-/// A bid: at least and at most so many whole MW in one quarter hour, at a price in cents per MWh.
-///
-/// Provider and zone are places, from 0; the quarter counts from 1. `least` is as the file states it. A bid that is
-/// not for `both` is for scheduled runs alone.
+/// A bid of one quarter hour.
 #[derive(Clone, Copy, Debug, PartialEq, Eq)]
 pub struct Bid {
+    /// The place of its provider among the providers, from 0.
     pub provider: u32,
+    /// The place of its zone among the zones, from 0.
     pub zone: u32,
+    /// Its quarter hour, from 1.
     pub quarter: u32,
+    /// Whether it is upward: it gives energy. A downward one takes it.
     pub up: bool,
+    /// Its price, in cents per MWh.
     pub price: Cents,
+    /// The least quantity that it may run, in MW, as the file states it.
     pub least: u32,
+    /// The greatest quantity that it may run, in MW.
     pub greatest: u32,
+    /// Whether it is for scheduled and direct runs, and not for scheduled runs alone.
     pub both: bool,
 }
 
-/// The bids in the order of the file, with one name per bid, and the providers in order of first appearance.
+/// The bids in the order of the file.
 #[derive(Debug, Drop)]
 pub struct BidBook {
+    /// The name of each bid.
     pub ids: NameIndex,
+    /// The providers, in order of first appearance.
     pub providers: NameIndex,
+    /// The bids.
     pub bids: Items<Bid>,
 }
 
 impl BidBook {
-    /// The book of a page on a day of so many quarters, or its first refusal.
-    #[tactic(auto, unfolding(crate::specs::Bids::bid_columns))]
+    /// The book of a page on a day of `quarters` quarters, or its first refusal.
     pub fn read(
         alloc: Global,
         bids: &[u8],
@@ -122,7 +146,7 @@ fn has_bad_field(line: &Row) -> bool
         && is_both(line).is_some())
 }
 
-/// The bid of a line behind others with these names, but for the place of its provider, or the first check that fails.
+/// The bid of a line after others with these names, but for the place of its provider, or the first check that fails.
 fn bid_of(zones: &ZoneBook, quarters: u32, ids: &NameIndex, line: &Row) -> Result<Bid, BidCheck>
     ensures bid { (earlier : List Line) → ids.now ≡ map id_of earlier
         → IsRead bid_check_number result (first_failing (bid_checks zones.now quarters earlier line.now)) (bid_at zones.now quarters 0 line.now) }

@@ -1,3 +1,5 @@
+//! The books of zones and borders: what good pages say, and the first refusals of bad ones.
+
 use mari_rows::BookFault;
 use mari_zones::{BorderBook, BorderEnds, ZoneBook, version_of};
 use std::alloc::Global;
@@ -169,7 +171,7 @@ fn borders_without_limits(rt: HostRuntime) -> Result<(), Fail> {
     Ok(())
 }
 
-// Borders from each of the first zones to each of the 60 zones behind them, as many as are wanted.
+// Borders from each of the first zones to each of the 60 zones after them, as many as are wanted.
 fn border_page(alloc: Global, count: u32) -> Result<Vec<u8>, Fail> {
     let mut page = b"from,to,limit,back\n".to_vec(alloc)?;
     for i in 0..count {

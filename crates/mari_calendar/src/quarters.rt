@@ -10,18 +10,28 @@ use crate::date::date_in;
 use jiff_core::civil::{Date, DateTime, Time};
 use jiff_tz::{TimeZone, posix};
 use mari_units::MOST_QUARTERS;
+use thiserror::Error;
 
 /// The seconds of a quarter of an hour.
 const QUARTER: i64 = 900;
 
-/// Why there are no quarter hours: the text is no date; the rule is none; a date or a midnight isn't in the calendar's
-/// range; the day isn't of 1 to `MOST_QUARTERS` whole quarter hours; or no memory, which never comes.
-#[derive(Clone, Copy, Debug, PartialEq, Eq)]
+/// Why there are no quarter hours.
+#[derive(Clone, Copy, Debug, PartialEq, Eq, Error)]
 pub enum CalendarFault {
+    /// The text is no date.
+    #[error("no date")]
     BadDate,
+    /// The rule is no POSIX rule.
+    #[error("no POSIX rule of a clock")]
     BadZoneText,
+    /// The next date, or one of the two midnights, lies outside the calendar's range.
+    #[error("outside the calendar's range")]
     OutOfRange,
+    /// The day isn't of 1 to `MOST_QUARTERS` whole quarter hours.
+    #[error("not 1 to 400 whole quarter hours")]
     NotWholeQuarters,
+    /// Out of memory, which never comes.
+    #[error("out of memory")]
     Memory,
 }
 
@@ -40,7 +50,7 @@ fn midnight(zone: posix::TimeZone, date: Date) -> Result<i64, CalendarFault>
     }
 }
 
-/// So many seconds in quarters of an hour.
+/// Seconds in quarters of an hour.
 fn whole(seconds: i64) -> Result<u32, CalendarFault>
     ensures value { result ≡ whole_quarters seconds }
     ensures range { IfOk result (λ n. (1 ≤ n) × (n ≤ MOST_QUARTERS)) }

@@ -3,10 +3,10 @@ use Rattle.std.proofs.Common.{◌≡◌, ◌∙◌, ◌+◌, ◌<◌, ◌≤◌,
 use Rattle.std.specs.Prelude.{IfErr, IsErrOf}
 use Rattle.std.specs.Option.{option_map}
 use Rattle.std.proofs.lemmas.List.{append-nil}
-use Rattle.mari_io.specs.Outside.{Counts, IsOverlong, IsPiece, OpenTells, counted}
+use Rattle.mari_io.specs.Outside.{Counts, IsOverlong, IsPiece, OpenTells, counted, most_given}
 use Rattle.mari_io.specs.declared.shelf.Fetch.{Fetch}
 use Rattle.mari_io.specs.declared.shelf.Fetch.TheVariants as fetch
-use Rattle.mari_io.specs.declared.shelf.TheConstants.{MOST_GIVEN, MOST_PIECE}
+use Rattle.mari_io.specs.declared.shelf.TheConstants.{MOST_PIECE}
 use Rattle.mari_io.proofs.Counting.{counts_as}
 use Rattle.mari_publish.specs.Faults.{IsOutcome, IsText}
 use Rattle.mari_publish.specs.Paged.{IsLineFault}
@@ -120,7 +120,7 @@ module _ (books : Books) (page rest : Option (List ℕ)) (given : ℕ) (old : St
   piece-fault fetch.Memory not over whole is = tt
   piece-fault fetch.TooLong not over whole is = overlong-page _ _ _ _ u (over refl) whole is
 
-  module _ (piece : List ℕ) (n : ℕ) (many : length piece ≡ n) (within : given + n ≤ MOST_GIVEN) (is_piece : (left : List ℕ) → rest ≡ Some left → IsPiece left [] piece n) where
+  module _ (piece : List ℕ) (n : ℕ) (many : length piece ≡ n) (within : given + n ≤ most_given) (is_piece : (left : List ℕ) → rest ≡ Some left → IsPiece left [] piece n) where
     module _ (whole : List ℕ) (is : page ≡ Some whole) where
       pub push-fault : (f : StreamFault) → LineTells (u.text ++ piece) f → FaultTells (Some whole) f
       push-fault (OfText f) h = line-fault _ _ _ _ u piece n many within is_piece whole is f h
@@ -161,7 +161,7 @@ module _ (books : Books) (page rest : Option (List ℕ)) (given : ℕ) (old : St
       more-read now more left_is given_is = one-piece _ _ _ _ u piece n many within is_piece (ReadsSome books new) (read.parts, read.read) read.no_fault now more left_is given_is
 
       -- that was its end
-      pub last-read : n ≡ 0 → (whole : List ℕ) → page ≡ Some whole → (length whole ≤ MOST_GIVEN) × IsAllRead books whole new
+      pub last-read : n ≡ 0 → (whole : List ℕ) → page ≡ Some whole → (length whole ≤ most_given) × IsAllRead books whole new
       last-read none whole is =
           let l = last-piece _ _ _ _ u piece n many within is_piece none whole is in
           (l.0, subst (λ (xs : List ℕ). IsAllRead books xs new) l.1 read)
@@ -179,7 +179,7 @@ open-fault T (Some page) rest fetch.Missing h = absurd cc
 open-fault T (Some page) rest fetch.TooLong h = absurd h
 open-fault T (Some page) rest fetch.Memory h = tt
 
-pub end-tells : (books : Books) (page : Option (List ℕ)) (bytes : List ℕ) (result : Result Verdict StreamFault) → page ≡ Some bytes → length bytes ≤ MOST_GIVEN → EndTells books bytes result → StreamTells books page result
+pub end-tells : (books : Books) (page : Option (List ℕ)) (bytes : List ℕ) (result : Result Verdict StreamFault) → page ≡ Some bytes → length bytes ≤ most_given → EndTells books bytes result → StreamTells books page result
 end-tells books page bytes result e short h = subst (λ p. StreamTells books p result) (sym e) (own result h)
   where
     own : (r : Result Verdict StreamFault) → EndTells books bytes r → StreamTells books (Some bytes) r

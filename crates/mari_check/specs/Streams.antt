@@ -2,8 +2,8 @@
 use Rattle.std.specs.Prelude.{◌≡◌, ◌<◌, ◌≤◌, ◌⊎◌, ℕ, true, List, [], ◌∷◌, ◌++◌, length, map, take, Option, Some, None, Result, Ok, Err, ⊤}
 use Rattle.mari_io.specs.declared.shelf.Fetch.{Fetch}
 use Rattle.mari_io.specs.declared.shelf.Fetch.TheVariants as fetch
-use Rattle.mari_io.specs.declared.shelf.TheConstants.{MOST_GIVEN, MOST_PIECE}
-use Rattle.mari_io.specs.Outside.{counted}
+use Rattle.mari_io.specs.declared.shelf.TheConstants.{MOST_PIECE}
+use Rattle.mari_io.specs.Outside.{counted, most_given}
 use Rattle.mari_publish.specs.Faults.{IsText, TruncatedAt}
 use Rattle.mari_publish.specs.Paged.{IsLineFault, IsToldFault, IsTooLong}
 use Rattle.mari_publish.specs.Pieces.{NoFault, ComesFrom, parts_of}
@@ -47,7 +47,7 @@ IsVerdictOn books text verdict = (p : Publication) × IsText text p × IsVerdict
 -- the verdict on the publication whose text the page is, which may be given whole
 abbrev pub VerdictTells : Books → Option (List ℕ) → Verdict → Type 0
 VerdictTells books None verdict = ⊥
-VerdictTells books (Some page) verdict = (length page ≤ MOST_GIVEN) × IsVerdictOn books page verdict
+VerdictTells books (Some page) verdict = (length page ≤ most_given) × IsVerdictOn books page verdict
 
 -- what the check says of the page of a name, where pages are told
 abbrev pub StreamTells : Books → Option (List ℕ) → Result Verdict StreamFault → Type 0
@@ -170,7 +170,7 @@ PushTells books text stream (Err why) = LineTells text why
 
 -- what is told when the page was read to its end, or as far as could be
 abbrev pub PiecesTell : {T : Type 0} → Books → List ℕ → Stream → Result T StreamFault → Type 0
-PiecesTell books page stream (Ok done) = (length page ≤ MOST_GIVEN) × IsAllRead books page stream
+PiecesTell books page stream (Ok done) = (length page ≤ most_given) × IsAllRead books page stream
 PiecesTell books page stream (Err why) = FaultTells (Some page) why
 
 -- what is told at the end of a text

@@ -34,14 +34,18 @@ use mari_units::{Memory, Quarters};
 use mari_welfare::{is_consistent, is_feasible, welfare};
 use std::alloc::Global;
 
-/// The least fault of a published block; or, where it has none, the activation and the prices that it tells, and the
-/// ledger of its run.
+/// What the examination of a published block comes to.
 #[derive(Drop)]
 pub enum Examined {
+    /// It has faults: the least of them.
     Faulty(Fault),
+    /// It has none.
     Sound {
+        /// The activation that it states.
         activation: Activation,
+        /// The published prices that it states, one for each zone.
         prices: Prices,
+        /// The ledger of its run.
         ledger: Ledger,
     },
 }
@@ -236,7 +240,7 @@ pub(crate) fn examine(
 /// The number of the least fault of a published block, or none exactly where it has none: of its heading, its lines,
 /// its activation, its welfare, its prices, intervals and areas, its tree and its ledger.
 ///
-/// The caller gives the market, which is that of this run behind any blocks of the first runs, and the scheduled
+/// The caller gives the market, which is that of this run after any blocks of the first runs, and the scheduled
 /// prices, which may be any prices of that market or none. The check of a publication takes both from the blocks
 /// before the run's. The number of the tree's items isn't tested here.
 pub fn check_run(

@@ -1,6 +1,6 @@
 //! The check of a day, block by block.
 
-ghost use Rattle.std.specs.Prelude.{◌≡◌, ◌≤◌, ◌+◌, ◌++◌, ◌∷◌, [], List, None, Ok, IfOk, IsTrue, ◌↔◌, length};
+ghost use Rattle.std.specs.Prelude.{◌≡◌, ◌≤◌, ◌+◌, ◌++◌, ◌∷◌, [], List, None, Ok, IfOk, OnErr, IsTrue, ◌↔◌, length};
 ghost use Rattle.mari_remain.specs.Accepted.{IsAccepted};
 ghost use Rattle.mari_progress.specs.Behind.{run_behind};
 ghost use Rattle.mari_progress.specs.Progress.{published_block};
@@ -8,7 +8,6 @@ ghost use Rattle.mari_progress.specs.Totals.{HasHead};
 ghost use Rattle.mari_check.specs.Checked.{FindsHead, IsChecked, IsTested, unpublished_block};
 ghost use Rattle.mari_check.specs.Day.{FillsBudget, IsFreeIn, IsNextHeading};
 ghost use Rattle.mari_check.specs.Faults.{Finds, FindsNumber};
-ghost use Rattle.mari_publish.specs.declared.publication.Publication.{Publication as ThePublication};
 ghost use Rattle.mari_publish.specs.declared.publication.Block.{Block as PrintedBlock};
 
 use crate::block::{Examined, examine};
@@ -19,19 +18,23 @@ use mari_remain::Books;
 use mari_units::{MOST_RUNS, Memory, Name};
 use std::alloc::Global;
 
-/// The least fault of a published block, or what it adds where it has none.
+/// What the test of a published block comes to.
 #[derive(Drop)]
 pub enum Tested {
+    /// It has faults: the least of them.
     Faulty(Fault),
+    /// It has none: what it adds to its day.
     Sound(SettledRun),
 }
 
-/// What the check of a day keeps between its blocks: the budget, what a day keeps, and how many of the blocks so far
-/// aren't published.
+/// What the check of a day keeps between its blocks.
 #[derive(Drop)]
 pub struct DayCheck {
+    /// The budget of nodes that the head of the publication states.
     pub budget: u32,
+    /// What a day keeps of the blocks so far.
     pub progress: Progress,
+    /// How many of the blocks so far aren't published.
     pub unpublished: u32,
 }
 
@@ -49,11 +52,11 @@ impl DayCheck {
         })
     }
 
-    /// Takes the budget, and tells fault 1 exactly where the date or the quarters aren't those of the books. It is
+    /// Takes the budget, and reports fault 1 exactly where the date or the quarters aren't those of the books. It is
     /// called once, before any block.
     pub fn head(&mut self, books: &Books, date: &Name, quarters: u32, budget: u32) -> Option<u8>
         requires { IsChecked books.now [] self.old }
-        ensures finds { (p : ThePublication) → p.date ≡ date.now → p.quarters ≡ quarters → FindsHead (HasHead books.now p.date p.quarters) result }
+        ensures finds { FindsHead (HasHead books.now date.now quarters) result }
         ensures stands { IsChecked books.now [] self.new }
         ensures budget { self.new.budget ≡ budget }
     {
@@ -64,7 +67,7 @@ impl DayCheck {
         None
     }
 
-    /// The run behind the blocks so far.
+    /// The run after the blocks so far.
     pub(crate) fn next_run(&self) -> u32
         requires { self.now.progress.published + self.now.unpublished ≤ MOST_RUNS }
         ensures { result ≡ self.now.progress.published + self.now.unpublished + 1 }
@@ -115,6 +118,7 @@ impl DayCheck {
         ensures finds { (blocks : List PrintedBlock) → IsChecked books.now blocks self.old → IfOk result (Finds (IsFreeIn books.now self.old.budget blocks (published_block block.now))) }
         ensures stands { (blocks : List PrintedBlock) → IsChecked books.now blocks self.old → result ≡ Ok None → IsChecked books.now (blocks ++ published_block block.now ∷ []) self.new }
         ensures budget { self.new.budget ≡ self.old.budget }
+        ensures same { OnErr result (self.new ≡ self.old) }
     {
         let run = self.next_run();
         if run > run_count(books) {
@@ -129,7 +133,7 @@ impl DayCheck {
         }
     }
 
-    /// Whether a heading is that of the run behind the blocks so far.
+    /// Whether a heading is that of the run after the blocks so far.
     fn is_next(&self, books: &Books, told: Heading) -> bool
         requires accepted { IsAccepted books.now }
         requires stands { (blocks : List PrintedBlock) × IsChecked books.now blocks self.now }
@@ -181,6 +185,7 @@ impl DayCheck {
         ensures finds { (blocks : List PrintedBlock) → IsChecked books.now blocks self.old → IfOk result (Finds (IsFreeIn books.now self.old.budget blocks block.now)) }
         ensures stands { (blocks : List PrintedBlock) → IsChecked books.now blocks self.old → result ≡ Ok None → IsChecked books.now (blocks ++ block.now ∷ []) self.new }
         ensures budget { self.new.budget ≡ self.old.budget }
+        ensures same { OnErr result (self.new ≡ self.old) }
     {
         match block {
             Block::Published(full) => self.take_published(alloc, books, full),
@@ -188,8 +193,8 @@ impl DayCheck {
         }
     }
 
-    /// The number of the least fault of the block behind those so far, or none exactly where it has none; the check
-    /// then stands for one block more. No fault was found before.
+    /// The number of the least fault of the block after those so far, or none exactly where it has none; the check
+    /// then stands for one block more. No fault was found before. Out of memory, the block can be checked again.
     pub fn block(
         &mut self,
         alloc: Global,
@@ -201,6 +206,9 @@ impl DayCheck {
         ensures finds { (blocks : List PrintedBlock) → IsChecked books.now blocks self.old → IfOk result (FindsNumber (IsFreeIn books.now self.old.budget blocks block.now)) }
         ensures stands { (blocks : List PrintedBlock) → IsChecked books.now blocks self.old → result ≡ Ok None → IsChecked books.now (blocks ++ block.now ∷ []) self.new }
         ensures budget { self.new.budget ≡ self.old.budget }
+
+        // Out of memory, what is kept is as before.
+        ensures same { OnErr result (self.new ≡ self.old) }
     {
         match self.take(alloc, books, block)? {
             Some(fault) => Ok(Some(fault.number())),
@@ -216,7 +224,7 @@ fn is_same(told: Heading, other: Heading) -> bool
     told == other
 }
 
-/// Whether so many nodes fill the budget, so that two more are above it.
+/// Whether a number of nodes fills the budget, so that two more are above it.
 fn fills_budget(budget: u32, count: u32) -> bool
     ensures { IsTrue result ↔ FillsBudget budget count }
 {

@@ -4,7 +4,7 @@ ghost use Rattle.std.specs.Prelude.{◌≡◌};
 ghost use Rattle.mari_check.specs.Faults.{fault_number};
 
 /// What can be wrong with the first line, a block or the totals of a printed day. Of several faults the one with the
-/// least number is told.
+/// least number is reported.
 #[derive(Clone, Copy, Debug, Drop, PartialEq, Eq)]
 pub enum Fault {
     /// The run, its quarter or its kind isn't that of the book of runs at this place; there is a block too few or too

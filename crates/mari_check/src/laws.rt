@@ -17,7 +17,7 @@ ghost use Rattle.mari_check.specs.declared.fault.Fault.{Fault as TheFault};
 
 use mari_remain::Books;
 
-/// A published block that has none of the faults tells the first activation of its run's market, with its welfare, the
+/// A published block that has none of the faults states the first activation of its run's market, with its welfare, the
 /// prices, which together are consistent with it, the intervals and areas, and the ledger. In it the operators' nets
 /// sum to 0, and no rent is negative.
 ///
@@ -31,7 +31,7 @@ pub fn free_blocks_show(books: &Books)
 }
 
 /// Over the blocks of a valid publication no bid runs above its offer, and a gated one in at most one block; and each
-/// published block shows its run, behind the blocks before it: so its operators' nets sum to 0, and no rent is
+/// published block shows its run, after the blocks before it: so its operators' nets sum to 0, and no rent is
 /// negative. The nets of the totals sum to 0 too.
 ///
 /// The call does nothing: its contract is the law.

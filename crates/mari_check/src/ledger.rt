@@ -23,14 +23,14 @@ use mari_settle::{Ledger, OperatorLine};
 use mari_units::{Memory, Quarters};
 use std::alloc::Global;
 
-/// Whether a border's line tells this rent.
+/// Whether a border's line states this rent.
 fn is_rent(line: &BorderLine, rent: Quarters) -> bool
     ensures { IsTrue result ↔ TellsRent line.now rent }
 {
     line.rent == rent
 }
 
-/// Whether the lines tell these rents.
+/// Whether the lines state these rents.
 fn are_rents(lines: &[BorderLine], rents: &[Quarters]) -> bool
     ensures { IsTrue result ↔ AllZip TellsRent lines.now rents.now }
 {
@@ -45,7 +45,7 @@ fn are_rents(lines: &[BorderLine], rents: &[Quarters]) -> bool
     true
 }
 
-/// Whether a line tells the name at a place, and an operator's payment, rent and net.
+/// Whether a line states the name at a place, and an operator's payment, rent and net.
 fn is_money_line(line: &MoneyLine, names: &NameIndex, place: u32, own: OperatorLine) -> bool
     requires { LineIsWithin (10 ^ 30) own }
     ensures { IsTrue result ↔ (line.now ≡ money_line (name_at names.now place) own) }
@@ -77,7 +77,7 @@ pub(crate) fn are_money_lines(lines: &[MoneyLine], names: &NameIndex, own: &[Ope
     true
 }
 
-/// Whether a line tells the name of a provider, and its amount.
+/// Whether a line states the name of a provider, and its amount.
 fn is_amount_line(line: &AmountLine, names: &NameIndex, amounts: &[Quarters], place: u32) -> bool
     requires { place < length amounts.now }
     ensures { IsTrue result ↔ (line.now ≡ amount_line names.now amounts.now place) }
@@ -125,7 +125,7 @@ pub(crate) fn are_total_lines(lines: &[AmountLine], names: &NameIndex, amounts: 
     true
 }
 
-/// The ledger of the block's run, where the block tells it.
+/// The ledger of the block's run, where the block states it.
 pub(crate) fn told_ledger(
     alloc: Global,
     books: &Books,
@@ -139,7 +139,7 @@ pub(crate) fn told_ledger(
     requires accepted { IsAccepted books.now }
     requires made { IsMarketOf books.now made.now }
 
-    // What the block tells of it was tested; the scheduled prices come with it if there are any.
+    // What the block says of it was tested; the scheduled prices come with it if there are any.
     requires activation { activation.now ≡ activation_told block.now }
     requires prices { prices.now.cents ≡ prices_told block.now }
     requires feasible { IsFeasible made.now.market activation.now }
@@ -160,7 +160,7 @@ pub(crate) fn told_ledger(
     Ok(Some(ledger))
 }
 
-/// Whether the block tells this ledger, and of the providers those at these places.
+/// Whether the block states this ledger, and of the providers those at these places.
 fn tells_ledger(books: &Books, block: &FullBlock, ledger: &Ledger, places: &[u32]) -> bool
     requires operators { length ledger.now.operators ≡ length books.now.zones.operators }
     requires providers { length ledger.now.providers ≡ length books.now.bids.providers }

@@ -1,9 +1,9 @@
 //! The check of a printed day against its books, by whoever reads it.
 //!
 //! The crate stands on the definitions and on plain tests, and on nothing that clears a market: what the tests answer
-//! is all that a reader has to trust. Its promise: of each block the least fault is told, exactly where one is there,
+//! is all that a reader has to trust. Its promise: of each block the least fault is reported, exactly where one is there,
 //! whoever printed it; and of a whole publication the first run that has a fault, or that there is none. Of one that
-//! is read in pieces it tells the same.
+//! is read in pieces it reports the same.
 #![tactic(auto)]
 
 mod areas;

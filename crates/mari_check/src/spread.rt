@@ -8,7 +8,7 @@ ghost use Rattle.mari_market.specs.Along.{LeadsOver, LeadsTo};
 
 use mari_market::{Along, Border};
 
-/// Raises the second zone's value to that of the first, and tells whether it was below.
+/// Raises the second zone's value to that of the first, and answers whether it was below.
 fn raise(values: &mut [u64], from: u32, to: u32) -> bool
     requires from { from < length values.old }
     requires to { to < length values.old }
@@ -35,7 +35,7 @@ fn raise_if(leads: bool, values: &mut [u64], from: u32, to: u32) -> bool
     }
 }
 
-/// Raises the values at both ends of a border as far as it leads, and tells whether one was raised.
+/// Raises the values at both ends of a border as far as it leads, and answers whether one was raised.
 fn over_border(values: &mut [u64], border: &Border, flow: i64, along: Along) -> bool
     requires from { border.now.from < length values.old }
     requires to { border.now.to < length values.old }
@@ -54,7 +54,7 @@ fn over_border(values: &mut [u64], border: &Border, flow: i64, along: Along) -> 
     on || back
 }
 
-/// Goes over all borders once, and tells whether a value was raised.
+/// Goes over all borders once, and answers whether a value was raised.
 fn round(values: &mut [u64], borders: &[Border], flow: &[i64], along: Along) -> bool
     requires lengths { length flow.now ≡ length borders.now }
     requires ends { All (IsBetween (length values.old)) borders.now }

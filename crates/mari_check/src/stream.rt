@@ -19,16 +19,18 @@ use mari_remain::Books;
 use mari_units::Memory;
 use std::alloc::Global;
 
-/// Why there is no verdict: the shelf gave no page or no further piece, the text is that of no publication, or there
-/// was no memory, which is never told as a fault of the shelf or of the text.
+/// Why there is no verdict.
 #[derive(Clone, Copy, Debug, PartialEq, Eq)]
 pub enum StreamFault {
+    /// The shelf gave no page, or no further piece.
     Fetch(Fetch),
+    /// The text is that of no publication.
     Text(TextFault),
+    /// Out of memory, which is never reported as a fault of the shelf or of the text.
     Memory,
 }
 
-/// What a fault of the shelf is told as. One of memory is told as that alone.
+/// What a fault of the shelf is reported as. One of memory is reported as that alone.
 fn fault_of_shelf(fault: Fetch) -> StreamFault
     ensures { result ≡ fault_of_fetch fault }
 {
@@ -38,7 +40,7 @@ fn fault_of_shelf(fault: Fetch) -> StreamFault
     }
 }
 
-/// What a fault of the text is told as. One of memory is told as that alone.
+/// What a fault of the text is reported as. One of memory is reported as that alone.
 fn fault_of_reader(fault: TextFault) -> StreamFault
     ensures { result ≡ fault_of_text fault }
 {
@@ -49,7 +51,7 @@ fn fault_of_reader(fault: TextFault) -> StreamFault
 }
 
 impl DayCheck {
-    /// The verdict as soon as this part settles it, behind parts that didn't.
+    /// The verdict as soon as this part settles it, after parts that didn't.
     fn part(&mut self, alloc: Global, books: &Books, part: &Part) -> Result<Option<Verdict>, Memory>
         requires accepted { IsAccepted books.now }
         requires comes { (parts : List ThePart) × IsOpen books.now parts self.old × Comes parts part.now }
@@ -73,12 +75,14 @@ impl DayCheck {
     }
 }
 
-/// A publication as far as it has come: the reader of its text, the check of its day, and the verdict once it is
-/// settled.
+/// A publication as far as it has come.
 #[derive(Drop)]
 pub struct Stream {
+    /// The reader of its text.
     pub reader: TextReader,
+    /// The check of its day.
     pub day: DayCheck,
+    /// The verdict, once it is settled.
     pub found: Option<Verdict>,
 }
 
@@ -175,7 +179,7 @@ fn read_pieces<S: Shelf>(
     ensures told { (page : List ℕ) → S.rest shelf.old ≡ Some page → PiecesTell books.now page stream.new result }
     ensures stops { (page : List ℕ) → S.rest shelf.old ≡ Some page → IfErr result (FaultStops S.rest S.fetches page shelf.new) }
 
-    // Why it wasn't read to its end. Want of memory is told as such.
+    // Why it wasn't read to its end. Out of memory is reported as such.
     ensures memory { IsWrappedMemory result → ⊥ }
     ensures failed { Counts (IsStreamFetch fetch.Failed result) (S.faults shelf.old) (S.faults shelf.new) }
     ensures missing { Counts (IsStreamFetch fetch.Missing result) (S.misses shelf.old) (S.misses shelf.new) }
@@ -213,10 +217,10 @@ pub fn check_stream<S: Shelf>(
     ensures told { (told : Pages) → S.pages shelf.old ≡ Some told → StreamTells books.now (page_of told name.now) result }
     ensures whole { (told : Pages) (page : List ℕ) (answer : Res ThePublication TheTextFault) → S.pages shelf.old ≡ Some told → page_of told name.now ≡ Some page → IsOutcome page answer → SameAsRead books.now answer result }
 
-    // Behind a fault of a line nothing more is read.
+    // After a fault of a line nothing more is read.
     ensures stops { (told : Pages) (page : List ℕ) → S.pages shelf.old ≡ Some told → page_of told name.now ≡ Some page → IfErr result (FaultStops S.rest S.fetches page shelf.new) }
 
-    // Why there is no verdict. Want of memory is told as such.
+    // Why there is no verdict. Out of memory is reported as such.
     ensures memory { IsWrappedMemory result → ⊥ }
     ensures failed { Counts (IsStreamFetch fetch.Failed result) (S.faults shelf.old) (S.faults shelf.new) }
     ensures missing { Counts (IsStreamFetch fetch.Missing result) (S.misses shelf.old) (S.misses shelf.new) }

@@ -1,4 +1,4 @@
-//! What a block tells of its run.
+//! What a block says of its run.
 
 ghost use Rattle.std.specs.Prelude.{◌≡◌, IfOk, map};
 ghost use Rattle.mari_lines.specs.declared.line.BidLine.{BidLine as TheBidLine};
@@ -35,7 +35,7 @@ fn cents_of(alloc: Global, lines: &[ZoneLine]) -> Result<Vec<Cents>, Memory>
     Ok(cents)
 }
 
-/// The activation that a block tells.
+/// The activation that a block states.
 pub(crate) fn activation_of(alloc: Global, block: &FullBlock) -> Result<Activation, Memory>
     ensures { IfOk result (λ activation. activation ≡ activation_told block.now) }
 {
@@ -48,7 +48,7 @@ pub(crate) fn activation_of(alloc: Global, block: &FullBlock) -> Result<Activati
     })
 }
 
-/// The prices that it tells.
+/// The prices that it states.
 pub(crate) fn prices_of(alloc: Global, block: &FullBlock) -> Result<Prices, Memory>
     ensures { IfOk result (λ prices. prices.cents ≡ prices_told block.now) }
 {
@@ -58,7 +58,7 @@ pub(crate) fn prices_of(alloc: Global, block: &FullBlock) -> Result<Prices, Memo
     })
 }
 
-/// The least prices that it tells.
+/// The least prices that it states.
 pub(crate) fn least_of(alloc: Global, block: &FullBlock) -> Result<Vec<Cents>, Memory>
     ensures { IfOk result (λ cents. cents.items ≡ least_told block.now) }
 {
@@ -67,7 +67,7 @@ pub(crate) fn least_of(alloc: Global, block: &FullBlock) -> Result<Vec<Cents>, M
     Ok(cents)
 }
 
-/// The greatest prices that it tells.
+/// The greatest prices that it states.
 pub(crate) fn greatest_of(alloc: Global, block: &FullBlock) -> Result<Vec<Cents>, Memory>
     ensures { IfOk result (λ cents. cents.items ≡ greatest_told block.now) }
 {
@@ -76,7 +76,7 @@ pub(crate) fn greatest_of(alloc: Global, block: &FullBlock) -> Result<Vec<Cents>
     Ok(cents)
 }
 
-/// The numbers of areas that it tells.
+/// The numbers of areas that it states.
 pub(crate) fn areas_of(alloc: Global, block: &FullBlock) -> Result<Vec<u32>, Memory>
     ensures { IfOk result (λ areas. areas.items ≡ areas_told block.now) }
 {

@@ -35,7 +35,7 @@ fn behind(market: &Market, prefix: &Prefix, item: &TreeItem) -> Option<Prefix>
 
 /// Whether the items are those of a whole tree, whatever its leaves say.
 ///
-/// A branch stands only where a gate is left to decide, its children's parts stand behind it, and no item is missing
+/// A branch stands only where a gate is left to decide, its children's parts stand after it, and no item is missing
 /// or left over.
 pub(crate) fn has_shape(market: &Market, tree: &[TreeItem]) -> bool
     requires { IsValid market.now }

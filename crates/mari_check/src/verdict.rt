@@ -17,9 +17,9 @@ use mari_remain::Books;
 use mari_units::{Memory, Name};
 use std::alloc::Global;
 
-/// A publication is valid, with so many published runs and so many that aren't; or the first run that has a fault, and
-/// the number of its least one. Run 0 is told where the first line isn't that of the books, the first run without a
-/// block where one is missing, the number behind the last run where there is a block too many, and the last run, or 0
+/// A publication is valid, with its numbers of published runs and of others; or the first run that has a fault, and
+/// the number of its least one. Run 0 is reported where the first line isn't that of the books, the first run without a
+/// block where one is missing, the number after the last run where there is a block too many, and the last run, or 0
 /// where there is none, where the totals are other sums.
 #[derive(Clone, Copy, Debug, Drop, PartialEq, Eq)]
 pub enum Verdict {
@@ -95,7 +95,7 @@ impl DayCheck {
         }
     }
 
-    /// The verdict where the block behind those so far has a fault. No fault was found before.
+    /// The verdict where the block after those so far has a fault. No fault was found before.
     pub(crate) fn block_verdict(
         &mut self,
         alloc: Global,
@@ -115,7 +115,7 @@ impl DayCheck {
         }
     }
 
-    /// The first fault of these blocks, behind none.
+    /// The first fault of these blocks, after none.
     fn all_blocks(
         &mut self,
         alloc: Global,

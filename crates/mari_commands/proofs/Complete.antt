@@ -4,8 +4,7 @@ use Rattle.std.specs.Prelude.{◌==◌, ◌≢◌, ◌≤◌, length, take, Bool
 use lib.Chars.{codes}
 use Rattle.mari_units.specs.declared.faults.Refusal.{Refusal}
 use Rattle.mari_io.specs.declared.shelf.Fetch.TheVariants as fetch
-use Rattle.mari_io.specs.declared.shelf.TheConstants.{MOST_GIVEN}
-use Rattle.mari_io.specs.Outside.{Pages, page_of}
+use Rattle.mari_io.specs.Outside.{Pages, page_of, most_given}
 use Rattle.mari_publish.specs.declared.fault.TextFault.{TextFault}
 use Rattle.mari_publish.specs.declared.fault.TextFault.TheVariants as text_fault
 use Rattle.mari_publish.specs.declared.publication.Publication.{Publication}
@@ -111,7 +110,7 @@ one-fault page f text_fault.Memory bad other = absurd other
 -- of a page that is too long no fault is told
 long-none : (page : List ℕ) (f : TextFault) → IsTooLong page → IsToldFault page f → ⊥
 long-none page f long (of-page short bad) = omega (arith, long.longer, short)
-long-none page f long (of-given more bad) = no-line-fault (take MOST_GIVEN page) f long.no_fault bad
+long-none page f long (of-given more bad) = no-line-fault (take most_given page) f long.no_fault bad
 
 -- why a publication that is printed as a feed can't be had
 abbrev IsFeedGap : Option (List ℕ) → Gap → Type 0
@@ -275,7 +274,7 @@ module _ (asked : Option Asked) (pages : Pages) where
   feed-comes o folder (Starves e) c = inr (subst IsExcused (sym e) tt)
 
   -- a publication that is read
-  verdict-of : (o : Outcome) (books : Books) (page : List ℕ) (p : Publication) → CheckTells books (Some page) o → IsText page p → length page ≤ MOST_GIVEN → Comes IsAVerdict o
+  verdict-of : (o : Outcome) (books : Books) (page : List ℕ) (p : Publication) → CheckTells books (Some page) o → IsText page p → length page ≤ most_given → Comes IsAVerdict o
   verdict-of NoCommand books page p tells is short = absurd tells
   verdict-of (Day job) books page p tells is short = absurd tells
   verdict-of (Feeds folder) books page p tells is short = absurd tells
@@ -459,7 +458,7 @@ module _ (shown : Option Pages) (late : Type 0) (before after : Option (List ℕ
   fed-refused page f bad between (Err stop.Sink) t r = inr (inr (inl r.0))
   fed-refused page f bad between (Err stop.Memory) t r = inr (inr (inr r.0))
 
-  fed-whole : (page : List ℕ) (p : Publication) → IsText page p → length page ≤ MOST_GIVEN → (between : Option (List ℕ)) (end : Result (Unit {0}) FeedStop) → FeedTells (Some page) before between end → ReportsFeed end between after result → OrFault (IsStatus status.Done) result
+  fed-whole : (page : List ℕ) (p : Publication) → IsText page p → length page ≤ most_given → (between : Option (List ℕ)) (end : Result (Unit {0}) FeedStop) → FeedTells (Some page) before between end → ReportsFeed end between after result → OrFault (IsStatus status.Done) result
   fed-whole page p is short between (Ok end) t r = inl r.0
   fed-whole page p is short between (Err (stop.Fetch fetch.Failed)) t r = fetch-failed (IsStatus status.Done) between r
   fed-whole page p is short between (Err (stop.Fetch fetch.Missing)) t r = absurd t

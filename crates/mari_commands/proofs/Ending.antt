@@ -5,8 +5,7 @@ use Rattle.std.specs.Prelude.{◌==◌, ◌≤◌, Bool, true, false, if◌then�
 use lib.Chars.{codes}
 use Rattle.mari_units.specs.declared.faults.Refusal.{Refusal}
 use Rattle.mari_io.specs.declared.shelf.Fetch.TheVariants as fetch
-use Rattle.mari_io.specs.declared.shelf.TheConstants.{MOST_GIVEN}
-use Rattle.mari_io.specs.Outside.{Pages, page_of}
+use Rattle.mari_io.specs.Outside.{Pages, page_of, most_given}
 use Rattle.mari_publish.specs.declared.publication.Publication.{Publication}
 use Rattle.mari_publish.specs.Faults.{IsText}
 use Rattle.mari_publish.specs.Lines.{published_in}
@@ -53,7 +52,7 @@ module _ (asked : Option Asked) where
   publication : (pages : Pages) (folder : List ℕ) (books : Books) (page : List ℕ) → asked ≡ Some (Check folder) → HasBooks pages folder books → page_of pages (publication_path folder) ≡ Some page → HasPublication asked pages books page
   publication pages folder books page c g h = record { folder = folder; check = c; gives = g; held = h }
 
-  abbrev readable : (pages : Pages) (folder : List ℕ) (books : Books) (page : List ℕ) (p : Publication) → asked ≡ Some (Check folder) → HasBooks pages folder books → page_of pages (publication_path folder) ≡ Some page → length page ≤ MOST_GIVEN → IsText page p
+  abbrev readable : (pages : Pages) (folder : List ℕ) (books : Books) (page : List ℕ) (p : Publication) → asked ≡ Some (Check folder) → HasBooks pages folder books → page_of pages (publication_path folder) ≡ Some page → length page ≤ most_given → IsText page p
       → IsReadable asked pages
   readable pages folder books page p c g h short read = record { books = books; page = page; publication = p; checked = publication pages folder books page c g h; short = short; read = read }
 

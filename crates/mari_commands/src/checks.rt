@@ -7,12 +7,21 @@ use mari_rows::FileCheck;
 /// A check of a publication's text.
 #[derive(Clone, Copy, Debug, PartialEq, Eq)]
 pub enum TextCheck {
+    /// A line has no form that a day has.
     BadLine,
+    /// A line has a form, but can't stand where it stands.
     BadOrder,
+    /// The text is cut off.
     Truncated,
 }
 
 impl FileCheck for TextCheck {
+    const ALL: &'static [Self] = &[
+        TextCheck::BadLine,
+        TextCheck::BadOrder,
+        TextCheck::Truncated,
+    ];
+
     ghost number = { text_check_number };
 
     ghost name = { text_check_name };
@@ -30,10 +39,13 @@ impl FileCheck for TextCheck {
 /// A check of a folder that is migrated. It is told of borders.csv, beside the checks of that file.
 #[derive(Clone, Copy, Debug, PartialEq, Eq)]
 pub enum MigrationCheck {
+    /// The borders leave their limits to limits.csv already.
     AlreadyTwo,
 }
 
 impl FileCheck for MigrationCheck {
+    const ALL: &'static [Self] = &[MigrationCheck::AlreadyTwo];
+
     ghost number = { migration_check_number };
 
     ghost name = { migration_check_name };

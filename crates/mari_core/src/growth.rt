@@ -12,12 +12,12 @@ ghost use Rattle.mari_core.specs.Growth.Entry.{Take, Close, Branch, Full, GiveBa
 ghost use Rattle.mari_core.specs.declared.event.StepFault.TheVariants.{Memory as NoStepMemory};
 ghost use Rattle.mari_core.specs.declared.node.NodeState.TheVariants.{Taken};
 ghost use Rattle.mari_core.specs.Nodes.{words_of, word_at, state_at};
-ghost use Rattle.mari_core.specs.Preorder.{IsPart, IsTree, IsOpenFault, shape_of};
+ghost use Rattle.mari_core.specs.Preorder.{IsPart, IsPreorder, IsTree, IsOpenFault, shape_of};
 
 use crate::event::{FinishFault, StepFault};
 use crate::journal::JournalEntry;
 use crate::node::{Node, NodeState};
-use crate::preorder::{finished_items, part_items};
+use crate::preorder::{finished_items, part_items, preorder};
 use mari_gates::{child_of, empty_prefix, may_branch_up};
 use mari_market::{Finding, Leaf, Market, PartItem, Prefix, Relaxed, TreeItem};
 use mari_units::{MOST_NODES, Memory};
@@ -352,6 +352,13 @@ impl<'m> Growth<'m> {
             }
             None => Ok(self.branch_or_mark(actor, node, cutoff)),
         }
+    }
+
+    /// The numbers of all nodes in preorder.
+    pub fn preorder(&self, alloc: Global) -> Result<Vec<u32>, Memory>
+        ensures { IfOk result (λ v. IsPreorder self.now.nodes v.items) }
+    {
+        preorder(alloc, &self.nodes)
     }
 
     /// The nodes in preorder: branched, closed, or neither.

@@ -24,7 +24,7 @@ fn push_children(waiting: &mut Vec<u32>, state: &NodeState) -> Result<(), Memory
 }
 
 /// The numbers of all nodes in preorder.
-fn preorder(alloc: Global, nodes: &[Node]) -> Result<Vec<u32>, Memory>
+pub(crate) fn preorder(alloc: Global, nodes: &[Node]) -> Result<Vec<u32>, Memory>
     requires { HasPreorder nodes.now }
     ensures { IfOk result (λ v. IsPreorder nodes.now v.items) }
 {

@@ -13,7 +13,7 @@ ghost use Rattle.mari_core.specs.Machine.{started, new_actor, seeing, offering, 
 ghost use Rattle.mari_core.specs.declared.event.Event.TheVariants.{Look, Offer, Take, Settle, GiveBack};
 ghost use Rattle.mari_core.specs.declared.event.StepFault.TheVariants.{Memory as NoStepMemory};
 ghost use Rattle.mari_core.specs.Nodes.{words_of};
-ghost use Rattle.mari_core.specs.Preorder.{IsPart, IsTree, IsOpenFault, shape_of};
+ghost use Rattle.mari_core.specs.Preorder.{IsPart, IsPreorder, IsTree, IsOpenFault, shape_of};
 
 use crate::event::{Event, FinishFault, StepFault};
 use crate::growth::Growth;
@@ -240,6 +240,7 @@ impl<'m> Search<'m> {
     }
 
     /// The least number of a node that waits.
+    /// Searches take the node of the greatest bound, by a queue; this one is the machine's own.
     pub fn untaken(&self) -> Option<u32>
         ensures { MatchOption result (NoneWaits self.now.tree.nodes) (IsLeastUntaken self.now.tree.nodes) }
     {
@@ -271,6 +272,13 @@ impl<'m> Search<'m> {
         ensures larger { result ≡ true → IsLarger self.now.tree.market self.now.tree.budget }
     {
         self.tree.is_full()
+    }
+
+    /// The numbers of all nodes in preorder.
+    pub fn preorder(&self, alloc: Global) -> Result<Vec<u32>, Memory>
+        ensures { IfOk result (λ v. IsPreorder self.now.tree.nodes v.items) }
+    {
+        self.tree.preorder(alloc)
     }
 
     /// The nodes in preorder: branched, closed, or neither. Where the search is full they are a part of the search

@@ -12,3 +12,5 @@ pub mod Progressing
 pub mod Keeping
 pub mod Enough
 pub mod Texts
+pub mod Migrated
+pub mod MigratedFolder

@@ -12,3 +12,4 @@ pub mod Assembled
 pub mod Progress
 pub mod Stepped
 pub mod Keeps
+pub mod Migrating

@@ -25,22 +25,27 @@ use mari_settle::Ledger;
 use mari_units::{Items, MOST_NODES, Memory, Quarters};
 use std::alloc::Global;
 
-/// What is published of a clearing besides itself: its prices, the area of each zone, and its ledger.
+/// What is published of a clearing besides itself.
 #[derive(Drop)]
 pub struct Priced {
+    /// The least, the greatest and the published price of each zone.
     pub pricing: Pricing,
+    /// The number of the price area of each zone.
     pub areas: Vec<u32>,
+    /// Its ledger.
     pub ledger: Ledger,
 }
 
 /// The block of a published run, and what it adds to its day.
 #[derive(Drop)]
 pub struct PublishedRun {
+    /// The block.
     pub block: FullBlock,
+    /// What it adds to its day.
     pub settled: SettledRun,
 }
 
-/// A block, and the activation that it tells.
+/// A block, and the activation that it states.
 #[derive(Drop)]
 struct Assembled {
     block: FullBlock,

@@ -17,14 +17,27 @@ const COLUMNS: &str = "date,rule";
 /// A check of day.csv.
 #[derive(Clone, Copy, Debug, PartialEq, Eq)]
 pub enum DateCheck {
+    /// The file hasn't exactly one record.
     NotOneRecord,
+    /// The text is no date.
     BadDate,
+    /// The rule is no POSIX rule of a clock.
     BadZoneText,
+    /// The day, or the midnight at its end, lies beyond the calendar.
     OutOfRange,
+    /// The day isn't of 1 to `MOST_QUARTERS` whole quarter hours.
     NotWholeQuarters,
 }
 
 impl FileCheck for DateCheck {
+    const ALL: &'static [Self] = &[
+        DateCheck::NotOneRecord,
+        DateCheck::BadDate,
+        DateCheck::BadZoneText,
+        DateCheck::OutOfRange,
+        DateCheck::NotWholeQuarters,
+    ];
+
     ghost number = { date_check_number };
 
     ghost name = { date_check_name };
@@ -44,7 +57,9 @@ impl FileCheck for DateCheck {
 /// A date and the number of its quarter hours.
 #[derive(Debug, Drop)]
 pub struct CalendarDay {
+    /// The date, written `YYYY-MM-DD`.
     pub date: Name,
+    /// How many quarter hours it has.
     pub quarters: u32,
 }
 

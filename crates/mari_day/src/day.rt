@@ -24,12 +24,14 @@ use mari_remain::Books;
 use mari_units::{Memory, Quarters};
 use std::alloc::Global;
 
-/// How a day ended: it was written whole, with so many published runs and so many that aren't; a write failed; or
-/// there was no memory.
+/// How a day ended.
 #[derive(Clone, Copy, Debug, PartialEq, Eq)]
 pub enum DayEnd {
+    /// It was written whole: how many of its runs are published, and how many are not.
     Done { published: u32, unpublished: u32 },
+    /// A write failed.
     WriteFault,
+    /// Out of memory.
     Memory,
 }
 
@@ -107,7 +109,7 @@ fn write_runs<C: Clearer, K: Sink>(
     Ok(progress)
 }
 
-/// Writes the totals, behind the blocks of all runs.
+/// Writes the totals, after the blocks of all runs.
 fn close<K: Sink>(
     alloc: Global,
     books: &Books,
@@ -135,7 +137,7 @@ fn close<K: Sink>(
     write_text(sink, &text)
 }
 
-/// Writes a whole day, and tells how many of its runs are published.
+/// Writes a whole day, and answers how many of its runs are published.
 fn write_day<C: Clearer, K: Sink>(
     alloc: Global,
     books: &Books,
@@ -168,7 +170,7 @@ fn write_day<C: Clearer, K: Sink>(
 /// Clears the runs of these books in order, each within a budget of nodes, and writes their day.
 ///
 /// The head, each block and the totals are one text each, written as soon as it is made. After a write fault the sink
-/// has taken a first part of the text of a day part or of a day; after want of memory the head and whole blocks, or
+/// has taken a first part of the text of a day part or of a day; out of memory, the head and whole blocks, or
 /// nothing.
 pub fn run_day<C: Clearer, K: Sink>(
     alloc: Global,

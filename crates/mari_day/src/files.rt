@@ -9,17 +9,25 @@ use std::alloc::Global;
 /// A market file, in the order in which the files are fetched and read.
 #[derive(Clone, Copy, Debug, PartialEq, Eq)]
 pub enum File {
+    /// day.csv
     Day,
+    /// zones.csv
     Zones,
+    /// borders.csv
     Borders,
+    /// bids.csv
     Bids,
+    /// links.csv
     Links,
+    /// runs.csv
     Runs,
+    /// demands.csv
     Demands,
+    /// limits.csv
     Limits,
 }
 
-/// The files that every folder has, in their order. `Limits` stands behind them where the borders state no limits.
+/// The files that every folder has, in their order. `Limits` stands after them where the borders state no limits.
 pub const FILES: [File; 7] = [
     File::Day,
     File::Zones,
@@ -79,6 +87,7 @@ impl File {
     }
 
     /// The market file of a number, if it is that of one.
+    /// A table of its own beside `number`; the definitions have one, so the two can't differ.
     pub fn with_number(number: u8) -> Option<File>
         ensures { result ≡ file_with number }
     {

@@ -134,7 +134,7 @@ pub fn bid_lines(
     Ok(lines)
 }
 
-/// How many MW each order behind the first so many runs.
+/// How many MW each order runs after the first `bids` of them.
 pub fn demand_mws(alloc: Global, mw: &[u32], bids: usize) -> Result<Vec<u32>, Memory>
     ensures { IfOk result (λ rest. rest.items ≡ drop bids mw.now) }
 {

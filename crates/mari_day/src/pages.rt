@@ -16,10 +16,12 @@ use mari_zones::version_of;
 use std::alloc::Global;
 use std::marker::Model;
 
-/// Why the pages aren't there: the fetch of a file gave none, or there was no memory.
+/// Why the pages aren't there.
 #[derive(Clone, Copy, Debug, PartialEq, Eq)]
 pub enum PagesFault {
+    /// The fetch of a file gave none.
     Fetch(File, Fetch),
+    /// Out of memory.
     Memory,
 }
 
@@ -76,12 +78,12 @@ fn fetch_page<S: Shelf>(
     folder: &str,
     file: File,
 ) -> Result<Items<u8>, PagesFault>
-    // The shelf is asked once, or not at all for want of memory.
+    // The shelf is asked once, or not at all, out of memory.
     ensures same { S.pages shelf.new ≡ S.pages shelf.old }
     ensures small { IfOk result (λ page. length page ≤ MOST_PAGE) }
     ensures fetched { FetchesPage (S.fetches shelf.old) (S.fetches shelf.new) result }
 
-    // Whose a fault is. Want of memory in a fetch is told as such.
+    // Whose a fault is. Out of memory in a fetch is reported as such.
     ensures file { IsOfFile file result }
     ensures memory { IsFault fetch.Memory result → ⊥ }
 
@@ -110,13 +112,13 @@ fn fetch_seven<S: Shelf>(
     shelf: &mut S,
     folder: &str,
 ) -> Result<Items<Items<u8>>, PagesFault>
-    // As many fetches are counted as there are files, up to the first whose page can't be had; after want of memory at
-    // most so many.
+    // As many fetches are counted as there are files, up to the first whose page can't be had; out of memory, no
+    // more than that.
     ensures same { S.pages shelf.new ≡ S.pages shelf.old }
     ensures small { IfOk result (All (λ (page : List ℕ). length page ≤ MOST_PAGE)) }
     ensures fetched { FetchesPages 7 (S.fetches shelf.old) (S.fetches shelf.new) result }
 
-    // What it says of the pages, where they are told. Want of memory is told as such.
+    // What it says of the pages, where they are told. Out of memory is reported as such.
     ensures memory { IsFault fetch.Memory result → ⊥ }
     ensures told { (told : Pages) → S.pages shelf.old ≡ Some told → FetchingTells told folder.now files result }
 
@@ -146,7 +148,7 @@ fn version_among(alloc: Global, seven: &[Items<u8>]) -> Result<u8, Memory>
     version_of(alloc, seven[File::Borders.place()].as_slice())
 }
 
-/// The folder of the seven pages and of limits.csv behind them.
+/// The folder of the seven pages and of limits.csv after them.
 fn with_limits(seven: Items<Items<u8>>, limits: Items<u8>) -> Result<Folder, PagesFault>
     requires seven { length seven ≡ 7 }
     requires version { version_in (page_among seven File.Borders) ≡ 2 }
@@ -164,19 +166,19 @@ fn with_limits(seven: Items<Items<u8>>, limits: Items<u8>) -> Result<Folder, Pag
     }
 }
 
-/// Fetches the pages of a folder's files, in order: the seven, and limits.csv behind them where the borders are of
+/// Fetches the pages of a folder's files, in order: the seven, and limits.csv after them where the borders are of
 /// version 2.
 pub fn fetch_pages<S: Shelf>(
     alloc: Global,
     shelf: &mut S,
     folder: &str,
 ) -> Result<Folder, PagesFault>
-    // As many fetches are counted as there are files, up to the first whose page can't be had; after want of memory at
-    // most so many.
+    // As many fetches are counted as there are files, up to the first whose page can't be had; out of memory, no
+    // more than that.
     ensures same { S.pages shelf.new ≡ S.pages shelf.old }
     ensures fetched { FetchesFolder (S.pages shelf.old) folder.now (S.fetches shelf.old) (S.fetches shelf.new) result }
 
-    // What it says of the pages, where they are told. Want of memory is told as such.
+    // What it says of the pages, where they are told. Out of memory is reported as such.
     ensures memory { IsFault fetch.Memory result → ⊥ }
     ensures told { (told : Pages) → S.pages shelf.old ≡ Some told → FetchingTells told folder.now (files_in told folder.now) result }
 

@@ -32,12 +32,14 @@ use mari_units::{MOST_BORDERS, MOST_RUNS, Refusal};
 use mari_zones::{BorderBook, ZoneBook};
 use std::alloc::Global;
 
-/// Why there are no books: the fetch of the file of this number gave no page; the first refusal of a page; or no
-/// memory.
+/// Why there are no books.
 #[derive(Clone, Copy, Debug, PartialEq, Eq)]
 pub enum BooksFault {
+    /// The fetch of the file of this number gave no page.
     Fetch(u8, Fetch),
+    /// The first refusal of a page.
     Refused(Refusal),
+    /// Out of memory.
     Memory,
 }
 
@@ -216,13 +218,13 @@ fn books_of(alloc: Global, folder: &Folder) -> Result<Books, BooksFault>
 
 /// Fetches the pages of a folder in the order of its files, and then reads them in that order.
 ///
-/// The files are the seven that every folder has, and behind them limits.csv exactly where the borders are of version
+/// The files are the seven that every folder has, and after them limits.csv exactly where the borders are of version
 /// 2, which leave their limits to it.
 pub fn read_books<S: Shelf>(alloc: Global, shelf: &mut S, folder: &str) -> Result<Books, BooksFault>
     ensures same { S.pages shelf.new ≡ S.pages shelf.old }
 
-    // As many fetches are counted as the folder has files, up to the first whose page can't be had; after want of
-    // memory at most so many.
+    // As many fetches are counted as the folder has files, up to the first whose page can't be had; out of
+    // memory no more than that.
     ensures fetched { FetchesFiles (S.pages shelf.old) folder.now (S.fetches shelf.old) (S.fetches shelf.new) result }
 
     // What was read.
@@ -230,7 +232,7 @@ pub fn read_books<S: Shelf>(alloc: Global, shelf: &mut S, folder: &str) -> Resul
     ensures accepted { IfOk result IsAccepted }
     ensures dated { IfOk result IsDated }
 
-    // Why nothing was. A refusal is by a check of its file. Want of memory in a fetch is told as want of memory.
+    // Why nothing was. A refusal is by a check of its file. Out of memory in a fetch is reported as out of memory.
     ensures file { NamesAFile result }
     ensures check { RefusesByCheck result }
     ensures memory { IsFetchFault fetch.Memory result → ⊥ }

@@ -22,10 +22,12 @@ use mari_remain::Books;
 use mari_units::Memory;
 use std::alloc::Global;
 
-/// Why the writing of a day stops before its end: a write failed, or there was no memory.
+/// Why the writing of a day stops before its end.
 #[derive(Clone, Copy, Debug, PartialEq, Eq)]
 pub enum Stop {
+    /// A write failed.
     Sink,
+    /// Out of memory.
     Memory,
 }
 
@@ -40,14 +42,16 @@ impl From<Memory> for Stop {
     }
 }
 
-/// The block of a run, and what it adds to the day where it is published.
+/// A run that is done.
 #[derive(Drop)]
 pub struct RunDone {
+    /// Its block.
     pub block: Block,
+    /// What it adds to the day, where it is published.
     pub settled: Option<SettledRun>,
 }
 
-/// Makes the market of a run behind the blocks so far, clears it, and makes its block.
+/// Makes the market of a run after the blocks so far, clears it, and makes its block.
 fn run_done<C: Clearer>(
     alloc: Global,
     books: &Books,

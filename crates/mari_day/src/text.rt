@@ -14,11 +14,14 @@ use mari_remain::Books;
 use mari_units::{Items, Memory};
 use std::alloc::Global;
 
-/// The text of a day, and how many of its runs are published, and how many are not.
+/// A day as it is printed.
 #[derive(Drop)]
 pub struct PrintedDay {
+    /// Its text.
     pub text: Items<u8>,
+    /// How many of its runs are published.
     pub published: u32,
+    /// How many are not.
     pub unpublished: u32,
 }
 

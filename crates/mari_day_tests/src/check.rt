@@ -162,7 +162,7 @@ fn told_whole(alloc: Global, books: &Books, text: &[u8]) -> Result<(Option<u8>, 
     Ok((found?, verdict?))
 }
 
-/// A shelf that gives a text in pieces of so many bytes.
+/// A shelf that gives a text in pieces of `piece` bytes.
 fn shelf_of(alloc: Global, text: &[u8], piece: u32) -> Result<MemoryShelf, Fail> {
     if piece == 0 || piece > 65_536 {
         return Err("a piece has 1 to 65,536 bytes".into());
@@ -173,7 +173,7 @@ fn shelf_of(alloc: Global, text: &[u8], piece: u32) -> Result<MemoryShelf, Fail>
     Ok(MemoryShelf::with_piece(pages, plan, piece))
 }
 
-/// What is told of a text that a shelf gives in pieces of so many bytes.
+/// What is told of a text that a shelf gives in pieces of `piece` bytes.
 fn told_in_pieces(
     alloc: Global,
     books: &Books,
@@ -240,7 +240,7 @@ fn long_text(alloc: Global) -> Result<Vec<u8>, Fail> {
     text
 }
 
-/// What is told of that day in pieces of so many bytes, with the end of its last line and without it.
+/// What is told of that day in pieces of `piece` bytes, with the end of its last line and without it.
 fn told_of_long(
     alloc: Global,
     books: &Books,

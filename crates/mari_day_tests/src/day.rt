@@ -43,7 +43,7 @@ const NO_LIMITS: Pages = Pages {
     ..LIMITS_PER_RUN
 };
 
-/// A bid of the last quarter of a day of 92, and one of the quarter behind it.
+/// A bid of the last quarter of a day of 92, and one of the quarter after it.
 const BID_92: &[u8] =
     b"id,provider,zone,quarter,direction,price,least,greatest,kind\nu1,P,Z,92,up,50.00,0,100,both\n";
 
@@ -326,7 +326,7 @@ const GATED_BEHIND: Pages = Pages {
     ..SPRING
 };
 
-/// The text of a direct run behind a scheduled one.
+/// The text of a direct run after a scheduled one.
 const DIRECT_BEHIND_SCHEDULED: &str = "\
 mari 1 2025-03-12 96 10000
 run 1 1 scheduled published
@@ -354,7 +354,7 @@ total-provider P 750867.5000
 done 2 0
 ";
 
-/// The text before want of memory in the second run.
+/// The text before memory runs out in the second run.
 const FIRST_BLOCK: &str = "\
 mari 1 2025-03-30 92 10000
 run 1 1 scheduled published

@@ -24,7 +24,7 @@ pub(crate) struct Pages {
     pub limits: Option<&'static [u8]>,
 }
 
-/// One zone, and a direct run behind a scheduled one.
+/// One zone, and a direct run after a scheduled one.
 pub(crate) const ONE_ZONE: Pages = Pages {
     day: b"date,rule\n2025-03-12,\"CET-1CEST,M3.5.0,M10.5.0/3\"\n",
     zones: b"zone,operator\nZ,T\n",

@@ -55,7 +55,7 @@ fn first_market(alloc: Global) -> Result<Market, Fail>
     market
 }
 
-/// An activation in which each order runs and each border carries so much.
+/// An activation of these quantities and flows.
 fn activation_of(
     alloc: Global,
     (orders, mw): (usize, u32),

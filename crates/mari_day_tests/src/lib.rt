@@ -1,4 +1,4 @@
-//! Tests of a day: its quarter hours, the ledger of a run, what a day's first runs leave to those behind them, a day
+//! Tests of a day: its quarter hours, the ledger of a run, what a day's first runs leave to those after them, a day
 //! that is cleared, its check, and a generated one.
 //!
 //! They call what is public alone, so they stand apart from what they test, which then is proved once.

@@ -1,4 +1,4 @@
-//! Markets of runs behind others, from the pages of a folder of two zones.
+//! Markets of runs after others, from the pages of a folder of two zones.
 
 ghost use Rattle.std.specs.Prelude.{◌≡◌, ◌≤◌, ◌+◌, [], List, OnOk, length};
 ghost use Rattle.mari_remain.specs.Accepted.{IsAccepted};
@@ -243,7 +243,7 @@ fn told(made: &RunMarket) -> Told {
     (count, first, limits(made), made.demands, last(made))
 }
 
-/// The activation that runs and carries so much.
+/// The activation of these quantities and flows.
 fn activation_of(alloc: Global, mw: &[u32], flow: i64) -> Result<Activation, Fail> {
     let mw = mw.to_vec(alloc)?;
     Ok(Activation {
@@ -312,7 +312,7 @@ fn take(
     }
 }
 
-/// The market of the run behind those that did so.
+/// The market of the run after those that did so.
 fn market_behind(
     alloc: Global,
     books: &Books,
@@ -337,7 +337,7 @@ fn market_behind(
     Ok(remaining.market_of(alloc, books, run)?)
 }
 
-/// What is told of the market of the run behind those that did so.
+/// What is told of the market of the run after those that did so.
 fn told_behind(alloc: Global, books: &Books, done: &[Done]) -> Result<Told, Fail>
     requires { IsAccepted books.now }
 {

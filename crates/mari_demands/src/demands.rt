@@ -19,14 +19,27 @@ const COLUMNS: &str = "run,zone,mw,price";
 /// A check of demands.csv.
 #[derive(Clone, Copy, Debug, PartialEq, Eq)]
 pub enum DemandCheck {
+    /// A field isn't written as its column asks.
     BadField,
+    /// The run isn't in runs.csv.
     UnknownRun,
+    /// The zone isn't in zones.csv.
     UnknownZone,
+    /// The size lies beyond `MOST_MW` on either side, or the price beyond `CAP`.
     Range,
+    /// The run has more than `MOST_DEMANDS` demands.
     TooMany,
 }
 
 impl FileCheck for DemandCheck {
+    const ALL: &'static [Self] = &[
+        DemandCheck::BadField,
+        DemandCheck::UnknownRun,
+        DemandCheck::UnknownZone,
+        DemandCheck::Range,
+        DemandCheck::TooMany,
+    ];
+
     ghost number = { demand_check_number };
 
     ghost name = { demand_check_name };
@@ -43,25 +56,29 @@ impl FileCheck for DemandCheck {
     }
 }
 
-/// A demand of a run, which counts from 1, in a zone by its place: so many MW, below 0 for a surplus, at a price
-/// in cents per MWh: the greatest that a demand pays, the least that a surplus takes. Without a price it is inelastic.
+/// A demand of a run in a zone.
 #[derive(Clone, Copy, Debug, PartialEq, Eq)]
 pub struct Demand {
+    /// The number of its run, from 1.
     pub run: u32,
+    /// The place of its zone among the zones, from 0.
     pub zone: u32,
+    /// Its size in MW, below 0 for a surplus.
     pub mw: i64,
+    /// The greatest price that a demand pays, or the least that a surplus takes, in cents per MWh; none where it is
+    /// inelastic.
     pub price: Option<Cents>,
 }
 
 /// The demands in the order of the file.
 #[derive(Debug, Drop)]
 pub struct DemandBook {
+    /// The demands of all runs.
     pub demands: Items<Demand>,
 }
 
 impl DemandBook {
     /// The book of a page, or its first refusal.
-    #[tactic(auto, unfolding(crate::specs::Demands::demand_columns))]
     pub fn read(
         alloc: Global,
         demands: &[u8],

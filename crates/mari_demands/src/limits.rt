@@ -20,14 +20,27 @@ pub const LIMIT_COLUMNS: &str = "run,from,to,limit,back";
 /// A check of limits.csv.
 #[derive(Clone, Copy, Debug, PartialEq, Eq)]
 pub enum LimitCheck {
+    /// A field isn't written as its column asks.
     BadField,
+    /// The run isn't in runs.csv.
     UnknownRun,
+    /// No border of borders.csv has these two zones in this order.
     UnknownBorder,
+    /// An earlier line has the same run and border.
     Repeated,
+    /// A limit isn't from 0 to `MOST_MW` MW.
     Range,
 }
 
 impl FileCheck for LimitCheck {
+    const ALL: &'static [Self] = &[
+        LimitCheck::BadField,
+        LimitCheck::UnknownRun,
+        LimitCheck::UnknownBorder,
+        LimitCheck::Repeated,
+        LimitCheck::Range,
+    ];
+
     ghost number = { limit_check_number };
 
     ghost name = { limit_check_name };
@@ -44,10 +57,12 @@ impl FileCheck for LimitCheck {
     }
 }
 
-/// The limits of a border in a run, there and back, in MW.
+/// The limits of a border in a run.
 #[derive(Clone, Copy, Debug, PartialEq, Eq)]
 pub struct Limits {
+    /// The most that may flow from the border's first zone to its second, in MW.
     pub limit: u32,
+    /// The most that may flow from its second zone to its first, in MW.
     pub back: u32,
 }
 
@@ -77,7 +92,6 @@ impl Model for LimitBook {
 
 impl LimitBook {
     /// The book of a page of limits for these runs and borders, or its first refusal.
-    #[tactic(auto, unfolding(crate::specs::Limits::limit_columns))]
     pub fn read(
         alloc: Global,
         limits: &[u8],

@@ -19,14 +19,27 @@ const COLUMNS: &str = "run,quarter,kind,reference";
 /// A check of runs.csv.
 #[derive(Clone, Copy, Debug, PartialEq, Eq)]
 pub enum RunCheck {
+    /// A field isn't written as its column asks.
     BadField,
+    /// The runs aren't numbered from 1 on, or one comes before a run or a quarter that it should follow.
     RunsOutOfOrder,
+    /// The day has no such quarter.
     Quarter,
+    /// The reference lies beyond `CAP`.
     Range,
+    /// There are more than `MOST_RUNS` runs.
     TooMany,
 }
 
 impl FileCheck for RunCheck {
+    const ALL: &'static [Self] = &[
+        RunCheck::BadField,
+        RunCheck::RunsOutOfOrder,
+        RunCheck::Quarter,
+        RunCheck::Range,
+        RunCheck::TooMany,
+    ];
+
     ghost number = { run_check_number };
 
     ghost name = { run_check_name };
@@ -43,23 +56,26 @@ impl FileCheck for RunCheck {
     }
 }
 
-/// A run in a quarter, which counts from 1: scheduled or direct, with its reference price in cents per MWh.
+/// A run of a day.
 #[derive(Clone, Copy, Debug, PartialEq, Eq)]
 pub struct Run {
+    /// Its quarter hour, from 1.
     pub quarter: u32,
+    /// Whether it is direct, and not scheduled.
     pub direct: bool,
+    /// Its reference price, in cents per MWh.
     pub reference: Cents,
 }
 
 /// The runs in the order of the file: run 1 first.
 #[derive(Debug, Drop)]
 pub struct RunBook {
+    /// The runs; run 1 stands at place 0.
     pub runs: Items<Run>,
 }
 
 impl RunBook {
-    /// The book of a page on a day of so many quarters, or its first refusal.
-    #[tactic(auto, unfolding(crate::specs::Runs::run_columns))]
+    /// The book of a page on a day of `quarters` quarters, or its first refusal.
     pub fn read(alloc: Global, runs: &[u8], quarters: u32) -> Result<RunBook, BookFault>
         requires { length runs.now ≤ MOST_PAGE }
         ensures book { GivesBook result (book_in (run_grammar quarters) runs.now) }
@@ -93,7 +109,7 @@ fn is_below(text: &[u8], bound: u32) -> bool
     }
 }
 
-/// Whether a line comes too late behind a run of this quarter.
+/// Whether a line comes too late after a run of this quarter.
 fn comes_too_late(last: Option<u32>, line: &Row) -> bool
     ensures { result ≡ comes_too_late_in last line.now }
 {
@@ -107,7 +123,7 @@ fn comes_too_late(last: Option<u32>, line: &Row) -> bool
     }
 }
 
-/// The run of a line behind so many, the last of which has this quarter, or the first check that fails.
+/// The run of a line after `runs` runs, the last of which has this quarter, or the first check that fails.
 fn run_of(quarters: u32, runs: usize, last: Option<u32>, line: &Row) -> Result<Run, RunCheck>
     ensures { (earlier : List Line) → runs ≡ length earlier → last ≡ last_quarter quarters earlier
         → IsRead run_check_number result (first_failing (run_checks quarters earlier line.now)) (run_in quarters line.now) }

@@ -2,11 +2,10 @@
 use Rattle.std.proofs.Common.{◌≡◌, ◌∙◌, ◌+◌, ◌≤◌, ℕ, List, [], ◌∷◌, ◌++◌, length, drop, Option, Some, None, Result, Ok, Err, ◌⊎◌, inl, inr, refl, sym, ap, subst}
 use Rattle.std.specs.Prelude.{IsErrOf}
 use Rattle.std.specs.Option.{option_map}
-use Rattle.mari_io.specs.Outside.{Counts, IsOverlong, IsPiece, OpenTells}
+use Rattle.mari_io.specs.Outside.{Counts, IsOverlong, IsPiece, OpenTells, most_given}
 use Rattle.mari_io.specs.Taken.{then_took}
 use Rattle.mari_io.specs.declared.shelf.Fetch.{Fetch}
 use Rattle.mari_io.specs.declared.shelf.Fetch.TheVariants as fetch
-use Rattle.mari_io.specs.declared.shelf.TheConstants.{MOST_GIVEN}
 use Rattle.mari_io.proofs.Counting.{counts_as}
 use Rattle.mari_io.proofs.Taken.{took_nothing}
 use Rattle.mari_publish.specs.Faults.{IsOutcome}
@@ -47,7 +46,7 @@ module _ (page rest : Option (List ℕ)) (given : ℕ) (start : Option (List ℕ
   piece_fault fetch.Memory not over whole is = of_page_so_far whole is
   piece_fault fetch.TooLong not over whole is = (overlong-page _ _ _ _ u (over refl) whole is, of_page_so_far whole is)
 
-  module _ (piece : List ℕ) (n : ℕ) (many : length piece ≡ n) (within : given + n ≤ MOST_GIVEN) (is_piece : (left : List ℕ) → rest ≡ Some left → IsPiece left [] piece n) where
+  module _ (piece : List ℕ) (n : ℕ) (many : length piece ≡ n) (within : given + n ≤ most_given) (is_piece : (left : List ℕ) → rest ≡ Some left → IsPiece left [] piece n) where
     -- the printing of what has come stops
     pub parts_stop : (whole : List ℕ) → page ≡ Some whole → (T : Type 0) (reader : ReaderState) (now : Option (List ℕ)) (stop : FeedStop) → PartsTell {T = T} start (u.text ++ piece) reader now (Err stop) → StopTells whole start now stop
     parts_stop whole is T reader now stop h = own stop h
@@ -75,7 +74,7 @@ module _ (page rest : Option (List ℕ)) (given : ℕ) (start : Option (List ℕ
       more_fed after more left_is given_is = one-piece _ _ _ _ u piece n many within is_piece (FeedsSome start new now) (all.parts, all.fed) all.no_fault after more left_is given_is
 
       -- that was its end
-      pub last_fed : n ≡ 0 → (whole : List ℕ) → page ≡ Some whole → (length whole ≤ MOST_GIVEN) × AllFed start whole new now
+      pub last_fed : n ≡ 0 → (whole : List ℕ) → page ≡ Some whole → (length whole ≤ most_given) × AllFed start whole new now
       last_fed none whole is =
           let l = last-piece _ _ _ _ u piece n many within is_piece none whole is in
           (l.0, subst (λ (xs : List ℕ). AllFed start xs new now) l.1 all)
@@ -139,13 +138,13 @@ took_none page start now e = record {
 
 -- ---- the end of the page
 
-pub end_told : (page : List ℕ) (start now : Option (List ℕ)) (reader : ReaderState) (T : Type 0) (f : TextFault) → length page ≤ MOST_GIVEN → (all : AllFed start page reader now) → IsEnd {T = T} page all.parts (Err f) → StopTells page start now (stop_of_text f)
+pub end_told : (page : List ℕ) (start now : Option (List ℕ)) (reader : ReaderState) (T : Type 0) (f : TextFault) → length page ≤ most_given → (all : AllFed start page reader now) → IsEnd {T = T} page all.parts (Err f) → StopTells page start now (stop_of_text f)
 end_told page start now reader T (fault.BadLine n) short all h = absurd h
 end_told page start now reader T (fault.BadOrder n) short all h = absurd h
 end_told page start now reader T (fault.Truncated n) short all h = (of_page short h, took_all start page all.parts reader.come now all.fed all.none)
 end_told page start now reader T fault.Memory short all h = absurd h
 
-pub end_whole : {T : Type 0} (done : T) (page : List ℕ) (start now : Option (List ℕ)) (reader : ReaderState) → length page ≤ MOST_GIVEN → (all : AllFed start page reader now) → IsEnd page all.parts (Ok done) → FeedTells (Some page) start now (Ok done)
+pub end_whole : {T : Type 0} (done : T) (page : List ℕ) (start now : Option (List ℕ)) (reader : ReaderState) → length page ≤ most_given → (all : AllFed start page reader now) → IsEnd page all.parts (Ok done) → FeedTells (Some page) start now (Ok done)
 end_whole done page start now reader short all e =
     let p = e.0 in (
       short,

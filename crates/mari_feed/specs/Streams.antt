@@ -4,7 +4,7 @@ use Rattle.std.specs.List.{AllByRecursion, flat_map}
 use Rattle.mari_io.specs.Taken.{TookPart, then_took}
 use Rattle.mari_io.specs.declared.shelf.Fetch.{Fetch}
 use Rattle.mari_io.specs.declared.shelf.Fetch.TheVariants as fetch
-use Rattle.mari_io.specs.declared.shelf.TheConstants.{MOST_GIVEN}
+use Rattle.mari_io.specs.Outside.{most_given}
 use Rattle.mari_publish.specs.Faults.{IsText}
 use Rattle.mari_publish.specs.Paged.{IsLineFault, IsToldFault, IsTooLong}
 use Rattle.mari_publish.specs.Pieces.{ComeState, ComesFrom, HoldsParts, NoFault, NoPart, ReaderState, parts_of}
@@ -83,7 +83,7 @@ StopTells page before after NoMemory = TookFirst page before after
 abbrev pub FeedTells : {T : Type 0} → Option (List ℕ) → (before after : Option (List ℕ)) → Result T FeedStop → Type 0
 FeedTells None before after (Ok done) = ⊥
 FeedTells None before after (Err why) = MissTells before after why
-FeedTells (Some page) before after (Ok done) = (length page ≤ MOST_GIVEN) × TookFeed page before after
+FeedTells (Some page) before after (Ok done) = (length page ≤ most_given) × TookFeed page before after
 FeedTells (Some page) before after (Err why) = StopTells page before after why
 
 -- where a text is read whole, the same is said of it: it is printed to its end, or the same fault is told
@@ -160,5 +160,5 @@ PartsTell start text reader now (Err NoMemory) = TookFirst text start now
 
 -- how far a page is printed that is read to its end, or as far as could be
 abbrev pub PiecesTell : {T : Type 0} → List ℕ → Option (List ℕ) → ReaderState → Option (List ℕ) → Result T FeedStop → Type 0
-PiecesTell page start reader now (Ok done) = (length page ≤ MOST_GIVEN) × AllFed start page reader now
+PiecesTell page start reader now (Ok done) = (length page ≤ most_given) × AllFed start page reader now
 PiecesTell page start reader now (Err why) = StopTells page start now why

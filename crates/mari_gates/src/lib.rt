@@ -1,6 +1,6 @@
 //! Prefixes of gate decisions, and the bounds that they leave to orders.
 //!
-//! A search decides gates in their order. These calls tell which decisions keep the rules of parents and groups, how
+//! A search decides gates in their order. These calls say which decisions keep the rules of parents and groups, how
 //! much each order may run below them, which gate word an activation has, and which of two words comes before the
 //! other. All but `bounds_of` take no memory.
 #![tactic(auto)]

@@ -14,11 +14,14 @@ use mari_market::{GateInfo, Market, Order, Prefix};
 use mari_units::MOST_GATES;
 use std::marker::Model;
 
-/// What is known of a gate at a prefix: it is open, it is closed, or it may still be either.
+/// What is known of a gate at a prefix.
 #[derive(Clone, Copy, Debug, Drop, PartialEq, Eq)]
 pub enum GateState {
+    /// It is open.
     Open,
+    /// It is closed.
     Closed,
+    /// It may still be either.
     Free,
 }
 

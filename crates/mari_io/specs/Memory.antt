@@ -1,10 +1,9 @@
 -- The shelf and the sink in memory, as contracts see them.
 use Rattle.std.specs.Prelude.{◌==◌, ◌||◌, ℕ, zero, suc, ◌+◌, ◌-◌, ◌++◌, Bool, true, false, min, List, [], ◌∷◌, length, map, take, drop, unwrap_or, Option, Some, None, Result, Ok, Err}
 use Rattle.std.specs.List.{list_any}
-use Rattle.mari_io.specs.Outside.{Pages, page_of, counted, counted_if, is_failed, is_missing, is_too_long, taken_count, took_none}
+use Rattle.mari_io.specs.Outside.{Pages, page_of, counted, counted_if, is_failed, is_missing, is_too_long, taken_count, took_none, most_given}
 use Rattle.mari_io.specs.declared.page.Page.{Page}
 use Rattle.mari_io.specs.declared.plan.FaultPlan.{FaultPlan}
-use Rattle.mari_io.specs.declared.shelf.TheConstants.{MOST_GIVEN}
 use Rattle.mari_io.specs.declared.shelf.Fetch.{Fetch}
 
 -- each page by its name
@@ -79,7 +78,7 @@ after_open s name (Err fault) = after_fetch s (refusal fault)
 
 -- how many bytes the next piece has: as many as a piece may have, as are left, and as may still be given
 abbrev pub piece_length : ShelfState → ℕ
-piece_length s = min s.piece (min (length s.left) (MOST_GIVEN - s.given))
+piece_length s = min s.piece (min (length s.left) (most_given - s.given))
 
 -- the shelf after a piece was given or not
 abbrev pub after_piece : ShelfState → Result ℕ Fetch → ShelfState

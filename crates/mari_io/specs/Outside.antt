@@ -3,7 +3,6 @@ use Rattle.std.specs.Prelude.{ℕ, zero, suc, ◌+◌, ◌-◌, ◌^◌, ◌≤�
 use Rattle.std.specs.Str.{bytes_eq}
 use Rattle.std.specs.Option.{option_map}
 use Rattle.mari_units.specs.declared.limits.TheConstants.{MOST_PAGE}
-use Rattle.mari_io.specs.declared.shelf.TheConstants.{MOST_GIVEN}
 use Rattle.mari_io.specs.declared.shelf.Fetch.{Fetch}
 use Rattle.mari_io.specs.declared.shelf.Fetch.TheVariants.{Failed, Missing, TooLong, Memory}
 
@@ -69,13 +68,14 @@ abbrev pub taken_count : {E : Type 0} → Result ℕ E → ℕ
 taken_count (Ok n) = n
 taken_count (Err e) = 0
 
--- what opening a page answers where the page of that name is known: all of it is left
+-- what opening a page answers where the page of that name is known: all of it is left. Out of memory it may be at any
+-- name
 abbrev pub OpenTells : {T : Type 0} → Option (List ℕ) → Option (List ℕ) → Result T Fetch → Type 0
 OpenTells page rest (Ok done) = IsSome page × (rest ≡ page)
 OpenTells page rest (Err Missing) = page ≡ None
 OpenTells page rest (Err TooLong) = ⊥
 OpenTells page rest (Err Failed) = ⊤
-OpenTells page rest (Err Memory) = IsSome page
+OpenTells page rest (Err Memory) = ⊤
 
 -- new is old with exactly so many bytes more
 pub record AppendsExactly (count : ℕ) (old new : List ℕ) : Type 0 where
@@ -92,17 +92,22 @@ pub record IsPiece (left old new : List ℕ) (count : ℕ) : Type 0 where
 abbrev pub rest_after : {E : Type 0} → Option (List ℕ) → Result ℕ E → Option (List ℕ)
 rest_after rest result = option_map (λ left. drop (taken_count result) left) rest
 
+-- the most bytes that are given of a page in pieces: a tebibyte
+abbrev pub most_given : ℕ
+most_given = 2 ^ 40
+
 -- a page is too long to be given in pieces: as many bytes as may be were given, and where it is known what is left,
 -- some are
 abbrev pub IsOverlong : Option (List ℕ) → ℕ → Type 0
-IsOverlong None given = given ≡ MOST_GIVEN
-IsOverlong (Some left) given = (given ≡ MOST_GIVEN) × (left ≢ [])
+IsOverlong None given = given ≡ most_given
+IsOverlong (Some left) given = (given ≡ most_given) × (left ≢ [])
 
 -- what was taken, where it is told
 abbrev pub taken_after : {E : Type 0} → Option (List ℕ) → List ℕ → Result ℕ E → Option (List ℕ)
 taken_after taken piece result = option_map (λ t. t ++ take (taken_count result) piece) taken
 
 -- whether so many taken bytes are none, of a piece that isn't empty
+-- A test; `TookNothing` is the same as facts, in clauses.
 abbrev pub took_none : ℕ → List ℕ → Bool
 took_none count piece = nat_eq count 0 && nat_lt 0 (length piece)
 

@@ -4,9 +4,9 @@ ghost use Rattle.std.specs.Prelude.{None, Some, Err, ◌≡◌, ◌≤◌, ◌+�
 ghost use Rattle.std.specs.IoError.{error_kind};
 ghost use Rattle.std.specs.Io.KnownBytes.{Consumes, Keeps, IsAtEnd};
 ghost use Rattle.mari_units.specs.declared.limits.TheConstants.{MOST_PAGE};
-ghost use Rattle.mari_io.specs.declared.shelf.TheConstants.{MOST_PIECE, MOST_GIVEN};
-ghost use Rattle.mari_io.specs.declared.shelf.Fetch.TheVariants.{Failed, Missing, TooLong};
-ghost use Rattle.mari_io.specs.Outside.{Counts, Pages, counted, page_of, FetchTells, AppendsAtMost, OpenTells, AppendsExactly, IsPiece, rest_after, IsOverlong, taken_count};
+ghost use Rattle.mari_io.specs.declared.shelf.TheConstants.{MOST_PIECE};
+ghost use Rattle.mari_io.specs.declared.shelf.Fetch.TheVariants.{Failed, Missing, TooLong, Memory};
+ghost use Rattle.mari_io.specs.Outside.{Counts, Pages, counted, page_of, FetchTells, AppendsAtMost, OpenTells, AppendsExactly, IsPiece, rest_after, IsOverlong, most_given, taken_count};
 ghost use Rattle.mari_io.specs.System.{fault_of_opening, fault_of_reading, after_disk_call, new_disk, opened, more_given};
 
 use crate::shelf::MOST_GIVEN;
@@ -119,7 +119,7 @@ impl<R: Files + Drop> DiskShelf<R> {
 
         // How much of it is given by now; nothing else changes.
         ensures given { self.new ≡ more_given self.old result }
-        ensures limit { self.new.given ≤ MOST_GIVEN }
+        ensures limit { self.new.given ≤ most_given }
 
         // What was given.
         ensures ok { IfOk result (λ n. AppendsExactly n into.old.items into.new.items) }
@@ -128,7 +128,7 @@ impl<R: Files + Drop> DiskShelf<R> {
 
         // Why nothing was; that there is no such file is no cause.
         ensures not_missing { IsErrOf result Missing → ⊥ }
-        ensures over { IsErrOf result TooLong ↔ (self.old.given ≡ MOST_GIVEN) }
+        ensures over { IsErrOf result TooLong ↔ (self.old.given ≡ most_given) }
     {
         let most = MOST_GIVEN - self.given;
         if most == 0 {
@@ -213,7 +213,7 @@ pub fn read_piece<F: Read>(file: &mut F, into: &mut Vec<u8>, most: u64) -> Resul
     ensures err { OnErr result (into.new.items ≡ into.old.items) }
     ensures none_lost { OnErr result (Keeps (F.remaining file.old) (F.remaining file.new)) }
 
-    // Why nothing was read: a failure, or want of memory.
+    // Why nothing was read: a failure, or no memory.
     ensures not_missing { IsErrOf result Missing → ⊥ }
     ensures not_too_long { IsErrOf result TooLong → ⊥ }
 {
@@ -244,7 +244,7 @@ pub fn fetch_opened<F: Read + Drop>(opened: io::Result<F>, into: &mut Vec<u8>) -
     ensures bytes { OnOk result (IfOk opened (λ file. IfSome (F.remaining file) (λ xs. into.new.items ≡ into.old.items ++ xs))) }
     ensures too_long { IsErrOf result TooLong → IfOk opened (λ file. IfSome (F.remaining file) (λ xs. MOST_PAGE < length xs)) }
 
-    // A file that can't be opened is told by the system's error; only such a one is missing.
+    // Why a file can't be opened is the system's error; only such a one is missing.
     ensures unopened { IfErr opened (λ error. result ≡ Err (fault_of_opening (error_kind error))) }
     ensures missing { IsErrOf result Missing → IsErr opened }
 {
@@ -344,14 +344,14 @@ impl<R: Files + Drop> Shelf for DiskShelf<R> {
         ensures open_stays { self.new.is_open ≡ true }
         ensures rest { None ≡ rest_after None result }
         ensures given { self.new.given ≡ self.old.given + taken_count result }
-        ensures limit { self.new.given ≤ MOST_GIVEN }
+        ensures limit { self.new.given ≤ most_given }
 
         // Why nothing was given; that there is no such file is no cause.
         ensures failed { Counts (IsErrOf result Failed) self.old.faults self.new.faults }
         ensures missing { Counts (IsErrOf result Missing) self.old.misses self.new.misses }
         ensures not_missing { IsErrOf result Missing → ⊥ }
         ensures too_long { Counts (IsErrOf result TooLong) self.old.overs self.new.overs }
-        ensures over { (IsErrOf result Failed → ⊥) → IsErrOf result TooLong ↔ IsOverlong None self.old.given }
+        ensures over { (IsErrOf result Failed → ⊥) → (IsErrOf result Memory → ⊥) → IsErrOf result TooLong ↔ IsOverlong None self.old.given }
 
         // The counts of calls and of the answer go up by one, and only what was given changes with them.
         ensures counts { self.new ≡ after_disk_call (more_given self.old result) result }

@@ -3,7 +3,7 @@
 //!
 //! In memory a shelf tells its pages and a sink what it took, and both fail by a plan; over real files and standard
 //! output neither tells anything. The crate stands on `mari_units`. Its promise: an answer other than success or
-//! want of memory comes only where its count rose in that call.
+//! `Memory` comes only where its count rose in that call.
 #![tactic(auto)]
 
 mod disk;

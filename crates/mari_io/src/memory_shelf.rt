@@ -2,9 +2,9 @@
 
 ghost use Rattle.std.specs.Prelude.{◌≡◌, ◌≤◌, ◌+◌, ◌↔◌, List, ℕ, Some, None, IsErrOf, IfOk, OnOk, OnErr, true};
 ghost use Rattle.mari_units.specs.declared.limits.TheConstants.{MOST_PAGE};
-ghost use Rattle.mari_io.specs.declared.shelf.TheConstants.{MOST_PIECE, MOST_GIVEN};
-ghost use Rattle.mari_io.specs.declared.shelf.Fetch.TheVariants.{Failed, Missing, TooLong};
-ghost use Rattle.mari_io.specs.Outside.{Counts, Pages, counted, page_of, FetchTells, AppendsAtMost, OpenTells, AppendsExactly, IsPiece, rest_after, IsOverlong, taken_count};
+ghost use Rattle.mari_io.specs.declared.shelf.TheConstants.{MOST_PIECE};
+ghost use Rattle.mari_io.specs.declared.shelf.Fetch.TheVariants.{Failed, Missing, TooLong, Memory};
+ghost use Rattle.mari_io.specs.Outside.{Counts, Pages, counted, page_of, FetchTells, AppendsAtMost, OpenTells, AppendsExactly, IsPiece, rest_after, IsOverlong, most_given, taken_count};
 ghost use Rattle.mari_io.specs.Memory.{pages_of, fetch_fails, after_fetch, after_open, after_piece, piece_length, new_shelf};
 
 use crate::page::{bytes_at, find_page, left_at};
@@ -49,7 +49,7 @@ impl MemoryShelf {
         MemoryShelf::with_piece(pages, plan, MOST_PIECE as u32)
     }
 
-    /// The same, where a piece has at most so many bytes, 1 to `MOST_PIECE`. It takes no memory.
+    /// The same, where a piece has at most `piece` bytes, 1 to `MOST_PIECE`. It takes no memory.
     pub fn with_piece(pages: Vec<Page>, plan: FaultPlan, piece: u32) -> MemoryShelf
         requires some { 1 ≤ piece }
         requires few { piece ≤ MOST_PIECE }
@@ -184,14 +184,14 @@ impl Shelf for MemoryShelf {
         ensures open_stays { self.new.is_open ≡ true }
         ensures rest { Some self.new.left ≡ rest_after (Some self.old.left) result }
         ensures given { self.new.given ≡ self.old.given + taken_count result }
-        ensures limit { self.new.given ≤ MOST_GIVEN }
+        ensures limit { self.new.given ≤ most_given }
 
         // Why nothing was given; that there is no such page is no cause.
         ensures failed { Counts (IsErrOf result Failed) self.old.faults self.new.faults }
         ensures missing { Counts (IsErrOf result Missing) self.old.misses self.new.misses }
         ensures not_missing { IsErrOf result Missing → ⊥ }
         ensures too_long { Counts (IsErrOf result TooLong) self.old.overs self.new.overs }
-        ensures over { (IsErrOf result Failed → ⊥) → IsErrOf result TooLong ↔ IsOverlong (Some self.old.left) self.old.given }
+        ensures over { (IsErrOf result Failed → ⊥) → (IsErrOf result Memory → ⊥) → IsErrOf result TooLong ↔ IsOverlong (Some self.old.left) self.old.given }
 
         // The plan alone makes a call fail, nothing else raises a count, and a piece is as long as it may be.
         ensures planned { IsErrOf result Failed ↔ (fetch_fails self.old ≡ true) }

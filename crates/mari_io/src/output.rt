@@ -48,7 +48,7 @@ impl<R: Print + Drop> StdSink<R> {
     }
 }
 
-/// Writes and flushes, and tells how many bytes were taken. After an error the writer may have taken first bytes of
+/// Writes and flushes, and answers how many bytes were taken. After an error the writer may have taken first bytes of
 /// the piece.
 fn write_out<W: Write>(out: &mut W, piece: &[u8]) -> Result<usize, Failed>
     ensures bound { IfOk result (λ n. n ≤ length piece.now) }

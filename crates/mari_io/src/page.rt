@@ -45,10 +45,12 @@ impl Name64 {
     }
 }
 
-/// A page: the path by which it is fetched, and its bytes.
+/// A page.
 #[derive(Debug, Drop)]
 pub struct Page {
+    /// The path by which it is fetched.
     pub name: Name64,
+    /// Its bytes.
     pub bytes: Items<u8>,
 }
 

@@ -5,10 +5,11 @@ ghost use Rattle.mari_io.specs.Memory.{is_planned};
 
 use mari_units::Items;
 
-/// The numbers, from 1, of the calls that fail; the calls of all functions of a shelf are numbered together. With
-/// none, no call fails. Making it takes no memory.
+/// Which calls fail; the calls of all functions of a shelf are numbered together. With no numbers, no call fails.
+/// Making it takes no memory.
 #[derive(Debug, Drop)]
 pub struct FaultPlan {
+    /// The numbers, from 1, of the calls that fail.
     pub calls: Items<u32>,
 }
 

@@ -2,8 +2,8 @@
 
 ghost use Rattle.std.specs.Prelude.{◌≡◌, ◌≤◌, ◌+◌, ◌↔◌, ℕ, List, Bool, true, Option, IsErrOf, IfOk, OnOk, OnErr, Some, None};
 ghost use Rattle.mari_units.specs.declared.limits.TheConstants.{MOST_PAGE};
-ghost use Rattle.mari_io.specs.declared.shelf.Fetch.TheVariants.{Failed, Missing, TooLong};
-ghost use Rattle.mari_io.specs.Outside.{Counts, Pages, counted, page_of, FetchTells, AppendsAtMost, OpenTells, AppendsExactly, IsPiece, rest_after, IsOverlong, taken_count};
+ghost use Rattle.mari_io.specs.declared.shelf.Fetch.TheVariants.{Failed, Missing, TooLong, Memory};
+ghost use Rattle.mari_io.specs.Outside.{Counts, Pages, counted, page_of, FetchTells, AppendsAtMost, OpenTells, AppendsExactly, IsPiece, rest_after, IsOverlong, most_given, taken_count};
 
 /// The most bytes of a piece.
 pub const MOST_PIECE: usize = 65_536;
@@ -11,13 +11,16 @@ pub const MOST_PIECE: usize = 65_536;
 /// The most bytes that are given of a page in pieces.
 pub const MOST_GIVEN: u64 = 1_099_511_627_776;
 
-/// Why a call gave nothing: it failed, there is no such page, the page is longer than `MOST_PAGE`, or in pieces than
-/// `MOST_GIVEN`, or there was no memory for it.
+/// Why a call gave nothing.
 #[derive(Clone, Copy, Debug, PartialEq, Eq)]
 pub enum Fetch {
+    /// The call failed.
     Failed,
+    /// There is no such page.
     Missing,
+    /// The page is longer than `MOST_PAGE`, or in pieces than `MOST_GIVEN`.
     TooLong,
+    /// Out of memory.
     Memory,
 }
 
@@ -98,7 +101,7 @@ pub trait Shelf {
         ensures same { pages self.new ≡ pages self.old }
         ensures fetched { fetches self.new ≡ counted (fetches self.old) }
 
-        // What was given: so many bytes, and where it is told what was left, the first of these.
+        // What was given: `n` bytes, and where it is told what was left, its first ones.
         ensures ok { IfOk result (λ n. AppendsExactly n into.old.items into.new.items) }
         ensures few { IfOk result (λ n. n ≤ MOST_PIECE) }
         ensures told { (left : List ℕ) → rest self.old ≡ Some left → IfOk result (λ n. IsPiece left into.old.items into.new.items n) }
@@ -108,12 +111,12 @@ pub trait Shelf {
         ensures open_stays { is_open self.new ≡ true }
         ensures rest { rest self.new ≡ rest_after (rest self.old) result }
         ensures given { given self.new ≡ given self.old + taken_count result }
-        ensures limit { given self.new ≤ MOST_GIVEN }
+        ensures limit { given self.new ≤ most_given }
 
         // Why nothing was given; that there is no such page is no cause.
         ensures failed { Counts (IsErrOf result Failed) (faults self.old) (faults self.new) }
         ensures missing { Counts (IsErrOf result Missing) (misses self.old) (misses self.new) }
         ensures not_missing { IsErrOf result Missing → ⊥ }
         ensures too_long { Counts (IsErrOf result TooLong) (overs self.old) (overs self.new) }
-        ensures over { (IsErrOf result Failed → ⊥) → IsErrOf result TooLong ↔ IsOverlong (rest self.old) (given self.old) };
+        ensures over { (IsErrOf result Failed → ⊥) → (IsErrOf result Memory → ⊥) → IsErrOf result TooLong ↔ IsOverlong (rest self.old) (given self.old) };
 }

@@ -2,10 +2,12 @@
 
 use std::alloc::AllocFailed;
 
-/// Why bytes were not read: what is looked for is never written so, or there was no memory.
+/// Why bytes were not read.
 #[derive(Clone, Copy, Debug, PartialEq, Eq)]
 pub enum FormFault {
+    /// What is looked for is never written so.
     Formless,
+    /// Out of memory.
     Memory,
 }
 

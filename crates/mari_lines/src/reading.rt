@@ -168,7 +168,7 @@ fn read_cut(alloc: Global, words: &mut Words<'_>) -> Result<Cut, FormFault>
     Ok(Cut { side, zones })
 }
 
-/// What stands behind `run`.
+/// What stands after `run`.
 fn read_run(words: &mut Words<'_>) -> Result<Line, FormFault>
     ensures { Reads (λ l. InRange l × (keyword_of_line l ≡ Keyword.Run)) fields words.old result }
 {
@@ -190,7 +190,7 @@ fn read_run(words: &mut Words<'_>) -> Result<Line, FormFault>
     Ok(Line::Unpublished(heading, count))
 }
 
-/// What stands behind a line's first word.
+/// What stands after a line's first word.
 fn read_fields(alloc: Global, keyword: Keyword, words: &mut Words<'_>) -> Result<Line, FormFault>
     ensures { Reads (λ l. InRange l × (keyword_of_line l ≡ keyword)) fields words.old result }
 {

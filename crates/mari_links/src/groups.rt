@@ -41,7 +41,7 @@ impl Groups {
 
     /// The number of the group of one more member, which is of this quarter.
     pub fn add(&mut self, alloc: Global, name: &[u8], quarter: u32) -> Result<u32, Memory>
-        requires room { length self.old.names < 4294967295 }
+        requires room { length self.old.names < u32.MAX }
         requires name { is_name name.now ≡ true }
         ensures place { (bids : Bids) (members : List Member) (bid : ℕ) → HoldsGroups bids members self.old
             → IfOk result (λ group. group ≡ place_in (groups_of (members ++ record { group = name.now; bid = bid } ∷ [])) name.now) }

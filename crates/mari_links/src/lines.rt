@@ -27,11 +27,14 @@ pub enum LinkKind {
     Technical,
 }
 
-/// A link from a bid to another, by their places. Of a group only the second is a bid.
+/// A line of links.csv.
 #[derive(Clone, Copy, Debug, PartialEq, Eq, Hash)]
 pub struct Link {
+    /// Its kind.
     pub kind: LinkKind,
+    /// The place of its first bid, from 0, or of its group.
     pub first: u32,
+    /// The place of its second bid, from 0.
     pub second: u32,
 }
 

@@ -15,16 +15,33 @@ const COLUMNS: &str = "kind,first,second";
 /// A check of links.csv.
 #[derive(Clone, Copy, Debug, PartialEq, Eq)]
 pub enum LinkCheck {
+    /// There is no such kind of link.
     BadKind,
+    /// A field that names a bid names none of bids.csv.
     UnknownBid,
+    /// The quarters of the bids don't go together.
     WrongQuarter,
+    /// The parent doesn't stand before its child in bids.csv.
     ParentNotEarlier,
+    /// The bid is in a group already, the child has a parent already, or the line stands there twice.
     Repeated,
+    /// The group isn't a name.
     BadField,
+    /// A quarter has more than `MOST_GATES` gated bids.
     TooManyGates,
 }
 
 impl FileCheck for LinkCheck {
+    const ALL: &'static [Self] = &[
+        LinkCheck::BadKind,
+        LinkCheck::UnknownBid,
+        LinkCheck::WrongQuarter,
+        LinkCheck::ParentNotEarlier,
+        LinkCheck::Repeated,
+        LinkCheck::BadField,
+        LinkCheck::TooManyGates,
+    ];
+
     ghost number = { link_check_number };
 
     ghost name = { link_check_name };
@@ -43,30 +60,36 @@ impl FileCheck for LinkCheck {
     }
 }
 
-/// What the links say of one bid. Groups and bids are places, from 0.
+/// What the links say of one bid.
 ///
 /// A gated bid is taken from its least quantity on or not at all; a plain one from 0 on. At most one bid of a group is
 /// taken, and a bid with a parent only where its parent is. It is available only where each bid that it needs was
 /// activated, none that bars it was, and none of the technical ones was in a direct run.
 #[derive(Debug, Drop)]
 pub struct BidLinks {
+    /// Whether it has a gate.
     pub gated: bool,
+    /// The place of its exclusive group among the groups, from 0, if it is in one.
     pub group: Option<u32>,
+    /// The place of its parent among the bids, from 0, if it has one.
     pub parent: Option<u32>,
+    /// The places of the bids that it needs, from 0.
     pub needs: Items<u32>,
+    /// The places of the bids that bar it.
     pub bars: Items<u32>,
+    /// The places of the bids that bar it where they were activated in a direct run.
     pub technical: Items<u32>,
 }
 
 /// The links of each bid, in the order of the bids.
 #[derive(Debug, Drop)]
 pub struct LinkBook {
+    /// What the links say of each bid.
     pub links: Items<BidLinks>,
 }
 
 impl LinkBook {
     /// The book of a page of links between these bids, or its first refusal.
-    #[tactic(auto, unfolding(crate::specs::Links::link_columns))]
     pub fn read(alloc: Global, links: &[u8], bids: &BidBook) -> Result<LinkBook, BookFault>
         requires { length links.now ≤ MOST_PAGE }
         ensures book { GivesBook result (book_in (link_grammar bids.now) links.now) }

@@ -48,7 +48,7 @@ impl LinksSoFar {
 
     /// Puts a bid into a group.
     fn join(&mut self, alloc: Global, bids: &BidBook, group: &[u8], bid: u32) -> Result<(), Memory>
-        requires room { length self.old.groups.names < 4294967295 }
+        requires room { length self.old.groups.names < u32.MAX }
         requires group { is_name group.now ≡ true }
         requires bid { bid < length bids.now.ids }
         requires sized { length self.old.entries.items ≡ length bids.now.ids }
@@ -118,7 +118,7 @@ impl LinksSoFar {
         }
     }
 
-    /// The first check that a link fails behind the lines so far.
+    /// The first check that a link fails after the lines so far.
     fn failing_check(&self, bids: &BidBook, line: &Row, link: Link) -> Option<LinkCheck>
         requires first { link.first < length bids.now.ids }
         requires second { link.second < length bids.now.ids }
@@ -141,7 +141,7 @@ impl LinksSoFar {
     /// Holds what a line says that fails no check.
     fn hold(&mut self, alloc: Global, bids: &BidBook, line: &Row, link: Link) -> Result<(), Memory>
         // Room for one more group, and both bids in the book.
-        requires room { length self.old.groups.names < 4294967295 }
+        requires room { length self.old.groups.names < u32.MAX }
         requires first { link.first < length bids.now.ids }
         requires second { link.second < length bids.now.ids }
         requires sized { length self.old.entries.items ≡ length bids.now.ids }
@@ -164,14 +164,14 @@ impl LinksSoFar {
         Ok(())
     }
 
-    /// Adds what a line says, or tells the first check that it fails.
+    /// Adds what a line says, or reports the first check that it fails.
     pub fn add(
         &mut self,
         alloc: Global,
         bids: &BidBook,
         line: &Row,
     ) -> Result<(), LineFault<LinkCheck>>
-        requires room { length self.old.groups.names < 4294967295 }
+        requires room { length self.old.groups.names < u32.MAX }
         requires sized { length self.old.entries.items ≡ length bids.now.ids }
         ensures { (earlier : List Line) → HoldsLinks bids.now (said_by bids.now earlier) self.old
             → TakesLine link_check_number result (first_failing (line_checks bids.now earlier line.now))

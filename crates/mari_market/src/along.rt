@@ -5,12 +5,14 @@ ghost use Rattle.mari_market.specs.Along.{LeadsBack, LeadsOn, IsUncongested};
 
 use crate::market::Border;
 
-/// Lower bounds spread to where prices are at least as high, upper bounds to where they are at least as low, and an
-/// area over its uncongested borders.
+/// Which way something spreads along borders.
 #[derive(Clone, Copy, Debug, Drop, PartialEq, Eq)]
 pub enum Along {
+    /// To where prices are at least as high: so spread lower bounds.
     Rising,
+    /// To where prices are at least as low: so spread upper bounds.
     Falling,
+    /// Over uncongested borders: so spreads a price area.
     Joined,
 }
 

@@ -8,7 +8,7 @@ use crate::limits::MOST_ORDERS;
 use crate::market::{Order, Side};
 use mari_units::Cents;
 
-/// What so many MW are worth at a price, over a quarter hour and in quarter-cents.
+/// What a quantity is worth at a price, over a quarter hour and in quarter-cents.
 pub fn worth(price: Cents, mw: i64) -> i128
     ensures value { result ≡ price.0 *ℤ mw }
     ensures small { unsigned_abs result ≤ 2 ^ 63 * unsigned_abs mw }
@@ -17,7 +17,7 @@ pub fn worth(price: Cents, mw: i64) -> i128
 }
 
 impl Order {
-    /// What so many MW of the order add to the welfare, in quarter-cents: their worth, which an injection takes from
+    /// What a quantity of the order adds to the welfare, in quarter-cents: its worth, which an injection takes from
     /// it.
     pub fn gain(&self, mw: u32) -> i128
         ensures value { result ≡ order_gain self.now mw }

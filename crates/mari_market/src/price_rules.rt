@@ -10,11 +10,14 @@ use crate::along::Along;
 use crate::market::{Border, Market, Order, Side};
 use mari_units::{CAP, Cents};
 
-/// Whether an order is plain, or of an open gate, or of a closed one.
+/// How an order stands to its gate.
 #[derive(Clone, Copy, Debug, Drop, PartialEq, Eq)]
 pub enum Standing {
+    /// It has no gate.
     Plain,
+    /// Its gate is open.
     InOpen,
+    /// Its gate is closed.
     InClosed,
 }
 
@@ -30,7 +33,7 @@ impl Order {
         }
     }
 
-    /// Whether the order's price is a lower bound of its zone's price, where it runs so many MW.
+    /// Whether the order's price is a lower bound of its zone's price, where it runs `mw` MW.
     ///
     /// An injection that runs doesn't lose, also an indivisible one, and a withdrawal that could run more would not
     /// gain.
@@ -45,7 +48,7 @@ impl Order {
         }
     }
 
-    /// Whether the order's price is an upper bound of its zone's price, where it runs so many MW.
+    /// Whether the order's price is an upper bound of its zone's price, where it runs `mw` MW.
     ///
     /// A withdrawal that runs doesn't lose, also an indivisible one, and an injection that could run more would not
     /// gain.
@@ -62,7 +65,7 @@ impl Order {
 }
 
 impl Border {
-    /// Whether the border could carry more from its first zone to its second than so many MW.
+    /// Whether the border could carry more from its first zone to its second than `flow` MW.
     ///
     /// Then the price of the first zone is at least that of the second.
     pub fn has_room_on(&self, flow: i64) -> bool

@@ -10,17 +10,21 @@ use mari_units::{Cents, Items, Memory};
 use std::alloc::Global;
 use std::cmp::Reverse;
 
-/// A step of a ladder: an order by its number, its price in cents per MWh, and how many MW it may run above its least.
+/// A step of a ladder.
 #[derive(Clone, Copy, Debug, Drop, PartialEq, Eq)]
 pub struct Step {
+    /// The number of the order, from 0.
     pub order: u32,
+    /// Its price, in cents per MWh.
     pub price: Cents,
+    /// How many MW it may run above its least quantity.
     pub room: u32,
 }
 
 /// The steps of a zone's side in merit order.
 #[derive(Drop)]
 pub struct Ladder {
+    /// The steps, the best price first.
     pub steps: Items<Step>,
 }
 

@@ -10,10 +10,12 @@ use mari_market::{MOST_ORDERS, Order, Side};
 use mari_units::{Cents, MOST_MW, Memory};
 use std::alloc::Global;
 
-/// A rung of the merit order: the price of an order, in cents per MWh, and its greatest quantity in MW.
+/// A rung of the merit order.
 #[derive(Clone, Copy, Debug, PartialEq, Eq)]
 pub struct Rung {
+    /// The price of the order, in cents per MWh.
     pub price: i64,
+    /// Its greatest quantity, in MW.
     pub room: u32,
 }
 

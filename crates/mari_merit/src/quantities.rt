@@ -35,7 +35,7 @@ impl Marginal {
     }
 }
 
-/// What an order runs that meets so much: an injection runs it, a withdrawal stands back by it.
+/// What an order runs of which `met` MW are met: an injection runs them, a withdrawal runs that much less.
 fn run(order: &Order, met: u32) -> u32
     requires { met ≤ order.now.greatest }
     ensures { result ≡ run_by order.now.side order.now.greatest met }
@@ -46,7 +46,7 @@ fn run(order: &Order, met: u32) -> u32
     }
 }
 
-/// What each order runs, where so many MW are left to be met by the orders at the price.
+/// What each order runs, where `left` MW are left to be met by the orders at the price.
 pub fn quantities(
     alloc: Global,
     orders: &[Order],

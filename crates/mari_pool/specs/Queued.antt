@@ -1,5 +1,5 @@
 -- What contracts see of a queue of nodes, and which queue is that of a tree.
-use Rattle.std.specs.Prelude.{◌≡◌, ℕ, zero, suc, ◌+◌, ◌-◌, ◌^◌, ◌<◌, ◌≤◌, ◌==◌, List, [], ◌∷◌, ◌++◌, length, replicate, All, count_by, slice_get, slice_index_or, IsPermutation, Option, Some, None, ⊤}
+use Rattle.std.specs.Prelude.{◌≡◌, ℕ, zero, suc, ◌+◌, ◌-◌, ◌^◌, ◌<◌, ◌≤◌, ◌==◌, List, [], ◌∷◌, ◌++◌, length, map, replicate, All, count_by, slice_get, slice_index_or, IsPermutation, Option, Some, None, ⊤}
 use Rattle.std.specs.Ordering.{nat_cmp, ordering_then}
 use Rattle.std.specs.declared.cmp.Ordering.{Ordering}
 use Rattle.std.specs.declared.cmp.Reverse.{Reverse}
@@ -10,6 +10,7 @@ use Rattle.mari_core.specs.declared.journal.JournalEntry.TheVariants.{Take, Clos
 use Rattle.mari_core.specs.declared.node.NodeState.{NodeState}
 use Rattle.mari_core.specs.declared.node.NodeState.TheVariants.{Untaken, Taken, Branched, Closed}
 use Rattle.mari_core.specs.Nodes.{TreeNode, state_at}
+use Rattle.mari_core.specs.Preorder.{IsPreorder}
 
 -- ---- keys
 
@@ -130,3 +131,9 @@ pub record IsQueueOf (nodes : List TreeNode) (q : Queued) : Type 0 where
 pub record IsFirstWaiting (keys : List ℕ) (nodes : List TreeNode) (x : ℕ) : Type 0 where
   pub waits : state_at nodes x ≡ Some Untaken
   pub ahead : (y : ℕ) → state_at nodes y ≡ Some Untaken → IsAhead keys x y
+
+-- the keys are those of the nodes, in preorder
+pub record AreKeys (nodes : List TreeNode) (keys found : List ℕ) : Type 0 where
+  pub numbers : List ℕ
+  pub preorder : IsPreorder nodes numbers
+  pub found_are : found ≡ map (key_of keys) numbers

@@ -13,6 +13,7 @@ ghost use Rattle.mari_market.specs.Prefix.{word_of};
 ghost use Rattle.mari_market.specs.Relaxation.{IsClosedWelfare};
 ghost use Rattle.mari_market.specs.Tree.{TreeHolds};
 ghost use Rattle.mari_pool.specs.Pooled.{new_pool, IsPool, IsTakenAt, settled_with, answer_of, giving_back, entered, entered_by, returns_of, put_back_from, roomy, owed, taken_among};
+ghost use Rattle.mari_pool.specs.Queued.{AreKeys};
 ghost use Rattle.mari_pool.specs.Taking.{Takes, IsOpenAt};
 ghost use Rattle.mari_pool.specs.declared.ticket.Settled.TheVariants.{Stale};
 
@@ -276,7 +277,8 @@ impl<'m, N: SearchName> Pool<'m, N> {
 
     /// Reserves two entries of the journal for each taken node.
     fn reserve(&mut self) -> Result<(), Memory>
-        ensures same { self.new ≡ roomy self.old self.new.room }
+        ensures more { self.new ≡ roomy self.old self.new.room }
+        ensures same { OnErr result (self.new ≡ self.old) }
         ensures room { OnOk result (self.old.room + 2 * taken_among self.old.tree.nodes ≤ self.new.room) }
         ensures facts { length self.old.journal + owed self.old.tree self.old.returned ≤ self.old.room }
     {
@@ -289,7 +291,7 @@ impl<'m, N: SearchName> Pool<'m, N> {
     pub fn reclaim(&mut self) -> Result<(), Memory>
         ensures reclaimed { OnOk result (self.new ≡ roomy (entered_by self.old (returns_of 0 self.old.tree.nodes)) self.new.room) }
         ensures room { OnOk result (self.old.room + 2 * taken_among self.old.tree.nodes ≤ self.new.room) }
-        ensures same { OnErr result (self.new ≡ roomy self.old self.new.room) }
+        ensures same { OnErr result (self.new ≡ self.old) }
     {
         self.reserve()?;
         self.put_all_back();
@@ -322,6 +324,14 @@ impl<'m, N: SearchName> Pool<'m, N> {
         ensures spent { self.now.tree.full ≡ true → IfOk result (λ v. IsSpent N.market N.budget (record { items = v.items })) }
     {
         self.tree.part(alloc)
+    }
+
+    /// The keys of the nodes, in preorder.
+    pub fn keys(&self, alloc: Global) -> Result<Vec<u64>, Memory>
+        ensures { IfOk result (λ v. AreKeys self.now.tree.nodes self.now.keys v.items) }
+    {
+        let order = self.tree.preorder(alloc)?;
+        self.queue.keys_of(alloc, &order)
     }
 
     /// What always holds of a pool. The call does nothing: its contract is the law.

@@ -1,8 +1,8 @@
 //! The nodes that wait, and which of them comes next.
 
-ghost use Rattle.std.specs.Prelude.{◌≡◌, ◌-◌, ◌<◌, ◌≤◌, length, IfOk, MatchOption};
+ghost use Rattle.std.specs.Prelude.{◌≡◌, ◌-◌, ◌<◌, ◌≤◌, length, map, IfOk, MatchOption};
 ghost use Rattle.mari_market.specs.Clearing.{IsBudget};
-ghost use Rattle.mari_pool.specs.Queued.{child_key, no_nodes, first_key, IsMore, LeavesFirst, IsIdleQueue, IsBack, CanFollow, Follows};
+ghost use Rattle.mari_pool.specs.Queued.{child_key, key_of, no_nodes, first_key, IsMore, LeavesFirst, IsIdleQueue, IsBack, CanFollow, Follows};
 
 use mari_core::JournalEntry;
 use mari_market::Finding;
@@ -70,6 +70,24 @@ impl Queue {
         ensures within { length self.now.keys ≤ self.now.room }
     {
         self.keys.len() as u32
+    }
+
+    /// The key of a node, or 0 where there is no node of that number.
+    fn key(&self, node: u32) -> u64
+        ensures { result ≡ key_of self.now.keys node }
+    {
+        self.keys.get(node as usize).copied().unwrap_or(0)
+    }
+
+    /// The keys of these nodes, one after the other.
+    pub fn keys_of(&self, alloc: Global, nodes: &[u32]) -> Result<Vec<u64>, Memory>
+        ensures { IfOk result (λ v. v.items ≡ map (key_of self.now.keys) nodes.now) }
+    {
+        let mut keys = Vec::with_capacity(alloc, nodes.len())?;
+        for node in nodes {
+            keys.push(self.key(*node))?;
+        }
+        Ok(keys)
     }
 
     /// A node more, with this key, which waits.

@@ -15,7 +15,9 @@ use std::alloc::{AllocError, Global};
 /// lower bounds and upper bounds are handled alike.
 #[derive(Clone, Copy, Debug, Drop, PartialEq, Eq)]
 pub(crate) enum End {
+    /// The least price.
     Least,
+    /// The greatest price.
     Greatest,
 }
 

@@ -16,10 +16,12 @@ use mari_market::{Activation, Along, Market, Prices};
 use mari_units::{Cents, Items, MOST_ZONES};
 use std::alloc::{AllocError, Global};
 
-/// The tightest bounds of all zones' prices at one end, and what they become as they spread along borders.
+/// The bounds of all zones' prices at one end.
 #[derive(Drop)]
 pub(crate) struct EndBounds {
+    /// The tightest bound of each zone by its own orders.
     pub(crate) bounds: Vec<i64>,
+    /// What each zone gets as they spread, once it is settled.
     pub(crate) settled: Vec<Option<SettledZone>>,
 }
 

@@ -15,18 +15,21 @@ use mari_market::{Activation, Market, Prices};
 use mari_units::Items;
 use std::alloc::{AllocError, Global};
 
-/// For each zone the least and the greatest of its consistent prices, in cents per MWh.
+/// The intervals of all zones.
 #[derive(Drop)]
 pub struct Intervals {
+    /// The least consistent price of each zone.
     pub least: Prices,
+    /// The greatest consistent price of each zone.
     pub greatest: Prices,
 }
 
-/// Why there are no intervals: no prices are consistent, as a chain of zones shows, or memory was wanted and not
-/// there.
+/// Why there are no intervals.
 #[derive(Debug, Drop)]
 pub enum PriceFault {
+    /// No prices are consistent, as this chain of zones shows.
     Conflict(Items<u32>),
+    /// Out of memory.
     Memory,
 }
 

@@ -12,11 +12,14 @@ use mari_market::{Activation, Market, Prices};
 use mari_units::{Cents, Items, Memory};
 use std::alloc::Global;
 
-/// The least, the greatest and the published price of each zone, in cents per MWh.
+/// The prices of all zones.
 #[derive(Drop)]
 pub struct Pricing {
+    /// The least consistent price of each zone.
     pub least: Prices,
+    /// The greatest consistent price of each zone.
     pub greatest: Prices,
+    /// The published price of each zone.
     pub published: Prices,
 }
 

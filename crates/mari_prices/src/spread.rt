@@ -12,11 +12,14 @@ use mari_market::{Along, Border};
 use mari_units::MOST_ZONES;
 use std::alloc::{AllocError, Global};
 
-/// What a zone gets: a value, from the zone before it, if another zone led to it, along a chain of so many zones.
+/// What a zone gets.
 #[derive(Clone, Copy, Debug, Drop, PartialEq, Eq)]
 pub(crate) struct SettledZone {
+    /// The value.
     pub(crate) value: i64,
+    /// The zone before it, if another zone led to it.
     pub(crate) previous: Option<u32>,
+    /// How many zones the chain to it has.
     pub(crate) depth: u32,
 }
 

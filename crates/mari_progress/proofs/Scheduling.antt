@@ -16,7 +16,7 @@ use Rattle.mari_remain.specs.Lists.{run_numbered}
 use Rattle.mari_remain.proofs.Standing.{quarters-rise}
 use Rattle.mari_market.specs.Price.{IsCapped}
 use Rattle.std.specs.Option.{option_map}
-use Rattle.mari_progress.specs.Behind.{also_behind, run_behind, scheduled_in, scheduled_prices}
+use Rattle.mari_progress.specs.Behind.{also_behind, last_in, last_scheduled, run_behind, scheduled_in, scheduled_prices}
 use Rattle.mari_progress.specs.Progress.{kept_for, IsScheduled, KeepsPrices}
 use Rattle.mari_progress.specs.Told.{heading_of, prices_of}
 use Rattle.mari_progress.specs.declared.progress.Scheduled.{Scheduled}
@@ -39,6 +39,15 @@ pick false of own new q ps ns before e f g h l none = rw (f, g, h) (by (own == q
 prices-more : (quarter : ℕ) (blocks : List Block) (b : Block) → scheduled_prices quarter (blocks ++ b ∷ []) ≡ scheduled_in quarter (scheduled_prices quarter blocks) b
 prices-more quarter blocks b = fold-append (scheduled_in quarter) None blocks (b ∷ [])
 
+last-more : (blocks : List Block) (b : Block) → last_scheduled (blocks ++ b ∷ []) ≡ last_in (last_scheduled blocks) b
+last-more blocks b = fold-append last_in None blocks (b ∷ [])
+
+-- a scheduled run's own prices are kept
+own-last : (d : Bool) (of own : ℕ) (ps : List Cents) (new : Scheduled) (before : Option Scheduled) → d ≡ false → of ≡ own → new.quarter ≡ own → new.prices.cents ≡ ps
+    → Some new ≡ (if d then before else Some (record { quarter = of; prices = record { cents = ps } }))
+own-last true of own ps new before e f g h = cc e
+own-last false of own ps new before e f g h = rw (f, sym g, sym h) refl
+
 module _ (books : Books) (ok : IsAccepted books) (blocks : List Block) (kept : Option Scheduled) (keeps : KeepsPrices books blocks kept) where
   later : (b : Block) (r : ℕ) → length (blocks ++ b ∷ []) < r → length blocks < r
   later b r l = omega (arith, l, length-append blocks (b ∷ []))
@@ -48,14 +57,16 @@ module _ (books : Books) (ok : IsAccepted books) (blocks : List Block) (kept : O
   still b (Some s) h = record { one_each = h.one_each; capped = h.capped; earlier = λ r l there. h.earlier r (later b r l) there }
 
   -- a block that isn't published, and that of a direct run, change nothing
-  pub keeps-same : (b : Block) → ((quarter : ℕ) → scheduled_in quarter (scheduled_prices quarter blocks) b ≡ scheduled_prices quarter blocks) → KeepsPrices books (blocks ++ b ∷ []) kept
-  keeps-same b nothing = record {
+  pub keeps-same : (b : Block) → ((quarter : ℕ) → scheduled_in quarter (scheduled_prices quarter blocks) b ≡ scheduled_prices quarter blocks) → last_in (last_scheduled blocks) b ≡ last_scheduled blocks
+      → KeepsPrices books (blocks ++ b ∷ []) kept
+  keeps-same b nothing none = record {
+    last = keeps.last ∙ sym (last-more blocks b ∙ none);
     same = λ r l there. prices-more (run_numbered books r).quarter blocks b ∙ nothing (run_numbered books r).quarter ∙ keeps.same r (later b r l) there;
     priced = still b kept keeps.priced;
   }
 
   pub keeps-unpublished : (heading : Heading) (count : ℕ) → KeepsPrices books (blocks ++ block.Unpublished heading count ∷ []) kept
-  keeps-unpublished heading count = keeps-same (block.Unpublished heading count) (λ quarter. refl)
+  keeps-unpublished heading count = keeps-same (block.Unpublished heading count) (λ quarter. refl) refl
 
   -- the prices that were kept are of a quarter before, where this one's isn't theirs
   past-quarter : (own quarter : ℕ) (s : Option Scheduled) → ((t : Scheduled) → s ≡ Some t → t.quarter ≤ own) → own < quarter → kept_for quarter s ≡ None
@@ -73,11 +84,16 @@ module _ (books : Books) (ok : IsAccepted books) (blocks : List Block) (kept : O
     -- the published block of a direct run
     pub keeps-direct : (run_numbered books (run_behind blocks)).direct ≡ true → KeepsPrices books (blocks ++ block.Published b ∷ []) kept
     keeps-direct direct = keeps-same (block.Published b) (λ quarter. skip b.heading.direct (b.heading.quarter == quarter) (Some (prices_of b)) (scheduled_prices quarter blocks) (ap (λ (h : Heading). h.direct) heading ∙ direct))
+        (ap (λ d. if d then last_scheduled blocks else Some (record { quarter = b.heading.quarter; prices = record { cents = prices_of b } })) (ap (λ (h : Heading). h.direct) heading ∙ direct))
 
     -- that of a scheduled run
     pub keeps-scheduled : (run_numbered books (run_behind blocks)).direct ≡ false → (new : Scheduled) → new.quarter ≡ (run_numbered books (run_behind blocks)).quarter → new.prices.cents ≡ prices_of b
         → length (prices_of b) ≡ length books.zones.zones → All IsCapped (prices_of b) → KeepsPrices books (blocks ++ block.Published b ∷ []) (Some new)
     keeps-scheduled direct new quarter prices many capped = record {
+      last =
+          own-last b.heading.direct b.heading.quarter (run_numbered books (run_behind blocks)).quarter (prices_of b) new (last_scheduled blocks) (ap (λ (h : Heading). h.direct) heading ∙ direct)
+          (ap (λ (h : Heading). h.quarter) heading) quarter prices
+          ∙ sym (last-more blocks (block.Published b));
       same = λ r l there.
           let own = (run_numbered books (run_behind blocks)).quarter in
           let before = later (block.Published b) r l in

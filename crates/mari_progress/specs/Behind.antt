@@ -11,6 +11,7 @@ use Rattle.mari_remain.specs.Blocks.{PastBlock}
 use Rattle.mari_remain.specs.Lists.{run_numbered}
 use Rattle.mari_remain.specs.RunMarket.{run_market_of}
 use Rattle.mari_progress.specs.Told.{activation_of, prices_of}
+use Rattle.mari_progress.specs.declared.progress.Scheduled.{Scheduled}
 
 -- a printed block as the market of a later run reads it: its heading, and of a published one the numbers of its bids,
 -- by their names, and its activation
@@ -41,6 +42,15 @@ scheduled_in quarter before (block.Unpublished heading count) = before
 -- the printed prices of the published scheduled block of a quarter, if these blocks have one
 abbrev pub scheduled_prices : (quarter : ℕ) → List Block → Option (List Cents)
 scheduled_prices quarter blocks = fold (scheduled_in quarter) None blocks
+
+-- the quarter and the prices of a published scheduled block; with any other block those before it stay
+abbrev pub last_in : Option Scheduled → Block → Option Scheduled
+last_in before (block.Published b) = if b.heading.direct then before else Some (record { quarter = b.heading.quarter; prices = record { cents = prices_of b } })
+last_in before (block.Unpublished heading count) = before
+
+-- the quarter and the printed prices of the last published scheduled block, if these blocks have one
+abbrev pub last_scheduled : List Block → Option Scheduled
+last_scheduled blocks = fold last_in None blocks
 
 -- the scheduled prices of the run behind these blocks: a direct run has those of its quarter, a scheduled run has none
 abbrev pub also_behind : Books → List Block → Option (List Cents)

@@ -16,7 +16,7 @@ use Rattle.mari_settle.specs.Ledger.{net_of}
 use Rattle.mari_settle.specs.declared.ledger.Ledger.{Ledger}
 use Rattle.mari_progress.specs.declared.progress.Progress.{Progress}
 use Rattle.mari_progress.specs.declared.progress.Scheduled.{Scheduled}
-use Rattle.mari_progress.specs.Behind.{before_of, scheduled_prices}
+use Rattle.mari_progress.specs.Behind.{before_of, last_scheduled, scheduled_prices}
 use Rattle.mari_progress.specs.Money.{money_lines_of}
 use Rattle.mari_progress.specs.Totals.{amount_over, operator_totals}
 
@@ -46,8 +46,10 @@ pub record IsScheduled (books : Books) (blocks : List Block) (kept : Scheduled) 
   pub capped : All IsCapped kept.prices.cents
   pub earlier : (r : ℕ) → length blocks < r → r ≤ length books.runs.runs → kept.quarter ≤ (run_numbered books r).quarter
 
--- the prices that are kept are those of the scheduled block of the quarter of each run to come
+-- the prices and the quarter that are kept are those of the last published scheduled block, and none where there is
+-- none; so for each run to come they are those of the scheduled block of its quarter
 pub record KeepsPrices (books : Books) (blocks : List Block) (kept : Option Scheduled) : Type 0 where
+  pub last : kept ≡ last_scheduled blocks
   pub same : (r : ℕ) → length blocks < r → r ≤ length books.runs.runs → scheduled_prices (run_numbered books r).quarter blocks ≡ kept_for (run_numbered books r).quarter kept
   pub priced : IfSome kept (IsScheduled books blocks)
 

@@ -1,9 +1,9 @@
-//! What the printed blocks of a day leave to those behind them.
+//! What the printed blocks of a day leave to those after them.
 //!
 //! Whoever prints a day and whoever checks one keep the same between its blocks: what these left, the sums of their
 //! ledgers, and the scheduled prices. The crate stands on the books and on the types of a publication, and on nothing
 //! that clears a market or tests an activation. Its promise: what is kept stands for the blocks so far, so that the
-//! market and the scheduled prices of the next run are those behind them.
+//! market and the scheduled prices of the next run are those after them.
 #![tactic(auto)]
 
 mod ledger;

@@ -16,32 +16,40 @@ use mari_settle::Ledger;
 use mari_units::Memory;
 use std::alloc::Global;
 
-/// The prices of a published scheduled block, one for each zone, and its quarter.
+/// What is kept of a published scheduled block for the direct runs of its quarter.
 #[derive(Drop)]
 pub struct Scheduled {
+    /// Its quarter hour, from 1.
     pub quarter: u32,
+    /// Its published prices, one for each zone.
     pub prices: Prices,
 }
 
-/// What a published block adds to its day: its run's market, the activation in it, the published prices, and the
-/// ledger.
+/// What a published block adds to its day.
 #[derive(Drop)]
 pub struct SettledRun {
+    /// The market of its run.
     pub made: RunMarket,
+    /// The activation in that market.
     pub activation: Activation,
+    /// The published prices, one for each zone.
     pub prices: Prices,
+    /// The ledger of the run.
     pub ledger: Ledger,
 }
 
-/// What a day keeps between its blocks: what the blocks so far left, the sums of their ledgers, the prices of the last
-/// published scheduled one, and how many of them are published.
+/// What a day keeps between its blocks.
 ///
 /// A block that isn't published changes nothing: what is kept then stands for one block more.
 #[derive(Drop)]
 pub struct Progress {
+    /// What the blocks so far left of bids and borders.
     pub remaining: Remaining,
+    /// The sums of their ledgers.
     pub totals: Ledger,
+    /// The prices of the last published scheduled block, if there is one.
     pub scheduled: Option<Scheduled>,
+    /// How many of the blocks are published.
     pub published: u32,
 }
 
@@ -61,7 +69,7 @@ impl Progress {
         })
     }
 
-    /// The market of the run behind the blocks so far.
+    /// The market of the run after the blocks so far.
     pub fn market_of(&self, alloc: Global, books: &Books, run: u32) -> Result<RunMarket, Memory>
         requires accepted { IsAccepted books.now }
         requires last { run ≤ length books.now.runs.runs }
@@ -73,7 +81,7 @@ impl Progress {
         Ok(made)
     }
 
-    /// The scheduled prices of the run behind the blocks so far: a direct run has those of the scheduled block of its
+    /// The scheduled prices of the run after the blocks so far: a direct run has those of the scheduled block of its
     /// quarter, if it is published.
     pub fn also(&self, books: &Books, run: u32) -> Option<&Prices>
         requires first { 1 ≤ run }
@@ -94,7 +102,7 @@ impl Progress {
         }
     }
 
-    /// Adds the published block of the run behind the blocks so far.
+    /// Adds the published block of the run after the blocks so far.
     pub fn add(&mut self, books: &Books, run: u32, settled: SettledRun)
         requires accepted { IsAccepted books.now }
         requires last { run ≤ length books.now.runs.runs }

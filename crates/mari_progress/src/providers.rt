@@ -31,7 +31,7 @@ fn provider_of(bids: &[Bid], number: u32) -> u32
     }
 }
 
-/// Lists a place behind others, unless it is listed.
+/// Lists a place after others, unless it is listed.
 fn list_once(places: &mut Vec<u32>, place: u32) -> Result<(), Memory>
     ensures { OnOk result (places.new.items ≡ with_number places.old.items place) }
 {

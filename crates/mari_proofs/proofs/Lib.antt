@@ -7,3 +7,4 @@ pub mod ConflictTests
 pub mod LeafLaws
 pub mod TreeWalk
 pub mod TreeLaws
+pub mod Idle

@@ -1,6 +1,6 @@
 //! Cuts: sets of zones that have too much energy, or too little, for any activation to balance.
 
-ghost use Rattle.std.specs.Prelude.{◌≡◌, ◌↔◌, ℕ, ℤ, pos, ◌+ℤ◌, ◌≤ℤ◌, neg_ℤ, ◌≤◌, ◌<◌, length, IsTrue, IfSome};
+ghost use Rattle.std.specs.Prelude.{◌≡◌, ◌↔◌, ℕ, ℤ, pos, ◌*◌, ◌+ℤ◌, ◌≤ℤ◌, neg_ℤ, ◌≤◌, ◌<◌, length, IsTrue, IfSome};
 ghost use Rattle.std.specs.List.{All};
 ghost use Rattle.mari_market.specs.Bounds.{span_in};
 ghost use Rattle.mari_market.specs.Cut.{is_in, IsCut, CannotBalance};
@@ -12,7 +12,7 @@ ghost use Rattle.mari_proofs.specs.NetInjections.{net_put, put_of, carried_of, E
 
 use mari_gates::{GateStates, states_at};
 use mari_market::{Border, Cut, CutSide, MOST_ORDERS, Market, Order, Prefix, Side, are_rising};
-use mari_units::{MOST_BORDERS, MOST_GATES, MOST_MW, MOST_ZONES};
+use mari_units::{MOST_BORDERS, MOST_FLOW, MOST_GATES, MOST_MW, MOST_ZONES};
 
 /// Whether the zone is one of the set.
 fn is_in(zones: &[u32], zone: u32) -> bool
@@ -26,8 +26,8 @@ fn net_put(side: CutSide, order: &Order, span: (u32, u32)) -> i64
     requires least { span.0 ≤ MOST_MW }
     requires greatest { span.1 ≤ MOST_MW }
     ensures value { result ≡ net_put side order.now.side (record { lo = span.0; hi = span.1 }) }
-    ensures low { neg_ℤ (pos 100000) ≤ℤ result }
-    ensures high { result ≤ℤ pos 100000 }
+    ensures low { neg_ℤ (pos MOST_MW) ≤ℤ result }
+    ensures high { result ≤ℤ pos MOST_MW }
 {
     match (side, order.side) {
         (CutSide::Out, Side::Inject) => i64::from(span.0),
@@ -41,8 +41,8 @@ fn net_put(side: CutSide, order: &Order, span: (u32, u32)) -> i64
 fn order_put(side: CutSide, zones: &[u32], order: &Order, states: &GateStates) -> i64
     requires { IsValidOrder MOST_ZONES MOST_GATES order.now }
     ensures value { result ≡ put_of side (span_in (state_in states.now)) zones.now order.now }
-    ensures low { neg_ℤ (pos 100000) ≤ℤ result }
-    ensures high { result ≤ℤ pos 100000 }
+    ensures low { neg_ℤ (pos MOST_MW) ≤ℤ result }
+    ensures high { result ≤ℤ pos MOST_MW }
 {
     if is_in(zones, order.zone) {
         net_put(side, order, states.span(order))
@@ -56,7 +56,7 @@ fn border_carries(side: CutSide, zones: &[u32], border: &Border) -> i64
     requires { IsValidBorder MOST_ZONES border.now }
     ensures value { result ≡ carried_of side zones.now border.now }
     ensures low { pos 0 ≤ℤ result }
-    ensures high { result ≤ℤ pos 200000 }
+    ensures high { result ≤ℤ pos MOST_FLOW }
 {
     let limit = match (is_in(zones, border.from), is_in(zones, border.to)) {
         (true, false) => match side {
@@ -77,8 +77,8 @@ fn orders_put(side: CutSide, zones: &[u32], orders: &[Order], states: &GateState
     requires few { length orders.now ≤ MOST_ORDERS }
     requires orders { All (IsValidOrder MOST_ZONES MOST_GATES) orders.now }
     ensures value { result ≡ int_sum (put_of side (span_in (state_in states.now)) zones.now) orders.now }
-    ensures low { neg_ℤ (pos 460800000) ≤ℤ result }
-    ensures high { result ≤ℤ pos 460800000 }
+    ensures low { neg_ℤ (pos (MOST_ORDERS * MOST_MW)) ≤ℤ result }
+    ensures high { result ≤ℤ pos (MOST_ORDERS * MOST_MW) }
 {
     let mut total = 0;
     for order in orders {
@@ -93,7 +93,7 @@ fn borders_carry(side: CutSide, zones: &[u32], borders: &[Border]) -> i64
     requires borders { All (IsValidBorder MOST_ZONES) borders.now }
     ensures value { result ≡ int_sum (carried_of side zones.now) borders.now }
     ensures low { pos 0 ≤ℤ result }
-    ensures high { result ≤ℤ pos 51200000 }
+    ensures high { result ≤ℤ pos (MOST_BORDERS * MOST_FLOW) }
 {
     let mut total = 0;
     for border in borders {
@@ -105,7 +105,7 @@ fn borders_carry(side: CutSide, zones: &[u32], borders: &[Border]) -> i64
 /// Whether what is put in is more than what can leave, or less than the negative of what can enter.
 fn exceeds(side: CutSide, put: i64, carried: i64) -> bool
     requires low { pos 0 ≤ℤ carried }
-    requires high { carried ≤ℤ pos 51200000 }
+    requires high { carried ≤ℤ pos (MOST_BORDERS * MOST_FLOW) }
     ensures { IsTrue result ↔ Exceeds side put carried }
 {
     match side {

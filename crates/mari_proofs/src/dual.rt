@@ -1,6 +1,6 @@
 //! The dual value: what all orders gain and all borders earn at most, at one potential for each zone.
 
-ghost use Rattle.std.specs.Prelude.{◌≡◌, ℕ, ℤ, pos, ◌+ℤ◌, ◌-ℤ◌, ◌*ℤ◌, ◌≤ℤ◌, neg_ℤ, ◌≤◌, ◌<◌, length, IfSome};
+ghost use Rattle.std.specs.Prelude.{◌≡◌, ℕ, ℤ, pos, ◌*◌, ◌+ℤ◌, ◌-ℤ◌, ◌*ℤ◌, ◌≤ℤ◌, neg_ℤ, ◌≤◌, ◌<◌, length, IfSome};
 ghost use Rattle.std.specs.Int.{int_max};
 ghost use Rattle.std.specs.List.{All};
 ghost use Rattle.mari_market.specs.declared.activation.Activation.{Activation};
@@ -15,17 +15,19 @@ ghost use Rattle.mari_market.specs.Sums.{int_sum};
 ghost use Rattle.mari_gates.specs.GateTable.{state_in};
 
 use mari_gates::{GateStates, states_at};
-use mari_market::{Border, MOST_ORDERS, Market, Order, Prefix, Prices, Side, worth};
-use mari_units::{Cents, MOST_BORDERS, MOST_GATES, MOST_MW, Quarters};
+use mari_market::{
+    Border, MOST_GAP, MOST_ORDERS, MOST_WORTH, Market, Order, Prefix, Prices, Side, worth,
+};
+use mari_units::{Cents, MOST_BORDERS, MOST_FLOW, MOST_GATES, MOST_MW, Quarters};
 
-/// What so many MW gain, in quarter-cents, at a gain for each.
+/// What a quantity in MW gains, in quarter-cents, at a gain for each MW.
 fn amount(gap: i64, mw: u32) -> i128
-    requires low { neg_ℤ (pos 20000000) ≤ℤ gap }
-    requires high { gap ≤ℤ pos 20000000 }
-    requires mw { mw ≤ 200000 }
+    requires low { neg_ℤ (pos MOST_GAP) ≤ℤ gap }
+    requires high { gap ≤ℤ pos MOST_GAP }
+    requires mw { mw ≤ MOST_FLOW }
     ensures value { result ≡ gap *ℤ pos mw }
-    ensures low { neg_ℤ (pos 4000000000000) ≤ℤ result }
-    ensures high { result ≤ℤ pos 4000000000000 }
+    ensures low { neg_ℤ (pos MOST_WORTH) ≤ℤ result }
+    ensures high { result ≤ℤ pos MOST_WORTH }
 {
     worth(Cents(gap), i64::from(mw))
 }
@@ -35,8 +37,8 @@ fn gap(order: &Order, potential: Cents) -> i64
     requires order { IsPrice order.now.price.0 }
     requires potential { IsPrice potential.0 }
     ensures gap { result ≡ gain_per_mw order.now.side order.now.price.0 potential.0 }
-    ensures low { neg_ℤ (pos 20000000) ≤ℤ result }
-    ensures high { result ≤ℤ pos 20000000 }
+    ensures low { neg_ℤ (pos MOST_GAP) ≤ℤ result }
+    ensures high { result ≤ℤ pos MOST_GAP }
 {
     match order.side {
         Side::Inject => potential.0 - order.price.0,
@@ -52,10 +54,10 @@ fn best_trade(order: &Order, span: (u32, u32), potential: Cents) -> i128
     requires least { span.0 ≤ MOST_MW }
     requires greatest { span.1 ≤ MOST_MW }
 
-    // So many quarter-cents, few enough to be summed over all orders.
+    // The value, in quarter-cents, and that it can be summed over all orders.
     ensures value { result ≡ best_trade order.now.side order.now.price.0 potential.0 (record { lo = span.0; hi = span.1 }) }
-    ensures low { neg_ℤ (pos 4000000000000) ≤ℤ result }
-    ensures high { result ≤ℤ pos 4000000000000 }
+    ensures low { neg_ℤ (pos MOST_WORTH) ≤ℤ result }
+    ensures high { result ≤ℤ pos MOST_WORTH }
 {
     let gap = gap(order, potential);
     let (least, greatest) = span;
@@ -67,8 +69,8 @@ fn best_order(order: &Order, states: &GateStates, potentials: &[Cents]) -> i128
     requires order { IsValidOrder (length potentials.now) MOST_GATES order.now }
     requires potentials { All IsCapped potentials.now }
     ensures value { result ≡ best_order (span_in (state_in states.now)) potentials.now order.now }
-    ensures low { neg_ℤ (pos 4000000000000) ≤ℤ result }
-    ensures high { result ≤ℤ pos 4000000000000 }
+    ensures low { neg_ℤ (pos MOST_WORTH) ≤ℤ result }
+    ensures high { result ≤ℤ pos MOST_WORTH }
 {
     let potential = potential_at(potentials, order.zone);
     best_trade(order, states.span(order), potential)
@@ -89,8 +91,8 @@ fn excess(dear: Cents, cheap: Cents) -> i64
     requires dear { IsPrice dear.0 }
     requires cheap { IsPrice cheap.0 }
     ensures value { result ≡ dear.0 -ℤ cheap.0 }
-    ensures low { neg_ℤ (pos 20000000) ≤ℤ result }
-    ensures high { result ≤ℤ pos 20000000 }
+    ensures low { neg_ℤ (pos MOST_GAP) ≤ℤ result }
+    ensures high { result ≤ℤ pos MOST_GAP }
 {
     dear.0 - cheap.0
 }
@@ -100,8 +102,8 @@ fn best_border(border: &Border, potentials: &[Cents]) -> i128
     requires border { IsValidBorder (length potentials.now) border.now }
     requires potentials { All IsCapped potentials.now }
     ensures value { result ≡ best_border potentials.now border.now }
-    ensures low { neg_ℤ (pos 4000000000000) ≤ℤ result }
-    ensures high { result ≤ℤ pos 4000000000000 }
+    ensures low { neg_ℤ (pos MOST_WORTH) ≤ℤ result }
+    ensures high { result ≤ℤ pos MOST_WORTH }
 {
     let from = potential_at(potentials, border.from);
     let to = potential_at(potentials, border.to);
@@ -114,8 +116,8 @@ fn orders_value(orders: &[Order], states: &GateStates, potentials: &[Cents]) -> 
     requires orders { All (IsValidOrder (length potentials.now) MOST_GATES) orders.now }
     requires potentials { All IsCapped potentials.now }
     ensures value { result ≡ int_sum (best_order (span_in (state_in states.now)) potentials.now) orders.now }
-    ensures low { neg_ℤ (pos 18432000000000000) ≤ℤ result }
-    ensures high { result ≤ℤ pos 18432000000000000 }
+    ensures low { neg_ℤ (pos (MOST_ORDERS * MOST_WORTH)) ≤ℤ result }
+    ensures high { result ≤ℤ pos (MOST_ORDERS * MOST_WORTH) }
 {
     let mut total = 0;
     for order in orders {
@@ -130,8 +132,8 @@ fn borders_value(borders: &[Border], potentials: &[Cents]) -> i128
     requires borders { All (IsValidBorder (length potentials.now)) borders.now }
     requires potentials { All IsCapped potentials.now }
     ensures value { result ≡ int_sum (best_border potentials.now) borders.now }
-    ensures low { neg_ℤ (pos 1024000000000000) ≤ℤ result }
-    ensures high { result ≤ℤ pos 1024000000000000 }
+    ensures low { neg_ℤ (pos (MOST_BORDERS * MOST_WORTH)) ≤ℤ result }
+    ensures high { result ≤ℤ pos (MOST_BORDERS * MOST_WORTH) }
 {
     let mut total = 0;
     for border in borders {

@@ -1,6 +1,6 @@
 //! Laws of activations that certificates rest on.
 
-ghost use Rattle.std.specs.Prelude.{◌≡◌, ◌<◌, ℕ, ℤ, List};
+ghost use Rattle.std.specs.Prelude.{◌≡◌, ◌<◌, ◌≤ℤ◌, Bool, false, ℕ, ℤ, pos, List};
 ghost use Rattle.mari_units.specs.declared.numbers.Cents.{Cents};
 ghost use Rattle.mari_market.specs.declared.activation.Activation.{Activation};
 ghost use Rattle.mari_market.specs.Activation.{welfare_of, gate_word_of};
@@ -9,7 +9,8 @@ ghost use Rattle.mari_market.specs.Interval.{ArePublishedPrices, IsGreatestPrice
 ghost use Rattle.mari_market.specs.Market.{IsValid};
 ghost use Rattle.mari_market.specs.Price.{price_at};
 ghost use Rattle.mari_market.specs.Optimal.{IsAdmissible, IsConsistent, IsOptimal};
-ghost use Rattle.mari_market.specs.Relaxation.{all_closed};
+ghost use Rattle.mari_market.specs.Prefix.{opens_in};
+ghost use Rattle.mari_market.specs.Relaxation.{all_closed, IsClosedWelfare, IsRelaxedWelfare};
 
 use mari_market::Market;
 
@@ -48,4 +49,20 @@ pub fn closed_first(market: &Market)
     requires { IsValid market.now }
     ensures first { (a : Activation) → IsOptimal market.now a → gate_word_of market.now a ≡ all_closed market.now → IsFirst market.now a }
     ensures none_open { (a b : Activation) → IsFirst market.now a → IsAdmissible market.now b → gate_word_of market.now b ≡ all_closed market.now → welfare_of market.now b ≡ welfare_of market.now a → gate_word_of market.now a ≡ all_closed market.now }
+{}
+
+/// What welfare isn't negative, and that the closed welfare is one number.
+///
+/// A relaxed optimum may be negative only where a gate is open, since nothing has to run where none is. An admissible
+/// welfare never is. The call does nothing: its contract is the law.
+pub fn closed_welfare_is_one(market: &Market)
+    requires { IsValid market.now }
+
+    // The closed welfare.
+    ensures one { (v w : ℤ) → IsClosedWelfare market.now v → IsClosedWelfare market.now w → v ≡ w }
+    ensures closed { (w : ℤ) → IsClosedWelfare market.now w → pos 0 ≤ℤ w }
+
+    // A relaxed optimum where no gate is open, and the welfare of an admissible activation.
+    ensures relaxed { (word : List Bool) (w : ℤ) → ((g : ℕ) → opens_in word g ≡ false) → IsRelaxedWelfare market.now word w → pos 0 ≤ℤ w }
+    ensures admissible { (a : Activation) → IsAdmissible market.now a → pos 0 ≤ℤ welfare_of market.now a }
 {}

@@ -15,6 +15,6 @@ mod tightness;
 mod trees;
 
 pub use dual::dual_value;
-pub use laws::{closed_first, one_first, one_gate_word};
+pub use laws::{closed_first, closed_welfare_is_one, one_first, one_gate_word};
 pub use leaves::check_leaf;
 pub use trees::{TreeVerdict, check_tree};

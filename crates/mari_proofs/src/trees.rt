@@ -16,15 +16,17 @@ use mari_gates::{child_of, empty_prefix, next_after};
 use mari_market::{Market, Prefix, TreeItem};
 use mari_units::Quarters;
 
-/// Whether a tree holds, or the first place at which it doesn't: its shape fails there, or the leaf there doesn't
-/// hold.
+/// Whether a tree holds, or the first place at which it doesn't.
 ///
 /// Places count from 0. The shape fails at an item that is left over, at a branch of a prefix that decides every gate,
 /// and, where the tree ends too early, at the place after its last item.
 #[derive(Clone, Copy, Debug, Drop, PartialEq, Eq)]
 pub enum TreeVerdict {
+    /// It holds.
     Holds,
+    /// Its shape fails at this place.
     BadShape(usize),
+    /// The leaf at this place doesn't hold.
     BadLeaf(usize),
 }
 

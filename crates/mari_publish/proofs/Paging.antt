@@ -4,8 +4,7 @@ use Rattle.std.specs.Option.{option_map}
 use Rattle.std.proofs.Math.Seq.{take-append-add, take-append_seam}
 use Rattle.std.proofs.lemmas.Bool.{cases_lt}
 use Rattle.std.proofs.lemmas.List.{take-append-drop, nil_from_length}
-use Rattle.mari_io.specs.Outside.{AppendsExactly, IsOverlong, IsPiece, OpenTells}
-use Rattle.mari_io.specs.declared.shelf.TheConstants.{MOST_GIVEN}
+use Rattle.mari_io.specs.Outside.{AppendsExactly, IsOverlong, IsPiece, OpenTells, most_given}
 use Rattle.mari_publish.specs.Faults.{IsOutcome, IsTextFault}
 use Rattle.mari_publish.specs.Paged.{IsLineFault, IsToldFault, IsTooLong}
 use Rattle.mari_publish.specs.Paged.IsToldFault.{OfPage as of-page, OfGiven as of-given}
@@ -43,15 +42,15 @@ pub told-first : (page : List ℕ) (f : TextFault) → IsToldFault page f → Is
 told-first page f (of-page short h) = h
 told-first page f (of-given long h) =
     let P : List ℕ → Type 0 = λ xs. IsTextFault xs f in
-    subst P (take-append-drop MOST_GIVEN page) (fault-first (take MOST_GIVEN page ++ drop MOST_GIVEN page) f (fault-stays (take MOST_GIVEN page) (drop MOST_GIVEN page) f h))
+    subst P (take-append-drop most_given page) (fault-first (take most_given page ++ drop most_given page) f (fault-stays (take most_given page) (drop most_given page) f h))
 
 -- the fault of a line is told once the line is given
-fault-told : (text more : List ℕ) (f : TextFault) → length text ≤ MOST_GIVEN → IsLineFault text f → IsToldFault (text ++ more) f
-fault-told text more f few h = elim (cases_lt MOST_GIVEN (length (text ++ more))) [
+fault-told : (text more : List ℕ) (f : TextFault) → length text ≤ most_given → IsLineFault text f → IsToldFault (text ++ more) f
+fault-told text more f few h = elim (cases_lt most_given (length (text ++ more))) [
   | inl long ↦
-      let room : ℕ = MOST_GIVEN - length text in
-      let all : length text + room ≡ MOST_GIVEN = omega (arith, few) in
-      let front : take MOST_GIVEN (text ++ more) ≡ text ++ take room more = ap (λ (n : ℕ). take n (text ++ more)) (sym all) ∙ take-append-add text more room in
+      let room : ℕ = most_given - length text in
+      let all : length text + room ≡ most_given = omega (arith, few) in
+      let front : take most_given (text ++ more) ≡ text ++ take room more = ap (λ (n : ℕ). take n (text ++ more)) (sym all) ∙ take-append-add text more room in
       let P : List ℕ → Type 0 = λ xs. IsLineFault xs f in
       of-given long (subst P (sym front) (fault-stays text (take room more) f h))
   | inr short ↦ of-page (omega (arith, short)) (fault-first (text ++ more) f (fault-stays text more f h))
@@ -96,7 +95,7 @@ pub record Under (Known : List ℕ → Type 0) (page rest : Option (List ℕ)) (
   pub text : List ℕ
   pub known : Known text
   pub given_is : given ≡ length text
-  pub few : given ≤ MOST_GIVEN
+  pub few : given ≤ most_given
   pub no_fault : NoFault text
   pub told : (whole : List ℕ) → page ≡ Some whole → (left : List ℕ) × (rest ≡ Some left) × (text ++ left ≡ whole)
 
@@ -108,20 +107,20 @@ module _ (Known : List ℕ → Type 0) (page rest : Option (List ℕ)) (given : 
   pub overlong-page : IsOverlong rest given → (whole : List ℕ) → page ≡ Some whole → IsTooLong whole
   overlong-page over whole is =
       let t = u.told whole is in
-      let o : (given ≡ MOST_GIVEN) × (t.0 ≢ []) = subst (λ r. IsOverlong r given) t.1 over in
+      let o : (given ≡ most_given) × (t.0 ≢ []) = subst (λ r. IsOverlong r given) t.1 over in
       let many = length-append u.text t.0 in
       let some = not-empty t.0 o.1 in
       let sum : length (u.text ++ t.0) ≡ length whole = ap length t.2 in
-      let front : take MOST_GIVEN whole ≡ u.text = ap (λ (xs : List ℕ). take MOST_GIVEN xs) (sym t.2) ∙ ap (λ (n : ℕ). take n (u.text ++ t.0)) (sym o.0 ∙ u.given_is) ∙ take-append_seam u.text t.0 in
+      let front : take most_given whole ≡ u.text = ap (λ (xs : List ℕ). take most_given xs) (sym t.2) ∙ ap (λ (n : ℕ). take n (u.text ++ t.0)) (sym o.0 ∙ u.given_is) ∙ take-append_seam u.text t.0 in
       record { longer = omega (arith, many, some, sum, o.0, u.given_is); no_fault = subst NoFault (sym front) u.no_fault }
     where
       not-empty : (xs : List ℕ) → (xs ≢ []) → 0 < length xs
       not-empty [] h = absurd (h refl)
       not-empty (x ∷ xs) h = omega arith
 
-  module _ (piece : List ℕ) (n : ℕ) (many : length piece ≡ n) (within : given + n ≤ MOST_GIVEN) (is_piece : (left : List ℕ) → rest ≡ Some left → IsPiece left [] piece n) where
+  module _ (piece : List ℕ) (n : ℕ) (many : length piece ≡ n) (within : given + n ≤ most_given) (is_piece : (left : List ℕ) → rest ≡ Some left → IsPiece left [] piece n) where
     -- the text with the piece is as long as what is given then
-    with-piece : length (u.text ++ piece) ≤ MOST_GIVEN
+    with-piece : length (u.text ++ piece) ≤ most_given
     with-piece = let longer = length-append u.text piece in omega (arith, longer, many, within, u.given_is)
 
     module _ (whole : List ℕ) (is : page ≡ Some whole) where
@@ -153,7 +152,7 @@ module _ (Known : List ℕ → Type 0) (page rest : Option (List ℕ)) (given : 
         }
 
     -- that was its end
-    pub last-piece : n ≡ 0 → (whole : List ℕ) → page ≡ Some whole → (length whole ≤ MOST_GIVEN) × (u.text ++ piece ≡ whole)
+    pub last-piece : n ≡ 0 → (whole : List ℕ) → page ≡ Some whole → (length whole ≤ most_given) × (u.text ++ piece ≡ whole)
     last-piece none whole is =
         let t = left-of whole is in
         let empty : t.0 ≡ [] = (is_piece t.0 t.1).at_end.0 none in

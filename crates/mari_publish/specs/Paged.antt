@@ -1,6 +1,6 @@
 -- A text that is a page of a shelf and is given in pieces, up to `MOST_GIVEN` bytes: which of its faults is told.
 use Rattle.std.specs.Prelude.{◌<◌, ◌≤◌, ℕ, List, length, take}
-use Rattle.mari_io.specs.declared.shelf.TheConstants.{MOST_GIVEN}
+use Rattle.mari_io.specs.Outside.{most_given}
 use Rattle.mari_publish.specs.Faults.{IsTextFault, BadLineAt, BadOrderAt}
 use Rattle.mari_publish.specs.Pieces.{NoFault}
 use Rattle.mari_publish.specs.declared.fault.TextFault.{TextFault}
@@ -16,10 +16,10 @@ IsLineFault text fault.Memory = ⊥
 -- the fault that is told of a page: the first of its text, where the page may be given whole; of a longer page that of
 -- a whole line of the bytes that are given, and never that the text is cut off
 pub data IsToldFault (page : List ℕ) (fault : TextFault) : Type 0 where
-  OfPage : length page ≤ MOST_GIVEN → IsTextFault page fault → IsToldFault page fault
-  OfGiven : MOST_GIVEN < length page → IsLineFault (take MOST_GIVEN page) fault → IsToldFault page fault
+  OfPage : length page ≤ most_given → IsTextFault page fault → IsToldFault page fault
+  OfGiven : most_given < length page → IsLineFault (take most_given page) fault → IsToldFault page fault
 
 -- a page has more bytes than are given in pieces, and as far as they are given no whole line has a fault
 pub record IsTooLong (page : List ℕ) : Type 0 where
-  pub longer : MOST_GIVEN < length page
-  pub no_fault : NoFault (take MOST_GIVEN page)
+  pub longer : most_given < length page
+  pub no_fault : NoFault (take most_given page)

@@ -1,5 +1,5 @@
 -- What a reader of a text in pieces stands for, and what it answers.
-use Rattle.std.specs.Prelude.{◌≡◌, ◌<◌, ℕ, Bool, true, false, List, [], ◌∷◌, ◌++◌, map, length, drop, Option, Some, None, Result, Ok, Err, ◌⊎◌, ⊤}
+use Rattle.std.specs.Prelude.{◌≡◌, ◌<◌, ◌≤◌, ℕ, Bool, true, false, List, [], ◌∷◌, ◌++◌, map, length, drop, Option, Some, None, Result, Ok, Err, ◌⊎◌, ⊤}
 use Rattle.std.specs.List.{AllByRecursion}
 use Rattle.mari_publish.specs.declared.publication.Part.{Part}
 use Rattle.mari_publish.specs.declared.publication.Part.TheVariants as part
@@ -89,6 +89,10 @@ NoLineIn mark.Ended unread = ⊥
 
 abbrev pub HasNoLine : ComeState → Type 0
 HasNoLine r = NoLineIn r.ahead r.unread
+
+-- no more bytes are kept behind the handled lines than a line may have
+abbrev pub KeepsFew : ComeState → Type 0
+KeepsFew r = length r.unread ≤ MOST_LINE
 
 -- all that has come is handled, and the last line with it
 pub record IsWhole (r : ComeState) : Type 0 where

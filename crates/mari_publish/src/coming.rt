@@ -1,9 +1,9 @@
-//! A text as far as it has come: what is kept of the handled lines, and the bytes behind them.
+//! A text as far as it has come: what is kept of the handled lines, and the bytes after them.
 
 ghost use Rattle.std.specs.Prelude.{◌≡◌, ◌≤◌, ◌<◌, ◌+◌, ◌++◌, ◌^◌, ℕ, List, Ok, None, OnOk, OnErr, true, false, vec_len};
 ghost use Rattle.mari_publish.specs.declared.publication.Part.{Part as PartValue};
 ghost use Rattle.mari_publish.specs.Order.{HasRoom};
-ghost use Rattle.mari_publish.specs.Pieces.{ComesFrom, IsCome, IsNext, HasNoLine, IsWhole, with_answer, come_of};
+ghost use Rattle.mari_publish.specs.Pieces.{ComesFrom, IsCome, IsNext, HasNoLine, IsWhole, KeepsFew, with_answer, come_of};
 ghost use Rattle.mari_publish.specs.Handling.{Handles};
 
 use crate::fault::TextFault;
@@ -14,35 +14,42 @@ use mari_lines::{MOST_LINE, split_once};
 use mari_units::{MOST_RUNS, Memory};
 use std::alloc::Global;
 
-/// What is there of the bytes behind the handled lines: all of them, or of a line that is too long a mark, and whether
-/// it has ended.
+/// What there is of the bytes after the handled lines.
 #[derive(Clone, Copy)]
 pub enum Ahead {
+    /// All of them.
     Kept,
+    /// Of a line that is too long a mark; it has not ended.
     TooLong,
+    /// Of a line that is too long a mark; it has ended.
     Ended,
 }
 
-/// What has come of a text: what is kept of the handled lines and how many they are, and the bytes of which so many
-/// are handled.
+/// What has come of a text.
 #[derive(Drop)]
 pub struct Coming {
+    /// What is kept of the handled lines.
     pub kept: Kept,
+    /// How many lines are handled.
     pub lines: u32,
+    /// What there is of the bytes after them.
     pub ahead: Ahead,
+    /// The bytes of handled lines that are not forgotten yet, and those after them.
     pub bytes: Vec<u8>,
+    /// How many of these bytes are handled.
     pub handled: usize,
 }
 
-/// What comes of the first line behind the handled ones: the part that is whole with it, if one is; or no line is
-/// whole.
+/// What comes of the first line after the handled ones.
 #[derive(Drop)]
 pub enum Handled {
+    /// It is whole: the part that is whole with it, if one is.
     Line(Option<Part>),
+    /// No line is whole.
     Nothing,
 }
 
-/// Handles the first line behind the handled ones, if it is whole.
+/// Handles the first line after the handled ones, if it is whole.
 fn handle_line(alloc: Global, coming: &mut Coming) -> Result<Handled, TextFault>
     requires handled { coming.old.handled ≤ vec_len coming.old.bytes }
     requires counts { coming.old.kept.counts.published + coming.old.kept.counts.unpublished ≤ MOST_RUNS }
@@ -92,13 +99,14 @@ pub fn next_part(alloc: Global, coming: &mut Coming) -> Result<Option<Part>, Tex
     }
 }
 
-/// Forgets the bytes of handled lines, and those of a line that is too long.
+/// Forgets the bytes of handled lines, and those of a line that is too long: no more than `MOST_LINE` bytes stay.
 pub fn forget(coming: &mut Coming)
     requires handled { coming.old.handled ≤ vec_len coming.old.bytes }
     requires no_line { HasNoLine (come_of coming.old) }
     ensures handled { coming.new.handled ≤ vec_len coming.new.bytes }
     ensures stands { (text : List ℕ) (parts : List PartValue) → ComesFrom (come_of coming.old) text parts → ComesFrom (come_of coming.new) text parts }
     ensures no_line { HasNoLine (come_of coming.new) }
+    ensures few { KeepsFew (come_of coming.new) }
 {
     let handled = coming.handled;
     coming.handled = 0;

@@ -2,13 +2,16 @@
 
 use std::alloc::AllocError;
 
-/// A line of no form, a line that does not stand where it may, or a text that ends too early, each with the number of
-/// the line from 1; or want of memory.
+/// Why a text is not that of a publication. Lines count from 1.
 #[derive(Clone, Copy, Debug, PartialEq, Eq)]
 pub enum TextFault {
+    /// The line of this number has no form that a day has.
     BadLine(u32),
+    /// The line of this number can't stand where it stands.
     BadOrder(u32),
+    /// The text ends too early, in the line of this number.
     Truncated(u32),
+    /// Out of memory.
     Memory,
 }
 

@@ -6,7 +6,7 @@ ghost use Rattle.mari_publish.specs.declared.fault.TextFault.{TextFault as TextF
 ghost use Rattle.mari_publish.specs.declared.publication.Part.{Part as PartValue};
 ghost use Rattle.mari_publish.specs.declared.publication.Publication.{Publication as PublicationValue};
 ghost use Rattle.mari_publish.specs.Faults.{IsText, BadLineAt, BadOrderAt, TruncatedAt};
-ghost use Rattle.mari_publish.specs.Pieces.{ComesFrom, HasPart, IsNext, IsEnd, SameAnswer, with_answer, found_none};
+ghost use Rattle.mari_publish.specs.Pieces.{ComesFrom, HasPart, IsNext, IsEnd, KeepsFew, SameAnswer, with_answer, found_none};
 
 use crate::coming::{Ahead, Coming, append, forget, is_whole, next_part};
 use crate::fault::TextFault;
@@ -16,7 +16,7 @@ use mari_units::Memory;
 use std::alloc::Global;
 use std::marker::Model;
 
-/// A text that comes in pieces. The reader keeps what has come of the part that is being read, and the bytes behind
+/// A text that comes in pieces. The reader keeps what has come of the part that is being read, and the bytes after
 /// the lines that are handled: neither the text nor the parts that were given. Where `next` finds no further part and
 /// more than `MOST_LINE` bytes of a line have come, it keeps of them only that the line is too long.
 #[derive(Drop)]
@@ -27,13 +27,13 @@ pub struct TextReader {
 
 impl Model for TextReader {
     ghost use Rattle.std.specs.Prelude.{◌≡◌, ◌≤◌, true, vec_len};
-    ghost use Rattle.mari_publish.specs.Pieces.{ReaderState, IsCome, HasNoLine, come_of};
+    ghost use Rattle.mari_publish.specs.Pieces.{ReaderState, IsCome, HasNoLine, KeepsFew, come_of};
 
     ghost Value = { ReaderState };
 
     ghost view = { λ r. record { come = come_of r.coming; waits = r.waits } };
 
-    ghost invariant = { λ r. (r.coming.handled ≤ vec_len r.coming.bytes) × IsCome (come_of r.coming) × (r.waits ≡ true → HasNoLine (come_of r.coming)) };
+    ghost invariant = { λ r. (r.coming.handled ≤ vec_len r.coming.bytes) × IsCome (come_of r.coming) × (r.waits ≡ true → HasNoLine (come_of r.coming)) × (r.waits ≡ true → KeepsFew (come_of r.coming)) };
 }
 
 impl TextReader {
@@ -74,16 +74,22 @@ impl TextReader {
 
     /// The next part; none where no further one is whole. A fault of a line comes once all parts before it were given,
     /// and comes again at each further call.
+    ///
+    /// After an error the reader stands for the same text and the same parts as before; lines that were handled on the
+    /// way stay handled.
     pub fn next(&mut self, alloc: Global) -> Result<Option<Part>, TextFault>
         // What it is, and what the reader stands for then: after an error, for what it stood for.
         ensures next { (text : List ℕ) (parts : List PartValue) → ComesFrom self.old.come text parts → IsNext text parts result }
         ensures stands { (text : List ℕ) (parts : List PartValue) → ComesFrom self.old.come text parts → ComesFrom self.new.come text (with_answer parts result) }
         ensures waits { self.new.waits ≡ found_none result }
 
+        // Where no further part is whole, no more of the text is kept than a line may have.
+        ensures few { found_none result ≡ true → KeepsFew self.new.come }
+
         // The text so far and the parts given have no other answer, in whatever pieces the text came.
         ensures one { (text : List ℕ) (parts : List PartValue) (answer : Result (Option PartValue) TextFaultValue) → ComesFrom self.old.come text parts → IsNext text parts answer → SameAnswer answer result }
 
-        // A part that is there and a fault stay what they are, whatever text comes behind them.
+        // A part that is there and a fault stay what they are, whatever text comes after them.
         ensures part { (text more : List ℕ) (parts : List PartValue) (x : PartValue) → HasPart text parts x → HasPart (text ++ more) parts x }
         ensures bad_line { (text more : List ℕ) (n : ℕ) → BadLineAt text n → BadLineAt (text ++ more) n }
         ensures bad_order { (text more : List ℕ) (n : ℕ) → BadOrderAt text n → BadOrderAt (text ++ more) n }

@@ -18,11 +18,17 @@ use std::mem;
 /// The parts so far.
 #[derive(Drop)]
 pub struct Gathered {
+    /// The date, once the head has come.
     pub date: Option<Name>,
+    /// How many quarter hours it has.
     pub quarters: u32,
+    /// The budget of nodes for each run.
     pub budget: u32,
+    /// The blocks so far.
     pub blocks: Vec<Block>,
+    /// The totals of operators, once they have come.
     pub operators: Items<MoneyLine>,
+    /// The totals of providers, once they have come.
     pub providers: Items<AmountLine>,
 }
 

@@ -12,12 +12,14 @@ use mari_lines::{FormFault, read_line};
 use mari_units::MOST_RUNS;
 use std::alloc::Global;
 
-/// Why bytes are not taken as the next line: they have no line's form, the line may not stand here, or there was no
-/// memory.
+/// Why bytes are not taken as the next line.
 #[derive(Clone, Copy)]
 pub enum TakeFault {
+    /// They have no line's form.
     Formless,
+    /// The line may not stand here.
     OutOfOrder,
+    /// Out of memory.
     Memory,
 }
 

@@ -1,4 +1,8 @@
 //! The texts of a publication's parts.
+//!
+//! Each kind of line of a list is written by a loop of its own, whose invariant names what has been written; one loop
+//! for all kinds would need a law of every kind in its place. So are lists of a line read (`reading/lists.rt` of
+//! `mari_lines`).
 
 ghost use Rattle.std.specs.Prelude.{◌≡◌, ◌++◌, ◌+◌, ◌≤◌, ◌<◌, OnOk, IfOk, map, length};
 ghost use Rattle.std.specs.List.{All, flat_map};
@@ -133,7 +137,7 @@ fn put_opening(alloc: Global, out: &mut Vec<u8>, block: &FullBlock) -> Result<()
     put_welfare(alloc, out, block.welfare)
 }
 
-/// Appends a block's lines behind its tree.
+/// Appends a block's lines after its tree.
 fn put_ending(alloc: Global, out: &mut Vec<u8>, block: &FullBlock) -> Result<(), Memory>
     requires { FullFits block.now }
     ensures { OnOk result (out.new.items ≡ out.old.items ++ text_of_lines (ending_lines block.now)) }
@@ -199,7 +203,7 @@ fn unpublished_in(blocks: &[Block]) -> u32
     blocks.len() as u32 - published_in(blocks)
 }
 
-/// Appends the lines behind the last block, of a day of which so many blocks are published and so many are not.
+/// Appends the lines after the last block, of a day with these numbers of published and of other blocks.
 fn put_closing(
     alloc: Global,
     out: &mut Vec<u8>,
@@ -253,7 +257,7 @@ pub fn block_text(alloc: Global, block: &Block) -> Result<Vec<u8>, Memory>
     Ok(out)
 }
 
-/// The text behind the last block of a publication.
+/// The text after the last block of a publication.
 pub fn total_text(alloc: Global, publication: &Publication) -> Result<Vec<u8>, Memory>
     requires { TotalsFit publication.now }
     ensures { IfOk result (λ text. text.items ≡ total_text_of publication.now) }
@@ -263,8 +267,8 @@ pub fn total_text(alloc: Global, publication: &Publication) -> Result<Vec<u8>, M
     Ok(out)
 }
 
-/// The same text by what it tells, for a day that isn't held as a publication: so many of its blocks are published, and
-/// so many are not.
+/// The same text by what it says, for a day that isn't held as a publication: the totals, and how many of its blocks
+/// are published, and how many are not.
 pub fn closing_text(
     alloc: Global,
     operators: &[MoneyLine],

@@ -88,7 +88,7 @@ module _ (books : Books) (ok : IsAccepted books) (own : List ℕ) (read : border
   }
 
   module _ (borders : BorderBook) (limits : List (List Limits)) (is : AreRead books borders limits) where
-    same-borders : borders ≡ bare_book
+    pub same-borders : borders ≡ bare_book
     same-borders = cc (sym is.borders_read ∙ are-read.borders_read)
 
     same-limits : limits ≡ limit_table

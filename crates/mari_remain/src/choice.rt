@@ -19,10 +19,12 @@ use mari_links::{BidLinks, LinkBook};
 use mari_units::Memory;
 use std::alloc::Global;
 
-/// The available bids of a run, by their numbers, and the gated ones among them.
+/// The available bids of a run.
 #[derive(Drop)]
 pub(crate) struct Choice {
+    /// The numbers of the available bids, from 0.
     pub numbers: Vec<u32>,
+    /// The numbers of the gated ones among them.
     pub gated: Vec<u32>,
 }
 
@@ -66,7 +68,7 @@ fn share_group(links: &[BidLinks], number: u32, other: u32) -> bool
     }
 }
 
-/// Whether something is left of a bid of which so much was taken in its quarter.
+/// Whether something is left of a bid of which `taken` MW were taken in its quarter.
 fn is_left(books: &Books, number: u32, taken: u32) -> bool
     ensures { (t : Taken) → t.mw number ≡ taken → result ≡ is_left_in books.now t number }
 {
@@ -202,7 +204,7 @@ fn is_among(numbers: &[u32], number: u32) -> bool
     numbers.iter().any(|other| *other == number)
 }
 
-/// Whether a bid is available, behind the available gated bids before it.
+/// Whether a bid is available, after the available gated bids before it.
 fn is_next(
     books: &Books,
     remaining: &Remaining,

@@ -58,7 +58,7 @@ fn empty(alloc: Global, keys: u32) -> Result<Vec<Numbers>, Memory>
     Ok(made)
 }
 
-/// For each key below so many, the places of the items that have it.
+/// For each key below `count`, the places of the items that have it.
 pub(crate) fn index_of(alloc: Global, keys: &[u32], count: u32) -> Result<Vec<Numbers>, Memory>
     requires keys { All (λ key. key < count) keys.now }
     requires few { length keys.now ≤ MOST_PAGE }

@@ -39,7 +39,7 @@ pub fn stands_after(books: &Books)
 
 /// A folder whose borders are read from a page may state their limits for each run instead: the pages that
 /// `borders_text` and `limits_text` write are read as such a folder's, and every run has the market that it had,
-/// behind every list of blocks.
+/// after every list of blocks.
 pub fn migration_keeps_markets(books: &Books)
     requires accepted { IsAccepted books.now }
     requires read { (page : List ℕ) × (borders_in books.now.zones page ≡ Ok books.now.borders) }

@@ -1,6 +1,6 @@
 //! The market of a run: which orders, borders and gates it has.
 //!
-//! A run of any kind stands behind the blocks of all runs before it, of which only what they took is kept. The crate
+//! A run of any kind comes after the blocks of all runs before it, of which only what they took is kept. The crate
 //! stands on the books of a folder and promises that the market is exactly the one that its definition names, and that
 //! it is valid.
 //!
@@ -10,6 +10,7 @@
 
 mod adding;
 mod books;
+mod borders;
 mod choice;
 mod index;
 mod laws;

@@ -1,6 +1,6 @@
-//! The market of a run behind earlier blocks.
+//! The market of a run after earlier blocks.
 
-ghost use Rattle.std.specs.Prelude.{◌≡◌, ◌≤◌, ◌<◌, ◌≤ℤ◌, ◌+◌, ◌==◌, ◌∷◌, ◌++◌, ℤ, pos, List, [], IfOk, IfSome, position, unsigned_abs, length, map};
+ghost use Rattle.std.specs.Prelude.{◌≡◌, ◌≤◌, ◌<◌, ◌+◌, ◌==◌, ◌∷◌, ◌++◌, List, [], IfOk, IfSome, position, unsigned_abs, length, map};
 ghost use Rattle.std.specs.List.{All, range_with_len};
 ghost use Rattle.mari_bids.specs.Bids.{bid_numbered};
 ghost use Rattle.mari_market.specs.Market.{IsValid};
@@ -9,25 +9,28 @@ ghost use Rattle.mari_remain.specs.Accepted.{IsAccepted};
 ghost use Rattle.mari_remain.specs.Blocks.{PastBlock};
 ghost use Rattle.mari_remain.specs.FirstBlocks.{StandsFor, block_of, taken_in};
 ghost use Rattle.mari_remain.specs.Lists.{bids_of_quarter, demand_at, numbers_of_run, run_numbered};
-ghost use Rattle.mari_remain.specs.RunMarket.{at_least_0 as at_least_0_of, bid_order as bid_order_of, border_left as border_in, borders_left, demand_order as demand_order_of, demands_of_run as demands_in, ends_at, gate_at, gate_of as gate_in, gates_of as gates_in, inelastic_price as inelastic_price_of, orders_of as orders_in, run_limits, run_market_left, run_market_of};
+ghost use Rattle.mari_remain.specs.RunMarket.{bid_order as bid_order_of, demand_order as demand_order_of, demands_of_run as demands_in, gate_at, gate_of as gate_in, gates_of as gates_in, inelastic_price as inelastic_price_of, orders_of as orders_in, run_market_left, run_market_of};
 
 use crate::adding::{add_mw, carry, mark_if};
 use crate::books::Books;
+use crate::borders::borders_of;
 use crate::choice::{Choice, choose, group_of, parent_of};
 use crate::remaining::Remaining;
 use mari_bids::Bid;
-use mari_demands::{Demand, Limits, Run};
+use mari_demands::{Demand, Run};
 use mari_links::BidLinks;
-use mari_market::{Activation, Border, GateInfo, Market, Order, Side};
-use mari_units::{CAP, Cents, Items, MOST_FLOW, MOST_GATES, MOST_MW, Memory};
-use mari_zones::BorderEnds;
+use mari_market::{Activation, GateInfo, Market, Order, Side};
+use mari_units::{CAP, Cents, Items, MOST_GATES, MOST_MW, Memory};
 use std::alloc::Global;
 
-/// The market of a run; the numbers of the bids that are its first orders; and how many demands follow as orders.
+/// The market of a run, and what its orders are made of.
 #[derive(Drop)]
 pub struct RunMarket {
+    /// The market.
     pub market: Market,
+    /// The numbers of the bids that are its first orders, from 0.
     pub bids: Items<u32>,
+    /// How many demands follow as orders.
     pub demands: u32,
 }
 
@@ -74,7 +77,7 @@ fn place_of(numbers: &[u32], number: u32) -> Option<usize>
     numbers.iter().position(|other| *other == number)
 }
 
-/// The order of a bid of which so much was taken: upward it gives energy and downward it takes it. One with a gate
+/// The order of a bid of which `taken` MW were taken: upward it gives energy and downward it takes it. One with a gate
 /// runs at least 1 MW where it runs, and is offered whole.
 fn bid_order(bid: Bid, gate: Option<u32>, taken: u32) -> Order
     ensures { result ≡ bid_order_of bid gate taken }
@@ -181,8 +184,7 @@ fn demands_of(
     ensures { IfOk result (λ own. own.items ≡ demands_in books.now.demands.demands run) }
 {
     let numbers = remaining.demands_of(run);
-    let own = demands_at(alloc, books.demands.demands.as_slice(), numbers)?;
-    Ok(own)
+    demands_at(alloc, books.demands.demands.as_slice(), numbers)
 }
 
 /// What is known of the gates of the gated bids.
@@ -209,79 +211,6 @@ fn gate_info(links: &[BidLinks], gated: &[u32], number: u32) -> GateInfo
             Some(parent) => gate_of(gated, parent),
         },
     }
-}
-
-/// The limits that the files state for a border in a run.
-pub(crate) fn limits_of(books: &Books, run: u32, border: u32, ends: BorderEnds) -> Limits
-    // A run and a border of the folder's books.
-    requires accepted { IsAccepted books.now }
-    requires first { 1 ≤ run }
-    requires last { run ≤ length books.now.runs.runs }
-    requires border { border < length books.now.borders.borders }
-    requires ends { ends ≡ ends_at books.now.borders.borders border }
-
-    // Stated for the day or for that run, and no greater than a file may state them.
-    ensures limits { result ≡ run_limits books.now run border }
-    ensures limit { result.limit ≤ MOST_MW }
-    ensures back { result.back ≤ MOST_MW }
-{
-    match &books.limits {
-        None => Limits {
-            limit: ends.limit,
-            back: ends.back,
-        },
-        Some(book) => {
-            let (limit, back) = book.of(run, border);
-            Limits { limit, back }
-        }
-    }
-}
-
-/// A number, or 0 where it is below.
-fn at_least_0(mw: i64) -> u32
-    requires { mw ≤ℤ pos MOST_FLOW }
-    ensures { result ≡ at_least_0_of mw }
-{
-    if mw < 0 { 0 } else { mw as u32 }
-}
-
-/// A border over which so much flowed before, with what is left of its limits.
-fn border_left(ends: BorderEnds, limits: Limits, flow: i64) -> Border
-    requires limit { limits.limit ≤ MOST_MW }
-    requires back { limits.back ≤ MOST_MW }
-    requires flow { unsigned_abs flow ≤ MOST_MW }
-    ensures { result ≡ border_in ends limits flow }
-{
-    Border {
-        from: ends.from,
-        to: ends.to,
-        limit: at_least_0(i64::from(limits.limit) - flow),
-        back: at_least_0(i64::from(limits.back) + flow),
-    }
-}
-
-/// The borders with what is left of their limits in a run.
-fn borders_of(
-    alloc: Global,
-    books: &Books,
-    remaining: &Remaining,
-    run: u32,
-    quarter: u32,
-) -> Result<Vec<Border>, Memory>
-    requires accepted { IsAccepted books.now }
-    requires first { 1 ≤ run }
-    requires last { run ≤ length books.now.runs.runs }
-    requires quarter { quarter ≡ (run_numbered books.now run).quarter }
-    requires small { All (λ flow. unsigned_abs flow ≤ MOST_MW) remaining.now.flow }
-    ensures { IfOk result (λ made. made.items ≡ borders_left books.now (taken_in books.now remaining.now quarter) run) }
-{
-    let mut made = Vec::new(alloc);
-    for (number, ends) in books.borders.borders.as_slice().iter().enumerate() {
-        let flow = remaining.flow_of(quarter, number as u32);
-        let limits = limits_of(books, run, number as u32, *ends);
-        made.push(border_left(*ends, limits, flow))?;
-    }
-    Ok(made)
 }
 
 /// The orders of a run's bids, and then those of its demands.
@@ -338,7 +267,7 @@ fn made_of(
     requires index { remaining.now.of_quarter ≡ map (bids_of_quarter books.now.bids.bids) (range_with_len 0 (books.now.quarters + 1)) }
     requires demands { remaining.now.of_run ≡ map (numbers_of_run books.now.demands.demands) (range_with_len 0 (length books.now.runs.runs + 1)) }
 
-    // The market behind these blocks.
+    // The market after these blocks.
     ensures { IfOk result (λ made. made ≡ run_market_left books.now (taken_in books.now remaining.now (run_numbered books.now run).quarter) run) }
 {
     let entry = run_entry(books, run);
@@ -361,20 +290,19 @@ fn made_of(
 }
 
 impl Remaining {
-    /// The market of a run, counted from 1, behind the blocks of all runs before it: its available bids in the order
+    /// The market of a run, counted from 1, after the blocks of all runs before it: its available bids in the order
     /// of their file, then its demands, over the borders with what is left of their limits.
     pub fn market_of(&self, alloc: Global, books: &Books, run: u32) -> Result<RunMarket, Memory>
         requires accepted { IsAccepted books.now }
         requires last { run ≤ length books.now.runs.runs }
         requires stands { (blocks : List PastBlock) × StandsFor books.now blocks self.now × (run ≡ length blocks + 1) }
 
-        // Exactly the market behind the blocks, whatever list of them this stands for.
+        // Exactly the market after the blocks, whatever list of them this stands for.
         ensures market { (blocks : List PastBlock) → StandsFor books.now blocks self.now → run ≡ length blocks + 1
             → IfOk result (λ made. made ≡ run_market_of books.now blocks run) }
         ensures valid { IfOk result (λ made. IsValid made.market) }
     {
-        let made = made_of(alloc, books, self, run)?;
-        Ok(made)
+        made_of(alloc, books, self, run)
     }
 
     /// Adds the published block of a run: the market that was made of it here, and an activation that is feasible in

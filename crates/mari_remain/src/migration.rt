@@ -10,7 +10,7 @@ ghost use Rattle.mari_remain.specs.Accepted.{IsAccepted};
 ghost use Rattle.mari_remain.specs.Migrated.{border_record, borders_page, limit_record, limits_page, run_records};
 
 use crate::books::Books;
-use crate::market::limits_of;
+use crate::borders::limits_of;
 use mari_demands::{LIMIT_COLUMNS, Limits};
 use mari_units::{Memory, put, put_number};
 use mari_zones::{BARE_COLUMNS, BorderEnds, ZoneBook};
@@ -49,7 +49,7 @@ fn put_border(text: &mut Vec<u8>, zones: &ZoneBook, ends: BorderEnds) -> Result<
     put(text, b"\n")
 }
 
-/// Appends limits, each behind a comma.
+/// Appends limits, each after a comma.
 fn put_limits(alloc: Global, text: &mut Vec<u8>, limits: Limits) -> Result<(), Memory>
     ensures { OnOk result (text.new.items ≡ text.old.items ++ 44 ∷ decimal limits.limit ++ 44 ∷ decimal limits.back) }
 {

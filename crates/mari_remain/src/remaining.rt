@@ -16,16 +16,20 @@ use mari_units::{MOST_MW, Memory};
 use std::alloc::Global;
 use std::marker::Model;
 
-/// What the blocks of a day's first runs took: the MW of each bid, which bids a direct run activated, the quarter of
-/// the last published block, and the sum of each border's flows in that quarter. It also holds the bids of each
-/// quarter and the demands of each run.
+/// What the blocks of a day's first runs took, and the bids of each quarter and the demands of each run.
 #[derive(Debug, Drop)]
 pub struct Remaining {
+    /// How many MW of each bid were taken.
     pub(crate) mw: Vec<u32>,
+    /// Which bids a direct run activated.
     pub(crate) direct: Vec<bool>,
+    /// The quarter of the last published block.
     pub(crate) quarter: Option<u32>,
+    /// The sum of each border's flows in that quarter, in MW.
     pub(crate) flow: Vec<i64>,
+    /// The numbers of the bids of each quarter.
     pub(crate) of_quarter: Vec<Numbers>,
+    /// The numbers of the demands of each run.
     pub(crate) of_run: Vec<Numbers>,
 }
 

@@ -24,7 +24,7 @@ pub trait BookSoFar {
     /// It is what these lines make.
     ghost Holds: { Self → List Line → Type 0 };
 
-    /// Takes one more line, or tells the first check that it fails. After that it is used no more.
+    /// Takes one more line, or reports the first check that it fails. After that it is used no more.
     fn take(&mut self, alloc: Global, line: &Row) -> Result<(), LineFault<Self::Check>>
         requires { (earlier : List Line) × Holds self.old earlier × (length earlier < MOST_PAGE) }
         ensures same { grammar self.new ≡ grammar self.old }
@@ -59,7 +59,7 @@ fn book_of<S: BookSoFar + Drop>(
     }
 }
 
-/// Reads the book of a page with these columns, whose names stand between the commas, or tells its first refusal.
+/// Reads the book of a page with these columns, whose names stand between the commas, or reports its first refusal.
 pub fn read_book<S: BookSoFar + Drop>(
     alloc: Global,
     page: &[u8],

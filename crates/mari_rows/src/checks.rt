@@ -8,7 +8,12 @@ use mari_units::Memory;
 use std::alloc::{AllocError, AllocFailed};
 
 /// A check by which a file may be refused.
-pub trait FileCheck: Copy {
+///
+/// The numbers name the checks. They aren't the order in which a file is tested.
+pub trait FileCheck: Copy + 'static {
+    /// All checks of the file.
+    const ALL: &'static [Self];
+
     /// Its number.
     ghost number: { Self → ℕ };
 
@@ -24,12 +29,17 @@ pub trait FileCheck: Copy {
 /// A check that every file has, before its own.
 #[derive(Clone, Copy, Debug, PartialEq, Eq)]
 pub enum RowCheck {
+    /// The first record isn't the file's header.
     BadHeader,
+    /// The record has another number of fields than the header.
     BadRow,
+    /// A field of the record isn't UTF-8.
     NotUtf8,
 }
 
 impl FileCheck for RowCheck {
+    const ALL: &'static [Self] = &[RowCheck::BadHeader, RowCheck::BadRow, RowCheck::NotUtf8];
+
     ghost number = { row_check_number };
 
     ghost name = { row_check_name };
@@ -44,10 +54,12 @@ impl FileCheck for RowCheck {
     }
 }
 
-/// Why a line is not taken into a book: it fails a check, or memory was wanted.
+/// Why a line is not taken into a book.
 #[derive(Clone, Copy, Debug, Drop, PartialEq, Eq)]
 pub enum LineFault<C> {
+    /// It fails a check.
     Fails(C),
+    /// Out of memory.
     Memory,
 }
 

@@ -9,25 +9,33 @@ use thiserror::Error;
 /// Why a page has no rows. Lines count records, the header being 1.
 #[derive(Clone, Copy, Debug, PartialEq, Eq)]
 pub enum RowFault {
+    /// The first record isn't the header.
     BadHeader,
+    /// The record at this line has another number of fields than the header.
     BadRow(u32),
+    /// A field of the record at this line isn't UTF-8.
     NotUtf8(u32),
+    /// Out of memory.
     Memory,
 }
 
 /// Why a name was not added.
 #[derive(Clone, Copy, Debug, PartialEq, Eq)]
 pub enum AddFault {
+    /// The index has it already.
     Repeated,
+    /// Out of memory.
     Memory,
 }
 
-/// The first refusal of a book: its line and the number of the check that fails.
+/// The first refusal of a book.
 #[derive(Clone, Copy, Debug, PartialEq, Eq, Error)]
 pub enum BookFault {
+    /// A record fails a check: its line, the header being 1, and the number of the check.
     #[error("line {line}: check {number} fails")]
     At { line: u32, number: u8 },
-    #[error("memory was wanted and not there")]
+    /// Out of memory.
+    #[error("out of memory")]
     Memory,
 }
 

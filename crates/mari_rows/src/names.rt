@@ -1,5 +1,5 @@
 //! Names in the order in which they were added.
-ghost use Rattle.std.specs.Prelude.{◌≡◌, ◌≢◌, ◌<◌, ◌↔◌, ◌++◌, [], ◌∷◌, true, length, slice_get, position, option_map, is_some, IfOk, OnErr, IsErrOf};
+ghost use Rattle.std.specs.Prelude.{◌≡◌, ◌≢◌, ◌<◌, ◌↔◌, ◌++◌, [], ◌∷◌, true, false, length, slice_get, position, option_map, is_some, IfOk, OnErr, IsErrOf};
 ghost use Rattle.mari_rows.specs.Names.{is_among, place_in, with_name};
 ghost use Rattle.mari_units.specs.Names.{is_name};
 ghost use Rattle.std.specs.List.{AllPairs};
@@ -7,7 +7,7 @@ ghost use Rattle.std.specs.Str.{bytes_eq};
 
 use crate::faults::AddFault;
 use indexmap::IndexSet;
-use mari_units::{Memory, Name, NameFault, read_name};
+use mari_units::{Memory, Name};
 use std::alloc::Global;
 use std::marker::Model;
 
@@ -46,10 +46,24 @@ impl NameIndex {
         }
     }
 
-    /// Adds a name behind the others, and gives its place.
+    /// Puts a new name after the others, and gives its place.
     #[tactic(auto, using(crate::proofs::NameLemmas::name_lemmas))]
+    fn push(&mut self, text: Vec<u8>) -> Result<u32, Memory>
+        requires room { length self.old < u32.MAX }
+        requires new { is_among self.old text.items ≡ false }
+        ensures place { IfOk result (λ place. place ≡ length self.old) }
+        ensures added { IfOk result (λ place. self.new ≡ self.old ++ text.items ∷ []) }
+        ensures err { OnErr result (self.new ≡ self.old) }
+    {
+        match self.names.insert_full(text) {
+            Ok((place, _)) => Ok(place as u32),
+            Err(_) => Err(Memory),
+        }
+    }
+
+    /// Adds a name after the others, and gives its place.
     pub fn add(&mut self, alloc: Global, name: Name) -> Result<u32, AddFault>
-        requires { length self.old < 4294967295 }
+        requires { length self.old < u32.MAX }
         ensures place { IfOk result (λ place. place ≡ length self.old) }
         ensures added { IfOk result (λ place. self.new ≡ self.old ++ name ∷ []) }
         ensures repeated { IsErrOf result AddFault.Repeated ↔ (is_among self.old name ≡ true) }
@@ -61,8 +75,8 @@ impl NameIndex {
         let Ok(text) = name.bytes().to_vec(alloc) else {
             return Err(AddFault::Memory);
         };
-        match self.names.insert_full(text) {
-            Ok((place, _)) => Ok(place as u32),
+        match self.push(text) {
+            Ok(place) => Ok(place),
             Err(_) => Err(AddFault::Memory),
         }
     }
@@ -75,9 +89,9 @@ impl NameIndex {
         self.names.contains(name)
     }
 
-    /// The place of a name, which goes behind the others where it is new.
+    /// The place of a name, which goes after the others where it is new.
     pub fn find_or_add(&mut self, alloc: Global, name: &[u8]) -> Result<u32, Memory>
-        requires room { length self.old < 4294967295 }
+        requires room { length self.old < u32.MAX }
         requires name { is_name name.now ≡ true }
         ensures place { IfOk result (λ place. place ≡ place_in self.new name.now) }
         ensures names { IfOk result (λ place. self.new ≡ with_name self.old name.now) }
@@ -86,16 +100,7 @@ impl NameIndex {
         if let Some(place) = self.find(name) {
             return Ok(place);
         }
-        let name = match read_name(alloc, name) {
-            Ok(name) => name,
-            Err(NameFault::NotAName) => unreachable!(),
-            Err(NameFault::Memory) => return Err(Memory),
-        };
-        match self.add(alloc, name) {
-            Ok(place) => Ok(place),
-            Err(AddFault::Repeated) => unreachable!(),
-            Err(AddFault::Memory) => Err(Memory),
-        }
+        self.push(name.to_vec(alloc)?)
     }
 
     /// The place of a name, counted from 0.

@@ -42,11 +42,14 @@ impl Drop for Records<'_> {
     }
 }
 
-/// What the test of the next record tells: there is none, or nothing is wrong with it by itself, or this is.
+/// What the test of the next record says.
 #[derive(Clone, Copy, Debug, PartialEq, Eq)]
 pub(crate) enum TestedRecord {
+    /// There is none.
     End,
+    /// Nothing is wrong with it by itself.
     Fine,
+    /// This is wrong with it.
     Faulty(RowFault),
 }
 
@@ -72,7 +75,7 @@ fn all_text(row: &ByteRecord) -> bool
     true
 }
 
-/// What is wrong with a record of this line by itself, where so many fields are wanted. No field is copied.
+/// What is wrong with a record of this line by itself, where `width` fields are wanted. No field is copied.
 fn test(row: &ByteRecord, line: u32, width: usize) -> TestedRecord
     ensures { TellsRecord width line (fields_of row.now) result }
 {
@@ -125,7 +128,7 @@ fn is_header_record(alloc: Global, row: &ByteRecord, columns: &[&[u8]]) -> Resul
     is_header(alloc, fields.as_slice(), columns)
 }
 
-/// What stops a reader that takes records of any number of fields is want of memory.
+/// What stops a reader that takes records of any number of fields is that memory runs out.
 fn memory_of(error: Error) -> Memory
     requires { NotLengths (error_kind error) }
 {
@@ -163,7 +166,7 @@ impl<'a> Records<'a> {
         })
     }
 
-    /// The fields of the next record. Once memory was wanted there are no more.
+    /// The fields of the next record. After `Memory` there are no more.
     pub(crate) fn next(&mut self, alloc: Global) -> Result<Option<Vec<Field>>, Memory>
         ensures next { IfOk result (λ next. MatchOption next ((self.old ≡ []) × (self.new ≡ [])) (λ fields. self.old ≡ fields.items ∷ self.new)) }
         ensures err { OnErr result (self.new ≡ []) }
@@ -180,7 +183,7 @@ impl<'a> Records<'a> {
         Ok(Some(fields))
     }
 
-    /// Whether the next record is these columns, if there is one. Once memory was wanted there are no more.
+    /// Whether the next record is these columns, if there is one. After `Memory` there are no more.
     pub(crate) fn next_is(
         &mut self,
         alloc: Global,
@@ -201,7 +204,7 @@ impl<'a> Records<'a> {
         Ok(Some(is_header))
     }
 
-    /// Tests the next record, of this line, where so many fields are wanted. Once memory was wanted there are no more.
+    /// Tests the next record, of this line, where `width` fields are wanted. After `Memory` there are no more.
     pub(crate) fn test_next(&mut self, line: u32, width: usize) -> Result<TestedRecord, Memory>
         ensures tested { IfOk result (TellsNext width line self.old self.new) }
         ensures err { OnErr result (self.new ≡ []) }

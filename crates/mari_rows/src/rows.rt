@@ -13,16 +13,19 @@ use mari_units::{Items, MOST_PAGE, Memory};
 use std::alloc::{AllocError, Global};
 use std::marker::Model;
 
-/// A record and its line, which is its number among the file's records, the header being 1.
+/// A record and its line.
 #[derive(Debug, Drop)]
 pub struct Row {
+    /// Its number among the file's records, the header being 1.
     pub line: u32,
+    /// Its fields.
     pub fields: Items<Field>,
 }
 
 /// The records below the header, in their order.
 #[derive(Debug, Drop)]
 pub struct Rows {
+    /// The records.
     pub rows: Items<Row>,
 }
 
@@ -60,7 +63,7 @@ impl Row {
 }
 
 impl<'a> RowReader<'a> {
-    /// The next row. Once memory was wanted there are no more.
+    /// The next row. After `Memory` there are no more.
     pub fn next(&mut self, alloc: Global) -> Result<Option<Row>, Memory>
         ensures next { IfOk result (λ next. MatchOption next ((self.old ≡ []) × (self.new ≡ [])) (λ row. self.old ≡ row ∷ self.new)) }
         ensures err { OnErr result (self.new ≡ []) }
@@ -85,7 +88,7 @@ impl<'a> RowReader<'a> {
         self.line
     }
 
-    /// Tests the next row, where so many fields are wanted.
+    /// Tests the next row, where `width` fields are wanted.
     fn test_next(&mut self, width: usize) -> Result<TestedRecord, Memory>
         ensures tested { IfOk result (TellsRow width self.old self.new) }
         ensures err { OnErr result (self.new ≡ []) }

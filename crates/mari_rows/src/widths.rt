@@ -31,7 +31,7 @@ enum Ended {
 }
 
 impl Place {
-    /// The place behind a byte that may end the field, and what it ends.
+    /// The place after a byte that may end the field, and what it ends.
     fn behind_unquoted(byte: u8) -> (Place, Ended)
         ensures place { state_of result.0 ≡ (in_field_of default_config byte).0 }
         ensures ended { result.1 ≡ ended_by (in_field_of default_config byte).1 }
@@ -44,7 +44,7 @@ impl Place {
         }
     }
 
-    /// The place behind a byte of this place, and what it ends.
+    /// The place after a byte of this place, and what it ends.
     fn behind(self, byte: u8) -> (Place, Ended)
         ensures place { state_of result.0 ≡ (step_of default_config (state_of self) byte).0 }
         ensures ended { result.1 ≡ ended_by (step_of default_config (state_of self) byte).1 }
@@ -91,7 +91,7 @@ fn commas_in(text: &[u8]) -> usize
     commas
 }
 
-/// The line of the first record with more than so many fields, by a walk along the text.
+/// The line of the first record with more than `most` fields, by a walk along the text.
 fn wide_line_in(text: &[u8], most: usize) -> Option<usize>
     ensures { result ≡ first_wide most (rows_from 1 (records default_config text.now)) }
 {

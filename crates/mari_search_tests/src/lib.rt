@@ -12,6 +12,8 @@ mod gates;
 #[cfg(test)]
 mod incumbent;
 #[cfg(test)]
+mod looking;
+#[cfg(test)]
 mod machine;
 #[cfg(test)]
 mod markets;

@@ -1,11 +1,14 @@
-//! Random small markets, cleared by one worker and by several.
+//! Random small markets, cleared by one worker and by several: all of them come to one clearing, tree and all.
 
 ghost use Rattle.std.specs.Prelude.{◌<◌, ◌≤◌};
 ghost use Rattle.mari_market.specs.Clearing.{IsWorkerCount};
 
 use crate::searches::{alone, by_crew};
 use crate::small::opened;
-use mari_market::{Activation, Border, Cleared, Finding, GateInfo, Market, Order, Prefix, Side};
+use mari_market::{
+    Activation, Border, Cleared, Clearing, Finding, GateInfo, Leaf, Market, Order, Prefix, Side,
+    TreeItem,
+};
 use mari_node::examine_from;
 use mari_units::{Cents, Items, Memory};
 use mari_workers::Turnstile;
@@ -142,14 +145,83 @@ impl Turnstile for Yielding {
     }
 }
 
-/// The welfare that is published, and the bits of the gates whose orders run.
-type Told = Option<(u64, u64)>;
+/// A sum by which clearings are told apart: each number is mixed into those before it.
+#[derive(Drop)]
+struct Sum {
+    state: u64,
+}
+
+impl Sum {
+    fn add(&mut self, number: u64) {
+        self.state = (self.state ^ number).wrapping_mul(0x0000_0100_0000_01B3);
+        self.state ^= self.state >> 29;
+    }
+
+    fn add_signed(&mut self, number: i64) {
+        self.add(u64::from(number < 0));
+        self.add(number.unsigned_abs());
+    }
+
+    fn add_prices(&mut self, prices: &[Cents]) {
+        for price in prices {
+            self.add_signed(price.0);
+        }
+    }
+
+    fn add_numbers(&mut self, numbers: &[u32]) {
+        for number in numbers {
+            self.add(u64::from(*number));
+        }
+    }
+
+    fn add_activation(&mut self, activation: &Activation) {
+        self.add_numbers(activation.mw.as_slice());
+        for flow in activation.flow.as_slice() {
+            self.add_signed(*flow);
+        }
+    }
+
+    fn add_leaf(&mut self, leaf: &Leaf) {
+        match leaf {
+            Leaf::Bound(potentials) => self.add_prices(potentials.cents.as_slice()),
+            Leaf::Cut(cut) => self.add_numbers(cut.zones.as_slice()),
+            Leaf::Conflict(conflict) => {
+                self.add_numbers(conflict.chain.as_slice());
+                self.add_prices(conflict.potentials.cents.as_slice());
+                self.add_activation(&conflict.activation);
+            }
+        }
+    }
+
+    fn add_tree(&mut self, tree: &[TreeItem]) {
+        for item in tree {
+            match item {
+                TreeItem::Branch => self.add(1),
+                TreeItem::Leaf(leaf) => {
+                    self.add(2);
+                    self.add_leaf(leaf);
+                }
+            }
+        }
+    }
+}
+
+/// The sum of a clearing's quantities, flows and tree.
+fn sum_of(clearing: &Clearing) -> u64 {
+    let mut sum = Sum { state: 0 };
+    sum.add_activation(&clearing.activation);
+    sum.add_tree(clearing.tree.as_slice());
+    sum.state
+}
+
+/// The welfare that is published, the bits of the gates whose orders run, and the sum of all else.
+type Told = Option<(u64, u64, u64)>;
 
 fn told(market: &Market, cleared: &Cleared) -> Told {
     match cleared {
         Cleared::Published(clearing) => {
             let opened = opened(market.orders.as_slice(), clearing.activation.mw.as_slice());
-            Some((clearing.welfare, opened))
+            Some((clearing.welfare, opened, sum_of(clearing)))
         }
         Cleared::Spent(_) | Cleared::Memory => None,
     }
@@ -206,7 +278,7 @@ fn told_of_next<R: Threads + Wait + Sync>(
 }
 
 #[test]
-fn random_markets_come_to_what_one_thread_finds(rt: HostRuntime) -> Result<(), Fail> {
+fn random_markets_come_to_the_clearing_that_one_thread_finds(rt: HostRuntime) -> Result<(), Fail> {
     let mut dice = Dice {
         state: 0x2025_0312_0000_0096,
     };

@@ -8,13 +8,14 @@ use mari_units::{Items, Memory, Quarters};
 use mari_zones::{BorderBook, ZoneBook};
 use std::alloc::Global;
 
-/// What an operator pays for the energy that its zones take in, and its part of the rents of its borders, in
-/// quarter-cents.
+/// What an operator pays and gets.
 ///
 /// The payment is negative where the operator is paid, as for energy that its zones give out.
 #[derive(Clone, Copy, Debug, PartialEq, Eq)]
 pub struct OperatorLine {
+    /// What it pays for the energy that its zones take in, in quarter-cents.
     pub payment: Quarters,
+    /// Its part of the rents of its borders, in quarter-cents.
     pub rent: Quarters,
 }
 
@@ -32,12 +33,14 @@ impl OperatorLine {
     }
 }
 
-/// The ledger of a run, or of several: a line for each operator, an amount for each provider and a rent for each
-/// border, by their numbers, in quarter-cents.
+/// The ledger of a run, or of several.
 #[derive(Clone, Debug, Drop)]
 pub struct Ledger {
+    /// A line for each operator.
     pub operators: Items<OperatorLine>,
+    /// What each provider is paid, in quarter-cents; below 0 it pays.
     pub providers: Items<Quarters>,
+    /// The congestion rent of each border, in quarter-cents.
     pub rents: Items<Quarters>,
 }
 

@@ -10,42 +10,48 @@ ghost use Rattle.mari_settle.specs.Ledger.{carried_in as carried_into, half_of, 
 
 use crate::ledger::OperatorLine;
 use crate::rents::{price_of, rent_of};
-use mari_market::{Activation, Border, Market, worth};
-use mari_units::{Cents, MOST_ZONES, Quarters};
+use mari_market::{Activation, Border, MOST_WORTH, Market, worth};
+use mari_units::{CAP, Cents, MOST_BORDERS, MOST_ZONES, Quarters};
 use mari_zones::ZoneBook;
+
+/// A number above what a border brings into a zone or takes out of it, in MW: twice `MOST_FLOW` is 399,996.
+const MOST_CARRIED: u64 = 400_000;
+
+/// A number above what all borders together bring into a zone, in MW: `MOST_CARRIED` for each of `MOST_BORDERS`.
+const MOST_IMPORT: u64 = 102_400_000;
 
 /// Half of a rent, rounded down to a quarter-cent.
 fn lesser_half(rent: i128) -> i128
-    requires { unsigned_abs rent ≤ 4000000000000 }
+    requires { unsigned_abs rent ≤ MOST_WORTH }
     ensures value { result ≡ half_of rent }
-    ensures small { unsigned_abs result ≤ 4000000000000 }
+    ensures small { unsigned_abs result ≤ MOST_WORTH }
 {
     rent.div_euclid(2)
 }
 
 /// The other half, with an odd quarter-cent.
 fn greater_half(rent: i128) -> i128
-    requires { unsigned_abs rent ≤ 4000000000000 }
+    requires { unsigned_abs rent ≤ MOST_WORTH }
     ensures value { result ≡ rent -ℤ half_of rent }
-    ensures small { unsigned_abs result ≤ 4000000000000 }
+    ensures small { unsigned_abs result ≤ MOST_WORTH }
 {
     rent - lesser_half(rent)
 }
 
 /// A part of a rent for one to whom it is due, and nothing for another.
 fn part_if(due: bool, part: i128) -> i128
-    requires { unsigned_abs part ≤ 4000000000000 }
+    requires { unsigned_abs part ≤ MOST_WORTH }
     ensures value { result ≡ (if due then part else pos 0) }
-    ensures small { unsigned_abs result ≤ 4000000000000 }
+    ensures small { unsigned_abs result ≤ MOST_WORTH }
 {
     if due { part } else { 0 }
 }
 
 /// What an operator gets of a rent, where it operates the border's first zone, its second one, or both.
 fn share(first: bool, second: bool, rent: i128) -> i128
-    requires { unsigned_abs rent ≤ 4000000000000 }
+    requires { unsigned_abs rent ≤ MOST_WORTH }
     ensures value { result ≡ (if first then rent -ℤ half_of rent else pos 0) +ℤ (if second then half_of rent else pos 0) }
-    ensures small { unsigned_abs result ≤ 8000000000000 }
+    ensures small { unsigned_abs result ≤ 2 * MOST_WORTH }
 {
     part_if(first, greater_half(rent)) + part_if(second, lesser_half(rent))
 }
@@ -71,7 +77,7 @@ fn share_of_border(
     requires prices { All IsCapped prices.now }
     requires flow { IsWithinLimits border.now flow }
     ensures value { result ≡ share_of (operator_at zones.now border.now.from) (operator_at zones.now border.now.to) operator (rent_at prices.now border.now flow) }
-    ensures small { unsigned_abs result ≤ 8000000000000 }
+    ensures small { unsigned_abs result ≤ 2 * MOST_WORTH }
 {
     let first = operator_of(zones, border.from) == operator;
     let second = operator_of(zones, border.to) == operator;
@@ -88,7 +94,7 @@ fn operator_rent(
 ) -> i128
     requires { Settles zones.now market.now activation.now prices.now }
     ensures value { result ≡ rent_of_operator zones.now market.now activation.now prices.now operator }
-    ensures small { unsigned_abs result ≤ 256 * 8000000000000 }
+    ensures small { unsigned_abs result ≤ MOST_BORDERS * (2 * MOST_WORTH) }
 {
     let flow = activation.flow.as_slice();
     let mut total = 0;
@@ -103,7 +109,7 @@ fn carried_in(zone: u32, border: &Border, flow: i64) -> i64
     requires border { IsValidBorder MOST_ZONES border.now }
     requires flow { IsWithinLimits border.now flow }
     ensures value { result ≡ carried_into zone border.now flow }
-    ensures small { unsigned_abs result ≤ 400000 }
+    ensures small { unsigned_abs result ≤ MOST_CARRIED }
 {
     let inward = if border.to == zone { flow } else { 0 };
     let outward = if border.from == zone { flow } else { 0 };
@@ -115,7 +121,7 @@ fn net_import(market: &Market, activation: &Activation, zone: u32) -> i64
     requires market { IsValid market.now }
     requires flows { HasFlows market.now activation.now }
     ensures value { result ≡ net_import_of market.now activation.now zone }
-    ensures small { unsigned_abs result ≤ 256 * 400000 }
+    ensures small { unsigned_abs result ≤ MOST_BORDERS * MOST_CARRIED }
 {
     let flow = activation.flow.as_slice();
     let mut total = 0;
@@ -132,7 +138,7 @@ fn import_worth(market: &Market, activation: &Activation, prices: &[Cents], zone
     requires zone { zone < length prices.now }
     requires prices { All IsCapped prices.now }
     ensures value { result ≡ price_at prices.now zone *ℤ net_import_of market.now activation.now zone }
-    ensures small { unsigned_abs result ≤ 9999900 * 102400000 }
+    ensures small { unsigned_abs result ≤ unsigned_abs CAP * MOST_IMPORT }
 {
     worth(
         Cents(price_of(prices, zone)),
@@ -152,7 +158,7 @@ fn payment_for(
     requires settles { Settles zones.now market.now activation.now prices.now }
     requires zone { zone < market.now.zones }
     ensures value { result ≡ payment_at zones.now market.now activation.now prices.now operator zone }
-    ensures small { unsigned_abs result ≤ 9999900 * 102400000 }
+    ensures small { unsigned_abs result ≤ unsigned_abs CAP * MOST_IMPORT }
 {
     if operator_of(zones, zone) == operator {
         import_worth(market, activation, prices, zone)
@@ -171,7 +177,7 @@ fn operator_payment(
 ) -> i128
     requires { Settles zones.now market.now activation.now prices.now }
     ensures value { result ≡ payment_of zones.now market.now activation.now prices.now operator }
-    ensures small { unsigned_abs result ≤ 64 * (9999900 * 102400000) }
+    ensures small { unsigned_abs result ≤ MOST_ZONES * (unsigned_abs CAP * MOST_IMPORT) }
 {
     let mut total = 0;
     for zone in 0..market.zones {

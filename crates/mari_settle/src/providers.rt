@@ -13,6 +13,9 @@ use mari_bids::{Bid, BidBook};
 use mari_market::{Activation, MOST_ORDERS, worth};
 use mari_units::{CAP, Cents, MOST_MW, Quarters};
 
+/// A number above what a bid earns, in quarter-cents: `CAP` times `MOST_MW` is 999,980,000,100.
+const MOST_EARNED: u64 = 1_000_000_000_000;
+
 /// The price that a bid is paid at: an upward one at the greater of the run's and the scheduled one, a downward one at
 /// the lesser.
 fn paid_price(bid: &Bid, prices: &[Cents], scheduled: &[Cents]) -> i64
@@ -34,7 +37,7 @@ fn paid_price(bid: &Bid, prices: &[Cents], scheduled: &[Cents]) -> i64
     }
 }
 
-/// What so many MW of a bid earn its provider.
+/// What a quantity of a bid earns its provider.
 fn earned(bid: &Bid, mw: u32, prices: &[Cents], scheduled: &[Cents]) -> i128
     // The bid's zone has a price of the run, and a scheduled one.
     requires zone { bid.now.zone < length prices.now }
@@ -45,9 +48,9 @@ fn earned(bid: &Bid, mw: u32, prices: &[Cents], scheduled: &[Cents]) -> i128
     // No more than any order of a market runs.
     requires mw { mw ≤ MOST_MW }
 
-    // So many quarter-cents, few enough to be summed over all bids.
+    // The amount, in quarter-cents, and that it can be summed over all bids.
     ensures value { result ≡ earned_by bid.now.up (paid_at bid.now.up (price_at prices.now bid.now.zone) (price_at scheduled.now bid.now.zone)) mw }
-    ensures small { unsigned_abs result ≤ 1000000000000 }
+    ensures small { unsigned_abs result ≤ MOST_EARNED }
 {
     let worth = worth(Cents(paid_price(bid, prices, scheduled)), i64::from(mw));
     if bid.up { worth } else { -worth }
@@ -67,7 +70,7 @@ fn clear(amounts: &mut [Quarters])
 fn pay(amounts: &mut [Quarters], provider: u32, amount: i128)
     requires provider { provider < length amounts.old }
     requires so_far { unsigned_abs (amount_at amounts.old provider) ≤ most_of_run }
-    requires amount { unsigned_abs amount ≤ 1000000000000 }
+    requires amount { unsigned_abs amount ≤ MOST_EARNED }
     ensures lengths { length amounts.new ≡ length amounts.old }
     ensures paid { (k : ℕ) → amount_at amounts.new k ≡ amount_at amounts.old k +ℤ (if provider == k then amount else pos 0) }
 {
@@ -101,7 +104,7 @@ fn pay_all(
     // Each provider's sum, which never runs over.
     ensures lengths { length amounts.new ≡ length bids.now.providers }
     ensures paid { (k : ℕ) → amount_at amounts.new k ≡ sum_along (λ number q. bid_amount prices.now scheduled.now k (slice_get bids.now.bids number) q) numbers.now mw.now }
-    ensures small { (k : ℕ) → unsigned_abs (amount_at amounts.new k) ≤ MOST_ORDERS * 1000000000000 }
+    ensures small { (k : ℕ) → unsigned_abs (amount_at amounts.new k) ≤ MOST_ORDERS * MOST_EARNED }
 {
     for (i, number) in numbers.iter().enumerate() {
         let bid = &bids.bids.as_slice()[*number as usize];

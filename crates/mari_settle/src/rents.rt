@@ -8,7 +8,7 @@ ghost use Rattle.mari_market.specs.Price.{IsCapped, price_at};
 ghost use Rattle.mari_settle.specs.Conditions.{HasFlows, IsSmall};
 ghost use Rattle.mari_settle.specs.Ledger.{rent_of as rent_at, rents_of};
 
-use mari_market::{Activation, Border, Market, worth};
+use mari_market::{Activation, Border, MOST_WORTH, Market, worth};
 use mari_units::{CAP, Cents, Quarters};
 
 /// A zone's price.
@@ -37,7 +37,7 @@ pub(crate) fn rent_of(border: &Border, flow: i64, prices: &[Cents]) -> i128
     requires prices { All IsCapped prices.now }
     requires flow { IsWithinLimits border.now flow }
     ensures value { result ≡ rent_at prices.now border.now flow }
-    ensures small { unsigned_abs result ≤ 4000000000000 }
+    ensures small { unsigned_abs result ≤ MOST_WORTH }
 {
     worth(Cents(gap_of(border, prices)), flow)
 }

@@ -12,7 +12,7 @@ fn counts(shelf: &DiskShelf<HostRuntime>) -> (u64, u64, u64) {
     (shelf.faults(), shelf.misses(), shelf.overs())
 }
 
-/// What fetching a real file of so many bytes gives, how many bytes were appended, and the counts then.
+/// What fetching a real file of a number of bytes gives, how many bytes were appended, and the counts then.
 fn fetch_real(
     rt: HostRuntime,
     path: &str,
@@ -52,7 +52,7 @@ fn no_file_counts_as_missing_and_a_folder_as_failed(rt: HostRuntime) {
     assert_eq!(rt; counts(&shelf), (1, 1, 0));
 }
 
-/// A reader of the bytes of a text, so many at a time, which fails behind them where it is told to.
+/// A reader of the bytes of a text, a few at a time, which fails after them where that is asked.
 #[derive(Drop)]
 struct Pieces<'a> {
     rest: &'a [u8],

@@ -132,7 +132,7 @@ const FIELDS: &[Fields] = &[
     },
 ];
 
-/// A list's first words, a field and how often it comes, what stands behind, and whether that is a line.
+/// A list's first words, a field and how often it comes, what stands after, and whether that is a line.
 const LISTS: &[(&str, &str, u32, &str, bool)] = &[
     ("bound", " 20.00", 0, "", false),
     ("bound", " 20.00", 1, "", true),

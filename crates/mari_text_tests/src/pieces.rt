@@ -73,7 +73,7 @@ fn next_mark(alloc: Global, reader: &mut TextReader) -> Result<Option<u64>, Text
     }
 }
 
-/// Adds the marks of the parts that are there, up to four, and tells the fault behind them, if there is one.
+/// Adds the marks of the parts that are there, up to four, and tells the fault after them, if there is one.
 fn add_marks(
     alloc: Global,
     reader: &mut TextReader,
@@ -89,7 +89,7 @@ fn add_marks(
     Ok(None)
 }
 
-/// Gives a reader a text in pieces of so many bytes, adds the marks of the parts that come, and tells the fault behind
+/// Gives a reader a text in pieces of at most `most` bytes, adds the marks of the parts that come, and tells the fault after
 /// them.
 fn feed(
     alloc: Global,
@@ -108,7 +108,7 @@ fn feed(
     Ok(None)
 }
 
-/// Adds the marks of a text in pieces of so many bytes, and tells whether the reader waits for more at its end, and
+/// Adds the marks of a text in pieces of at most `most` bytes, and tells whether the reader waits for more at its end, and
 /// what the text is then, or the fault before.
 fn outcome(
     alloc: Global,

@@ -60,7 +60,7 @@ operator T 0.0000 0.0000 0.0000
 end 1
 ";
 
-/// What stands behind a tree in a text of one run.
+/// What stands after a tree in a text of one run.
 const BEHIND_TREE: &str = "operator T 0.0000 0.0000 0.0000
 end 1
 total-operator T 0.0000 0.0000 0.0000
@@ -193,7 +193,7 @@ fn a_text_cut_at_any_byte_is_truncated_in_its_last_line(rt: HostRuntime) -> Resu
     Ok(())
 }
 
-/// The front of a text, parts with a `|` between them, one of which comes behind it so many times, what stands behind
+/// The front of a text, parts with a `|` between them, one of which comes after it some times, what stands after
 /// that, and the fault of each of these texts, if they have one.
 const FAULTS: &[(&str, &str, u32, &str, Option<TextFault>)] = &[
     // a text that is cut off
@@ -225,7 +225,7 @@ const FAULTS: &[(&str, &str, u32, &str, Option<TextFault>)] = &[
         "",
         Some(BadOrder(2)),
     ),
-    // a number that does not agree with the lines before, and a line behind the last
+    // a number that does not agree with the lines before, and a line after the last
     (TO_ZONE, "demand 2 1\n", 1, "", Some(BadOrder(5))),
     (
         TO_ZONE,
@@ -291,7 +291,7 @@ fn a_text_has_the_fault_of_its_first_bad_line(rt: HostRuntime) -> Result<(), Fai
     Ok(())
 }
 
-/// A line of `DAY`, the line in its place and how often that comes, what stands behind it, and the fault that the text
+/// A line of `DAY`, the line in its place and how often that comes, what stands after it, and the fault that the text
 /// has then, if it has one.
 const ALTERED: &[(&str, &str, u32, &str, Option<TextFault>)] = &[
     // a number in range that other lines do not agree with

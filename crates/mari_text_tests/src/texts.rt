@@ -29,7 +29,7 @@ total-provider P2 450.0000
 /// The last line of that day.
 pub(crate) const DONE_ONE: &str = "done 1 0\n";
 
-/// Appends a text so many times, each with its number from 1 in place of `#`.
+/// Appends a text some times, each with its number from 1 in place of `#`.
 fn append(alloc: Global, text: &mut String, part: &str, times: u32) -> Result<(), Fail> {
     for time in 1..=times {
         match part.split_once("#") {
@@ -42,7 +42,7 @@ fn append(alloc: Global, text: &mut String, part: &str, times: u32) -> Result<()
     Ok(())
 }
 
-/// The text that these parts make, each so many times with its number from 1 in place of `#`.
+/// The text that these parts make, each some times with its number from 1 in place of `#`.
 pub(crate) fn made(alloc: Global, parts: &[(&str, u32)]) -> Result<String, Fail> {
     let mut text = String::new(alloc);
     for (part, times) in parts {

@@ -1,4 +1,4 @@
--- Steps that may give nothing, one behind another.
+-- Steps that may give nothing, one after another.
 use Rattle.std.specs.Prelude.{Option, option_and_then}
 
 -- the second step of what the first gives, if it gives anything

@@ -8,7 +8,7 @@ use crate::faults::Memory;
 use crate::numbers::{Cents, Quarters};
 use std::alloc::Global;
 
-/// A whole number in digits, without leading zeros, behind a minus where it is negative.
+/// A whole number in digits, without leading zeros, after a minus where it is negative.
 pub fn whole_text(alloc: Global, n: i128) -> Result<Vec<u8>, Memory>
     ensures { IfOk result (λ text. text.items ≡ signed_decimal n) }
 {

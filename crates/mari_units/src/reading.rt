@@ -25,7 +25,7 @@ fn natural(digits: &[u8]) -> Option<u64>
     Some(value)
 }
 
-/// Whether the text begins with a minus, and what stands behind it.
+/// Whether the text begins with a minus, and what stands after it.
 fn split_sign(text: &[u8]) -> (bool, &[u8])
     ensures sign { result.0 ≡ has_minus text.now }
     ensures rest { result.1.now ≡ without_minus text.now }
@@ -56,7 +56,7 @@ pub fn read_mw(text: &[u8], least: i64, greatest: i64) -> Result<Mw, NumberFault
     Ok(Mw(value as i64))
 }
 
-/// One or two digits behind the point, in hundredths.
+/// One or two digits after the point, in hundredths.
 fn hundredths(digits: &[u8]) -> Option<u64>
     ensures { result ≡ hundredths_of digits.now }
 {
@@ -90,7 +90,7 @@ fn unsigned_cents(text: &[u8]) -> Option<u64>
     }
 }
 
-/// What stands before a place, and what stands behind it.
+/// What stands before a place, and what stands after it.
 fn parts_at(text: &[u8], place: usize) -> (&[u8], &[u8])
     requires { place < length text.now }
     ensures before { result.0.now ≡ take place text.now }

@@ -132,7 +132,7 @@ fn is_nothing_left(left: &[i128; MOST_ZONES], zones: u32) -> bool
     true
 }
 
-/// Whether each of so many zones is in balance.
+/// Whether each of the zones is in balance.
 fn is_balanced(zones: u32, orders: &[Order], mw: &[u32], borders: &[Border], flow: &[i64]) -> bool
     // As many as a market may have.
     requires zones { zones ≤ MOST_ZONES }

@@ -3,5 +3,7 @@ pub mod Visits
 pub mod TreeWalks
 pub mod Fates
 pub mod Refined
+pub mod FirstWord
+pub mod Cuts
 pub mod Turns
 pub mod Rest

@@ -27,7 +27,7 @@ use Rattle.mari_core.specs.Preorder.{shape_of}
 use Rattle.mari_core.proofs.Children.{child_is_node}
 use Rattle.mari_proofs.specs.Places.{LeavesWords}
 use Rattle.mari_proofs.proofs.TreeWalk.{leaves_append}
-use Rattle.mari_workers.specs.declared.refining.Aim.{Aim}
+use Rattle.mari_workers.specs.declared.fate.Aim.{Aim}
 use Rattle.mari_workers.specs.Refine.{IsAim, IsAtLeaf, IsCrowdedAt, IsNewLeaf, IsOldLeaf, IsToBranch, IsTreeWalk}
 
 -- ---- parts of a tree

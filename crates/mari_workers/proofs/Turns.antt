@@ -15,7 +15,7 @@ use Rattle.mari_market.proofs.Prefixes.{closed_child}
 use Rattle.mari_gates.specs.Preorder.{left_at, waiting_after}
 use Rattle.mari_gates.proofs.Decisions.{length-decisions}
 use Rattle.mari_proofs.specs.Places.{LeavesWords}
-use Rattle.mari_workers.specs.declared.refining.Aim.{Aim}
+use Rattle.mari_workers.specs.declared.fate.Aim.{Aim}
 use Rattle.mari_workers.specs.Refine.{IsAim, IsAtLeaf, IsNewLeaf, IsOldLeaf, IsToBranch, IsTreeWalk, MayRefine}
 use Rattle.mari_workers.proofs.TreeWalks.{branch_done, branch_room, child_leaves, leaf_branched, leaf_done, old_leaves}
 

@@ -2,3 +2,4 @@ pub mod Alone
 pub mod Refine
 pub mod Worked
 pub mod Together
+pub mod Cutting

@@ -12,7 +12,7 @@ use Rattle.mari_market.specs.declared.clearing.Cleared.TheVariants.{Published, S
 use Rattle.mari_market.specs.declared.market.Market.{Market}
 use Rattle.mari_market.specs.declared.prefix.Prefix.{Prefix}
 use Rattle.mari_market.specs.Activation.{gate_word_of, welfare_of}
-use Rattle.mari_market.specs.Clearing.{ArePartsOfSearch, IsCrowdedOut, IsOptimalClearing, IsSpent}
+use Rattle.mari_market.specs.Clearing.{ArePartsOfSearch, IsCrowdedOut, IsOptimalClearing}
 use Rattle.mari_market.specs.Optimal.{IsAdmissible}
 use Rattle.mari_market.specs.Prefix.{word_of, children, IsFeasiblePrefix}
 use Rattle.mari_market.specs.Relaxation.{all_closed, IsClosedWelfare, IsRelaxedWelfare}
@@ -23,9 +23,9 @@ use Rattle.mari_core.specs.Growth.{closing_leaf}
 use Rattle.mari_core.specs.Preorder.{shape_of}
 use Rattle.mari_proofs.specs.Places.{LeavesWords}
 use Rattle.mari_workers.specs.Alone.{best_in}
-use Rattle.mari_workers.specs.declared.refining.Aim.{Aim}
-use Rattle.mari_workers.specs.declared.refining.Fate.{Fate}
-use Rattle.mari_workers.specs.declared.refining.Fate.TheVariants.{Stays, Branches, Yields}
+use Rattle.mari_workers.specs.declared.fate.Aim.{Aim}
+use Rattle.mari_workers.specs.declared.fate.Fate.{Fate}
+use Rattle.mari_workers.specs.declared.fate.Fate.TheVariants.{Stays, Branches, Yields}
 use Rattle.mari_workers.specs.declared.refining.Turn.{Turn}
 use Rattle.mari_workers.specs.declared.refining.Turn.TheVariants.{On, Full, Yield}
 use Rattle.mari_workers.specs.declared.refining.Walk.{Walk}
@@ -43,12 +43,6 @@ pub record MayRefine (m : Market) (budget : ℕ) (c : Clearing) : Type 0 where
   pub clearing : IsOptimalClearing m budget c
   pub nodes : ArePartsOfSearch m ([] ∷ []) (map shape_of c.tree)
   pub opens : OpensForMore m (gate_word_of m c.activation) c.welfare
-
--- what a search comes to: a clearing that may be refined, or a part of the search tree that the budget can't extend
-abbrev pub IsSearched : Market → ℕ → Cleared → Type 0
-IsSearched m budget (Published c) = MayRefine m budget c
-IsSearched m budget (Spent s) = IsSpent m budget s
-IsSearched m budget Memory = ⊤
 
 -- what is published opens no gate, where its welfare is the closed welfare
 abbrev pub ClosesAtClosed : Market → Cleared → Type 0
@@ -149,13 +143,13 @@ pub record IsFoundAt (m : Market) (aim : Aim) (x : Prefix) (done left : List Tre
 abbrev pub IsTurn : Market → Aim → Prefix → ℕ → Walk → Turn → Type 0
 IsTurn m aim x count walk On = IsTreeWalk m aim walk.done.items walk.left.items walk.next × (length walk.done.items ≡ count + 1)
 IsTurn m aim x count walk Full = IsCrowdedAt m aim x walk.done.items walk.left.items
-IsTurn m aim x count walk (Yield a) = IsFoundAt m aim x walk.done.items walk.left.items a
+IsTurn m aim x count walk (Yield a) = IsFoundAt m aim x walk.done.items walk.left.items a × (walk.next ≡ Some x)
 
 -- what the last turn of a walk comes to: no prefix is left, or the budget is spent, or an earlier activation is found
 abbrev pub IsLastTurn : Market → Aim → Walk → Turn → Type 0
 IsLastTurn m aim walk On = IsTreeWalk m aim walk.done.items walk.left.items None
 IsLastTurn m aim walk Full = (x : Prefix) × IsCrowdedAt m aim x walk.done.items walk.left.items
-IsLastTurn m aim walk (Yield a) = (x : Prefix) × IsFoundAt m aim x walk.done.items walk.left.items a
+IsLastTurn m aim walk (Yield a) = (x : Prefix) × IsFoundAt m aim x walk.done.items walk.left.items a × (walk.next ≡ Some x)
 
 -- what a walk from an activation of the welfare comes to by its last turn: that activation with the items that are
 -- done, or the shapes of all items, or the earlier activation with all items

@@ -10,13 +10,17 @@ ghost use Rattle.mari_market.specs.Market.{IsValid};
 ghost use Rattle.mari_market.specs.Prefix.{word_of, IsFeasiblePrefix};
 ghost use Rattle.mari_pool.specs.Queued.{IsMore};
 ghost use Rattle.mari_workers.specs.Alone.{best_in, after_offer, IsAtNode, IsFinished, IsUnderWay, IsVisited};
-ghost use Rattle.mari_workers.specs.Refine.{IsSearched};
+ghost use Rattle.mari_workers.specs.Refine.{MayRefine};
 
+use crate::bounds::Bounds;
 use crate::first::first_of;
-use crate::refining::refine;
+use crate::publishing::published_from;
+use crate::root::Root;
 use crate::rounding::best_rounded;
 use mari_core::{Event, FinishFault, Search};
-use mari_market::{Activation, Attained, Cleared, Clearer, Finding, Market, Prefix, Spent};
+use mari_market::{
+    Activation, Attained, Cleared, Clearer, Clearing, Finding, Market, Prefix, Spent,
+};
 use mari_node::examine_from;
 use mari_pool::{Queue, child_key};
 use mari_units::{Items, Memory};
@@ -28,17 +32,16 @@ const ACTOR: u32 = 0;
 /// The number of the node that decides no gate.
 const ROOT: u32 = 0;
 
-/// Takes a step that nothing but want of memory can refuse.
-fn step(search: &mut Search<'_>, event: Event) -> Result<(), Memory>
+/// Takes a step that nothing refuses.
+fn step(search: &mut Search<'_>, event: Event)
     requires proper { IsProper search.old event }
     requires accepted { refusal search.old event ≡ None }
-    ensures change { OnOk result (search.new ≡ after search.old event) }
+    ensures change { search.new ≡ after search.old event }
     ensures facts { KeepsFacts search.new }
 {
-    match search.step(event) {
-        Ok(()) => Ok(()),
-        Err(_) => Err(Memory),
-    }
+    let Ok(()) = search.step(event) else {
+        unreachable!()
+    };
 }
 
 /// The activation of a finding, if it has one.
@@ -68,13 +71,9 @@ fn offer_best(search: &mut Search<'_>, finding: &Finding) -> Result<(), Memory>
     match best_of(finding) {
         Some(best) => {
             let attained = copy_of(best)?;
-            step(
-                search,
-                Event::Offer {
-                    actor: ACTOR,
-                    attained,
-                },
-            )
+            let actor = ACTOR;
+            step(search, Event::Offer { actor, attained });
+            Ok(())
         }
         None => Ok(()),
     }
@@ -95,18 +94,17 @@ fn offer_rounded(
     ensures facts { KeepsFacts search.new }
 {
     match best_rounded(alloc, market, start)? {
-        Some(attained) => step(
-            search,
-            Event::Offer {
-                actor: ACTOR,
-                attained,
-            },
-        ),
+        Some(attained) => {
+            let actor = ACTOR;
+            step(search, Event::Offer { actor, attained });
+            Ok(())
+        }
         None => Ok(()),
     }
 }
 
-/// Takes a node, and settles it with what is found there. The answer is the key of its children.
+/// Takes a node, and settles it with what is found there from the root's optimum. The answer is the key of its
+/// children, and the relaxed optimum is left.
 ///
 /// What is found is offered first, so the node is settled at the greatest welfare that is known by then.
 fn visit(
@@ -115,6 +113,7 @@ fn visit(
     search: &mut Search<'_>,
     node: u32,
     prefix: &Prefix,
+    root: &Root,
     start: &mut Option<Activation>,
 ) -> Result<u64, Memory>
     requires waits { IsAtNode market.now search.old node }
@@ -123,7 +122,8 @@ fn visit(
     ensures visited { IfOk result (λ key. IsVisited market.now search.old search.new node (word_of prefix.now) key) }
     ensures facts { KeepsFacts search.new }
 {
-    step(search, Event::Take { actor: ACTOR, node })?;
+    step(search, Event::Take { actor: ACTOR, node });
+    *start = root.start()?;
     let finding = examine_from(alloc, market, prefix, start)?;
     offer_best(search, &finding)?;
     let key = child_key(&finding);
@@ -134,7 +134,7 @@ fn visit(
             node,
             finding,
         },
-    )?;
+    );
     Ok(key)
 }
 
@@ -160,7 +160,7 @@ fn visit_all(
     market: &Market,
     search: &mut Search<'_>,
     queue: &mut Queue,
-    start: &mut Option<Activation>,
+    root: &Root,
 ) -> Result<bool, Memory>
     requires { IsUnderWay market.now search.old queue.old }
     ensures closed { IfOk result (λ closed. closed ≡ true → IsFinished search.new) }
@@ -168,29 +168,36 @@ fn visit_all(
     ensures market { OnOk result (search.new.tree.market ≡ market.now) }
     ensures budget { OnOk result (search.new.tree.budget ≡ search.old.tree.budget) }
 {
+    let mut start = None;
     while let Some(node) = queue.take_first() {
         let Some(prefix) = search.prefix_of(node) else {
             unreachable!()
         };
-        let key = visit(alloc, market, search, node, &prefix, start)?;
+        let key = visit(alloc, market, search, node, &prefix, root, &mut start)?;
         if search.is_full() {
             return Ok(false);
         }
         admit(search, queue, key);
         if node == ROOT && queue.len() > 1 {
-            offer_rounded(alloc, market, search, start)?;
+            offer_rounded(alloc, market, search, &mut start)?;
         }
     }
     Ok(true)
 }
 
+/// The keys of a search's nodes, in preorder.
+fn keys_of(alloc: Global, search: &Search<'_>, queue: &Queue) -> Result<Vec<u64>, Memory> {
+    let order = search.preorder(alloc)?;
+    queue.keys_of(alloc, &order)
+}
+
 /// The optimal clearing of a search whose nodes are all branched or closed. It may be refined.
-fn published(alloc: Global, search: Search<'_>) -> Result<Cleared, Memory>
+fn published(alloc: Global, search: Search<'_>) -> Result<Clearing, Memory>
     requires { IsFinished search }
-    ensures { IfOk result (IsSearched search.entry.tree.market search.entry.tree.budget) }
+    ensures { IfOk result (MayRefine search.entry.tree.market search.entry.tree.budget) }
 {
     match search.finish(alloc) {
-        Ok(clearing) => Ok(Cleared::Published(clearing)),
+        Ok(clearing) => Ok(clearing),
         Err(FinishFault::Memory) => Err(Memory),
         Err(FinishFault::NotClosed(_)) => unreachable!(),
     }
@@ -199,7 +206,7 @@ fn published(alloc: Global, search: Search<'_>) -> Result<Cleared, Memory>
 /// The part of the search tree of a search in which a node could not branch within the budget.
 fn part_of(alloc: Global, search: Search<'_>) -> Result<Cleared, Memory>
     requires { search.tree.full ≡ true }
-    ensures { IfOk result (IsSearched search.entry.tree.market search.entry.tree.budget) }
+    ensures { IfOk result (Clears search.entry.tree.market search.entry.tree.budget) }
 {
     let part = search.part(alloc);
     drop(search);
@@ -207,45 +214,73 @@ fn part_of(alloc: Global, search: Search<'_>) -> Result<Cleared, Memory>
     Ok(Cleared::Spent(Spent { items }))
 }
 
-/// Visits the nodes of a search, and ends it: where none waits any more there is an optimal clearing, which may be
-/// refined, and else a part of the search tree.
+/// The first activation's clearing, or want of memory, of a search whose nodes are all branched or closed.
+fn settled(
+    alloc: Global,
+    market: &Market,
+    search: Search<'_>,
+    queue: Queue,
+    budget: u32,
+    root: &Root,
+) -> Result<Cleared, Memory>
+    requires market { IsValid market.now }
+    requires budget { IsBudget budget }
+    requires search { (search.tree.market ≡ market.now) × (search.tree.budget ≡ budget) }
+    requires finished { IsFinished search }
+    ensures { IfOk result (Clears market.now budget) }
+{
+    let keys = keys_of(alloc, &search, &queue);
+    drop(queue);
+    let found = published(alloc, search)?;
+    match Bounds::of(alloc, found.tree.as_slice(), keys) {
+        Ok(bounds) => published_from(alloc, market, found, budget, bounds, root),
+        Err(Memory) => {
+            drop(found);
+            Err(Memory)
+        }
+    }
+}
+
+/// Visits the nodes of a search, and ends it: where none waits any more there is an optimal clearing, which is refined,
+/// and else a part of the search tree.
 fn searched(
     alloc: Global,
     market: &Market,
     mut search: Search<'_>,
     mut queue: Queue,
-    mut start: Option<Activation>,
+    budget: u32,
+    root: &Root,
 ) -> Result<Cleared, Memory>
-    requires { IsUnderWay market.now search queue }
-    ensures { IfOk result (IsSearched market.now search.entry.tree.budget) }
+    requires market { IsValid market.now }
+    requires budget { IsBudget budget × (search.tree.budget ≡ budget) }
+    requires under_way { IsUnderWay market.now search queue }
+    ensures { IfOk result (Clears market.now budget) }
 {
-    let visited = visit_all(alloc, market, &mut search, &mut queue, &mut start);
-    drop(queue);
-    drop(start);
-    match visited {
-        Ok(true) => published(alloc, search),
-        Ok(false) => part_of(alloc, search),
+    match visit_all(alloc, market, &mut search, &mut queue, root) {
+        Ok(true) => settled(alloc, market, search, queue, budget, root),
+        Ok(false) => {
+            drop(queue);
+            part_of(alloc, search)
+        }
         Err(Memory) => {
+            drop(queue);
             drop(search);
             Err(Memory)
         }
     }
 }
 
-/// Clears a market from its best activation with every gate closed, and refines what is found.
+/// Clears a market from its best activation with every gate closed.
 fn cleared(alloc: Global, market: &Market, budget: u32) -> Result<Cleared, Memory>
     requires market { IsValid market.now }
     requires budget { IsBudget budget }
     ensures { IfOk result (Clears market.now budget) }
 {
     let first = first_of(alloc, market)?;
-    let start = Some(first.activation.clone()?);
+    let root = Root::of(alloc, market, &first.activation)?;
     let search = Search::start(alloc, market, ACTOR + 1, first, budget)?;
     let queue = Queue::start(alloc, budget)?;
-    match searched(alloc, market, search, queue, start)? {
-        Cleared::Published(found) => Ok(refine(alloc, market, found, budget)),
-        spent => Ok(spent),
-    }
+    searched(alloc, market, search, queue, budget, &root)
 }
 
 /// Clears a market by branch and bound on this thread, within a budget of 1 to `MOST_NODES` nodes.

@@ -7,10 +7,16 @@
 #![tactic(auto)]
 
 mod alone;
+mod bounds;
 mod crew;
+mod cutting;
+mod fate;
 mod first;
+mod publishing;
 mod refining;
+mod root;
 mod rounding;
+mod seats;
 mod together;
 mod turnstile;
 mod worker;

@@ -5,36 +5,15 @@ ghost use Rattle.mari_core.specs.Preorder.{shape_of};
 ghost use Rattle.mari_market.specs.Clearing.{Clears, IsBudget};
 ghost use Rattle.mari_market.specs.Market.{IsValid};
 ghost use Rattle.mari_market.specs.Prefix.{word_of, IsFeasiblePrefix, IsCleared};
-ghost use Rattle.mari_market.specs.Tree.{LeafHolds};
-ghost use Rattle.mari_workers.specs.Alone.{best_in, without_best};
-ghost use Rattle.mari_workers.specs.Refine.{ended, fate_by, unbounded, ClosesAtClosed, IsAim, IsAtLeaf, IsFate, IsLastTurn, IsToBranch, IsTreeWalk, IsTurn, MayRefine};
+ghost use Rattle.mari_workers.specs.Refine.{ended, ClosesAtClosed, IsAim, IsAtLeaf, IsLastTurn, IsToBranch, IsTreeWalk, IsTurn, MayRefine};
 
-use mari_core::closing_leaf;
-use mari_gates::{child_of, comes_before, empty_prefix, gate_word, may_branch_up, next_after};
-use mari_market::{
-    Activation, Attained, Cleared, Clearing, Finding, Leaf, Market, PartItem, Prefix, Spent,
-    TreeItem,
-};
-use mari_node::examine_from;
-use mari_proofs::check_leaf;
-use mari_units::{Items, MOST_GATES, Memory, Quarters};
+use crate::bounds::Bounds;
+use crate::fate::{Aim, Fate, fate_of};
+use crate::root::Root;
+use mari_gates::{child_of, empty_prefix, gate_word, may_branch_up, next_after};
+use mari_market::{Activation, Cleared, Clearing, Leaf, Market, PartItem, Prefix, Spent, TreeItem};
+use mari_units::{Items, MOST_GATES, Memory};
 use std::alloc::{AllocError, Global};
-
-/// What a walk looks for: activations of the optimal welfare whose gate words come before this one.
-#[derive(Clone, Copy, Drop)]
-struct Aim {
-    word: Prefix,
-    welfare: u64,
-    budget: u32,
-}
-
-/// What becomes of a leaf: it stays or another takes its place, its prefix branches, or there is an activation.
-#[derive(Drop)]
-enum Fate {
-    Stays(Leaf),
-    Branches(Leaf),
-    Yields(Leaf, Activation),
-}
 
 /// What one turn of a walk comes to: it goes on, a prefix can't branch within the budget, or there is an activation.
 #[derive(Drop)]
@@ -44,81 +23,14 @@ enum Turn {
     Yield(Activation),
 }
 
-/// A walk through a tree that is made anew: the items that are done, those that are left, the next at the end, the
-/// next prefix, and what its next examination starts with.
+/// A walk through a tree that is made anew: the items that are done; those that are left, the next at the end; how many
+/// of these the tree had; and the next prefix. The others are leaves of children, which are their parents' as yet.
 #[derive(Drop)]
 struct Walk {
     done: Vec<TreeItem>,
     left: Vec<TreeItem>,
+    own: usize,
     next: Option<Prefix>,
-    start: Option<Activation>,
-}
-
-/// What becomes of a leaf without a certificate.
-fn unbounded(best: Option<Attained>, leaf: Leaf, full: bool) -> Fate
-    ensures { result ≡ unbounded best leaf full }
-{
-    match best {
-        Some(best) if full => Fate::Yields(leaf, best.activation),
-        _ => Fate::Branches(leaf),
-    }
-}
-
-/// Takes the activation out of a finding, if it has one.
-fn take_best(finding: &mut Finding) -> Option<Attained>
-    ensures best { result ≡ best_in finding.old }
-    ensures rest { finding.new ≡ without_best finding.old }
-{
-    match finding {
-        Finding::Relaxed(relaxed) => relaxed.best.take(),
-        Finding::Empty(_) => None,
-    }
-}
-
-/// What becomes of a leaf by what is found at its prefix, where a certificate is to hold at this number.
-fn fate_by(mut finding: Finding, leaf: Leaf, most: u64, full: bool) -> Fate
-    ensures { result ≡ fate_by finding leaf most full }
-{
-    let best = take_best(&mut finding);
-    match closing_leaf(finding, most) {
-        Some(other) => Fate::Stays(other),
-        None => unbounded(best, leaf, full),
-    }
-}
-
-/// A welfare as quarter-cents.
-fn quarters_of(welfare: u64) -> Quarters
-    ensures { result.0 ≡ pos welfare }
-{
-    Quarters(i128::from(welfare))
-}
-
-/// What becomes of a leaf that holds at the welfare. It stays where it isn't early, or holds at the welfare less 1;
-/// else its prefix is examined, from the relaxed optimum of the last that was.
-fn fate_of(
-    alloc: Global,
-    market: &Market,
-    prefix: &Prefix,
-    leaf: Leaf,
-    aim: &Aim,
-    start: &mut Option<Activation>,
-) -> Result<Fate, Memory>
-    requires market { IsValid market.now }
-    requires prefix { IsFeasiblePrefix market.now prefix.now }
-    requires aim { IsAim market.now aim.now }
-    requires leaf { LeafHolds market.now (pos aim.now.welfare) (word_of prefix.now) leaf }
-    ensures { IfOk result (IsFate market.now aim.now.welfare (word_of aim.now.word) (word_of prefix.now)) }
-{
-    if !comes_before(prefix, &aim.word) {
-        return Ok(Fate::Stays(leaf));
-    }
-    let most = aim.welfare - 1;
-    if check_leaf(market, prefix, &leaf, quarters_of(most)) {
-        return Ok(Fate::Stays(leaf));
-    }
-    let finding = examine_from(alloc, market, prefix, start)?;
-    let full = prefix.length as usize == market.gates.as_slice().len();
-    Ok(fate_by(finding, leaf, most, full))
 }
 
 /// A copy of a leaf.
@@ -139,9 +51,9 @@ impl Walk {
         left.reverse();
         Walk {
             done: Vec::new(alloc),
+            own: left.len(),
             left,
             next: Some(empty_prefix()),
-            start: None,
         }
     }
 
@@ -178,6 +90,7 @@ impl Walk {
         prefix: &Prefix,
         leaf: Leaf,
         aim: &Aim,
+        bounds: &mut Bounds,
     ) -> Result<Turn, Memory>
         requires market { IsValid market.now }
         requires aim { IsAim market.now aim.now }
@@ -191,6 +104,7 @@ impl Walk {
             self.left.push(TreeItem::Leaf(leaf))?;
             return Ok(Turn::Full);
         }
+        bounds.add(aim.welfare)?;
         self.give(leaf, may_open)?;
         self.descend(prefix)?;
         Ok(Turn::On)
@@ -203,22 +117,26 @@ impl Walk {
         market: &Market,
         prefix: &Prefix,
         leaf: Leaf,
+        is_own: bool,
         aim: &Aim,
+        bounds: &mut Bounds,
+        root: &Root,
     ) -> Result<Turn, Memory>
         requires market { IsValid market.now }
         requires aim { IsAim market.now aim.now }
         requires walk { IsAtLeaf market.now aim.now prefix.now leaf self.old.done.items self.old.left.items }
         ensures { IfOk result (IsTurn market.now aim.now prefix.now (length self.old.done.items) self.new) }
     {
-        match fate_of(alloc, market, prefix, leaf, aim, &mut self.start)? {
+        match fate_of(alloc, market, prefix, leaf, is_own, aim, root)? {
             Fate::Stays(leaf) => {
                 self.done.push(TreeItem::Leaf(leaf))?;
                 self.next = next_after(market, prefix);
                 Ok(Turn::On)
             }
-            Fate::Branches(leaf) => self.branch(market, prefix, leaf, aim),
+            Fate::Branches(leaf) => self.branch(market, prefix, leaf, aim, bounds),
             Fate::Yields(leaf, activation) => {
                 self.left.push(TreeItem::Leaf(leaf))?;
+                self.next = Some(*prefix);
                 Ok(Turn::Yield(activation))
             }
         }
@@ -231,6 +149,8 @@ impl Walk {
         market: &Market,
         prefix: &Prefix,
         aim: &Aim,
+        bounds: &mut Bounds,
+        root: &Root,
     ) -> Result<Turn, Memory>
         requires market { IsValid market.now }
         requires aim { IsAim market.now aim.now }
@@ -240,10 +160,15 @@ impl Walk {
         match self.left.pop() {
             None => unreachable!(),
             Some(TreeItem::Branch) => {
+                bounds.pass()?;
                 self.descend(prefix)?;
                 Ok(Turn::On)
             }
-            Some(TreeItem::Leaf(leaf)) => self.settle(alloc, market, prefix, leaf, aim),
+            Some(TreeItem::Leaf(leaf)) => {
+                let is_own = self.left.len() < self.own;
+                self.own = self.own.min(self.left.len());
+                self.settle(alloc, market, prefix, leaf, is_own, aim, bounds, root)
+            }
         }
     }
 
@@ -284,14 +209,21 @@ fn shapes_of(alloc: Global, tree: &[TreeItem]) -> Result<Vec<PartItem>, Memory>
 }
 
 /// Takes turns until one stops the walk or no prefix is left, and tells what the last of them came to.
-fn walked(alloc: Global, market: &Market, aim: &Aim, walk: &mut Walk) -> Result<Turn, Memory>
+fn walked(
+    alloc: Global,
+    market: &Market,
+    aim: &Aim,
+    walk: &mut Walk,
+    bounds: &mut Bounds,
+    root: &Root,
+) -> Result<Turn, Memory>
     requires market { IsValid market.now }
     requires aim { IsAim market.now aim.now }
     requires walk { IsTreeWalk market.now aim.now walk.old.done.items walk.old.left.items walk.old.next }
     ensures { IfOk result (IsLastTurn market.now aim.now walk.new) }
 {
     while let Some(prefix) = walk.next {
-        match walk.advance(alloc, market, &prefix, aim)? {
+        match walk.advance(alloc, market, &prefix, aim, bounds, root)? {
             Turn::On => {}
             Turn::Full => return Ok(Turn::Full),
             Turn::Yield(activation) => return Ok(Turn::Yield(activation)),
@@ -345,8 +277,47 @@ fn ended(
     }
 }
 
-/// The first activation, from an optimal one.
-fn refined(alloc: Global, market: &Market, found: Clearing, budget: u32) -> Result<Cleared, Memory>
+/// What a walk that has found an earlier activation comes to where it goes on for that one's gate word. What is left is
+/// not early for it, but children may still have the leaves of their parents.
+fn walked_on(
+    alloc: Global,
+    market: &Market,
+    mut walk: Walk,
+    earlier: Activation,
+    aim: &Aim,
+    bounds: &mut Bounds,
+    root: &Root,
+) -> Result<Cleared, Memory>
+    requires market { IsValid market.now }
+    requires aim { IsAim market.now aim.now }
+    requires found { IsLastTurn market.now aim.now walk (Turn.Yield earlier) }
+    ensures { IfOk result (Clears market.now aim.now.budget) }
+{
+    let aim = Aim {
+        word: gate_word(market, &earlier),
+        welfare: aim.welfare,
+        budget: aim.budget,
+    };
+    match walked(alloc, market, &aim, &mut walk, bounds, root) {
+        Ok(last) => ended(alloc, walk, last, earlier, aim.welfare),
+        Err(Memory) => {
+            drop(walk);
+            drop(earlier);
+            Err(Memory)
+        }
+    }
+}
+
+/// The clearing of the first activation, from that of an optimal one. Prefixes are examined from the root's optimum,
+/// and the bounds become those of the new tree's branches.
+pub(crate) fn refined_from(
+    alloc: Global,
+    market: &Market,
+    found: Clearing,
+    budget: u32,
+    bounds: &mut Bounds,
+    root: &Root,
+) -> Result<Cleared, Memory>
     requires market { IsValid market.now }
     requires budget { IsBudget budget }
     requires found { MayRefine market.now budget found }
@@ -363,11 +334,38 @@ fn refined(alloc: Global, market: &Market, found: Clearing, budget: u32) -> Resu
         budget,
     };
     let mut walk = Walk::start(alloc, tree);
-    match walked(alloc, market, &aim, &mut walk) {
+    match walked(alloc, market, &aim, &mut walk, bounds, root) {
+        Ok(Turn::Yield(earlier)) => {
+            drop(activation);
+            walked_on(alloc, market, walk, earlier, &aim, bounds, root)
+        }
         Ok(last) => ended(alloc, walk, last, activation, welfare),
         Err(Memory) => {
             drop(walk);
             drop(activation);
+            Err(Memory)
+        }
+    }
+}
+
+/// The same, where the root's optimum isn't known yet.
+fn refined(alloc: Global, market: &Market, found: Clearing, budget: u32) -> Result<Cleared, Memory>
+    requires market { IsValid market.now }
+    requires budget { IsBudget budget }
+    requires found { MayRefine market.now budget found }
+    ensures { IfOk result (Clears market.now budget) }
+{
+    match Root::find(alloc, market) {
+        Ok(root) => refined_from(
+            alloc,
+            market,
+            found,
+            budget,
+            &mut Bounds::none(alloc),
+            &root,
+        ),
+        Err(Memory) => {
+            drop(found);
             Err(Memory)
         }
     }

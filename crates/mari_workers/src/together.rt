@@ -13,10 +13,14 @@ ghost use Rattle.mari_workers.specs.Refine.{MayRefine};
 ghost use Rattle.mari_workers.specs.Together.{IsSeated};
 ghost use Rattle.mari_workers.specs.Worked.{HoldsBest, IsWorked};
 
+use crate::alone::search_alone;
+use crate::bounds::Bounds;
 use crate::first::first_of;
-use crate::refining::refine;
+use crate::publishing::published_from;
+use crate::root::Root;
+use crate::seats::{Seated, gather, seated_of};
 use crate::turnstile::{FreeTurnstile, Turnstile};
-use crate::worker::{Worked, visit, work};
+use crate::worker::{Worked, visit, work_from};
 use crossbeam_utils::CachePadded;
 use mari_incumbent::{Incumbent, Seat};
 use mari_market::{Attained, Cleared, Clearing, Market, Spent};
@@ -28,33 +32,6 @@ use std::sync::{Condvar, Mutex, Wait};
 use std::thread;
 use std::thread::Threads;
 
-/// A worker, by its number, and its seat.
-#[derive(Drop)]
-pub(crate) struct Seated {
-    worker: u32,
-    seat: Seat,
-}
-
-/// A seat of one part for each worker.
-fn seated_of(
-    alloc: Global,
-    incumbent: &Incumbent,
-    mine: &mut Seat,
-    workers: u32,
-) -> Result<Vec<Seated>, AllocError>
-    requires { (mine.old.incumbent ≡ incumbent.now) × (workers < mine.old.parts) }
-    ensures len { IfOk result (λ v. vec_len v ≡ workers) }
-    ensures seated { IfOk result (λ v. (i : ℕ) (d : _) → i < workers → IsSeated incumbent.now workers (slice_index_or v.items i d)) }
-    ensures mine { IfOk result (λ _. mine.new ≡ seat_view incumbent.now mine.old.seen mine.old.offered (mine.old.parts - workers)) }
-{
-    let mut seated = Vec::with_capacity(alloc, workers as usize)?;
-    for worker in 0..workers {
-        let seat = incumbent.split(mine);
-        seated.push(Seated { worker, seat })?;
-    }
-    Ok(seated)
-}
-
 /// Runs each worker in a thread of its own, or on this thread where none can be made for it. All have ended then.
 fn run_all<'m, N: SearchName + Send + Sync, G: Turnstile, R: Threads + Wait + Sync>(
     rt: &R,
@@ -65,6 +42,7 @@ fn run_all<'m, N: SearchName + Send + Sync, G: Turnstile, R: Threads + Wait + Sy
     incumbent: &Incumbent,
     seated: Vec<Seated>,
     turnstile: &G,
+    root: &Root,
 ) -> Result<Vec<Worked>, AllocError>
     requires market { (market.now ≡ N.market) × IsValid market.now }
     requires incumbent { incumbent.now ≡ N.incumbent }
@@ -77,37 +55,11 @@ fn run_all<'m, N: SearchName + Send + Sync, G: Turnstile, R: Threads + Wait + Sy
         ensures { IsWorked N.market N.incumbent result }
     {
         let Seated { worker, seat } = one;
-        work(
-            rt, alloc, market, worker, pool, bell, incumbent, seat, turnstile,
+        work_from(
+            rt, alloc, market, worker, pool, bell, incumbent, seat, turnstile, root,
         )
     };
     thread::map_vec(rt, seated, &each)
-}
-
-/// Joins a worker's seat, and keeps the better best.
-fn take_in(market: &Market, incumbent: &Incumbent, mine: &mut Worked, other: Worked)
-    requires mine { HoldsBest market.now incumbent.now mine.old }
-    requires other { HoldsBest market.now incumbent.now other }
-    ensures mine { HoldsBest market.now incumbent.now mine.new }
-    ensures parts { mine.new.seat.parts ≡ mine.old.seat.parts + other.seat.parts }
-{
-    let Worked { seat, best } = other;
-    if mine.seat.offered() < seat.offered() {
-        mine.best = best;
-    }
-    incumbent.join(&mut mine.seat, seat);
-}
-
-/// Joins the seats of all workers, and keeps the best of all.
-fn gather(market: &Market, incumbent: &Incumbent, mine: &mut Worked, mut worked: Vec<Worked>)
-    requires mine { HoldsBest market.now incumbent.now mine.old }
-    requires worked { (i : ℕ) (d : _) → i < vec_len worked → IsWorked market.now incumbent.now (slice_index_or worked.items i d) }
-    ensures mine { HoldsBest market.now incumbent.now mine.new }
-    ensures parts { mine.new.seat.parts ≡ mine.old.seat.parts + vec_len worked }
-{
-    while let Some(one) = worked.pop() {
-        take_in(market, incumbent, mine, one);
-    }
 }
 
 /// Settles what is left of the tree. False where a node could not branch within the budget.
@@ -119,6 +71,7 @@ fn settle_rest<'m, N: SearchName, R: Wait>(
     pool: &mut Pool<'m, N>,
     incumbent: &Incumbent,
     mine: &mut Worked,
+    root: &Root,
 ) -> Result<bool, Memory>
     // The search is the one of the name.
     requires market { (market.now ≡ N.market) × IsValid market.now }
@@ -146,6 +99,7 @@ fn settle_rest<'m, N: SearchName, R: Wait>(
                     incumbent,
                     mine,
                     &FreeTurnstile,
+                    root,
                     &mut start,
                 )?;
                 pool.settle(incumbent, ticket, finding, &mut mine.seat);
@@ -215,6 +169,7 @@ fn run_workers<'m, N: SearchName + Send + Sync, G: Turnstile, R: Threads + Wait 
     incumbent: &Incumbent,
     mine: &mut Worked,
     turnstile: &G,
+    root: &Root,
 ) -> Result<(), Memory>
     // The search is the one of the name.
     requires market { (market.now ≡ N.market) × IsValid market.now }
@@ -231,7 +186,9 @@ fn run_workers<'m, N: SearchName + Send + Sync, G: Turnstile, R: Threads + Wait 
 {
     let seated = seated_of(alloc, incumbent, &mut mine.seat, workers)?;
     let bell = Condvar::new();
-    let worked = run_all::<N, G, R>(rt, alloc, market, pool, &bell, incumbent, seated, turnstile)?;
+    let worked = run_all::<N, G, R>(
+        rt, alloc, market, pool, &bell, incumbent, seated, turnstile, root,
+    )?;
     gather(market, incumbent, mine, worked);
     Ok(())
 }
@@ -248,6 +205,7 @@ fn run<'m, N: SearchName + Send + Sync, G: Turnstile, R: Threads + Wait + Sync>(
     incumbent: &Incumbent,
     mine: &mut Worked,
     turnstile: &G,
+    root: &Root,
 ) -> Result<(Pool<'m, N>, bool), Memory>
     // The search is the one of the name, and can be one.
     requires market { (market.now ≡ N.market) × IsValid market.now }
@@ -272,11 +230,11 @@ fn run<'m, N: SearchName + Send + Sync, G: Turnstile, R: Threads + Wait + Sync>(
 {
     let pool = Mutex::new(Pool::<N>::start(alloc, market, budget, workers, pooled)?);
     let ran = run_workers(
-        rt, alloc, market, workers, &pool, incumbent, mine, turnstile,
+        rt, alloc, market, workers, &pool, incumbent, mine, turnstile, root,
     );
     let mut pool = pool.into_inner();
     let settled = match ran {
-        Ok(()) => settle_rest(rt, alloc, market, workers, &mut pool, incumbent, mine),
+        Ok(()) => settle_rest(rt, alloc, market, workers, &mut pool, incumbent, mine, root),
         Err(Memory) => Err(Memory),
     };
     match settled {
@@ -313,6 +271,7 @@ fn searched<N: SearchName + Send + Sync, G: Turnstile, R: Threads + Wait + Sync>
     seat: Seat,
     first: Attained,
     turnstile: &G,
+    root: &Root,
 ) -> Result<Cleared, Memory>
     // The search is the one of the name, and can be one.
     requires market { (market.now ≡ N.market) × IsValid market.now }
@@ -336,13 +295,20 @@ fn searched<N: SearchName + Send + Sync, G: Turnstile, R: Threads + Wait + Sync>
     let mut mine = Worked { seat, best: None };
     let pooled = incumbent.split(&mut mine.seat);
     let ran = run::<N, G, R>(
-        rt, alloc, market, workers, budget, pooled, &incumbent, &mut mine, turnstile,
+        rt, alloc, market, workers, budget, pooled, &incumbent, &mut mine, turnstile, root,
     );
     let incumbent = incumbent.into_inner();
     let ended = match ran {
         Ok((pool, true)) => {
+            let keys = pool.keys(alloc);
             let found = published(alloc, pool, incumbent, mine, first)?;
-            return Ok(refine(alloc, market, found, budget));
+            return match Bounds::of(alloc, found.tree.as_slice(), keys) {
+                Ok(bounds) => published_from(alloc, market, found, budget, bounds, root),
+                Err(Memory) => {
+                    drop(found);
+                    Err(Memory)
+                }
+            };
         }
         Ok((pool, false)) => spent(alloc, pool),
         Err(Memory) => Err(Memory),
@@ -353,8 +319,8 @@ fn searched<N: SearchName + Send + Sync, G: Turnstile, R: Threads + Wait + Sync>
     ended
 }
 
-/// Names the search, and starts its incumbent at the closed welfare, with a part for each worker, the pool and this
-/// thread.
+/// Names the search, finds the root's optimum, and starts the incumbent at the closed welfare, with a part for each
+/// worker, the pool and this thread.
 fn named<G: Turnstile, R: Threads + Wait + Sync>(
     rt: &R,
     alloc: Global,
@@ -369,16 +335,19 @@ fn named<G: Turnstile, R: Threads + Wait + Sync>(
     ensures { IfOk result (Clears market.now budget) }
 {
     let first = first_of(alloc, market)?;
+    let root = Root::of(alloc, market, &first.activation)?;
     let (incumbent, seat) = Incumbent::start(alloc, first.welfare, u64::from(workers) + 2)?;
     searched::<Brand, G, R>(
-        rt, alloc, market, workers, budget, incumbent, seat, first, turnstile,
+        rt, alloc, market, workers, budget, incumbent, seat, first, turnstile, &root,
     )
 }
 
 /// Clears a market by branch and bound in 1 to `MOST_WORKERS` threads, within a budget of 1 to `MOST_NODES` nodes.
 ///
 /// Workers take their findings from the turnstile, outside the lock. When all have ended this thread settles what is
-/// left by itself. The answer is as that of `search_alone`; it comes if every worker ends.
+/// left by itself. Where a node could not branch within the budget, this thread searches again, alone: workers make
+/// other nodes than one does, and whether a run is published is not to rest on that. The answer is as that of
+/// `search_alone`; it comes if every worker ends.
 pub fn search<G: Turnstile, R: Threads + Wait + Sync>(
     rt: &R,
     alloc: Global,
@@ -393,6 +362,10 @@ pub fn search<G: Turnstile, R: Threads + Wait + Sync>(
     ensures { Clears market.now budget result }
 {
     match named(rt, alloc, market, workers, budget, turnstile) {
+        Ok(Cleared::Spent(spent)) => {
+            drop(spent);
+            search_alone(alloc, market, budget)
+        }
         Ok(cleared) => cleared,
         Err(Memory) => Cleared::Memory,
     }

@@ -11,6 +11,7 @@ ghost use Rattle.mari_workers.specs.Alone.{best_in};
 ghost use Rattle.mari_workers.specs.Worked.{HoldsBest, IsSeen};
 
 use crate::alone::{best_of, copy_of};
+use crate::root::Root;
 use crate::rounding::best_rounded;
 use crate::turnstile::Turnstile;
 use mari_incumbent::{Incumbent, Seat};
@@ -88,7 +89,8 @@ fn offer_rounded(
     }
 }
 
-/// Finds out about a node, and offers what was found. The node may be settled with that then, at what the seat saw.
+/// Finds out about a node from the root's optimum, offers what was found, and looks at the incumbent. The node may be
+/// settled with that then, at the greatest welfare that any worker had offered. The relaxed optimum is left.
 pub(crate) fn visit<G: Turnstile>(
     alloc: Global,
     market: &Market,
@@ -97,6 +99,7 @@ pub(crate) fn visit<G: Turnstile>(
     incumbent: &Incumbent,
     worked: &mut Worked,
     turnstile: &G,
+    root: &Root,
     start: &mut Option<Activation>,
 ) -> Result<Finding, Memory>
     requires market { IsValid market.now }
@@ -106,8 +109,10 @@ pub(crate) fn visit<G: Turnstile>(
     ensures parts { worked.new.seat.parts ≡ worked.old.seat.parts }
     ensures may { IfOk result (λ finding. MaySettle market.now worked.new.seat.seen finding (new_node (word_of prefix.now))) }
 {
+    *start = root.start()?;
     let finding = turnstile.through(alloc, worker, market, prefix, start)?;
     offer_found(market, incumbent, worked, &finding)?;
+    incumbent.look(&mut worked.seat);
     Ok(finding)
 }
 
@@ -115,8 +120,8 @@ pub(crate) fn visit<G: Turnstile>(
 /// branch within the budget. Where memory is wanting it ends, and gives its node back unless it has settled it.
 ///
 /// Pool, seat and incumbent are of one search of this market. The lock is held for one take, one settle or one
-/// give-back. The bell rings where somebody who waits may get on: after a branch, and when a worker ends. The start is
-/// the worker's own. Who branches the root rounds its optimum, while others go on.
+/// give-back. The bell rings where somebody who waits may get on: after a branch, and when a worker ends. Who branches
+/// the root rounds its optimum, while others go on.
 pub fn work<'m, N: SearchName, G: Turnstile, R: Wait>(
     rt: &R,
     alloc: Global,
@@ -127,6 +132,37 @@ pub fn work<'m, N: SearchName, G: Turnstile, R: Wait>(
     incumbent: &Incumbent,
     seat: Seat,
     turnstile: &G,
+) -> Worked
+    requires market { (market.now ≡ N.market) × IsValid market.now }
+    requires worker { worker < N.workers }
+    requires incumbent { incumbent.now ≡ N.incumbent }
+    requires seat { IsFresh N.incumbent seat }
+    ensures holds { HoldsBest N.market N.incumbent result }
+    ensures parts { result.seat.parts ≡ 1 }
+{
+    match Root::find(alloc, market) {
+        Ok(root) => work_from(
+            rt, alloc, market, worker, pool, bell, incumbent, seat, turnstile, &root,
+        ),
+        Err(Memory) => {
+            bell.notify_all();
+            Worked { seat, best: None }
+        }
+    }
+}
+
+/// The same where the root's optimum is known, from which each prefix is examined.
+pub(crate) fn work_from<'m, N: SearchName, G: Turnstile, R: Wait>(
+    rt: &R,
+    alloc: Global,
+    market: &Market,
+    worker: u32,
+    pool: &Mutex<Pool<'m, N>>,
+    bell: &Condvar,
+    incumbent: &Incumbent,
+    seat: Seat,
+    turnstile: &G,
+    root: &Root,
 ) -> Worked
     requires market { (market.now ≡ N.market) × IsValid market.now }
     requires worker { worker < N.workers }
@@ -150,6 +186,7 @@ pub fn work<'m, N: SearchName, G: Turnstile, R: Wait>(
             incumbent,
             &mut worked,
             turnstile,
+            root,
             &mut start,
         );
         let Ok(finding) = found else {

@@ -22,14 +22,27 @@ pub const BARE_COLUMNS: &str = "from,to";
 /// A check of borders.csv.
 #[derive(Clone, Copy, Debug, PartialEq, Eq)]
 pub enum BorderCheck {
+    /// There are more than `MOST_BORDERS` borders.
     TooManyBorders,
+    /// One of the two isn't a zone of zones.csv.
     Unknown,
+    /// Both are one zone.
     SelfBorder,
+    /// An earlier line has the same two zones, in this order or the other.
     Repeated,
+    /// A limit isn't a whole number from 0 to `MOST_MW` MW.
     Range,
 }
 
 impl FileCheck for BorderCheck {
+    const ALL: &'static [Self] = &[
+        BorderCheck::TooManyBorders,
+        BorderCheck::Unknown,
+        BorderCheck::SelfBorder,
+        BorderCheck::Repeated,
+        BorderCheck::Range,
+    ];
+
     ghost number = { border_check_number };
 
     ghost name = { border_check_name };
@@ -46,18 +59,23 @@ impl FileCheck for BorderCheck {
     }
 }
 
-/// A border from one zone to another, by their places among the zones, and its limits there and back, in MW.
+/// A border from one zone to another.
 #[derive(Clone, Copy, Debug, PartialEq, Eq)]
 pub struct BorderEnds {
+    /// The place of its first zone among the zones, from 0.
     pub from: u32,
+    /// The place of its second zone among the zones, from 0.
     pub to: u32,
+    /// The most that may flow from the first zone to the second, in MW.
     pub limit: u32,
+    /// The most that may flow from the second zone to the first, in MW.
     pub back: u32,
 }
 
 /// The borders in the order of the file.
 #[derive(Debug, Drop)]
 pub struct BorderBook {
+    /// The borders; what flows over each is read at the same place.
     pub borders: Items<BorderEnds>,
 }
 
@@ -131,7 +149,7 @@ fn is_repeated(border: BorderEnds, earlier: &[BorderEnds]) -> bool
     earlier.iter().any(|other| is_between_same(border, *other))
 }
 
-/// The border of a line behind these, or the first check that fails.
+/// The border of a line after these, or the first check that fails.
 fn border_of(
     zones: &ZoneBook,
     version: u8,

@@ -16,13 +16,24 @@ const COLUMNS: &str = "zone,operator";
 /// A check of zones.csv.
 #[derive(Clone, Copy, Debug, PartialEq, Eq)]
 pub enum ZoneCheck {
+    /// There are more than `MOST_ZONES` zones.
     TooManyZones,
+    /// The zone or the operator isn't a name.
     BadField,
+    /// An earlier line has this zone.
     Repeated,
+    /// The file has no zone.
     NoZone,
 }
 
 impl FileCheck for ZoneCheck {
+    const ALL: &'static [Self] = &[
+        ZoneCheck::TooManyZones,
+        ZoneCheck::BadField,
+        ZoneCheck::Repeated,
+        ZoneCheck::NoZone,
+    ];
+
     ghost number = { zone_check_number };
 
     ghost name = { zone_check_name };
@@ -39,18 +50,18 @@ impl FileCheck for ZoneCheck {
 }
 
 /// Zones and operators in the order in which they first appear in the file.
-///
-/// `operator_of` has one entry per zone: its operator's place among the operators.
 #[derive(Debug, Drop)]
 pub struct ZoneBook {
+    /// The names of the zones.
     pub zones: NameIndex,
+    /// The names of the operators.
     pub operators: NameIndex,
+    /// For each zone the place of its operator among the operators, from 0.
     pub operator_of: Items<u32>,
 }
 
 impl ZoneBook {
     /// The book of a page, or its first refusal.
-    #[tactic(auto, unfolding(crate::specs::Zones::zone_columns))]
     pub fn read(alloc: Global, zones: &[u8]) -> Result<ZoneBook, BookFault>
         requires { length zones.now ≤ MOST_PAGE }
         ensures book { GivesBook result (book_in zone_grammar zones.now) }
@@ -73,7 +84,7 @@ struct ZonesSoFar {
     operator_of: Vec<u32>,
 }
 
-/// The first check that a line fails behind others with these zones.
+/// The first check that a line fails after others with these zones.
 fn failing_check(zones: &NameIndex, line: &Row) -> Option<ZoneCheck>
     ensures first { (earlier : List Line) → zones.now ≡ zones_of earlier
         → option_map zone_check_number result ≡ first_failing (zone_checks earlier line.now) }

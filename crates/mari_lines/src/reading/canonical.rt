@@ -1,4 +1,4 @@
-//! Whether a text is a number as it is printed, told from its last byte to its first.
+//! Whether a text is a number as it is printed, found from its last byte to its first.
 
 ghost use Rattle.std.specs.Prelude.{◌≡◌, ◌≢◌, ◌≤◌, ◌+◌, ◌/◌, ◌%◌, ◌^◌, ◌↔◌, ◌∷◌, [], ◌++◌, IsTrue, List, MatchOption, unsigned_abs, ℕ};
 ghost use Rattle.std.specs.Fmt.{decimal, signed_decimal};
@@ -47,7 +47,7 @@ fn before_two_digits(text: &[u8], number: u128) -> Option<&[u8]>
     before(front, last_digit(number / 10))
 }
 
-/// Whether a text is so many hundredths: digits, a point and two decimals.
+/// Whether a text writes this number of hundredths: digits, a point and two decimals.
 fn is_hundredths(text: &[u8], number: u128) -> bool
     ensures { IsTrue result
         ↔ (text.now ≡ decimal (number / 100) ++ 46 ∷ (48 + number % 100 / 10) ∷ (48 + number % 10) ∷ []) }
@@ -61,7 +61,7 @@ fn is_hundredths(text: &[u8], number: u128) -> bool
     is_decimal(front, number / 100)
 }
 
-/// Whether a text is so many ten-thousandths: digits, a point and four decimals.
+/// Whether a text writes this number of ten-thousandths: digits, a point and four decimals.
 fn is_ten_thousandths(text: &[u8], number: u128) -> bool
     ensures { IsTrue result ↔ (text.now ≡ printed_ten_thousandths number) }
 {
@@ -71,7 +71,7 @@ fn is_ten_thousandths(text: &[u8], number: u128) -> bool
     is_hundredths(front, number / 100)
 }
 
-/// What stands behind the sign of a number, where a text begins with it.
+/// What stands after the sign of a number, where a text begins with it.
 fn behind_sign(text: &[u8], negative: bool) -> Option<&[u8]>
     ensures { MatchOption result ((size : List ℕ) → text.now ≢ sign_of negative ++ size)
         (λ size. text.now ≡ sign_of negative ++ size.now) }

@@ -32,7 +32,7 @@ fn digits_in(text: &[u8]) -> u128
     value
 }
 
-/// The number that the digits of a text write, in units, behind the sign that stands first.
+/// The number that the digits of a text write, in units, after the sign that stands first.
 fn value_of(text: &[u8], unit: u128) -> i128
     requires { 0 < unit }
     ensures { result ≡ value_in unit text.now }

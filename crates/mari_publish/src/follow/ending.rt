@@ -1,4 +1,4 @@
-//! A block is open behind its tree.
+//! A block is open after its tree.
 
 ghost use Rattle.std.specs.Prelude.{◌≡◌, ◌<◌};
 ghost use Rattle.mari_publish.specs.Order.{after, after_ending, full_block as full_block_of, kept_with, Steps, Follows};
@@ -11,7 +11,7 @@ use mari_lines::Line;
 use mari_units::{MOST_BIDS, MOST_RUNS, MOST_ZONES};
 use std::alloc::Global;
 
-/// A line behind a tree.
+/// A line after a tree.
 fn list_party(alloc: Global, ending: &mut Ending, line: Line) -> Result<(), FollowFault>
     ensures { Steps (after_ending ending.old line) (held_as.Ending ending.old) (held_as.Ending ending.new) result }
 {
@@ -82,7 +82,7 @@ fn close_block(kept: &mut Kept, ending: Ending, run: u32) -> Result<Option<Part>
     go_on(kept, Held::Between, Some(Part::Block(block)))
 }
 
-/// A line behind a block's tree.
+/// A line after a block's tree.
 pub fn behind_tree(
     alloc: Global,
     kept: &mut Kept,

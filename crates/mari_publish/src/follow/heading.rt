@@ -28,7 +28,7 @@ pub fn at_start(kept: &mut Kept, line: Line) -> Result<Option<Part>, FollowFault
     }
 }
 
-/// The heading of a run that is published, behind the head or a block.
+/// The heading of a run that is published, after the head or a block.
 fn open_run(kept: &mut Kept, heading: Heading) -> Result<Option<Part>, FollowFault>
     requires { kept.old.counts.published + kept.old.counts.unpublished ≤ MOST_RUNS }
     ensures { Follows (starts_block kept.old (Line.Run heading)) (kept_with kept.old held_as.Between) kept.new result }
@@ -39,7 +39,7 @@ fn open_run(kept: &mut Kept, heading: Heading) -> Result<Option<Part>, FollowFau
     go_on(kept, Held::Run(heading), None)
 }
 
-/// The line of a run that isn't published, behind the head or a block.
+/// The line of a run that isn't published, after the head or a block.
 fn tell_unpublished(
     kept: &mut Kept,
     heading: Heading,
@@ -56,7 +56,7 @@ fn tell_unpublished(
     go_on(kept, Held::Between, Some(Part::Block(block)))
 }
 
-/// The first operator's line of the totals, behind the head or a block.
+/// The first operator's line of the totals, after the head or a block.
 fn open_totals(
     alloc: Global,
     kept: &mut Kept,
@@ -72,7 +72,7 @@ fn open_totals(
     go_on(kept, Held::Totals(operators, empty(alloc)), None)
 }
 
-/// A line behind the head or a block.
+/// A line after the head or a block.
 pub fn between_blocks(
     alloc: Global,
     kept: &mut Kept,
@@ -103,7 +103,7 @@ fn open_listing(alloc: Global, heading: Heading, welfare: u64) -> Held
     })
 }
 
-/// The line behind a run's heading.
+/// The line after a run's heading.
 pub fn behind_heading(
     alloc: Global,
     kept: &mut Kept,

@@ -11,10 +11,12 @@ use mari_units::{Items, Memory};
 use std::alloc::Global;
 use std::mem;
 
-/// Why a line was not taken: it may not stand here, or there was no memory.
+/// Why a line was not taken.
 #[derive(Clone, Copy)]
 pub enum FollowFault {
+    /// It may not stand here.
     OutOfOrder,
+    /// Out of memory.
     Memory,
 }
 

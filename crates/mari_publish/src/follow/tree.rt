@@ -45,7 +45,7 @@ fn open_conflict(growing: Growing, zones: Items<u32>) -> (Held, Result<(), Follo
     (held, Ok(()))
 }
 
-/// The first operator's line behind a tree.
+/// The first operator's line after a tree.
 fn close_tree(
     alloc: Global,
     growing: Growing,

@@ -7,7 +7,7 @@ use Rattle.mari_check.proofs.stream.read_pieces.Goals as goal
 
 pub returns-in-Err-clause-told : goal.returns-in-Err-clause-told
 returns-in-Err-clause-told g c = λ whole is.
-    rw c.fault_of_shelf.ensures (piece-fault c.args.books.now _ _ _ c.pieces.stream c.pieces.invariant.under c.in-Err.fault (λ e. c.in-Err.ensures.not_missing (ap (λ x. Err x) e)) (λ e. (c.in-Err.ensures.over (λ f. absurd cc)).0 (ap (λ x. Err x) e)) whole is)
+    rw c.fault_of_shelf.ensures (piece-fault c.args.books.now _ _ _ c.pieces.stream c.pieces.invariant.under c.in-Err.fault (λ e. c.in-Err.ensures.not_missing (ap (λ x. Err x) e)) (λ e. (c.in-Err.ensures.over (λ f. absurd cc) (λ f. absurd cc)).0 (ap (λ x. Err x) e)) whole is)
 
 pub pieces-preserved : goal.pieces-preserved
 pieces-preserved g c =

@@ -8,7 +8,7 @@ use Rattle.mari_feed.proofs.stream.print_pieces.Goals as goal
 
 pub returns-in-Err-clause-told : goal.returns-in-Err-clause-told
 returns-in-Err-clause-told g c = λ whole is.
-    rw c.stop_of_shelf.ensures (piece_fault _ _ _ (g.K.Sink.taken c.args.sink.now) c.pieces.reader (g.K.Sink.taken c.pieces.sink) c.pieces.invariant.under c.in-Err.fault (λ e. c.in-Err.ensures.not_missing (ap (λ x. Err x) e)) (λ e. (c.in-Err.ensures.over (λ f. absurd cc)).0 (ap (λ x. Err x) e)) whole is)
+    rw c.stop_of_shelf.ensures (piece_fault _ _ _ (g.K.Sink.taken c.args.sink.now) c.pieces.reader (g.K.Sink.taken c.pieces.sink) c.pieces.invariant.under c.in-Err.fault (λ e. c.in-Err.ensures.not_missing (ap (λ x. Err x) e)) (λ e. (c.in-Err.ensures.over (λ f. absurd cc) (λ f. absurd cc)).0 (ap (λ x. Err x) e)) whole is)
 
 pub returns-in-Err-push-clause-told : goal.returns-in-Err-push-clause-told
 returns-in-Err-push-clause-told g c = λ whole is. of_page_so_far _ _ _ (g.K.Sink.taken c.args.sink.now) c.pieces.reader (g.K.Sink.taken c.pieces.sink) c.pieces.invariant.under whole is

@@ -4,4 +4,4 @@ use Rattle.mari_market.proofs.certificate.are_rising.Given as goal
 
 -- the zones rise where the rest does from here
 abbrev pub invariant-loop-zone : goal.invariant-loop-zone
-invariant-loop-zone l = IsRising 0 l.count l.zones ↔ IsRising l.least l.count (drop l.zone-index l.zones)
+invariant-loop-zone l = IsRising 0 l.count l.zones ↔ IsRising l.next l.count (drop l.zone-index l.zones)

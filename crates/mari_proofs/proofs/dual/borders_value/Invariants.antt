@@ -1,11 +1,12 @@
 use Rattle.std.proofs.Common.{◌≡◌, ◌*◌, take, pos, neg_ℤ, ◌≤ℤ◌}
 use Rattle.mari_market.specs.Dual.{best_border}
 use Rattle.mari_market.specs.Sums.{int_sum}
+use Rattle.mari_market.specs.declared.limits.TheConstants.{MOST_WORTH}
 use Rattle.mari_proofs.proofs.dual.borders_value.Given as goal
 
 abbrev pub invariant-loop-border : goal.invariant-loop-border
 invariant-loop-border l = record {
   sum : l.total ≡ int_sum (best_border l.potentials) (take l.border-index l.borders);
-  low : neg_ℤ (pos (4000000000000 * l.border-index)) ≤ℤ l.total;
-  high : l.total ≤ℤ pos (4000000000000 * l.border-index);
+  low : neg_ℤ (pos (MOST_WORTH * l.border-index)) ≤ℤ l.total;
+  high : l.total ≤ℤ pos (MOST_WORTH * l.border-index);
 }

@@ -3,11 +3,12 @@ use Rattle.mari_market.specs.Dual.{best_order}
 use Rattle.mari_market.specs.Sums.{int_sum}
 use Rattle.mari_market.specs.Bounds.{span_in}
 use Rattle.mari_gates.specs.GateTable.{state_in}
+use Rattle.mari_market.specs.declared.limits.TheConstants.{MOST_WORTH}
 use Rattle.mari_proofs.proofs.dual.orders_value.Given as goal
 
 abbrev pub invariant-loop-order : goal.invariant-loop-order
 invariant-loop-order l = record {
   sum : l.total ≡ int_sum (best_order (span_in (state_in l.states)) l.potentials) (take l.order-index l.orders);
-  low : neg_ℤ (pos (4000000000000 * l.order-index)) ≤ℤ l.total;
-  high : l.total ≤ℤ pos (4000000000000 * l.order-index);
+  low : neg_ℤ (pos (MOST_WORTH * l.order-index)) ≤ℤ l.total;
+  high : l.total ≤ℤ pos (MOST_WORTH * l.order-index);
 }

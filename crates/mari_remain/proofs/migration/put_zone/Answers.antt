@@ -17,4 +17,4 @@ named d o name names place is nothing found =
 
 pub returns : goal.returns
 returns c = subst (λ (n : List ℕ). OnOk c.put.result (c.put.new.text.items ≡ c.args.text.now.items ++ n))
-    (named _ c.name_at.result c.unwrap_or-name.result c.args.zones.now.zones c.args.zone c.unwrap_or-name.ensures refl c.name_at.ensures) c.put.ensures
+    (named _ c.name_at.result c.unwrap_or-name.result c.args.zones.now.zones c.args.zone c.unwrap_or-name.ensures refl c.name_at.ensures) c.put.ensures.put

@@ -9,7 +9,7 @@ use Rattle.mari_publish.proofs.reader.TextReader.next.Goals.{then-is_none, else-
 pub invariant_of-self : goal.invariant_of-self
 invariant_of-self c =
     let h = c.self.invariant.1 in
-    (c.next_part.ensures.handled, (h.0, with_answer h.1 c.next_part.result, c.next_part.ensures.stands h.0 h.1 h.2), λ no. absurd cc)
+    (c.next_part.ensures.handled, (h.0, with_answer h.1 c.next_part.result, c.next_part.ensures.stands h.0 h.1 h.2), λ no. absurd cc, λ no. absurd cc)
 
 pub returns-in_err-part-clause-next : goal.returns-in_err-part-clause-next
 returns-in_err-part-clause-next c = λ text parts s.
@@ -26,12 +26,12 @@ returns-in_err-part-clause-one c = λ text parts answer s a.
 pub invariant_of-self-then-is_none : goal.invariant_of-self-then-is_none
 invariant_of-self-then-is_none c =
     let h = c.self.invariant.1 in
-    (c.forget.ensures.handled, (h.0, with_answer h.1 c.next_part.result, c.forget.ensures.stands h.0 (with_answer h.1 c.next_part.result) (c.next_part.ensures.stands h.0 h.1 h.2)), λ yes. c.forget.ensures.no_line)
+    (c.forget.ensures.handled, (h.0, with_answer h.1 c.next_part.result, c.forget.ensures.stands h.0 (with_answer h.1 c.next_part.result) (c.next_part.ensures.stands h.0 h.1 h.2)), λ yes. c.forget.ensures.no_line, λ yes. c.forget.ensures.few)
 
 pub invariant_of-self-else-is_none : goal.invariant_of-self-else-is_none
 invariant_of-self-else-is_none c =
     let h = c.self.invariant.1 in
-    (c.next_part.ensures.handled, (h.0, with_answer h.1 c.next_part.result, c.next_part.ensures.stands h.0 h.1 h.2), λ no. absurd cc)
+    (c.next_part.ensures.handled, (h.0, with_answer h.1 c.next_part.result, c.next_part.ensures.stands h.0 h.1 h.2), λ no. absurd cc, λ no. absurd cc)
 
 pub returns-clause-next : goal.returns-clause-next
 returns-clause-next c = λ text parts s. c.in_ok-part.ensures.next text parts (subst (λ (r : ReaderState). ComesFrom r.come text parts) (sym c.self.view_is) s)

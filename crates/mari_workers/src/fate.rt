@@ -1,0 +1,128 @@
+//! What becomes of an early leaf in a walk that looks for earlier activations.
+
+ghost use Rattle.std.specs.Prelude.{◌≡◌, IfOk, pos};
+ghost use Rattle.mari_market.specs.Market.{IsValid};
+ghost use Rattle.mari_market.specs.Prefix.{word_of, IsFeasiblePrefix};
+ghost use Rattle.mari_market.specs.Tree.{LeafHolds};
+ghost use Rattle.mari_workers.specs.Alone.{best_in, without_best};
+ghost use Rattle.mari_workers.specs.Refine.{fate_by, unbounded, IsAim, IsFate};
+
+use crate::root::Root;
+use mari_core::closing_leaf;
+use mari_gates::comes_before;
+use mari_market::{Activation, Attained, Finding, Leaf, Market, Prefix};
+use mari_proofs::check_leaf;
+use mari_units::{Memory, Quarters};
+use std::alloc::Global;
+
+/// What a walk looks for: activations of the optimal welfare whose gate words come before this one.
+#[derive(Clone, Copy, Drop)]
+pub(crate) struct Aim {
+    pub(crate) word: Prefix,
+    pub(crate) welfare: u64,
+    pub(crate) budget: u32,
+}
+
+/// What becomes of a leaf: it stays or another takes its place, its prefix branches, or there is an activation.
+#[derive(Drop)]
+pub(crate) enum Fate {
+    Stays(Leaf),
+    Branches(Leaf),
+    Yields(Leaf, Activation),
+}
+
+/// What becomes of a leaf without a certificate.
+fn unbounded(best: Option<Attained>, leaf: Leaf, full: bool) -> Fate
+    ensures { result ≡ unbounded best leaf full }
+{
+    match best {
+        Some(best) if full => Fate::Yields(leaf, best.activation),
+        _ => Fate::Branches(leaf),
+    }
+}
+
+/// Takes the activation out of a finding, if it has one.
+fn take_best(finding: &mut Finding) -> Option<Attained>
+    ensures best { result ≡ best_in finding.old }
+    ensures rest { finding.new ≡ without_best finding.old }
+{
+    match finding {
+        Finding::Relaxed(relaxed) => relaxed.best.take(),
+        Finding::Empty(_) => None,
+    }
+}
+
+/// What becomes of a leaf by what is found at its prefix, where a certificate is to hold at this number.
+fn fate_by(mut finding: Finding, leaf: Leaf, most: u64, full: bool) -> Fate
+    ensures { result ≡ fate_by finding leaf most full }
+{
+    let best = take_best(&mut finding);
+    match closing_leaf(finding, most) {
+        Some(other) => Fate::Stays(other),
+        None => unbounded(best, leaf, full),
+    }
+}
+
+/// A welfare as quarter-cents.
+fn quarters_of(welfare: u64) -> Quarters
+    ensures { result.0 ≡ pos welfare }
+{
+    Quarters(i128::from(welfare))
+}
+
+/// The leaf of a prefix that isn't early: it stays, but where it is its parent's the prefix's own takes its place.
+fn late_leaf(
+    alloc: Global,
+    market: &Market,
+    prefix: &Prefix,
+    leaf: Leaf,
+    is_own: bool,
+    welfare: u64,
+    root: &Root,
+) -> Result<Leaf, Memory>
+    requires market { IsValid market.now }
+    requires prefix { IsFeasiblePrefix market.now prefix.now }
+    requires leaf { LeafHolds market.now (pos welfare) (word_of prefix.now) leaf }
+    ensures { IfOk result (LeafHolds market.now (pos welfare) (word_of prefix.now)) }
+{
+    if is_own {
+        return Ok(leaf);
+    }
+    match root.examine(alloc, market, prefix) {
+        Ok(finding) => Ok(closing_leaf(finding, welfare).unwrap_or(leaf)),
+        Err(Memory) => {
+            drop(leaf);
+            Err(Memory)
+        }
+    }
+}
+
+/// What becomes of a leaf that holds at the welfare, the prefix's own or its parent's. Where the prefix isn't early, or
+/// its own leaf holds at the welfare less 1, it keeps one; else it is examined.
+pub(crate) fn fate_of(
+    alloc: Global,
+    market: &Market,
+    prefix: &Prefix,
+    leaf: Leaf,
+    is_own: bool,
+    aim: &Aim,
+    root: &Root,
+) -> Result<Fate, Memory>
+    requires market { IsValid market.now }
+    requires prefix { IsFeasiblePrefix market.now prefix.now }
+    requires aim { IsAim market.now aim.now }
+    requires leaf { LeafHolds market.now (pos aim.now.welfare) (word_of prefix.now) leaf }
+    ensures { IfOk result (IsFate market.now aim.now.welfare (word_of aim.now.word) (word_of prefix.now)) }
+{
+    if !comes_before(prefix, &aim.word) {
+        let late = late_leaf(alloc, market, prefix, leaf, is_own, aim.welfare, root)?;
+        return Ok(Fate::Stays(late));
+    }
+    let most = aim.welfare - 1;
+    if is_own && check_leaf(market, prefix, &leaf, quarters_of(most)) {
+        return Ok(Fate::Stays(leaf));
+    }
+    let finding = root.examine(alloc, market, prefix)?;
+    let full = prefix.length as usize == market.gates.as_slice().len();
+    Ok(fate_by(finding, leaf, most, full))
+}

@@ -4,8 +4,7 @@ use Rattle.std.specs.Prelude.{◌==◌, ◌≢◌, ◌≤◌, length, take, Bool
 use lib.Chars.{codes}
 use Rattle.mari_units.specs.declared.faults.Refusal.{Refusal}
 use Rattle.mari_io.specs.declared.shelf.Fetch.TheVariants as fetch
-use Rattle.mari_io.specs.declared.shelf.TheConstants.{MOST_GIVEN}
-use Rattle.mari_io.specs.Outside.{Pages, page_of}
+use Rattle.mari_io.specs.Outside.{Pages, most_given, page_of}
 use Rattle.mari_publish.specs.declared.fault.TextFault.{TextFault}
 use Rattle.mari_publish.specs.declared.fault.TextFault.TheVariants as text_fault
 use Rattle.mari_publish.specs.declared.publication.Publication.{Publication}
@@ -107,7 +106,7 @@ one-fault page f text_fault.Memory bad other = absurd other
 -- of a page that is too long no fault is told
 long-none : (page : List ℕ) (f : TextFault) → IsTooLong page → IsToldFault page f → ⊥
 long-none page f long (of-page short bad) = omega (arith, long.longer, short)
-long-none page f long (of-given more bad) = no-line-fault (take MOST_GIVEN page) f long.no_fault bad
+long-none page f long (of-given more bad) = no-line-fault (take most_given page) f long.no_fault bad
 
 module _ (asked : Option Asked) (pages : Pages) where
   -- words that ask to check or to migrate ask for that alone
@@ -231,7 +230,7 @@ module _ (asked : Option Asked) (pages : Pages) where
       [ inl tells ↦ (let P : Option (List ℕ) → Type 0 = λ x. CheckTells books x o in let Q : Gap → Type 0 = λ x. Comes (IsGapOf x) o in subst Q (sym is) (too-long o books page (subst P has.held tells) long)) | inr e ↦ inr e ]
 
   -- a publication that is read
-  verdict-of : (o : Outcome) (books : Books) (page : List ℕ) (p : Publication) → CheckTells books (Some page) o → IsText page p → length page ≤ MOST_GIVEN → Comes IsAVerdict o
+  verdict-of : (o : Outcome) (books : Books) (page : List ℕ) (p : Publication) → CheckTells books (Some page) o → IsText page p → length page ≤ most_given → Comes IsAVerdict o
   verdict-of NoCommand books page p tells is short = absurd tells
   verdict-of (Day job) books page p tells is short = absurd tells
   verdict-of (Text t) books page p tells is short = inl tt

@@ -2,8 +2,7 @@
 -- printed.
 use Rattle.std.specs.Prelude.{ℕ, ◌≡◌, ◌≢◌, ◌≤◌, List, length, Option, Some, None, option_and_then}
 use Rattle.mari_units.specs.declared.faults.Refusal.{Refusal}
-use Rattle.mari_io.specs.Outside.{Pages, page_of}
-use Rattle.mari_io.specs.declared.shelf.TheConstants.{MOST_GIVEN}
+use Rattle.mari_io.specs.Outside.{Pages, most_given, page_of}
 use Rattle.mari_publish.specs.declared.fault.TextFault.{TextFault}
 use Rattle.mari_publish.specs.declared.fault.TextFault.TheVariants as text_fault
 use Rattle.mari_publish.specs.declared.publication.Publication.{Publication}
@@ -66,7 +65,7 @@ pub record IsReadable (asked : Option Asked) (pages : Pages) : Type 0 where
   pub page : List ℕ
   pub publication : Publication
   pub checked : HasPublication asked pages books page
-  pub short : length page ≤ MOST_GIVEN
+  pub short : length page ≤ most_given
   pub read : IsText page publication
 
 -- the publication is refused at a line, by the number of a check

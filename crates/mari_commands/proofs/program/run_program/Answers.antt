@@ -1,3 +1,4 @@
+use Rattle.mari_commands.proofs.Causes.{failed-counts, missing-counts, too-long-counts}
 use Rattle.mari_commands.proofs.Complete.{checked-answer, cleared-answer, complete-answer, gap-answer, migrated-answer, refuses-answer, refuses-text-answer}
 use Rattle.mari_commands.proofs.Ending.{answers}
 use Rattle.mari_commands.proofs.program.run_program.Goals as goal
@@ -29,3 +30,12 @@ returns-clause-checked g c = λ told t h. checked-answer _ _ _ _ told c.outcome_
 
 pub returns-clause-migrated : goal.returns-clause-migrated
 returns-clause-migrated g c = λ told t h. migrated-answer _ _ _ _ told c.outcome_of-outcome.result c.outcome_of-outcome.ensures.words (c.outcome_of-outcome.ensures.told told t) c.finish.ensures.reported h
+
+pub returns-clause-read_fault : goal.returns-clause-read_fault
+returns-clause-read_fault g c = failed-counts c.outcome_of-outcome.result _ _ c.finish.result c.finish.ensures.reported _ _ c.outcome_of-outcome.ensures.failed
+
+pub returns-clause-missing : goal.returns-clause-missing
+returns-clause-missing g c = missing-counts c.outcome_of-outcome.result _ _ c.finish.result c.finish.ensures.reported _ _ c.outcome_of-outcome.ensures.missing
+
+pub returns-clause-too_long : goal.returns-clause-too_long
+returns-clause-too_long g c = too-long-counts c.outcome_of-outcome.result _ _ c.finish.result c.finish.ensures.reported _ _ c.outcome_of-outcome.ensures.too_long

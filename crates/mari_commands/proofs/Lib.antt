@@ -1,4 +1,5 @@
 pub mod Complete
+pub mod Feeds
 pub mod Ending
 pub mod Folder
 pub mod Gates

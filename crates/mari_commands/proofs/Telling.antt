@@ -16,7 +16,7 @@ use Rattle.mari_words.specs.Asked.{Asked}
 use Rattle.mari_words.specs.Asked.Asked.{Check, Generate, Migrate}
 use Rattle.mari_words.specs.declared.command.FilePart.{FilePart}
 use Rattle.mari_commands.specs.declared.outcome.Outcome.{Outcome}
-use Rattle.mari_commands.specs.declared.outcome.Outcome.TheVariants.{NoCommand, Day, Text, Invalid, NoPage, Refused, Memory as NoMemory}
+use Rattle.mari_commands.specs.declared.outcome.Outcome.TheVariants.{NoCommand, Day, Feed as Feeds, Text, Invalid, NoPage, Refused, Memory as NoMemory}
 use Rattle.mari_commands.specs.Commands.{ReadsFolder}
 use Rattle.mari_commands.specs.Outcome.{IsMigrated, IsOfWords, IsSummarised, IsToldVerdict, Says, no_books, text_outcome}
 use Rattle.mari_commands.specs.Outcome.Says.{OfRefusal, OfGap, Fails, Starves}
@@ -38,6 +38,7 @@ words-of-fault asked folder why.Memory r named = tt
 pub words-of-migrated : (folder : List ℕ) (part : FilePart) (books : Books) (o : Outcome) → IsMigrated books part o → IsOfWords (Some (Migrate folder part)) o
 words-of-migrated folder part books NoCommand is = absurd is
 words-of-migrated folder part books (Day job) is = absurd is
+words-of-migrated folder part books (Feeds other) is = absurd is
 words-of-migrated folder part books (Text t) is = tt
 words-of-migrated folder part books (Invalid run n) is = absurd is
 words-of-migrated folder part books (NoPage n w) is = absurd is
@@ -47,6 +48,7 @@ words-of-migrated folder part books NoMemory is = tt
 pub words-of-summary : (number : ℕ) (o : Outcome) → IsSummarised number o → IsOfWords (Some (Generate number)) o
 words-of-summary number NoCommand is = absurd is
 words-of-summary number (Day job) is = absurd is
+words-of-summary number (Feeds folder) is = absurd is
 words-of-summary number (Text t) is = is
 words-of-summary number (Invalid run n) is = absurd is
 words-of-summary number (NoPage n w) is = absurd is
@@ -58,6 +60,7 @@ words-of-verdict folder (verdict.Valid published unpublished) (Text t) is = (pub
 words-of-verdict folder (verdict.Valid published unpublished) NoMemory is = tt
 words-of-verdict folder (verdict.Valid published unpublished) NoCommand is = absurd is
 words-of-verdict folder (verdict.Valid published unpublished) (Day job) is = absurd is
+words-of-verdict folder (verdict.Valid published unpublished) (Feeds other) is = absurd is
 words-of-verdict folder (verdict.Valid published unpublished) (Invalid run n) is = absurd is
 words-of-verdict folder (verdict.Valid published unpublished) (NoPage n w) is = absurd is
 words-of-verdict folder (verdict.Valid published unpublished) (Refused refusal) is = absurd is
@@ -65,6 +68,7 @@ words-of-verdict folder (verdict.Invalid run fault) (Invalid r f) is = (folder, 
 words-of-verdict folder (verdict.Invalid run fault) NoMemory is = absurd is
 words-of-verdict folder (verdict.Invalid run fault) NoCommand is = absurd is
 words-of-verdict folder (verdict.Invalid run fault) (Day job) is = absurd is
+words-of-verdict folder (verdict.Invalid run fault) (Feeds other) is = absurd is
 words-of-verdict folder (verdict.Invalid run fault) (Text t) is = absurd is
 words-of-verdict folder (verdict.Invalid run fault) (NoPage n w) is = absurd is
 words-of-verdict folder (verdict.Invalid run fault) (Refused refusal) is = absurd is

@@ -22,6 +22,8 @@ pub enum Outcome {
     NoCommand,
     /// A day is to be cleared.
     Day(Job),
+    /// The publication of this folder is to be printed as a feed.
+    Feed(String),
     /// A text is to be printed.
     Text(Vec<u8>),
     /// The publication isn't valid: the first run that has a fault, and the number of its least one.

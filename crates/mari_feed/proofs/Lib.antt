@@ -1,0 +1,11 @@
+pub mod NotRead
+pub mod Gathered
+pub mod Names
+pub mod Plain
+pub mod Shallow
+pub mod Plainly
+pub mod SameValue
+pub mod ByKey
+pub mod Outcomes
+pub mod Feeding
+pub mod Piecemeal

@@ -1,7 +1,8 @@
 pub mod NotRead
 pub mod Gathered
-pub mod Names
+pub mod Joined
 pub mod Plain
+pub mod Opened
 pub mod Shallow
 pub mod Plainly
 pub mod SameValue

@@ -23,21 +23,15 @@ use Rattle.json.proofs.Printed.Tokens.{tokens-print}
 use Rattle.json.proofs.Printed.Trees.{ArePrintable-json_tokens, value-json_tokens}
 use Rattle.serde_json.specs.Data.{Num, unsigned, negative, float, Data, null, boolean, number, string, array, object, Items, no_items, item, Members, no_members, member, put, depth, items_depth, members_depth}
 use Rattle.serde_json.specs.Read.{max_depth, number_of, of_items, of_json, of_members, read}
-use Rattle.serde_json.specs.Written.{comma_if, compact_text, has_float, items_have_float, members_have_float, items_outline, items_text, members_outline, members_text, number_text, outline}
+use Rattle.serde_json.specs.Written.{comma_if, compact_text, items_outline, items_text, members_outline, members_text, number_text, outline}
 use Rattle.serde_json.proofs.Numbers.{number_of-decimal, number_of-negative}
 use Rattle.serde_json.proofs.Texts.{print-outline}
 use Rattle.mari_units.proofs.Digits.{own as numeral}
 use Rattle.mari_lines.proofs.Graphic.{lacks_feed, weaken}
 use Rattle.mari_lines.specs.Reading.{Lacks}
+use Rattle.mari_feed.specs.Plain.{is_plain_byte, is_plain_text}
 
 -- ---- which values
-
--- a byte that is printed as it is
-abbrev pub is_plain_byte : ℕ → Bool
-is_plain_byte b = ltb 32 b && ltb b 128 && not (b == 34) && not (b == 92)
-
-abbrev pub is_plain_text : List ℕ → Bool
-is_plain_text s = list_all is_plain_byte s
 
 abbrev pub IsWhole : Num → Type 0
 IsWhole (unsigned n) = n < 2 ^ 64
@@ -159,27 +153,6 @@ line_ascii (b ∷ s) e (suc i) = line_ascii s (and_parts (is_text_byte b) (list_
 
 pub plain_utf8 : (d : Data) → IsPlain d → IsUtf8 (compact_text d)
 plain_utf8 d h = IsUtf8-from_ascii (compact_text d) (line_ascii (compact_text d) (text_line d h))
-
--- ---- it has no float
-
-mutual
-  pub no_float : (d : Data) → IsPlain d → has_float d ≡ false
-  no_float null h = refl
-  no_float (boolean b) h = refl
-  no_float (number (unsigned n)) h = refl
-  no_float (number (negative z)) h = refl
-  no_float (number (float x)) h = absurd h
-  no_float (string s) h = refl
-  no_float (array ds) h = items_no_float ds h
-  no_float (object ms) h = members_no_float no_members ms h
-
-  items_no_float : (ds : Items) → ArePlain ds → items_have_float ds ≡ false
-  items_no_float no_items h = refl
-  items_no_float (item d ds) h = rw (no_float d h.0, items_no_float ds h.1) refl
-
-  members_no_float : (before ms : Members) → PlainBehind before ms → members_have_float ms ≡ false
-  members_no_float before no_members h = refl
-  members_no_float before (member k d ms) h = rw (no_float d h.2, members_no_float (with_last before k d) ms h.3) refl
 
 -- ---- the text is read back
 

@@ -32,7 +32,8 @@ use Rattle.mari_publish.specs.declared.publication.Part.{Part}
 use Rattle.mari_publish.specs.declared.publication.Part.TheVariants as part
 use Rattle.mari_feed.specs.Texts.{IsLineOf, json_of}
 use Rattle.mari_feed.specs.Values.{natural, whole, price_value, money_value, kind_value, side_value, zone_number, list_of, zone_value, border_value, bid_value, operator_value, provider_value, item_value, full_value, block_value, totals_value, part_value}
-use Rattle.mari_feed.proofs.Plain.{IsPlain, is_plain_byte, is_plain_text, one_line, plain_utf8, read_plain}
+use Rattle.mari_feed.specs.Plain.{is_plain_byte, is_plain_text}
+use Rattle.mari_feed.proofs.Plain.{IsPlain, one_line, plain_utf8, read_plain}
 use Rattle.mari_feed.proofs.Shallow.{shallow_part}
 
 -- ---- numbers and words

@@ -3,4 +3,5 @@ pub mod Ranges
 pub mod Reading
 pub mod Texts
 pub mod Objects
+pub mod Plain
 pub mod Streams

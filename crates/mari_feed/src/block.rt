@@ -1,67 +1,62 @@
 //! Blocks and totals as objects.
 
-ghost use Rattle.std.specs.Prelude.{◌≡◌, IfOk, OnOk, codes};
-ghost use Rattle.serde_json.specs.Data.{put as with_member};
+ghost use Rattle.std.specs.Prelude.{◌≡◌, ◌++◌, OnOk};
 ghost use Rattle.serde_json.specs.View.{view};
-ghost use Rattle.std.specs.List.{All};
-ghost use Rattle.mari_lines.specs.Ranges.{InRange, IsAmountLine, IsMoneyLine};
+ghost use Rattle.serde_json.specs.Written.{compact_text};
+ghost use Rattle.mari_lines.specs.Ranges.{InRange};
 ghost use Rattle.mari_lines.specs.declared.line.Line.TheVariants as line;
-ghost use Rattle.mari_publish.specs.Ranges.{BlockFits, FullFits};
-ghost use Rattle.mari_publish.specs.Ranges.{SumsFit};
-ghost use Rattle.mari_feed.specs.Objects.{members_of};
+ghost use Rattle.mari_publish.specs.Ranges.{BlockFits, FullFits, SumsFit};
 ghost use Rattle.mari_feed.specs.Reading.{Reads};
-ghost use Rattle.mari_feed.specs.Values.{natural, kind_value, list_of, zone_value, border_value, bid_value, operator_value, provider_value, full_value, unpublished_value, block_value, totals_value};
+ghost use Rattle.mari_feed.specs.Texts.{ledger_text, lines_text, rest_text};
+ghost use Rattle.mari_feed.specs.Values.{full_value, unpublished_value, block_value, totals_value};
 
 use crate::fault::FeedFault;
 use crate::form::Form;
 use crate::members::{Members, has_key};
-use crate::numbers::{Megawatts, Welfare};
-use crate::object::Object;
+use crate::numbers::{Megawatts, Nodes, Quarter, Run, Welfare};
+use crate::text::{put_end, put_first, put_first_list, put_next, put_next_list};
 use crate::words::Kind;
 use mari_market::TreeItem;
 use mari_publish::{
     AmountLine, BidLine, Block, BorderLine, FullBlock, Heading, MoneyLine, ZoneLine,
 };
 use mari_units::{
-    Items, MOST_BIDS, MOST_BORDERS, MOST_DEMANDS, MOST_NODES, MOST_PROVIDERS, MOST_QUARTERS,
-    MOST_RUNS, MOST_ZONES, Memory,
+    Items, MOST_BIDS, MOST_BORDERS, MOST_DEMANDS, MOST_NODES, MOST_PROVIDERS, MOST_ZONES, Memory,
 };
 use serde_json::Value;
 use std::alloc::Global;
 
-/// Puts a run's kind, quarter and number.
-fn put_heading(alloc: Global, object: &mut Object, heading: Heading) -> Result<(), Memory>
-    ensures { OnOk result (members_of object.new ≡ with_member (codes "run") (natural heading.run) (with_member (codes "quarter") (natural heading.quarter) (with_member (codes "kind") (kind_value heading.direct) (members_of object.old)))) }
-{
-    let kind = Kind::value(alloc, &heading.direct)?;
-    object.put("kind", kind)?;
-    object.put("quarter", Value::from(heading.quarter))?;
-    object.put("run", Value::from(heading.run))
-}
-
-/// Puts the lines of zones, borders and bids, and the demands.
-fn put_lines(object: &mut Object, block: &FullBlock) -> Result<(), Memory>
+/// Appends the bids, the borders, the demands and the kind of a block.
+fn put_lines(text: &mut Vec<u8>, block: &FullBlock) -> Result<(), Memory>
     requires { FullFits block.now }
-    ensures { OnOk result (members_of object.new ≡ with_member (codes "demands") (list_of natural block.now.demands) (with_member (codes "bids") (list_of bid_value block.now.bids) (with_member (codes "borders") (list_of border_value block.now.borders) (with_member (codes "zones") (list_of zone_value block.now.zones) (members_of object.old))))) }
+    ensures { OnOk result (text.new.items ≡ text.old.items ++ lines_text block.now) }
 {
-    object.put_list::<ZoneLine>("zones", block.zones.as_slice())?;
-    object.put_list::<BorderLine>("borders", block.borders.as_slice())?;
-    object.put_list::<BidLine>("bids", block.bids.as_slice())?;
-    object.put_list::<Megawatts>("demands", block.demands.as_slice())
+    put_first_list::<BidLine>(text, "bids", block.bids.as_slice())?;
+    put_next_list::<BorderLine>(text, "borders", block.borders.as_slice())?;
+    put_next_list::<Megawatts>(text, "demands", block.demands.as_slice())?;
+    put_next::<Kind>(text, "kind", &block.heading.direct)
 }
 
-/// Puts what each operator and each provider gets.
-fn put_ledger(
-    object: &mut Object,
-    operators: &[MoneyLine],
-    providers: &[AmountLine],
-) -> Result<(), Memory>
-    requires operators { All IsMoneyLine operators.now }
-    requires providers { All IsAmountLine providers.now }
-    ensures { OnOk result (members_of object.new ≡ with_member (codes "providers") (list_of provider_value providers.now) (with_member (codes "operators") (list_of operator_value operators.now) (members_of object.old))) }
+/// Appends what each operator and each provider gets in it, its quarter and its number.
+fn put_ledger(text: &mut Vec<u8>, block: &FullBlock) -> Result<(), Memory>
+    requires { FullFits block.now }
+    ensures { OnOk result (text.new.items ≡ text.old.items ++ ledger_text block.now) }
 {
-    object.put_list::<MoneyLine>("operators", operators)?;
-    object.put_list::<AmountLine>("providers", providers)
+    put_next_list::<MoneyLine>(text, "operators", block.operators.as_slice())?;
+    put_next_list::<AmountLine>(text, "providers", block.providers.as_slice())?;
+    put_next::<Quarter>(text, "quarter", &block.heading.quarter)?;
+    put_next::<Run>(text, "run", &block.heading.run)
+}
+
+/// Appends its certificate tree, its welfare, its zones and its end.
+fn put_rest(text: &mut Vec<u8>, block: &FullBlock) -> Result<(), Memory>
+    requires { FullFits block.now }
+    ensures { OnOk result (text.new.items ≡ text.old.items ++ rest_text block.now) }
+{
+    put_next_list::<TreeItem>(text, "tree", block.tree.as_slice())?;
+    put_next::<Welfare>(text, "welfare", &block.welfare)?;
+    put_next_list::<ZoneLine>(text, "zones", block.zones.as_slice())?;
+    put_end(text)
 }
 
 impl Form for FullBlock {
@@ -71,18 +66,10 @@ impl Form for FullBlock {
 
     ghost InItsRange = { FullFits };
 
-    fn value(alloc: Global, block: &FullBlock) -> Result<Value, Memory> {
-        let mut object = Object::new(alloc);
-        put_heading(alloc, &mut object, block.heading)?;
-        put_lines(&mut object, block)?;
-        put_ledger(
-            &mut object,
-            block.operators.as_slice(),
-            block.providers.as_slice(),
-        )?;
-        object.put_list::<TreeItem>("tree", block.tree.as_slice())?;
-        object.put("welfare", Value::from(block.welfare))?;
-        Ok(object.into_value())
+    fn put(text: &mut Vec<u8>, block: &FullBlock) -> Result<(), Memory> {
+        put_lines(text, block)?;
+        put_ledger(text, block)?;
+        put_rest(text, block)
     }
 
     fn read(alloc: Global, value: &Value) -> Result<FullBlock, FeedFault> {
@@ -93,8 +80,8 @@ impl Form for FullBlock {
         let direct = members.item::<Kind>(alloc, "kind")?;
         let operators = members.list::<MoneyLine>(alloc, "operators", 1, MOST_ZONES)?;
         let providers = members.list::<AmountLine>(alloc, "providers", 0, MOST_BIDS)?;
-        let quarter = members.number("quarter", 1, MOST_QUARTERS)?;
-        let run = members.number("run", 1, MOST_RUNS as u32)?;
+        let quarter = members.item::<Quarter>(alloc, "quarter")?;
+        let run = members.item::<Run>(alloc, "run")?;
         let tree = members.list::<TreeItem>(alloc, "tree", 1, MOST_NODES as usize)?;
         let welfare = members.item::<Welfare>(alloc, "welfare")?;
         let zones = members.list::<ZoneLine>(alloc, "zones", 1, MOST_ZONES)?;
@@ -117,14 +104,16 @@ impl Form for FullBlock {
     }
 }
 
-/// Makes the value of a block that isn't published.
-fn unpublished(alloc: Global, heading: Heading, nodes: u32) -> Result<Value, Memory>
-    ensures { IfOk result (λ value. view value ≡ unpublished_value heading nodes) }
+/// Appends a block that isn't published.
+fn put_unpublished(text: &mut Vec<u8>, heading: Heading, nodes: u32) -> Result<(), Memory>
+    requires { InRange (line.Unpublished heading nodes) }
+    ensures { OnOk result (text.new.items ≡ text.old.items ++ compact_text (unpublished_value heading nodes)) }
 {
-    let mut object = Object::new(alloc);
-    put_heading(alloc, &mut object, heading)?;
-    object.put("nodes", Value::from(nodes))?;
-    Ok(object.into_value())
+    put_first::<Kind>(text, "kind", &heading.direct)?;
+    put_next::<Nodes>(text, "nodes", &nodes)?;
+    put_next::<Quarter>(text, "quarter", &heading.quarter)?;
+    put_next::<Run>(text, "run", &heading.run)?;
+    put_end(text)
 }
 
 /// The heading and the count of nodes of a block that isn't published.
@@ -133,9 +122,9 @@ fn read_unpublished(alloc: Global, value: &Value) -> Result<(Heading, u32), Feed
 {
     let mut members = Members::of(value)?;
     let direct = members.item::<Kind>(alloc, "kind")?;
-    let nodes = members.number("nodes", 1, MOST_NODES)?;
-    let quarter = members.number("quarter", 1, MOST_QUARTERS)?;
-    let run = members.number("run", 1, MOST_RUNS as u32)?;
+    let nodes = members.item::<Nodes>(alloc, "nodes")?;
+    let quarter = members.item::<Quarter>(alloc, "quarter")?;
+    let run = members.item::<Run>(alloc, "run")?;
     members.end()?;
     let heading = Heading {
         run,
@@ -152,10 +141,10 @@ impl Form for Block {
 
     ghost InItsRange = { BlockFits };
 
-    fn value(alloc: Global, block: &Block) -> Result<Value, Memory> {
+    fn put(text: &mut Vec<u8>, block: &Block) -> Result<(), Memory> {
         match block {
-            Block::Published(full) => FullBlock::value(alloc, full),
-            Block::Unpublished(heading, nodes) => unpublished(alloc, *heading, *nodes),
+            Block::Published(full) => FullBlock::put(text, full),
+            Block::Unpublished(heading, nodes) => put_unpublished(text, *heading, *nodes),
         }
     }
 
@@ -168,18 +157,18 @@ impl Form for Block {
     }
 }
 
-/// Makes the value of the totals.
-pub fn totals(
-    alloc: Global,
+/// Appends the totals.
+pub fn put_totals(
+    text: &mut Vec<u8>,
     operators: &[MoneyLine],
     providers: &[AmountLine],
-) -> Result<Value, Memory>
+) -> Result<(), Memory>
     requires { SumsFit operators.now providers.now }
-    ensures { IfOk result (λ value. view value ≡ totals_value operators.now providers.now) }
+    ensures { OnOk result (text.new.items ≡ text.old.items ++ compact_text (totals_value operators.now providers.now)) }
 {
-    let mut object = Object::new(alloc);
-    put_ledger(&mut object, operators, providers)?;
-    Ok(object.into_value())
+    put_first_list::<MoneyLine>(text, "operators", operators)?;
+    put_next_list::<AmountLine>(text, "providers", providers)?;
+    put_end(text)
 }
 
 /// The totals that have this value.

@@ -1,8 +1,8 @@
-//! How an item stands in the feed, and a list of such items.
+//! How an item stands in the feed, both ways, and how a list of such items is read.
 
-ghost use Rattle.std.specs.Prelude.{◌≡◌, IfOk};
-ghost use Rattle.std.specs.List.{All};
+ghost use Rattle.std.specs.Prelude.{◌≡◌, ◌++◌, OnOk};
 ghost use Rattle.serde_json.specs.View.{view};
+ghost use Rattle.serde_json.specs.Written.{compact_text};
 ghost use Rattle.mari_lines.specs.Ranges.{Listed};
 ghost use Rattle.mari_feed.specs.Reading.{Reads};
 ghost use Rattle.mari_feed.specs.Values.{list_of};
@@ -25,27 +25,14 @@ pub trait Form {
     /// Which items there are.
     ghost InItsRange: { Self.Item → Type 0 };
 
-    /// Makes the value of an item.
-    fn value(alloc: Global, item: &Self::Item) -> Result<Value, Memory>
+    /// Appends the text of an item's value.
+    fn put(text: &mut Vec<u8>, item: &Self::Item) -> Result<(), Memory>
         requires { InItsRange item.now }
-        ensures { IfOk result (λ value. view value ≡ written item.now) };
+        ensures { OnOk result (text.new.items ≡ text.old.items ++ compact_text (written item.now)) };
 
     /// The item that has this value.
     fn read(alloc: Global, value: &Value) -> Result<Self::Item, FeedFault>
         ensures { Reads InItsRange written (view value.now) result };
-}
-
-/// Makes the value of a list.
-pub fn list_value<F: Form>(alloc: Global, items: &[F::Item]) -> Result<Value, Memory>
-    requires { All F.InItsRange items.now }
-    ensures { IfOk result (λ value. view value ≡ list_of F.written items.now) }
-{
-    let mut values = Vec::new(alloc);
-    for item in items {
-        let value = F::value(alloc, item)?;
-        values.push(value)?;
-    }
-    Ok(Value::Array(values))
 }
 
 /// The list that has this value, of at least and at most so many items.

@@ -12,9 +12,9 @@ mod form;
 mod lines;
 mod members;
 mod numbers;
-mod object;
 mod part;
 mod stream;
+mod text;
 mod tree;
 mod words;
 

@@ -7,10 +7,10 @@ ghost use Rattle.mari_feed.specs.Values.{zone_value, border_value, bid_value, op
 use crate::fault::FeedFault;
 use crate::form::Form;
 use crate::members::Members;
-use crate::numbers::{Flow, Megawatts};
-use crate::object::Object;
+use crate::numbers::{Area, Flow, Megawatts};
+use crate::text::{put_end, put_first, put_next};
 use mari_publish::{AmountLine, BidLine, BorderLine, MoneyLine, ZoneLine};
-use mari_units::{Cents, MOST_ZONES, Memory, Name, Quarters};
+use mari_units::{Cents, Memory, Name, Quarters};
 use serde_json::Value;
 use std::alloc::Global;
 
@@ -21,19 +21,18 @@ impl Form for ZoneLine {
 
     ghost InItsRange = { λ z. InRange (line.Zone z) };
 
-    fn value(alloc: Global, zone: &ZoneLine) -> Result<Value, Memory> {
-        let mut object = Object::new(alloc);
-        object.put("area", Value::from(zone.area))?;
-        object.put("greatest", Cents::value(alloc, &zone.greatest)?)?;
-        object.put("least", Cents::value(alloc, &zone.least)?)?;
-        object.put("name", Name::value(alloc, &zone.name)?)?;
-        object.put("price", Cents::value(alloc, &zone.price)?)?;
-        Ok(object.into_value())
+    fn put(text: &mut Vec<u8>, zone: &ZoneLine) -> Result<(), Memory> {
+        put_first::<Area>(text, "area", &zone.area)?;
+        put_next::<Cents>(text, "greatest", &zone.greatest)?;
+        put_next::<Cents>(text, "least", &zone.least)?;
+        put_next::<Name>(text, "name", &zone.name)?;
+        put_next::<Cents>(text, "price", &zone.price)?;
+        put_end(text)
     }
 
     fn read(alloc: Global, value: &Value) -> Result<ZoneLine, FeedFault> {
         let mut members = Members::of(value)?;
-        let area = members.number("area", 1, MOST_ZONES as u32)?;
+        let area = members.item::<Area>(alloc, "area")?;
         let greatest = members.item::<Cents>(alloc, "greatest")?;
         let least = members.item::<Cents>(alloc, "least")?;
         let name = members.item::<Name>(alloc, "name")?;
@@ -56,13 +55,12 @@ impl Form for BorderLine {
 
     ghost InItsRange = { λ b. InRange (line.Border b) };
 
-    fn value(alloc: Global, border: &BorderLine) -> Result<Value, Memory> {
-        let mut object = Object::new(alloc);
-        object.put("flow", Value::from(border.flow))?;
-        object.put("from", Name::value(alloc, &border.from)?)?;
-        object.put("rent", Quarters::value(alloc, &border.rent)?)?;
-        object.put("to", Name::value(alloc, &border.to)?)?;
-        Ok(object.into_value())
+    fn put(text: &mut Vec<u8>, border: &BorderLine) -> Result<(), Memory> {
+        put_first::<Flow>(text, "flow", &border.flow)?;
+        put_next::<Name>(text, "from", &border.from)?;
+        put_next::<Quarters>(text, "rent", &border.rent)?;
+        put_next::<Name>(text, "to", &border.to)?;
+        put_end(text)
     }
 
     fn read(alloc: Global, value: &Value) -> Result<BorderLine, FeedFault> {
@@ -88,11 +86,10 @@ impl Form for BidLine {
 
     ghost InItsRange = { λ b. InRange (line.Bid b) };
 
-    fn value(alloc: Global, bid: &BidLine) -> Result<Value, Memory> {
-        let mut object = Object::new(alloc);
-        object.put("id", Name::value(alloc, &bid.id)?)?;
-        object.put("mw", Value::from(bid.mw))?;
-        Ok(object.into_value())
+    fn put(text: &mut Vec<u8>, bid: &BidLine) -> Result<(), Memory> {
+        put_first::<Name>(text, "id", &bid.id)?;
+        put_next::<Megawatts>(text, "mw", &bid.mw)?;
+        put_end(text)
     }
 
     fn read(alloc: Global, value: &Value) -> Result<BidLine, FeedFault> {
@@ -111,13 +108,12 @@ impl Form for MoneyLine {
 
     ghost InItsRange = { IsMoneyLine };
 
-    fn value(alloc: Global, operator: &MoneyLine) -> Result<Value, Memory> {
-        let mut object = Object::new(alloc);
-        object.put("name", Name::value(alloc, &operator.name)?)?;
-        object.put("net", Quarters::value(alloc, &operator.net)?)?;
-        object.put("payment", Quarters::value(alloc, &operator.payment)?)?;
-        object.put("rent", Quarters::value(alloc, &operator.rent)?)?;
-        Ok(object.into_value())
+    fn put(text: &mut Vec<u8>, operator: &MoneyLine) -> Result<(), Memory> {
+        put_first::<Name>(text, "name", &operator.name)?;
+        put_next::<Quarters>(text, "net", &operator.net)?;
+        put_next::<Quarters>(text, "payment", &operator.payment)?;
+        put_next::<Quarters>(text, "rent", &operator.rent)?;
+        put_end(text)
     }
 
     fn read(alloc: Global, value: &Value) -> Result<MoneyLine, FeedFault> {
@@ -143,11 +139,10 @@ impl Form for AmountLine {
 
     ghost InItsRange = { IsAmountLine };
 
-    fn value(alloc: Global, provider: &AmountLine) -> Result<Value, Memory> {
-        let mut object = Object::new(alloc);
-        object.put("amount", Quarters::value(alloc, &provider.amount)?)?;
-        object.put("name", Name::value(alloc, &provider.name)?)?;
-        Ok(object.into_value())
+    fn put(text: &mut Vec<u8>, provider: &AmountLine) -> Result<(), Memory> {
+        put_first::<Quarters>(text, "amount", &provider.amount)?;
+        put_next::<Name>(text, "name", &provider.name)?;
+        put_end(text)
     }
 
     fn read(alloc: Global, value: &Value) -> Result<AmountLine, FeedFault> {

@@ -4,14 +4,13 @@ ghost use Rattle.std.specs.Prelude.{◌≡◌, ◌≢◌, ◌<◌, MatchResult, 
 ghost use Rattle.serde_json.specs.Data.{Data as TheData, Members as TheMembers, member, no_members, object};
 ghost use Rattle.serde_json.specs.Find.{as_object, get};
 ghost use Rattle.serde_json.specs.View.{view};
-ghost use Rattle.mari_lines.specs.Ranges.{Between, Listed};
+ghost use Rattle.mari_lines.specs.Ranges.{Listed};
 ghost use Rattle.mari_feed.specs.Reading.{ReadsMember};
-ghost use Rattle.mari_feed.specs.Values.{list_of, natural};
+ghost use Rattle.mari_feed.specs.Values.{list_of};
 ghost use Rattle.mari_feed.specs.declared.fault.FeedFault.TheVariants as feed_fault;
 
 use crate::fault::FeedFault;
 use crate::form::{Form, read_list};
-use crate::numbers::read_number;
 use crate::words::is_same;
 use mari_units::Items;
 use serde_json::Value;
@@ -79,14 +78,6 @@ impl<'a> Members<'a> {
     {
         let value = self.next_at(key)?;
         read_list::<F>(alloc, value, least, greatest)
-    }
-
-    /// Takes a number from `least` to `greatest`.
-    pub fn number(&mut self, key: &str, least: u32, greatest: u32) -> Result<u32, FeedFault>
-        ensures { ReadsMember key.now (Between least greatest) natural (members_left self.old) (members_left self.new) result }
-    {
-        let value = self.next_at(key)?;
-        read_number(value, least, greatest)
     }
 
     /// Asks for the end of the object.

@@ -1,19 +1,42 @@
 //! Whole numbers: quantities, prices, money, zones and counts.
 
-ghost use Rattle.std.specs.Prelude.{◌≤◌, ◌<◌, ◌^◌, ◌≤ℤ◌, neg_ℤ, pos};
+ghost use Rattle.std.specs.Prelude.{◌≡◌, ◌++◌, OnOk, ◌≤◌, ◌<◌, ◌^◌, ◌≤ℤ◌, neg_ℤ, pos};
 ghost use Rattle.serde_json.specs.View.{view};
+ghost use Rattle.serde_json.specs.Written.{compact_text};
 ghost use Rattle.mari_units.specs.Numbers.{Within};
+ghost use Rattle.mari_market.specs.Clearing.{IsBudget};
 ghost use Rattle.mari_market.specs.Price.{IsCapped};
+ghost use Rattle.mari_units.specs.declared.limits.TheConstants.{MOST_QUARTERS as QUARTERS, MOST_RUNS as RUNS, MOST_ZONES as ZONES};
 ghost use Rattle.mari_lines.specs.Ranges.{Between, IsMoney, IsZone};
 ghost use Rattle.mari_feed.specs.Reading.{Reads};
 ghost use Rattle.mari_feed.specs.Values.{natural, whole, price_value, money_value, zone_number};
 
 use crate::fault::FeedFault;
 use crate::form::Form;
+use itoa::Buffer;
 use mari_lines::MOST_MONEY;
-use mari_units::{CAP, Cents, MOST_FLOW, MOST_MW, MOST_ZONES, Memory, Quarters};
+use mari_units::{
+    CAP, Cents, MOST_FLOW, MOST_MW, MOST_NODES, MOST_QUARTERS, MOST_RUNS, MOST_ZONES, Memory,
+    Quarters, put,
+};
 use serde_json::Value;
 use std::alloc::Global;
+
+/// Appends a number from 0, in digits.
+fn put_natural(text: &mut Vec<u8>, number: u64) -> Result<(), Memory>
+    ensures { OnOk result (text.new.items ≡ text.old.items ++ compact_text (natural number)) }
+{
+    let mut buffer = Buffer::new();
+    put(text, buffer.format(number).as_bytes())
+}
+
+/// Appends a number of either sign, in digits.
+fn put_whole(text: &mut Vec<u8>, number: i64) -> Result<(), Memory>
+    ensures { OnOk result (text.new.items ≡ text.old.items ++ compact_text (whole number)) }
+{
+    let mut buffer = Buffer::new();
+    put(text, buffer.format(number).as_bytes())
+}
 
 /// The number from `least` to `greatest` that has this value.
 pub fn read_natural(value: &Value, least: u64, greatest: u64) -> Result<u64, FeedFault>
@@ -71,8 +94,8 @@ impl Form for Megawatts {
 
     ghost InItsRange = { λ mw. mw ≤ MOST_MW };
 
-    fn value(_alloc: Global, mw: &u32) -> Result<Value, Memory> {
-        Ok(Value::from(*mw))
+    fn put(text: &mut Vec<u8>, mw: &u32) -> Result<(), Memory> {
+        put_natural(text, u64::from(*mw))
     }
 
     fn read(_alloc: Global, value: &Value) -> Result<u32, FeedFault> {
@@ -92,8 +115,8 @@ impl Form for Flow {
 
     ghost InItsRange = { λ flow. Within MOST_FLOW flow };
 
-    fn value(_alloc: Global, flow: &i64) -> Result<Value, Memory> {
-        Ok(Value::from(*flow))
+    fn put(text: &mut Vec<u8>, flow: &i64) -> Result<(), Memory> {
+        put_whole(text, *flow)
     }
 
     fn read(_alloc: Global, value: &Value) -> Result<i64, FeedFault> {
@@ -111,8 +134,8 @@ impl Form for ZoneNumber {
 
     ghost InItsRange = { IsZone };
 
-    fn value(_alloc: Global, zone: &u32) -> Result<Value, Memory> {
-        Ok(Value::from(*zone + 1))
+    fn put(text: &mut Vec<u8>, zone: &u32) -> Result<(), Memory> {
+        put_natural(text, u64::from(*zone + 1))
     }
 
     fn read(_alloc: Global, value: &Value) -> Result<u32, FeedFault> {
@@ -131,8 +154,8 @@ impl Form for Welfare {
 
     ghost InItsRange = { λ welfare. welfare < 2 ^ 63 };
 
-    fn value(_alloc: Global, welfare: &u64) -> Result<Value, Memory> {
-        Ok(Value::from(*welfare))
+    fn put(text: &mut Vec<u8>, welfare: &u64) -> Result<(), Memory> {
+        put_natural(text, *welfare)
     }
 
     fn read(_alloc: Global, value: &Value) -> Result<u64, FeedFault> {
@@ -147,8 +170,8 @@ impl Form for Cents {
 
     ghost InItsRange = { IsCapped };
 
-    fn value(_alloc: Global, price: &Cents) -> Result<Value, Memory> {
-        Ok(Value::from(price.0))
+    fn put(text: &mut Vec<u8>, price: &Cents) -> Result<(), Memory> {
+        put_whole(text, price.0)
     }
 
     fn read(_alloc: Global, value: &Value) -> Result<Cents, FeedFault> {
@@ -163,12 +186,88 @@ impl Form for Quarters {
 
     ghost InItsRange = { IsMoney };
 
-    fn value(_alloc: Global, money: &Quarters) -> Result<Value, Memory> {
-        Ok(Value::from(money.0 as i64))
+    fn put(text: &mut Vec<u8>, money: &Quarters) -> Result<(), Memory> {
+        put_whole(text, money.0 as i64)
     }
 
     fn read(_alloc: Global, value: &Value) -> Result<Quarters, FeedFault> {
         let money = read_whole(value, MOST_MONEY as i64)?;
         Ok(Quarters(i128::from(money)))
+    }
+}
+
+/// The number of an area.
+pub struct Area;
+
+impl Form for Area {
+    type Item = u32;
+
+    ghost written = { natural };
+
+    ghost InItsRange = { λ n. Between 1 ZONES n };
+
+    fn put(text: &mut Vec<u8>, number: &u32) -> Result<(), Memory> {
+        put_natural(text, u64::from(*number))
+    }
+
+    fn read(_alloc: Global, value: &Value) -> Result<u32, FeedFault> {
+        read_number(value, 1, MOST_ZONES as u32)
+    }
+}
+
+/// A number of nodes of a search tree.
+pub struct Nodes;
+
+impl Form for Nodes {
+    type Item = u32;
+
+    ghost written = { natural };
+
+    ghost InItsRange = { IsBudget };
+
+    fn put(text: &mut Vec<u8>, number: &u32) -> Result<(), Memory> {
+        put_natural(text, u64::from(*number))
+    }
+
+    fn read(_alloc: Global, value: &Value) -> Result<u32, FeedFault> {
+        read_number(value, 1, MOST_NODES)
+    }
+}
+
+/// The number of a quarter hour, or how many a day has.
+pub struct Quarter;
+
+impl Form for Quarter {
+    type Item = u32;
+
+    ghost written = { natural };
+
+    ghost InItsRange = { λ n. Between 1 QUARTERS n };
+
+    fn put(text: &mut Vec<u8>, number: &u32) -> Result<(), Memory> {
+        put_natural(text, u64::from(*number))
+    }
+
+    fn read(_alloc: Global, value: &Value) -> Result<u32, FeedFault> {
+        read_number(value, 1, MOST_QUARTERS)
+    }
+}
+
+/// The number of a run.
+pub struct Run;
+
+impl Form for Run {
+    type Item = u32;
+
+    ghost written = { natural };
+
+    ghost InItsRange = { λ n. Between 1 RUNS n };
+
+    fn put(text: &mut Vec<u8>, number: &u32) -> Result<(), Memory> {
+        put_natural(text, u64::from(*number))
+    }
+
+    fn read(_alloc: Global, value: &Value) -> Result<u32, FeedFault> {
+        read_number(value, 1, MOST_RUNS as u32)
     }
 }

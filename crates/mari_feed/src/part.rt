@@ -1,7 +1,8 @@
 //! The text of a part, both ways.
 
-ghost use Rattle.std.specs.Prelude.{◌≡◌, Ok, Err, IfOk};
+ghost use Rattle.std.specs.Prelude.{◌≡◌, ◌++◌, Ok, Err, IfOk, OnOk};
 ghost use Rattle.serde_json.specs.View.{view};
+ghost use Rattle.serde_json.specs.Written.{compact_text};
 ghost use Rattle.mari_lines.specs.Ranges.{InRange};
 ghost use Rattle.mari_lines.specs.declared.line.Line.TheVariants as line;
 ghost use Rattle.mari_publish.specs.declared.publication.Part.{Part as PartValue};
@@ -10,27 +11,27 @@ ghost use Rattle.mari_feed.specs.Reading.{Reads};
 ghost use Rattle.mari_feed.specs.Texts.{AnswersWith, IsNoJson, IsNoPart, IsOutcome, IsLineOf, IsPart, json_of};
 ghost use Rattle.mari_feed.specs.Values.{head_value, part_value};
 
-use crate::block::{read_totals, totals};
+use crate::block::{put_totals, read_totals};
 use crate::fault::FeedFault;
 use crate::form::Form;
 use crate::members::{Members, has_key};
-use crate::object::Object;
+use crate::numbers::{Nodes, Quarter};
+use crate::text::{put_end, put_first, put_next};
 use crate::words::Date;
 use mari_publish::{Block, Part};
-use mari_units::{MOST_NODES, MOST_QUARTERS, Memory, Name};
+use mari_units::{Memory, Name};
 use serde_json::Value;
 use std::alloc::Global;
 
-/// Makes the value of a head.
-fn head(alloc: Global, date: &Name, quarters: u32, budget: u32) -> Result<Value, Memory>
+/// Appends a head.
+fn put_head(text: &mut Vec<u8>, date: &Name, quarters: u32, budget: u32) -> Result<(), Memory>
     requires { InRange (line.Head date.now quarters budget) }
-    ensures { IfOk result (λ value. view value ≡ head_value date.now quarters budget) }
+    ensures { OnOk result (text.new.items ≡ text.old.items ++ compact_text (head_value date.now quarters budget)) }
 {
-    let mut object = Object::new(alloc);
-    object.put("budget", Value::from(budget))?;
-    object.put("date", Date::value(alloc, date)?)?;
-    object.put("quarters", Value::from(quarters))?;
-    Ok(object.into_value())
+    put_first::<Nodes>(text, "budget", &budget)?;
+    put_next::<Date>(text, "date", date)?;
+    put_next::<Quarter>(text, "quarters", &quarters)?;
+    put_end(text)
 }
 
 /// The date, the quarters and the budget of a head.
@@ -38,29 +39,29 @@ fn read_head(alloc: Global, value: &Value) -> Result<(Name, u32, u32), FeedFault
     ensures { Reads (λ x. InRange (line.Head x.0 x.1 x.2)) (λ x. head_value x.0 x.1 x.2) (view value.now) result }
 {
     let mut members = Members::of(value)?;
-    let budget = members.number("budget", 1, MOST_NODES)?;
+    let budget = members.item::<Nodes>(alloc, "budget")?;
     let date = members.item::<Date>(alloc, "date")?;
-    let quarters = members.number("quarters", 1, MOST_QUARTERS)?;
+    let quarters = members.item::<Quarter>(alloc, "quarters")?;
     members.end()?;
     Ok((date, quarters, budget))
 }
 
-/// Makes the value of a part.
-fn value_of(alloc: Global, part: &Part) -> Result<Value, Memory>
+/// Appends a part.
+fn put_part(text: &mut Vec<u8>, part: &Part) -> Result<(), Memory>
     requires { PartFits part.now }
-    ensures { IfOk result (λ value. view value ≡ part_value part.now) }
+    ensures { OnOk result (text.new.items ≡ text.old.items ++ json_of part.now) }
 {
     match part {
         Part::Head {
             date,
             quarters,
             budget,
-        } => head(alloc, date, *quarters, *budget),
-        Part::Block(block) => Block::value(alloc, block),
+        } => put_head(text, date, *quarters, *budget),
+        Part::Block(block) => Block::put(text, block),
         Part::Totals {
             operators,
             providers,
-        } => totals(alloc, operators.as_slice(), providers.as_slice()),
+        } => put_totals(text, operators.as_slice(), providers.as_slice()),
     }
 }
 
@@ -93,8 +94,9 @@ pub fn part_text(alloc: Global, part: &Part) -> Result<Vec<u8>, Memory>
     ensures text { IfOk result (λ text. text.items ≡ json_of part.now) }
     ensures back { IfOk result (λ text. IsLineOf text.items part.now) }
 {
-    let value = value_of(alloc, part)?;
-    Ok(value.to_vec(alloc)?)
+    let mut text = Vec::new(alloc);
+    put_part(&mut text, part)?;
+    Ok(text)
 }
 
 /// The part whose JSON the bytes are: `NotJson` where `serde_json` refuses them and memory isn't the cause, `NotAPart`

@@ -10,7 +10,7 @@ use crate::fault::FeedFault;
 use crate::form::Form;
 use crate::members::{Members, has_key};
 use crate::numbers::{Flow, Megawatts, ZoneNumber};
-use crate::object::Object;
+use crate::text::{put_end, put_first_list, put_next, put_next_list, put_string};
 use crate::words::is_same;
 use mari_market::{
     Activation, Conflict, Cut, CutSide, Leaf, MOST_ORDERS, Prices, TreeItem, are_rising,
@@ -26,10 +26,9 @@ impl Form for Prices {
 
     ghost InItsRange = { λ p. InRange (line.Bound p.cents) };
 
-    fn value(alloc: Global, prices: &Prices) -> Result<Value, Memory> {
-        let mut object = Object::new(alloc);
-        object.put_list::<Cents>("bound", prices.cents.as_slice())?;
-        Ok(object.into_value())
+    fn put(text: &mut Vec<u8>, prices: &Prices) -> Result<(), Memory> {
+        put_first_list::<Cents>(text, "bound", prices.cents.as_slice())?;
+        put_end(text)
     }
 
     fn read(alloc: Global, value: &Value) -> Result<Prices, FeedFault> {
@@ -47,12 +46,10 @@ impl Form for Cut {
 
     ghost InItsRange = { λ c. InRange (line.Cut c) };
 
-    fn value(alloc: Global, cut: &Cut) -> Result<Value, Memory> {
-        let side = CutSide::value(alloc, &cut.side)?;
-        let mut object = Object::new(alloc);
-        object.put_list::<ZoneNumber>("cut", cut.zones.as_slice())?;
-        object.put("side", side)?;
-        Ok(object.into_value())
+    fn put(text: &mut Vec<u8>, cut: &Cut) -> Result<(), Memory> {
+        put_first_list::<ZoneNumber>(text, "cut", cut.zones.as_slice())?;
+        put_next::<CutSide>(text, "side", &cut.side)?;
+        put_end(text)
     }
 
     fn read(alloc: Global, value: &Value) -> Result<Cut, FeedFault> {
@@ -74,13 +71,12 @@ impl Form for Conflict {
 
     ghost InItsRange = { ConflictFits };
 
-    fn value(alloc: Global, conflict: &Conflict) -> Result<Value, Memory> {
-        let mut object = Object::new(alloc);
-        object.put_list::<Cents>("at", conflict.potentials.cents.as_slice())?;
-        object.put_list::<ZoneNumber>("conflict", conflict.chain.as_slice())?;
-        object.put_list::<Flow>("flows", conflict.activation.flow.as_slice())?;
-        object.put_list::<Megawatts>("mws", conflict.activation.mw.as_slice())?;
-        Ok(object.into_value())
+    fn put(text: &mut Vec<u8>, conflict: &Conflict) -> Result<(), Memory> {
+        put_first_list::<Cents>(text, "at", conflict.potentials.cents.as_slice())?;
+        put_next_list::<ZoneNumber>(text, "conflict", conflict.chain.as_slice())?;
+        put_next_list::<Flow>(text, "flows", conflict.activation.flow.as_slice())?;
+        put_next_list::<Megawatts>(text, "mws", conflict.activation.mw.as_slice())?;
+        put_end(text)
     }
 
     fn read(alloc: Global, value: &Value) -> Result<Conflict, FeedFault> {
@@ -105,12 +101,12 @@ impl Form for TreeItem {
 
     ghost InItsRange = { ItemFits };
 
-    fn value(alloc: Global, item: &TreeItem) -> Result<Value, Memory> {
+    fn put(text: &mut Vec<u8>, item: &TreeItem) -> Result<(), Memory> {
         match item {
-            TreeItem::Branch => Ok(Value::try_from_str(alloc, "branch")?),
-            TreeItem::Leaf(Leaf::Bound(prices)) => Prices::value(alloc, prices),
-            TreeItem::Leaf(Leaf::Cut(cut)) => Cut::value(alloc, cut),
-            TreeItem::Leaf(Leaf::Conflict(conflict)) => Conflict::value(alloc, conflict),
+            TreeItem::Branch => put_string(text, b"branch"),
+            TreeItem::Leaf(Leaf::Bound(prices)) => Prices::put(text, prices),
+            TreeItem::Leaf(Leaf::Cut(cut)) => Cut::put(text, cut),
+            TreeItem::Leaf(Leaf::Conflict(conflict)) => Conflict::put(text, conflict),
         }
     }
 

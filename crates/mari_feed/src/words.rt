@@ -1,35 +1,25 @@
 //! Names, dates and the words of the feed.
 
-ghost use Rattle.std.specs.Prelude.{◌≡◌, ◌↔◌, IfOk, IsTrue, ⊤, IsAscii};
+ghost use Rattle.std.specs.Prelude.{◌≡◌, ◌↔◌, IsTrue, ⊤};
 ghost use Rattle.serde_json.specs.Data.{string};
-ghost use Rattle.serde_json.specs.View.{view};
 ghost use Rattle.mari_units.specs.Names.{IsName};
 ghost use Rattle.mari_lines.specs.Ranges.{IsDate};
 ghost use Rattle.mari_feed.specs.Values.{kind_value, side_value};
 
 use crate::fault::FeedFault;
 use crate::form::Form;
+use crate::text::put_string;
 use mari_lines::is_date;
 use mari_market::CutSide;
 use mari_units::{Memory, Name, NameFault, read_name};
 use serde_json::Value;
 use std::alloc::Global;
-use std::str;
 
 /// Whether both are the same text.
 pub fn is_same(text: &str, other: &str) -> bool
     ensures { IsTrue result ↔ (text.now ≡ other.now) }
 {
     text == other
-}
-
-/// The value of an ASCII text.
-fn text_value(alloc: Global, bytes: &[u8]) -> Result<Value, Memory>
-    requires { IsAscii bytes.now }
-    ensures { IfOk result (λ value. view value ≡ string bytes.now) }
-{
-    let text = str::from_utf8(bytes).unwrap();
-    Ok(Value::try_from_str(alloc, text)?)
 }
 
 impl Form for Name {
@@ -39,8 +29,8 @@ impl Form for Name {
 
     ghost InItsRange = { IsName };
 
-    fn value(alloc: Global, name: &Name) -> Result<Value, Memory> {
-        text_value(alloc, name.bytes())
+    fn put(text: &mut Vec<u8>, name: &Name) -> Result<(), Memory> {
+        put_string(text, name.bytes())
     }
 
     fn read(alloc: Global, value: &Value) -> Result<Name, FeedFault> {
@@ -65,8 +55,8 @@ impl Form for Date {
 
     ghost InItsRange = { IsDate };
 
-    fn value(alloc: Global, date: &Name) -> Result<Value, Memory> {
-        Name::value(alloc, date)
+    fn put(text: &mut Vec<u8>, date: &Name) -> Result<(), Memory> {
+        put_string(text, date.bytes())
     }
 
     fn read(alloc: Global, value: &Value) -> Result<Name, FeedFault> {
@@ -88,9 +78,12 @@ impl Form for Kind {
 
     ghost InItsRange = { λ _. ⊤ };
 
-    fn value(alloc: Global, direct: &bool) -> Result<Value, Memory> {
-        let word = if *direct { "direct" } else { "scheduled" };
-        Ok(Value::try_from_str(alloc, word)?)
+    fn put(text: &mut Vec<u8>, direct: &bool) -> Result<(), Memory> {
+        if *direct {
+            put_string(text, b"direct")
+        } else {
+            put_string(text, b"scheduled")
+        }
     }
 
     fn read(_alloc: Global, value: &Value) -> Result<bool, FeedFault> {
@@ -114,12 +107,11 @@ impl Form for CutSide {
 
     ghost InItsRange = { λ _. ⊤ };
 
-    fn value(alloc: Global, side: &CutSide) -> Result<Value, Memory> {
-        let word = match side {
-            CutSide::Out => "out",
-            CutSide::In => "in",
-        };
-        Ok(Value::try_from_str(alloc, word)?)
+    fn put(text: &mut Vec<u8>, side: &CutSide) -> Result<(), Memory> {
+        match side {
+            CutSide::Out => put_string(text, b"out"),
+            CutSide::In => put_string(text, b"in"),
+        }
     }
 
     fn read(_alloc: Global, value: &Value) -> Result<CutSide, FeedFault> {

@@ -1,15 +1,16 @@
 -- What always holds of a pool is kept by an entry, and where seats meet.
-use Rattle.std.proofs.Common.{◌≡◌, Bool, true, false, ℕ, ◌+◌, ◌*◌, ◌-◌, ◌<◌, ◌≤◌, max, pos, List, [], ◌∷◌, ◌++◌, length, Some, arith, refl, sym, ap, subst, ◌∙◌, length-append, zero, suc, replicate, get_or}
+use Rattle.std.proofs.Common.{◌≡◌, Bool, true, false, ℕ, ◌+◌, ◌*◌, ◌-◌, ◌<◌, ◌≤◌, max, pos, List, [], ◌∷◌, ◌++◌, length, if◌then◌else◌, nat_le, Option, Some, None, arith, refl, sym, ap, subst, ◌∙◌, length-append, zero, suc, replicate, get_or}
 use Rattle.std.specs.Prelude.{slice_get, IfSome}
 use Rattle.std.proofs.lemmas.Int.{ints}
 use Rattle.std.proofs.lemmas.List.{length-replicate}
 use Rattle.std.proofs.lemmas.Option.{slice_get-get_or, get_or_from_slice_get}
+use Rattle.mari_market.specs.declared.certificate.Leaf.{Leaf}
 use Rattle.mari_market.specs.declared.market.Market.{Market}
 use Rattle.mari_market.specs.declared.finding.Finding.{Finding}
 use Rattle.mari_core.specs.declared.node.NodeState.TheVariants.{Untaken, Taken, Closed}
 use Rattle.mari_core.specs.declared.journal.JournalEntry.{JournalEntry}
 use Rattle.mari_core.specs.Nodes.{TreeNode, new_node, words_of, state_at}
-use Rattle.mari_core.specs.Growth.{Grown, Entry, seed, grown, settling, in_journal, IsAllowed, IsCutoff, IsGrowth, IsEntryCutAt, closing_leaf, MaySettle}
+use Rattle.mari_core.specs.Growth.{Grown, Entry, seed, grown, children_at, settling, settling_by, in_journal, IsAllowed, IsCutoff, IsGrowth, IsEntryCutAt, closing_leaf, MaySettle}
 use Rattle.mari_core.specs.Growth.Entry.{Take, Close, Branch, Full, GiveBack}
 use Rattle.mari_core.specs.declared.journal.JournalEntry.TheVariants as journal
 use Rattle.mari_pool.specs.declared.ticket.Settled.TheVariants as settled
@@ -23,9 +24,10 @@ use Rattle.mari_market.specs.Clearing.{IsBudget}
 use Rattle.mari_market.specs.Market.{IsValid}
 use Rattle.mari_market.specs.Relaxation.{IsClosedWelfare}
 use Rattle.mari_incumbent.specs.Incumbent.{IncumbentId, SeatView, IsFresh}
-use Rattle.mari_pool.specs.Pooled.{Pooled, IsPool, unreturned, owed, keys_after, meeting, settled_with, answer_of}
+use Rattle.mari_pool.specs.Pooled.{Pooled, AreTurns, IsPool, unreturned, owed, keys_after, meeting, settled_with, answer_of}
 use Rattle.mari_pool.specs.Queued.{first_key, child_key}
 use Rattle.mari_pool.proofs.Queues.{made}
+use Rattle.mari_pool.proofs.Turns.{turns_branch, turns_close, turns_full, turns_start}
 use Rattle.mari_pool.proofs.Rooms.{IsPaid, entry_paid, settling_paid, unreturned_all, owed_more}
 
 -- the journal has room for an entry that is paid
@@ -37,8 +39,8 @@ abbrev pub pool_of : Grown → List ℕ → List JournalEntry → ℕ → List �
 pool_of tree keys journal room turns returned seat = record { tree = tree; keys = keys; journal = journal; room = room; turns = turns; returned = returned; seat = seat }
 
 -- an entry for which there is room keeps what holds
-pub entry_keeps_by : (m : Market) (budget workers : ℕ) (incumbent : IncumbentId) (p : Pooled) (e : Entry) (keys turns : List ℕ) (returned : List Bool) → IsPool m budget workers incumbent p → IsAllowed p.tree e → length p.journal + 1 + owed (grown p.tree e) returned ≤ p.room → IsEntryCutAt p.seat.seen e → length keys ≡ length (grown p.tree e).nodes → length turns ≡ length p.turns → length returned ≡ length p.returned → IsPool m budget workers incumbent (pool_of (grown p.tree e) keys (p.journal ++ in_journal e ∷ []) p.room turns returned p.seat)
-entry_keeps_by m budget workers incumbent p e keys turns returned h may room cut ks t r = record {
+pub entry_keeps_by : (m : Market) (budget workers : ℕ) (incumbent : IncumbentId) (p : Pooled) (e : Entry) (keys turns : List ℕ) (returned : List Bool) → IsPool m budget workers incumbent p → IsAllowed p.tree e → length p.journal + 1 + owed (grown p.tree e) returned ≤ p.room → IsEntryCutAt p.seat.seen e → length keys ≡ length (grown p.tree e).nodes → length turns ≡ length p.turns → length returned ≡ length p.returned → AreTurns (grown p.tree e).nodes turns (p.journal ++ in_journal e ∷ []) → IsPool m budget workers incumbent (pool_of (grown p.tree e) keys (p.journal ++ in_journal e ∷ []) p.room turns returned p.seat)
+entry_keeps_by m budget workers incumbent p e keys turns returned h may room cut ks t r tell = record {
   market_is = grown_market p.tree e ∙ h.market_is;
   budget_is = grown_budget p.tree e ∙ h.budget_is;
   grows = entry_kept p.tree e h.grows may;
@@ -48,13 +50,14 @@ entry_keeps_by m budget workers incumbent p e keys turns returned h may room cut
   fresh = h.fresh;
   room_is = omega (arith, room, length-append p.journal (in_journal e ∷ []));
   turns_are = t ∙ h.turns_are;
+  turns_tell = tell;
   returned_are = r ∙ h.returned_are;
 }
 
 -- a paid entry keeps what holds
-pub entry_keeps : (m : Market) (budget workers : ℕ) (incumbent : IncumbentId) (p : Pooled) (e : Entry) (keys turns : List ℕ) (returned : List Bool) → IsPool m budget workers incumbent p → IsAllowed p.tree e → IsPaid p.tree e (unreturned p.returned) (unreturned returned) → IsEntryCutAt p.seat.seen e → length keys ≡ length (grown p.tree e).nodes → length turns ≡ length p.turns → length returned ≡ length p.returned → IsPool m budget workers incumbent (pool_of (grown p.tree e) keys (p.journal ++ in_journal e ∷ []) p.room turns returned p.seat)
-entry_keeps m budget workers incumbent p e keys turns returned h may paid cut ks t r =
-    entry_keeps_by m budget workers incumbent p e keys turns returned h may (omega (arith, entry_paid p.tree e (unreturned p.returned) (unreturned returned) h.grows.within_budget may paid, h.room_is)) cut ks t r
+pub entry_keeps : (m : Market) (budget workers : ℕ) (incumbent : IncumbentId) (p : Pooled) (e : Entry) (keys turns : List ℕ) (returned : List Bool) → IsPool m budget workers incumbent p → IsAllowed p.tree e → IsPaid p.tree e (unreturned p.returned) (unreturned returned) → IsEntryCutAt p.seat.seen e → length keys ≡ length (grown p.tree e).nodes → length turns ≡ length p.turns → length returned ≡ length p.returned → AreTurns (grown p.tree e).nodes turns (p.journal ++ in_journal e ∷ []) → IsPool m budget workers incumbent (pool_of (grown p.tree e) keys (p.journal ++ in_journal e ∷ []) p.room turns returned p.seat)
+entry_keeps m budget workers incumbent p e keys turns returned h may paid cut ks t r tell =
+    entry_keeps_by m budget workers incumbent p e keys turns returned h may (omega (arith, entry_paid p.tree e (unreturned p.returned) (unreturned returned) h.grows.within_budget may paid, h.room_is)) cut ks t r tell
 
 -- how much is owed once a taken node is put back
 pub back_owed : (g : Grown) (k x : ℕ) (returned : List Bool) → IsGrowth g → state_at g.nodes x ≡ Some (Taken k) → owed (grown g (GiveBack k x)) returned ≤ owed g returned + 1
@@ -72,6 +75,7 @@ meeting_keeps m budget workers incumbent p seen h = record {
   fresh = h.fresh;
   room_is = h.room_is;
   turns_are = h.turns_are;
+  turns_tell = h.turns_tell;
   returned_are = h.returned_are;
 }
 
@@ -113,11 +117,20 @@ keys_enough g e keys key h =
     let more = length (grown g e).nodes - length g.nodes in
     omega (arith, length-append keys (replicate more key), length-replicate more key, grown_longer g e, h)
 
+-- a node that is settled leaves the turns of all others
+settling_turns : (g : Grown) (k x cutoff : ℕ) (turns : List ℕ) (entries : List JournalEntry) (o : Option Leaf) → AreTurns g.nodes turns entries → AreTurns (grown g (settling_by g k x cutoff o)).nodes turns (entries ++ in_journal (settling_by g k x cutoff o) ∷ [])
+settling_turns g k x cutoff turns entries (Some leaf) h = turns_close g k x cutoff leaf turns entries h
+settling_turns g k x cutoff turns entries None h = by_fit (nat_le (length g.nodes + length (children_at g x)) g.budget)
+  where
+    by_fit : (b : Bool) → AreTurns (grown g (if b then Branch k x cutoff else Full k x cutoff)).nodes turns (entries ++ in_journal (if b then Branch k x cutoff else Full k x cutoff) ∷ [])
+    by_fit true = turns_branch g k x cutoff turns entries h
+    by_fit false = turns_full g k x cutoff turns entries h
+
 -- the seats meet, and a taken node is settled
 pub settle_keeps : (m : Market) (budget workers : ℕ) (incumbent : IncumbentId) (p : Pooled) (k x seen : ℕ) (f : Finding) → IsPool m budget workers incumbent p → IsAllowed p.tree (settling p.tree k x seen f) → IsPool m budget workers incumbent (settled_with p k x seen f)
 settle_keeps m budget workers incumbent p k x seen f h may =
     let e = settling p.tree k x seen f in
-    entry_keeps m budget workers incumbent (meeting p seen) e (keys_after p.tree e p.keys (child_key f)) p.turns p.returned (meeting_keeps m budget workers incumbent p seen h) may (settling_paid p.tree k x seen (unreturned p.returned) (closing_leaf seen f)) (settling_cut p.tree k x seen (max p.seat.seen seen) f (omega arith)) (keys_enough p.tree e p.keys (child_key f) h.keys_are) refl refl
+    entry_keeps m budget workers incumbent (meeting p seen) e (keys_after p.tree e p.keys (child_key f)) p.turns p.returned (meeting_keeps m budget workers incumbent p seen h) may (settling_paid p.tree k x seen (unreturned p.returned) (closing_leaf seen f)) (settling_cut p.tree k x seen (max p.seat.seen seen) f (omega arith)) (keys_enough p.tree e p.keys (child_key f) h.keys_are) refl refl (settling_turns p.tree k x seen p.turns p.journal (closing_leaf seen f) h.turns_tell)
 
 -- ---- what became of a node
 
@@ -156,6 +169,7 @@ start_keeps m n b budget w workers incumbent t ks j room turns returned seat em 
       fresh = fresh;
       room_is = omega (arith, unreturned_all (w + 1), er, few.0);
       turns_are = length-replicate b 0 ∙ eb;
+      turns_tell = turns_start m b (replicate b 0);
       returned_are = length-replicate (w + 1) false ∙ ap (λ (k : ℕ). k + 1) ew;
     }))
 

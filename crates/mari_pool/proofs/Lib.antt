@@ -3,3 +3,4 @@ pub mod Orders
 pub mod Queues
 pub mod Keeps
 pub mod Returns
+pub mod Turns

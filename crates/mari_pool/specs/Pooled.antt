@@ -1,11 +1,12 @@
 -- What contracts see of a pool, what always holds of it, and what its calls change.
-use Rattle.std.specs.Prelude.{◌≡◌, ℕ, ◌+◌, ◌-◌, ◌*◌, ◌≤◌, max, pos, Bool, true, false, if◌then◌else◌, List, [], ◌∷◌, ◌++◌, length, map, drop, replicate, Some, slice_get, slice_set}
+use Rattle.std.specs.Prelude.{◌≡◌, ℕ, ◌+◌, ◌-◌, ◌*◌, ◌<◌, ◌≤◌, max, pos, Bool, true, false, if◌then◌else◌, List, [], ◌∷◌, ◌++◌, length, map, drop, replicate, Some, slice_get, slice_set}
 use Rattle.mari_market.specs.declared.market.Market.{Market}
 use Rattle.mari_market.specs.declared.finding.Finding.{Finding}
 use Rattle.mari_market.specs.Relaxation.{IsClosedWelfare}
 use Rattle.mari_core.specs.declared.node.NodeState.{NodeState}
 use Rattle.mari_core.specs.declared.node.NodeState.TheVariants.{Untaken, Taken, Branched, Closed}
 use Rattle.mari_core.specs.declared.journal.JournalEntry.{JournalEntry}
+use Rattle.mari_core.specs.declared.journal.JournalEntry.TheVariants as journal
 use Rattle.mari_core.specs.Nodes.{TreeNode, words_of, state_at}
 use Rattle.mari_core.specs.Growth.{Grown, Entry, seed, grown, grown_by, settling, in_journal, IsGrowth, JournalLeadsTo}
 use Rattle.mari_core.specs.Growth.Entry.{Take, Close, Branch, Full, GiveBack}
@@ -41,6 +42,8 @@ owed_in full (Taken k) = 1
 owed_in full (Branched closed opened) = 0
 owed_in full (Closed leaf cutoff) = 0
 
+-- Counted from the list's head, as one node more is read, where `count_by` of the kit counts from its end; so is
+-- `taken_among`.
 abbrev pub owed_among : Bool → List TreeNode → ℕ
 owed_among full [] = 0
 owed_among full (n ∷ ns) = owed_in full n.state + owed_among full ns
@@ -69,10 +72,25 @@ abbrev pub taken_among : List TreeNode → ℕ
 taken_among [] = 0
 taken_among (n ∷ ns) = taken_in n.state + taken_among ns
 
+-- the last entry by which a node was taken stands at this place, and this worker took it there
+pub record IsLastTake (entries : List JournalEntry) (node worker turn : ℕ) : Type 0 where
+  pub taken : slice_get entries turn ≡ Some (journal.Take worker node)
+  pub last : (t k : ℕ) → turn < t → slice_get entries t ≡ Some (journal.Take k node) → ⊥
+
+-- a node's turn is the place of the last entry by which it was taken
+pub record HasTurn (turns : List ℕ) (entries : List JournalEntry) (node worker : ℕ) : Type 0 where
+  pub turn : ℕ
+  pub turn_is : slice_get turns node ≡ Some turn
+  pub last_take : IsLastTake entries node worker turn
+
+-- each taken node has its turn, so a ticket of an earlier turn of it is stale
+abbrev pub AreTurns : List TreeNode → List ℕ → List JournalEntry → Type 0
+AreTurns nodes turns entries = (x k : ℕ) → state_at nodes x ≡ Some (Taken k) → HasTurn turns entries x k
+
 -- what holds of a pool whenever its lock is free: its tree is a growth of the search's market within its budget, to
--- which the journal leads at cutoffs that the pool's seat has seen; each node has a key; that seat is of the search's
--- incumbent, which starts at the closed welfare, and has one part, by which nothing was offered; and the journal has
--- room for all that may still come
+-- which the journal leads at cutoffs that the pool's seat has seen; each node has a key, and each taken one its turn;
+-- that seat is of the search's incumbent, which starts at the closed welfare, and has one part, by which nothing was
+-- offered; and the journal has room for all that may still come
 pub record IsPool (m : Market) (budget workers : ℕ) (incumbent : IncumbentId) (p : Pooled) : Type 0 where
   pub market_is : p.tree.market ≡ m
   pub budget_is : p.tree.budget ≡ budget
@@ -83,6 +101,7 @@ pub record IsPool (m : Market) (budget workers : ℕ) (incumbent : IncumbentId) 
   pub fresh : IsFresh incumbent p.seat
   pub room_is : length p.journal + owed p.tree p.returned ≤ p.room
   pub turns_are : length p.turns ≡ budget
+  pub turns_tell : AreTurns p.tree.nodes p.turns p.journal
   pub returned_are : length p.returned ≡ workers + 1
 
 -- ---- tickets

@@ -277,7 +277,8 @@ impl<'m, N: SearchName> Pool<'m, N> {
 
     /// Reserves two entries of the journal for each taken node.
     fn reserve(&mut self) -> Result<(), Memory>
-        ensures same { self.new ≡ roomy self.old self.new.room }
+        ensures more { self.new ≡ roomy self.old self.new.room }
+        ensures same { OnErr result (self.new ≡ self.old) }
         ensures room { OnOk result (self.old.room + 2 * taken_among self.old.tree.nodes ≤ self.new.room) }
         ensures facts { length self.old.journal + owed self.old.tree self.old.returned ≤ self.old.room }
     {
@@ -290,7 +291,7 @@ impl<'m, N: SearchName> Pool<'m, N> {
     pub fn reclaim(&mut self) -> Result<(), Memory>
         ensures reclaimed { OnOk result (self.new ≡ roomy (entered_by self.old (returns_of 0 self.old.tree.nodes)) self.new.room) }
         ensures room { OnOk result (self.old.room + 2 * taken_among self.old.tree.nodes ≤ self.new.room) }
-        ensures same { OnErr result (self.new ≡ roomy self.old self.new.room) }
+        ensures same { OnErr result (self.new ≡ self.old) }
     {
         self.reserve()?;
         self.put_all_back();

@@ -18,7 +18,8 @@ use Rattle.mari_market.specs.Activation.{gate_word_of, welfare_of}
 use Rattle.mari_market.specs.Clearing.{ArePartsOfSearch, Clears, IsClearing, IsSpent, leaves_of}
 use Rattle.mari_market.specs.Market.{IsValid}
 use Rattle.mari_market.specs.Optimal.{IsAdmissible}
-use Rattle.mari_market.specs.Prefix.{word_of, children}
+use Rattle.mari_market.specs.First.{ComesBefore}
+use Rattle.mari_market.specs.Prefix.{word_of, children, IsFeasiblePrefix}
 use Rattle.mari_market.specs.Relaxation.{all_closed, IsClosedWelfare}
 use Rattle.mari_market.specs.SearchTree.{IsNode, IsLarger}
 use Rattle.mari_market.specs.Tree.{AreParts, LeafHoldsFor, TreeHoldsFor}
@@ -36,8 +37,8 @@ use Rattle.mari_workers.specs.declared.fate.Aim.{Aim}
 use Rattle.mari_workers.specs.declared.refining.Turn.{Turn}
 use Rattle.mari_workers.specs.declared.refining.Turn.TheVariants.{On, Full, Yield}
 use Rattle.mari_workers.specs.declared.refining.Walk.{Walk}
-use Rattle.mari_workers.specs.Refine.{ended, ClosesAtClosed, IsCrowdedAt, IsFoundAt, IsLastTurn, IsNewLeaf, IsOldLeaf, IsTreeWalk, MayRefine}
-use Rattle.mari_workers.proofs.TreeWalks.{behind_is_late, leaves_map, parts_join, search_parts, waiting_late}
+use Rattle.mari_workers.specs.Refine.{ended, ClosesAtClosed, IsAim, IsCrowdedAt, IsFoundAt, IsLastTurn, IsNewLeaf, IsOldLeaf, IsTreeWalk, MayRefine}
+use Rattle.mari_workers.proofs.TreeWalks.{behind_is_late, early_above, leaves_map, parts_join, search_parts, waiting_late}
 
 -- ---- an activation is the first
 
@@ -123,6 +124,30 @@ crowded_spends m aim x done left whole items v h e f =
         of_part = subst (λ (is : List PartItem). Contains (leaves_of m ([] ∷ []) is) (word_of x)) (sym same) (leaf_there m O ([] ∷ []) done h.rest h.leaf (word_of x) waits front);
         crowded = record { undecided = h.crowded.undecided; promising = h.crowded.promising; more = omega (arith, count, h.crowded.more) };
       };
+    }
+
+-- ---- an earlier activation
+
+-- the walk may go on for the gate word of an activation that it has found
+pub earlier_aim : (m : Market) (aim : Aim) (x y : Prefix) (a : Activation) (done left : List TreeItem) → IsAim m aim → IsFoundAt m aim x done left a → IsFeasiblePrefix m y → IsAim m (record { word = y; welfare = aim.welfare; budget = aim.budget })
+earlier_aim m aim x y a done left k h f = record {
+  budget = k.budget;
+  word = f;
+  greatest = k.greatest;
+  opens = record { closed = k.opens.closed; is_closed = k.opens.is_closed; above = inr (early_above m aim (word_of x) k h.early) };
+}
+
+-- what is done holds for that word too
+pub earlier_walk : (m : Market) (aim : Aim) (x y : Prefix) (a : Activation) (done left : List TreeItem) → IsFoundAt m aim x done left a → word_of y ≡ gate_word_of m a → IsTreeWalk m (record { word = y; welfare = aim.welfare; budget = aim.budget }) done left (Some x)
+earlier_walk m aim x y a done left h e =
+    let before : ComesBefore (word_of y) (word_of aim.word) = subst (λ (w : List Bool). ComesBefore w (word_of aim.word)) (sym (e ∙ h.gates_are)) h.early in
+    record {
+      before = leaves_map m (IsNewLeaf m aim.welfare (word_of aim.word)) (IsNewLeaf m aim.welfare (word_of y))
+          (λ word leaf k. record { holds = record { holds = k.holds.holds; early = λ b. k.holds.early (before_both word (word_of y) (word_of aim.word) b before) }; node = k.node })
+          ([] ∷ []) done (left_at m.gates (Some x)) h.walk.before;
+      behind = h.walk.behind;
+      feasible = h.walk.feasible;
+      within = h.walk.within;
     }
 
 -- ---- the end of a walk

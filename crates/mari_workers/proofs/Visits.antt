@@ -1,6 +1,6 @@
 -- What a visit keeps, and what is so in the end.
-use Rattle.std.proofs.Common.{◌≡◌, ◌∙◌, inl, inr, if◌then◌else◌, Bool, true, false, ℕ, ◌+◌, ◌-◌, ◌*◌, ◌<◌, ◌≤◌, max, List, [], ◌∷◌, append-nil, length, map, get_or, is_some, true≢false, Result, Option, Some, None, arith, refl, sym, ap, subst}
-use Rattle.std.specs.Prelude.{nat_le, nat_lt, slice_get, IfSome, IsSomeAnd, MatchOption, OnOk}
+use Rattle.std.proofs.Common.{◌≡◌, ◌∙◌, inl, inr, if◌then◌else◌, Bool, true, false, ℕ, ◌+◌, ◌-◌, ◌*◌, ◌<◌, ◌≤◌, max, List, [], ◌∷◌, append-nil, length, map, get_or, is_some, true≢false, Option, Some, None, arith, refl, sym, ap, subst}
+use Rattle.std.specs.Prelude.{nat_le, nat_lt, slice_get, IfSome, IsSomeAnd, MatchOption}
 use Rattle.std.specs.Option.{option_map}
 use Rattle.std.proofs.lemmas.Bool.{cases_eq, cases_lt}
 use Rattle.std.proofs.lemmas.Int.{ints, clamps}
@@ -160,9 +160,9 @@ by_actor_none : (actors : List Actor) (refused : Option StepFault) → 1 ≤ len
 by_actor_none actors refused l e = by_actor_there actors 0 refused l ∙ e
 
 -- what is offered is a copy of the finding's best
-pub offered_as : {X : Type 0} (s new : Machine) (copy best : Attained) (o : Option Attained) (r : Result (Unit {0}) X) → copy ≡ best → Some best ≡ o → OnOk r (new ≡ after s (Offer 0 copy)) → OnOk r (new ≡ after_offer s o)
-offered_as s new copy best o r same is h =
-    subst (λ (p : Option Attained). OnOk r (new ≡ after_offer s p)) is (subst (λ (a : Attained). OnOk r (new ≡ after s (Offer 0 a))) same h)
+pub offered_as : (s new : Machine) (copy best : Attained) (o : Option Attained) → copy ≡ best → Some best ≡ o → new ≡ after s (Offer 0 copy) → new ≡ after_offer s o
+offered_as s new copy best o same is h =
+    subst (λ (p : Option Attained). new ≡ after_offer s p) is (subst (λ (a : Attained). new ≡ after s (Offer 0 a)) same h)
 
 pub copy_attained : (m : Market) (copy best : Attained) (o : Option Attained) → copy ≡ best → Some best ≡ o → IfSome o (IsAttained m) → IsAttained m copy
 copy_attained m copy best o same is h = subst (IsAttained m) (sym same) (subst (λ (p : Option Attained). IfSome p (IsAttained m)) (sym is) h)

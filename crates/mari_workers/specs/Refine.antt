@@ -143,13 +143,13 @@ pub record IsFoundAt (m : Market) (aim : Aim) (x : Prefix) (done left : List Tre
 abbrev pub IsTurn : Market → Aim → Prefix → ℕ → Walk → Turn → Type 0
 IsTurn m aim x count walk On = IsTreeWalk m aim walk.done.items walk.left.items walk.next × (length walk.done.items ≡ count + 1)
 IsTurn m aim x count walk Full = IsCrowdedAt m aim x walk.done.items walk.left.items
-IsTurn m aim x count walk (Yield a) = IsFoundAt m aim x walk.done.items walk.left.items a
+IsTurn m aim x count walk (Yield a) = IsFoundAt m aim x walk.done.items walk.left.items a × (walk.next ≡ Some x)
 
 -- what the last turn of a walk comes to: no prefix is left, or the budget is spent, or an earlier activation is found
 abbrev pub IsLastTurn : Market → Aim → Walk → Turn → Type 0
 IsLastTurn m aim walk On = IsTreeWalk m aim walk.done.items walk.left.items None
 IsLastTurn m aim walk Full = (x : Prefix) × IsCrowdedAt m aim x walk.done.items walk.left.items
-IsLastTurn m aim walk (Yield a) = (x : Prefix) × IsFoundAt m aim x walk.done.items walk.left.items a
+IsLastTurn m aim walk (Yield a) = (x : Prefix) × IsFoundAt m aim x walk.done.items walk.left.items a × (walk.next ≡ Some x)
 
 -- what a walk from an activation of the welfare comes to by its last turn: that activation with the items that are
 -- done, or the shapes of all items, or the earlier activation with all items

@@ -32,17 +32,16 @@ const ACTOR: u32 = 0;
 /// The number of the node that decides no gate.
 const ROOT: u32 = 0;
 
-/// Takes a step that nothing but want of memory can refuse.
-fn step(search: &mut Search<'_>, event: Event) -> Result<(), Memory>
+/// Takes a step that nothing refuses.
+fn step(search: &mut Search<'_>, event: Event)
     requires proper { IsProper search.old event }
     requires accepted { refusal search.old event ≡ None }
-    ensures change { OnOk result (search.new ≡ after search.old event) }
+    ensures change { search.new ≡ after search.old event }
     ensures facts { KeepsFacts search.new }
 {
-    match search.step(event) {
-        Ok(()) => Ok(()),
-        Err(_) => Err(Memory),
-    }
+    let Ok(()) = search.step(event) else {
+        unreachable!()
+    };
 }
 
 /// The activation of a finding, if it has one.
@@ -72,13 +71,9 @@ fn offer_best(search: &mut Search<'_>, finding: &Finding) -> Result<(), Memory>
     match best_of(finding) {
         Some(best) => {
             let attained = copy_of(best)?;
-            step(
-                search,
-                Event::Offer {
-                    actor: ACTOR,
-                    attained,
-                },
-            )
+            let actor = ACTOR;
+            step(search, Event::Offer { actor, attained });
+            Ok(())
         }
         None => Ok(()),
     }
@@ -99,13 +94,11 @@ fn offer_rounded(
     ensures facts { KeepsFacts search.new }
 {
     match best_rounded(alloc, market, start)? {
-        Some(attained) => step(
-            search,
-            Event::Offer {
-                actor: ACTOR,
-                attained,
-            },
-        ),
+        Some(attained) => {
+            let actor = ACTOR;
+            step(search, Event::Offer { actor, attained });
+            Ok(())
+        }
         None => Ok(()),
     }
 }
@@ -129,7 +122,7 @@ fn visit(
     ensures visited { IfOk result (λ key. IsVisited market.now search.old search.new node (word_of prefix.now) key) }
     ensures facts { KeepsFacts search.new }
 {
-    step(search, Event::Take { actor: ACTOR, node })?;
+    step(search, Event::Take { actor: ACTOR, node });
     *start = root.start()?;
     let finding = examine_from(alloc, market, prefix, start)?;
     offer_best(search, &finding)?;
@@ -141,7 +134,7 @@ fn visit(
             node,
             finding,
         },
-    )?;
+    );
     Ok(key)
 }
 

@@ -3,9 +3,11 @@
 use mari_market::{Cleared, Clearer, Market};
 use std::alloc::Global;
 
-/// Clears markets by its closure, which calls `search` with the caller's turnstile.
+/// Clears markets by its closure, which is meant to call `search` with the caller's workers and turnstile.
 ///
-/// It is a closure, since what a search sends to its threads must be known where the threads' handle is.
+/// It is a closure, since what a search sends to its threads must be known where the threads' handle is. Its law is that
+/// of the closure alone: whoever makes a crew shows that each answer of the closure clears the market (`ready`). Nothing
+/// here says that the closure calls `search`.
 #[derive(Drop)]
 pub struct Crew<F: Fn(Global, &Market, u32) -> Cleared> {
     pub run: F,

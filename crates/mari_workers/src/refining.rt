@@ -136,6 +136,7 @@ impl Walk {
             Fate::Branches(leaf) => self.branch(market, prefix, leaf, aim, bounds),
             Fate::Yields(leaf, activation) => {
                 self.left.push(TreeItem::Leaf(leaf))?;
+                self.next = Some(*prefix);
                 Ok(Turn::Yield(activation))
             }
         }
@@ -276,6 +277,37 @@ fn ended(
     }
 }
 
+/// What a walk that has found an earlier activation comes to where it goes on for that one's gate word. What is left is
+/// not early for it, but children may still have the leaves of their parents.
+fn walked_on(
+    alloc: Global,
+    market: &Market,
+    mut walk: Walk,
+    earlier: Activation,
+    aim: &Aim,
+    bounds: &mut Bounds,
+    root: &Root,
+) -> Result<Cleared, Memory>
+    requires market { IsValid market.now }
+    requires aim { IsAim market.now aim.now }
+    requires found { IsLastTurn market.now aim.now walk (Turn.Yield earlier) }
+    ensures { IfOk result (Clears market.now aim.now.budget) }
+{
+    let aim = Aim {
+        word: gate_word(market, &earlier),
+        welfare: aim.welfare,
+        budget: aim.budget,
+    };
+    match walked(alloc, market, &aim, &mut walk, bounds, root) {
+        Ok(last) => ended(alloc, walk, last, earlier, aim.welfare),
+        Err(Memory) => {
+            drop(walk);
+            drop(earlier);
+            Err(Memory)
+        }
+    }
+}
+
 /// The clearing of the first activation, from that of an optimal one. Prefixes are examined from the root's optimum,
 /// and the bounds become those of the new tree's branches.
 pub(crate) fn refined_from(
@@ -303,6 +335,10 @@ pub(crate) fn refined_from(
     };
     let mut walk = Walk::start(alloc, tree);
     match walked(alloc, market, &aim, &mut walk, bounds, root) {
+        Ok(Turn::Yield(earlier)) => {
+            drop(activation);
+            walked_on(alloc, market, walk, earlier, &aim, bounds, root)
+        }
         Ok(last) => ended(alloc, walk, last, activation, welfare),
         Err(Memory) => {
             drop(walk);

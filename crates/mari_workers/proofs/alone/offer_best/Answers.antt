@@ -9,4 +9,4 @@ pub step-requires-clause-accepted : goal.step-requires-clause-accepted
 step-requires-clause-accepted c = offer_accepted c.args.search.now c.in_ok-attained-in-Some.attained c.requires.facts
 
 pub returns-in_ok-attained-in-Some-clause-offered : goal.returns-in_ok-attained-in-Some-clause-offered
-returns-in_ok-attained-in-Some-clause-offered c = offered_as c.args.search.now c.step.new.search c.in_ok-attained-in-Some.attained c.in-Some.best.now (best_in c.args.finding.now) c.step.result c.in_ok-attained-in-Some.ensures c.in-Some.ensures c.step.ensures.change
+returns-in_ok-attained-in-Some-clause-offered c = offered_as c.args.search.now c.step.new.search c.in_ok-attained-in-Some.attained c.in-Some.best.now (best_in c.args.finding.now) c.in_ok-attained-in-Some.ensures c.in-Some.ensures c.step.ensures.change

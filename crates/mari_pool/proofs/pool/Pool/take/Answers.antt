@@ -1,4 +1,4 @@
-use Rattle.std.proofs.Common.{◌≡◌, ℕ, false, None, Some, [], ◌∷◌, ◌++◌, length, set, length-set, arith, refl, sym, ap, subst, ◌∙◌}
+use Rattle.std.proofs.Common.{◌≡◌, ℕ, ◌<◌, false, None, Some, [], ◌∷◌, ◌++◌, length, set, length-set, arith, refl, sym, ap, subst, ◌∙◌}
 use Rattle.std.specs.Prelude.{vec_capacity, slice_get}
 use Rattle.mari_market.specs.declared.prefix.Prefix.{Prefix}
 use Rattle.mari_market.specs.Prefix.{word_of}
@@ -13,6 +13,7 @@ use Rattle.mari_pool.proofs.Queues.{first_waits, first_of_all, has_word, queue_t
 use Rattle.mari_pool.specs.Pooled.{Pooled, IsPool, taking, unreturned, taken_among}
 use Rattle.mari_pool.specs.Taking.{IsTaken}
 use Rattle.mari_pool.proofs.Rooms.{taken_after, taken_few}
+use Rattle.mari_pool.proofs.Turns.{turns_take}
 use Rattle.mari_pool.proofs.Keeps.{pool_of, pool_parts, pool_same, has_room, entry_keeps}
 use Rattle.mari_pool.proofs.pool.Pool.take.Goals as goal
 
@@ -39,10 +40,13 @@ invariant_of-self-2 g c =
     let e = Take c.args.worker c.in-Some.node in
     let may : IsAllowed c.self.inside.tree e = first_waits c.self.inside.tree.nodes c.self.inside.queue c.take_first.new.self c.in-Some.node c.self.invariant.2 c.in-Some.ensures in
     let not_full : c.self.inside.tree.full ≡ false = sym c.is_full.ensures.full ∙ c.if-is_full.false in
+    let within : c.in-Some.node < length c.self.inside.turns.items = omega (arith, within_nodes c.self.inside.tree.nodes c.in-Some.node Untaken may, c.self.invariant.0.grows.within_budget, c.self.invariant.0.budget_is, c.self.invariant.0.turns_are) in
+    let turn : c.len-turn.result ≡ length c.self.inside.journal.items = omega (arith, c.len-turn.ensures, c.self.inside.journal.ok.0) in
     let change : c.take.new.self ≡ grown c.self.inside.tree e = c.in-Ok.ensures.change in (
       pool_same g.N.SearchName.market g.N.SearchName.budget g.N.SearchName.workers g.N.SearchName.incumbent (grown c.self.inside.tree e) c.take.new.self c.self.inside.queue.keys c.take_first.new.self.keys (c.self.inside.journal.items ++ in_journal e ∷ []) c.push_reserved.new.self.items (vec_capacity c.self.inside.journal) (vec_capacity c.push_reserved.new.self) (set c.self.inside.turns.items c.in-Some.node c.len-turn.result) c.self.inside.returned.items c.self.inside.seat c.self.inside.seat
           change c.in-Some.ensures.keys c.push_reserved.ensures.items c.push_reserved.ensures.capacity refl
-          (entry_keeps g.N.SearchName.market g.N.SearchName.budget g.N.SearchName.workers g.N.SearchName.incumbent p e c.self.inside.queue.keys (set c.self.inside.turns.items c.in-Some.node c.len-turn.result) c.self.inside.returned.items c.self.invariant.0 may (not_full, refl) tt (c.self.invariant.0.keys_are ∙ sym (length-with_state (Taken c.args.worker) c.self.inside.tree.nodes c.in-Some.node)) (length-set c.self.inside.turns.items c.in-Some.node c.len-turn.result) refl),
+          (entry_keeps g.N.SearchName.market g.N.SearchName.budget g.N.SearchName.workers g.N.SearchName.incumbent p e c.self.inside.queue.keys (set c.self.inside.turns.items c.in-Some.node c.len-turn.result) c.self.inside.returned.items c.self.invariant.0 may (not_full, refl) tt (c.self.invariant.0.keys_are ∙ sym (length-with_state (Taken c.args.worker) c.self.inside.tree.nodes c.in-Some.node)) (length-set c.self.inside.turns.items c.in-Some.node c.len-turn.result) refl
+          (turns_take c.self.inside.tree c.args.worker c.in-Some.node c.len-turn.result c.self.inside.turns.items c.self.inside.journal.items within turn c.self.invariant.0.turns_tell)),
       omega (arith, ap (λ (t : Grown). taken_among t.nodes) change, taken_after c.self.inside.tree e may, c.self.invariant.1),
       subst (λ (t : Grown). IsQueueOf t.nodes c.take_first.new.self) (sym change) (queue_taken c.self.inside.tree.nodes c.self.inside.queue c.take_first.new.self c.in-Some.node c.args.worker c.self.invariant.2 c.in-Some.ensures),
       c.in-Some.ensures.room ∙ c.self.invariant.3 ∙ sym (ap (λ (t : Grown). t.budget) change),

@@ -2,11 +2,14 @@
 
 use std::alloc::{AllocError, AllocFailed};
 
-/// The bytes are no JSON, or JSON of no part in range; or there was no memory.
+/// Why bytes are no part.
 #[derive(Clone, Copy, Debug, PartialEq, Eq)]
 pub enum FeedFault {
+    /// They are no JSON: `serde_json` refuses them, and memory isn't the cause.
     NotJson,
+    /// They are JSON, but of no part in range.
     NotAPart,
+    /// There was no memory.
     Memory,
 }
 

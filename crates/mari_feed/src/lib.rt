@@ -1,9 +1,11 @@
 //! The parts of a publication as JSON, both ways.
 //!
-//! The crate stands on `mari_publish`, whose parts it writes and reads, on `serde_json`, and on what reads a page in
-//! pieces and writes to a sink. Its promise: the text of a part is the compact JSON of its value; bytes that are JSON of
-//! a part in range are read as that part, whatever their spaces, escapes and order of keys; any other bytes are told as
-//! no JSON, or as JSON of no part; and of a page the lines of the parts before its end or its first fault are printed.
+//! The crate stands on `mari_publish`, whose parts it writes and reads, on `serde_json`, whose value of a part says what
+//! its text is, and on the shelves and sinks of `mari_io`. A part is written straight into its text, item by item, since
+//! the value of a whole block may take many times the block's memory. Its promise: the text of a part is the compact JSON
+//! of its value, on one line; bytes that are JSON of a part in range are read as that part, whatever their spaces,
+//! escapes and order of keys; any other bytes are said to be no JSON, or JSON of no part; and of a page the lines of the
+//! parts before its end or its first fault are printed.
 #![tactic(auto)]
 
 mod block;

@@ -16,13 +16,16 @@ use mari_publish::{Part, TextFault, TextReader};
 use mari_units::put;
 use std::alloc::Global;
 
-/// Why the printing stops before its end: the shelf gave no page or no further piece, the text has a fault, a write
-/// failed, or there was no memory, which is never told as a fault of the shelf or of the text.
+/// Why the printing stops before its end.
 #[derive(Clone, Copy, Debug, PartialEq, Eq)]
 pub enum FeedStop {
+    /// The shelf gave no page, or no further piece; never because there was no memory.
     Fetch(Fetch),
+    /// The text has this fault; never because there was no memory.
     Text(TextFault),
+    /// A write failed.
     Sink,
+    /// There was no memory: for a piece, a part or a line.
     Memory,
 }
 

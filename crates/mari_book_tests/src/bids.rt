@@ -1,3 +1,5 @@
+//! The book of bids: what good pages say, and the first refusals of bad ones.
+
 use mari_bids::{Bid, BidBook};
 use mari_rows::BookFault;
 use mari_units::Cents;

@@ -1,3 +1,5 @@
+//! The books of runs, demands and limits: what good pages say, and the first refusals of bad ones.
+
 use mari_demands::{Demand, DemandBook, LimitBook, Run, RunBook};
 use mari_rows::BookFault;
 use mari_units::Cents;

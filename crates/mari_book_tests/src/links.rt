@@ -1,3 +1,5 @@
+//! The book of links: what good pages say, and the first refusals of bad ones.
+
 use mari_bids::BidBook;
 use mari_links::LinkBook;
 use mari_rows::BookFault;

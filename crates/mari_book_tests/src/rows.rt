@@ -1,3 +1,5 @@
+//! Records, headers and names.
+
 use mari_rows::{AddFault, NameIndex, RowFault, has_header, rows_of};
 use mari_units::{Name, read_name};
 use std::alloc::Global;

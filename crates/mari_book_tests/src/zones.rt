@@ -1,3 +1,5 @@
+//! The books of zones and borders: what good pages say, and the first refusals of bad ones.
+
 use mari_rows::BookFault;
 use mari_zones::{BorderBook, BorderEnds, ZoneBook, version_of};
 use std::alloc::Global;

@@ -1,71 +1,33 @@
 -- A page that is read piece by piece.
-use Rattle.std.proofs.Common.{◌≡◌, ◌≢◌, ◌∙◌, ◌+◌, ◌-◌, ◌<◌, ◌≤◌, ℕ, List, [], ◌∷◌, ◌++◌, length, take, drop, Option, Some, None, Result, Ok, Err, ◌⊎◌, inl, inr, refl, sym, ap, subst, arith, append_assoc, length-append}
+use Rattle.std.proofs.Common.{◌≡◌, ◌∙◌, ◌+◌, ◌<◌, ◌≤◌, ℕ, List, [], ◌∷◌, ◌++◌, length, drop, Option, Some, None, Result, Ok, Err, ◌⊎◌, inl, inr, refl, sym, ap, subst, arith}
 use Rattle.std.specs.Prelude.{IfErr, IsErrOf}
 use Rattle.std.specs.Option.{option_map}
-use Rattle.std.proofs.Math.Seq.{take-append-add, take-append_seam}
-use Rattle.std.proofs.lemmas.Bool.{cases_lt}
-use Rattle.std.proofs.lemmas.List.{append-nil, take-append-drop, nil_from_length}
-use Rattle.mari_io.specs.Outside.{AppendsExactly, Counts, IsOverlong, IsPiece, OpenTells, counted, most_given}
+use Rattle.std.proofs.lemmas.List.{append-nil}
+use Rattle.mari_io.specs.Outside.{Counts, IsOverlong, IsPiece, OpenTells, counted, most_given}
 use Rattle.mari_io.specs.declared.shelf.Fetch.{Fetch}
 use Rattle.mari_io.specs.declared.shelf.Fetch.TheVariants as fetch
 use Rattle.mari_io.specs.declared.shelf.TheConstants.{MOST_PIECE}
-use Rattle.mari_publish.specs.Faults.{IsOutcome, IsText, IsTextFault}
-use Rattle.mari_publish.specs.Pieces.{ComeState, HasPart, IsEnd, IsNext, NoFault, ComesFrom, found_none, with_part}
+use Rattle.mari_io.proofs.Counting.{counts_as}
+use Rattle.mari_publish.specs.Faults.{IsOutcome, IsText}
+use Rattle.mari_publish.specs.Paged.{IsLineFault}
+use Rattle.mari_publish.specs.Paged.IsToldFault.{OfPage as of-page}
+use Rattle.mari_publish.specs.Pieces.{IsEnd, IsNext, ComesFrom, found_none, with_part}
 use Rattle.mari_publish.specs.declared.fault.TextFault.{TextFault}
 use Rattle.mari_publish.specs.declared.fault.TextFault.TheVariants as fault
 use Rattle.mari_publish.specs.declared.publication.Part.{Part}
 use Rattle.mari_publish.specs.declared.publication.Publication.{Publication}
-use Rattle.mari_publish.proofs.MoreText.{line_stays, order_stays}
-use Rattle.mari_publish.proofs.Outcomes.{line_answer, order_answer, text_answer, truncated_answer}
+use Rattle.mari_publish.proofs.Outcomes.{text_answer}
+use Rattle.mari_publish.proofs.Paging.{Under, and-rest, dropped, last-piece, line-fault, one-piece, overlong-page, same-fault}
 use Rattle.mari_remain.specs.declared.books.Books.{Books}
 use Rattle.mari_check.specs.declared.day.DayCheck.{DayCheck}
 use Rattle.mari_check.specs.declared.stream.Stream.{Stream}
 use Rattle.mari_check.specs.declared.stream.StreamFault.{StreamFault}
 use Rattle.mari_check.specs.declared.stream.StreamFault.TheVariants.{Fetch as OfFetch, Text as OfText, Memory as NoMemory}
 use Rattle.mari_check.specs.declared.verdict.Verdict.{Verdict}
-use Rattle.mari_check.specs.Streams.{EndTells, FaultStops, FaultTells, IsAllRead, IsFound, IsLineFault, HasRead, IsStreamFetch, IsToldFault, IsWrappedMemory, LineTells, SameAsRead, StopsAtFault, StreamTells, fault_of_fetch, fault_of_text}
-use Rattle.mari_check.specs.Streams.IsToldFault.{OfPage as of-page, OfGiven as of-given}
+use Rattle.mari_check.specs.Streams.{EndTells, FaultStops, FaultTells, IsAllRead, IsFound, HasRead, IsStreamFetch, IsWrappedMemory, LineTells, SameAsRead, StopsAtFault, StreamTells, fault_of_fetch, fault_of_text}
 use Rattle.mari_check.specs.Verdicts.{IsVerdict}
 
 -- ---- faults
-
--- the fault of a line stays, whatever comes behind it, and is the first of its text
-fault-stays : (text more : List ℕ) (f : TextFault) → IsLineFault text f → IsLineFault (text ++ more) f
-fault-stays text more (fault.BadLine n) h = line_stays text more n h
-fault-stays text more (fault.BadOrder n) h = order_stays text more n h
-fault-stays text more (fault.Truncated n) h = h
-fault-stays text more fault.Memory h = h
-
-fault-first : (text : List ℕ) (f : TextFault) → IsLineFault text f → IsTextFault text f
-fault-first text (fault.BadLine n) h = h
-fault-first text (fault.BadOrder n) h = h
-fault-first text (fault.Truncated n) h = absurd h
-fault-first text fault.Memory h = h
-
-pub no-line-fault : (text : List ℕ) (f : TextFault) → NoFault text → IsLineFault text f → ⊥
-no-line-fault text (fault.BadLine n) none h = (none n).0 h
-no-line-fault text (fault.BadOrder n) none h = (none n).1 h
-no-line-fault text (fault.Truncated n) none h = h
-no-line-fault text fault.Memory none h = h
-
--- so what is told of a page is the first fault of its text, also where it isn't given whole
-pub told-first : (page : List ℕ) (f : TextFault) → IsToldFault page f → IsTextFault page f
-told-first page f (of-page short h) = h
-told-first page f (of-given long h) =
-    let P : List ℕ → Type 0 = λ xs. IsTextFault xs f in
-    subst P (take-append-drop most_given page) (fault-first (take most_given page ++ drop most_given page) f (fault-stays (take most_given page) (drop most_given page) f h))
-
--- the fault of a line is told once the line is given
-fault-told : (text more : List ℕ) (f : TextFault) → length text ≤ most_given → IsLineFault text f → IsToldFault (text ++ more) f
-fault-told text more f few h = elim (cases_lt most_given (length (text ++ more))) [
-  | inl long ↦
-      let room : ℕ = most_given - length text in
-      let all : length text + room ≡ most_given = omega (arith, few) in
-      let front : take most_given (text ++ more) ≡ text ++ take room more = ap (λ (n : ℕ). take n (text ++ more)) (sym all) ∙ take-append-add text more room in
-      let P : List ℕ → Type 0 = λ xs. IsLineFault xs f in
-      of-given long (subst P (sym front) (fault-stays text (take room more) f h))
-  | inr short ↦ of-page (omega (arith, short)) (fault-first (text ++ more) f (fault-stays text more f h))
-]
 
 -- a fault that the reader tells
 pub next-fault : (text : List ℕ) (parts : List Part) (f : TextFault) → IsNext text parts (Err f) → LineTells text (fault_of_text f)
@@ -120,14 +82,6 @@ end-verdict done books text parts day (Some w) v e f is =
 
 -- ---- what the reader gives
 
-pub next-part : (text : List ℕ) (parts : List Part) (o : Option Part) (x : Part) → o ≡ Some x → IsNext text parts (Ok o) → HasPart text parts x
-next-part text parts None x e n = absurd cc
-next-part text parts (Some y) x e n = let same : y ≡ x = cc in subst (HasPart text parts) same n
-
-pub next-stands : (come : ComeState) (text : List ℕ) (parts : List Part) (o : Option Part) (x : Part) → o ≡ Some x → ComesFrom come text (with_part parts o) → ComesFrom come text (parts ++ x ∷ [])
-next-stands come text parts None x e s = absurd cc
-next-stands come text parts (Some y) x e s = let same : y ≡ x = cc in subst (λ (z : Part). ComesFrom come text (parts ++ z ∷ [])) same s
-
 -- there is no further part: all that has come is taken
 pub all-read : (books : Books) (text : List ℕ) (parts : List Part) (stream : Stream) (o : Option Part) → o ≡ None → IsNext text parts (Ok o) → ComesFrom stream.reader.come text (with_part parts o) → stream.reader.waits ≡ found_none (Ok o)
     → IsFound books parts stream.day stream.found → IsAllRead books text stream
@@ -150,99 +104,48 @@ same-fetch T fetch.TooLong g h = h
 same-fetch T fetch.Memory g h = absurd h
 
 pub counts-on : (T U : Type 0) (f g : Fetch) (a b c : ℕ) → a ≤ b → Counts (IsErrOf {T = T} (Err f) g) b c → Counts (IsStreamFetch {T = U} g (Err (fault_of_fetch f))) a c
-counts-on T U f g a b c l n = record {
-  later = omega (arith, l, n.later);
-  rose = λ h.
-      let e : f ≡ g = same-fetch U f g h in
-      let r : counted b ≤ c = n.rose (ap (λ (x : Fetch). Err x) e) in
-      omega (arith, l, r);
-}
-
-pub counts-none : (X : Type 0) (a b c : ℕ) → (X → ⊥) → a ≤ b → b ≤ c → Counts X a c
-counts-none X a b c never l m = record { later = omega (arith, l, m); rose = λ h. absurd (never h) }
+counts-on T U f g a b c l n = counts_as T _ f g a b c (same-fetch U f g) l n
 
 -- ---- a page as far as it was read
 
--- what was appended to nothing is the piece
-pub all-new : (old items piece : List ℕ) (n : ℕ) → old ≡ [] → piece ≡ items → AppendsExactly n old items → length piece ≡ n
-all-new old items piece n none same a = let e = ap length none in let f = ap length same in omega (arith, e, f, a.more)
+-- the parts that were taken of a text
+abbrev pub ReadsSome : Books → Stream → List ℕ → Type 0
+ReadsSome books stream text = (parts : List Part) × HasRead books text parts stream
 
-pub first-of : (left old items piece : List ℕ) (n : ℕ) → old ≡ [] → piece ≡ items → IsPiece left old items n → IsPiece left [] piece n
-first-of left old items piece n none same h = subst (λ (xs : List ℕ). IsPiece left [] xs n) (sym same) (subst (λ (o : List ℕ). IsPiece left o items n) none h)
-
--- so much of the page has come, and this is left of it, where that is told
-pub record Under (books : Books) (page rest : Option (List ℕ)) (given : ℕ) (stream : Stream) : Type 0 where
-  pub text : List ℕ
-  pub parts : List Part
-  pub read : HasRead books text parts stream
-  pub given_is : given ≡ length text
-  pub few : given ≤ most_given
-  pub no_fault : NoFault text
-  pub told : (whole : List ℕ) → page ≡ Some whole → (left : List ℕ) × (rest ≡ Some left) × (text ++ left ≡ whole)
-
-dropped : (rest now : Option (List ℕ)) (left : List ℕ) (n : ℕ) → rest ≡ Some left → now ≡ option_map (λ l. drop n l) rest → now ≡ Some (drop n left)
-dropped rest now left n e f = f ∙ ap (option_map (λ l. drop n l)) e
-
-module _ (books : Books) (page rest : Option (List ℕ)) (given : ℕ) (old : Stream) (u : Under books page rest given old) where
+module _ (books : Books) (page rest : Option (List ℕ)) (given : ℕ) (old : Stream) (u : Under (ReadsSome books old) page rest given) where
   -- the fetch of a piece failed
   pub piece-fault : (f : Fetch) → (f ≡ fetch.Missing → ⊥) → (f ≡ fetch.TooLong → IsOverlong rest given) → (whole : List ℕ) → page ≡ Some whole → FaultTells (Some whole) (fault_of_fetch f)
   piece-fault fetch.Failed not over whole is = tt
   piece-fault fetch.Missing not over whole is = absurd (not refl)
   piece-fault fetch.Memory not over whole is = tt
-  piece-fault fetch.TooLong not over whole is =
-      let t = u.told whole is in
-      let o : (given ≡ most_given) × (t.0 ≢ []) = subst (λ r. IsOverlong r given) t.1 (over refl) in
-      let many = length-append u.text t.0 in
-      let some = not-empty t.0 o.1 in
-      let sum : length (u.text ++ t.0) ≡ length whole = ap length t.2 in
-      let front : take most_given whole ≡ u.text = ap (λ (xs : List ℕ). take most_given xs) (sym t.2) ∙ ap (λ (n : ℕ). take n (u.text ++ t.0)) (sym o.0 ∙ u.given_is) ∙ take-append_seam u.text t.0 in
-      record { longer = omega (arith, many, some, sum, o.0, u.given_is); no_fault = subst NoFault (sym front) u.no_fault }
-    where
-      not-empty : (xs : List ℕ) → (xs ≢ []) → 0 < length xs
-      not-empty [] h = absurd (h refl)
-      not-empty (x ∷ xs) h = omega arith
+  piece-fault fetch.TooLong not over whole is = overlong-page _ _ _ _ u (over refl) whole is
 
   module _ (piece : List ℕ) (n : ℕ) (many : length piece ≡ n) (within : given + n ≤ most_given) (is_piece : (left : List ℕ) → rest ≡ Some left → IsPiece left [] piece n) where
-    -- the text with the piece is as long as what is given then
-    with-piece : length (u.text ++ piece) ≤ most_given
-    with-piece = let longer = length-append u.text piece in omega (arith, longer, many, within, u.given_is)
-
     module _ (whole : List ℕ) (is : page ≡ Some whole) where
-      -- what is left of the page begins with the piece
-      left-of : (left : List ℕ) × (rest ≡ Some left) × (u.text ++ left ≡ whole)
-      left-of = u.told whole is
-
-      and-rest : piece ++ drop n left-of.0 ≡ left-of.0
-      and-rest = ap (λ (xs : List ℕ). xs ++ drop n left-of.0) (is_piece left-of.0 left-of.1).bytes ∙ take-append-drop n left-of.0
-
-      all-of-it : (u.text ++ piece) ++ drop n left-of.0 ≡ whole
-      all-of-it = append_assoc u.text piece (drop n left-of.0) ∙ ap (λ (xs : List ℕ). u.text ++ xs) and-rest ∙ left-of.2
-
-      -- a line of what has come has a fault
-      line-fault : (f : TextFault) → IsLineFault (u.text ++ piece) f → IsToldFault whole f
-      line-fault f h = let P : List ℕ → Type 0 = λ xs. IsToldFault xs f in subst P all-of-it (fault-told (u.text ++ piece) (drop n left-of.0) f with-piece h)
-
       pub push-fault : (f : StreamFault) → LineTells (u.text ++ piece) f → FaultTells (Some whole) f
-      push-fault (OfText f) h = line-fault f h
+      push-fault (OfText f) h = line-fault _ _ _ _ u piece n many within is_piece whole is f h
       push-fault (OfFetch f) h = absurd h
       push-fault NoMemory h = tt
 
       -- and nothing more was read
       module _ {S : Type 0} (rest_of : S → Option (List ℕ)) (calls : S → ℕ) (before after : S) (begun : rest_of before ≡ rest) (left_is : rest_of after ≡ option_map (λ l. drop n l) rest) (call : calls after ≡ counted (calls before)) (few : n ≤ MOST_PIECE) where
         line-stops : (f : TextFault) → IsLineFault (u.text ++ piece) f → StopsAtFault rest_of calls whole f after
-        line-stops f h = record {
-          read = u.text;
-          piece = piece;
-          left = drop n left-of.0;
-          page_is = sym (ap (λ (xs : List ℕ). u.text ++ xs) and-rest ∙ left-of.2);
-          no_fault = u.no_fault;
-          here = h;
-          few = omega (arith, many, few);
-          before = before;
-          all_left = begun ∙ left-of.1 ∙ ap (λ (xs : List ℕ). Some xs) (sym and-rest);
-          last_call = call;
-          left_is = dropped rest (rest_of after) left-of.0 n left-of.1 left_is;
-        }
+        line-stops f h =
+            let left : (left : List ℕ) × (rest ≡ Some left) × (u.text ++ left ≡ whole) = u.told whole is in
+            let all : piece ++ drop n left.0 ≡ left.0 = and-rest _ _ _ _ u piece n many within is_piece whole is in
+            record {
+              read = u.text;
+              piece = piece;
+              left = drop n left.0;
+              page_is = sym (ap (λ (xs : List ℕ). u.text ++ xs) all ∙ left.2);
+              no_fault = u.no_fault;
+              here = h;
+              few = omega (arith, many, few);
+              before = before;
+              all_left = begun ∙ left.1 ∙ ap (λ (xs : List ℕ). Some xs) (sym all);
+              last_call = call;
+              left_is = dropped rest (rest_of after) left.0 n left.1 left_is;
+            }
 
         pub push-stops : (f : StreamFault) → LineTells (u.text ++ piece) f → FaultStops rest_of calls whole after f
         push-stops (OfText (fault.BadLine n)) h = line-stops (fault.BadLine n) h
@@ -254,31 +157,14 @@ module _ (books : Books) (page rest : Option (List ℕ)) (given : ℕ) (old : St
 
     module _ (new : Stream) (read : IsAllRead books (u.text ++ piece) new) where
       -- there is more of it
-      pub one-piece : (now : Option (List ℕ)) (more : ℕ) → now ≡ option_map (λ l. drop n l) rest → more ≡ given + n → Under books page now more new
-      one-piece now more left_is given_is =
-          let longer = length-append u.text piece in
-          record {
-            text = u.text ++ piece;
-            parts = read.parts;
-            read = read.read;
-            given_is = omega (arith, longer, many, given_is, u.given_is);
-            few = omega (arith, within, given_is);
-            no_fault = read.no_fault;
-            told = λ whole is. (drop n (left-of whole is).0, dropped rest now (left-of whole is).0 n (left-of whole is).1 left_is, all-of-it whole is);
-          }
+      pub more-read : (now : Option (List ℕ)) (more : ℕ) → now ≡ option_map (λ l. drop n l) rest → more ≡ given + n → Under (ReadsSome books new) page now more
+      more-read now more left_is given_is = one-piece _ _ _ _ u piece n many within is_piece (ReadsSome books new) (read.parts, read.read) read.no_fault now more left_is given_is
 
       -- that was its end
-      pub last-piece : n ≡ 0 → (whole : List ℕ) → page ≡ Some whole → (length whole ≤ most_given) × IsAllRead books whole new
-      last-piece none whole is =
-          let t = left-of whole is in
-          let empty : t.0 ≡ [] = (is_piece t.0 t.1).at_end.0 none in
-          let own : piece ≡ [] = nil_from_length piece (many ∙ none) in
-          let all : u.text ++ piece ≡ whole = ap (λ (xs : List ℕ). u.text ++ xs) (own ∙ sym empty) ∙ t.2 in
-          let long = ap length all in
-          let short = with-piece in (
-            omega (arith, long, short),
-            subst (λ (xs : List ℕ). IsAllRead books xs new) all read,
-          )
+      pub last-read : n ≡ 0 → (whole : List ℕ) → page ≡ Some whole → (length whole ≤ most_given) × IsAllRead books whole new
+      last-read none whole is =
+          let l = last-piece _ _ _ _ u piece n many within is_piece none whole is in
+          (l.0, subst (λ (xs : List ℕ). IsAllRead books xs new) l.1 read)
 
 -- ---- the whole
 
@@ -292,11 +178,6 @@ open-fault T (Some page) rest fetch.Failed h = tt
 open-fault T (Some page) rest fetch.Missing h = absurd cc
 open-fault T (Some page) rest fetch.TooLong h = absurd h
 open-fault T (Some page) rest fetch.Memory h = tt
-
--- a page that was opened
-pub opened-page : {T : Type 0} (done : T) (page rest : Option (List ℕ)) → OpenTells page rest (Ok done) → (bytes : List ℕ) × (page ≡ Some bytes) × (rest ≡ Some bytes)
-opened-page done None rest h = let e = h.0 in absurd cc
-opened-page done (Some bytes) rest h = (bytes, refl, h.1)
 
 pub end-tells : (books : Books) (page : Option (List ℕ)) (bytes : List ℕ) (result : Result Verdict StreamFault) → page ≡ Some bytes → length bytes ≤ most_given → EndTells books bytes result → StreamTells books page result
 end-tells books page bytes result e short h = subst (λ p. StreamTells books p result) (sym e) (own result h)
@@ -329,12 +210,6 @@ module _ {S : Type 0} (rest_of : S → Option (List ℕ)) (calls : S → ℕ) (p
 
 -- ---- the same as reading the page whole
 
-same-fault : (page : List ℕ) (answer : Result Publication TextFault) (f : TextFault) → IsOutcome page answer → IsTextFault page f → (answer ≡ Err f) ⊎ (answer ≡ Err fault.Memory)
-same-fault page answer (fault.BadLine n) o h = line_answer page answer o n h
-same-fault page answer (fault.BadOrder n) o h = order_answer page answer o n h
-same-fault page answer (fault.Truncated n) o h = truncated_answer page answer o n h
-same-fault page answer fault.Memory o h = absurd h
-
 fault-same : (books : Books) (answer : Result Publication TextFault) (f : TextFault) → (answer ≡ Err f) ⊎ (answer ≡ Err fault.Memory) → SameAsRead books answer (Err (OfText f))
 fault-same books (Ok p) f (inl e) = absurd cc
 fault-same books (Ok p) f (inr e) = absurd cc
@@ -349,7 +224,7 @@ verdict-same books (Err g) p v h (inr e) = cc
 
 pub same-as-read : (books : Books) (page : List ℕ) (answer : Result Publication TextFault) (result : Result Verdict StreamFault) → IsOutcome page answer → StreamTells books (Some page) result → SameAsRead books answer result
 same-as-read books page answer (Ok v) o (short, (p, read, is)) = verdict-same books answer p v is (text_answer page answer o p read)
-same-as-read books page answer (Err (OfText f)) o h = fault-same books answer f (same-fault page answer f o (told-first page f h))
+same-as-read books page answer (Err (OfText f)) o h = fault-same books answer f (same-fault page answer f o h)
 same-as-read books page answer (Err (OfFetch f)) o h = nothing-said answer f
   where
     nothing-said : (a : Result Publication TextFault) (f : Fetch) → SameAsRead books a (Err (OfFetch f))

@@ -4,7 +4,8 @@ use Rattle.mari_io.specs.declared.shelf.Fetch.{Fetch}
 use Rattle.mari_io.specs.declared.shelf.Fetch.TheVariants as fetch
 use Rattle.mari_io.specs.declared.shelf.TheConstants.{MOST_PIECE}
 use Rattle.mari_io.specs.Outside.{counted, most_given}
-use Rattle.mari_publish.specs.Faults.{IsText, IsTextFault, BadLineAt, BadOrderAt, TruncatedAt}
+use Rattle.mari_publish.specs.Faults.{IsText, TruncatedAt}
+use Rattle.mari_publish.specs.Paged.{IsLineFault, IsToldFault, IsTooLong}
 use Rattle.mari_publish.specs.Pieces.{NoFault, ComesFrom, parts_of}
 use Rattle.mari_publish.specs.declared.fault.TextFault.{TextFault}
 use Rattle.mari_publish.specs.declared.fault.TextFault.TheVariants as fault
@@ -23,24 +24,6 @@ use Rattle.mari_check.specs.Checked.{IsChecked}
 use Rattle.mari_check.specs.Verdicts.{IsVerdict}
 
 -- ---- what is answered
-
--- a fault of a whole line
-abbrev pub IsLineFault : List ℕ → TextFault → Type 0
-IsLineFault text (fault.BadLine n) = BadLineAt text n
-IsLineFault text (fault.BadOrder n) = BadOrderAt text n
-IsLineFault text (fault.Truncated n) = ⊥
-IsLineFault text fault.Memory = ⊥
-
--- the fault that is told of a page: the first of its text, where the page may be given whole; of a longer page that of
--- a whole line of the bytes that are given, and never that the text is cut off
-pub data IsToldFault (page : List ℕ) (fault : TextFault) : Type 0 where
-  OfPage : length page ≤ most_given → IsTextFault page fault → IsToldFault page fault
-  OfGiven : most_given < length page → IsLineFault (take most_given page) fault → IsToldFault page fault
-
--- a page has more bytes than are given in pieces, and as far as they are given no whole line has a fault
-pub record IsTooLong (page : List ℕ) : Type 0 where
-  pub longer : most_given < length page
-  pub no_fault : NoFault (take most_given page)
 
 -- why there is no verdict on a page, or where it isn't held
 abbrev pub FaultTells : Option (List ℕ) → StreamFault → Type 0

@@ -8,7 +8,6 @@ ghost use Rattle.mari_progress.specs.Totals.{HasHead};
 ghost use Rattle.mari_check.specs.Checked.{FindsHead, IsChecked, IsTested, unpublished_block};
 ghost use Rattle.mari_check.specs.Day.{FillsBudget, IsFreeIn, IsNextHeading};
 ghost use Rattle.mari_check.specs.Faults.{Finds, FindsNumber};
-ghost use Rattle.mari_publish.specs.declared.publication.Publication.{Publication as ThePublication};
 ghost use Rattle.mari_publish.specs.declared.publication.Block.{Block as PrintedBlock};
 
 use crate::block::{Examined, examine};
@@ -57,7 +56,7 @@ impl DayCheck {
     /// called once, before any block.
     pub fn head(&mut self, books: &Books, date: &Name, quarters: u32, budget: u32) -> Option<u8>
         requires { IsChecked books.now [] self.old }
-        ensures finds { (p : ThePublication) → p.date ≡ date.now → p.quarters ≡ quarters → FindsHead (HasHead books.now p.date p.quarters) result }
+        ensures finds { FindsHead (HasHead books.now date.now quarters) result }
         ensures stands { IsChecked books.now [] self.new }
         ensures budget { self.new.budget ≡ budget }
     {

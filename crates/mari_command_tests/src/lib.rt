@@ -15,6 +15,8 @@ mod checks;
 #[cfg(test)]
 mod days;
 #[cfg(test)]
+mod feeds;
+#[cfg(test)]
 mod gated_bids;
 #[cfg(test)]
 mod generates;

@@ -1,4 +1,4 @@
-//! Words: options before and behind the folder, and words that are no command.
+//! Words: options before and after the folder, and words that are no command.
 
 use crate::cases::Printed::Whole;
 use crate::cases::{CLEARS, Case, agree};
@@ -26,7 +26,7 @@ done 1 0
 const USAGE: Case = Case {
     code: 2,
     printed: Whole(&[
-        "usage: mari clear FOLDER [--nodes N] [--workers K] | mari check FOLDER | mari generate NUMBER | mari migrate FOLDER borders | mari migrate FOLDER limits\n",
+        "usage: mari clear FOLDER [--nodes N] [--workers K] | mari check FOLDER | mari generate NUMBER | mari migrate FOLDER borders | mari migrate FOLDER limits | mari feed FOLDER\n",
     ]),
     ..CLEARS
 };
@@ -44,6 +44,8 @@ const CASES: &[Case] = &[
             &["generate", "2147483648"],
             &["migrate", "F"],
             &["migrate", "F", "zones"],
+            &["feed"],
+            &["feed", "F", "--nodes", "3"],
         ],
         ..USAGE
     },

@@ -1,4 +1,5 @@
 pub mod Complete
+pub mod Feeds
 pub mod Ending
 pub mod Folder
 pub mod Gates
@@ -10,3 +11,4 @@ pub mod ShortWords
 pub mod Summaries
 pub mod Telling
 pub mod valid
+pub mod Causes

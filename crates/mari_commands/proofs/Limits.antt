@@ -4,9 +4,9 @@ use Rattle.std.specs.Prelude.{◌≤◌, ◌&&◌, nat_le, Bool, true, false, if
 use Rattle.std.proofs.lemmas.Bool.Decides.{nat_tests}
 use Rattle.mari_units.specs.Numbers.{natural_of}
 use Rattle.mari_words.specs.Asked.{Asked}
-use Rattle.mari_words.specs.Asked.Asked.{Clear, Check, Generate, Migrate}
+use Rattle.mari_words.specs.Asked.Asked.{Clear, Check, Generate, Migrate, Feed}
 use Rattle.mari_words.specs.Words.{Given, Verb, asked_for, command_at, command_of, folder_in, given_by, natural_in, number_or, part_named, verb_named}
-use Rattle.mari_words.specs.Words.Verb.{Clears, Checks, Generates, Migrates}
+use Rattle.mari_words.specs.Words.Verb.{Clears, Checks, Generates, Migrates, Feeds}
 use Rattle.mari_units.specs.declared.limits.TheConstants.{LAST_NUMBER, MOST_NODES, MOST_WORKERS}
 use Rattle.mari_market.specs.Clearing.{IsBudget, IsWorkerCount}
 use Rattle.mari_words.specs.declared.command.TheConstants.{USUAL_NODES, USUAL_WORKERS}
@@ -16,6 +16,7 @@ IsWithin (Clear folder nodes workers) = IsBudget nodes × IsWorkerCount workers
 IsWithin (Check folder) = ⊤
 IsWithin (Generate number) = number ≤ LAST_NUMBER
 IsWithin (Migrate folder part) = ⊤
+IsWithin (Feed folder) = ⊤
 
 -- what was there where a step behind it gave something
 pub record Step (A B : Type 0) (o : Option A) (f : A → Option B) (y : B) : Type 0 where
@@ -71,6 +72,10 @@ asked-within Migrates given x e =
     let c = step given.second _ x b.gives in
     let d = step (part_named c.x) _ x c.gives in
     same-within (Migrate b.x d.x) x d.gives tt
+asked-within Feeds given x e =
+    let a = step given.first _ x e in
+    let b = step (folder_in a.x) _ x a.gives in
+    same-within (Feed b.x) x b.gives tt
 
 pub within : (words : List (List ℕ)) (x : Asked) → command_at words ≡ Some x → IsWithin x
 within [] x e = absurd (cc)

@@ -1,5 +1,5 @@
 -- Every check by which a file may be refused has a name.
-use Rattle.std.proofs.Common.{ℕ, [], Err, arith, subst, sym}
+use Rattle.std.proofs.Common.{◌≡◌, ℕ, [], Some, Err, arith, subst, sym}
 use Rattle.std.specs.Prelude.{◌≢◌, IsSomeAnd}
 use Rattle.mari_units.specs.declared.faults.Refusal.{Refusal}
 use Rattle.mari_rows.specs.Checks.{row_check_name, row_check_number}
@@ -34,8 +34,8 @@ use Rattle.mari_day.specs.declared.reading.BooksFault.{BooksFault}
 use Rattle.mari_day.specs.declared.reading.BooksFault.TheVariants as why
 use Rattle.mari_words.specs.declared.command.FilePart.{FilePart}
 use Rattle.mari_commands.specs.Checks.{migration_check_name, text_check_name}
-use Rattle.mari_commands.specs.Commands.{already_two}
-use Rattle.mari_commands.specs.Outcome.{IsMigrated, IsReportable, no_books, text_outcome}
+use Rattle.mari_commands.specs.Commands.{already_two, text_refusal}
+use Rattle.mari_commands.specs.Outcome.{IsMigrated, IsReportable, no_books, refusal_of, text_outcome}
 use Rattle.mari_commands.specs.Refusals.{HasName, check_name}
 use Rattle.mari_commands.specs.declared.outcome.Outcome.{Outcome}
 use Rattle.mari_commands.specs.declared.outcome.Outcome.TheVariants as outcome
@@ -129,8 +129,16 @@ already-reportable = ((omega arith, omega arith), λ e. cc e)
 pub migrated-reportable : (books : Books) (part : FilePart) (o : Outcome) → IsMigrated books part o → IsReportable o
 migrated-reportable books part outcome.NoCommand is = tt
 migrated-reportable books part (outcome.Day job) is = absurd is
+migrated-reportable books part (outcome.Feed folder) is = absurd is
 migrated-reportable books part (outcome.Text text) is = tt
 migrated-reportable books part (outcome.Invalid run fault) is = tt
 migrated-reportable books part (outcome.NoPage file why) is = absurd is
 migrated-reportable books part (outcome.Refused refusal) is = rw is.1 already-reportable
 migrated-reportable books part outcome.Memory is = tt
+
+-- and so it is by its refusal
+pub refusal-named : (fault : TextFault) (refusal : Refusal) → Some refusal ≡ refusal_of fault → IsReportable (outcome.Refused refusal)
+refusal-named (text_fault.BadLine n) refusal e = let same : refusal ≡ text_refusal (text_fault.BadLine n) = cc in subst (λ r. IsReportable (outcome.Refused r)) (sym same) (text-reportable (text_fault.BadLine n))
+refusal-named (text_fault.BadOrder n) refusal e = let same : refusal ≡ text_refusal (text_fault.BadOrder n) = cc in subst (λ r. IsReportable (outcome.Refused r)) (sym same) (text-reportable (text_fault.BadOrder n))
+refusal-named (text_fault.Truncated n) refusal e = let same : refusal ≡ text_refusal (text_fault.Truncated n) = cc in subst (λ r. IsReportable (outcome.Refused r)) (sym same) (text-reportable (text_fault.Truncated n))
+refusal-named text_fault.Memory refusal e = absurd cc

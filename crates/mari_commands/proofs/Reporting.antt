@@ -1,7 +1,27 @@
--- Reports of one text under another name.
-use Rattle.std.proofs.Common.{◌≡◌, ℕ, List, Option, subst}
+-- Reports of one text under another name, of a refusal, and of a feed of which nothing is printed.
+use Rattle.std.proofs.Common.{◌≡◌, ℕ, List, Option, Some, None, refl, subst}
+use Rattle.std.specs.Prelude.{Err}
+use Rattle.mari_units.specs.declared.faults.Refusal.{Refusal}
+use Rattle.mari_publish.specs.declared.fault.TextFault.{TextFault}
+use Rattle.mari_publish.specs.declared.fault.TextFault.TheVariants as text_fault
+use Rattle.mari_feed.specs.Streams.{FeedTells}
+use Rattle.mari_feed.specs.declared.stream.FeedStop.TheVariants as stop
+use Rattle.mari_feed.proofs.Piecemeal.{took_none}
 use Rattle.mari_commands.specs.declared.status.Status.{Status}
-use Rattle.mari_commands.specs.Outcome.{Reports}
+use Rattle.mari_commands.specs.Commands.{text_refusal}
+use Rattle.mari_commands.specs.Outcome.{Reports, ReportsRefusal, ReportsText, refusal_of}
 
 pub same_text : (text other : List ℕ) (wanted : Status) (before after : Option (List ℕ)) (result : Status) → text ≡ other → Reports text wanted before after result → Reports other wanted before after result
 same_text text other wanted before after result e r = let P : List ℕ → Type 0 = λ t. Reports t wanted before after result in subst P e r
+
+-- the refusal of a fault of a publication's text
+pub same_refusal : (fault : TextFault) (refusal : Refusal) (before after : Option (List ℕ)) (result : Status) → Some refusal ≡ refusal_of fault → ReportsRefusal refusal before after result → ReportsText fault before after result
+same_refusal (text_fault.BadLine n) refusal before after result e r = let same : refusal ≡ text_refusal (text_fault.BadLine n) = cc in subst (λ x. ReportsRefusal x before after result) same r
+same_refusal (text_fault.BadOrder n) refusal before after result e r = let same : refusal ≡ text_refusal (text_fault.BadOrder n) = cc in subst (λ x. ReportsRefusal x before after result) same r
+same_refusal (text_fault.Truncated n) refusal before after result e r = let same : refusal ≡ text_refusal (text_fault.Truncated n) = cc in subst (λ x. ReportsRefusal x before after result) same r
+same_refusal text_fault.Memory refusal before after result e r = absurd cc
+
+-- nothing is printed yet of a page
+pub nothing_fed : (page : Option (List ℕ)) (before : Option (List ℕ)) → FeedTells {T = Unit {0}} page before before (Err stop.Memory)
+nothing_fed None before = refl
+nothing_fed (Some page) before = took_none page before before refl

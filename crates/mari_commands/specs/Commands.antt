@@ -1,9 +1,8 @@
 -- What the words and the pages decide: which folder is read, what is refused, which page can't be had, and what is
 -- printed.
-use Rattle.std.specs.Prelude.{ℕ, ◌≡◌, ◌≢◌, ◌≤◌, List, length, Option, Some, None, option_and_then}
+use Rattle.std.specs.Prelude.{ℕ, ◌≡◌, ◌≢◌, ◌≤◌, ◌⊎◌, List, length, Option, Some, None, option_and_then}
 use Rattle.mari_units.specs.declared.faults.Refusal.{Refusal}
-use Rattle.mari_io.specs.Outside.{Pages, page_of}
-use Rattle.mari_io.specs.declared.shelf.TheConstants.{MOST_GIVEN}
+use Rattle.mari_io.specs.Outside.{Pages, page_of, most_given}
 use Rattle.mari_publish.specs.declared.fault.TextFault.{TextFault}
 use Rattle.mari_publish.specs.declared.fault.TextFault.TheVariants as text_fault
 use Rattle.mari_publish.specs.declared.publication.Publication.{Publication}
@@ -17,9 +16,9 @@ use Rattle.mari_day.specs.Files.{Gap, file_named, file_number, path_in}
 use Rattle.mari_day.specs.Files.Gap.{NotHeld, OverLimit}
 use Rattle.mari_day.specs.Reading.{HasBooks, HasGap, HasRefusal}
 use Rattle.mari_check.specs.Day.{IsFirstFault, IsValidPublication}
-use Rattle.mari_check.specs.Streams.{IsToldFault, IsTooLong}
+use Rattle.mari_publish.specs.Paged.{IsToldFault, IsTooLong}
 use Rattle.mari_words.specs.Asked.{Asked}
-use Rattle.mari_words.specs.Asked.Asked.{Clear, Check, Generate, Migrate}
+use Rattle.mari_words.specs.Asked.Asked.{Clear, Check, Generate, Migrate, Feed}
 use Rattle.mari_words.specs.declared.command.FilePart.{FilePart}
 use Rattle.mari_words.specs.declared.command.FilePart.TheVariants.{Borders, Limits}
 use Rattle.mari_commands.specs.declared.checks.MigrationCheck.TheVariants.{AlreadyTwo}
@@ -34,6 +33,7 @@ folder_of (Clear folder nodes workers) = Some folder
 folder_of (Check folder) = Some folder
 folder_of (Generate number) = None
 folder_of (Migrate folder part) = Some folder
+folder_of (Feed folder) = None
 
 -- the words ask for what reads the market files of this folder
 abbrev pub ReadsFolder : Option Asked → List ℕ → Type 0
@@ -48,6 +48,14 @@ AsksToCheck asked = (folder : List ℕ) × (asked ≡ Some (Check folder))
 
 abbrev pub AsksForFiles : Option Asked → Type 0
 AsksForFiles asked = (folder : List ℕ) × ReadsFolder asked folder
+
+-- the words ask for the feed of a folder's publication
+abbrev pub AsksForFeed : Option Asked → Type 0
+AsksForFeed asked = (folder : List ℕ) × (asked ≡ Some (Feed folder))
+
+-- the words ask for what reads pages: a folder's market files, or its publication alone
+abbrev pub AsksForPages : Option Asked → Type 0
+AsksForPages asked = AsksForFiles asked ⊎ AsksForFeed asked
 
 -- the name of a folder's publication
 abbrev pub publication_path : List ℕ → List ℕ
@@ -66,7 +74,21 @@ pub record IsReadable (asked : Option Asked) (pages : Pages) : Type 0 where
   pub page : List ℕ
   pub publication : Publication
   pub checked : HasPublication asked pages books page
-  pub short : length page ≤ MOST_GIVEN
+  pub short : length page ≤ most_given
+  pub read : IsText page publication
+
+-- the folder's publication is printed as a feed: it is this page
+pub record HasFeed (asked : Option Asked) (pages : Pages) (page : List ℕ) : Type 0 where
+  pub folder : List ℕ
+  pub feed : asked ≡ Some (Feed folder)
+  pub held : page_of pages (publication_path folder) ≡ Some page
+
+-- its page may be given whole, and is the text of this publication
+pub record IsFeedable (asked : Option Asked) (pages : Pages) : Type 0 where
+  pub page : List ℕ
+  pub publication : Publication
+  pub fed : HasFeed asked pages page
+  pub short : length page ≤ most_given
   pub read : IsText page publication
 
 -- the publication is refused at a line, by the number of a check
@@ -97,18 +119,26 @@ pub record RefusesText (asked : Option Asked) (pages : Pages) (page : List ℕ) 
   pub checked : HasPublication asked pages books page
   pub told : IsToldFault page fault
 
--- what is refused: the market files, or the text of the publication
+-- the text of the publication that is printed as a feed has a fault, which is told
+pub record RefusesFeed (asked : Option Asked) (pages : Pages) (page : List ℕ) (fault : TextFault) : Type 0 where
+  pub fed : HasFeed asked pages page
+  pub told : IsToldFault page fault
+
+-- what is refused: the market files, or the text of the publication that is checked or printed as a feed
 pub data IsRefused (asked : Option Asked) (pages : Pages) (refusal : Refusal) : Type 0 where
   OfFiles : RefusesFiles asked pages refusal → IsRefused asked pages refusal
   OfText : (page : List ℕ) (fault : TextFault) → RefusesText asked pages page fault → refusal ≡ text_refusal fault → IsRefused asked pages refusal
+  OfFeed : (page : List ℕ) (fault : TextFault) → RefusesFeed asked pages page fault → refusal ≡ text_refusal fault → IsRefused asked pages refusal
 
 -- the first file whose page can't be had, by its number, and why: a market file of the folder; or the publication that
--- is checked, which isn't held, or is longer than may be given in pieces
+-- is checked or printed as a feed, which isn't held, or is longer than may be given in pieces
 pub data LacksPage (asked : Option Asked) (pages : Pages) (file : ℕ) (gap : Gap) : Type 0 where
   OfBooks : (folder : List ℕ) → ReadsFolder asked folder → HasGap pages folder file gap → LacksPage asked pages file gap
   NoPublication : (folder : List ℕ) (books : Books) → asked ≡ Some (Check folder) → HasBooks pages folder books → page_of pages (publication_path folder) ≡ None
       → file ≡ PUBLICATION → gap ≡ NotHeld → LacksPage asked pages file gap
   LongPublication : (books : Books) (page : List ℕ) → HasPublication asked pages books page → IsTooLong page → file ≡ PUBLICATION → gap ≡ OverLimit → LacksPage asked pages file gap
+  NoFeed : (folder : List ℕ) → asked ≡ Some (Feed folder) → page_of pages (publication_path folder) ≡ None → file ≡ PUBLICATION → gap ≡ NotHeld → LacksPage asked pages file gap
+  LongFeed : (page : List ℕ) → HasFeed asked pages page → IsTooLong page → file ≡ PUBLICATION → gap ≡ OverLimit → LacksPage asked pages file gap
 
 -- the new form of a file
 abbrev pub page_of_part : FilePart → Books → List ℕ

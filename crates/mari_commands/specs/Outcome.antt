@@ -1,6 +1,7 @@
 -- What the words and the pages come to, and how it is reported.
-use Rattle.std.specs.Prelude.{ℕ, ◌≡◌, ◌≢◌, ◌==◌, if◌then◌else◌, List, Option, Some, None, Result, Ok, Err, ⊤}
+use Rattle.std.specs.Prelude.{ℕ, ◌≡◌, ◌≢◌, ◌⊎◌, ◌==◌, if◌then◌else◌, List, Option, Some, None, Result, Ok, Err, ⊤, String, string_bytes}
 use lib.Chars.{codes}
+use Rattle.std.specs.declared.alloc.Global.{Global}
 use Rattle.mari_io.specs.declared.shelf.Fetch.{Fetch}
 use Rattle.mari_io.specs.declared.shelf.Fetch.TheVariants as fetch
 use Rattle.mari_io.specs.Outside.{Pages, page_of}
@@ -14,7 +15,7 @@ use Rattle.mari_day.specs.Day.{EndsDay, TookPart, then_took}
 use Rattle.mari_day.specs.declared.day.DayEnd.{DayEnd}
 use Rattle.mari_day.specs.declared.day.DayEnd.TheVariants as end
 use Rattle.mari_day.specs.declared.files.TheConstants.{PUBLICATION}
-use Rattle.mari_day.specs.Files.{Gap, IsNamed}
+use Rattle.mari_day.specs.Files.{Gap, IsFileNumber, IsNamed}
 use Rattle.mari_day.specs.Files.Gap.{NotHeld, OverLimit}
 use Rattle.mari_day.specs.Reading.{HasBooks, HasGap, HasRefusal}
 use Rattle.mari_day.specs.declared.reading.BooksFault.{BooksFault}
@@ -23,36 +24,50 @@ use Rattle.mari_check.specs.declared.verdict.Verdict.{Verdict}
 use Rattle.mari_check.specs.declared.verdict.Verdict.TheVariants as verdict
 use Rattle.mari_check.specs.Streams.{StreamTells}
 use Rattle.mari_check.specs.declared.stream.StreamFault.TheVariants as stream
+use Rattle.mari_feed.specs.Streams.{FeedTells, IsFeedFetch}
+use Rattle.mari_feed.specs.declared.stream.FeedStop.{FeedStop}
+use Rattle.mari_feed.specs.declared.stream.FeedStop.TheVariants as stop
 use Rattle.mari_words.specs.Asked.{Asked}
-use Rattle.mari_words.specs.Asked.Asked.{Clear, Check, Generate, Migrate}
+use Rattle.mari_words.specs.Asked.Asked.{Clear, Check, Generate, Migrate, Feed}
 use Rattle.mari_market.specs.Clearing.{IsBudget, IsWorkerCount}
 use Rattle.mari_commands.specs.declared.outcome.Job.{Job}
 use Rattle.mari_commands.specs.declared.outcome.Outcome.{Outcome}
-use Rattle.mari_commands.specs.declared.outcome.Outcome.TheVariants.{NoCommand, Day, Text, Invalid, NoPage, Refused, Memory as NoMemory}
+use Rattle.mari_commands.specs.declared.outcome.Outcome.TheVariants.{NoCommand, Day, Feed as Feeds, Text, Invalid, NoPage, Refused, Memory as NoMemory}
 use Rattle.mari_commands.specs.declared.status.Status.{Status}
 use Rattle.mari_commands.specs.declared.status.Status.TheVariants as status
 use Rattle.mari_words.specs.declared.command.FilePart.{FilePart}
-use Rattle.mari_commands.specs.Commands.{AsksForFiles, AsksToCheck, ReadsFolder, already_two, page_of_part, publication_path, text_refusal}
+use Rattle.mari_commands.specs.Commands.{AsksForFeed, AsksForFiles, AsksToCheck, ReadsFolder, already_two, page_of_part, publication_path, text_refusal}
 use Rattle.mari_commands.specs.Summary.{IsGenerated}
 use Rattle.mari_commands.specs.Printing.{file_line, invalid_line, refused_line, usage_line, valid_line}
 use Rattle.mari_commands.specs.Refusals.{HasName}
 
--- the words ask for a text: for the check or for a new file of a folder, or for the summary of a generated day, which
--- it is
+-- the line of a publication that is valid
+abbrev pub IsValidLine : List ℕ → Type 0
+IsValidLine text = (published : ℕ) × (unpublished : ℕ) × (text ≡ valid_line published unpublished)
+
+-- the words ask for a text: for the check of a folder, and it is the line of a valid publication; for a new file of a
+-- folder; or for the summary of a generated day, and it is that
 abbrev pub AsksForText : Option Asked → List ℕ → Type 0
 AsksForText None text = ⊥
 AsksForText (Some (Clear folder nodes workers)) text = ⊥
-AsksForText (Some (Check folder)) text = ⊤
+AsksForText (Some (Check folder)) text = IsValidLine text
 AsksForText (Some (Migrate folder part)) text = ⊤
+AsksForText (Some (Feed folder)) text = ⊥
 AsksForText (Some (Generate number)) text = IsGenerated number text
+
+-- a file whose page may be wanted: a market file of the folder, or its publication where that is checked or printed
+-- as a feed
+abbrev pub MayWant : Option Asked → (file : ℕ) → Type 0
+MayWant asked file = IsFileNumber file ⊎ ((AsksToCheck asked ⊎ AsksForFeed asked) × (file ≡ PUBLICATION))
 
 -- the words ask for what may come to this outcome, whatever the pages are
 abbrev pub IsOfWords : Option Asked → Outcome → Type 0
 IsOfWords asked NoCommand = asked ≡ None
 IsOfWords asked (Day job) = (folder : List ℕ) × (asked ≡ Some (Clear folder job.nodes job.workers))
+IsOfWords asked (Feeds folder) = asked ≡ Some (Feed (string_bytes folder))
 IsOfWords asked (Text text) = AsksForText asked text.items
 IsOfWords asked (Invalid run number) = AsksToCheck asked
-IsOfWords asked (NoPage file why) = AsksForFiles asked
+IsOfWords asked (NoPage file why) = AsksForFiles asked × MayWant asked file
 IsOfWords asked (Refused refusal) = AsksForFiles asked
 IsOfWords asked NoMemory = ⊤
 
@@ -60,6 +75,11 @@ IsOfWords asked NoMemory = ⊤
 abbrev pub IsNoPage : Fetch → Outcome → Type 0
 IsNoPage why (NoPage file w) = w ≡ why
 IsNoPage why _ = ⊥
+
+-- whoever reports the outcome still asks the shelf for a page
+abbrev pub IsOwn : Outcome → Type 0
+IsOwn (Feeds folder) = ⊤
+IsOwn _ = ⊥
 
 -- a job that can be done: its books are a folder's, and its numbers are within their limits
 pub record IsReady (job : Job) : Type 0 where
@@ -94,6 +114,10 @@ pub record ReportsDay (job : Job) (before after : Option (List ℕ)) (result : S
   pub ends : EndsDay job.books job.nodes before after ended
   pub status : result ≡ day_status ended
 
+-- how a refusal is reported
+abbrev pub ReportsRefusal : Refusal → (before after : Option (List ℕ)) → Status → Type 0
+ReportsRefusal refusal before after result = Reports (refused_line refusal) (status.Refused refusal) before after result
+
 -- how a page that can't be had is reported
 abbrev pub ReportsNoPage : ℕ → Fetch → (before after : Option (List ℕ)) → Status → Type 0
 ReportsNoPage file fetch.Failed before after result = Reports (file_line (codes "readfault") file) status.ReadFault before after result
@@ -101,15 +125,40 @@ ReportsNoPage file fetch.Missing before after result = Reports (file_line (codes
 ReportsNoPage file fetch.TooLong before after result = Reports (file_line (codes "toolong") file) status.TooLong before after result
 ReportsNoPage file fetch.Memory before after result = (result ≡ status.Memory) × (after ≡ before)
 
+-- how a publication is reported whose text has a fault
+abbrev pub ReportsText : TextFault → (before after : Option (List ℕ)) → Status → Type 0
+ReportsText (text_fault.BadLine n) before after result = ReportsRefusal (text_refusal (text_fault.BadLine n)) before after result
+ReportsText (text_fault.BadOrder n) before after result = ReportsRefusal (text_refusal (text_fault.BadOrder n)) before after result
+ReportsText (text_fault.Truncated n) before after result = ReportsRefusal (text_refusal (text_fault.Truncated n)) before after result
+ReportsText text_fault.Memory before after result = (result ≡ status.Memory) × (after ≡ before)
+
+-- how the printing of a feed is reported by how it ended: nothing more is printed; or the line of its status is
+abbrev pub ReportsFeed : {T : Type 0} → Result T FeedStop → (before after : Option (List ℕ)) → Status → Type 0
+ReportsFeed (Ok done) before after result = (result ≡ status.Done) × (after ≡ before)
+ReportsFeed (Err (stop.Fetch why)) before after result = ReportsNoPage PUBLICATION why before after result
+ReportsFeed (Err (stop.Text fault)) before after result = ReportsText fault before after result
+ReportsFeed (Err stop.Sink) before after result = (result ≡ status.WriteFault) × (after ≡ before)
+ReportsFeed (Err stop.Memory) before after result = (result ≡ status.Memory) × (after ≡ before)
+
+-- how the feed of a folder is reported: lines of the publication's parts are printed, as its printing ended, and then
+-- the line of the status; that a call of the shelf failed is told only where one did
+pub record ReportsParts (pages : Option Pages) (failed : Type 0) (folder : List ℕ) (before after : Option (List ℕ)) (result : Status) : Type 0 where
+  pub between : Option (List ℕ)
+  pub end : Result (Unit {0}) FeedStop
+  pub cause : IsFeedFetch fetch.Failed end → failed
+  pub tells : (told : Pages) → pages ≡ Some told → FeedTells (page_of told (publication_path folder)) before between end
+  pub reports : ReportsFeed end between after result
+
 -- how an outcome is reported
-abbrev pub Reported : Outcome → (before after : Option (List ℕ)) → Status → Type 0
-Reported NoCommand before after result = Reports usage_line status.Usage before after result
-Reported (Day job) before after result = ReportsDay job before after result
-Reported (Text text) before after result = Reports text.items status.Done before after result
-Reported (Invalid run fault) before after result = Reports (invalid_line run fault) (status.Invalid run fault) before after result
-Reported (NoPage file why) before after result = ReportsNoPage file why before after result
-Reported (Refused refusal) before after result = Reports (refused_line refusal) (status.Refused refusal) before after result
-Reported NoMemory before after result = (result ≡ status.Memory) × (after ≡ before)
+abbrev pub Reported : Option Pages → (failed : Type 0) → Outcome → (before after : Option (List ℕ)) → Status → Type 0
+Reported pages failed NoCommand before after result = Reports usage_line status.Usage before after result
+Reported pages failed (Day job) before after result = ReportsDay job before after result
+Reported pages failed (Feeds folder) before after result = ReportsParts pages failed (string_bytes folder) before after result
+Reported pages failed (Text text) before after result = Reports text.items status.Done before after result
+Reported pages failed (Invalid run fault) before after result = Reports (invalid_line run fault) (status.Invalid run fault) before after result
+Reported pages failed (NoPage file why) before after result = ReportsNoPage file why before after result
+Reported pages failed (Refused refusal) before after result = ReportsRefusal refusal before after result
+Reported pages failed NoMemory before after result = (result ≡ status.Memory) × (after ≡ before)
 
 -- the fetch of some file gave this answer, and there are no books
 abbrev pub IsNoBooks : Fetch → Result Books Outcome → Type 0
@@ -135,6 +184,13 @@ IsSummarised number (Text text) = IsGenerated number text.items
 IsSummarised number NoMemory = ⊤
 IsSummarised number _ = ⊥
 
+-- the refusal of a publication whose text has a fault; none where there was no memory to read it
+abbrev pub refusal_of : TextFault → Option Refusal
+refusal_of (text_fault.BadLine n) = Some (text_refusal (text_fault.BadLine n))
+refusal_of (text_fault.BadOrder n) = Some (text_refusal (text_fault.BadOrder n))
+refusal_of (text_fault.Truncated n) = Some (text_refusal (text_fault.Truncated n))
+refusal_of text_fault.Memory = None
+
 -- what comes of a publication whose text has a fault
 abbrev pub text_outcome : TextFault → Outcome
 text_outcome (text_fault.BadLine n) = Refused (text_refusal (text_fault.BadLine n))
@@ -153,6 +209,7 @@ IsToldVerdict _ _ = ⊥
 abbrev pub CheckTells : Books → Option (List ℕ) → Outcome → Type 0
 CheckTells books page NoCommand = ⊥
 CheckTells books page (Day job) = ⊥
+CheckTells books page (Feeds folder) = ⊥
 CheckTells books page (Text text) =
     (published : ℕ) × (unpublished : ℕ) × StreamTells books page (Ok (verdict.Valid published unpublished))
     × (text.items ≡ valid_line published unpublished)
@@ -169,7 +226,7 @@ fetch_of OverLimit = fetch.TooLong
 
 -- what an outcome says of what the words ask for and of the pages: the words are no command; a folder's market files
 -- are refused, or a page of them can't be had; or they give books, which are cleared, checked or migrated; a day is
--- generated; or a fetch failed, or there was no memory
+-- generated; a publication is printed as a feed; or a fetch failed, or there was no memory
 pub data Says (asked : Option Asked) (pages : Pages) (o : Outcome) : Type 0 where
   OfUsage : asked ≡ None → o ≡ NoCommand → Says asked pages o
   OfRefusal : (folder : List ℕ) (refusal : Refusal) → ReadsFolder asked folder → HasRefusal pages folder refusal → o ≡ Refused refusal → Says asked pages o
@@ -178,6 +235,7 @@ pub data Says (asked : Option Asked) (pages : Pages) (o : Outcome) : Type 0 wher
   OfCheck : (folder : List ℕ) (books : Books) → asked ≡ Some (Check folder) → HasBooks pages folder books → CheckTells books (page_of pages (publication_path folder)) o → Says asked pages o
   OfMigrate : (folder : List ℕ) (part : FilePart) (books : Books) → asked ≡ Some (Migrate folder part) → HasBooks pages folder books → IsMigrated books part o → Says asked pages o
   OfGenerate : (number : ℕ) → asked ≡ Some (Generate number) → IsSummarised number o → Says asked pages o
+  OfFeed : (folder : String Global) → asked ≡ Some (Feed (string_bytes folder)) → o ≡ Feeds folder → Says asked pages o
   Fails : (folder : List ℕ) (file : ℕ) → ReadsFolder asked folder → o ≡ NoPage file fetch.Failed → Says asked pages o
   Starves : o ≡ NoMemory → Says asked pages o
 

@@ -2,75 +2,129 @@
 use Rattle.std.specs.Prelude.{ℕ, ◌≡◌, ◌⊎◌, true, false, List, Option, Some, None}
 use lib.Chars.{codes}
 use Rattle.mari_units.specs.declared.faults.Refusal.{Refusal}
-use Rattle.mari_io.specs.Outside.{Pages}
-use Rattle.mari_day.specs.Day.{TookPart, WrotePart, WrotePrefix, then_took}
+use Rattle.mari_io.specs.Outside.{Pages, page_of}
+use Rattle.mari_io.specs.Taken.{TookPart, then_took}
+use Rattle.mari_day.specs.Day.{WrotePart, WrotePrefix}
 use Rattle.mari_day.specs.Files.{Gap}
 use Rattle.mari_day.specs.Files.Gap.{NotHeld, OverLimit}
+use Rattle.mari_day.specs.declared.files.TheConstants.{PUBLICATION}
 use Rattle.mari_remain.specs.declared.books.Books.{Books}
 use Rattle.mari_words.specs.Asked.{Asked}
-use Rattle.mari_words.specs.Asked.Asked.{Generate}
+use Rattle.mari_feed.specs.Streams.{TookAll, TookFeed, TookFirst, TookSome}
+use Rattle.mari_words.specs.Asked.Asked.{Check, Generate, Feed}
 use Rattle.mari_commands.specs.declared.status.Status.{Status}
 use Rattle.mari_commands.specs.declared.status.Status.TheVariants.{Done, Unpublished, Usage, Refused, ReadFault, WriteFault, Memory, Invalid, Missing, TooLong}
-use Rattle.mari_commands.specs.Commands.{AreCleared, AsksForFiles, AsksToCheck, AsksToClear, IsInvalid, IsRefused, LacksPage, Prints, ReadsFolder}
+use Rattle.mari_commands.specs.Commands.{AreCleared, AsksForFeed, AsksForPages, AsksToCheck, AsksToClear, HasFeed, IsFeedable, IsInvalid, IsRefused, LacksPage, Prints, ReadsFolder, publication_path}
 use Rattle.mari_commands.specs.Headline.{WroteDay}
+use Rattle.mari_commands.specs.Outcome.{IsValidLine, MayWant}
 use Rattle.mari_commands.specs.Summary.{IsGenerated}
 use Rattle.mari_commands.specs.Printing.{file_line, invalid_line, refused_line, usage_line}
 use Rattle.mari_commands.specs.Refusals.{HasName}
-
--- all was done: a day is written whose runs are all published, or a text that is printed where all is well
-pub data IsDone (asked : Option Asked) (pages : Pages) (before after : Option (List ℕ)) : Type 0 where
-  Cleared : WroteDay asked pages true before after → IsDone asked pages before after
-  Printed : (text : List ℕ) → Prints asked pages text → after ≡ then_took before text → IsDone asked pages before after
-
--- a text that may be printed where no day is, by what it tells; that a fetch failed is told only where one did
-pub data IsLine (asked : Option Asked) (pages : Pages) (failed : Type 0) (text : List ℕ) : Type 0 where
-  OfUsage : asked ≡ None → text ≡ usage_line → IsLine asked pages failed text
-  OfRefusal : (refusal : Refusal) → IsRefused asked pages refusal → text ≡ refused_line refusal → IsLine asked pages failed text
-  OfFault : failed → (folder : List ℕ) (file : ℕ) → ReadsFolder asked folder → text ≡ file_line (codes "readfault") file → IsLine asked pages failed text
-  OfMissing : (file : ℕ) → LacksPage asked pages file NotHeld → text ≡ file_line (codes "missing") file → IsLine asked pages failed text
-  OfTooLong : (file : ℕ) → LacksPage asked pages file OverLimit → text ≡ file_line (codes "toolong") file → IsLine asked pages failed text
-  OfInvalid : (run fault : ℕ) → IsInvalid asked pages run fault → text ≡ invalid_line run fault → IsLine asked pages failed text
-  OfText : Prints asked pages text → IsLine asked pages failed text
-
--- a write failed: a first part was taken of the text of a day part or of a day, or of another text that may be printed
-pub data IsCutOff (asked : Option Asked) (pages : Pages) (failed : Type 0) (before after : Option (List ℕ)) : Type 0 where
-  Day : (books : Books) (nodes : ℕ) → AreCleared asked pages books nodes → WrotePrefix books nodes before after → IsCutOff asked pages failed before after
-  Line : (text : List ℕ) → IsLine asked pages failed text → TookPart before after text → IsCutOff asked pages failed before after
-
--- there was no memory: nothing was taken, or the head and whole blocks of a day part
-pub data IsStarved (asked : Option Asked) (pages : Pages) (before after : Option (List ℕ)) : Type 0 where
-  Nothing : after ≡ before → IsStarved asked pages before after
-  Part : (books : Books) (nodes : ℕ) → AreCleared asked pages books nodes → WrotePart books nodes before after → IsStarved asked pages before after
-
--- a page can't be had, and the line of its file is taken
-pub record TookGapLine (asked : Option Asked) (pages : Option Pages) (gap : Gap) (word : List ℕ) (before after : Option (List ℕ)) : Type 0 where
-  pub file : ℕ
-  pub first : (told : Pages) → pages ≡ Some told → LacksPage asked told file gap
-  pub line : after ≡ then_took before (file_line word file)
 
 -- where the pages are told, this is so of them
 abbrev pub WhereTold : Option Pages → (Pages → Type 0) → Type 0
 WhereTold pages IsSo = (told : Pages) → pages ≡ Some told → IsSo told
 
+-- the word of a page that can't be had
+abbrev pub gap_word : Gap → List ℕ
+gap_word NotHeld = codes "missing"
+gap_word OverLimit = codes "toolong"
+
+-- ---- what is printed before the line of a status
+
+-- lines of the parts of a page were taken, as is said; or nothing was, where it isn't held
+abbrev pub TookOf : (List ℕ → Option (List ℕ) → Option (List ℕ) → Type 0) → Option (List ℕ) → (before after : Option (List ℕ)) → Type 0
+TookOf Took None before after = after ≡ before
+TookOf Took (Some page) before after = Took page before after
+
+-- what is printed before: nothing, where the words ask for no feed, and else lines of the publication's parts
+pub data TookAhead (asked : Option Asked) (pages : Option Pages) (Took : List ℕ → Option (List ℕ) → Option (List ℕ) → Type 0) (before after : Option (List ℕ)) : Type 0 where
+  Nothing : (AsksForFeed asked → ⊥) → after ≡ before → TookAhead asked pages Took before after
+  Lines : (folder : List ℕ) → asked ≡ Some (Feed folder) → WhereTold pages (λ told. TookOf Took (page_of told (publication_path folder)) before after) → TookAhead asked pages Took before after
+
+-- and then this line was taken, or a first part of it
+pub record TookLine (asked : Option Asked) (pages : Option Pages) (Took : List ℕ → Option (List ℕ) → Option (List ℕ) → Type 0) (line : List ℕ) (before after : Option (List ℕ)) : Type 0 where
+  pub between : Option (List ℕ)
+  pub ahead : TookAhead asked pages Took before between
+  pub took : after ≡ then_took between line
+
+pub record BeganLine (asked : Option Asked) (pages : Pages) (Took : List ℕ → Option (List ℕ) → Option (List ℕ) → Type 0) (line : List ℕ) (before after : Option (List ℕ)) : Type 0 where
+  pub between : Option (List ℕ)
+  pub ahead : TookAhead asked (Some pages) Took before between
+  pub began : TookPart between after line
+
+-- ---- what is printed
+
+-- all was done: a day is written whose runs are all published, or the feed of a publication, or a text that is printed
+-- where all is well
+pub data IsDone (asked : Option Asked) (pages : Pages) (before after : Option (List ℕ)) : Type 0 where
+  Cleared : WroteDay asked pages true before after → IsDone asked pages before after
+  Fed : (is : IsFeedable asked pages) → TookFeed is.page before after → IsDone asked pages before after
+  Printed : (text : List ℕ) → Prints asked pages text → after ≡ then_took before text → IsDone asked pages before after
+
+-- a text that may be printed where no day or feed is, by what it tells; that a fetch failed is told only where one did
+pub data IsLine (asked : Option Asked) (pages : Pages) (failed : Type 0) (text : List ℕ) : Type 0 where
+  OfUsage : asked ≡ None → text ≡ usage_line → IsLine asked pages failed text
+  OfRefusal : (refusal : Refusal) → IsRefused asked pages refusal → text ≡ refused_line refusal → IsLine asked pages failed text
+  OfFault : failed → (folder : List ℕ) (file : ℕ) → ReadsFolder asked folder → MayWant asked file → text ≡ file_line (codes "readfault") file → IsLine asked pages failed text
+  OfMissing : (file : ℕ) → LacksPage asked pages file NotHeld → text ≡ file_line (codes "missing") file → IsLine asked pages failed text
+  OfTooLong : (file : ℕ) → LacksPage asked pages file OverLimit → text ≡ file_line (codes "toolong") file → IsLine asked pages failed text
+  OfInvalid : (run fault : ℕ) → IsInvalid asked pages run fault → text ≡ invalid_line run fault → IsLine asked pages failed text
+  OfText : Prints asked pages text → IsLine asked pages failed text
+
+-- a write failed: a first part was taken of the text of a day part or of a day, or of another text that may be printed;
+-- or of the lines of a publication's first parts, or of these and the line of a status
+pub data IsCutOff (asked : Option Asked) (pages : Pages) (failed : Type 0) (before after : Option (List ℕ)) : Type 0 where
+  Day : (books : Books) (nodes : ℕ) → AreCleared asked pages books nodes → WrotePrefix books nodes before after → IsCutOff asked pages failed before after
+  Line : (AsksForFeed asked → ⊥) → (text : List ℕ) → IsLine asked pages failed text → TookPart before after text → IsCutOff asked pages failed before after
+  FeedPart : (page : List ℕ) → HasFeed asked pages page → TookSome page before after → IsCutOff asked pages failed before after
+  FeedRefused : (refusal : Refusal) → IsRefused asked pages refusal → BeganLine asked pages TookAll (refused_line refusal) before after → IsCutOff asked pages failed before after
+  FeedFault : failed → BeganLine asked pages TookFirst (file_line (codes "readfault") PUBLICATION) before after → IsCutOff asked pages failed before after
+  FeedGap : (gap : Gap) → LacksPage asked pages PUBLICATION gap → BeganLine asked pages TookFirst (file_line (gap_word gap) PUBLICATION) before after → IsCutOff asked pages failed before after
+
+-- there was no memory: nothing was taken, or the head and whole blocks of a day part, or the lines of the first parts of
+-- a publication
+pub data IsStarved (asked : Option Asked) (pages : Pages) (before after : Option (List ℕ)) : Type 0 where
+  Nothing : after ≡ before → IsStarved asked pages before after
+  Part : (books : Books) (nodes : ℕ) → AreCleared asked pages books nodes → WrotePart books nodes before after → IsStarved asked pages before after
+  FeedPart : (page : List ℕ) → HasFeed asked pages page → TookFirst page before after → IsStarved asked pages before after
+
+-- a page can't be had, and the line of its file is taken
+pub record TookGapLine (asked : Option Asked) (pages : Option Pages) (gap : Gap) (before after : Option (List ℕ)) : Type 0 where
+  pub file : ℕ
+  pub wanted : MayWant asked file
+  pub first : (told : Pages) → pages ≡ Some told → LacksPage asked told file gap
+  pub line : TookLine asked pages TookFirst (file_line (gap_word gap) file) before after
+
 -- where a day is generated, its summary was taken
 abbrev pub TookSummary : Option Asked → (before after : Option (List ℕ)) → Type 0
 TookSummary asked before after = (number : ℕ) → asked ≡ Some (Generate number) → (text : List ℕ) × IsGenerated number text × (after ≡ then_took before text)
 
+-- where a publication is checked, the line of a valid one was taken
+abbrev pub TookVerdict : Option Asked → (before after : Option (List ℕ)) → Type 0
+TookVerdict asked before after = (folder : List ℕ) → asked ≡ Some (Check folder) → (text : List ℕ) × IsValidLine text × (after ≡ then_took before text)
+
+-- whatever the pages are, a first part was taken of what such words print: of the usage line, or of the summary of a
+-- generated day
+pub record TookFirstPart (asked : Option Asked) (before after : Option (List ℕ)) : Type 0 where
+  pub usage : asked ≡ None → TookPart before after usage_line
+  pub summary : (number : ℕ) → asked ≡ Some (Generate number) → (text : List ℕ) × IsGenerated number text × TookPart before after text
+
 -- what each answer says of what the words ask for, of the pages where they are told, of a fetch that failed, and of
 -- what the sink has taken; a refusal is printed with the name of its check, and has one
 abbrev pub Answers : Option Asked → Option Pages → (failed : Type 0) → (before after : Option (List ℕ)) → Status → Type 0
-Answers asked pages failed before after Done = WhereTold pages (λ told. IsDone asked told before after) × TookSummary asked before after
+Answers asked pages failed before after Done = WhereTold pages (λ told. IsDone asked told before after) × TookSummary asked before after × TookVerdict asked before after
 Answers asked pages failed before after Unpublished = AsksToClear asked × WhereTold pages (λ told. WroteDay asked told false before after)
 Answers asked pages failed before after Usage = (asked ≡ None) × (after ≡ then_took before usage_line)
 Answers asked pages failed before after (Refused refusal) =
-    AsksForFiles asked × WhereTold pages (λ told. IsRefused asked told refusal) × (after ≡ then_took before (refused_line refusal)) × HasName refusal
-Answers asked pages failed before after ReadFault = AsksForFiles asked × ((file : ℕ) × (after ≡ then_took before (file_line (codes "readfault") file)))
-Answers asked pages failed before after WriteFault = WhereTold pages (λ told. IsCutOff asked told failed before after)
-Answers asked pages failed before after Memory = WhereTold pages (λ told. IsStarved asked told before after) × ((after ≡ before) ⊎ AsksToClear asked)
+    AsksForPages asked × WhereTold pages (λ told. IsRefused asked told refusal) × TookLine asked pages TookAll (refused_line refusal) before after × HasName refusal
+Answers asked pages failed before after ReadFault = AsksForPages asked × ((file : ℕ) × MayWant asked file × TookLine asked pages TookFirst (file_line (codes "readfault") file) before after)
+Answers asked pages failed before after WriteFault = WhereTold pages (λ told. IsCutOff asked told failed before after) × TookFirstPart asked before after
+Answers asked pages failed before after Memory = WhereTold pages (λ told. IsStarved asked told before after) × ((after ≡ before) ⊎ (AsksToClear asked ⊎ AsksForFeed asked))
 Answers asked pages failed before after (Invalid run fault) =
     AsksToCheck asked × WhereTold pages (λ told. IsInvalid asked told run fault) × (after ≡ then_took before (invalid_line run fault))
-Answers asked pages failed before after Missing = AsksForFiles asked × TookGapLine asked pages NotHeld (codes "missing") before after
-Answers asked pages failed before after TooLong = AsksForFiles asked × TookGapLine asked pages OverLimit (codes "toolong") before after
+Answers asked pages failed before after Missing = AsksForPages asked × TookGapLine asked pages NotHeld before after
+Answers asked pages failed before after TooLong = AsksForPages asked × TookGapLine asked pages OverLimit before after
 
 -- the status of a page that can't be had
 abbrev pub gap_status : Gap → Status

@@ -7,7 +7,7 @@ ghost use Rattle.mari_remain.specs.Accepted.{IsAccepted};
 ghost use Rattle.mari_words.specs.Asked.Asked.{Check};
 ghost use Rattle.mari_commands.specs.Checks.{text_check_number};
 ghost use Rattle.mari_commands.specs.Commands.{publication_path as path_of, text_refusal_at};
-ghost use Rattle.mari_commands.specs.Outcome.{CheckTells, IsNoPage, IsOfWords, IsReportable, IsToldVerdict, Says, text_outcome as outcome_of_text};
+ghost use Rattle.mari_commands.specs.Outcome.{CheckTells, IsNoPage, IsOfWords, IsReportable, IsToldVerdict, Says, refusal_of, text_outcome as outcome_of_text};
 
 use crate::books::books_in;
 use crate::checks::TextCheck;
@@ -23,25 +23,35 @@ use mari_units::{Memory, Refusal};
 use std::alloc::Global;
 
 /// The refusal of the publication's text at a line, by a check.
-fn refused_text(line: u32, check: TextCheck) -> Outcome
-    ensures { result ≡ Outcome.Refused (text_refusal_at line (text_check_number check)) }
+fn refused_text(line: u32, check: TextCheck) -> Refusal
+    ensures { result ≡ text_refusal_at line (text_check_number check) }
 {
-    Outcome::Refused(Refusal {
+    Refusal {
         file: PUBLICATION,
         line,
         number: check.entry().0,
-    })
+    }
+}
+
+/// The refusal of a publication whose text has a fault; none where there was no memory to read it.
+pub fn text_refusal(fault: TextFault) -> Option<Refusal>
+    ensures { result ≡ refusal_of fault }
+{
+    match fault {
+        TextFault::BadLine(line) => Some(refused_text(line, TextCheck::BadLine)),
+        TextFault::BadOrder(line) => Some(refused_text(line, TextCheck::BadOrder)),
+        TextFault::Truncated(line) => Some(refused_text(line, TextCheck::Truncated)),
+        TextFault::Memory => None,
+    }
 }
 
 /// What comes of a publication whose text has a fault.
 fn text_outcome(fault: TextFault) -> Outcome
     ensures { result ≡ outcome_of_text fault }
 {
-    match fault {
-        TextFault::BadLine(line) => refused_text(line, TextCheck::BadLine),
-        TextFault::BadOrder(line) => refused_text(line, TextCheck::BadOrder),
-        TextFault::Truncated(line) => refused_text(line, TextCheck::Truncated),
-        TextFault::Memory => Outcome::Memory,
+    match text_refusal(fault) {
+        Some(refusal) => Outcome::Refused(refusal),
+        None => Outcome::Memory,
     }
 }
 

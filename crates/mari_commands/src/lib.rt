@@ -1,5 +1,5 @@
 //! The commands of the program: `mari clear FOLDER [--nodes N] [--workers K]`, `mari check FOLDER`,
-//! `mari generate NUMBER`, `mari migrate FOLDER borders` and `mari migrate FOLDER limits`.
+//! `mari generate NUMBER`, `mari migrate FOLDER borders`, `mari migrate FOLDER limits` and `mari feed FOLDER`.
 //!
 //! `run_program` is all of them over any shelf and sink: words, the books of a folder, the text of their day, its check,
 //! and bytes. Its contract carries the headline (`specs/Headline.antt`). It stands on all the crates of the program.
@@ -9,6 +9,7 @@ mod books;
 mod checking;
 mod checks;
 mod clearing;
+mod feeding;
 mod generating;
 mod migrating;
 mod outcome;

@@ -8,9 +8,9 @@ ghost use Rattle.mari_publish.specs.declared.fault.TextFault.{TextFault};
 ghost use Rattle.mari_day.specs.Files.{Gap};
 ghost use Rattle.mari_words.specs.Asked.Asked.{Generate};
 ghost use Rattle.mari_words.specs.Words.{command_at};
-ghost use Rattle.mari_commands.specs.Commands.{IsClearable, IsMigratable, IsReadable, LacksPage, RefusesFiles, RefusesText, text_refusal};
+ghost use Rattle.mari_commands.specs.Commands.{AsksForFiles, AsksForPages, IsClearable, IsFeedable, IsMigratable, IsReadable, LacksPage, RefusesFeed, RefusesFiles, RefusesText, text_refusal};
 ghost use Rattle.mari_commands.specs.Headline.{HasBudget};
-ghost use Rattle.mari_commands.specs.Outcome.{IsNoPage, IsOfWords, IsReportable, IsSummarised, Reported, Says};
+ghost use Rattle.mari_commands.specs.Outcome.{IsNoPage, IsOfWords, IsOwn, IsReportable, IsSummarised, Reported, Says};
 ghost use Rattle.mari_commands.specs.Program.{Answers, IsDayStatus, IsStatus, IsVerdictStatus, OrFault, gap_status};
 
 use crate::checking::checked;
@@ -39,6 +39,9 @@ fn outcome_of<S: Shelf, G: Turnstile, R: Threads + Wait + Sync>(
     ensures same { S.pages shelf.new ≡ S.pages shelf.old }
     ensures told { (told : Pages) → S.pages shelf.old ≡ Some told → Says (command_at (map string_bytes words.now)) told result }
 
+    // Where the words read no folder, nothing is fetched.
+    ensures untouched { (AsksForFiles (command_at (map string_bytes words.now)) → ⊥) → S.fetches shelf.new ≡ S.fetches shelf.old }
+
     // What comes of the words on any shelf.
     ensures words { IsOfWords (command_at (map string_bytes words.now)) result }
     ensures generated { (number : ℕ) → command_at (map string_bytes words.now) ≡ Some (Generate number) → IsSummarised number result }
@@ -60,6 +63,7 @@ fn outcome_of<S: Shelf, G: Turnstile, R: Threads + Wait + Sync>(
         Ok(Command::Check { folder }) => checked(alloc, shelf, &folder),
         Ok(Command::Generate { number }) => generated(rt, alloc, number, turnstile),
         Ok(Command::Migrate { folder, part }) => migrated(alloc, shelf, &folder, part),
+        Ok(Command::Feed { folder }) => Outcome::Feed(folder),
         Err(WordsFault::Usage) => Outcome::NoCommand,
         Err(WordsFault::Memory) => Outcome::Memory,
     }
@@ -67,24 +71,32 @@ fn outcome_of<S: Shelf, G: Turnstile, R: Threads + Wait + Sync>(
 
 /// Writes what is printed of an outcome, and answers its status. It waits for workers only where a day is cleared by
 /// several.
-fn finish<K: Sink, G: Turnstile, R: Threads + Wait + Sync>(
+fn finish<S: Shelf, K: Sink, G: Turnstile, R: Threads + Wait + Sync>(
     rt: &R,
     alloc: Global,
     outcome: &Outcome,
+    shelf: &mut S,
     sink: &mut K,
     turnstile: &G,
 ) -> Status
     requires { IsReportable outcome.now }
-    ensures reported { Reported outcome.now (K.taken sink.old) (K.taken sink.new) result }
+    ensures same { S.pages shelf.new ≡ S.pages shelf.old }
+    ensures untouched { (IsOwn outcome.now → ⊥) → S.fetches shelf.new ≡ S.fetches shelf.old }
+    ensures reported { Reported (S.pages shelf.old) (Rose (S.faults shelf.old) (S.faults shelf.new)) outcome.now (K.taken sink.old) (K.taken sink.new) result }
+
+    // Why a page wasn't had, or a text not written.
+    ensures read_fault { Counts (IsOwn outcome.now × (result ≡ Status.ReadFault)) (S.faults shelf.old) (S.faults shelf.new) }
+    ensures missing { Counts (IsOwn outcome.now × (result ≡ Status.Missing)) (S.misses shelf.old) (S.misses shelf.new) }
+    ensures too_long { Counts (IsOwn outcome.now × (result ≡ Status.TooLong)) (S.overs shelf.old) (S.overs shelf.new) }
     ensures cause { Counts (result ≡ Status.WriteFault) (K.faults sink.old) (K.faults sink.new) }
 {
     match outcome {
         Outcome::Day(job) if job.workers > 1 => clear_together(rt, alloc, job, sink, turnstile),
-        other => report(alloc, sink, other),
+        other => report(alloc, shelf, sink, other),
     }
 }
 
-/// Does all that the program does, by the words behind its name:
+/// Does all that the program does, by the words after its name:
 ///
 /// - `clear FOLDER [--nodes N] [--workers K]` clears the runs of the folder's day and prints the day as it is made. A
 ///   run's search makes at most N nodes, 1 to `MOST_NODES`, or `USUAL_NODES` where the words don't say; K workers
@@ -93,10 +105,11 @@ fn finish<K: Sink, G: Turnstile, R: Threads + Wait + Sync>(
 /// - `generate NUMBER` clears a generated day and prints its summary.
 /// - `migrate FOLDER borders` and `migrate FOLDER limits` print these files in the form that states limits for each
 ///   run.
+/// - `feed FOLDER` prints the folder's publication.txt, of which alone it reads, as JSON: a line for each part.
 ///
 /// The market files of a folder are fetched in their order and then read in that order. Two or more workers take their
-/// findings from the turnstile, and the call may then wait for them. On `check`, on `migrate`, and on `clear` with one
-/// worker it uses only calls that return.
+/// findings from the turnstile, and the call may then wait for them. On `check`, on `migrate`, on `feed`, and on `clear`
+/// with one worker it uses only calls that return.
 pub fn run_program<S: Shelf, K: Sink, G: Turnstile, R: Threads + Wait + Sync>(
     rt: &R,
     alloc: Global,
@@ -109,6 +122,9 @@ pub fn run_program<S: Shelf, K: Sink, G: Turnstile, R: Threads + Wait + Sync>(
     ensures answers { Answers (command_at (map string_bytes words.now)) (S.pages shelf.old) (Rose (S.faults shelf.old) (S.faults shelf.new)) (K.taken sink.old) (K.taken sink.new) result }
     ensures same { S.pages shelf.new ≡ S.pages shelf.old }
 
+    // Where the words read no page, nothing is fetched.
+    ensures untouched { (AsksForPages (command_at (map string_bytes words.now)) → ⊥) → S.fetches shelf.new ≡ S.fetches shelf.old }
+
     // Why a page wasn't had, or a text not written.
     ensures read_fault { Counts (result ≡ Status.ReadFault) (S.faults shelf.old) (S.faults shelf.new) }
     ensures missing { Counts (result ≡ Status.Missing) (S.misses shelf.old) (S.misses shelf.new) }
@@ -116,24 +132,27 @@ pub fn run_program<S: Shelf, K: Sink, G: Turnstile, R: Threads + Wait + Sync>(
     ensures write_fault { Counts (result ≡ Status.WriteFault) (K.faults sink.old) (K.faults sink.new) }
 
     // Words that are no command are answered so, the first refusal of the market files, the fault that is told of the
-    // publication's text, and the first page that isn't held or is too long.
+    // text of a publication that is checked or printed as a feed, and the first page that isn't held or is too long.
     ensures no_command { command_at (map string_bytes words.now) ≡ None → (result ≡ Status.Usage) ⊎ ((result ≡ Status.WriteFault) ⊎ (result ≡ Status.Memory)) }
     ensures refuses { (told : Pages) (refusal : Refusal) → S.pages shelf.old ≡ Some told → RefusesFiles (command_at (map string_bytes words.now)) told refusal
         → OrFault (IsStatus (Status.Refused refusal)) result }
     ensures refuses_text { (told : Pages) (page : List ℕ) (fault : TextFault) → S.pages shelf.old ≡ Some told → RefusesText (command_at (map string_bytes words.now)) told page fault
         → OrFault (IsStatus (Status.Refused (text_refusal fault))) result }
+    ensures refuses_feed { (told : Pages) (page : List ℕ) (fault : TextFault) → S.pages shelf.old ≡ Some told → RefusesFeed (command_at (map string_bytes words.now)) told page fault
+        → OrFault (IsStatus (Status.Refused (text_refusal fault))) result }
     ensures gaps { (told : Pages) (file : ℕ) (gap : Gap) → S.pages shelf.old ≡ Some told → LacksPage (command_at (map string_bytes words.now)) told file gap
         → OrFault (IsStatus (gap_status gap)) result }
 
     // Folders whose pages are accepted are cleared, and wholly where the budget holds each run's search tree; a
-    // publication that is read is checked; files that state their limits for the day are migrated; and days are
-    // generated.
+    // publication that is read is checked, or printed as a feed; files that state their limits for the day are migrated;
+    // and days are generated.
     ensures cleared { (told : Pages) → S.pages shelf.old ≡ Some told → IsClearable (command_at (map string_bytes words.now)) told → OrFault IsDayStatus result }
     ensures complete { (told : Pages) → S.pages shelf.old ≡ Some told → HasBudget (command_at (map string_bytes words.now)) told → OrFault (IsStatus Status.Done) result }
     ensures checked { (told : Pages) → S.pages shelf.old ≡ Some told → IsReadable (command_at (map string_bytes words.now)) told → OrFault IsVerdictStatus result }
+    ensures fed { (told : Pages) → S.pages shelf.old ≡ Some told → IsFeedable (command_at (map string_bytes words.now)) told → OrFault (IsStatus Status.Done) result }
     ensures migrated { (told : Pages) → S.pages shelf.old ≡ Some told → IsMigratable (command_at (map string_bytes words.now)) told → OrFault (IsStatus Status.Done) result }
     ensures generated { (number : ℕ) → command_at (map string_bytes words.now) ≡ Some (Generate number) → (result ≡ Status.Done) ⊎ ((result ≡ Status.WriteFault) ⊎ (result ≡ Status.Memory)) }
 {
     let outcome = outcome_of(rt, alloc, words, shelf, turnstile);
-    finish(rt, alloc, &outcome, sink, turnstile)
+    finish(rt, alloc, &outcome, shelf, sink, turnstile)
 }

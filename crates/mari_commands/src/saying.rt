@@ -1,18 +1,18 @@
 //! What is printed of an outcome, and the status that it ends with.
 
 ghost use Rattle.std.specs.Prelude.{◌≡◌, ◌≢◌};
-ghost use Rattle.mari_io.specs.Outside.{Counts};
+ghost use Rattle.mari_io.specs.Outside.{Counts, Rose};
 ghost use Rattle.mari_day.specs.Files.{IsNamed};
-ghost use Rattle.mari_commands.specs.Outcome.{IsReportable, Reported, Reports, ReportsNoPage};
+ghost use Rattle.mari_commands.specs.Outcome.{IsOwn, IsReportable, Reported, Reports, ReportsNoPage};
 ghost use Rattle.mari_commands.specs.Printing.{file_line as file_text, invalid_line as invalid_text, refused_line as refused_text};
 ghost use Rattle.mari_commands.specs.Refusals.{HasName};
 
 use crate::clearing::clear_alone;
+use crate::feeding::fed;
 use crate::outcome::Outcome;
 use crate::status::Status;
 use crate::writing::{file_line, pair_line, refused_line, usage_line};
-use mari_day::write_all;
-use mari_io::{Fetch, Sink};
+use mari_io::{Fetch, Shelf, Sink, write_all};
 use mari_units::Refusal;
 use std::alloc::Global;
 
@@ -42,7 +42,7 @@ fn say_file<K: Sink>(alloc: Global, sink: &mut K, word: &[u8], file: u8, status:
 }
 
 /// Writes the line of a file whose page can't be had.
-fn say_no_page<K: Sink>(alloc: Global, sink: &mut K, file: u8, why: Fetch) -> Status
+pub fn say_no_page<K: Sink>(alloc: Global, sink: &mut K, file: u8, why: Fetch) -> Status
     requires { IsNamed file }
     ensures reports { ReportsNoPage file why (K.taken sink.old) (K.taken sink.new) result }
     ensures cause { Counts (result ≡ Status.WriteFault) (K.faults sink.old) (K.faults sink.new) }
@@ -56,7 +56,7 @@ fn say_no_page<K: Sink>(alloc: Global, sink: &mut K, file: u8, why: Fetch) -> St
 }
 
 /// Writes the line of a refusal.
-fn say_refused<K: Sink>(alloc: Global, sink: &mut K, refusal: Refusal) -> Status
+pub fn say_refused<K: Sink>(alloc: Global, sink: &mut K, refusal: Refusal) -> Status
     requires file { IsNamed refusal.file }
     requires name { HasName refusal }
     ensures reports { Reports (refused_text refusal) (Status.Refused refusal) (K.taken sink.old) (K.taken sink.new) result }
@@ -80,15 +80,28 @@ fn say_invalid<K: Sink>(alloc: Global, sink: &mut K, run: u32, fault: u8) -> Sta
 }
 
 /// Writes what is printed of an outcome, and answers its status. A day is cleared by this thread, so that the call
-/// waits for nobody.
-pub fn report<K: Sink>(alloc: Global, sink: &mut K, outcome: &Outcome) -> Status
+/// waits for nobody. Of the shelf it asks only for the publication that is printed as a feed.
+pub fn report<S: Shelf, K: Sink>(
+    alloc: Global,
+    shelf: &mut S,
+    sink: &mut K,
+    outcome: &Outcome,
+) -> Status
     requires { IsReportable outcome.now }
-    ensures reported { Reported outcome.now (K.taken sink.old) (K.taken sink.new) result }
+    ensures same { S.pages shelf.new ≡ S.pages shelf.old }
+    ensures untouched { (IsOwn outcome.now → ⊥) → S.fetches shelf.new ≡ S.fetches shelf.old }
+    ensures reported { Reported (S.pages shelf.old) (Rose (S.faults shelf.old) (S.faults shelf.new)) outcome.now (K.taken sink.old) (K.taken sink.new) result }
+
+    // Why a page wasn't had, or a text not written.
+    ensures read_fault { Counts (IsOwn outcome.now × (result ≡ Status.ReadFault)) (S.faults shelf.old) (S.faults shelf.new) }
+    ensures missing { Counts (IsOwn outcome.now × (result ≡ Status.Missing)) (S.misses shelf.old) (S.misses shelf.new) }
+    ensures too_long { Counts (IsOwn outcome.now × (result ≡ Status.TooLong)) (S.overs shelf.old) (S.overs shelf.new) }
     ensures cause { Counts (result ≡ Status.WriteFault) (K.faults sink.old) (K.faults sink.new) }
 {
     match outcome {
         Outcome::NoCommand => say(sink, usage_line(), Status::Usage),
         Outcome::Day(job) => clear_alone(alloc, job, sink),
+        Outcome::Feed(folder) => fed(alloc, shelf, sink, folder),
         Outcome::Text(text) => say(sink, text, Status::Done),
         Outcome::Invalid { run, fault } => say_invalid(alloc, sink, *run, *fault),
         Outcome::NoPage(file, why) => say_no_page(alloc, sink, *file, *why),

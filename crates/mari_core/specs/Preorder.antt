@@ -20,6 +20,7 @@ IsWalk nodes (w ∷ waiting) [] = ⊥
 IsWalk nodes (w ∷ waiting) (x ∷ xs) = (w ≡ x) × IsWalk nodes (children_of nodes x ++ waiting) xs
 
 -- how often the number occurs
+-- Counted from the list's head, as one node more is read, where `count_by` of the kit counts from its end.
 abbrev pub occurs : ℕ → List ℕ → ℕ
 occurs x [] = 0
 occurs x (y ∷ ys) = (if y == x then 1 else 0) + occurs x ys

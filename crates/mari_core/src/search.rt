@@ -240,6 +240,7 @@ impl<'m> Search<'m> {
     }
 
     /// The least number of a node that waits.
+    /// Searches take the node of the greatest bound, by a queue; this one is the machine's own.
     pub fn untaken(&self) -> Option<u32>
         ensures { MatchOption result (NoneWaits self.now.tree.nodes) (IsLeastUntaken self.now.tree.nodes) }
     {

@@ -15,7 +15,9 @@ use Rattle.mari_lines.specs.Spelling.{line_text}
 use Rattle.mari_publish.specs.Texts.{block_text_of, head_text_of, text_of, text_of_lines, total_text_of}
 use Rattle.mari_publish.proofs.Parts.{text_of_blocks}
 use Rattle.mari_remain.specs.declared.books.Books.{Books}
-use Rattle.mari_day.specs.Day.{IsDayPart, Stopped, part_text, then_took, WroteWholeDay, WrotePart, WrotePrefix}
+use Rattle.mari_io.specs.Taken.{then_took}
+use Rattle.mari_io.proofs.Taken.{took_more}
+use Rattle.mari_day.specs.Day.{IsDayPart, Stopped, part_text, WroteWholeDay, WrotePart, WrotePrefix}
 use Rattle.mari_day.specs.Stepped.{BrokeOff, Closes, IsDayOf, Stepped, WroteBlock, WroteFirst}
 use Rattle.mari_day.specs.declared.step.Stop.TheVariants.{Sink, Memory as NoMemory}
 use Rattle.mari_progress.specs.declared.progress.Progress.{Progress}
@@ -26,11 +28,6 @@ use Rattle.mari_day.proofs.Progressing.{part-more}
 -- the first line of a text
 abbrev first-line : List ℕ → ℕ → ℕ → List ℕ
 first-line date quarters nodes = line_text (line.Head date quarters nodes)
-
--- two texts, one after the other
-pub took-more : (taken : Option (List ℕ)) (a b : List ℕ) → then_took (then_took taken a) b ≡ then_took taken (a ++ b)
-took-more None a b = refl
-took-more (Some t) a b = ap Some (append_assoc t a b)
 
 module _ (books : Books) (budget : ℕ) where
   abbrev head : List ℕ
@@ -58,7 +55,7 @@ module _ (books : Books) (budget : ℕ) where
   -- a first part of a text behind another text
   behind : (before mid after : Option (List ℕ)) (text more : List ℕ) (count : ℕ) → mid ≡ then_took before text → after ≡ then_took mid (take count more) → after ≡ then_took before (take (length text + count) (text ++ more))
   behind before mid after text more count e f =
-      f ∙ ap (λ taken. then_took taken (take count more)) e ∙ took-more before text (take count more) ∙ ap (then_took before) (sym (take-append-add text more count))
+      f ∙ ap (λ taken. then_took taken (take count more)) e ∙ took_more before text (take count more) ∙ ap (then_took before) (sym (take-append-add text more count))
 
   -- the head alone, or a first part of it
   pub head-taken : (before after : Option (List ℕ)) → after ≡ then_took before head → after ≡ then_took before (part_text books budget [])
@@ -81,7 +78,7 @@ module _ (books : Books) (budget : ℕ) where
       blocks = first.blocks ++ more.block ∷ [];
       progress = more.progress;
       counted = length-append first.blocks (more.block ∷ []) ∙ ap (λ n. n + 1) first.counted;
-      taken = more.taken ∙ ap (λ taken. then_took taken (block_text_of more.block)) first.taken ∙ took-more before (part_text books budget first.blocks) (block_text_of more.block)
+      taken = more.taken ∙ ap (λ taken. then_took taken (block_text_of more.block)) first.taken ∙ took_more before (part_text books budget first.blocks) (block_text_of more.block)
           ∙ ap (then_took before) (sym (part-text-more first.blocks more.block));
     }
 
@@ -108,7 +105,7 @@ module _ (books : Books) (budget : ℕ) where
     -- the totals, or a first part of them
     pub totals-taken : (after : Option (List ℕ)) (p : Publication) → IsDayOf books budget first.blocks p → after ≡ then_took mid (total_text_of p) → after ≡ then_took before (text_of p)
     totals-taken after p is e =
-        e ∙ ap (λ taken. then_took taken (total_text_of p)) first.taken ∙ took-more before (part_text books budget first.blocks) (total_text_of p) ∙ ap (then_took before) (day-text first.blocks p is)
+        e ∙ ap (λ taken. then_took taken (total_text_of p)) first.taken ∙ took_more before (part_text books budget first.blocks) (total_text_of p) ∙ ap (then_took before) (day-text first.blocks p is)
 
     pub totals-cut : (after : Option (List ℕ)) (p : Publication) → IsDayOf books budget first.blocks p → (n : ℕ) → after ≡ then_took mid (take n (total_text_of p)) → WrotePrefix books budget before after
     totals-cut after p is n e = record {

@@ -53,6 +53,8 @@ pub record HasShapes (books : Books) (numbers : List ℕ) (clearing : Clearing) 
   pub small : HasSmallNumbers priced.ledger
 
 -- the prices, areas and ledger of a run's clearing, whose quarter has these scheduled prices, or none
+-- The ledger is three facts here and three clauses of `settle_run` and `ledger_of`, each citing the one definition of
+-- `mari_settle`.
 pub record IsPriced (books : Books) (made : RunMarket) (also : Option (List Cents)) (clearing : Clearing) (priced : Priced) : Type 0 where
   pub prices : AreZonePrices made.market clearing.activation priced.pricing.published.cents priced.pricing.least.cents priced.pricing.greatest.cents priced.areas.items
   pub operators : priced.ledger.operators ≡ operator_lines books.zones made.market clearing.activation priced.pricing.published.cents

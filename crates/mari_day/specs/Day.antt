@@ -1,7 +1,7 @@
 -- The day of books within a budget of nodes, a part of it, and their texts.
 use Rattle.std.specs.Prelude.{ℕ, ◌≡◌, ◌<◌, ◌≤◌, ◌⊎◌, List, Option, Some, ◌++◌, length, slice_get, take}
 use Rattle.std.specs.List.{flat_map}
-use Rattle.std.specs.Option.{option_map}
+pub use Rattle.mari_io.specs.Taken.{TookPart, then_took}
 use Rattle.mari_publish.specs.declared.publication.Block.{Block}
 use Rattle.mari_publish.specs.declared.publication.Publication.{Publication}
 use Rattle.mari_publish.specs.Lines.{published_in, unpublished_in}
@@ -46,14 +46,6 @@ pub record IsDayText (books : Books) (budget : ℕ) (text : List ℕ) : Type 0 w
   pub day : IsDay books budget publication
   pub in_range : HasText publication
   pub spelled : text ≡ text_of publication
-
--- the sink has taken this text too
-abbrev pub then_took : Option (List ℕ) → List ℕ → Option (List ℕ)
-then_took taken text = option_map (λ t. t ++ text) taken
-
--- the sink has taken a first part of this text
-abbrev pub TookPart : (before after : Option (List ℕ)) → List ℕ → Type 0
-TookPart before after text = (count : ℕ) × (after ≡ then_took before (take count text))
 
 -- the text of a day, and how many of its blocks are published, and how many are not
 pub record IsPrintedDay (books : Books) (nodes : ℕ) (day : PrintedDay) : Type 0 where

@@ -87,6 +87,7 @@ impl File {
     }
 
     /// The market file of a number, if it is that of one.
+    /// A table of its own beside `number`; the definitions have one, so the two can't differ.
     pub fn with_number(number: u8) -> Option<File>
         ensures { result ≡ file_with number }
     {

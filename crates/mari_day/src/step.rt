@@ -8,14 +8,13 @@ ghost use Rattle.mari_publish.specs.declared.publication.Block.{Block as Printed
 ghost use Rattle.mari_remain.specs.Accepted.{IsAccepted};
 ghost use Rattle.mari_progress.specs.Behind.{run_behind};
 ghost use Rattle.mari_day.specs.Dated.{IsDated};
-ghost use Rattle.mari_day.specs.Day.{TookPart, then_took};
+ghost use Rattle.mari_io.specs.Taken.{TookPart, then_took};
 ghost use Rattle.mari_day.specs.Progress.{IsDayProgress, IsRunDone};
 ghost use Rattle.mari_day.specs.Stepped.{Stepped, Writes};
 ghost use Rattle.mari_market.specs.Clearing.{IsBudget};
 
 use crate::block::published_run;
-use crate::writing::write_all;
-use mari_io::Sink;
+use mari_io::{Sink, write_all};
 use mari_market::{Cleared, Clearer};
 use mari_progress::{Progress, SettledRun, heading};
 use mari_publish::{Block, block_text};

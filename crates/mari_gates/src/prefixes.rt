@@ -169,6 +169,7 @@ pub fn child_of(prefix: &Prefix, opened: bool) -> Prefix
 }
 
 /// The prefix without its last decision.
+/// It serves `next_after` alone.
 pub(crate) fn without_last(prefix: &Prefix) -> Prefix
     requires decided { 0 < prefix.now.length }
     requires few { prefix.now.length ≤ MOST_GATES }

@@ -107,6 +107,7 @@ abbrev pub taken_after : {E : Type 0} → Option (List ℕ) → List ℕ → Res
 taken_after taken piece result = option_map (λ t. t ++ take (taken_count result) piece) taken
 
 -- whether so many taken bytes are none, of a piece that isn't empty
+-- A test; `TookNothing` is the same as facts, in clauses.
 abbrev pub took_none : ℕ → List ℕ → Bool
 took_none count piece = nat_eq count 0 && nat_lt 0 (length piece)
 

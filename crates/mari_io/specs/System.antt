@@ -19,6 +19,7 @@ fault_of_reading _ = Failed
 
 -- what a shelf of real files counted: its calls, and those that failed, found no file, or found one that is too long;
 -- whether a file was opened to be given in pieces, and how many bytes of it were given
+-- It counts as a shelf in memory does, whose record (`ShelfState`) has its pages and plan beside the counts.
 pub record DiskCounts : Type 0 where
   pub calls : ℕ
   pub faults : ℕ

@@ -14,6 +14,7 @@ mod page;
 mod plan;
 mod shelf;
 mod sink;
+mod writing;
 
 pub use disk::{DiskShelf, fetch_opened, read_piece};
 pub use memory_shelf::MemoryShelf;
@@ -23,3 +24,4 @@ pub use page::{Name64, Page};
 pub use plan::FaultPlan;
 pub use shelf::{Fetch, MOST_GIVEN, MOST_PIECE, Shelf};
 pub use sink::{Failed, Sink};
+pub use writing::write_all;

@@ -20,7 +20,7 @@ use Rattle.mari_lines.proofs.Splits.{first_split, only_split, some_words}
 abbrev pub IsGraphic : List ℕ → Type 0
 IsGraphic w = list_all (λ b. ltb 32 b) w ≡ true
 
-weaken : (p q : ℕ → Bool) → ((b : ℕ) → p b ≡ true → q b ≡ true) → (xs : List ℕ) → list_all p xs ≡ true → list_all q xs ≡ true
+pub weaken : (p q : ℕ → Bool) → ((b : ℕ) → p b ≡ true → q b ≡ true) → (xs : List ℕ) → list_all p xs ≡ true → list_all q xs ≡ true
 weaken p q h [] e = refl
 weaken p q h (x ∷ xs) e = let a = and_parts (p x) (list_all p xs) e in rw (h x a.0, weaken p q h xs a.1) refl
 

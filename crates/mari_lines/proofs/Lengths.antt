@@ -91,7 +91,7 @@ euros_short z h =
     let d = length-decimal-le 5 (unsigned_abs z / 100) (omega arith) (omega (arith, h)) (omega (arith, h)) in
     both_short (sign_of (int_lt z (pos 0)) ++ decimal (unsigned_abs z / 100)) (46 ∷ (48 + unsigned_abs z % 100 / 10) ∷ (48 + unsigned_abs z % 10) ∷ []) 6 3 (sign_short (int_lt z (pos 0)) (decimal (unsigned_abs z / 100)) 5 d) (omega arith)
 
-price_size : (z : ℤ) → IsPrice z → unsigned_abs z ≤ 9999900
+pub price_size : (z : ℤ) → IsPrice z → unsigned_abs z ≤ 9999900
 price_size (pos n) h = let high : pos n ≤ℤ pos 9999900 = h.high in omega (arith, ints, high)
 price_size (negsuc n) h = let low : neg_ℤ (pos 9999900) ≤ℤ negsuc n = h.low in omega (arith, ints, low)
 

@@ -19,6 +19,7 @@ use keyword::keyword_of;
 use lists::{read_flows, read_mws, read_prices, read_zones};
 use mari_market::{Cut, are_rising};
 use mari_units::{MOST_DEMANDS, MOST_MW, MOST_NODES, MOST_QUARTERS, MOST_RUNS, MOST_ZONES, Name};
+pub use number::is_date;
 pub use separator::split_once;
 use std::alloc::Global;
 use words::Words;

@@ -65,6 +65,7 @@ abbrev pub bid_of : BidBook → List ℕ → ℕ
 bid_of bids name = unwrap_or (bid_named bids name) 0
 
 -- the quarter and the least quantity of the bid at a place
+-- Read as the code reads it, by whether there is such a bid, and not off `bid_numbered`; so is `least_of_bid`.
 abbrev pub quarter_of : BidBook → ℕ → ℕ
 quarter_of bids bid = option_map_or (λ (bid : Bid). bid.quarter) (slice_get bids.bids bid) 0
 

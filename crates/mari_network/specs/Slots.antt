@@ -56,6 +56,7 @@ abbrev pub CanMore : List Slot → List ℤ → ℕ → Type 0
 CanMore slots xs k = (k < length slots) × (int_at xs k <ℤ (slot_at slots k).high)
 
 -- an amount above its least doesn't lose, and one below its greatest would not gain
+-- `IsTightTrade` of `mari_market` says it of an order by its side; a slot's amount has the side in its sign.
 pub record IsTightSlot (p : ℕ → ℤ) (s : Slot) (x : ℤ) : Type 0 where
   pub less : s.low <ℤ x → s.price ≤ℤ p s.zone
   pub more : x <ℤ s.high → p s.zone ≤ℤ s.price

@@ -1,4 +1,7 @@
 //! Whether what the orders of gates run is feasible, where it is within the orders' greatest and in balance.
+//!
+//! It is a pass of its own beside `is_feasible` of `mari_welfare`, since bounds and balance of an optimum are settled
+//! by the solver.
 
 ghost use Rattle.std.specs.Prelude.{◌≡◌, ◌↔◌, ◌<◌, ◌≤◌, ℕ, IfSome, IsTrue, MatchOption, length};
 ghost use Rattle.std.specs.List.{All, AllZip};

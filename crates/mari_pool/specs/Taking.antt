@@ -14,6 +14,8 @@ use Rattle.mari_pool.specs.Queued.{IsFirstWaiting}
 use Rattle.mari_pool.specs.Pooled.{Pooled, taking, taken_among}
 
 -- why there is no tree yet; want of memory is free
+-- The pool's own fault and what it says, beside `FinishFault` and `IsOpenFault` of the search machine, of which callers
+-- of the pool know nothing.
 abbrev pub IsOpenAt : List TreeNode → PoolFault → Type 0
 IsOpenAt nodes (NotClosed x) = IsFirstOpen nodes x
 IsOpenAt nodes Memory = ⊤

@@ -88,6 +88,7 @@ abbrev pub SpreadsAlong : Along → List Border → List ℤ → List ℤ → Li
 SpreadsAlong along bs fs values xs = IsSpread (LeadsTo along bs fs) (int_at values) xs
 
 -- the second zone is free and gets what the first, settled one has
+-- `IsAfter` says it of a settled zone and keeps it of all; this is what a step asks of one border.
 pub record IsPassed (xs : List (Option SettledZone)) (from to : ℕ) (s : SettledZone) : Type 0 where
   pub free : IsFree xs to
   pub entry : SettledZone

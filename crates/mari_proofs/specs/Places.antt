@@ -12,6 +12,7 @@ use Rattle.mari_proofs.specs.declared.trees.TreeVerdict.TheVariants.{Holds, BadS
 -- the items are, in order, parts of the first of these words, and the words left have no part yet: each item is a leaf
 -- that holds at the first word left, or a branch, where a gate is left to decide, which leaves the word's children in
 -- its place
+-- `AreParts` of `mari_market` says it of a whole tree; a walk has words that still wait.
 abbrev pub LeavesWords : Market → (List Bool → LeafRecord → Type 0) → List (List Bool) → List TreeItem → List (List Bool) → Type 0
 LeavesWords m holds words [] left = words ≡ left
 LeavesWords m holds [] (item ∷ items) left = ⊥

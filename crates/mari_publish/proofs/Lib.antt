@@ -10,4 +10,7 @@ pub mod Outcomes
 pub mod PartsGiven
 pub mod Pieces
 pub mod MoreText
+pub mod FirstParts
+pub mod PartCounts
+pub mod Paging
 pub mod Refusals

@@ -16,7 +16,7 @@ use Rattle.mari_lines.specs.Spelling.{line_text}
 use Rattle.mari_publish.specs.Texts.{text_of_lines}
 use Rattle.mari_publish.specs.Order.{nothing_kept}
 use Rattle.mari_publish.specs.Faults.{IsText, BadLineAt, BadOrderAt, TruncatedAt}
-use Rattle.mari_publish.specs.Pieces.{Gives, parts_so_far, ComeState, IsAhead, ComesFrom, NoLineIn, HasNoLine, IsWhole, HasPart, IsEnd}
+use Rattle.mari_publish.specs.Pieces.{Gives, parts_so_far, ComeState, IsAhead, ComesFrom, NoLineIn, HasNoLine, IsWhole, HoldsParts, HasPart, IsEnd}
 use Rattle.std.proofs.lemmas.Bool.{and_parts, and_from}
 use Rattle.mari_publish.proofs.Progress.{whole_text, truncated}
 use Rattle.mari_publish.proofs.Outcomes.{text_truncated, truncated_number}
@@ -96,9 +96,9 @@ order_stays text piece n a = record {
   misplaced = a.misplaced;
 }
 
--- a part that is there stays there
-pub part_stays : (text piece : List ℕ) (parts : List Part) (x : Part) → HasPart text parts x → HasPart (text ++ piece) parts x
-part_stays text piece parts x h = record {
+-- parts that are there stay there
+pub parts_stay : (text piece : List ℕ) (parts : List Part) → HoldsParts text parts → HoldsParts (text ++ piece) parts
+parts_stay text piece parts h = record {
   lines = h.lines;
   after = h.after ++ piece;
   is = ap (λ (xs : List ℕ). xs ++ piece) h.is ∙ append_assoc (text_of_lines h.lines) h.after piece;
@@ -106,6 +106,9 @@ part_stays text piece parts x h = record {
   kept = h.kept;
   gives = h.gives;
 }
+
+pub part_stays : (text piece : List ℕ) (parts : List Part) (x : Part) → HasPart text parts x → HasPart (text ++ piece) parts x
+part_stays text piece parts x h = parts_stay text piece (parts ++ x ∷ []) h
 
 -- the end of the text
 nothing_ahead : (a : Ahead) (unread rest : List ℕ) → a ≡ mark.Kept → unread ≡ [] → IsAhead a unread rest → rest ≡ []

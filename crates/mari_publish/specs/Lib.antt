@@ -6,3 +6,4 @@ pub mod Faults
 pub mod Gathering
 pub mod Pieces
 pub mod Handling
+pub mod Paged

@@ -100,14 +100,18 @@ pub record IsWhole (r : ComeState) : Type 0 where
   pub none : r.unread ≡ []
   pub done : r.kept.held ≡ held.Done
 
--- behind these parts the text holds this one whole
-pub record HasPart (text : List ℕ) (parts : List Part) (x : Part) : Type 0 where
+-- a text begins with these parts, each of them whole
+pub record HoldsParts (text : List ℕ) (parts : List Part) : Type 0 where
   pub lines : List Line
   pub after : List ℕ
   pub is : text ≡ text_of_lines lines ++ after
   pub in_range : AllByRecursion InRange lines
   pub kept : Kept
-  pub gives : Gives lines (parts ++ x ∷ []) kept
+  pub gives : Gives lines parts kept
+
+-- behind these parts it holds this one whole
+abbrev pub HasPart : List ℕ → List Part → Part → Type 0
+HasPart text parts x = HoldsParts text (parts ++ x ∷ [])
 
 -- behind these parts it holds none
 abbrev pub NoPart : List ℕ → List Part → Type 0

@@ -1,12 +1,16 @@
 -- How many lines there may be, and that they are in range: which publications have a text.
-use Rattle.std.specs.Prelude.{◌≤◌, length}
+use Rattle.std.specs.Prelude.{◌≤◌, List, length}
 use Rattle.std.specs.List.{All, AllByRecursion}
 use Rattle.mari_market.specs.declared.certificate.TreeItem.{TreeItem}
+use Rattle.mari_lines.specs.declared.line.AmountLine.{AmountLine}
 use Rattle.mari_lines.specs.declared.line.Line.TheVariants as line
+use Rattle.mari_lines.specs.declared.line.MoneyLine.{MoneyLine}
 use Rattle.mari_lines.specs.Ranges.{InRange, IsAmountLine, IsMoneyLine, Listed}
 use Rattle.mari_publish.specs.declared.publication.FullBlock.{FullBlock}
 use Rattle.mari_publish.specs.declared.publication.Block.{Block}
 use Rattle.mari_publish.specs.declared.publication.Block.TheVariants as block
+use Rattle.mari_publish.specs.declared.publication.Part.{Part}
+use Rattle.mari_publish.specs.declared.publication.Part.TheVariants as part
 use Rattle.mari_publish.specs.declared.publication.Publication.{Publication}
 use Rattle.mari_publish.specs.Lines.{item_lines}
 use Rattle.mari_units.specs.declared.limits.TheConstants.{MOST_BIDS, MOST_BORDERS, MOST_DEMANDS, MOST_MW, MOST_NODES, MOST_PROVIDERS, MOST_RUNS, MOST_ZONES}
@@ -42,3 +46,12 @@ pub record HasText (p : Publication) : Type 0 where
   pub head : InRange (line.Head p.date p.quarters p.budget)
   pub blocks : All BlockFits p.blocks
   pub totals : TotalsFit p
+
+-- the same of the sums of the operators and of the providers, and of one part of a publication
+abbrev pub SumsFit : List MoneyLine → List AmountLine → Type 0
+SumsFit operators providers = Listed 1 MOST_ZONES IsMoneyLine operators × Listed 0 MOST_PROVIDERS IsAmountLine providers
+
+abbrev pub PartFits : Part → Type 0
+PartFits (part.Head date quarters budget) = InRange (line.Head date quarters budget)
+PartFits (part.Block b) = BlockFits b
+PartFits (part.Totals operators providers) = SumsFit operators providers

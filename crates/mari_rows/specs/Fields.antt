@@ -16,6 +16,7 @@ abbrev pub number_in : ℕ → ℕ → List ℕ → Option ℕ
 number_in least greatest text = option_and_then (within least greatest) (whole_of text)
 
 -- a price from -CAP to CAP
+-- `IsPrice` says that a number is one; this gives the price that a field writes.
 abbrev pub within_cap : ℤ → Option Cents
 within_cap cents = if int_le (neg_ℤ CAP) cents && int_le cents CAP then Some (record { 0 = cents }) else None
 

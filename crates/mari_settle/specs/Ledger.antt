@@ -44,6 +44,8 @@ operator_rent zones m a ps operator =
     sum_along (λ b f. share_of (operator_at zones b.from) (operator_at zones b.to) operator (rent_of ps b f)) m.borders a.flow
 
 -- what a flow brings into a zone
+-- It is spelled out beside `carried_out` of `mari_market`: as its negative it would break the proofs that split a sum
+-- over zones at the difference.
 abbrev pub carried_in : ℕ → Border → ℤ → ℤ
 carried_in z b f = (if b.to == z then f else pos 0) -ℤ (if b.from == z then f else pos 0)
 

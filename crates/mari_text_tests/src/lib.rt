@@ -1,9 +1,11 @@
 //! Tests of texts: pages and sinks in memory and real files, the lines of a day, whole publications, texts that come in
-//! pieces, and the words of a command.
+//! pieces, parts as JSON, and the words of a command.
 //!
 //! They call what is public alone, so they stand apart from what they test, which then is proved once.
 #![tactic(auto)]
 
+#[cfg(test)]
+mod feed;
 #[cfg(test)]
 mod files;
 #[cfg(test)]
@@ -12,6 +14,8 @@ mod lines;
 mod outside;
 #[cfg(test)]
 mod pieces;
+#[cfg(test)]
+mod printing;
 #[cfg(test)]
 mod publications;
 #[cfg(test)]

@@ -36,6 +36,13 @@ const CLEARS: &[(&str, (&str, u32, u32))] = &[
     ),
 ];
 
+/// Whether the words of the line are no command.
+fn is_refused(alloc: Global, line: &str) -> Result<bool, Fail> {
+    let words = words_of(alloc, line)?;
+    let read = read_words(alloc, words.as_slice());
+    Ok(matches!(read, Err(WordsFault::Usage)))
+}
+
 #[test]
 fn words_that_clear_a_folder(rt: HostRuntime) -> Result<(), Fail> {
     for (line, want) in CLEARS {
@@ -165,6 +172,40 @@ fn words_without_options(rt: HostRuntime) -> Result<(), Fail> {
             matches!(read, Ok(Command::Migrate { part, .. }) if part == want),
             "{line}"
         );
+    }
+    Ok(())
+}
+
+#[test]
+fn words_that_print_a_publication_as_json(rt: HostRuntime) -> Result<(), Fail> {
+    for (line, want) in [
+        ("feed F", "F"),
+        ("feed -- -F", "-F"),
+        ("feed F --", "F"),
+        ("feed -- --", "--"),
+        ("feed feed", "feed"),
+    ] {
+        let words = words_of(rt.alloc(), line)?;
+        let read = read_words(rt.alloc(), words.as_slice());
+        assert!(rt;
+            matches!(&read, Ok(Command::Feed { folder }) if folder.as_str() == want),
+            "{line}"
+        );
+    }
+    for line in [
+        "feed",
+        "feed ",
+        "feed -",
+        "feed -F",
+        "feed F F",
+        "feed F --nodes 5",
+        "feed F --workers=2",
+        "feed -- -- F",
+        "feeds F",
+        "fee F",
+        "Feed F",
+    ] {
+        assert!(rt; is_refused(rt.alloc(), line)?, "{line}");
     }
     Ok(())
 }

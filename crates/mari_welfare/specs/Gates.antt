@@ -28,6 +28,7 @@ abbrev pub IsAlone : List GateInfo → (ℕ → Bool) → ℕ → Option ℕ →
 IsAlone gates opens place group = (k : ℕ) → group ≡ Some k → IsAloneIn gates opens place k
 
 -- an open gate has an open parent, if it has one, and is alone in its group
+-- `KeepsGateRules` of `mari_market` says it of all gates at once; a test goes place by place.
 pub record KeepsRulesAt (gates : List GateInfo) (opens : ℕ → Bool) (place : ℕ) : Type 0 where
   pub parent : opens place ≡ true → HasOpenParent opens (parent_of gates place)
   pub group : opens place ≡ true → IsAlone gates opens place (group_of gates place)

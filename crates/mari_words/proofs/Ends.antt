@@ -5,7 +5,7 @@ use Rattle.clap.specs.Faults.{check_fault, default_fault, defaults_fault, level_
 use Rattle.clap.specs.Takes.{is_given}
 use Rattle.mari_words.specs.Seen.{Choice, Seen, Text, nothing, seen_from, whole}
 use Rattle.mari_words.specs.Words.{Given, Verb, form_of, given_by, given_in}
-use Rattle.mari_words.specs.Words.Verb.{Clears, Checks, Generates, Migrates}
+use Rattle.mari_words.specs.Words.Verb.{Clears, Checks, Generates, Migrates, Feeds}
 use Rattle.mari_words.specs.Given.{given_of}
 use Rattle.mari_words.proofs.Keys.{Finds, Key, filled_not, held, id, key_of, keys, row, rule, rules}
 use Rattle.mari_words.proofs.Keys.Key.{First, Second, Nodes, Workers}
@@ -51,14 +51,13 @@ module _ (rows : List Row) (o : Key → Option Text) (f : Finds rows o) where
   none_given Checks e h = filled_not h (rw (given_is First None e) refl)
   none_given Generates e h = filled_not h (rw (given_is First None e) refl)
   none_given Migrates e h = filled_not h (rw (given_is First None e) refl)
+  none_given Feeds e h = filled_not h (rw (given_is First None e) refl)
 
   -- one word of two
-  one_given : (t : Text) → o First ≡ Some t → o Second ≡ None → check_fault (leaf Migrates) rows false ≡ [] → ⊥
-  one_given t e n h = filled_not h (rw (given_is First (Some t) e, given_is Second None n) refl)
+  migrate_one : (t : Text) → o First ≡ Some t → o Second ≡ None → check_fault (leaf Migrates) rows false ≡ [] → ⊥
+  migrate_one t e n h = filled_not h (rw (given_is First (Some t) e, given_is Second None n) refl)
 
-  two_given : (t u : Text) → o First ≡ Some t → o Second ≡ Some u → check_fault (leaf Migrates) rows false ≡ []
-  two_given t u e n = rw (given_is First (Some t) e, given_is Second (Some u) n) refl
-
+  -- all words
   clear_given : (t : Text) → o First ≡ Some t → check_fault (leaf Clears) rows false ≡ []
   clear_given t e = rw (given_is First (Some t) e) refl
 
@@ -67,6 +66,12 @@ module _ (rows : List Row) (o : Key → Option Text) (f : Finds rows o) where
 
   generate_given : (t : Text) → o First ≡ Some t → check_fault (leaf Generates) rows false ≡ []
   generate_given t e = rw (given_is First (Some t) e) refl
+
+  feed_given : (t : Text) → o First ≡ Some t → check_fault (leaf Feeds) rows false ≡ []
+  feed_given t e = rw (given_is First (Some t) e) refl
+
+  migrate_given : (t u : Text) → o First ≡ Some t → o Second ≡ Some u → check_fault (leaf Migrates) rows false ≡ []
+  migrate_given t u e n = rw (given_is First (Some t) e, given_is Second (Some u) n) refl
 
 -- ---- where the walk ends
 
@@ -104,17 +109,20 @@ ends_open : (verb : Verb) (rows : List Row) (pending : Pending) (words : List Te
     → State verb rows pending (mk words nodes workers None end) None
     → EndIs verb (at rows pending (mk words nodes workers None end)) (option_map given_in (whole (form_of verb) (mk words nodes workers None end)))
 ends_open Clears rows pending [] n w end few st = few_words Clears rows pending [] n w end (none_given _ (values (mk [] n w None end)) st.1 Clears refl)
-ends_open Checks rows pending [] n w end few st = few_words Checks rows pending [] n w end (none_given _ (values (mk [] n w None end)) st.1 Checks refl)
-ends_open Generates rows pending [] n w end few st = few_words Generates rows pending [] n w end (none_given _ (values (mk [] n w None end)) st.1 Generates refl)
-ends_open Migrates rows pending [] n w end few st = few_words Migrates rows pending [] n w end (none_given _ (values (mk [] n w None end)) st.1 Migrates refl)
 ends_open Clears rows pending (t ∷ []) n w end few st = all_words Clears rows pending (t ∷ []) n w end st (clear_given _ (values (mk (t ∷ []) n w None end)) st.1 t refl)
-ends_open Checks rows pending (t ∷ []) n w end few st = all_words Checks rows pending (t ∷ []) n w end st (check_given _ (values (mk (t ∷ []) n w None end)) st.1 t refl)
-ends_open Generates rows pending (t ∷ []) n w end few st = all_words Generates rows pending (t ∷ []) n w end st (generate_given _ (values (mk (t ∷ []) n w None end)) st.1 t refl)
-ends_open Migrates rows pending (t ∷ []) n w end few st = few_words Migrates rows pending (t ∷ []) n w end (one_given _ (values (mk (t ∷ []) n w None end)) st.1 t refl refl)
-ends_open Migrates rows pending (t ∷ u ∷ []) n w end few st = all_words Migrates rows pending (t ∷ u ∷ []) n w end st (two_given _ (values (mk (t ∷ u ∷ []) n w None end)) st.1 t u refl refl)
 ends_open Clears rows pending (t ∷ u ∷ more) n w end few st = absurd (omega (arith, few))
+ends_open Checks rows pending [] n w end few st = few_words Checks rows pending [] n w end (none_given _ (values (mk [] n w None end)) st.1 Checks refl)
+ends_open Checks rows pending (t ∷ []) n w end few st = all_words Checks rows pending (t ∷ []) n w end st (check_given _ (values (mk (t ∷ []) n w None end)) st.1 t refl)
 ends_open Checks rows pending (t ∷ u ∷ more) n w end few st = absurd (omega (arith, few))
+ends_open Generates rows pending [] n w end few st = few_words Generates rows pending [] n w end (none_given _ (values (mk [] n w None end)) st.1 Generates refl)
+ends_open Generates rows pending (t ∷ []) n w end few st = all_words Generates rows pending (t ∷ []) n w end st (generate_given _ (values (mk (t ∷ []) n w None end)) st.1 t refl)
 ends_open Generates rows pending (t ∷ u ∷ more) n w end few st = absurd (omega (arith, few))
+ends_open Feeds rows pending [] n w end few st = few_words Feeds rows pending [] n w end (none_given _ (values (mk [] n w None end)) st.1 Feeds refl)
+ends_open Feeds rows pending (t ∷ []) n w end few st = all_words Feeds rows pending (t ∷ []) n w end st (feed_given _ (values (mk (t ∷ []) n w None end)) st.1 t refl)
+ends_open Feeds rows pending (t ∷ u ∷ more) n w end few st = absurd (omega (arith, few))
+ends_open Migrates rows pending [] n w end few st = few_words Migrates rows pending [] n w end (none_given _ (values (mk [] n w None end)) st.1 Migrates refl)
+ends_open Migrates rows pending (t ∷ []) n w end few st = few_words Migrates rows pending (t ∷ []) n w end (migrate_one _ (values (mk (t ∷ []) n w None end)) st.1 t refl refl)
+ends_open Migrates rows pending (t ∷ u ∷ []) n w end few st = all_words Migrates rows pending (t ∷ u ∷ []) n w end st (migrate_given _ (values (mk (t ∷ u ∷ []) n w None end)) st.1 t u refl refl)
 ends_open Migrates rows pending (t ∷ u ∷ v ∷ more) n w end few st = absurd (omega (arith, few))
 
 ends_at : (verb : Verb) (rows : List Row) (pending : Pending) (words : List Text) (nodes workers : Option Text) (wait : Option Choice) (end : Bool)

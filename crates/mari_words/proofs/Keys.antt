@@ -8,7 +8,7 @@ use Rattle.mari_words.specs.Line.{option_rule, required_word}
 use Rattle.mari_words.specs.Seen.{Choice, Text}
 use Rattle.mari_words.specs.Seen.{Choice as choice}
 use Rattle.mari_words.specs.Words.{Verb}
-use Rattle.mari_words.specs.Words.Verb.{Clears, Checks, Generates, Migrates}
+use Rattle.mari_words.specs.Words.Verb.{Clears, Checks, Generates, Migrates, Feeds}
 
 pub data Key : Type 0 where
   First : Key
@@ -26,14 +26,15 @@ id Workers = codes "workers"
 abbrev pub rule : Key → Rule
 rule First = with_index 1 (filled (required_word (codes "first")))
 rule Second = with_index 2 (filled (required_word (codes "second")))
-rule Nodes = with_index 2 (filled (option_rule (codes "nodes")))
-rule Workers = with_index 2 (filled (option_rule (codes "workers")))
+rule Nodes = filled (option_rule (codes "nodes"))
+rule Workers = filled (option_rule (codes "workers"))
 
 abbrev pub keys : Verb → List Key
 keys Clears = First ∷ Nodes ∷ Workers ∷ []
 keys Checks = First ∷ []
 keys Generates = First ∷ []
 keys Migrates = First ∷ Second ∷ []
+keys Feeds = First ∷ []
 
 abbrev pub rules : Verb → List Rule
 rules verb = map rule (keys verb)

@@ -9,10 +9,10 @@ use Rattle.clap.specs.Walk.{Step as step}
 use Rattle.clap.specs.Simple.{Shape, new_shape}
 use Rattle.clap.specs.Kinds.{Kinds, or_else}
 use Rattle.clap.specs.Faults.{bundle_fault, flags_fault, long_fault, settle_fault, step_fault, turn_fault, walk_fault}
-use Rattle.mari_words.specs.Seen.{Choice, Seen, Text, choice_of}
+use Rattle.mari_words.specs.Seen.{Choice, Seen, Text, choice_named, choice_of}
 use Rattle.mari_words.specs.Seen.{Choice as choice}
 use Rattle.mari_words.specs.Words.{Verb, form_of}
-use Rattle.mari_words.specs.Words.Verb.{Clears, Checks, Generates, Migrates}
+use Rattle.mari_words.specs.Words.Verb.{Clears, Checks, Generates, Migrates, Feeds}
 use Rattle.mari_words.proofs.Keys.{Finds, Key, filled_not, held, id, key_of, rule, rules}
 use Rattle.mari_words.proofs.Keys.Key.{First, Second, Nodes, Workers}
 use Rattle.mari_words.proofs.Sorts.{Sort}
@@ -23,6 +23,7 @@ name_of Clears = codes "clear"
 name_of Checks = codes "check"
 name_of Generates = codes "generate"
 name_of Migrates = codes "migrate"
+name_of Feeds = codes "feed"
 
 -- the subcommand, as the command line is built
 abbrev pub leaf : Verb → Shape
@@ -93,7 +94,7 @@ none_both a b e f = ap (λ x. or_else x b) e ∙ f
 
 -- ---- arguments
 
-abbrev value_or : {X : Type 0} → X → Option X → X
+abbrev pub value_or : {X : Type 0} → X → Option X → X
 value_or d None = d
 value_or d (Some x) = x
 
@@ -114,24 +115,32 @@ all_single Clears = refl
 all_single Checks = refl
 all_single Generates = refl
 all_single Migrates = refl
+all_single Feeds = refl
 
 pub by_short : (verb : Verb) (x : ℕ) → arg_by_short (rules verb) x ≡ None
 by_short Clears x = refl
 by_short Checks x = refl
 by_short Generates x = refl
 by_short Migrates x = refl
+by_short Feeds x = refl
 
-pub by_long : (verb : Verb) (name : Text) → arg_by_long (rules verb) name ≡ option_map (λ ch. rule (key_of ch)) (choice_of (form_of verb) name)
-by_long Clears name = go (bytes_eq (codes "nodes") name) (bytes_eq (codes "workers") name) refl refl
+abbrev named_choice : Text → Option Rule
+named_choice name = option_map (λ ch. rule (key_of ch)) (choice_named name)
+
+options_by_long : (name : Text) → arg_by_long (rule Nodes ∷ rule Workers ∷ []) name ≡ named_choice name
+options_by_long name = go (bytes_eq (codes "nodes") name) (bytes_eq (codes "workers") name) refl refl
   where
-    go : (a b : Bool) → bytes_eq (codes "nodes") name ≡ a → bytes_eq (codes "workers") name ≡ b
-        → arg_by_long (rules Clears) name ≡ option_map (λ ch. rule (key_of ch)) (choice_of (form_of Clears) name)
+    go : (a b : Bool) → bytes_eq (codes "nodes") name ≡ a → bytes_eq (codes "workers") name ≡ b → arg_by_long (rule Nodes ∷ rule Workers ∷ []) name ≡ named_choice name
     go true b e f = rw e refl
     go false true e f = rw (e, f) refl
     go false false e f = rw (e, f) refl
+
+pub by_long : (verb : Verb) (name : Text) → arg_by_long (rules verb) name ≡ option_map (λ ch. rule (key_of ch)) (choice_of (form_of verb) name)
+by_long Clears name = options_by_long name
 by_long Checks name = refl
 by_long Generates name = refl
 by_long Migrates name = refl
+by_long Feeds name = refl
 
 pub known_choice : (verb : Verb) (name : Text) (ch : Choice) → choice_of (form_of verb) name ≡ Some ch → Known verb (key_of ch)
 known_choice Clears name choice.Nodes e = refl
@@ -139,6 +148,7 @@ known_choice Clears name choice.Workers e = refl
 known_choice Checks name ch e = absurd (true≢false (sym (ap is_some e)))
 known_choice Generates name ch e = absurd (true≢false (sym (ap is_some e)))
 known_choice Migrates name ch e = absurd (true≢false (sym (ap is_some e)))
+known_choice Feeds name ch e = absurd (true≢false (sym (ap is_some e)))
 
 pub not_both : {X : Type 0} (b : Bool) (x y : X) → cond (b && false) x y ≡ y
 not_both true x y = refl

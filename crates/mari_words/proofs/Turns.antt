@@ -1,11 +1,11 @@
 -- One more word where the walk stands where the definition does.
 use Rattle.std.proofs.Common.{◌≡◌, ◌∙◌, ◌≤◌, ℕ, Bool, suc, true, false, List, [], ◌∷◌, length, Option, Some, None, option_map, refl, sym, ap, subst, arith}
-use Rattle.clap.specs.Walk.{Row, arg_by_index, is_pending, settled, settled_rows, to_positional, used}
+use Rattle.clap.specs.Walk.{Row, Rule, arg_by_index, is_pending, settled, settled_rows, takes_several, to_positional, used}
 use Rattle.clap.specs.Walk.{Step as step}
 use Rattle.clap.specs.Faults.{settle_fault, step_fault, use_fault}
 use Rattle.mari_words.specs.Seen.{Choice, Seen, Text, with_word}
 use Rattle.mari_words.specs.Words.{Verb, form_of}
-use Rattle.mari_words.specs.Words.Verb.{Clears, Checks, Generates, Migrates}
+use Rattle.mari_words.specs.Words.Verb.{Clears, Checks, Generates, Migrates, Feeds}
 use Rattle.mari_words.proofs.Keys.{Finds, Key, empty_use, filled_not, held, id, row, rule, rules, upd, use_passes, used_finds}
 use Rattle.mari_words.proofs.Keys.Key.{First, Second, Nodes, Workers}
 use Rattle.mari_words.proofs.Steps.{Follows, Known, State, at, leaf, not_both, values}
@@ -44,72 +44,84 @@ Puts verb rows pending s word (Some t) = (step_fault (leaf verb) (suc (length s.
 puts_none : (verb : Verb) (rows : List Row) (pending : Pending) (i : ℕ) → arg_by_index (rules verb) i ≡ None → step_fault (leaf verb) i (held rows pending) step.value ≡ [] → ⊥
 puts_none verb rows pending i e n = filled_not n (rw e refl)
 
-module _ (verb : Verb) (rows : List Row) (pending : Pending) (nodes workers : Option Text) where
-  put_first : (ended : Bool) (word : Text) → Known verb First → arg_by_index (rules verb) 1 ≡ Some (rule First) → 1 ≤ (form_of verb).words
-      → State verb rows pending (mk [] nodes workers None ended) None → Puts verb rows pending (mk [] nodes workers None ended) word (Some (mk (word ∷ []) nodes workers None ended))
-  put_first ended word known e few st = (
-    rw (e, not_both (is_pending (rule First) pending) [] (settle_fault (rules verb) false (held rows pending))) st.0,
+module _ (verb : Verb) (rows : List Row) (pending : Pending) (nodes workers : Option Text) (ended : Bool) (word : Text) where
+  abbrev now : List Row
+  now = settled_rows (rules verb) pending rows
+
+  abbrev with_words : List Text → Seen
+  with_words words = mk words nodes workers None ended
+
+  -- the argument that the word goes to, the words with it, and where the walk stands then
+  put : (k : Key) (before after : List Text) → Known verb k → arg_by_index (rules verb) (suc (length before)) ≡ Some (rule k)
+      → step_fault (leaf verb) (suc (length before)) (held rows pending) step.value ≡ []
+      → to_positional (rules verb) (Some (rule k)) word (at rows pending (with_words before)) (held rows pending) ≡ at now (Some (id k, word ∷ [])) (with_words after)
+      → length after ≤ (form_of verb).words → values (with_words before) k ≡ None → ((j : Key) → values (with_words after) j ≡ upd k word (values (with_words before)) j)
+      → State verb rows pending (with_words before) None → Puts verb rows pending (with_words before) word (Some (with_words after))
+  put k before after known e passes moved few free value st = (
+    passes,
     record {
-      rows = settled_rows (rules verb) pending rows;
-      pending = Some (id First, word ∷ []);
-      is = moved ended;
+      rows = now;
+      pending = Some (id k, word ∷ []);
+      is = ap (λ (a : Option Rule). to_positional (rules verb) a word (at rows pending (with_words before)) (held rows pending)) e ∙ moved;
       few = few;
-      state = state_then verb First known (settled_rows (rules verb) pending rows) word (values (mk [] nodes workers None ended)) (mk (word ∷ []) nodes workers None ended) st.1 refl value;
+      state = state_then verb k known now word (values (with_words before)) (with_words after) st.1 free value;
     },
   )
+
+  -- what was held is settled first
+  passes_at : (k : Key) (i : ℕ) → takes_several (rule k) ≡ false → arg_by_index (rules verb) i ≡ Some (rule k) → settle_fault (rules verb) false (held rows pending) ≡ []
+      → step_fault (leaf verb) i (held rows pending) step.value ≡ []
+  passes_at k i single e settled = rw (e, single, not_both (is_pending (rule k) pending) [] (settle_fault (rules verb) false (held rows pending))) settled
+
+  put_first : Known verb First → arg_by_index (rules verb) 1 ≡ Some (rule First) → 1 ≤ (form_of verb).words
+      → State verb rows pending (with_words []) None → Puts verb rows pending (with_words []) word (Some (with_words (word ∷ [])))
+  put_first known e few st = put First [] (word ∷ []) known e (passes_at First 1 refl e st.0) (moved ended) few refl value st
     where
-      value : (j : Key) → values (mk (word ∷ []) nodes workers None ended) j ≡ upd First word (values (mk [] nodes workers None ended)) j
+      value : (j : Key) → values (with_words (word ∷ [])) j ≡ upd First word (values (with_words [])) j
       value First = refl
       value Second = refl
       value Nodes = refl
       value Workers = refl
 
-      moved : (b : Bool) → to_positional (rules verb) (arg_by_index (rules verb) 1) word (at rows pending (mk [] nodes workers None b)) (held rows pending)
-          ≡ at (settled_rows (rules verb) pending rows) (Some (id First, word ∷ [])) (mk (word ∷ []) nodes workers None b)
-      moved true = rw (e, not_both (is_pending (rule First) pending) (held rows pending) (settled (rules verb) (held rows pending))) refl
-      moved false = rw (e, not_both (is_pending (rule First) pending) (held rows pending) (settled (rules verb) (held rows pending))) refl
+      moved : (b : Bool) → to_positional (rules verb) (Some (rule First)) word (at rows pending (mk [] nodes workers None b)) (held rows pending)
+          ≡ at now (Some (id First, word ∷ [])) (mk (word ∷ []) nodes workers None b)
+      moved true = rw (not_both (is_pending (rule First) pending) (held rows pending) (settled (rules verb) (held rows pending))) refl
+      moved false = rw (not_both (is_pending (rule First) pending) (held rows pending) (settled (rules verb) (held rows pending))) refl
 
-put_second : (rows : List Row) (pending : Pending) (nodes workers : Option Text) (ended : Bool) (one word : Text)
-    → State Migrates rows pending (mk (one ∷ []) nodes workers None ended) None
-    → Puts Migrates rows pending (mk (one ∷ []) nodes workers None ended) word (Some (mk (one ∷ word ∷ []) nodes workers None ended))
-put_second rows pending nodes workers ended one word st = (
-  rw (not_both (is_pending (rule Second) pending) [] (settle_fault (rules Migrates) false (held rows pending))) st.0,
-  record {
-    rows = settled_rows (rules Migrates) pending rows;
-    pending = Some (id Second, word ∷ []);
-    is = moved ended;
-    few = omega arith;
-    state = state_then Migrates Second refl (settled_rows (rules Migrates) pending rows) word (values (mk (one ∷ []) nodes workers None ended)) (mk (one ∷ word ∷ []) nodes workers None ended) st.1 refl value;
-  },
-)
-  where
-    value : (j : Key) → values (mk (one ∷ word ∷ []) nodes workers None ended) j ≡ upd Second word (values (mk (one ∷ []) nodes workers None ended)) j
-    value First = refl
-    value Second = refl
-    value Nodes = refl
-    value Workers = refl
+  put_second : (one : Text) → Known verb Second → arg_by_index (rules verb) 2 ≡ Some (rule Second) → 2 ≤ (form_of verb).words
+      → State verb rows pending (with_words (one ∷ [])) None → Puts verb rows pending (with_words (one ∷ [])) word (Some (with_words (one ∷ word ∷ [])))
+  put_second one known e few st = put Second (one ∷ []) (one ∷ word ∷ []) known e (passes_at Second 2 refl e st.0) (moved ended) few refl value st
+    where
+      value : (j : Key) → values (with_words (one ∷ word ∷ [])) j ≡ upd Second word (values (with_words (one ∷ []))) j
+      value First = refl
+      value Second = refl
+      value Nodes = refl
+      value Workers = refl
 
-    moved : (b : Bool) → to_positional (rules Migrates) (arg_by_index (rules Migrates) 2) word (at rows pending (mk (one ∷ []) nodes workers None b)) (held rows pending)
-        ≡ at (settled_rows (rules Migrates) pending rows) (Some (id Second, word ∷ [])) (mk (one ∷ word ∷ []) nodes workers None b)
-    moved true = rw (not_both (is_pending (rule Second) pending) (held rows pending) (settled (rules Migrates) (held rows pending))) refl
-    moved false = rw (not_both (is_pending (rule Second) pending) (held rows pending) (settled (rules Migrates) (held rows pending))) refl
+      moved : (b : Bool) → to_positional (rules verb) (Some (rule Second)) word (at rows pending (mk (one ∷ []) nodes workers None b)) (held rows pending)
+          ≡ at now (Some (id Second, word ∷ [])) (mk (one ∷ word ∷ []) nodes workers None b)
+      moved true = rw (not_both (is_pending (rule Second) pending) (held rows pending) (settled (rules verb) (held rows pending))) refl
+      moved false = rw (not_both (is_pending (rule Second) pending) (held rows pending) (settled (rules verb) (held rows pending))) refl
 
 pub puts : (verb : Verb) (rows : List Row) (pending : Pending) (words : List Text) (nodes workers : Option Text) (ended : Bool) (word : Text)
     → length words ≤ (form_of verb).words → State verb rows pending (mk words nodes workers None ended) None
     → Puts verb rows pending (mk words nodes workers None ended) word (with_word (form_of verb) (mk words nodes workers None ended) word)
-puts Clears rows pending [] nodes workers ended word few st = put_first Clears rows pending nodes workers ended word refl refl (omega arith) st
-puts Checks rows pending [] nodes workers ended word few st = put_first Checks rows pending nodes workers ended word refl refl (omega arith) st
-puts Generates rows pending [] nodes workers ended word few st = put_first Generates rows pending nodes workers ended word refl refl (omega arith) st
-puts Migrates rows pending [] nodes workers ended word few st = put_first Migrates rows pending nodes workers ended word refl refl (omega arith) st
-puts Clears rows pending (one ∷ []) nodes workers ended word few st = puts_none Clears rows pending 2 refl
-puts Checks rows pending (one ∷ []) nodes workers ended word few st = puts_none Checks rows pending 2 refl
-puts Generates rows pending (one ∷ []) nodes workers ended word few st = puts_none Generates rows pending 2 refl
-puts Migrates rows pending (one ∷ []) nodes workers ended word few st = put_second rows pending nodes workers ended one word st
-puts Migrates rows pending (one ∷ two ∷ []) nodes workers ended word few st = puts_none Migrates rows pending 3 refl
-puts Clears rows pending (one ∷ two ∷ more) nodes workers ended word few st = absurd (omega (arith, few))
-puts Checks rows pending (one ∷ two ∷ more) nodes workers ended word few st = absurd (omega (arith, few))
-puts Generates rows pending (one ∷ two ∷ more) nodes workers ended word few st = absurd (omega (arith, few))
-puts Migrates rows pending (one ∷ two ∷ three ∷ more) nodes workers ended word few st = absurd (omega (arith, few))
+puts Clears rows pending [] n w ended word few st = put_first Clears rows pending n w ended word refl refl (omega arith) st
+puts Clears rows pending (one ∷ []) n w ended word few st = puts_none Clears rows pending 2 refl
+puts Clears rows pending (one ∷ two ∷ more) n w ended word few st = absurd (omega (arith, few))
+puts Checks rows pending [] n w ended word few st = put_first Checks rows pending n w ended word refl refl (omega arith) st
+puts Checks rows pending (one ∷ []) n w ended word few st = puts_none Checks rows pending 2 refl
+puts Checks rows pending (one ∷ two ∷ more) n w ended word few st = absurd (omega (arith, few))
+puts Generates rows pending [] n w ended word few st = put_first Generates rows pending n w ended word refl refl (omega arith) st
+puts Generates rows pending (one ∷ []) n w ended word few st = puts_none Generates rows pending 2 refl
+puts Generates rows pending (one ∷ two ∷ more) n w ended word few st = absurd (omega (arith, few))
+puts Feeds rows pending [] n w ended word few st = put_first Feeds rows pending n w ended word refl refl (omega arith) st
+puts Feeds rows pending (one ∷ []) n w ended word few st = puts_none Feeds rows pending 2 refl
+puts Feeds rows pending (one ∷ two ∷ more) n w ended word few st = absurd (omega (arith, few))
+puts Migrates rows pending [] n w ended word few st = put_first Migrates rows pending n w ended word refl refl (omega arith) st
+puts Migrates rows pending (one ∷ []) n w ended word few st = put_second Migrates rows pending n w ended word one refl refl (omega arith) st
+puts Migrates rows pending (one ∷ two ∷ []) n w ended word few st = puts_none Migrates rows pending 3 refl
+puts Migrates rows pending (one ∷ two ∷ three ∷ more) n w ended word few st = absurd (omega (arith, few))
 
 -- ---- an option with its value
 

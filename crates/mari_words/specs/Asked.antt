@@ -7,12 +7,13 @@ use Rattle.mari_words.specs.declared.asking.Asked.{Asked as Lent}
 use Rattle.mari_words.specs.declared.asking.Asked.TheVariants as lent
 
 -- a folder to clear, with how many nodes each run's search may make and how many workers; a folder to check; the number
--- of a generated day; and a folder of which a file's new form is printed
+-- of a generated day; a folder of which a file's new form is printed; and a folder whose publication is printed as JSON
 pub data Asked : Type 0 where
   Clear : (folder : List ℕ) (nodes workers : ℕ) → Asked
   Check : (folder : List ℕ) → Asked
   Generate : (number : ℕ) → Asked
   Migrate : (folder : List ℕ) (part : FilePart) → Asked
+  Feed : (folder : List ℕ) → Asked
 
 -- the same, of a command
 abbrev pub asked : Command → Asked
@@ -20,6 +21,7 @@ asked (owned.Clear folder nodes workers) = Asked.Clear (string_bytes folder) nod
 asked (owned.Check folder) = Asked.Check (string_bytes folder)
 asked (owned.Generate number) = Asked.Generate number
 asked (owned.Migrate folder part) = Asked.Migrate (string_bytes folder) part
+asked (owned.Feed folder) = Asked.Feed (string_bytes folder)
 
 -- the same, where the folder is lent
 abbrev pub lent_asked : Lent → Asked
@@ -27,3 +29,4 @@ lent_asked (lent.Clear folder nodes workers) = Asked.Clear folder.now nodes work
 lent_asked (lent.Check folder) = Asked.Check folder.now
 lent_asked (lent.Generate number) = Asked.Generate number
 lent_asked (lent.Migrate folder part) = Asked.Migrate folder.now part
+lent_asked (lent.Feed folder) = Asked.Feed folder.now

@@ -16,11 +16,12 @@ option_rule name = record (new_rule name) { long = Some name; action = Some Set 
 abbrev pub one_word : Text → App
 one_word name = with_rule (new_app name) (required_word (codes "first"))
 
-abbrev pub clear_line : App
-clear_line = with_rule (with_rule (one_word (codes "clear")) (option_rule (codes "nodes"))) (option_rule (codes "workers"))
+abbrev pub two_words : Text → App
+two_words name = with_rule (one_word name) (required_word (codes "second"))
 
-abbrev pub migrate_line : App
-migrate_line = with_rule (one_word (codes "migrate")) (required_word (codes "second"))
+-- the options behind the words
+abbrev pub with_options : App → App
+with_options app = with_rule (with_rule app (option_rule (codes "nodes"))) (option_rule (codes "workers"))
 
 -- a command of this line, which whatever it is added to has as its subcommand
 abbrev pub IsSubcommand : App → Command → Type 0
@@ -42,7 +43,9 @@ line =
     with_subcommand
     (with_subcommand
     (with_subcommand
-    (with_subcommand bare_line clear_line.top)
+    (with_subcommand
+    (with_subcommand bare_line (with_options (one_word (codes "clear"))).top)
     (one_word (codes "check")).top)
     (one_word (codes "generate")).top)
-    migrate_line.top
+    (two_words (codes "migrate")).top)
+    (one_word (codes "feed")).top

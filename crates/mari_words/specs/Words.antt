@@ -12,7 +12,7 @@ use Rattle.mari_words.specs.declared.command.WordsFault.TheVariants.{Usage, Memo
 use Rattle.mari_units.specs.declared.limits.TheConstants.{LAST_NUMBER, MOST_NODES, MOST_WORKERS}
 use Rattle.mari_words.specs.declared.command.TheConstants.{USUAL_NODES, USUAL_WORKERS}
 use Rattle.mari_words.specs.Asked.{Asked, asked}
-use Rattle.mari_words.specs.Asked.Asked.{Clear, Check, Generate, Migrate}
+use Rattle.mari_words.specs.Asked.Asked.{Clear, Check, Generate, Migrate, Feed}
 use Rattle.mari_words.specs.Seen.{Form, Seen, Text, nothing, seen_from, whole}
 
 -- a folder's word: neither empty nor a dash alone
@@ -39,13 +39,15 @@ pub data Verb : Type 0 where
   Checks : Verb
   Generates : Verb
   Migrates : Verb
+  Feeds : Verb
 
 abbrev pub verb_named : Text → Option Verb
 verb_named name =
     if bytes_eq (codes "clear") name then Some Clears
     else (if bytes_eq (codes "check") name then Some Checks
     else (if bytes_eq (codes "generate") name then Some Generates
-    else (if bytes_eq (codes "migrate") name then Some Migrates else None)))
+    else (if bytes_eq (codes "migrate") name then Some Migrates
+    else (if bytes_eq (codes "feed") name then Some Feeds else None))))
 
 -- how many words stand behind the command's name, and whether options do
 abbrev pub form_of : Verb → Form
@@ -53,6 +55,7 @@ form_of Clears = record { words = 1; has_options = true }
 form_of Checks = record { words = 1; has_options = false }
 form_of Generates = record { words = 1; has_options = false }
 form_of Migrates = record { words = 2; has_options = false }
+form_of Feeds = record { words = 1; has_options = false }
 
 -- the words that belong to no option, and the options' values
 pub record Given : Type 0 where
@@ -64,14 +67,20 @@ pub record Given : Type 0 where
 abbrev pub given_in : Seen → Given
 given_in seen = record { first = slice_get seen.words 0; second = slice_get seen.words 1; nodes = seen.nodes; workers = seen.workers }
 
--- `clear FOLDER [--nodes N] [--workers K]`, `check FOLDER`, `generate NUMBER`, `migrate FOLDER borders` or
--- `migrate FOLDER limits`
+abbrev pub nodes_in : Given → Option ℕ
+nodes_in given = number_or USUAL_NODES 1 MOST_NODES given.nodes
+
+abbrev pub workers_in : Given → Option ℕ
+workers_in given = number_or USUAL_WORKERS 1 MOST_WORKERS given.workers
+
+-- `clear FOLDER [--nodes N] [--workers K]`, `check FOLDER`, `generate NUMBER`, `migrate FOLDER borders`,
+-- `migrate FOLDER limits` or `feed FOLDER`
 abbrev pub asked_for : Verb → Given → Option Asked
 asked_for Clears given = do
   word ← given.first
   folder ← folder_in word
-  nodes ← number_or USUAL_NODES 1 MOST_NODES given.nodes
-  workers ← number_or USUAL_WORKERS 1 MOST_WORKERS given.workers
+  nodes ← nodes_in given
+  workers ← workers_in given
   Some (Clear folder nodes workers)
 asked_for Checks given = do
   word ← given.first
@@ -87,6 +96,10 @@ asked_for Migrates given = do
   name ← given.second
   part ← part_named name
   Some (Migrate folder part)
+asked_for Feeds given = do
+  word ← given.first
+  folder ← folder_in word
+  Some (Feed folder)
 
 -- what the words behind a command's name give, if they are of its form
 abbrev pub given_by : Verb → List Text → Option Given

@@ -4,8 +4,8 @@ ghost use Rattle.std.specs.Prelude.{◌≡◌, ◌≤◌, option_map, IfSome};
 ghost use Rattle.std.specs.Option.{option_copied};
 ghost use Rattle.clap.specs.Words.{first_of, found_of, rows_of};
 ghost use Rattle.mari_words.specs.Asked.{lent_asked};
-ghost use Rattle.mari_words.specs.Words.{asked_for, folder_in, natural_in, number_or, part_named};
-ghost use Rattle.mari_words.specs.Words.Verb.{Clears, Checks, Generates, Migrates};
+ghost use Rattle.mari_words.specs.Words.{asked_for, folder_in, natural_in, nodes_in, number_or, part_named, workers_in};
+ghost use Rattle.mari_words.specs.Words.Verb.{Clears, Checks, Generates, Migrates, Feeds};
 ghost use Rattle.mari_words.specs.Given.{asked_by, given_of};
 
 use crate::command::{FilePart, USUAL_NODES, USUAL_WORKERS};
@@ -29,6 +29,9 @@ pub enum Asked<'a> {
     Migrate {
         folder: &'a str,
         part: FilePart,
+    },
+    Feed {
+        folder: &'a str,
     },
 }
 
@@ -84,13 +87,27 @@ fn part(word: &str) -> Option<FilePart>
     }
 }
 
+/// How many nodes a run's search may make.
+fn nodes(found: &ArgMatches<'_>) -> Option<u32>
+    ensures { result ≡ nodes_in (given_of (rows_of (found_of found.now))) }
+{
+    number_of(USUAL_NODES, 1, MOST_NODES, text(found, "nodes"))
+}
+
+/// How many workers search a run.
+fn workers(found: &ArgMatches<'_>) -> Option<u32>
+    ensures { result ≡ workers_in (given_of (rows_of (found_of found.now))) }
+{
+    number_of(USUAL_WORKERS, 1, MOST_WORKERS, text(found, "workers"))
+}
+
 /// What `clear` asks for, if its words are right.
 fn clear<'a>(found: &ArgMatches<'a>) -> Option<Asked<'a>>
     ensures { option_map lent_asked result ≡ asked_for Clears (given_of (rows_of (found_of found.now))) }
 {
     let folder = folder(text(found, "first")?)?;
-    let nodes = number_of(USUAL_NODES, 1, MOST_NODES, text(found, "nodes"))?;
-    let workers = number_of(USUAL_WORKERS, 1, MOST_WORKERS, text(found, "workers"))?;
+    let nodes = nodes(found)?;
+    let workers = workers(found)?;
     Some(Asked::Clear {
         folder,
         nodes,
@@ -124,6 +141,14 @@ fn migrate<'a>(found: &ArgMatches<'a>) -> Option<Asked<'a>>
     Some(Asked::Migrate { folder, part })
 }
 
+/// What `feed` asks for, if its words are right.
+fn feed<'a>(found: &ArgMatches<'a>) -> Option<Asked<'a>>
+    ensures { option_map lent_asked result ≡ asked_for Feeds (given_of (rows_of (found_of found.now))) }
+{
+    let folder = folder(text(found, "first")?)?;
+    Some(Asked::Feed { folder })
+}
+
 /// What the command of this name asks for.
 pub fn asked_of<'a>(name: &str, found: &ArgMatches<'a>) -> Option<Asked<'a>>
     ensures { option_map lent_asked result ≡ asked_by name.now (rows_of (found_of found.now)) }
@@ -133,6 +158,7 @@ pub fn asked_of<'a>(name: &str, found: &ArgMatches<'a>) -> Option<Asked<'a>>
         "check" => check(found),
         "generate" => generate(found),
         "migrate" => migrate(found),
+        "feed" => feed(found),
         _ => None,
     }
 }

@@ -48,6 +48,10 @@ pub enum Command {
         folder: String,
         part: FilePart,
     },
+    /// `feed FOLDER`.
+    Feed {
+        folder: String,
+    },
 }
 
 /// Why words gave no command: they are none, or there was no memory to keep it.
@@ -78,6 +82,9 @@ fn kept(alloc: Global, lent: Asked<'_>) -> Result<Command, Memory>
         Asked::Migrate { folder, part } => Command::Migrate {
             folder: String::from_str(alloc, folder)?,
             part,
+        },
+        Asked::Feed { folder } => Command::Feed {
+            folder: String::from_str(alloc, folder)?,
         },
     })
 }

@@ -1,8 +1,8 @@
-//! The program's command line: one command with four subcommands, one level, without help or version.
+//! The program's command line: one command with five subcommands, one level, without help or version.
 
 ghost use Rattle.std.specs.Prelude.{◌≡◌, IfOk, false};
 ghost use Rattle.clap.specs.Words.{app_of, rule_of};
-ghost use Rattle.mari_words.specs.Line.{IsSubcommand, bare_line, clear_line, line, migrate_line, one_word, option_rule, required_word};
+ghost use Rattle.mari_words.specs.Line.{IsSubcommand, bare_line, line, one_word, option_rule, required_word, two_words, with_options};
 
 use clap::{Arg, ArgAction, Command as Parser};
 use mari_units::Memory;
@@ -32,24 +32,24 @@ fn with_word<'a>(alloc: Global, name: &'a str) -> Result<Parser<'a>, Memory>
     Ok(command)
 }
 
-/// `clear`: its folder and its options.
-fn clear<'a>(alloc: Global) -> Result<Parser<'a>, Memory>
-    ensures { IfOk result (IsSubcommand clear_line) }
+/// A subcommand with two words behind it.
+fn with_two_words<'a>(alloc: Global, name: &'a str) -> Result<Parser<'a>, Memory>
+    ensures { IfOk result (IsSubcommand (two_words name.entry.now)) }
 {
-    let command = Parser::new(alloc, "clear")
+    let command = Parser::new(alloc, name)
         .arg(word(alloc, "first"))?
-        .arg(option(alloc, "nodes"))?
-        .arg(option(alloc, "workers"))?;
+        .arg(word(alloc, "second"))?;
     Ok(command)
 }
 
-/// `migrate`: its folder and the page that is printed.
-fn migrate<'a>(alloc: Global) -> Result<Parser<'a>, Memory>
-    ensures { IfOk result (IsSubcommand migrate_line) }
+/// A subcommand with one word behind it, and the options.
+fn with_word_and_options<'a>(alloc: Global, name: &'a str) -> Result<Parser<'a>, Memory>
+    ensures { IfOk result (IsSubcommand (with_options (one_word name.entry.now))) }
 {
-    let command = Parser::new(alloc, "migrate")
+    let command = Parser::new(alloc, name)
         .arg(word(alloc, "first"))?
-        .arg(word(alloc, "second"))?;
+        .arg(option(alloc, "nodes"))?
+        .arg(option(alloc, "workers"))?;
     Ok(command)
 }
 
@@ -70,9 +70,10 @@ pub fn parser<'a>(alloc: Global) -> Result<Parser<'a>, Memory>
     ensures { IfOk result (λ parser. app_of parser ≡ line) }
 {
     let mari = bare(alloc)
-        .subcommand(clear(alloc)?)?
+        .subcommand(with_word_and_options(alloc, "clear")?)?
         .subcommand(with_word(alloc, "check")?)?
         .subcommand(with_word(alloc, "generate")?)?
-        .subcommand(migrate(alloc)?)?;
+        .subcommand(with_two_words(alloc, "migrate")?)?
+        .subcommand(with_word(alloc, "feed")?)?;
     Ok(mari)
 }

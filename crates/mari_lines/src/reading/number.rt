@@ -140,8 +140,8 @@ fn all_digits(text: &[u8]) -> bool
     text.iter().all(|byte| byte.is_ascii_digit())
 }
 
-/// Whether a text has the form of a date.
-fn is_date(text: &[u8]) -> bool
+/// Whether a text has the form of a date: four digits, a hyphen, two digits, a hyphen and two digits.
+pub fn is_date(text: &[u8]) -> bool
     ensures { result ≡ is_date_text text.now }
 {
     text.len() == 10

@@ -3,7 +3,9 @@ use Rattle.mari_io.specs.Outside.{page_of}
 use Rattle.mari_io.specs.declared.shelf.Fetch.TheVariants as fetch
 use Rattle.mari_check.specs.Streams.{FaultTells}
 use Rattle.mari_check.specs.declared.verdict.Verdict.{Verdict}
-use Rattle.mari_check.proofs.Piecewise.{counts-none, counts-on, end-never, end-no-fetch, end-stops, end-tells, fetch-stops, never-wrapped, open-fault, opened-page, tells-same, tells-whole}
+use Rattle.mari_io.proofs.Counting.{counts_none}
+use Rattle.mari_publish.proofs.Paging.{opened-page}
+use Rattle.mari_check.proofs.Piecewise.{counts-on, end-never, end-no-fetch, end-stops, end-tells, fetch-stops, never-wrapped, open-fault, tells-same, tells-whole}
 use Rattle.mari_check.proofs.stream.check_stream.Goals as goal
 
 pub returns-in-Err-open_page-clause-told : goal.returns-in-Err-open_page-clause-told
@@ -56,17 +58,17 @@ returns-in-Ok-read_pieces-clause-memory g c = let r = c.in-Ok-read_pieces.ensure
 pub returns-in-Ok-read_pieces-clause-failed : goal.returns-in-Ok-read_pieces-clause-failed
 returns-in-Ok-read_pieces-clause-failed g c =
     let r = c.in-Ok-read_pieces.ensures.read in
-    counts-none _ _ _ _ (end-no-fetch c.args.books.now r.0 c.end.result fetch.Failed (c.end.ensures c.args.books.now r.0 r.1)) c.in-Ok-open_page.ensures.failed.later c.in-Ok-read_pieces.ensures.failed.later
+    counts_none _ _ _ _ (end-no-fetch c.args.books.now r.0 c.end.result fetch.Failed (c.end.ensures c.args.books.now r.0 r.1)) c.in-Ok-open_page.ensures.failed.later c.in-Ok-read_pieces.ensures.failed.later
 
 pub returns-in-Ok-read_pieces-clause-missing : goal.returns-in-Ok-read_pieces-clause-missing
 returns-in-Ok-read_pieces-clause-missing g c =
     let r = c.in-Ok-read_pieces.ensures.read in
-    counts-none _ _ _ _ (end-no-fetch c.args.books.now r.0 c.end.result fetch.Missing (c.end.ensures c.args.books.now r.0 r.1)) c.in-Ok-open_page.ensures.missing.later c.in-Ok-read_pieces.ensures.missing.later
+    counts_none _ _ _ _ (end-no-fetch c.args.books.now r.0 c.end.result fetch.Missing (c.end.ensures c.args.books.now r.0 r.1)) c.in-Ok-open_page.ensures.missing.later c.in-Ok-read_pieces.ensures.missing.later
 
 pub returns-in-Ok-read_pieces-clause-too_long : goal.returns-in-Ok-read_pieces-clause-too_long
 returns-in-Ok-read_pieces-clause-too_long g c =
     let r = c.in-Ok-read_pieces.ensures.read in
-    counts-none _ _ _ _ (end-no-fetch c.args.books.now r.0 c.end.result fetch.TooLong (c.end.ensures c.args.books.now r.0 r.1)) c.in-Ok-open_page.ensures.too_long.later c.in-Ok-read_pieces.ensures.too_long.later
+    counts_none _ _ _ _ (end-no-fetch c.args.books.now r.0 c.end.result fetch.TooLong (c.end.ensures c.args.books.now r.0 r.1)) c.in-Ok-open_page.ensures.too_long.later c.in-Ok-read_pieces.ensures.too_long.later
 
 pub returns-in-Err-read_pieces-clause-whole : goal.returns-in-Err-read_pieces-clause-whole
 returns-in-Err-read_pieces-clause-whole g c = λ told page answer e is o.

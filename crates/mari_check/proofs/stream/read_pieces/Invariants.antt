@@ -1,6 +1,7 @@
 use Rattle.std.proofs.Common.{◌≡◌, ◌≤◌, ◌-◌, true}
 use Rattle.mari_io.specs.declared.shelf.TheConstants.{MOST_GIVEN}
-use Rattle.mari_check.proofs.Piecewise.{Under}
+use Rattle.mari_publish.proofs.Paging.{Under}
+use Rattle.mari_check.proofs.Piecewise.{ReadsSome}
 use Rattle.mari_check.proofs.stream.read_pieces.Given as goal
 
 -- some of the page has come, and the counts haven't fallen
@@ -8,7 +9,7 @@ abbrev pub invariant-pieces : goal.invariant-pieces
 invariant-pieces g l = record {
   same : g.S.Shelf.pages l.shelf ≡ g.S.Shelf.pages l.fn.shelf;
   stays : g.S.Shelf.is_open l.shelf ≡ true;
-  under : Under l.books (g.S.Shelf.rest l.fn.shelf) (g.S.Shelf.rest l.shelf) (g.S.Shelf.given l.shelf) l.stream;
+  under : Under (ReadsSome l.books l.stream) (g.S.Shelf.rest l.fn.shelf) (g.S.Shelf.rest l.shelf) (g.S.Shelf.given l.shelf);
   faults : g.S.Shelf.faults l.fn.shelf ≤ g.S.Shelf.faults l.shelf;
   misses : g.S.Shelf.misses l.fn.shelf ≤ g.S.Shelf.misses l.shelf;
   overs : g.S.Shelf.overs l.fn.shelf ≤ g.S.Shelf.overs l.shelf;

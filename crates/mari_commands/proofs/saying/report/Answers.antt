@@ -5,7 +5,7 @@ pub returns-in-NoCommand-clause-reported : goal.returns-in-NoCommand-clause-repo
 returns-in-NoCommand-clause-reported g c = rw c.in-NoCommand.is (same_text _ _ _ _ _ _ c.usage_line.ensures c.say.ensures.reports)
 
 pub returns-in-Text-clause-reported : goal.returns-in-Text-clause-reported
-returns-in-Text-clause-reported g c = rw c.in-Text.is (same_text _ _ _ _ _ _ c.deref.ensures.value c.say-in-Text.ensures.reports)
+returns-in-Text-clause-reported g c = rw c.in-Text.is (same_text _ _ _ _ _ _ c.deref-in-Text.ensures.value c.say-in-Text.ensures.reports)
 
 pub returns-in-NoPage-clause-reported : goal.returns-in-NoPage-clause-reported
 returns-in-NoPage-clause-reported g c = rw c.in-NoPage.is c.say_no_page.ensures.reports
@@ -18,3 +18,6 @@ returns-in-Invalid-clause-reported g c = rw c.in-Invalid.is c.say_invalid.ensure
 
 pub returns-in-Day-clause-reported : goal.returns-in-Day-clause-reported
 returns-in-Day-clause-reported g c = rw c.in-Day.is c.clear_alone.ensures.reports
+
+pub returns-in-Feed-clause-untouched : goal.returns-in-Feed-clause-untouched
+returns-in-Feed-clause-untouched g c = λ none. absurd (none (rw c.in-Feed.is tt))

@@ -1,7 +1,9 @@
 use Rattle.std.proofs.Common.{◌++◌, [], ◌∷◌, sym, subst}
 use Rattle.mari_publish.specs.Pieces.{ReaderState, ComesFrom}
-use Rattle.mari_check.proofs.Piecewise.{all-read, next-fault, next-part, next-stands}
-use Rattle.mari_check.proofs.Streaming.{comes, fewer-left}
+use Rattle.mari_publish.proofs.Paging.{next-part, next-stands}
+use Rattle.mari_publish.proofs.PartCounts.{fewer-left}
+use Rattle.mari_check.proofs.Piecewise.{all-read, next-fault}
+use Rattle.mari_check.proofs.Streaming.{comes}
 use Rattle.mari_check.proofs.stream.Stream.take_parts.Goals as goal
 
 pub take-requires-clause-comes : goal.take-requires-clause-comes

@@ -1,7 +1,7 @@
 use Rattle.std.proofs.Common.{◌-◌, ℕ, List}
 use Rattle.mari_publish.specs.declared.publication.Part.{Part}
 use Rattle.mari_check.specs.Streams.{HasRead}
-use Rattle.mari_check.proofs.Streaming.{count_of}
+use Rattle.mari_publish.proofs.PartCounts.{count_of}
 use Rattle.mari_check.proofs.stream.Stream.take_parts.Given as goal
 
 -- some more parts of the text were taken

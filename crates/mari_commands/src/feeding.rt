@@ -1,0 +1,49 @@
+//! `feed FOLDER`: a folder's publication as JSON, a line for each of its parts.
+
+ghost use Rattle.std.specs.Prelude.{◌≡◌};
+ghost use Rattle.mari_io.specs.Outside.{Counts, Rose};
+ghost use Rattle.mari_commands.specs.Outcome.{ReportsParts, ReportsText};
+
+use crate::checking::text_refusal;
+use crate::saying::{say_no_page, say_refused};
+use crate::status::Status;
+use mari_day::{PUBLICATION, file_name, path_in};
+use mari_feed::{FeedStop, print_feed};
+use mari_io::{Shelf, Sink};
+use mari_publish::TextFault;
+use std::alloc::Global;
+
+/// Writes the line of a publication whose text has a fault.
+fn say_fault<K: Sink>(alloc: Global, sink: &mut K, fault: TextFault) -> Status
+    ensures reports { ReportsText fault (K.taken sink.old) (K.taken sink.new) result }
+    ensures cause { Counts (result ≡ Status.WriteFault) (K.faults sink.old) (K.faults sink.new) }
+{
+    match text_refusal(fault) {
+        Some(refusal) => say_refused(alloc, sink, refusal),
+        None => Status::Memory,
+    }
+}
+
+/// Prints the feed of a folder's publication, which is read in pieces, and then the line of the status, where it has
+/// one. Of the folder it reads the publication alone.
+pub fn fed<S: Shelf, K: Sink>(alloc: Global, shelf: &mut S, sink: &mut K, folder: &str) -> Status
+    ensures same { S.pages shelf.new ≡ S.pages shelf.old }
+    ensures reported { ReportsParts (S.pages shelf.old) (Rose (S.faults shelf.old) (S.faults shelf.new)) folder.now (K.taken sink.old) (K.taken sink.new) result }
+
+    // Why the page wasn't had, or a text not written.
+    ensures read_fault { Counts (result ≡ Status.ReadFault) (S.faults shelf.old) (S.faults shelf.new) }
+    ensures missing { Counts (result ≡ Status.Missing) (S.misses shelf.old) (S.misses shelf.new) }
+    ensures too_long { Counts (result ≡ Status.TooLong) (S.overs shelf.old) (S.overs shelf.new) }
+    ensures cause { Counts (result ≡ Status.WriteFault) (K.faults sink.old) (K.faults sink.new) }
+{
+    let Ok(path) = path_in(alloc, folder, file_name(PUBLICATION)) else {
+        return Status::Memory;
+    };
+    match print_feed(alloc, shelf, &path, sink) {
+        Ok(()) => Status::Done,
+        Err(FeedStop::Fetch(why)) => say_no_page(alloc, sink, PUBLICATION, why),
+        Err(FeedStop::Text(fault)) => say_fault(alloc, sink, fault),
+        Err(FeedStop::Sink) => Status::WriteFault,
+        Err(FeedStop::Memory) => Status::Memory,
+    }
+}

@@ -1,0 +1,68 @@
+-- The text of a list, item by item.
+use Rattle.std.proofs.Common.{◌≡◌, ◌∙◌, ◌≤◌, ◌<◌, ◌+◌, ℕ, Bool, true, false, List, [], ◌∷◌, ◌++◌, map, length, take, get_or, Result, Ok, Err, refl, sym, ap, arith, append_assoc, append-nil}
+use Rattle.std.specs.Prelude.{nat_lt}
+use Rattle.std.specs.Result.{OnOk}
+use Rattle.std.proofs.lemmas.Bool.Decides.{nat_tests}
+use Rattle.std.proofs.lemmas.List.{take_more, take_all, map-append, length-map, length-take-le}
+use Rattle.serde_json.specs.Data.{Data}
+use Rattle.serde_json.specs.View.{items_of}
+use Rattle.serde_json.specs.Written.{compact_text, items_text}
+
+-- the texts of items, each behind a comma; and those of items of which the first isn't
+abbrev pub behind_commas : List Data → List ℕ
+behind_commas [] = []
+behind_commas (d ∷ ds) = 44 ∷ (compact_text d ++ behind_commas ds)
+
+abbrev pub joined : List Data → List ℕ
+joined [] = []
+joined (d ∷ ds) = compact_text d ++ behind_commas ds
+
+items_behind : (ds : List Data) → items_text true (items_of ds) ≡ behind_commas ds ++ 93 ∷ []
+items_behind [] = refl
+items_behind (d ∷ ds) = ap (λ (t : List ℕ). 44 ∷ (compact_text d ++ t)) (items_behind ds) ∙ ap (λ (t : List ℕ). 44 ∷ t) (sym (append_assoc (compact_text d) (behind_commas ds) (93 ∷ [])))
+
+pub items_joined : (ds : List Data) → items_text false (items_of ds) ≡ joined ds ++ 93 ∷ []
+items_joined [] = refl
+items_joined (d ∷ ds) = ap (λ (t : List ℕ). compact_text d ++ t) (items_behind ds) ∙ sym (append_assoc (compact_text d) (behind_commas ds) (93 ∷ []))
+
+behind_push : (ds : List Data) (d : Data) → behind_commas (ds ++ d ∷ []) ≡ behind_commas ds ++ 44 ∷ compact_text d
+behind_push [] d = ap (λ (t : List ℕ). 44 ∷ t) (append-nil (compact_text d))
+behind_push (e ∷ ds) d = ap (λ (t : List ℕ). 44 ∷ (compact_text e ++ t)) (behind_push ds d) ∙ ap (λ (t : List ℕ). 44 ∷ t) (sym (append_assoc (compact_text e) (behind_commas ds) (44 ∷ compact_text d)))
+
+-- one more item behind none, and behind some
+pub joined_first : (ds : List Data) (d : Data) → ds ≡ [] → joined (ds ++ d ∷ []) ≡ joined ds ++ compact_text d
+joined_first [] d e = append-nil (compact_text d)
+joined_first (x ∷ ds) d e = absurd cc
+
+pub joined_more : (ds : List Data) (d : Data) → (ds ≡ [] → ⊥) → joined (ds ++ d ∷ []) ≡ joined ds ++ 44 ∷ compact_text d
+joined_more [] d some = absurd (some refl)
+joined_more (e ∷ ds) d some = ap (λ (t : List ℕ). compact_text e ++ t) (behind_push ds d) ∙ sym (append_assoc (compact_text e) (behind_commas ds) (44 ∷ compact_text d))
+
+-- ---- the loop over a list
+
+module _ {X : Type 0} (f : X → Data) (xs : List X) (i : ℕ) (x : X) (lt : i < length xs) (at : x ≡ get_or xs i x) where
+  next : map f (take (i + 1) xs) ≡ map f (take i xs) ++ f x ∷ []
+  next = ap (map f) (take_more xs i x lt) ∙ map-append f (take i xs) (get_or xs i x ∷ []) ∙ ap (λ (y : X). map f (take i xs) ++ f y ∷ []) (sym at)
+
+  module _ (old before : List ℕ) (begun : before ≡ old ++ 91 ∷ joined (map f (take i xs))) where
+    pub first_item : (later : Bool) → later ≡ nat_lt 0 i → later ≡ false → (after : List ℕ) → after ≡ before ++ compact_text (f x) → after ≡ old ++ 91 ∷ joined (map f (take (i + 1) xs))
+    first_item later is none after e =
+        let zeroth : i ≡ 0 = grind (arith, nat_tests) in
+        let empty : map f (take i xs) ≡ [] = ap (λ (n : ℕ). map f (take n xs)) zeroth in
+        e ∙ ap (λ (t : List ℕ). t ++ compact_text (f x)) begun ∙ append_assoc old (91 ∷ joined (map f (take i xs))) (compact_text (f x))
+        ∙ ap (λ (t : List ℕ). old ++ 91 ∷ t) (sym (joined_first (map f (take i xs)) (f x) empty)) ∙ ap (λ (ds : List Data). old ++ 91 ∷ joined ds) (sym next)
+
+    pub more_item : (later : Bool) → later ≡ nat_lt 0 i → later ≡ true → (between after : List ℕ) → between ≡ before ++ 44 ∷ [] → after ≡ between ++ compact_text (f x) → after ≡ old ++ 91 ∷ joined (map f (take (i + 1) xs))
+    more_item later is some between after c e =
+        let above : 0 < i = grind (arith, nat_tests) in
+        let long : length (map f (take i xs)) ≡ i = length-map (take i xs) f ∙ length-take-le i xs (omega (arith, lt)) in
+        let not_empty : map f (take i xs) ≡ [] → ⊥ = λ n. let none = ap length n in omega (arith, none, long, above) in
+        let t = 44 ∷ compact_text (f x) in
+        e ∙ ap (λ (s : List ℕ). s ++ compact_text (f x)) c ∙ append_assoc before (44 ∷ []) (compact_text (f x)) ∙ ap (λ (s : List ℕ). s ++ t) begun
+        ∙ append_assoc old (91 ∷ joined (map f (take i xs))) t ∙ ap (λ (s : List ℕ). old ++ 91 ∷ s) (sym (joined_more (map f (take i xs)) (f x) not_empty)) ∙ ap (λ (ds : List Data). old ++ 91 ∷ joined ds) (sym next)
+
+pub all_items : {X R E : Type 0} (r : Result R E) (f : X → Data) (xs : List X) (i : ℕ) (old before after : List ℕ) → length xs ≤ i → before ≡ old ++ 91 ∷ joined (map f (take i xs)) → OnOk r (after ≡ before ++ 93 ∷ []) → OnOk r (after ≡ old ++ 91 ∷ items_text false (items_of (map f xs)))
+all_items (Ok v) f xs i old before after le begun e =
+    e ∙ ap (λ (t : List ℕ). t ++ 93 ∷ []) begun ∙ append_assoc old (91 ∷ joined (map f (take i xs))) (93 ∷ [])
+    ∙ ap (λ (ys : _). old ++ 91 ∷ (joined (map f ys) ++ 93 ∷ [])) (take_all i xs le) ∙ ap (λ (t : List ℕ). old ++ 91 ∷ t) (sym (items_joined (map f xs)))
+all_items (Err x) f xs i old before after le begun e = tt

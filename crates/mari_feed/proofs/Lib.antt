@@ -1,0 +1,12 @@
+pub mod NotRead
+pub mod Gathered
+pub mod Joined
+pub mod Plain
+pub mod Opened
+pub mod Shallow
+pub mod Plainly
+pub mod SameValue
+pub mod ByKey
+pub mod Outcomes
+pub mod Feeding
+pub mod Piecemeal

@@ -1,0 +1,78 @@
+-- What is not read leaves what it is a part of unread.
+use Rattle.std.proofs.Common.{◌≡◌, ◌≢◌, ℕ, List, Result, Ok, Err, Some, None, sym, ap, subst, ◌∙◌}
+use Rattle.serde_json.specs.Data.{Data, Members, member, no_members, object}
+use Rattle.serde_json.specs.Find.{as_object}
+use Rattle.mari_feed.specs.declared.fault.FeedFault.{FeedFault}
+use Rattle.mari_feed.specs.declared.fault.FeedFault.TheVariants as fault
+use Rattle.mari_feed.specs.Reading.{Reads, ReadsMember}
+
+-- ---- members that are known twice, as they were read and as those of a whole
+
+pub begins : (u : Data) (ms ns : Members) → u ≡ object ms → object ns ≡ u → ms ≡ ns
+begins u ms ns read whole = let same : object ms ≡ object ns = sym read ∙ sym whole in cc
+
+pub behind : (key : List ℕ) (d e : Data) (ms ns all : Members) → all ≡ member key d ms → all ≡ member key e ns → ms ≡ ns
+behind key d e ms ns all read whole = let same : member key d ms ≡ member key e ns = sym read ∙ whole in cc
+
+-- members that are read up to here go on
+pub going_on : (key : List ℕ) (d : Data) (ms ns all : Members) → all ≡ member key d ms → ms ≡ ns → all ≡ member key d ns
+going_on key d ms ns all read more = read ∙ ap (λ rest. member key d rest) more
+
+-- ---- faults
+
+-- a fault that is handed on
+abbrev pub HandedOn : {Y : Type 0} → FeedFault → Result Y FeedFault → Type 0
+HandedOn e result = (x : FeedFault) × (result ≡ Err x) × (x ≡ e)
+
+-- a part that each whole has
+pub part_unread : {X Y : Type 0} (R : X → Type 0) (f : X → Data) (t : Data) (S : Y → Type 0) (g : Y → Data) (u : Data) (e : FeedFault)
+    → Reads R f t (Err e) → ((y : Y) → S y → g y ≡ u → (x : X) × R x × (f x ≡ t)) → Reads S g u (Err e)
+part_unread R f t S g u fault.NotJson none part = none
+part_unread R f t S g u fault.NotAPart none part = λ y r w. let x = part y r w in none x.0 x.1 x.2
+part_unread R f t S g u fault.Memory none part = tt
+
+-- the same where the fault is handed on
+pub handed_on : {X Y : Type 0} (R : X → Type 0) (f : X → Data) (t : Data) (S : Y → Type 0) (g : Y → Data) (u : Data) (e : FeedFault) (result : Result Y FeedFault)
+    → HandedOn e result → Reads R f t (Err e) → ((y : Y) → S y → g y ≡ u → (x : X) × R x × (f x ≡ t)) → Reads S g u result
+handed_on R f t S g u e result is none part =
+    subst (λ r. Reads S g u r) (sym is.1) (subst (λ x. Reads S g u (Err x)) (sym is.2) (part_unread R f t S g u e none part))
+
+-- a member that no whole has there
+pub member_unread : {X Y : Type 0} (key : List ℕ) (R : X → Type 0) (f : X → Data) (ms left : Members) (S : Y → Type 0) (g : Y → Data) (u : Data) (e : FeedFault) (result : Result Y FeedFault)
+    → HandedOn e result → ReadsMember key R f ms left (Err e)
+    → ((y : Y) → S y → g y ≡ u → (x : X) × (others : Members) × R x × (ms ≡ member key (f x) others)) → Reads S g u result
+member_unread key R f ms left S g u e result is none part =
+    subst (λ r. Reads S g u r) (sym is.1) (subst (λ x. Reads S g u (Err x)) (sym is.2) (by_fault e none))
+  where
+    by_fault : (e : FeedFault) → ReadsMember key R f ms left (Err e) → Reads S g u (Err e)
+    by_fault fault.NotJson none = none
+    by_fault fault.NotAPart none = λ y r w. let x = part y r w in none x.0 x.1 x.2 x.3
+    by_fault fault.Memory none = tt
+
+-- a value that is no object, though each whole is one
+pub no_object : {Y : Type 0} (S : Y → Type 0) (g : Y → Data) (u : Data) (e : FeedFault) (result : Result Y FeedFault)
+    → HandedOn e result → (e ≡ fault.NotAPart) × (as_object u ≡ None) → ((y : Y) → (ms : Members) × (g y ≡ object ms)) → Reads S g u result
+no_object S g u e result is none whole =
+    subst (λ r. Reads S g u r) (sym is.1) (subst (λ x. Reads S g u (Err x)) (sym (is.2 ∙ none.0)) (λ y r w. never (whole y).0 (ap as_object (sym (whole y).1 ∙ w) ∙ none.1)))
+  where
+    never : (ms : Members) → Some ms ≡ None → ⊥
+    never ms e = cc
+
+-- a member too many
+pub not_the_end : {Y : Type 0} (ms : Members) (S : Y → Type 0) (g : Y → Data) (u : Data) (e : FeedFault) (result : Result Y FeedFault)
+    → HandedOn e result → (e ≡ fault.NotAPart) × (ms ≢ no_members) → ((y : Y) → S y → g y ≡ u → ms ≡ no_members) → Reads S g u result
+not_the_end ms S g u e result is more whole =
+    subst (λ r. Reads S g u r) (sym is.1) (subst (λ x. Reads S g u (Err x)) (sym (is.2 ∙ more.0)) (λ y r w. more.1 (whole y r w)))
+
+-- the value of a member is read or not, and so is the member
+pub member_read : {X : Type 0} (key : List ℕ) (R : X → Type 0) (f : X → Data) (ms left : Members) (d : Data) (result : Result X FeedFault) → ms ≡ member key d left → Reads R f d result → ReadsMember key R f ms left result
+member_read key R f ms left d (Ok x) is r = (r.0, is ∙ ap (λ v. member key v left) (sym r.1))
+member_read key R f ms left d (Err fault.NotJson) is r = r
+member_read key R f ms left d (Err fault.NotAPart) is r = λ x others range e. let same : f x ≡ d = cc in r x range same
+member_read key R f ms left d (Err fault.Memory) is r = tt
+
+-- another key
+pub other_key : {X : Type 0} (key : List ℕ) (R : X → Type 0) (f : X → Data) (ms left : Members) (e : FeedFault) (result : Result X FeedFault)
+    → HandedOn e result → (e ≡ fault.NotAPart) × ((d : Data) (others : Members) → ms ≡ member key d others → ⊥) → ReadsMember key R f ms left result
+other_key key R f ms left e result is none =
+    subst (λ r. ReadsMember key R f ms left r) (sym is.1) (subst (λ x. ReadsMember key R f ms left (Err x)) (sym (is.2 ∙ none.0)) (λ x others range w. none.1 (f x) others w))

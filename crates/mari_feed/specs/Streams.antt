@@ -1,0 +1,164 @@
+-- The feed of a page that is read in pieces: what is printed of it, by how the printing ends.
+use Rattle.std.specs.Prelude.{◌≡◌, ◌≤◌, ◌⊎◌, ℕ, true, List, [], ◌∷◌, ◌++◌, length, Option, Some, None, Result, Ok, Err, ⊤}
+use Rattle.std.specs.List.{AllByRecursion, flat_map}
+use Rattle.mari_io.specs.Taken.{TookPart, then_took}
+use Rattle.mari_io.specs.declared.shelf.Fetch.{Fetch}
+use Rattle.mari_io.specs.declared.shelf.Fetch.TheVariants as fetch
+use Rattle.mari_io.specs.Outside.{most_given}
+use Rattle.mari_publish.specs.Faults.{IsText}
+use Rattle.mari_publish.specs.Paged.{IsLineFault, IsToldFault, IsTooLong}
+use Rattle.mari_publish.specs.Pieces.{ComeState, ComesFrom, HoldsParts, NoFault, NoPart, ReaderState, parts_of}
+use Rattle.mari_publish.specs.declared.fault.TextFault.{TextFault}
+use Rattle.mari_publish.specs.declared.fault.TextFault.TheVariants as text_fault
+use Rattle.mari_publish.specs.declared.publication.Part.{Part}
+use Rattle.mari_publish.specs.declared.publication.Publication.{Publication}
+use Rattle.mari_feed.specs.Texts.{IsLineOf, json_of}
+use Rattle.mari_feed.specs.declared.stream.FeedStop.{FeedStop}
+use Rattle.mari_feed.specs.declared.stream.FeedStop.TheVariants.{Fetch as OfFetch, Text as OfText, Sink as OfSink, Memory as NoMemory}
+
+-- ---- what is printed
+
+-- the line of a part
+abbrev pub line_of : Part → List ℕ
+line_of x = json_of x ++ 10 ∷ []
+
+-- the lines of parts
+abbrev pub feed_of : List Part → List ℕ
+feed_of parts = flat_map line_of parts
+
+-- without its line feed each line is JSON of its part, on one line; so it is read as that part, or memory runs out
+abbrev pub AreReadBack : List Part → Type 0
+AreReadBack parts = AllByRecursion (λ x. IsLineOf (json_of x) x) parts
+
+-- the lines of the first parts of a text were taken, or of none
+pub record TookFirst (text : List ℕ) (before after : Option (List ℕ)) : Type 0 where
+  pub parts : List Part
+  pub first : HoldsParts text parts
+  pub back : AreReadBack parts
+  pub took : after ≡ then_took before (feed_of parts)
+
+-- the lines of all parts were taken that are whole in a text
+pub record TookAll (text : List ℕ) (before after : Option (List ℕ)) : Type 0 where
+  pub parts : List Part
+  pub first : HoldsParts text parts
+  pub none : NoPart text parts
+  pub back : AreReadBack parts
+  pub took : after ≡ then_took before (feed_of parts)
+
+-- a first part of such lines was taken
+pub record TookSome (text : List ℕ) (before after : Option (List ℕ)) : Type 0 where
+  pub parts : List Part
+  pub first : HoldsParts text parts
+  pub back : AreReadBack parts
+  pub took : TookPart before after (feed_of parts)
+
+-- the lines of all parts of the publication were taken whose text this is
+pub record TookFeed (text : List ℕ) (before after : Option (List ℕ)) : Type 0 where
+  pub publication : Publication
+  pub is : IsText text publication
+  pub back : AreReadBack (parts_of publication)
+  pub took : after ≡ then_took before (feed_of (parts_of publication))
+
+-- how the printing ends where the page isn't held
+abbrev pub MissTells : (before after : Option (List ℕ)) → FeedStop → Type 0
+MissTells before after (OfFetch fetch.Failed) = after ≡ before
+MissTells before after (OfFetch fetch.Missing) = after ≡ before
+MissTells before after (OfFetch fetch.TooLong) = ⊥
+MissTells before after (OfFetch fetch.Memory) = ⊥
+MissTells before after (OfText f) = ⊥
+MissTells before after OfSink = ⊥
+MissTells before after NoMemory = after ≡ before
+
+-- how it stops where it is held
+abbrev pub StopTells : (page : List ℕ) → (before after : Option (List ℕ)) → FeedStop → Type 0
+StopTells page before after (OfFetch fetch.Failed) = TookFirst page before after
+StopTells page before after (OfFetch fetch.Missing) = ⊥
+StopTells page before after (OfFetch fetch.TooLong) = IsTooLong page × TookFirst page before after
+StopTells page before after (OfFetch fetch.Memory) = ⊥
+StopTells page before after (OfText f) = IsToldFault page f × TookAll page before after
+StopTells page before after OfSink = TookSome page before after
+StopTells page before after NoMemory = TookFirst page before after
+
+-- what is said of the page and of what was taken
+abbrev pub FeedTells : {T : Type 0} → Option (List ℕ) → (before after : Option (List ℕ)) → Result T FeedStop → Type 0
+FeedTells None before after (Ok done) = ⊥
+FeedTells None before after (Err why) = MissTells before after why
+FeedTells (Some page) before after (Ok done) = (length page ≤ most_given) × TookFeed page before after
+FeedTells (Some page) before after (Err why) = StopTells page before after why
+
+-- where a text is read whole, the same is said of it: it is printed to its end, or the same fault is told
+abbrev pub SameAsRead : {T : Type 0} → Result Publication TextFault → Result T FeedStop → Type 0
+SameAsRead (Ok p) (Ok done) = ⊤
+SameAsRead (Ok p) (Err (OfText f)) = ⊥
+SameAsRead (Err e) (Ok done) = e ≡ text_fault.Memory
+SameAsRead (Err e) (Err (OfText f)) = (e ≡ f) ⊎ (e ≡ text_fault.Memory)
+SameAsRead answer (Err (OfFetch f)) = ⊤
+SameAsRead answer (Err OfSink) = ⊤
+SameAsRead answer (Err NoMemory) = ⊤
+
+-- ---- why it stopped
+
+-- a call of the shelf gave this fault
+abbrev pub IsFeedFetch : {T : Type 0} → Fetch → Result T FeedStop → Type 0
+IsFeedFetch f (Err (OfFetch g)) = g ≡ f
+IsFeedFetch f (Err (OfText g)) = ⊥
+IsFeedFetch f (Err OfSink) = ⊥
+IsFeedFetch f (Err NoMemory) = ⊥
+IsFeedFetch f (Ok x) = ⊥
+
+-- want of memory is told as a fault of the shelf or of the text
+abbrev pub IsWrapped : {T : Type 0} → Result T FeedStop → Type 0
+IsWrapped (Err (OfFetch f)) = f ≡ fetch.Memory
+IsWrapped (Err (OfText f)) = f ≡ text_fault.Memory
+IsWrapped (Err OfSink) = ⊥
+IsWrapped (Err NoMemory) = ⊥
+IsWrapped (Ok x) = ⊥
+
+-- how a fault of the shelf is told, and one of the text
+abbrev pub stop_of_fetch : Fetch → FeedStop
+stop_of_fetch fetch.Failed = OfFetch fetch.Failed
+stop_of_fetch fetch.Missing = OfFetch fetch.Missing
+stop_of_fetch fetch.TooLong = OfFetch fetch.TooLong
+stop_of_fetch fetch.Memory = NoMemory
+
+abbrev pub stop_of_text : TextFault → FeedStop
+stop_of_text (text_fault.BadLine n) = OfText (text_fault.BadLine n)
+stop_of_text (text_fault.BadOrder n) = OfText (text_fault.BadOrder n)
+stop_of_text (text_fault.Truncated n) = OfText (text_fault.Truncated n)
+stop_of_text text_fault.Memory = NoMemory
+
+-- ---- what has come
+
+-- a line was written, or a first part of it, or there was no memory for it
+abbrev pub WroteLine : {T : Type 0} → Part → (before after : Option (List ℕ)) → Result T FeedStop → Type 0
+WroteLine x before after (Ok done) = after ≡ then_took before (line_of x)
+WroteLine x before after (Err (OfFetch f)) = ⊥
+WroteLine x before after (Err (OfText f)) = ⊥
+WroteLine x before after (Err OfSink) = TookPart before after (line_of x)
+WroteLine x before after (Err NoMemory) = after ≡ before
+
+-- a text has come, and the lines of these parts of it were taken from the start on
+pub record HasFed (start : Option (List ℕ)) (text : List ℕ) (parts : List Part) (come : ComeState) (now : Option (List ℕ)) : Type 0 where
+  pub stands : ComesFrom come text parts
+  pub took : now ≡ then_took start (feed_of parts)
+
+-- the lines of all parts that have come were taken, and no whole line has a fault
+pub record AllFed (start : Option (List ℕ)) (text : List ℕ) (reader : ReaderState) (now : Option (List ℕ)) : Type 0 where
+  pub parts : List Part
+  pub fed : HasFed start text parts reader.come now
+  pub waits : reader.waits ≡ true
+  pub none : NoPart text parts
+  pub no_fault : NoFault text
+
+-- how far the text that has come is printed
+abbrev pub PartsTell : {T : Type 0} → Option (List ℕ) → List ℕ → ReaderState → Option (List ℕ) → Result T FeedStop → Type 0
+PartsTell start text reader now (Ok done) = AllFed start text reader now
+PartsTell start text reader now (Err (OfFetch f)) = ⊥
+PartsTell start text reader now (Err (OfText f)) = IsLineFault text f × TookAll text start now
+PartsTell start text reader now (Err OfSink) = TookSome text start now
+PartsTell start text reader now (Err NoMemory) = TookFirst text start now
+
+-- how far a page is printed that is read to its end, or as far as could be
+abbrev pub PiecesTell : {T : Type 0} → List ℕ → Option (List ℕ) → ReaderState → Option (List ℕ) → Result T FeedStop → Type 0
+PiecesTell page start reader now (Ok done) = (length page ≤ most_given) × AllFed start page reader now
+PiecesTell page start reader now (Err why) = StopTells page start now why

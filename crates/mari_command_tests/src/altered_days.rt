@@ -8,7 +8,7 @@ use std::sync::Wait;
 use std::test::Fail;
 use std::thread::Threads;
 
-/// What stands before the first place of a piece in a text, another piece in its place, and what stands behind it.
+/// What stands before the first place of a piece in a text, another piece in its place, and what stands after it.
 fn altered<'a>(
     text: &'a str,
     old: &str,

@@ -27,6 +27,7 @@ pub(crate) const ONE_DEMAND: &str = "run,zone,mw,price\n1,Z,60,\n";
 /// The pages of folder F that differ from case to case. The publication is in parts.
 #[derive(Clone, Copy)]
 pub(crate) struct Folder<'a> {
+    pub(crate) day: &'a str,
     pub(crate) zones: &'a str,
     pub(crate) borders: &'a str,
     pub(crate) bids: &'a str,
@@ -39,6 +40,7 @@ pub(crate) struct Folder<'a> {
 
 /// A folder of one zone, without a border or a link, and with one run.
 pub(crate) const ONE_ZONE: Folder<'static> = Folder {
+    day: DAY,
     zones: "zone,operator\nZ,T\n",
     borders: "from,to,limit,back\n",
     bids: ONE_BID,
@@ -92,7 +94,7 @@ done 1 0
 /// The day that the two zones print, in its parts.
 pub(crate) const TWO_ZONES_DAY: &[&str] = &[HEAD, BLOCK, TOTALS];
 
-/// What is wanted of a printed text: that it is these parts, that it stands so before and behind a certificate, or that
+/// What is wanted of a printed text: that it is these parts, that it stands so before and after a certificate, or that
 /// it has each of these lines.
 #[derive(Clone, Copy)]
 pub(crate) enum Printed<'a> {
@@ -112,7 +114,7 @@ impl Printed<'_> {
     }
 }
 
-/// Whether a text is these parts, one behind the other.
+/// Whether a text is these parts, one after the other.
 pub(crate) fn is_joined(text: &str, parts: &[&str]) -> bool {
     let mut rest = text;
     for part in parts {
@@ -183,7 +185,7 @@ pub(crate) const CLEARS_A_PART: Case = Case {
     ..CLEARS
 };
 
-/// The bytes of texts, one behind the other.
+/// The bytes of texts, one after the other.
 pub(crate) fn joined(alloc: Global, parts: &[&str]) -> Result<Vec<u8>, Fail> {
     let mut bytes = Vec::new(alloc);
     for part in parts {
@@ -207,7 +209,7 @@ pub(crate) fn page(alloc: Global, name: &str, bytes: Vec<u8>) -> Result<Page, Fa
 pub(crate) fn pages(alloc: Global, folder: Folder<'_>) -> Result<Vec<Page>, Fail> {
     let mut pages = Vec::new(alloc);
     for (name, text) in &[
-        ("F/day.csv", Some(DAY)),
+        ("F/day.csv", Some(folder.day)),
         ("F/zones.csv", Some(folder.zones)),
         ("F/borders.csv", Some(folder.borders)),
         ("F/bids.csv", Some(folder.bids)),
@@ -250,7 +252,7 @@ pub(crate) fn shelf(
     Ok(MemoryShelf::new(pages, plan))
 }
 
-/// A sink that takes so many bytes in a call, with room for so many, in which the writes of these numbers fail.
+/// A sink that takes at most `most` bytes in a call, with room for `room`, in which the writes of these numbers fail.
 pub(crate) fn sink(
     alloc: Global,
     most: u32,

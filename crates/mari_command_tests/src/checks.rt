@@ -27,7 +27,7 @@ const CHECKS: Case = Case {
     ..CLEARS
 };
 
-/// A direct run behind the two zones' run, whose limits are its own, less the flow before it.
+/// A direct run after the two zones' run, whose limits are its own, less the flow before it.
 const SECOND_RUN: &str = "\
 run 2 1 direct published
 welfare 99939000
@@ -187,7 +187,7 @@ fn each_call_on_the_shelf_that_fails(rt: HostRuntime) -> Result<(), Fail> {
     Ok(())
 }
 
-/// Checks the two zones' day up to a byte, which lacks this line and those behind it.
+/// Checks the two zones' day up to a byte, which lacks this line and those after it.
 fn checks_start(
     rt: &(impl Abort + Threads + Wait + Sync),
     alloc: Global,

@@ -34,7 +34,7 @@ run 24 welfare 399970870
 sum 22978715643
 ";
 
-// Each call on the shelf would fail, since a generated day reads no folder.
+// The first call on the shelf would fail. That there is none is proved, by the clause `untouched`.
 #[test]
 fn the_day_of_number_1(rt: HostRuntime) -> Result<(), Fail> {
     let case = Case {

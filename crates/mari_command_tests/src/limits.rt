@@ -44,6 +44,14 @@ const CASES: &[Case] = &[
         ..CLEARS
     },
     Case {
+        name: "limits whose fetch fails",
+        folder: STATED,
+        faults: &[8],
+        code: 4,
+        printed: Whole(&["readfault limits.csv\n"]),
+        ..CLEARS
+    },
+    Case {
         name: "limits that are refused",
         folder: Folder {
             limits: Some("run,from,to,limit,back\n1,B,A,50,50\n"),

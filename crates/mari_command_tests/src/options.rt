@@ -1,4 +1,4 @@
-//! Words: options before and behind the folder, and words that are no command.
+//! Words: options before and after the folder, and words that are no command.
 
 use crate::cases::Printed::Whole;
 use crate::cases::{CLEARS, Case, agree};

@@ -10,7 +10,7 @@ use Rattle.mari_publish.specs.declared.publication.Publication.{Publication}
 use Rattle.mari_publish.specs.Faults.{IsText}
 use Rattle.mari_publish.specs.Lines.{published_in}
 use Rattle.mari_remain.specs.declared.books.Books.{Books}
-use Rattle.mari_io.specs.Taken.{then_took}
+use Rattle.mari_io.specs.Taken.{TookPart, then_took}
 use Rattle.mari_day.specs.Day.{EndsDay, WroteWholeDay}
 use Rattle.mari_day.specs.declared.day.DayEnd.{DayEnd}
 use Rattle.mari_day.specs.declared.day.DayEnd.TheVariants as end
@@ -21,7 +21,7 @@ use Rattle.mari_progress.specs.Keeps.{net_sum}
 use Rattle.mari_day.proofs.Keeping.{balanced, keeps-offers, totals-balance}
 use Rattle.mari_words.specs.Asked.{Asked}
 use Rattle.mari_feed.specs.Streams.{TookAll, TookFirst}
-use Rattle.mari_words.specs.Asked.Asked.{Clear, Check, Feed}
+use Rattle.mari_words.specs.Asked.Asked.{Clear, Check, Feed, Generate}
 use Rattle.mari_commands.specs.declared.outcome.Job.{Job}
 use Rattle.mari_commands.specs.declared.outcome.Outcome.{Outcome}
 use Rattle.mari_commands.specs.declared.outcome.Outcome.TheVariants.{NoCommand, Day, Feed as Feeds, Text, Invalid, NoPage, Refused, Memory as NoMemory}
@@ -37,14 +37,14 @@ use Rattle.mari_commands.specs.Outcome.{AsksForText, CheckTells, IsNoPage, IsOfW
 use Rattle.mari_commands.specs.Outcome.Reports.{Printed, CutOff, Starved}
 use Rattle.mari_commands.specs.Outcome.Says.{OfUsage, OfRefusal, OfGap, OfClear, OfCheck, OfMigrate, OfGenerate, OfFeed, Fails, Starves}
 use Rattle.mari_commands.specs.Printing.{file_line, invalid_line, refused_line, usage_line, valid_line}
-use Rattle.mari_commands.specs.Program.{Answers, IsLine, TookLine, TookSummary, WhereTold}
+use Rattle.mari_commands.specs.Program.{Answers, IsLine, TookFirstPart, TookLine, TookSummary, TookVerdict, WhereTold}
 use Rattle.mari_commands.specs.Program.TookAhead.{Nothing as nothing-ahead}
 use Rattle.mari_commands.specs.Program.IsDone.{Cleared as done-cleared, Printed as done-printed}
 use Rattle.mari_commands.specs.Program.IsLine.{OfUsage as line-usage, OfRefusal as line-refusal, OfFault as line-fault, OfMissing as line-missing, OfTooLong as line-too-long, OfInvalid as line-invalid, OfText as line-text}
 use Rattle.mari_commands.specs.Program.IsCutOff.{Day as cut-day, Line as cut-line}
 use Rattle.mari_commands.specs.Program.IsStarved.{Nothing as starved-before, Part as starved-part}
 use Rattle.mari_commands.proofs.Feeds.{feed-answers}
-use Rattle.mari_commands.proofs.Folder.{reads, reads_no_folder}
+use Rattle.mari_commands.proofs.Folder.{reads, reads_no_folder, reads_none}
 use Rattle.mari_commands.proofs.valid.Days.{day-is-valid}
 
 module _ (asked : Option Asked) where
@@ -191,6 +191,32 @@ module _ (asked : Option Asked) where
   fails-is pages k (Fails folder n r f) = (folder, r)
   fails-is pages k (Starves f) = absurd (cc)
 
+  -- the line of a valid publication, where one is checked
+  verdict-is : (before after : Option (List ℕ)) (t : List ℕ) → AsksForText asked t → after ≡ then_took before t → TookVerdict asked before after
+  verdict-is before after t w p folder e = let P : Option Asked → Type 0 = λ a. AsksForText a t in (t, subst P e w, p)
+
+  no-verdict : (before after : Option (List ℕ)) (folder : List ℕ) (nodes workers : ℕ) → asked ≡ Some (Clear folder nodes workers) → TookVerdict asked before after
+  no-verdict before after folder nodes workers c other e = absurd (cc)
+
+  -- of what a first part was taken
+  part-of-usage : (before after : Option (List ℕ)) → asked ≡ None → TookPart before after usage_line → TookFirstPart asked before after
+  part-of-usage before after none p = record { usage = λ e. p; summary = λ number e. absurd (cc (none, e)) }
+
+  part-of-text : (before after : Option (List ℕ)) (t : List ℕ) → AsksForText asked t → TookPart before after t → TookFirstPart asked before after
+  part-of-text before after t w p = record {
+    usage = λ e. let P : Option Asked → Type 0 = λ a. AsksForText a t in absurd (subst P e w);
+    summary = λ number e. let P : Option Asked → Type 0 = λ a. AsksForText a t in (t, subst P e w, p);
+  }
+
+  part-of-folder : (before after : Option (List ℕ)) → AsksForFiles asked → TookFirstPart asked before after
+  part-of-folder before after (folder, reads) = record {
+    usage = λ e. absurd (reads_none asked folder e reads);
+    summary = λ number e. absurd (reads_no_folder asked (Generate number) folder e refl reads);
+  }
+
+  check-reads : AsksToCheck asked → AsksForFiles asked
+  check-reads (folder, e) = (folder, reads asked (Check folder) folder e refl)
+
   -- the summary of a generated day, where the words ask for one
   summary-is : (before after : Option (List ℕ)) (t : List ℕ) → AsksForText asked t → after ≡ then_took before t → TookSummary asked before after
   summary-is before after t w p number e = let P : Option Asked → Type 0 = λ a. AsksForText a t in (t, subst P e w, p)
@@ -223,10 +249,11 @@ module _ (asked : Option Asked) where
     starved p = (λ told t. starved-before p, inl p)
 
     -- a line that is reported
-    of-line : (AsksForFeed asked → ⊥) → (text : List ℕ) (wanted result : Status) → Reports text wanted before after result → (after ≡ then_took before text → Ends wanted) → WhereTold pages (λ told. IsLine asked told failed text) → Ends result
-    of-line none text wanted result (Printed e p) done is = subst Ends (sym e) (done p)
-    of-line none text wanted result (CutOff e p) done is = let cut : Ends status.WriteFault = λ told t. cut-line none text (is told t) p in subst Ends (sym e) cut
-    of-line none text wanted result (Starved e p) done is = subst Ends (sym e) (starved p)
+    of-line : (AsksForFeed asked → ⊥) → (text : List ℕ) (wanted result : Status) → Reports text wanted before after result → (after ≡ then_took before text → Ends wanted) → (TookPart before after text → TookFirstPart asked before after)
+        → WhereTold pages (λ told. IsLine asked told failed text) → Ends result
+    of-line none text wanted result (Printed e p) done part is = subst Ends (sym e) (done p)
+    of-line none text wanted result (CutOff e p) done part is = let cut : Ends status.WriteFault = (λ told t. cut-line none text (is told t) p, part p) in subst Ends (sym e) cut
+    of-line none text wanted result (Starved e p) done part is = subst Ends (sym e) (starved p)
 
     of-nothing : (result : Status) → result ≡ status.Memory → after ≡ before → Ends result
     of-nothing result e p = subst Ends (sym e) (starved p)
@@ -258,12 +285,12 @@ module _ (asked : Option Asked) where
       clears = (folder, job.nodes, job.workers, clear)
 
       of-done : (published unpublished : ℕ) (whole : Bool) → WroteWholeDay job.books job.nodes published unpublished before after → (unpublished == 0) ≡ whole → Ends (if whole then status.Done else status.Unpublished)
-      of-done published unpublished true w e = (λ told t. done-cleared (wrote told job published unpublished true ready (is told t) w e), no-summary before after folder job.nodes job.workers clear)
+      of-done published unpublished true w e = (λ told t. done-cleared (wrote told job published unpublished true ready (is told t) w e), no-summary before after folder job.nodes job.workers clear, no-verdict before after folder job.nodes job.workers clear)
       of-done published unpublished false w e = (clears, λ told t. wrote told job published unpublished false ready (is told t) w e)
 
       of-end : (ended : DayEnd) → EndsDay job.books job.nodes before after ended → Ends (day_status ended)
       of-end (end.Done published unpublished) w = of-done published unpublished (unpublished == 0) w refl
-      of-end end.WriteFault w = λ told t. cut-day job.books job.nodes (is told t) w
+      of-end end.WriteFault w = (λ told t. cut-day job.books job.nodes (is told t) w, part-of-folder before after (folder, reads asked (Clear folder job.nodes job.workers) folder clear refl))
       of-end end.Memory (inl same) = starved same
       of-end end.Memory (inr part) = (λ told t. starved-part job.books job.nodes (is told t) part, inr (inl clears))
 
@@ -271,32 +298,33 @@ module _ (asked : Option Asked) where
       of-day result r = subst Ends (sym r.status) (of-end r.ended r.ends)
 
     by-outcome : (late : Type 0) → (late → failed) → (o : Outcome) (result : Status) → WhereTold pages (λ told. Says asked told o) → IsOfWords asked o → IsReportable o → (IsNoPage fetch.Failed o → failed) → Reported pages late o before after result → Ends result
-    by-outcome late later NoCommand result says words ready cause r = of-line (none-no-feed words) usage_line status.Usage result r (λ p. (words, p)) (λ told t. line-usage words refl)
+    by-outcome late later NoCommand result says words ready cause r = of-line (none-no-feed words) usage_line status.Usage result r (λ p. (words, p)) (part-of-usage before after words) (λ told t. line-usage words refl)
     by-outcome late later (Day job) result says words ready cause r = of-day job words.0 words.1 ready (λ told t. day-is told job (says told t)) result r
     by-outcome late later (Feeds folder) result says words ready cause r = feed-answers asked pages failed before after late later (string_bytes folder) words result r
     by-outcome late later (Text text) result says words ready cause r =
-        of-line (text-no-feed text.items words) text.items status.Done result r (λ p. (λ told t. done-printed text.items (text-prints told text (says told t)) p, summary-is before after text.items words p))
+        of-line (text-no-feed text.items words) text.items status.Done result r (λ p. (λ told t. done-printed text.items (text-prints told text (says told t)) p, summary-is before after text.items words p, verdict-is before after text.items words p)) (part-of-text before after text.items words)
         (λ told t. line-text (text-prints told text (says told t)))
     by-outcome late later (Invalid run number) result says words ready cause r =
-        of-line (check-no-feed words) (invalid_line run number) (status.Invalid run number) result r (λ p. (words, (λ told t. invalid-is told run number (says told t)), p))
+        of-line (check-no-feed words) (invalid_line run number) (status.Invalid run number) result r (λ p. (words, (λ told t. invalid-is told run number (says told t)), p)) (λ p. part-of-folder before after (check-reads words))
         (λ told t. line-invalid run number (invalid-is told run number (says told t)) refl)
     by-outcome late later (NoPage k fetch.Failed) result says words ready cause r =
-        let none = files-no-feed words in
+        let none = files-no-feed words.0 in
         let text = file_line (codes "readfault") k in
-        of-line none text status.ReadFault result r (λ p. (inl words, (k, plain-line pages TookFirst text before after none p))) (λ told t. let f = fails-is told k (says told t) in line-fault (cause refl) f.0 k f.1 refl)
+        of-line none text status.ReadFault result r (λ p. (inl words.0, (k, words.1, plain-line pages TookFirst text before after none p))) (λ p. part-of-folder before after words.0)
+        (λ told t. let f = fails-is told k (says told t) in line-fault (cause refl) f.0 k f.1 words.1 refl)
     by-outcome late later (NoPage k fetch.Missing) result says words ready cause r =
-        let none = files-no-feed words in
+        let none = files-no-feed words.0 in
         let text = file_line (codes "missing") k in
-        of-line none text status.Missing result r (λ p. (inl words, record { file = k; first = λ told t. missing-is told k (says told t); line = plain-line pages TookFirst text before after none p })) (λ told t. line-missing k (missing-is told k (says told t)) refl)
+        of-line none text status.Missing result r (λ p. (inl words.0, record { file = k; wanted = words.1; first = λ told t. missing-is told k (says told t); line = plain-line pages TookFirst text before after none p })) (λ p. part-of-folder before after words.0) (λ told t. line-missing k (missing-is told k (says told t)) refl)
     by-outcome late later (NoPage k fetch.TooLong) result says words ready cause r =
-        let none = files-no-feed words in
+        let none = files-no-feed words.0 in
         let text = file_line (codes "toolong") k in
-        of-line none text status.TooLong result r (λ p. (inl words, record { file = k; first = λ told t. too-long-is told k (says told t); line = plain-line pages TookFirst text before after none p })) (λ told t. line-too-long k (too-long-is told k (says told t)) refl)
+        of-line none text status.TooLong result r (λ p. (inl words.0, record { file = k; wanted = words.1; first = λ told t. too-long-is told k (says told t); line = plain-line pages TookFirst text before after none p })) (λ p. part-of-folder before after words.0) (λ told t. line-too-long k (too-long-is told k (says told t)) refl)
     by-outcome late later (NoPage k fetch.Memory) result says words ready cause r = of-nothing result r.0 r.1
     by-outcome late later (Refused refusal) result says words ready cause r =
         let none = files-no-feed words in
         let text = refused_line refusal in
-        of-line none text (status.Refused refusal) result r (λ p. (inl words, (λ told t. refused-is told refusal (says told t)), plain-line pages TookAll text before after none p, ready.1)) (λ told t. line-refusal refusal (refused-is told refusal (says told t)) refl)
+        of-line none text (status.Refused refusal) result r (λ p. (inl words, (λ told t. refused-is told refusal (says told t)), plain-line pages TookAll text before after none p, ready.1)) (λ p. part-of-folder before after words) (λ told t. line-refusal refusal (refused-is told refusal (says told t)) refl)
     by-outcome late later NoMemory result says words ready cause r = of-nothing result r.0 r.1
 
     -- the pages are those that whoever reports the outcome has

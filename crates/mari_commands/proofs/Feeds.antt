@@ -20,10 +20,10 @@ use Rattle.mari_commands.specs.declared.status.Status.TheVariants as status
 use Rattle.mari_commands.specs.Commands.{HasFeed, IsRefused, LacksPage, publication_path, text_refusal}
 use Rattle.mari_commands.specs.Commands.IsRefused.{OfFeed as refused-feed}
 use Rattle.mari_commands.specs.Commands.LacksPage.{NoFeed as lacks-feed, LongFeed as lacks-long}
-use Rattle.mari_commands.specs.Outcome.{IsReportable, Reports, ReportsFeed, ReportsNoPage, ReportsParts, ReportsRefusal, text_outcome}
+use Rattle.mari_commands.specs.Outcome.{IsReportable, MayWant, Reports, ReportsFeed, ReportsNoPage, ReportsParts, ReportsRefusal, text_outcome}
 use Rattle.mari_commands.specs.Outcome.Reports.{Printed, CutOff, Starved}
 use Rattle.mari_commands.specs.Printing.{file_line, refused_line}
-use Rattle.mari_commands.specs.Program.{Answers, IsCutOff, IsDone, IsStarved, TookOf, TookSummary, WhereTold, gap_status, gap_word}
+use Rattle.mari_commands.specs.Program.{Answers, IsCutOff, IsDone, IsStarved, TookFirstPart, TookOf, TookSummary, TookVerdict, WhereTold, gap_status, gap_word}
 use Rattle.mari_commands.specs.Program.IsDone.{Fed as done-fed}
 use Rattle.mari_commands.specs.Program.IsCutOff.{FeedPart as cut-feed, FeedRefused as cut-refused, FeedFault as cut-fault, FeedGap as cut-gap}
 use Rattle.mari_commands.specs.Program.IsStarved.{Nothing as starved-before, FeedPart as starved-feed}
@@ -74,6 +74,13 @@ module _ (asked : Option Asked) (pages : Option Pages) (failed : Type 0) (before
   ahead-memory None t = t
   ahead-memory (Some page) t = t
 
+  -- no other text is printed, and the publication's page is wanted
+  first-part : TookFirstPart asked before after
+  first-part = record { usage = λ e. absurd (cc (feed, e)); summary = λ number e. absurd (cc (feed, e)) }
+
+  wanted : MayWant asked PUBLICATION
+  wanted = inr (inr (folder, feed), refl)
+
   -- there was no memory for more
   starves : WhereTold pages (λ told. TookOf TookFirst (page_in told) before between) → after ≡ between → Ends status.Memory
   starves took p = (λ told t. by told (page_in told) refl (took told t), inr (inr (folder, feed)))
@@ -88,8 +95,11 @@ module _ (asked : Option Asked) (pages : Option Pages) (failed : Type 0) (before
   no-summary : TookSummary asked before after
   no-summary number e = absurd (cc)
 
+  no-verdict : TookVerdict asked before after
+  no-verdict other e = absurd (cc)
+
   done : (end : Unit {0}) → Tells (Ok end) → after ≡ between → Ends status.Done
-  done end tells p = (λ told t. by told (page_in told) refl (tells told t), no-summary)
+  done end tells p = (λ told t. by told (page_in told) refl (tells told t), no-summary, no-verdict)
     where
       by : (told : Pages) (page : Option (List ℕ)) → page_in told ≡ page → FeedTells page before between (Ok end) → IsDone asked told before after
       by told None is t = absurd t
@@ -98,7 +108,7 @@ module _ (asked : Option Asked) (pages : Option Pages) (failed : Type 0) (before
           subst P (sym p) (done-fed (record { page = page; publication = took.publication; fed = fed told page is; short = short; read = took.is }) took)
 
   cut : Tells (Err stop.Sink) → after ≡ between → Ends status.WriteFault
-  cut tells p = λ told t. by told (page_in told) refl (tells told t)
+  cut tells p = (λ told t. by told (page_in told) refl (tells told t), first-part)
     where
       by : (told : Pages) (page : Option (List ℕ)) → page_in told ≡ page → FeedTells {T = Unit {0}} page before between (Err stop.Sink) → IsCutOff asked told failed before after
       by told None is t = absurd t
@@ -107,9 +117,9 @@ module _ (asked : Option Asked) (pages : Option Pages) (failed : Type 0) (before
   -- a call of the shelf failed
   of-failed : (result : Status) → failed → Tells (Err (stop.Fetch fetch.Failed)) → Reports (file_line (codes "readfault") PUBLICATION) status.ReadFault between after result → Ends result
   of-failed result why tells (Printed e p) =
-      subst Ends (sym e) (inr (folder, feed), (PUBLICATION, record { between = between; ahead = lines-ahead folder feed (λ told t. ahead-failed (page_in told) (tells told t)); took = p }))
+      subst Ends (sym e) (inr (folder, feed), (PUBLICATION, wanted, record { between = between; ahead = lines-ahead folder feed (λ told t. ahead-failed (page_in told) (tells told t)); took = p }))
   of-failed result why tells (CutOff e p) =
-      let cut : Ends status.WriteFault = λ told t. cut-fault why (record { between = between; ahead = lines-ahead folder feed (λ other u. let P : Pages → Type 0 = λ x. TookOf TookFirst (page_in x) before between in subst P (same told other u) (ahead-failed (page_in told) (tells told t))); began = p }) in
+      let cut : Ends status.WriteFault = (λ told t. cut-fault why (record { between = between; ahead = lines-ahead folder feed (λ other u. let P : Pages → Type 0 = λ x. TookOf TookFirst (page_in x) before between in subst P (same told other u) (ahead-failed (page_in told) (tells told t))); began = p }), first-part) in
       subst Ends (sym e) cut
     where
       same : (told other : Pages) → Some told ≡ Some other → told ≡ other
@@ -126,13 +136,13 @@ module _ (asked : Option Asked) (pages : Option Pages) (failed : Type 0) (before
   long-gap told (Some page) is t = lacks-long page (fed told page is) t.0 refl refl
 
   gap-ends : (gap : Gap) (line : WhereTold pages (λ told. LacksPage asked told PUBLICATION gap)) (took : WhereTold pages (λ told. TookOf TookFirst (page_in told) before between)) → after ≡ then_took between (file_line (gap_word gap) PUBLICATION) → Ends (gap_status gap)
-  gap-ends NotHeld line took p = (inr (folder, feed), record { file = PUBLICATION; first = line; line = record { between = between; ahead = lines-ahead folder feed took; took = p } })
-  gap-ends OverLimit line took p = (inr (folder, feed), record { file = PUBLICATION; first = line; line = record { between = between; ahead = lines-ahead folder feed took; took = p } })
+  gap-ends NotHeld line took p = (inr (folder, feed), record { file = PUBLICATION; wanted = wanted; first = line; line = record { between = between; ahead = lines-ahead folder feed took; took = p } })
+  gap-ends OverLimit line took p = (inr (folder, feed), record { file = PUBLICATION; wanted = wanted; first = line; line = record { between = between; ahead = lines-ahead folder feed took; took = p } })
 
   of-gap : (gap : Gap) (result : Status) → WhereTold pages (λ told. LacksPage asked told PUBLICATION gap) → WhereTold pages (λ told. TookOf TookFirst (page_in told) before between) → Reports (file_line (gap_word gap) PUBLICATION) (gap_status gap) between after result → Ends result
   of-gap gap result line took (Printed e p) = subst Ends (sym e) (gap-ends gap line took p)
   of-gap gap result line took (CutOff e p) =
-      let cut : Ends status.WriteFault = λ told t. cut-gap gap (line told t) (record { between = between; ahead = lines-ahead folder feed (λ other u. let P : Pages → Type 0 = λ x. TookOf TookFirst (page_in x) before between in subst P (same told other u) (took told t)); began = p }) in
+      let cut : Ends status.WriteFault = (λ told t. cut-gap gap (line told t) (record { between = between; ahead = lines-ahead folder feed (λ other u. let P : Pages → Type 0 = λ x. TookOf TookFirst (page_in x) before between in subst P (same told other u) (took told t)); began = p }), first-part) in
       subst Ends (sym e) cut
     where
       same : (told other : Pages) → Some told ≡ Some other → told ≡ other
@@ -148,9 +158,12 @@ module _ (asked : Option Asked) (pages : Option Pages) (failed : Type 0) (before
   of-fault f result name tells (Printed e p) =
       subst Ends (sym e) (inr (folder, feed), (λ told t. fault-refused f told (page_in told) refl (tells told t)), record { between = between; ahead = lines-ahead folder feed (λ told t. ahead-fault f (page_in told) (tells told t)); took = p }, name)
   of-fault f result name tells (CutOff e p) =
-      let cut : Ends status.WriteFault = λ told t.
-      cut-refused (text_refusal f) (fault-refused f told (page_in told) refl (tells told t))
-      (record { between = between; ahead = lines-ahead folder feed (λ other u. let P : Pages → Type 0 = λ x. TookOf TookAll (page_in x) before between in subst P (same told other u) (ahead-fault f (page_in told) (tells told t))); began = p }) in
+      let cut : Ends status.WriteFault = (
+        λ told t.
+            cut-refused (text_refusal f) (fault-refused f told (page_in told) refl (tells told t))
+            (record { between = between; ahead = lines-ahead folder feed (λ other u. let P : Pages → Type 0 = λ x. TookOf TookAll (page_in x) before between in subst P (same told other u) (ahead-fault f (page_in told) (tells told t))); began = p }),
+        first-part,
+      ) in
       subst Ends (sym e) cut
     where
       same : (told other : Pages) → Some told ≡ Some other → told ≡ other

@@ -11,3 +11,4 @@ pub mod ShortWords
 pub mod Summaries
 pub mod Telling
 pub mod valid
+pub mod Causes

@@ -1,5 +1,5 @@
 -- What an outcome says of the words and the pages, by how it came.
-use Rattle.std.proofs.Common.{ℕ, List, Option, Some, refl}
+use Rattle.std.proofs.Common.{ℕ, List, Option, Some, inl, refl}
 use Rattle.std.specs.Prelude.{Err}
 use Rattle.mari_io.specs.declared.shelf.Fetch.TheVariants as fetch
 use Rattle.mari_io.specs.Outside.{Pages}
@@ -7,16 +7,18 @@ use Rattle.mari_publish.specs.declared.fault.TextFault.{TextFault}
 use Rattle.mari_publish.specs.declared.fault.TextFault.TheVariants as text_fault
 use Rattle.mari_remain.specs.declared.books.Books.{Books}
 use Rattle.mari_day.specs.Files.Gap.{NotHeld, OverLimit}
-use Rattle.mari_day.specs.Reading.{BooksTell}
+use Rattle.mari_day.specs.Reading.{BooksTell, NamesAFile}
 use Rattle.mari_day.specs.declared.reading.BooksFault.{BooksFault}
 use Rattle.mari_day.specs.declared.reading.BooksFault.TheVariants as why
+use Rattle.mari_check.specs.declared.verdict.Verdict.{Verdict}
+use Rattle.mari_check.specs.declared.verdict.Verdict.TheVariants as verdict
 use Rattle.mari_words.specs.Asked.{Asked}
 use Rattle.mari_words.specs.Asked.Asked.{Check, Generate, Migrate}
 use Rattle.mari_words.specs.declared.command.FilePart.{FilePart}
 use Rattle.mari_commands.specs.declared.outcome.Outcome.{Outcome}
 use Rattle.mari_commands.specs.declared.outcome.Outcome.TheVariants.{NoCommand, Day, Feed as Feeds, Text, Invalid, NoPage, Refused, Memory as NoMemory}
 use Rattle.mari_commands.specs.Commands.{ReadsFolder}
-use Rattle.mari_commands.specs.Outcome.{IsMigrated, IsOfWords, IsSummarised, Says, no_books, text_outcome}
+use Rattle.mari_commands.specs.Outcome.{IsMigrated, IsOfWords, IsSummarised, IsToldVerdict, Says, no_books, text_outcome}
 use Rattle.mari_commands.specs.Outcome.Says.{OfRefusal, OfGap, Fails, Starves}
 
 pub says-fault : (asked : Option Asked) (pages : Pages) (folder : List ℕ) (fault : BooksFault) → ReadsFolder asked folder → BooksTell pages folder (Err fault) → Says asked pages (no_books fault)
@@ -28,10 +30,10 @@ says-fault asked pages folder (why.Refused refusal) r tells = OfRefusal folder r
 says-fault asked pages folder why.Memory r tells = Starves refl
 
 -- what the words ask for, by the outcome
-pub words-of-fault : (asked : Option Asked) (folder : List ℕ) (fault : BooksFault) → ReadsFolder asked folder → IsOfWords asked (no_books fault)
-words-of-fault asked folder (why.Fetch n w) r = (folder, r)
-words-of-fault asked folder (why.Refused refusal) r = (folder, r)
-words-of-fault asked folder why.Memory r = tt
+pub words-of-fault : (asked : Option Asked) (folder : List ℕ) (fault : BooksFault) → ReadsFolder asked folder → NamesAFile {T = Books} (Err fault) → IsOfWords asked (no_books fault)
+words-of-fault asked folder (why.Fetch n w) r named = ((folder, r), inl named)
+words-of-fault asked folder (why.Refused refusal) r named = (folder, r)
+words-of-fault asked folder why.Memory r named = tt
 
 pub words-of-migrated : (folder : List ℕ) (part : FilePart) (books : Books) (o : Outcome) → IsMigrated books part o → IsOfWords (Some (Migrate folder part)) o
 words-of-migrated folder part books NoCommand is = absurd is
@@ -52,6 +54,24 @@ words-of-summary number (Invalid run n) is = absurd is
 words-of-summary number (NoPage n w) is = absurd is
 words-of-summary number (Refused refusal) is = absurd is
 words-of-summary number NoMemory is = tt
+
+pub words-of-verdict : (folder : List ℕ) (v : Verdict) (o : Outcome) → IsToldVerdict v o → IsOfWords (Some (Check folder)) o
+words-of-verdict folder (verdict.Valid published unpublished) (Text t) is = (published, unpublished, is)
+words-of-verdict folder (verdict.Valid published unpublished) NoMemory is = tt
+words-of-verdict folder (verdict.Valid published unpublished) NoCommand is = absurd is
+words-of-verdict folder (verdict.Valid published unpublished) (Day job) is = absurd is
+words-of-verdict folder (verdict.Valid published unpublished) (Feeds other) is = absurd is
+words-of-verdict folder (verdict.Valid published unpublished) (Invalid run n) is = absurd is
+words-of-verdict folder (verdict.Valid published unpublished) (NoPage n w) is = absurd is
+words-of-verdict folder (verdict.Valid published unpublished) (Refused refusal) is = absurd is
+words-of-verdict folder (verdict.Invalid run fault) (Invalid r f) is = (folder, refl)
+words-of-verdict folder (verdict.Invalid run fault) NoMemory is = absurd is
+words-of-verdict folder (verdict.Invalid run fault) NoCommand is = absurd is
+words-of-verdict folder (verdict.Invalid run fault) (Day job) is = absurd is
+words-of-verdict folder (verdict.Invalid run fault) (Feeds other) is = absurd is
+words-of-verdict folder (verdict.Invalid run fault) (Text t) is = absurd is
+words-of-verdict folder (verdict.Invalid run fault) (NoPage n w) is = absurd is
+words-of-verdict folder (verdict.Invalid run fault) (Refused refusal) is = absurd is
 
 pub words-of-text : (folder : List ℕ) (f : TextFault) → IsOfWords (Some (Check folder)) (text_outcome f)
 words-of-text folder (text_fault.BadLine n) = (folder, refl)

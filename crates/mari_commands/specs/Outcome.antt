@@ -1,5 +1,5 @@
 -- What the words and the pages come to, and how it is reported.
-use Rattle.std.specs.Prelude.{ℕ, ◌≡◌, ◌≢◌, ◌==◌, if◌then◌else◌, List, Option, Some, None, Result, Ok, Err, ⊤, String, string_bytes}
+use Rattle.std.specs.Prelude.{ℕ, ◌≡◌, ◌≢◌, ◌⊎◌, ◌==◌, if◌then◌else◌, List, Option, Some, None, Result, Ok, Err, ⊤, String, string_bytes}
 use lib.Chars.{codes}
 use Rattle.std.specs.declared.alloc.Global.{Global}
 use Rattle.mari_io.specs.declared.shelf.Fetch.{Fetch}
@@ -15,7 +15,7 @@ use Rattle.mari_day.specs.Day.{EndsDay, TookPart, then_took}
 use Rattle.mari_day.specs.declared.day.DayEnd.{DayEnd}
 use Rattle.mari_day.specs.declared.day.DayEnd.TheVariants as end
 use Rattle.mari_day.specs.declared.files.TheConstants.{PUBLICATION}
-use Rattle.mari_day.specs.Files.{Gap, IsNamed}
+use Rattle.mari_day.specs.Files.{Gap, IsFileNumber, IsNamed}
 use Rattle.mari_day.specs.Files.Gap.{NotHeld, OverLimit}
 use Rattle.mari_day.specs.Reading.{HasBooks, HasGap, HasRefusal}
 use Rattle.mari_day.specs.declared.reading.BooksFault.{BooksFault}
@@ -36,20 +36,29 @@ use Rattle.mari_commands.specs.declared.outcome.Outcome.TheVariants.{NoCommand, 
 use Rattle.mari_commands.specs.declared.status.Status.{Status}
 use Rattle.mari_commands.specs.declared.status.Status.TheVariants as status
 use Rattle.mari_words.specs.declared.command.FilePart.{FilePart}
-use Rattle.mari_commands.specs.Commands.{AsksForFiles, AsksToCheck, ReadsFolder, already_two, page_of_part, publication_path, text_refusal}
+use Rattle.mari_commands.specs.Commands.{AsksForFeed, AsksForFiles, AsksToCheck, ReadsFolder, already_two, page_of_part, publication_path, text_refusal}
 use Rattle.mari_commands.specs.Summary.{IsGenerated}
 use Rattle.mari_commands.specs.Printing.{file_line, invalid_line, refused_line, usage_line, valid_line}
 use Rattle.mari_commands.specs.Refusals.{HasName}
 
--- the words ask for a text: for the check or for a new file of a folder, or for the summary of a generated day, which
--- it is
+-- the line of a publication that is valid
+abbrev pub IsValidLine : List ℕ → Type 0
+IsValidLine text = (published : ℕ) × (unpublished : ℕ) × (text ≡ valid_line published unpublished)
+
+-- the words ask for a text: for the check of a folder, and it is the line of a valid publication; for a new file of a
+-- folder; or for the summary of a generated day, and it is that
 abbrev pub AsksForText : Option Asked → List ℕ → Type 0
 AsksForText None text = ⊥
 AsksForText (Some (Clear folder nodes workers)) text = ⊥
-AsksForText (Some (Check folder)) text = ⊤
+AsksForText (Some (Check folder)) text = IsValidLine text
 AsksForText (Some (Migrate folder part)) text = ⊤
 AsksForText (Some (Feed folder)) text = ⊥
 AsksForText (Some (Generate number)) text = IsGenerated number text
+
+-- a file whose page may be wanted: a market file of the folder, or its publication where that is checked or printed
+-- as a feed
+abbrev pub MayWant : Option Asked → (file : ℕ) → Type 0
+MayWant asked file = IsFileNumber file ⊎ ((AsksToCheck asked ⊎ AsksForFeed asked) × (file ≡ PUBLICATION))
 
 -- the words ask for what may come to this outcome, whatever the pages are
 abbrev pub IsOfWords : Option Asked → Outcome → Type 0
@@ -58,7 +67,7 @@ IsOfWords asked (Day job) = (folder : List ℕ) × (asked ≡ Some (Clear folder
 IsOfWords asked (Feeds folder) = asked ≡ Some (Feed (string_bytes folder))
 IsOfWords asked (Text text) = AsksForText asked text.items
 IsOfWords asked (Invalid run number) = AsksToCheck asked
-IsOfWords asked (NoPage file why) = AsksForFiles asked
+IsOfWords asked (NoPage file why) = AsksForFiles asked × MayWant asked file
 IsOfWords asked (Refused refusal) = AsksForFiles asked
 IsOfWords asked NoMemory = ⊤
 

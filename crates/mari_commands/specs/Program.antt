@@ -11,11 +11,12 @@ use Rattle.mari_day.specs.declared.files.TheConstants.{PUBLICATION}
 use Rattle.mari_remain.specs.declared.books.Books.{Books}
 use Rattle.mari_words.specs.Asked.{Asked}
 use Rattle.mari_feed.specs.Streams.{TookAll, TookFeed, TookFirst, TookSome}
-use Rattle.mari_words.specs.Asked.Asked.{Generate, Feed}
+use Rattle.mari_words.specs.Asked.Asked.{Check, Generate, Feed}
 use Rattle.mari_commands.specs.declared.status.Status.{Status}
 use Rattle.mari_commands.specs.declared.status.Status.TheVariants.{Done, Unpublished, Usage, Refused, ReadFault, WriteFault, Memory, Invalid, Missing, TooLong}
 use Rattle.mari_commands.specs.Commands.{AreCleared, AsksForFeed, AsksForPages, AsksToCheck, AsksToClear, HasFeed, IsFeedable, IsInvalid, IsRefused, LacksPage, Prints, ReadsFolder, publication_path}
 use Rattle.mari_commands.specs.Headline.{WroteDay}
+use Rattle.mari_commands.specs.Outcome.{IsValidLine, MayWant}
 use Rattle.mari_commands.specs.Summary.{IsGenerated}
 use Rattle.mari_commands.specs.Printing.{file_line, invalid_line, refused_line, usage_line}
 use Rattle.mari_commands.specs.Refusals.{HasName}
@@ -65,7 +66,7 @@ pub data IsDone (asked : Option Asked) (pages : Pages) (before after : Option (L
 pub data IsLine (asked : Option Asked) (pages : Pages) (failed : Type 0) (text : List ℕ) : Type 0 where
   OfUsage : asked ≡ None → text ≡ usage_line → IsLine asked pages failed text
   OfRefusal : (refusal : Refusal) → IsRefused asked pages refusal → text ≡ refused_line refusal → IsLine asked pages failed text
-  OfFault : failed → (folder : List ℕ) (file : ℕ) → ReadsFolder asked folder → text ≡ file_line (codes "readfault") file → IsLine asked pages failed text
+  OfFault : failed → (folder : List ℕ) (file : ℕ) → ReadsFolder asked folder → MayWant asked file → text ≡ file_line (codes "readfault") file → IsLine asked pages failed text
   OfMissing : (file : ℕ) → LacksPage asked pages file NotHeld → text ≡ file_line (codes "missing") file → IsLine asked pages failed text
   OfTooLong : (file : ℕ) → LacksPage asked pages file OverLimit → text ≡ file_line (codes "toolong") file → IsLine asked pages failed text
   OfInvalid : (run fault : ℕ) → IsInvalid asked pages run fault → text ≡ invalid_line run fault → IsLine asked pages failed text
@@ -91,6 +92,7 @@ pub data IsStarved (asked : Option Asked) (pages : Pages) (before after : Option
 -- a page can't be had, and the line of its file is taken
 pub record TookGapLine (asked : Option Asked) (pages : Option Pages) (gap : Gap) (before after : Option (List ℕ)) : Type 0 where
   pub file : ℕ
+  pub wanted : MayWant asked file
   pub first : (told : Pages) → pages ≡ Some told → LacksPage asked told file gap
   pub line : TookLine asked pages TookFirst (file_line (gap_word gap) file) before after
 
@@ -98,16 +100,26 @@ pub record TookGapLine (asked : Option Asked) (pages : Option Pages) (gap : Gap)
 abbrev pub TookSummary : Option Asked → (before after : Option (List ℕ)) → Type 0
 TookSummary asked before after = (number : ℕ) → asked ≡ Some (Generate number) → (text : List ℕ) × IsGenerated number text × (after ≡ then_took before text)
 
+-- where a publication is checked, the line of a valid one was taken
+abbrev pub TookVerdict : Option Asked → (before after : Option (List ℕ)) → Type 0
+TookVerdict asked before after = (folder : List ℕ) → asked ≡ Some (Check folder) → (text : List ℕ) × IsValidLine text × (after ≡ then_took before text)
+
+-- whatever the pages are, a first part was taken of what such words print: of the usage line, or of the summary of a
+-- generated day
+pub record TookFirstPart (asked : Option Asked) (before after : Option (List ℕ)) : Type 0 where
+  pub usage : asked ≡ None → TookPart before after usage_line
+  pub summary : (number : ℕ) → asked ≡ Some (Generate number) → (text : List ℕ) × IsGenerated number text × TookPart before after text
+
 -- what each answer says of what the words ask for, of the pages where they are told, of a fetch that failed, and of
 -- what the sink has taken; a refusal is printed with the name of its check, and has one
 abbrev pub Answers : Option Asked → Option Pages → (failed : Type 0) → (before after : Option (List ℕ)) → Status → Type 0
-Answers asked pages failed before after Done = WhereTold pages (λ told. IsDone asked told before after) × TookSummary asked before after
+Answers asked pages failed before after Done = WhereTold pages (λ told. IsDone asked told before after) × TookSummary asked before after × TookVerdict asked before after
 Answers asked pages failed before after Unpublished = AsksToClear asked × WhereTold pages (λ told. WroteDay asked told false before after)
 Answers asked pages failed before after Usage = (asked ≡ None) × (after ≡ then_took before usage_line)
 Answers asked pages failed before after (Refused refusal) =
     AsksForPages asked × WhereTold pages (λ told. IsRefused asked told refusal) × TookLine asked pages TookAll (refused_line refusal) before after × HasName refusal
-Answers asked pages failed before after ReadFault = AsksForPages asked × ((file : ℕ) × TookLine asked pages TookFirst (file_line (codes "readfault") file) before after)
-Answers asked pages failed before after WriteFault = WhereTold pages (λ told. IsCutOff asked told failed before after)
+Answers asked pages failed before after ReadFault = AsksForPages asked × ((file : ℕ) × MayWant asked file × TookLine asked pages TookFirst (file_line (codes "readfault") file) before after)
+Answers asked pages failed before after WriteFault = WhereTold pages (λ told. IsCutOff asked told failed before after) × TookFirstPart asked before after
 Answers asked pages failed before after Memory = WhereTold pages (λ told. IsStarved asked told before after) × ((after ≡ before) ⊎ (AsksToClear asked ⊎ AsksForFeed asked))
 Answers asked pages failed before after (Invalid run fault) =
     AsksToCheck asked × WhereTold pages (λ told. IsInvalid asked told run fault) × (after ≡ then_took before (invalid_line run fault))

@@ -36,7 +36,7 @@ impl FileCheck for TextCheck {
     }
 }
 
-/// A check of a folder that is migrated. It is told of borders.csv, beside the checks of that file.
+/// A check of a folder that is migrated. It is reported of borders.csv, beside the checks of that file.
 #[derive(Clone, Copy, Debug, PartialEq, Eq)]
 pub enum MigrationCheck {
     /// The borders leave their limits to limits.csv already.

@@ -8,7 +8,7 @@ ghost use Rattle.mari_publish.specs.declared.fault.TextFault.{TextFault};
 ghost use Rattle.mari_day.specs.Files.{Gap};
 ghost use Rattle.mari_words.specs.Asked.Asked.{Generate};
 ghost use Rattle.mari_words.specs.Words.{command_at};
-ghost use Rattle.mari_commands.specs.Commands.{IsClearable, IsFeedable, IsMigratable, IsReadable, LacksPage, RefusesFeed, RefusesFiles, RefusesText, text_refusal};
+ghost use Rattle.mari_commands.specs.Commands.{AsksForFiles, AsksForPages, IsClearable, IsFeedable, IsMigratable, IsReadable, LacksPage, RefusesFeed, RefusesFiles, RefusesText, text_refusal};
 ghost use Rattle.mari_commands.specs.Headline.{HasBudget};
 ghost use Rattle.mari_commands.specs.Outcome.{IsNoPage, IsOfWords, IsOwn, IsReportable, IsSummarised, Reported, Says};
 ghost use Rattle.mari_commands.specs.Program.{Answers, IsDayStatus, IsStatus, IsVerdictStatus, OrFault, gap_status};
@@ -38,6 +38,9 @@ fn outcome_of<S: Shelf, G: Turnstile, R: Threads + Wait + Sync>(
     // What is found of the pages, where the shelf tells them.
     ensures same { S.pages shelf.new ≡ S.pages shelf.old }
     ensures told { (told : Pages) → S.pages shelf.old ≡ Some told → Says (command_at (map string_bytes words.now)) told result }
+
+    // Where the words read no folder, nothing is fetched.
+    ensures untouched { (AsksForFiles (command_at (map string_bytes words.now)) → ⊥) → S.fetches shelf.new ≡ S.fetches shelf.old }
 
     // What comes of the words on any shelf.
     ensures words { IsOfWords (command_at (map string_bytes words.now)) result }
@@ -78,6 +81,7 @@ fn finish<S: Shelf, K: Sink, G: Turnstile, R: Threads + Wait + Sync>(
 ) -> Status
     requires { IsReportable outcome.now }
     ensures same { S.pages shelf.new ≡ S.pages shelf.old }
+    ensures untouched { (IsOwn outcome.now → ⊥) → S.fetches shelf.new ≡ S.fetches shelf.old }
     ensures reported { Reported (S.pages shelf.old) (Rose (S.faults shelf.old) (S.faults shelf.new)) outcome.now (K.taken sink.old) (K.taken sink.new) result }
 
     // Why a page wasn't had, or a text not written.
@@ -92,7 +96,7 @@ fn finish<S: Shelf, K: Sink, G: Turnstile, R: Threads + Wait + Sync>(
     }
 }
 
-/// Does all that the program does, by the words behind its name:
+/// Does all that the program does, by the words after its name:
 ///
 /// - `clear FOLDER [--nodes N] [--workers K]` clears the runs of the folder's day and prints the day as it is made. A
 ///   run's search makes at most N nodes, 1 to `MOST_NODES`, or `USUAL_NODES` where the words don't say; K workers
@@ -117,6 +121,9 @@ pub fn run_program<S: Shelf, K: Sink, G: Turnstile, R: Threads + Wait + Sync>(
     // The headline is in here: what each answer says of the words, of the pages and of what is printed.
     ensures answers { Answers (command_at (map string_bytes words.now)) (S.pages shelf.old) (Rose (S.faults shelf.old) (S.faults shelf.new)) (K.taken sink.old) (K.taken sink.new) result }
     ensures same { S.pages shelf.new ≡ S.pages shelf.old }
+
+    // Where the words read no page, nothing is fetched.
+    ensures untouched { (AsksForPages (command_at (map string_bytes words.now)) → ⊥) → S.fetches shelf.new ≡ S.fetches shelf.old }
 
     // Why a page wasn't had, or a text not written.
     ensures read_fault { Counts (result ≡ Status.ReadFault) (S.faults shelf.old) (S.faults shelf.new) }

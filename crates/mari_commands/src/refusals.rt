@@ -12,85 +12,6 @@ use mari_rows::{FileCheck, RowCheck};
 use mari_units::Refusal;
 use mari_zones::{BorderCheck, ZoneCheck};
 
-/// The checks that every file has.
-const ROW_CHECKS: [RowCheck; 3] = [RowCheck::BadHeader, RowCheck::BadRow, RowCheck::NotUtf8];
-
-/// The checks of each file of its own.
-const DATE_CHECKS: [DateCheck; 5] = [
-    DateCheck::NotOneRecord,
-    DateCheck::BadDate,
-    DateCheck::BadZoneText,
-    DateCheck::OutOfRange,
-    DateCheck::NotWholeQuarters,
-];
-
-const ZONE_CHECKS: [ZoneCheck; 4] = [
-    ZoneCheck::TooManyZones,
-    ZoneCheck::BadField,
-    ZoneCheck::Repeated,
-    ZoneCheck::NoZone,
-];
-
-const BORDER_CHECKS: [BorderCheck; 5] = [
-    BorderCheck::TooManyBorders,
-    BorderCheck::Unknown,
-    BorderCheck::SelfBorder,
-    BorderCheck::Repeated,
-    BorderCheck::Range,
-];
-
-const MIGRATION_CHECKS: [MigrationCheck; 1] = [MigrationCheck::AlreadyTwo];
-
-const BID_CHECKS: [BidCheck; 7] = [
-    BidCheck::BadField,
-    BidCheck::Repeated,
-    BidCheck::UnknownZone,
-    BidCheck::Quarter,
-    BidCheck::Range,
-    BidCheck::LeastAboveGreatest,
-    BidCheck::TooMany,
-];
-
-const LINK_CHECKS: [LinkCheck; 7] = [
-    LinkCheck::BadKind,
-    LinkCheck::UnknownBid,
-    LinkCheck::WrongQuarter,
-    LinkCheck::ParentNotEarlier,
-    LinkCheck::Repeated,
-    LinkCheck::BadField,
-    LinkCheck::TooManyGates,
-];
-
-const RUN_CHECKS: [RunCheck; 5] = [
-    RunCheck::BadField,
-    RunCheck::RunsOutOfOrder,
-    RunCheck::Quarter,
-    RunCheck::Range,
-    RunCheck::TooMany,
-];
-
-const DEMAND_CHECKS: [DemandCheck; 5] = [
-    DemandCheck::BadField,
-    DemandCheck::UnknownRun,
-    DemandCheck::UnknownZone,
-    DemandCheck::Range,
-    DemandCheck::TooMany,
-];
-
-const TEXT_CHECKS: [TextCheck; 3] = [
-    TextCheck::BadLine,
-    TextCheck::BadOrder,
-    TextCheck::Truncated,
-];
-
-const LIMIT_CHECKS: [LimitCheck; 5] = [
-    LimitCheck::BadField,
-    LimitCheck::UnknownRun,
-    LimitCheck::UnknownBorder,
-    LimitCheck::Repeated,
-    LimitCheck::Range,
-];
-
 /// The name of the check of a number, where one of these has it.
 fn name_among<C: FileCheck>(checks: &[C], number: u8) -> Option<&'static str>
     ensures { option_map (λ name. name.now) result ≡ named_among C.number C.name checks.now number }
@@ -105,9 +26,9 @@ fn name_among<C: FileCheck>(checks: &[C], number: u8) -> Option<&'static str>
 fn border_name(number: u8) -> Option<&'static str>
     ensures { option_map (λ name. name.now) result ≡ border_named number }
 {
-    match name_among(&BORDER_CHECKS, number) {
+    match name_among(BorderCheck::ALL, number) {
         Some(name) => Some(name),
-        None => name_among(&MIGRATION_CHECKS, number),
+        None => name_among(MigrationCheck::ALL, number),
     }
 }
 
@@ -116,17 +37,17 @@ fn own_name(file: u8, number: u8) -> Option<&'static str>
     ensures { option_map (λ name. name.now) result ≡ own_named file number }
 {
     if file == PUBLICATION {
-        return name_among(&TEXT_CHECKS, number);
+        return name_among(TextCheck::ALL, number);
     }
     match File::with_number(file) {
-        Some(File::Day) => name_among(&DATE_CHECKS, number),
-        Some(File::Zones) => name_among(&ZONE_CHECKS, number),
+        Some(File::Day) => name_among(DateCheck::ALL, number),
+        Some(File::Zones) => name_among(ZoneCheck::ALL, number),
         Some(File::Borders) => border_name(number),
-        Some(File::Bids) => name_among(&BID_CHECKS, number),
-        Some(File::Links) => name_among(&LINK_CHECKS, number),
-        Some(File::Runs) => name_among(&RUN_CHECKS, number),
-        Some(File::Demands) => name_among(&DEMAND_CHECKS, number),
-        Some(File::Limits) => name_among(&LIMIT_CHECKS, number),
+        Some(File::Bids) => name_among(BidCheck::ALL, number),
+        Some(File::Links) => name_among(LinkCheck::ALL, number),
+        Some(File::Runs) => name_among(RunCheck::ALL, number),
+        Some(File::Demands) => name_among(DemandCheck::ALL, number),
+        Some(File::Limits) => name_among(LimitCheck::ALL, number),
         None => None,
     }
 }
@@ -138,7 +59,7 @@ pub fn check_name(refusal: Refusal) -> &'static str
     ensures name { check_named refusal.file refusal.number ≡ Some result.now }
     ensures some { result.now ≢ [] }
 {
-    if let Some(name) = name_among(&ROW_CHECKS, refusal.number) {
+    if let Some(name) = name_among(RowCheck::ALL, refusal.number) {
         return name;
     }
     match own_name(refusal.file, refusal.number) {

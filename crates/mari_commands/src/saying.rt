@@ -89,6 +89,7 @@ pub fn report<S: Shelf, K: Sink>(
 ) -> Status
     requires { IsReportable outcome.now }
     ensures same { S.pages shelf.new ≡ S.pages shelf.old }
+    ensures untouched { (IsOwn outcome.now → ⊥) → S.fetches shelf.new ≡ S.fetches shelf.old }
     ensures reported { Reported (S.pages shelf.old) (Rose (S.faults shelf.old) (S.faults shelf.new)) outcome.now (K.taken sink.old) (K.taken sink.new) result }
 
     // Why a page wasn't had, or a text not written.

@@ -7,20 +7,28 @@ ghost use Rattle.mari_commands.specs.Status.{code_of};
 use mari_units::Refusal;
 use std::process::ExitCode;
 
-/// How the program ended: all is printed; at least one run is unpublished; the words are no command; the input is
-/// refused; a fetch failed; a write failed; there was no memory; the publication isn't valid, with its first run
-/// that has a fault and the fault's number; a page is missing; a page is too long.
+/// How the program ended.
 #[derive(Clone, Copy, Debug, PartialEq, Eq)]
 pub enum Status {
+    /// All is printed, and of a day each run is published.
     Done,
+    /// The day is printed, and at least one run of it isn't published.
     Unpublished,
+    /// The words are no command.
     Usage,
+    /// The input is refused.
     Refused(Refusal),
+    /// A page couldn't be fetched or read.
     ReadFault,
+    /// A write failed.
     WriteFault,
+    /// Out of memory.
     Memory,
+    /// The publication isn't valid: the first run that has a fault, and the number of its least one.
     Invalid { run: u32, fault: u8 },
+    /// A page is missing.
     Missing,
+    /// A page is too long.
     TooLong,
 }
 

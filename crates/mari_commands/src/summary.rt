@@ -9,7 +9,7 @@ use mari_remain::Books;
 use mari_units::{MOST_RUNS, Memory, put, put_number};
 use std::alloc::Global;
 
-/// Appends a number behind a word, and the line's end.
+/// Appends a number after a word, and the line's end.
 fn put_line(alloc: Global, text: &mut Vec<u8>, word: &[u8], number: u128) -> Result<(), Memory>
     ensures { OnOk result (text.new.items ≡ text.old.items ++ number_line word.now number) }
 {

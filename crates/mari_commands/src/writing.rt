@@ -11,7 +11,7 @@ use mari_day::file_name;
 use mari_units::{Memory, Refusal, put, put_number};
 use std::alloc::Global;
 
-/// The line that tells how the program is called.
+/// The line that says how the program is called.
 #[tactic(auto, unfolding(crate::specs::Printing::usage_line))]
 pub fn usage_line() -> &'static [u8]
     ensures { result.now ≡ usage_text }
@@ -51,7 +51,7 @@ pub fn refused_line(alloc: Global, refusal: Refusal) -> Result<Vec<u8>, Memory>
     Ok(line)
 }
 
-/// A line of two numbers behind a word, which brings its space along.
+/// A line of two numbers after a word, which brings its space along.
 pub fn pair_line(alloc: Global, word: &[u8], first: u32, second: u32) -> Result<Vec<u8>, Memory>
     ensures { IfOk result (λ line. line.items ≡ pair_text word.now first second) }
 {

@@ -4,7 +4,7 @@ ghost use Rattle.std.specs.Prelude.{◌≡◌, ◌≤◌, ◌↔◌, [], IsTrue,
 ghost use Rattle.std.specs.List.{AllZip};
 ghost use Rattle.mari_merit.specs.Ladder.{AreBounds};
 
-use crate::small::{DOWN, DOWNWARD, ELASTIC, Few, MarketRow, UP, few, market_of};
+use crate::small::{CONGESTED, DOWN, DOWNWARD, ELASTIC, Few, MarketRow, UP, few, market_of};
 use mari_market::{Bounds, Clearing, Market, Side};
 use mari_merit::{Ladder, clear_plain, ladder_of};
 use mari_units::Items;
@@ -157,17 +157,18 @@ fn step_at(ladder: &Ladder, place: usize) -> Option<StepRow> {
     }
 }
 
-/// The first four steps of the ladder of one side.
+/// The first four steps of the ladder of one side of a zone.
 fn steps(
     alloc: Global,
     market: &Market,
     bounds: &Bounds,
+    zone: u32,
     side: Side,
 ) -> Result<[Option<StepRow>; 4], Fail> {
-    if !(market.valid() && market.zones > 0 && are_bounds(market, bounds)) {
-        return Err("the market is valid, and has these bounds".into());
+    if !(market.valid() && zone < market.zones && are_bounds(market, bounds)) {
+        return Err("the market is valid, and has this zone and these bounds".into());
     }
-    let ladder = ladder_of(alloc, market, bounds, 0, side)?;
+    let ladder = ladder_of(alloc, market, bounds, zone, side)?;
     let steps = [
         step_at(&ladder, 0),
         step_at(&ladder, 1),
@@ -185,8 +186,8 @@ fn ladders(
     bounds: &Bounds,
 ) -> Result<[[Option<StepRow>; 4]; 2], Fail> {
     Ok([
-        steps(alloc, market, bounds, UP)?,
-        steps(alloc, market, bounds, DOWN)?,
+        steps(alloc, market, bounds, 0, UP)?,
+        steps(alloc, market, bounds, 0, DOWN)?,
     ])
 }
 
@@ -205,5 +206,44 @@ fn a_ladder_has_one_side_in_merit_order(rt: HostRuntime) -> Result<(), Fail> {
     ];
     let withdrawals = [Some((4, 9_999_900, 80)), Some((1, 2500, 25)), None, None];
     assert_eq!(rt; ladders?, [injections, withdrawals]);
+    Ok(())
+}
+
+/// What each order of two zones may run.
+fn whole_bounds(alloc: Global) -> Result<Bounds, AllocError> {
+    Ok(Bounds {
+        least: Items::of([0, 0, 0].to_vec(alloc)?),
+        greatest: Items::of([100, 100, 80].to_vec(alloc)?),
+    })
+}
+
+/// The steps of the ladders of two zones: of both sides of the first, and then of the second.
+fn ladders_of_two(
+    alloc: Global,
+    market: &Market,
+    bounds: &Bounds,
+) -> Result<[[Option<StepRow>; 4]; 4], Fail> {
+    Ok([
+        steps(alloc, market, bounds, 0, UP)?,
+        steps(alloc, market, bounds, 0, DOWN)?,
+        steps(alloc, market, bounds, 1, UP)?,
+        steps(alloc, market, bounds, 1, DOWN)?,
+    ])
+}
+
+#[test]
+fn a_ladder_is_of_its_zone_alone(rt: HostRuntime) -> Result<(), Fail> {
+    let market = market_of(rt.alloc(), &CONGESTED)?;
+    let bounds = whole_bounds(rt.alloc())?;
+    let ladders = ladders_of_two(rt.alloc(), &market, &bounds);
+    drop(bounds);
+    drop(market);
+    let [none, first, second, demands] = [
+        [None; 4],
+        [Some((0, 2000, 100)), None, None, None],
+        [Some((1, 6000, 100)), None, None, None],
+        [Some((2, 9_999_900, 80)), None, None, None],
+    ];
+    assert_eq!(rt; ladders?, [first, none, second, demands]);
     Ok(())
 }

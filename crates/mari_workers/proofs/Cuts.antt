@@ -1,7 +1,6 @@
 -- A walk that cuts a tree back.
-use Rattle.std.proofs.Common.{◌≡◌, if◌then◌else◌, Bool, true, false, ℕ, zero, suc, ◌<◌, ◌≤◌, pos, ◌-ℤ◌, List, [], ◌∷◌, ◌++◌, length, take, reverse, append-nil, append_assoc, Option, Some, None, arith, sym, ap, subst, ◌∙◌, length-append}
+use Rattle.std.proofs.Common.{◌≡◌, if◌then◌else◌, Bool, true, false, ℕ, zero, suc, ◌<◌, ◌≤◌, pos, List, [], ◌∷◌, ◌++◌, length, take, reverse, append-nil, append_assoc, Option, Some, None, arith, sym, ap, subst, ◌∙◌, length-append}
 use Rattle.std.specs.Prelude.{IfSome, IsSomeAnd}
-use Rattle.std.proofs.lemmas.Int.{ints}
 use Rattle.std.proofs.lemmas.List.{length-take, reverse-append}
 use Rattle.mari_market.specs.declared.certificate.Leaf.{Leaf as LeafRecord}
 use Rattle.mari_market.specs.declared.certificate.TreeItem.{TreeItem}
@@ -13,9 +12,10 @@ use Rattle.mari_market.specs.declared.finding.Finding.{Finding}
 use Rattle.mari_market.specs.Finding.{IsFinding}
 use Rattle.mari_market.specs.Market.{IsValid}
 use Rattle.mari_market.specs.Prefix.{word_of, children, may_open, opens_in, IsCleared, IsFeasiblePrefix, IsFeasibleWord}
-use Rattle.mari_market.specs.Tree.{AreParts, LeafHolds, LeafHoldsFor, TreeHoldsFor}
+use Rattle.mari_market.specs.Tree.{AreParts, LeafHolds}
 use Rattle.mari_market.proofs.Prefixes.{closed_child}
-use Rattle.mari_market.proofs.Search.{leaf_rises}
+use Rattle.mari_market.specs.SearchTree.{IsNode}
+use Rattle.mari_market.proofs.Search.{AreParts-map}
 use Rattle.mari_gates.specs.Preorder.{left_at, opened_child, waiting, waiting_after}
 use Rattle.mari_gates.proofs.Decisions.{length-decisions}
 use Rattle.mari_gates.proofs.WaitingWords.{first_child}
@@ -23,20 +23,14 @@ use Rattle.mari_core.specs.Growth.{closing_leaf}
 use Rattle.mari_core.proofs.Settling.{closing_leaf_holds}
 use Rattle.mari_proofs.specs.Places.{LeavesWords}
 use Rattle.mari_proofs.proofs.TreeWalk.{leaves_append, none_left}
-use Rattle.mari_workers.specs.declared.cutting.Goal.{Goal}
-use Rattle.mari_workers.specs.Cutting.{AreLonger, HoldsForGoal, IsAtItem, IsBelow, IsCutoffFor, IsCutting}
+use Rattle.mari_workers.specs.Cutting.{AreLonger, IsAtItem, IsBelow, IsCutting}
+use Rattle.mari_workers.specs.Refine.{IsOldLeaf}
+use Rattle.mari_workers.proofs.TreeWalks.{search_parts}
 
--- a certificate that holds at the cutoff holds for the gate word
-pub cutoff_holds : (m : Market) (w cutoff : ℕ) (gates word : List Bool) (leaf : LeafRecord) → IsCutoffFor w gates word cutoff → LeafHolds m (pos cutoff) word leaf → LeafHoldsFor m (pos w) gates word leaf
-cutoff_holds m w cutoff gates word leaf c h = record {
-  holds = leaf_rises m (pos cutoff) (pos w) word leaf (omega (arith, ints, c.within)) h;
-  early = λ e. leaf_rises m (pos cutoff) (pos w -ℤ pos 1) word leaf (omega (arith, ints, c.early e)) h;
-}
-
--- so what a finding closes its word by does
-pub closed_for : (m : Market) (w cutoff : ℕ) (gates word : List Bool) (f : Finding) (o : Option LeafRecord) → IsCutoffFor w gates word cutoff → IsFinding m word f → length word ≤ length m.gates → o ≡ closing_leaf cutoff f → IfSome o (LeafHoldsFor m (pos w) gates word)
-closed_for m w cutoff gates word f None c is l e = tt
-closed_for m w cutoff gates word f (Some leaf) c is l e = cutoff_holds m w cutoff gates word leaf c (closing_leaf_holds m word cutoff f leaf is l (sym e))
+-- what a finding closes its word by holds
+pub closed_at : (m : Market) (w : ℕ) (word : List Bool) (f : Finding) (o : Option LeafRecord) → IsFinding m word f → length word ≤ length m.gates → o ≡ closing_leaf w f → IfSome o (LeafHolds m (pos w) word)
+closed_at m w word f None is l e = tt
+closed_at m w word f (Some leaf) is l e = closing_leaf_holds m word w f leaf is l (sym e)
 
 popped : (left : List TreeItem) (item : TreeItem) → reverse (left ++ item ∷ []) ≡ item ∷ reverse left
 popped left item = reverse-append left (item ∷ [])
@@ -44,38 +38,44 @@ popped left item = reverse-append left (item ∷ [])
 -- ---- one item
 
 -- the next item is taken out
-pub item_taken : (m : Market) (goal : Goal) (x : Prefix) (item : TreeItem) (done left more : List TreeItem) → IsCutting m goal done more (Some x) → more ≡ left ++ item ∷ [] → IsAtItem m goal x item done left
-item_taken m goal x item done left more h e = record {
+pub item_taken : (m : Market) (w : ℕ) (x : Prefix) (item : TreeItem) (done left more : List TreeItem) → IsCutting m w done more (Some x) → more ≡ left ++ item ∷ [] → IsAtItem m w x item done left
+item_taken m w x item done left more h e = record {
   before = h.before;
-  behind = subst (AreParts m (HoldsForGoal m goal) (left_at m.gates (Some x))) (ap reverse e ∙ popped left item) h.behind;
+  behind = subst (AreParts m (IsOldLeaf m w) (left_at m.gates (Some x))) (ap reverse e ∙ popped left item) h.behind;
   feasible = h.feasible;
 }
 
 -- a leaf takes the place of the item and of what stands below it
-pub leaf_done : (m : Market) (goal : Goal) (x : Prefix) (item : TreeItem) (leaf : LeafRecord) (done left new_done new_left : List TreeItem) (next : Option Prefix) → IsAtItem m goal x item done left → HoldsForGoal m goal (word_of x) leaf → new_done ≡ done ++ Leaf leaf ∷ [] → left_at m.gates next ≡ waiting_after m.gates (word_of x) → AreParts m (HoldsForGoal m goal) (left_at m.gates next) (reverse new_left) → IfSome next (IsFeasiblePrefix m) → IsCutting m goal new_done new_left next
-leaf_done m goal x item leaf done left new_done new_left next h k d there behind f = record {
-  before = subst (λ (ds : List TreeItem). LeavesWords m (HoldsForGoal m goal) ([] ∷ []) ds (left_at m.gates next)) (sym d)
-      (leaves_append m (HoldsForGoal m goal) ([] ∷ []) done (Leaf leaf ∷ []) (left_at m.gates (Some x)) (left_at m.gates next) h.before (k, sym there));
+pub leaf_done : (m : Market) (w : ℕ) (x : Prefix) (item : TreeItem) (leaf : LeafRecord) (done left new_done new_left : List TreeItem) (next : Option Prefix) → IsAtItem m w x item done left → IsOldLeaf m w (word_of x) leaf → new_done ≡ done ++ Leaf leaf ∷ [] → left_at m.gates next ≡ waiting_after m.gates (word_of x) → AreParts m (IsOldLeaf m w) (left_at m.gates next) (reverse new_left) → IfSome next (IsFeasiblePrefix m) → IsCutting m w new_done new_left next
+leaf_done m w x item leaf done left new_done new_left next h k d there behind f = record {
+  before = subst (λ (ds : List TreeItem). LeavesWords m (IsOldLeaf m w) ([] ∷ []) ds (left_at m.gates next)) (sym d)
+      (leaves_append m (IsOldLeaf m w) ([] ∷ []) done (Leaf leaf ∷ []) (left_at m.gates (Some x)) (left_at m.gates next) h.before (k, sym there));
   behind = behind;
   feasible = f;
 }
 
 -- a leaf that was there stays
-pub leaf_kept : (m : Market) (goal : Goal) (x : Prefix) (leaf : LeafRecord) (done left new_done : List TreeItem) (next : Option Prefix) → IsAtItem m goal x (Leaf leaf) done left → new_done ≡ done ++ Leaf leaf ∷ [] → left_at m.gates next ≡ waiting_after m.gates (word_of x) → IfSome next (IsFeasiblePrefix m) → IsCutting m goal new_done left next
-leaf_kept m goal x leaf done left new_done next h d there f =
-    leaf_done m goal x (Leaf leaf) leaf done left new_done left next h h.behind.0 d there (subst (λ (ws : List (List Bool)). AreParts m (HoldsForGoal m goal) ws (reverse left)) (sym there) h.behind.1) f
+pub leaf_kept : (m : Market) (w : ℕ) (x : Prefix) (leaf : LeafRecord) (done left new_done : List TreeItem) (next : Option Prefix) → IsAtItem m w x (Leaf leaf) done left → new_done ≡ done ++ Leaf leaf ∷ [] → left_at m.gates next ≡ waiting_after m.gates (word_of x) → IfSome next (IsFeasiblePrefix m) → IsCutting m w new_done left next
+leaf_kept m w x leaf done left new_done next h d there f =
+    leaf_done m w x (Leaf leaf) leaf done left new_done left next h h.behind.0 d there (subst (λ (ws : List (List Bool)). AreParts m (IsOldLeaf m w) ws (reverse left)) (sym there) h.behind.1) f
 
 child_feasible : (m : Market) (x y : Prefix) → IsFeasiblePrefix m x → length (word_of x) < length m.gates → word_of y ≡ word_of x ++ false ∷ [] → IsCleared y → IsFeasiblePrefix m y
 child_feasible m x y f l e cleared = record { word = subst (IsFeasibleWord m.gates) (sym e) (closed_child m.gates (word_of x) f.word l); rest = cleared }
 
+-- the prefix of a branch is a node, since those below it are
+pub node_here : (m : Market) (w : ℕ) (x : Prefix) (done left : List TreeItem) → IsValid m → IsAtItem m w x Branch done left → IsNode m (word_of x)
+node_here m w x done left v h =
+    let all = search_parts m (left_at m.gates (Some x)) (Branch ∷ reverse left) v (AreParts-map m (IsOldLeaf m w) (λ word leaf. IsNode m word) (λ word leaf k. k.node) (left_at m.gates (Some x)) (Branch ∷ reverse left) h.behind) in
+    all.1.0
+
 -- a branch stays
-pub branch_kept : (m : Market) (goal : Goal) (x y : Prefix) (done left new_done : List TreeItem) → IsAtItem m goal x Branch done left → new_done ≡ done ++ Branch ∷ [] → word_of y ≡ word_of x ++ false ∷ [] → IsCleared y → IsCutting m goal new_done left (Some y)
-branch_kept m goal x y done left new_done h d e cleared =
+pub branch_kept : (m : Market) (w : ℕ) (x y : Prefix) (done left new_done : List TreeItem) → IsAtItem m w x Branch done left → new_done ≡ done ++ Branch ∷ [] → word_of y ≡ word_of x ++ false ∷ [] → IsCleared y → IsCutting m w new_done left (Some y)
+branch_kept m w x y done left new_done h d e cleared =
     let there : left_at m.gates (Some y) ≡ children m.gates (word_of x) ++ waiting_after m.gates (word_of x) = first_child m.gates x y e in
     record {
-      before = subst (λ (ds : List TreeItem). LeavesWords m (HoldsForGoal m goal) ([] ∷ []) ds (left_at m.gates (Some y))) (sym d)
-          (leaves_append m (HoldsForGoal m goal) ([] ∷ []) done (Branch ∷ []) (left_at m.gates (Some x)) (left_at m.gates (Some y)) h.before (h.behind.0, sym there));
-      behind = subst (λ (ws : List (List Bool)). AreParts m (HoldsForGoal m goal) ws (reverse left)) (sym there) h.behind.1;
+      before = subst (λ (ds : List TreeItem). LeavesWords m (IsOldLeaf m w) ([] ∷ []) ds (left_at m.gates (Some y))) (sym d)
+          (leaves_append m (IsOldLeaf m w) ([] ∷ []) done (Branch ∷ []) (left_at m.gates (Some x)) (left_at m.gates (Some y)) h.before (h.behind.0, sym there));
+      behind = subst (λ (ws : List (List Bool)). AreParts m (IsOldLeaf m w) ws (reverse left)) (sym there) h.behind.1;
       feasible = child_feasible m x y h.feasible h.behind.0 e cleared;
     }
 
@@ -127,44 +127,44 @@ children_longer word w true words l a = (omega (arith, l, length-append w (false
 children_longer word w false words l a = (omega (arith, l, length-append w (false ∷ [])), a)
 
 -- below a branch stand its children first
-pub below_branch : (m : Market) (goal : Goal) (x y : Prefix) (done left : List TreeItem) → IsAtItem m goal x Branch done left → word_of y ≡ word_of x ++ false ∷ [] → IsCleared y → IsBelow m goal (word_of x) left (Some y)
-below_branch m goal x y done left h e cleared =
+pub below_branch : (m : Market) (w : ℕ) (x y : Prefix) (done left : List TreeItem) → IsAtItem m w x Branch done left → word_of y ≡ word_of x ++ false ∷ [] → IsCleared y → IsBelow m w (word_of x) left (Some y)
+below_branch m w x y done left h e cleared =
     let there : left_at m.gates (Some y) ≡ children m.gates (word_of x) ++ waiting_after m.gates (word_of x) = first_child m.gates x y e in
     record {
       below = children m.gates (word_of x);
       left_is = there;
       longer = subst (AreLonger (word_of x)) (append-nil (children m.gates (word_of x))) (children_longer (word_of x) (word_of x) (may_open m.gates (word_of x) (length (word_of x))) [] (omega arith) tt);
-      behind = subst (λ (ws : List (List Bool)). AreParts m (HoldsForGoal m goal) ws (reverse left)) (sym there) h.behind.1;
+      behind = subst (λ (ws : List (List Bool)). AreParts m (IsOldLeaf m w) ws (reverse left)) (sym there) h.behind.1;
       feasible = child_feasible m x y h.feasible h.behind.0 e cleared;
     }
 
 -- the parts of the next prefix, where its item is taken out
-below_taken : (m : Market) (goal : Goal) (word : List Bool) (at : Prefix) (item : TreeItem) (left more : List TreeItem) → IsBelow m goal word more (Some at) → more ≡ left ++ item ∷ [] → AreParts m (HoldsForGoal m goal) (left_at m.gates (Some at)) (item ∷ reverse left)
-below_taken m goal word at item left more h e = subst (AreParts m (HoldsForGoal m goal) (left_at m.gates (Some at))) (ap reverse e ∙ popped left item) h.behind
+below_taken : (m : Market) (w : ℕ) (word : List Bool) (at : Prefix) (item : TreeItem) (left more : List TreeItem) → IsBelow m w word more (Some at) → more ≡ left ++ item ∷ [] → AreParts m (IsOldLeaf m w) (left_at m.gates (Some at)) (item ∷ reverse left)
+below_taken m w word at item left more h e = subst (AreParts m (IsOldLeaf m w) (left_at m.gates (Some at))) (ap reverse e ∙ popped left item) h.behind
 
 -- a leaf below is dropped
-pub leaf_dropped : (m : Market) (goal : Goal) (word : List Bool) (at : Prefix) (leaf : LeafRecord) (left more : List TreeItem) (next : Option Prefix) → IsBelow m goal word more (Some at) → more ≡ left ++ Leaf leaf ∷ [] → length word < length (word_of at) → left_at m.gates next ≡ waiting_after m.gates (word_of at) → IfSome next (IsFeasiblePrefix m) → IsBelow m goal word left next
-leaf_dropped m goal word at leaf left more next h e l there f =
+pub leaf_dropped : (m : Market) (w : ℕ) (word : List Bool) (at : Prefix) (leaf : LeafRecord) (left more : List TreeItem) (next : Option Prefix) → IsBelow m w word more (Some at) → more ≡ left ++ Leaf leaf ∷ [] → length word < length (word_of at) → left_at m.gates next ≡ waiting_after m.gates (word_of at) → IfSome next (IsFeasiblePrefix m) → IsBelow m w word left next
+leaf_dropped m w word at leaf left more next h e l there f =
     let behind = next_longer m.gates word (word_of at) (waiting_after m.gates (word_of at)) h.below l h.left_is h.longer in
     record {
       below = behind.rest;
       left_is = there ∙ behind.waits_are;
       longer = behind.longer;
-      behind = subst (λ (ws : List (List Bool)). AreParts m (HoldsForGoal m goal) ws (reverse left)) (sym there) (below_taken m goal word at (Leaf leaf) left more h e).1;
+      behind = subst (λ (ws : List (List Bool)). AreParts m (IsOldLeaf m w) ws (reverse left)) (sym there) (below_taken m w word at (Leaf leaf) left more h e).1;
       feasible = f;
     }
 
 -- a branch below is dropped
-pub branch_dropped : (m : Market) (goal : Goal) (word : List Bool) (at y : Prefix) (left more : List TreeItem) → IsBelow m goal word more (Some at) → more ≡ left ++ Branch ∷ [] → length word < length (word_of at) → word_of y ≡ word_of at ++ false ∷ [] → IsCleared y → IsBelow m goal word left (Some y)
-branch_dropped m goal word at y left more h e l child cleared =
+pub branch_dropped : (m : Market) (w : ℕ) (word : List Bool) (at y : Prefix) (left more : List TreeItem) → IsBelow m w word more (Some at) → more ≡ left ++ Branch ∷ [] → length word < length (word_of at) → word_of y ≡ word_of at ++ false ∷ [] → IsCleared y → IsBelow m w word left (Some y)
+branch_dropped m w word at y left more h e l child cleared =
     let behind = next_longer m.gates word (word_of at) (waiting_after m.gates (word_of at)) h.below l h.left_is h.longer in
     let there : left_at m.gates (Some y) ≡ children m.gates (word_of at) ++ waiting_after m.gates (word_of at) = first_child m.gates at y child in
-    let taken = below_taken m goal word at Branch left more h e in
+    let taken = below_taken m w word at Branch left more h e in
     record {
       below = children m.gates (word_of at) ++ behind.rest;
       left_is = there ∙ ap (λ (ws : List (List Bool)). children m.gates (word_of at) ++ ws) behind.waits_are ∙ sym (append_assoc (children m.gates (word_of at)) behind.rest (waiting_after m.gates word));
       longer = children_longer word (word_of at) (may_open m.gates (word_of at) (length (word_of at))) behind.rest (omega (arith, l)) behind.longer;
-      behind = subst (λ (ws : List (List Bool)). AreParts m (HoldsForGoal m goal) ws (reverse left)) (sym there) taken.1;
+      behind = subst (λ (ws : List (List Bool)). AreParts m (IsOldLeaf m w) ws (reverse left)) (sym there) taken.1;
       feasible = child_feasible m at y h.feasible taken.0 child cleared;
     }
 
@@ -173,34 +173,34 @@ pub room_at : (m : Market) (x : Prefix) → IsValid m → length (word_of x) < l
 room_at m x v l = omega (arith, l, length-decisions x x.length, v.few_gates)
 
 -- a branch below leaves a gate to decide
-pub below_room : (m : Market) (goal : Goal) (word : List Bool) (at : Prefix) (left more : List TreeItem) → IsBelow m goal word more (Some at) → more ≡ left ++ Branch ∷ [] → length (word_of at) < length m.gates
-below_room m goal word at left more h e = let taken = below_taken m goal word at Branch left more h e in taken.0
+pub below_room : (m : Market) (w : ℕ) (word : List Bool) (at : Prefix) (left more : List TreeItem) → IsBelow m w word more (Some at) → more ≡ left ++ Branch ∷ [] → length (word_of at) < length m.gates
+below_room m w word at left more h e = let taken = below_taken m w word at Branch left more h e in taken.0
 
 pub word_longer : (above at : Prefix) → above.length < at.length → length (word_of above) < length (word_of at)
 word_longer above at l = omega (arith, l, length-decisions above above.length, length-decisions at at.length)
 
 -- where no prefix is left, or the next is no longer, nothing stands below
-pub ends_below : (m : Market) (goal : Goal) (above at : Prefix) (left : List TreeItem) → IsBelow m goal (word_of above) left (Some at) → at.length ≤ above.length → left_at m.gates (Some at) ≡ waiting_after m.gates (word_of above)
-ends_below m goal above at left h l = none_below m.gates (word_of above) (word_of at) (waiting_after m.gates (word_of at)) h.below (omega (arith, l, length-decisions above above.length, length-decisions at at.length)) h.left_is h.longer
+pub ends_below : (m : Market) (w : ℕ) (above at : Prefix) (left : List TreeItem) → IsBelow m w (word_of above) left (Some at) → at.length ≤ above.length → left_at m.gates (Some at) ≡ waiting_after m.gates (word_of above)
+ends_below m w above at left h l = none_below m.gates (word_of above) (word_of at) (waiting_after m.gates (word_of at)) h.below (omega (arith, l, length-decisions above above.length, length-decisions at at.length)) h.left_is h.longer
 
-pub ends_at_last : (m : Market) (goal : Goal) (word : List Bool) (left : List TreeItem) → IsBelow m goal word left None → left_at m.gates None ≡ waiting_after m.gates word
-ends_at_last m goal word left h = none_left_below m.gates word h.below h.left_is
+pub ends_at_last : (m : Market) (w : ℕ) (word : List Bool) (left : List TreeItem) → IsBelow m w word left None → left_at m.gates None ≡ waiting_after m.gates word
+ends_at_last m w word left h = none_left_below m.gates word h.below h.left_is
 
 -- ---- the start
 
 nothing_opened : (gates : List GateInfo) → IsFeasibleWord gates []
 nothing_opened gates = record { decided = omega arith; rules = record { parents = λ g h e p. absurd (cc); groups = λ g h k e f p q. absurd (cc) } }
 
-pub cutting_started : (m : Market) (goal : Goal) (tree done left : List TreeItem) (next : Option Prefix) → TreeHoldsFor m (pos goal.welfare) (word_of goal.word) tree → done ≡ [] → reverse left ≡ tree → IsSomeAnd next (λ x. (word_of x ≡ []) × IsCleared x) → IsCutting m goal done left next
-cutting_started m goal tree done left None h d l n = absurd n
-cutting_started m goal tree done left (Some x) h d l n =
+pub cutting_started : (m : Market) (w : ℕ) (tree done left : List TreeItem) (next : Option Prefix) → AreParts m (IsOldLeaf m w) ([] ∷ []) tree → done ≡ [] → reverse left ≡ tree → IsSomeAnd next (λ x. (word_of x ≡ []) × IsCleared x) → IsCutting m w done left next
+cutting_started m w tree done left None h d l n = absurd n
+cutting_started m w tree done left (Some x) h d l n =
     let first : left_at m.gates (Some x) ≡ [] ∷ [] = ap (λ (u : List Bool). u ∷ waiting_after m.gates u) n.0 in
     record {
-      before = subst (λ (ds : List TreeItem). LeavesWords m (HoldsForGoal m goal) ([] ∷ []) ds (left_at m.gates (Some x))) (sym d) (sym first);
-      behind = subst (λ (ws : List (List Bool)). AreParts m (HoldsForGoal m goal) ws (reverse left)) (sym first) (subst (AreParts m (HoldsForGoal m goal) ([] ∷ [])) (sym l) h);
+      before = subst (λ (ds : List TreeItem). LeavesWords m (IsOldLeaf m w) ([] ∷ []) ds (left_at m.gates (Some x))) (sym d) (sym first);
+      behind = subst (λ (ws : List (List Bool)). AreParts m (IsOldLeaf m w) ws (reverse left)) (sym first) (subst (AreParts m (IsOldLeaf m w) ([] ∷ [])) (sym l) h);
       feasible = record { word = subst (IsFeasibleWord m.gates) (sym n.0) (nothing_opened m.gates); rest = n.1 };
     }
 
 -- at its end all that is done is the tree
-pub cutting_ended : (m : Market) (goal : Goal) (done left : List TreeItem) → IsCutting m goal done left None → TreeHoldsFor m (pos goal.welfare) (word_of goal.word) done
-cutting_ended m goal done left h = none_left m (HoldsForGoal m goal) ([] ∷ []) done h.before
+pub cutting_ended : (m : Market) (w : ℕ) (done left : List TreeItem) → IsCutting m w done left None → AreParts m (IsOldLeaf m w) ([] ∷ []) done
+cutting_ended m w done left h = none_left m (IsOldLeaf m w) ([] ∷ []) done h.before

@@ -1,7 +1,6 @@
 -- What becomes of an early leaf by what is found at its word.
-use Rattle.std.proofs.Common.{◌≡◌, ◌∙◌, Bool, true, false, ℕ, ◌+◌, ◌<◌, ◌≤◌, nat_le, if◌then◌else◌, pos, ◌-ℤ◌, List, length, Option, Some, None, arith, refl, sym, ap, subst}
+use Rattle.std.proofs.Common.{◌≡◌, ◌∙◌, Bool, true, false, ℕ, ◌+◌, ◌<◌, ◌≤◌, nat_le, if◌then◌else◌, pos, ◌-ℤ◌, List, length, Option, Some, None, arith, refl, ap, subst}
 use Rattle.std.specs.Prelude.{IfSome, IsSomeAnd, MatchOption}
-use Rattle.std.specs.Option.{unwrap_or}
 use Rattle.std.proofs.lemmas.Int.{ints, clamps}
 use Rattle.mari_market.specs.declared.certificate.Conflict.{Conflict as ConflictRecord}
 use Rattle.mari_market.specs.declared.certificate.Leaf.{Leaf as LeafRecord}
@@ -28,11 +27,6 @@ low_stays m w most gates word leaf e h = record {
   holds = leaf_rises m (pos most) (pos w) word leaf (omega (arith, ints, e)) h;
   early = λ _. leaf_rises m (pos most) (pos w -ℤ pos 1) word leaf (omega (arith, ints, e)) h;
 }
-
--- the leaf by what is found at its word, or the one that there is
-pub own_holds : (m : Market) (w : ℕ) (word : List Bool) (old leaf : LeafRecord) (f : Finding) (o : Option LeafRecord) → LeafHolds m (pos w) word old → IsFinding m word f → length word ≤ length m.gates → o ≡ closing_leaf w f → leaf ≡ unwrap_or o old → LeafHolds m (pos w) word leaf
-own_holds m w word old leaf f None h is l e same = subst (LeafHolds m (pos w) word) (sym same) h
-own_holds m w word old leaf f (Some other) h is l e same = subst (LeafHolds m (pos w) word) (sym same) (closing_leaf_holds m word w f other is l (sym e))
 
 -- where a gate is left to decide and no certificate is found, the word is to branch
 to_branch : (m : Market) (w most : ℕ) (gates word : List Bool) (leaf : LeafRecord) (f : Finding) → most + 1 ≡ w → LeafHolds m (pos w) word leaf → IsEarly gates word → IsFinding m word f → length word < length m.gates → closing_leaf most f ≡ None → IsToBranch m w gates word leaf

@@ -18,14 +18,13 @@ use Rattle.mari_market.specs.Activation.{gate_word_of, welfare_of}
 use Rattle.mari_market.specs.Clearing.{ArePartsOfSearch, Clears, IsClearing, IsSpent, leaves_of}
 use Rattle.mari_market.specs.Market.{IsValid}
 use Rattle.mari_market.specs.Optimal.{IsAdmissible}
-use Rattle.mari_market.specs.First.{ComesBefore}
-use Rattle.mari_market.specs.Prefix.{word_of, children, IsFeasiblePrefix}
+use Rattle.mari_market.specs.Prefix.{word_of, children}
 use Rattle.mari_market.specs.Relaxation.{all_closed, IsClosedWelfare}
 use Rattle.mari_market.specs.SearchTree.{IsNode, IsLarger}
-use Rattle.mari_market.specs.Tree.{AreParts, LeafHoldsFor, TreeHoldsFor}
+use Rattle.mari_market.specs.Tree.{AreParts, LeafHolds, LeafHoldsFor, TreeHoldsFor}
 use Rattle.mari_market.proofs.Search.{AreParts-map, one_welfare}
 use Rattle.mari_market.proofs.SearchParts.{part_is_nodes, visited}
-use Rattle.mari_market.proofs.Ties.{before_both, closed_is_first, first_by_tree, not_before_itself, one_first_word}
+use Rattle.mari_market.proofs.Ties.{before_both, closed_is_first, first_by_tree, not_before_itself, one_first_word, tree_holds_plain}
 use Rattle.mari_market.proofs.Words.{length-gate_word_of}
 use Rattle.mari_gates.specs.Preorder.{left_at, waiting_after}
 use Rattle.mari_core.specs.Preorder.{shape_of}
@@ -37,8 +36,8 @@ use Rattle.mari_workers.specs.declared.fate.Aim.{Aim}
 use Rattle.mari_workers.specs.declared.refining.Turn.{Turn}
 use Rattle.mari_workers.specs.declared.refining.Turn.TheVariants.{On, Full, Yield}
 use Rattle.mari_workers.specs.declared.refining.Walk.{Walk}
-use Rattle.mari_workers.specs.Refine.{ended, ClosesAtClosed, IsAim, IsCrowdedAt, IsFoundAt, IsLastTurn, IsNewLeaf, IsOldLeaf, IsTreeWalk, MayRefine}
-use Rattle.mari_workers.proofs.TreeWalks.{behind_is_late, early_above, leaves_map, parts_join, search_parts, waiting_late}
+use Rattle.mari_workers.specs.Refine.{ended, ClosesAtClosed, HasNodes, IsCrowdedAt, IsFoundAt, IsLastTurn, IsNewLeaf, IsOldLeaf, IsTreeWalk, MayRefine}
+use Rattle.mari_workers.proofs.TreeWalks.{behind_is_late, leaves_map, old_leaves, parts_join, search_parts, waiting_late}
 
 -- ---- an activation is the first
 
@@ -126,30 +125,6 @@ crowded_spends m aim x done left whole items v h e f =
       };
     }
 
--- ---- an earlier activation
-
--- the walk may go on for the gate word of an activation that it has found
-pub earlier_aim : (m : Market) (aim : Aim) (x y : Prefix) (a : Activation) (done left : List TreeItem) → IsAim m aim → IsFoundAt m aim x done left a → IsFeasiblePrefix m y → IsAim m (record { word = y; welfare = aim.welfare; budget = aim.budget })
-earlier_aim m aim x y a done left k h f = record {
-  budget = k.budget;
-  word = f;
-  greatest = k.greatest;
-  opens = record { closed = k.opens.closed; is_closed = k.opens.is_closed; above = inr (early_above m aim (word_of x) k h.early) };
-}
-
--- what is done holds for that word too
-pub earlier_walk : (m : Market) (aim : Aim) (x y : Prefix) (a : Activation) (done left : List TreeItem) → IsFoundAt m aim x done left a → word_of y ≡ gate_word_of m a → IsTreeWalk m (record { word = y; welfare = aim.welfare; budget = aim.budget }) done left (Some x)
-earlier_walk m aim x y a done left h e =
-    let before : ComesBefore (word_of y) (word_of aim.word) = subst (λ (w : List Bool). ComesBefore w (word_of aim.word)) (sym (e ∙ h.gates_are)) h.early in
-    record {
-      before = leaves_map m (IsNewLeaf m aim.welfare (word_of aim.word)) (IsNewLeaf m aim.welfare (word_of y))
-          (λ word leaf k. record { holds = record { holds = k.holds.holds; early = λ b. k.holds.early (before_both word (word_of y) (word_of aim.word) b before) }; node = k.node })
-          ([] ∷ []) done (left_at m.gates (Some x)) h.walk.before;
-      behind = h.walk.behind;
-      feasible = h.walk.feasible;
-      within = h.walk.within;
-    }
-
 -- ---- the end of a walk
 
 -- whatever the last turn is, what the walk comes to clears the market
@@ -161,6 +136,65 @@ last_clears m aim walk (Yield b) a v adm e g h = found_clears m aim h.0 b walk.d
 pub clears_as : {X : Type 0} (m : Market) (budget : ℕ) (r : Result Cleared X) (told : Cleared) → IfOk r (λ cleared. cleared ≡ told) → Clears m budget told → IfOk r (Clears m budget)
 clears_as m budget (Ok cleared) told is h = subst (Clears m budget) (sym is) h
 clears_as m budget (Err fault) told is h = tt
+
+-- ---- the tree's nodes
+
+-- the parts of a walk at its end
+walk_nodes : (m : Market) (aim : Aim) (x : Prefix) (done left : List TreeItem) → IsValid m → IsTreeWalk m aim done left (Some x) → ArePartsOfSearch m ([] ∷ []) (map shape_of (done ++ reverse left))
+walk_nodes m aim x done left v h =
+    let N : List Bool → LeafRecord → Type 0 = λ word leaf. IsNode m word in
+    let front : LeavesWords m N ([] ∷ []) done (left_at m.gates (Some x)) = leaves_map m (IsNewLeaf m aim.welfare (word_of aim.word)) N (λ word leaf k. k.node) ([] ∷ []) done (left_at m.gates (Some x)) h.before in
+    let behind : AreParts m N (left_at m.gates (Some x)) (reverse left) = AreParts-map m (IsOldLeaf m aim.welfare) N (λ word leaf k. k.node) (left_at m.gates (Some x)) (reverse left) h.behind in
+    (search_parts m ([] ∷ []) (done ++ reverse left) v (parts_join m N ([] ∷ []) done (reverse left) (left_at m.gates (Some x)) front behind)).0
+
+-- whatever the last turn is, what is published has a tree of nodes
+pub last_nodes : (m : Market) (aim : Aim) (walk : Walk) (last : Turn) (a : Activation) → IsValid m → IsLastTurn m aim walk last → HasNodes m (ended walk last a aim.welfare)
+last_nodes m aim walk On a v h =
+    (search_parts m ([] ∷ []) walk.done.items v
+    (AreParts-map m (IsNewLeaf m aim.welfare (word_of aim.word)) (λ word leaf. IsNode m word) (λ word leaf k. k.node) ([] ∷ []) walk.done.items
+    (none_left m (IsNewLeaf m aim.welfare (word_of aim.word)) ([] ∷ []) walk.done.items h.before))).0
+last_nodes m aim walk Full a v h = tt
+last_nodes m aim walk (Yield b) a v h = walk_nodes m aim h.0 walk.done.items walk.left.items v h.1.walk
+
+pub nodes_as : {X : Type 0} (m : Market) (r : Result Cleared X) (told : Cleared) → IfOk r (λ cleared. cleared ≡ told) → HasNodes m told → IfOk r (HasNodes m)
+nodes_as m (Ok cleared) told is h = subst (HasNodes m) (sym is) h
+nodes_as m (Err fault) told is h = tt
+
+-- ---- a clearing may be refined
+
+-- with a tree that is cut back
+pub cut_may_refine : (m : Market) (budget : ℕ) (found : Clearing) (tree : List TreeItem) → IsValid m → MayRefine m budget found → AreParts m (IsOldLeaf m found.welfare) ([] ∷ []) tree → length tree ≤ length found.tree → MayRefine m budget (record { activation = found.activation; welfare = found.welfare; tree = tree })
+cut_may_refine m budget found tree v h parts l = record {
+  clearing = record {
+    optimal = h.clearing.optimal;
+    welfare = h.clearing.welfare;
+    tree = AreParts-map m (IsOldLeaf m found.welfare) (LeafHolds m (pos found.welfare)) (λ word leaf k. k.holds) ([] ∷ []) tree parts;
+    within_budget = omega (arith, l, h.clearing.within_budget);
+  };
+  nodes = (search_parts m ([] ∷ []) tree v (AreParts-map m (IsOldLeaf m found.welfare) (λ word leaf. IsNode m word) (λ word leaf k. k.node) ([] ∷ []) tree parts)).0;
+  opens = h.opens;
+}
+
+pub may_cut : (m : Market) (budget : ℕ) (found : Clearing) → MayRefine m budget found → AreParts m (IsOldLeaf m found.welfare) ([] ∷ []) found.tree
+may_cut m budget found h = old_leaves m found.welfare ([] ∷ []) found.tree h.clearing.tree h.nodes
+
+-- and what was refined may be refined again
+pub may_again : (m : Market) (budget : ℕ) (found c : Clearing) → MayRefine m budget found → IsClearing m budget c → ArePartsOfSearch m ([] ∷ []) (map shape_of c.tree) → MayRefine m budget c
+may_again m budget found c h k nodes = record {
+  clearing = record { optimal = k.first.optimal; welfare = k.welfare; tree = tree_holds_plain m (pos c.welfare) (gate_word_of m c.activation) c.tree k.tree; within_budget = k.within_budget };
+  nodes = nodes;
+  opens = record {
+    closed = h.opens.closed;
+    is_closed = h.opens.is_closed;
+    above = elim h.opens.above [
+      | inl e ↦ inl (one_first_word m c.activation found.activation k.first (closed_is_first m found.activation h.clearing.optimal e) ∙ e)
+      | inr more ↦ inr (omega (arith, ints, more, same))
+    ];
+  };
+}
+  where
+    same : pos c.welfare ≡ pos found.welfare
+    same = sym k.welfare ∙ one_welfare m c.activation found.activation k.first.optimal h.clearing.optimal ∙ h.clearing.welfare
 
 -- ---- at the closed welfare
 

@@ -44,6 +44,12 @@ pub record MayRefine (m : Market) (budget : ℕ) (c : Clearing) : Type 0 where
   pub nodes : ArePartsOfSearch m ([] ∷ []) (map shape_of c.tree)
   pub opens : OpensForMore m (gate_word_of m c.activation) c.welfare
 
+-- what is published has a tree of nodes of the search tree
+abbrev pub HasNodes : Market → Cleared → Type 0
+HasNodes m (Published c) = ArePartsOfSearch m ([] ∷ []) (map shape_of c.tree)
+HasNodes m (Spent s) = ⊤
+HasNodes m Memory = ⊤
+
 -- what is published opens no gate, where its welfare is the closed welfare
 abbrev pub ClosesAtClosed : Market → Cleared → Type 0
 ClosesAtClosed m (Published c) = IsClosedWelfare m (pos c.welfare) → gate_word_of m c.activation ≡ all_closed m
@@ -143,13 +149,13 @@ pub record IsFoundAt (m : Market) (aim : Aim) (x : Prefix) (done left : List Tre
 abbrev pub IsTurn : Market → Aim → Prefix → ℕ → Walk → Turn → Type 0
 IsTurn m aim x count walk On = IsTreeWalk m aim walk.done.items walk.left.items walk.next × (length walk.done.items ≡ count + 1)
 IsTurn m aim x count walk Full = IsCrowdedAt m aim x walk.done.items walk.left.items
-IsTurn m aim x count walk (Yield a) = IsFoundAt m aim x walk.done.items walk.left.items a × (walk.next ≡ Some x)
+IsTurn m aim x count walk (Yield a) = IsFoundAt m aim x walk.done.items walk.left.items a
 
 -- what the last turn of a walk comes to: no prefix is left, or the budget is spent, or an earlier activation is found
 abbrev pub IsLastTurn : Market → Aim → Walk → Turn → Type 0
 IsLastTurn m aim walk On = IsTreeWalk m aim walk.done.items walk.left.items None
 IsLastTurn m aim walk Full = (x : Prefix) × IsCrowdedAt m aim x walk.done.items walk.left.items
-IsLastTurn m aim walk (Yield a) = (x : Prefix) × IsFoundAt m aim x walk.done.items walk.left.items a × (walk.next ≡ Some x)
+IsLastTurn m aim walk (Yield a) = (x : Prefix) × IsFoundAt m aim x walk.done.items walk.left.items a
 
 -- what a walk from an activation of the welfare comes to by its last turn: that activation with the items that are
 -- done, or the shapes of all items, or the earlier activation with all items

@@ -70,41 +70,13 @@ fn quarters_of(welfare: u64) -> Quarters
     Quarters(i128::from(welfare))
 }
 
-/// The leaf of a prefix that isn't early: it stays, but where it is its parent's the prefix's own takes its place.
-fn late_leaf(
-    alloc: Global,
-    market: &Market,
-    prefix: &Prefix,
-    leaf: Leaf,
-    is_own: bool,
-    welfare: u64,
-    root: &Root,
-) -> Result<Leaf, Memory>
-    requires market { IsValid market.now }
-    requires prefix { IsFeasiblePrefix market.now prefix.now }
-    requires leaf { LeafHolds market.now (pos welfare) (word_of prefix.now) leaf }
-    ensures { IfOk result (LeafHolds market.now (pos welfare) (word_of prefix.now)) }
-{
-    if is_own {
-        return Ok(leaf);
-    }
-    match root.examine(alloc, market, prefix) {
-        Ok(finding) => Ok(closing_leaf(finding, welfare).unwrap_or(leaf)),
-        Err(Memory) => {
-            drop(leaf);
-            Err(Memory)
-        }
-    }
-}
-
-/// What becomes of a leaf that holds at the welfare, the prefix's own or its parent's. Where the prefix isn't early, or
-/// its own leaf holds at the welfare less 1, it keeps one; else it is examined.
+/// What becomes of a leaf that holds at the welfare. It stays where it isn't early, or holds at the welfare less 1;
+/// else its prefix is examined.
 pub(crate) fn fate_of(
     alloc: Global,
     market: &Market,
     prefix: &Prefix,
     leaf: Leaf,
-    is_own: bool,
     aim: &Aim,
     root: &Root,
 ) -> Result<Fate, Memory>
@@ -115,11 +87,10 @@ pub(crate) fn fate_of(
     ensures { IfOk result (IsFate market.now aim.now.welfare (word_of aim.now.word) (word_of prefix.now)) }
 {
     if !comes_before(prefix, &aim.word) {
-        let late = late_leaf(alloc, market, prefix, leaf, is_own, aim.welfare, root)?;
-        return Ok(Fate::Stays(late));
+        return Ok(Fate::Stays(leaf));
     }
     let most = aim.welfare - 1;
-    if is_own && check_leaf(market, prefix, &leaf, quarters_of(most)) {
+    if check_leaf(market, prefix, &leaf, quarters_of(most)) {
         return Ok(Fate::Stays(leaf));
     }
     let finding = root.examine(alloc, market, prefix)?;

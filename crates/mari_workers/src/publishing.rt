@@ -6,10 +6,10 @@ ghost use Rattle.mari_market.specs.Clearing.{Clears, IsBudget};
 ghost use Rattle.mari_market.specs.Market.{IsValid};
 ghost use Rattle.mari_market.specs.Optimal.{IsAdmissible, IsOptimal};
 ghost use Rattle.mari_market.specs.Prefix.{word_of, IsFeasiblePrefix};
-ghost use Rattle.mari_workers.specs.Refine.{MayRefine};
+ghost use Rattle.mari_workers.specs.Refine.{HasNodes, MayRefine};
 
 use crate::bounds::Bounds;
-use crate::cutting::{Goal, cut_back};
+use crate::cutting::cut_back;
 use crate::refining::refined_from;
 use crate::root::Root;
 use mari_gates::{empty_prefix, gate_word};
@@ -53,10 +53,75 @@ fn of_its_word(
     }
 }
 
+/// The clearing of the first activation, from that of an optimal one whose tree is cut back before it is refined. The
+/// bounds are those of the tree's branches, and become those of the new one's.
+fn cut_and_refined(
+    alloc: Global,
+    market: &Market,
+    found: Clearing,
+    budget: u32,
+    bounds: &mut Bounds,
+    root: &Root,
+) -> Result<Cleared, Memory>
+    requires market { IsValid market.now }
+    requires budget { IsBudget budget }
+    requires found { MayRefine market.now budget found }
+    ensures law { IfOk result (Clears market.now budget) }
+    ensures nodes { IfOk result (HasNodes market.now) }
+{
+    let Clearing {
+        activation,
+        welfare,
+        tree,
+    } = found;
+    match cut_back(alloc, market, tree, bounds, welfare, root) {
+        Ok(tree) => {
+            let cut = Clearing {
+                activation,
+                welfare,
+                tree,
+            };
+            refined_from(alloc, market, cut, budget, bounds, root)
+        }
+        Err(Memory) => {
+            drop(activation);
+            Err(Memory)
+        }
+    }
+}
+
+/// The same, where a tree that was refined for a later gate word than the first is cut back and refined again.
+///
+/// So the tree rests on the market alone: its branches are those whose own certificate doesn't close them, at the welfare
+/// or, where they are early for the first gate word, at that less 1.
+fn settled(
+    alloc: Global,
+    market: &Market,
+    found: Clearing,
+    budget: u32,
+    bounds: &mut Bounds,
+    root: &Root,
+) -> Result<Cleared, Memory>
+    requires market { IsValid market.now }
+    requires budget { IsBudget budget }
+    requires found { MayRefine market.now budget found }
+    ensures { IfOk result (Clears market.now budget) }
+{
+    let word = gate_word(market, &found.activation);
+    match cut_and_refined(alloc, market, found, budget, bounds, root)? {
+        Cleared::Published(first) => {
+            if gate_word(market, &first.activation) == word {
+                Ok(Cleared::Published(first))
+            } else {
+                cut_and_refined(alloc, market, first, budget, bounds, root)
+            }
+        }
+        spent => Ok(spent),
+    }
+}
+
 /// The clearing of the first activation, from that of an optimal one whose tree has only nodes of the search tree.
 /// Prefixes are examined from the root's optimum, and what was found at the tree's branches are its bounds.
-///
-/// The tree is cut back at the published welfare and gate word, so that it has no more branches than these need.
 pub(crate) fn published_from(
     alloc: Global,
     market: &Market,
@@ -70,7 +135,9 @@ pub(crate) fn published_from(
     requires found { MayRefine market.now budget found }
     ensures { IfOk result (Clears market.now budget) }
 {
-    match refined_from(alloc, market, found, budget, &mut bounds, root)? {
+    let settled = settled(alloc, market, found, budget, &mut bounds, root);
+    drop(bounds);
+    match settled? {
         Cleared::Published(clearing) => {
             let Clearing {
                 activation,
@@ -78,16 +145,6 @@ pub(crate) fn published_from(
                 tree,
             } = clearing;
             let word = gate_word(market, &activation);
-            let goal = Goal { word, welfare };
-            let cut = cut_back(alloc, market, tree, &mut bounds, &goal, root);
-            drop(bounds);
-            let tree = match cut {
-                Ok(tree) => tree,
-                Err(Memory) => {
-                    drop(activation);
-                    return Err(Memory);
-                }
-            };
             match of_its_word(alloc, market, &word, activation, root) {
                 Ok(activation) => Ok(Cleared::Published(Clearing {
                     activation,

@@ -5,7 +5,7 @@ ghost use Rattle.mari_core.specs.Preorder.{shape_of};
 ghost use Rattle.mari_market.specs.Clearing.{Clears, IsBudget};
 ghost use Rattle.mari_market.specs.Market.{IsValid};
 ghost use Rattle.mari_market.specs.Prefix.{word_of, IsFeasiblePrefix, IsCleared};
-ghost use Rattle.mari_workers.specs.Refine.{ended, ClosesAtClosed, IsAim, IsAtLeaf, IsLastTurn, IsToBranch, IsTreeWalk, IsTurn, MayRefine};
+ghost use Rattle.mari_workers.specs.Refine.{ended, ClosesAtClosed, HasNodes, IsAim, IsAtLeaf, IsLastTurn, IsToBranch, IsTreeWalk, IsTurn, MayRefine};
 
 use crate::bounds::Bounds;
 use crate::fate::{Aim, Fate, fate_of};
@@ -23,13 +23,12 @@ enum Turn {
     Yield(Activation),
 }
 
-/// A walk through a tree that is made anew: the items that are done; those that are left, the next at the end; how many
-/// of these the tree had; and the next prefix. The others are leaves of children, which are their parents' as yet.
+/// A walk through a tree that is made anew: the items that are done, those that are left, the next at the end, and the
+/// next prefix.
 #[derive(Drop)]
 struct Walk {
     done: Vec<TreeItem>,
     left: Vec<TreeItem>,
-    own: usize,
     next: Option<Prefix>,
 }
 
@@ -51,7 +50,6 @@ impl Walk {
         left.reverse();
         Walk {
             done: Vec::new(alloc),
-            own: left.len(),
             left,
             next: Some(empty_prefix()),
         }
@@ -117,7 +115,6 @@ impl Walk {
         market: &Market,
         prefix: &Prefix,
         leaf: Leaf,
-        is_own: bool,
         aim: &Aim,
         bounds: &mut Bounds,
         root: &Root,
@@ -127,7 +124,7 @@ impl Walk {
         requires walk { IsAtLeaf market.now aim.now prefix.now leaf self.old.done.items self.old.left.items }
         ensures { IfOk result (IsTurn market.now aim.now prefix.now (length self.old.done.items) self.new) }
     {
-        match fate_of(alloc, market, prefix, leaf, is_own, aim, root)? {
+        match fate_of(alloc, market, prefix, leaf, aim, root)? {
             Fate::Stays(leaf) => {
                 self.done.push(TreeItem::Leaf(leaf))?;
                 self.next = next_after(market, prefix);
@@ -136,7 +133,6 @@ impl Walk {
             Fate::Branches(leaf) => self.branch(market, prefix, leaf, aim, bounds),
             Fate::Yields(leaf, activation) => {
                 self.left.push(TreeItem::Leaf(leaf))?;
-                self.next = Some(*prefix);
                 Ok(Turn::Yield(activation))
             }
         }
@@ -165,9 +161,7 @@ impl Walk {
                 Ok(Turn::On)
             }
             Some(TreeItem::Leaf(leaf)) => {
-                let is_own = self.left.len() < self.own;
-                self.own = self.own.min(self.left.len());
-                self.settle(alloc, market, prefix, leaf, is_own, aim, bounds, root)
+                self.settle(alloc, market, prefix, leaf, aim, bounds, root)
             }
         }
     }
@@ -277,37 +271,6 @@ fn ended(
     }
 }
 
-/// What a walk that has found an earlier activation comes to where it goes on for that one's gate word. What is left is
-/// not early for it, but children may still have the leaves of their parents.
-fn walked_on(
-    alloc: Global,
-    market: &Market,
-    mut walk: Walk,
-    earlier: Activation,
-    aim: &Aim,
-    bounds: &mut Bounds,
-    root: &Root,
-) -> Result<Cleared, Memory>
-    requires market { IsValid market.now }
-    requires aim { IsAim market.now aim.now }
-    requires found { IsLastTurn market.now aim.now walk (Turn.Yield earlier) }
-    ensures { IfOk result (Clears market.now aim.now.budget) }
-{
-    let aim = Aim {
-        word: gate_word(market, &earlier),
-        welfare: aim.welfare,
-        budget: aim.budget,
-    };
-    match walked(alloc, market, &aim, &mut walk, bounds, root) {
-        Ok(last) => ended(alloc, walk, last, earlier, aim.welfare),
-        Err(Memory) => {
-            drop(walk);
-            drop(earlier);
-            Err(Memory)
-        }
-    }
-}
-
 /// The clearing of the first activation, from that of an optimal one. Prefixes are examined from the root's optimum,
 /// and the bounds become those of the new tree's branches.
 pub(crate) fn refined_from(
@@ -321,7 +284,8 @@ pub(crate) fn refined_from(
     requires market { IsValid market.now }
     requires budget { IsBudget budget }
     requires found { MayRefine market.now budget found }
-    ensures { IfOk result (Clears market.now budget) }
+    ensures law { IfOk result (Clears market.now budget) }
+    ensures nodes { IfOk result (HasNodes market.now) }
 {
     let Clearing {
         activation,
@@ -335,10 +299,6 @@ pub(crate) fn refined_from(
     };
     let mut walk = Walk::start(alloc, tree);
     match walked(alloc, market, &aim, &mut walk, bounds, root) {
-        Ok(Turn::Yield(earlier)) => {
-            drop(activation);
-            walked_on(alloc, market, walk, earlier, &aim, bounds, root)
-        }
         Ok(last) => ended(alloc, walk, last, activation, welfare),
         Err(Memory) => {
             drop(walk);

@@ -6,7 +6,7 @@ pub returns-in-Err-clause-told : goal.returns-in-Err-clause-told
 returns-in-Err-clause-told g c = λ asked told reads e. rw c.no_books.ensures (says-fault asked told c.args.folder.now c.in-Err.fault reads (c.in-Err.ensures.told told e))
 
 pub returns-in-Err-clause-words : goal.returns-in-Err-clause-words
-returns-in-Err-clause-words g c = λ asked reads. rw c.no_books.ensures (words-of-fault asked c.args.folder.now c.in-Err.fault reads)
+returns-in-Err-clause-words g c = λ asked reads. rw c.no_books.ensures (words-of-fault asked c.args.folder.now c.in-Err.fault reads c.in-Err.ensures.file)
 
 pub returns-in-Err-clause-reportable : goal.returns-in-Err-clause-reportable
 returns-in-Err-clause-reportable g c = rw c.no_books.ensures (fault-reportable c.in-Err.fault c.in-Err.ensures.file c.in-Err.ensures.check)

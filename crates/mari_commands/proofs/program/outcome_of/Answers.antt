@@ -1,11 +1,17 @@
-use Rattle.std.proofs.Common.{◌∙◌, Global, Some, ap, map, refl, subst, sym}
+use Rattle.std.proofs.Common.{◌≡◌, ◌∙◌, ℕ, List, Option, Global, Some, ap, map, refl, subst, sym}
 use Rattle.std.specs.Prelude.{string_bytes}
-use Rattle.mari_words.specs.Asked.{asked}
+use Rattle.mari_words.specs.Asked.{Asked, asked}
 use Rattle.mari_words.specs.declared.command.Command.{Command}
 use Rattle.mari_commands.specs.Outcome.Says.{OfFeed, OfGenerate}
 use Rattle.mari_commands.proofs.Limits.{IsWithin, within}
+use Rattle.mari_commands.specs.Commands.{AsksForFiles, folder_of}
+use Rattle.mari_commands.proofs.Folder.{reads}
 use Rattle.mari_commands.proofs.Telling.{words-of-summary}
 use Rattle.mari_commands.proofs.program.outcome_of.Goals as goal
+
+-- words that name a folder ask for its files
+reads-files : (words : Option Asked) (x y : Command) (folder : List ℕ) → words ≡ Some (asked x) → x ≡ y → folder_of (asked y) ≡ Some folder → AsksForFiles words
+reads-files words x y folder e f h = (folder, reads words (asked x) folder e (ap (λ (z : Command). folder_of (asked z)) f ∙ h))
 
 abbrev is_within : Command → Type 0
 is_within x = IsWithin (asked x)
@@ -45,3 +51,12 @@ returns-in-Ok-Feed-clause-told g c = λ told e. OfFeed c.in-Ok-Feed.folder (c.in
 
 pub returns-in-Ok-Feed-clause-words : goal.returns-in-Ok-Feed-clause-words
 returns-in-Ok-Feed-clause-words g c = c.in-Ok-Feed.ensures ∙ ap (λ (x : Command). Some (asked x)) c.in-Ok-Feed.field-0-is
+
+pub returns-in-Ok-Clear-clause-untouched : goal.returns-in-Ok-Clear-clause-untouched
+returns-in-Ok-Clear-clause-untouched g c = λ none. absurd (none (reads-files _ _ _ _ c.in-Ok-Clear.ensures c.in-Ok-Clear.field-0-is refl))
+
+pub returns-in-Ok-Check-clause-untouched : goal.returns-in-Ok-Check-clause-untouched
+returns-in-Ok-Check-clause-untouched g c = λ none. absurd (none (reads-files _ _ _ _ c.in-Ok-Check.ensures c.in-Ok-Check.field-0-is refl))
+
+pub returns-in-Ok-Migrate-clause-untouched : goal.returns-in-Ok-Migrate-clause-untouched
+returns-in-Ok-Migrate-clause-untouched g c = λ none. absurd (none (reads-files _ _ _ _ c.in-Ok-Migrate.ensures c.in-Ok-Migrate.field-0-is refl))

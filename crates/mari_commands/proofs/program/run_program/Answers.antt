@@ -1,4 +1,11 @@
-use Rattle.std.proofs.Common.{◌∙◌, arith}
+use Rattle.std.proofs.Common.{◌∙◌, Option, arith, inl, inr}
+use Rattle.std.specs.Prelude.{string_bytes}
+use Rattle.mari_commands.specs.Commands.{AsksForFeed}
+use Rattle.mari_commands.specs.Outcome.{IsOfWords, IsOwn}
+use Rattle.mari_commands.specs.declared.outcome.Outcome.{Outcome}
+use Rattle.mari_commands.specs.declared.outcome.Outcome.TheVariants as outcome
+use Rattle.mari_words.specs.Asked.{Asked}
+use Rattle.mari_commands.proofs.Causes.{failed-counts, missing-counts, too-long-counts}
 use Rattle.mari_commands.proofs.Complete.{checked-answer, cleared-answer, complete-answer, fed-answer, gap-answer, migrated-answer, refuses-answer, refuses-feed-answer, refuses-text-answer}
 use Rattle.mari_commands.proofs.Ending.{answers}
 use Rattle.mari_commands.proofs.program.run_program.Goals as goal
@@ -37,3 +44,27 @@ returns-clause-refuses_feed g c = λ told page f t h.
 
 pub returns-clause-fed : goal.returns-clause-fed
 returns-clause-fed g c = λ told t h. fed-answer _ _ _ _ _ _ told (c.outcome_of-outcome.ensures.same ∙ t) c.outcome_of-outcome.result c.outcome_of-outcome.ensures.words (c.outcome_of-outcome.ensures.told told t) c.finish.ensures.reported h
+
+pub returns-clause-read_fault : goal.returns-clause-read_fault
+returns-clause-read_fault g c = failed-counts _ _ c.outcome_of-outcome.result _ _ c.finish.result c.finish.ensures.reported _ _ _ c.outcome_of-outcome.ensures.failed c.finish.ensures.read_fault
+
+pub returns-clause-missing : goal.returns-clause-missing
+returns-clause-missing g c = missing-counts _ _ c.outcome_of-outcome.result _ _ c.finish.result c.finish.ensures.reported _ _ _ c.outcome_of-outcome.ensures.missing c.finish.ensures.missing
+
+pub returns-clause-too_long : goal.returns-clause-too_long
+returns-clause-too_long g c = too-long-counts _ _ c.outcome_of-outcome.result _ _ c.finish.result c.finish.ensures.reported _ _ _ c.outcome_of-outcome.ensures.too_long c.finish.ensures.too_long
+
+-- whoever reports a feed was asked for one
+asked-for : (words : Option Asked) (o : Outcome) → IsOfWords words o → IsOwn o → AsksForFeed words
+asked-for words outcome.NoCommand w own = absurd own
+asked-for words (outcome.Day job) w own = absurd own
+asked-for words (outcome.Feed folder) w own = (string_bytes folder, w)
+asked-for words (outcome.Text text) w own = absurd own
+asked-for words (outcome.Invalid run fault) w own = absurd own
+asked-for words (outcome.NoPage file why) w own = absurd own
+asked-for words (outcome.Refused refusal) w own = absurd own
+asked-for words outcome.Memory w own = absurd own
+
+pub returns-clause-untouched : goal.returns-clause-untouched
+returns-clause-untouched g c = λ none.
+    c.finish.ensures.untouched (λ own. none (inr (asked-for _ c.outcome_of-outcome.result c.outcome_of-outcome.ensures.words own))) ∙ c.outcome_of-outcome.ensures.untouched (λ files. none (inl files))

@@ -18,3 +18,6 @@ returns-in-Invalid-clause-reported g c = rw c.in-Invalid.is c.say_invalid.ensure
 
 pub returns-in-Day-clause-reported : goal.returns-in-Day-clause-reported
 returns-in-Day-clause-reported g c = rw c.in-Day.is c.clear_alone.ensures.reports
+
+pub returns-in-Feed-clause-untouched : goal.returns-in-Feed-clause-untouched
+returns-in-Feed-clause-untouched g c = λ none. absurd (none (rw c.in-Feed.is tt))

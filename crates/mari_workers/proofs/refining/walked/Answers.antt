@@ -7,9 +7,7 @@ pub returns-in-Full : goal.returns-in-Full
 returns-in-Full c = (c.in-Some.prefix, subst (IsTurn c.args.market.now c.args.aim.now c.in-Some.prefix (length c.loop-walk.walk.done.items) c.advance.new.self) c.in-Full.is c.in_ok-advance.ensures)
 
 pub returns-in-Yield : goal.returns-in-Yield
-returns-in-Yield c =
-    let found = subst (IsTurn c.args.market.now c.args.aim.now c.in-Some.prefix (length c.loop-walk.walk.done.items) c.advance.new.self) c.in-Yield.is c.in_ok-advance.ensures in
-    (c.in-Some.prefix, found.0, found.1)
+returns-in-Yield c = (c.in-Some.prefix, subst (IsTurn c.args.market.now c.args.aim.now c.in-Some.prefix (length c.loop-walk.walk.done.items) c.advance.new.self) c.in-Yield.is c.in_ok-advance.ensures)
 
 pub returns : goal.returns
 returns c =

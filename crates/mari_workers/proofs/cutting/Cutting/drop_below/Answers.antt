@@ -12,7 +12,7 @@ returns-then-at-above-clause-next c =
     let above = c.args.above.now in
     let left = c.loop-self.self.left.items in
     subst (λ (next : Option Prefix). left_at m.gates next ≡ waiting_after m.gates (word_of above)) (sym c.in-Some.is)
-    (ends_below m c.args.goal.now above c.in-Some.at left (subst (IsBelow m c.args.goal.now (word_of above) left) c.in-Some.is c.loop-self.invariant.below) c.if-at-above.true)
+    (ends_below m c.args.welfare above c.in-Some.at left (subst (IsBelow m c.args.welfare (word_of above) left) c.in-Some.is c.loop-self.invariant.below) c.if-at-above.true)
 
 pub returns-clause-next : goal.returns-clause-next
 returns-clause-next c =
@@ -20,4 +20,4 @@ returns-clause-next c =
     let above = c.args.above.now in
     let left = c.loop-self.self.left.items in
     subst (λ (next : Option Prefix). left_at m.gates next ≡ waiting_after m.gates (word_of above)) (sym c.in_default.is)
-    (ends_at_last m c.args.goal.now (word_of above) left (subst (IsBelow m c.args.goal.now (word_of above) left) c.in_default.is c.loop-self.invariant.below))
+    (ends_at_last m c.args.welfare (word_of above) left (subst (IsBelow m c.args.welfare (word_of above) left) c.in_default.is c.loop-self.invariant.below))

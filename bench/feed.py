@@ -6,12 +6,12 @@ usage: python3 bench/feed.py [PROGRAM] [MEGABYTES]
 PROGRAM is the built program, by default crates/mari_app/out/mari_app; the publications have about MEGABYTES, by default
 1,000. The first has runs of 64 zones and 4,096 bids with trees of bounds; the second is one block whose tree has 25,000
 conflicts of 4,608 orders, which is the greatest that a text may hold but for its last few lines. Prints the bytes read
-and printed, seconds, MB read a second, and the peak memory. It is no test: nothing fails where a machine is slow or
-busy.
+and printed, seconds, processor seconds, MB read in a processor second, and the peak memory. It is no test: nothing
+fails where a machine is slow or busy.
 """
 
+import os
 import pathlib
-import resource
 import subprocess
 import sys
 import tempfile
@@ -74,11 +74,13 @@ def measure(program, name, folder):
         count = 0
         while piece := running.stdout.read(1 << 20):
             count += len(piece)
-        running.wait()
+        _, status, used = os.wait4(running.pid, 0)
+        running.returncode = os.waitstatus_to_exitcode(status)
     seconds = time.monotonic() - started
-    peak = resource.getrusage(resource.RUSAGE_CHILDREN).ru_maxrss
+    processor = used.ru_utime + used.ru_stime
     print(
-        f"| {name} | {running.returncode} | {size:,} | {count:,} | {seconds:.1f} | {size / seconds / 1e6:.0f} | {peak / 1000:.0f} |",
+        f"| {name} | {running.returncode} | {size:,} | {count:,} | {seconds:.1f} | {processor:.1f} "
+        f"| {size / processor / 1e6:.0f} | {used.ru_maxrss / 1000:.0f} |",
         flush=True,
     )
 
@@ -88,8 +90,8 @@ def main():
     sizes = [int(word) for word in sys.argv[1:] if word.isdigit()]
     program = words[0] if words else str(TOP / "crates/mari_app/out/mari_app")
     size = (sizes[0] if sizes else 1000) * 1_000_000
-    print("| publication | exit code | bytes read | bytes printed | s | MB/s | peak MB |")
-    print("|---|---|---|---|---|---|---|")
+    print("| publication | exit code | bytes read | bytes printed | s | processor s | MB a processor s | peak MB |")
+    print("|---|---|---|---|---|---|---|---|")
     with tempfile.TemporaryDirectory(prefix="mari-feed-") as room:
         folder = pathlib.Path(room)
         many_runs(folder / "publication.txt", size)

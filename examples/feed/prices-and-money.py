@@ -38,6 +38,13 @@ def money_of(date, totals):
         yield {"date": date, "provider": provider["name"], "euro": provider["amount"] / 400}
 
 
+def show(title, table, form):
+    """Prints a table."""
+    print(title)
+    for line in table.to_string(float_format=form, na_rep="").splitlines():
+        print(line.rstrip())
+
+
 def main():
     prices, money = [], []
     for path in sys.argv[1:]:
@@ -45,12 +52,10 @@ def main():
         prices.extend(prices_of(head["date"], blocks))
         money.extend(money_of(head["date"], totals))
     table = pandas.DataFrame(prices, columns=["date", "quarter", "zone", "price"])
-    print("Prices in euro per MWh")
-    print(table.pivot(index=["date", "quarter"], columns="zone", values="price").to_string(float_format="%.2f", na_rep=""))
+    show("Prices in euro per MWh", table.pivot(index=["date", "quarter"], columns="zone", values="price"), "%.2f")
     print()
     table = pandas.DataFrame(money, columns=["date", "provider", "euro"])
-    print("Money of each provider in euro")
-    print(table.pivot(index="provider", columns="date", values="euro").to_string(float_format="%.4f", na_rep=""))
+    show("Money of each provider in euro", table.pivot(index="provider", columns="date", values="euro"), "%.4f")
 
 
 if __name__ == "__main__":

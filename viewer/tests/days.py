@@ -32,7 +32,7 @@ class Days:
 
     def __init__(self):
         self.scratch = tempfile.TemporaryDirectory(prefix="mari-viewer-")
-        self.cleared = {}
+        self.cleared, self.pages = {}, {}
 
     def empty(self):
         return tempfile.mkdtemp(dir=self.scratch.name)
@@ -57,9 +57,15 @@ class Days:
             self.cleared[name] = subprocess.run([PROGRAM, "feed", folder], stdout=subprocess.PIPE, check=True).stdout
         return self.market(name), self.cleared[name]
 
+    def page_of(self, name):
+        """The path of a day's page."""
+        if name not in self.pages:
+            self.pages[name], _, _ = self.page(*self.day(name))
+        return self.pages[name]
+
     def page(self, folder, feed):
         """(path of the page, exit code, what was said) of `show`."""
-        path = os.path.join(self.scratch.name, "day.html")
+        path = os.path.join(folder, "day.html")
         with open(path, "wb") as page:
             done = subprocess.run([sys.executable, os.path.join(VIEWER, "show"), folder], input=feed, stdout=page,
                                   stderr=subprocess.PIPE, check=False)

@@ -11,7 +11,7 @@ SIZE = (1280, 1080)
 
 def take_pictures(days, folder):
     """Takes both pictures into a folder, and answers their paths."""
-    page, _, _ = days.page(*days.day(EXAMPLE))
+    page = days.page_of(EXAMPLE)
     paths = []
     for scheme in ("light", "dark"):
         browser = Browser(*SIZE, dark=scheme == "dark")

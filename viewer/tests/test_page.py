@@ -17,18 +17,17 @@ from making.page import D3, Page
 from selenium.webdriver.common.keys import Keys
 
 
-class PageTest(unittest.TestCase):
-    @classmethod
-    def setUpClass(cls):
-        cls.days = Days()
-        cls.addClassCleanup(cls.days.close)
-        cls.browser = Browser()
-        cls.addClassCleanup(cls.browser.close)
+def setUpModule():
+    """One browser and the same days for all tests, since to make them takes longer than most tests do."""
+    PageTest.days, PageTest.browser = Days(), Browser()
+    unittest.addModuleCleanup(PageTest.days.close)
+    unittest.addModuleCleanup(PageTest.browser.close)
 
+
+class PageTest(unittest.TestCase):
     def show(self, name, fragment=""):
         """Opens the page of a day."""
-        self.path, self.code, _ = self.days.page(*self.days.day(name))
-        self.browser.open(self.path, fragment)
+        self.browser.open(self.days.page_of(name), fragment)
 
     def cells(self, selector):
         return [[cell.text for cell in row.find_elements("css selector", "td")]
@@ -48,7 +47,6 @@ class PageTest(unittest.TestCase):
 class Reading(PageTest):
     def test_prices_and_borders(self):
         self.show("two-zones")
-        self.assertEqual(self.code, 0)
         self.assertEqual(self.figures()["Price in A"], "20.00 EUR/MWh")
         self.assertEqual(self.cells("#network"),
                          [["A \u2192 B", "50", "50", "100 %", "40.00", "500.0000"]])
@@ -321,7 +319,7 @@ class Manners(PageTest):
 
     def test_contrast(self):
         self.show("fair", "#run=14")
-        for dark in (False, True):
+        for dark in (True, False):
             for name, ratio in self.contrast(dark).items():
                 drawn = name.startswith((".bars", ".chosen"))
                 self.assertGreaterEqual(ratio, 3 if drawn else 4.5, (name, dark))
@@ -338,6 +336,14 @@ class Manners(PageTest):
             + [...document.querySelectorAll("input, select")].filter((e) => !e.labels.length).length
             """), 0)
         self.assertIn("Run 1, quarter 1", self.browser.one("#spoken").get_attribute("textContent"))
+
+    def test_what_has_less_room_is_drawn_smaller(self):
+        self.show("fair")
+        self.assertEqual(self.browser.run("""
+          return [...document.querySelectorAll("section")].filter((panel) => {
+            panel.style.width = "320px";
+            return panel.querySelector("svg")?.getBoundingClientRect().right > panel.getBoundingClientRect().right;
+          }).map((panel) => panel.id)"""), [])
 
     def test_print(self):
         self.show("fair")

@@ -2,7 +2,9 @@
 
 import { price, whole } from "./numbers.js";
 import { placed, depthsOf } from "./tree.js";
-import { unpublishedText, zoneNames } from "./sentences.js";
+import { drawFacts } from "./facts.js";
+import { readingOf, sizeTo } from "./frame.js";
+import { UNPUBLISHED, unpublishedText, zoneNames } from "./sentences.js";
 
 const DRAWN = 161;
 const HIGH = 220;
@@ -13,7 +15,7 @@ export class Certificate {
   constructor(host, day) {
     Object.assign(this, { host, day });
     const panel = d3.select(host);
-    panel.select("h2").append("span").attr("class", "reading");
+    this.reading = readingOf(host);
     this.facts = panel.append("dl").attr("class", "facts");
     panel.append("p").attr("class", "legend").html(`<i class="leaf o"></i>bound
       <i class="leaf cut"></i>cut <i class="leaf x"></i>conflict
@@ -34,7 +36,7 @@ export class Certificate {
     this.view = view;
     if (!this.width) this.resize();
     this.svg.selectAll("*").remove();
-    this.svg.attr("width", this.width).attr("height", 0);
+    sizeTo(this.svg, this.width, 0);
     this.note.text("");
     const { nodes } = view;
     this.drawFacts(view);
@@ -60,17 +62,9 @@ export class Certificate {
         ["Branches", whole(count("B"))], ["Bounds", whole(count("o"))],
         ["Cuts", whole(count("iu"))], ["Conflicts", whole(count("x"))],
         ["Gated bids", whole(gates.length)], ["Budget", whole(this.day.budget)]];
-    const boxes = this.facts.selectAll("div").data(facts);
-    boxes.exit().remove();
-    const fresh = boxes.enter().append("div");
-    fresh.append("dt");
-    fresh.append("dd");
-    const all = fresh.merge(boxes);
-    all.select("dt").text((fact) => fact[0]);
-    all.select("dd").text((fact) => fact[1]);
-    const one = items.length === 1 ? "one bound shows that nothing is better" : view.run
-      ? `${whole(items.length)} nodes show that nothing is better` : "the run is unpublished";
-    d3.select(this.host).select(".reading").text(one);
+    drawFacts(this.facts, facts);
+    const many = items.length === 1 ? "one bound shows" : `${whole(items.length)} nodes show`;
+    this.reading.text(view.run ? `${many} that nothing is better` : UNPUBLISHED);
   }
 
   drawTree(nodes, view) {
@@ -79,7 +73,8 @@ export class Certificate {
     const x = (node) => left + node.x * (this.width - left - 16);
     const high = Math.min(HIGH, 28 + 40 * depth);
     const y = d3.scaleLinear([0, Math.max(depth, 1)], [14, Math.max(15, high - 14)]);
-    this.svg.attr("height", high).attr("aria-label", `Tree of ${nodes.length} nodes and depth ${depth}`);
+    sizeTo(this.svg, this.width, high);
+    this.svg.attr("aria-label", `Tree of ${nodes.length} nodes and depth ${depth}`);
     const lines = this.svg.append("g").attr("class", "edges");
     for (const published of [false, true]) {
       lines.selectAll(null).data(nodes.filter((n) => n.above && n.published === published)).enter()
@@ -117,7 +112,8 @@ export class Certificate {
   // Of a large tree the leaves by depth.
   drawDepths(rows) {
     const [left, bottom] = [46, HIGH - 28];
-    this.svg.attr("height", HIGH).attr("aria-label", "Leaves by depth");
+    sizeTo(this.svg, this.width, HIGH);
+    this.svg.attr("aria-label", "Leaves by depth");
     const kinds = ["o", "cut", "x"];
     const x = d3.scaleLinear([0, rows.length], [left, this.width - 10]);
     const most = d3.max(rows, (row) => d3.sum(kinds, (kind) => row[kind]));

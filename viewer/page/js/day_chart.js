@@ -3,6 +3,7 @@
 import { price, whole, rough, euros, sum } from "./numbers.js";
 import { usualRange, widened } from "./colour.js";
 import { shortText } from "./sentences.js";
+import { readingOf, sizeTo, spotOf } from "./frame.js";
 import { ZonePrices } from "./zone_prices.js";
 import { slotsOf, tenths, steps, bars, diamonds } from "./strokes.js";
 
@@ -37,8 +38,7 @@ export class DayChart {
   }
 
   frame() {
-    const head = d3.select(this.host).select("h2");
-    head.append("span").attr("class", "reading").attr("id", "reading");
+    this.reading = readingOf(this.host);
     const legend = d3.select(this.host).append("p").attr("class", "legend");
     legend.html(`<span><i class="key scheduled"></i> scheduled</span>
       <span><i class="key direct"></i> direct</span>
@@ -63,9 +63,9 @@ export class DayChart {
 
   listen() {
     const node = this.svg.node();
-    const at = (event) => this.runAt(event.clientX - node.getBoundingClientRect().left);
+    const at = (event) => this.runAt(spotOf(node, event)[0]);
     const zone = (event) => {
-      const found = this.zonePrices.zoneAt(event.clientY - node.getBoundingClientRect().top);
+      const found = this.zonePrices.zoneAt(spotOf(node, event)[1]);
       return found === null ? this.selection.zone : found;
     };
     let held = false;
@@ -91,7 +91,7 @@ export class DayChart {
 
   read(number, zone = this.selection.zone) {
     const run = this.day.runs[number - 1];
-    if (run) d3.select("#reading").text(shortText(this.day, run, zone));
+    if (run) this.reading.text(shortText(this.day, run, zone));
   }
 
   resize() {
@@ -119,7 +119,7 @@ export class DayChart {
       top += HEAD + lane.high + GAP;
     }
     this.bottom = top - GAP;
-    this.svg.attr("width", this.width).attr("height", this.bottom + AXIS);
+    sizeTo(this.svg, this.width, this.bottom + AXIS);
     this.lanes.selectAll("*").remove();
     this.grid = this.lanes.append("g");
     this.heads = this.lanes.append("g");

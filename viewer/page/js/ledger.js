@@ -3,6 +3,8 @@
 import { euros, sum } from "./numbers.js";
 import { part } from "./parts.js";
 import { Table } from "./table.js";
+import { readingOf } from "./frame.js";
+import { UNPUBLISHED } from "./sentences.js";
 
 function rowsOf(list, keys) {
   return list.name.map((name, at) => {
@@ -32,7 +34,7 @@ export class Ledger {
         .on("change", () => { this.whole = whole; this.draw(this.view); });
       label.append("span").text(name);
     }
-    panel.select("h2").append("span").attr("class", "reading");
+    this.reading = readingOf(host);
     const columns = panel.append("div").attr("class", "pair");
     this.operators = this.side(columns, "Operators", [NAME("Operator"), money("Pays", "payment"),
       money("Part of rents", "rent"), money("Net", "net")]);
@@ -58,7 +60,7 @@ export class Ledger {
     this.operators.note.text(`${operators.length}, part of rents ${all(operators, "rent")} EUR, `
       + `nets ${all(operators, "net")} EUR in all`);
     this.providers.note.text(`${providers.length}, paid ${all(providers, "amount")} EUR in all`);
-    d3.select(this.host).select("h2 .reading").text(this.whole
-      ? `${this.day.date}, all published runs` : list ? `run ${view.short.run}` : "the run is unpublished: no ledger");
+    this.reading.text(this.whole ? `${this.day.date}, all published runs`
+      : list ? `run ${view.short.run}` : `${UNPUBLISHED}: no ledger`);
   }
 }

@@ -12,6 +12,7 @@ import { Rejected } from "./rejected.js";
 import { Certificate } from "./certificate.js";
 import { Ledger } from "./ledger.js";
 import { listen } from "./keys.js";
+import { drawFacts } from "./facts.js";
 
 const byId = (name) => document.getElementById(name);
 const later = () => new Promise((done) => { setTimeout(done); });
@@ -65,17 +66,7 @@ function figures(day, short, zone) {
       ["Activated up / down", `${whole(short.activated[0])} / ${whole(short.activated[1])}`, "MW"],
       ["Congestion rent", euros(BigInt(short.rent)), "EUR"],
       ["Welfare", euros(BigInt(short.welfare)), "EUR"]];
-  const boxes = d3.select("#figures").selectAll("div").data(list);
-  boxes.exit().remove();
-  const fresh = boxes.enter().append("div");
-  fresh.append("dt");
-  const values = fresh.append("dd");
-  values.append("b");
-  values.append("small");
-  const all = fresh.merge(boxes);
-  all.select("dt").text((figure) => figure[0]);
-  all.select("b").text((figure) => figure[1]);
-  all.select("small").text((figure) => ` ${figure[2]}`);
+  drawFacts(d3.select("#figures"), list);
 }
 
 // Draws the newest selection only, and what stands below after what stands above it.

@@ -4,6 +4,7 @@ import { price, whole } from "./numbers.js";
 import { netImport } from "./sentences.js";
 import { usualRange } from "./colour.js";
 import { BidTable } from "./bid_table.js";
+import { readingOf, sizeTo } from "./frame.js";
 
 const HIGH = 250;
 const SIDE = { left: 58, right: 16, top: 24, bottom: 34 };
@@ -28,7 +29,7 @@ export class MeritOrder {
   constructor(host, day, selection) {
     Object.assign(this, { host, day, selection });
     const panel = d3.select(host);
-    panel.select("h2").append("span").attr("class", "reading");
+    this.reading = readingOf(host);
     panel.append("p").attr("class", "legend").html(`<span><i class="key up"></i> up</span>
       <span><i class="key down"></i> down</span> <span><i class="key up rest"></i>
       <i class="key down rest"></i> not activated</span>
@@ -45,7 +46,7 @@ export class MeritOrder {
     const width = Math.max(320, this.host.clientWidth - 24);
     if (width === this.width) return;
     this.width = width;
-    this.svg.attr("width", width).attr("height", HIGH);
+    sizeTo(this.svg, width, HIGH);
     if (this.view) this.draw(this.view);
   }
 
@@ -57,7 +58,7 @@ export class MeritOrder {
     this.blocks = blocksOf(bids);
     this.svg.selectAll("*").remove();
     const others = view.run ? view.elsewhere[zone] || 0 : 0;
-    d3.select(this.host).select(".reading").text(`${this.day.zones[zone]}, ${whole(bids.length)} bids`
+    this.reading.text(`${this.day.zones[zone]}, ${whole(bids.length)} bids`
       + (others ? `, and ${whole(others)} of the quarter that aren\u2019t in this run` : ""));
     this.balance.text(view.run ? this.balanceText(view, bids) : "");
     this.table.draw(bids);

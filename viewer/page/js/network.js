@@ -3,6 +3,8 @@
 import { price, whole, euros, percent } from "./numbers.js";
 import { inkOn, priceColour, usualRange, widened } from "./colour.js";
 import { Table } from "./table.js";
+import { readingOf, sizeTo } from "./frame.js";
+import { UNPUBLISHED } from "./sentences.js";
 import { clearest, apart } from "./layout.js";
 
 // A border as the run has it, in the direction in which energy flows, or else would pay to flow.
@@ -37,7 +39,7 @@ export class Network {
 
   frame() {
     const host = d3.select(this.host);
-    host.select("h2").append("span").attr("class", "reading");
+    this.reading = readingOf(this.host);
     const legend = host.append("p").attr("class", "legend");
     const scale = legend.append("span");
     this.lowText = scale.append("span");
@@ -94,7 +96,7 @@ export class Network {
     const width = Math.max(320, this.host.clientWidth - 24);
     if (width === this.width) return;
     this.width = width;
-    this.svg.attr("width", width).attr("height", this.high);
+    sizeTo(this.svg, width, this.high);
     const { side } = this;
     this.spots = apart(this.places.map(([x, y]) =>
       [side + x * (width - 2 * side), 24 + y * (this.high - 48)]), this.around,
@@ -116,8 +118,7 @@ export class Network {
     const areas = run ? new Set(run.zones.area).size : 0;
     const full = rows.filter((row) => row.full).length;
     const some = `${areas} ${areas === 1 ? "area" : "areas"} of one price`;
-    d3.select(this.host).select(".reading").text(run
-      ? `${some}, ${full} of ${rows.length} borders full` : "the run is unpublished");
+    this.reading.text(run ? `${some}, ${full} of ${rows.length} borders full` : UNPUBLISHED);
   }
 
   // Colours by the prices of this run: the day's chart tells how they change.

@@ -2,6 +2,8 @@
 
 import { price, whole, euros, gain } from "./numbers.js";
 import { causeText } from "./cause.js";
+import { readingOf } from "./frame.js";
+import { UNPUBLISHED } from "./sentences.js";
 
 const SHOWN = 60;
 
@@ -24,7 +26,7 @@ export class Rejected {
   constructor(host, day, selection) {
     Object.assign(this, { host, day, selection });
     const panel = d3.select(host);
-    panel.select("h2").append("span").attr("class", "reading");
+    this.reading = readingOf(host);
     this.none = panel.append("p").attr("class", "none");
     this.list = panel.append("ol").attr("class", "reasons").attr("tabindex", 0)
       .attr("aria-label", "Bids rejected in the money");
@@ -43,7 +45,7 @@ export class Rejected {
     found.sort((a, b) => Number(b.zone === zone) - Number(a.zone === zone)
       || (gained(a) < gained(b) ? 1 : -1));
     const here = found.filter((bid) => bid.zone === zone).length;
-    d3.select(this.host).select(".reading").text(!view.run ? "the run is unpublished"
+    this.reading.text(!view.run ? UNPUBLISHED
       : `${found.length} in the run, ${here} in ${this.day.zones[zone]}`);
     this.none.text(found.length || !view.run ? ""
       : "Every bid that the price pays for is activated, or is at the price itself.");

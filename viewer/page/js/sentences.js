@@ -2,6 +2,8 @@
 
 import { price, whole, euros } from "./numbers.js";
 
+export const UNPUBLISHED = "the run is unpublished";
+
 export function whenText(day, short) {
   const from = day.times[short.quarter - 1];
   const to = day.times[short.quarter];

@@ -217,19 +217,33 @@ fn whole_bounds(alloc: Global) -> Result<Bounds, AllocError> {
     })
 }
 
+/// The steps of the ladders of two zones: of both sides of the first, and then of the second.
+fn ladders_of_two(
+    alloc: Global,
+    market: &Market,
+    bounds: &Bounds,
+) -> Result<[[Option<StepRow>; 4]; 4], Fail> {
+    Ok([
+        steps(alloc, market, bounds, 0, UP)?,
+        steps(alloc, market, bounds, 0, DOWN)?,
+        steps(alloc, market, bounds, 1, UP)?,
+        steps(alloc, market, bounds, 1, DOWN)?,
+    ])
+}
+
 #[test]
 fn a_ladder_is_of_its_zone_alone(rt: HostRuntime) -> Result<(), Fail> {
     let market = market_of(rt.alloc(), &CONGESTED)?;
     let bounds = whole_bounds(rt.alloc())?;
-    let first = steps(rt.alloc(), &market, &bounds, 0, UP);
-    let second = steps(rt.alloc(), &market, &bounds, 1, UP);
-    let demands = steps(rt.alloc(), &market, &bounds, 1, DOWN);
-    let none = steps(rt.alloc(), &market, &bounds, 0, DOWN);
+    let ladders = ladders_of_two(rt.alloc(), &market, &bounds);
     drop(bounds);
     drop(market);
-    assert_eq!(rt; first?, [Some((0, 2000, 100)), None, None, None]);
-    assert_eq!(rt; second?, [Some((1, 6000, 100)), None, None, None]);
-    assert_eq!(rt; demands?, [Some((2, 9_999_900, 80)), None, None, None]);
-    assert_eq!(rt; none?, [None, None, None, None]);
+    let [none, first, second, demands] = [
+        [None; 4],
+        [Some((0, 2000, 100)), None, None, None],
+        [Some((1, 6000, 100)), None, None, None],
+        [Some((2, 9_999_900, 80)), None, None, None],
+    ];
+    assert_eq!(rt; ladders?, [first, none, second, demands]);
     Ok(())
 }

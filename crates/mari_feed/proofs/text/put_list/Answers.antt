@@ -6,7 +6,7 @@ use Rattle.mari_feed.proofs.text.put_list.Goals as goal
 use Rattle.mari_feed.proofs.text.put_list.Goals.{then-later+in_ok-put-2, else-later}
 
 pub loop-item-init : goal.loop-item-init
-loop-item-init g c = record { text = c.in_ok-put.ensures; later = refl }
+loop-item-init g c = record { text = c.in_ok-put.ensures.put; later = refl }
 
 pub loop-item-preserved : goal.loop-item-preserved
 loop-item-preserved g c =
@@ -17,7 +17,7 @@ loop-item-preserved g c =
       text = elim c.if-later.branch [
         | then-later+in_ok-put-2 w ↦
             more_item f c.args.items.now i c.item-item.result c.loop-item-test.true c.item-item.is c.args.text.now.items c.loop-item.text.items begun.text c.loop-item.later begun.later w.if-later.true c.if-later.text.items _
-            (ap (λ (t : Vec ℕ). t.items) w.text-is ∙ w.in_ok-put-2.ensures) c.in_ok-put-3.ensures
+            (ap (λ (t : Vec ℕ). t.items) w.text-is ∙ w.in_ok-put-2.ensures.put) c.in_ok-put-3.ensures
         | else-later w ↦
             first_item f c.args.items.now i c.item-item.result c.loop-item-test.true c.item-item.is c.args.text.now.items c.loop-item.text.items begun.text c.loop-item.later begun.later w.if-later.false _
             (c.in_ok-put-3.ensures ∙ ap (λ (t : Vec ℕ). t.items ++ compact_text (f c.item-item.result)) w.text-is)
@@ -26,4 +26,4 @@ loop-item-preserved g c =
     }
 
 pub returns : goal.returns
-returns g c = all_items c.put-2.result g.F.Form.written c.args.items.now c.loop-item.item-index c.args.text.now.items c.loop-item.text.items c.put-2.new.text.items c.loop-item-test.false c.loop-item.invariant.text c.put-2.ensures
+returns g c = all_items c.put-2.result g.F.Form.written c.args.items.now c.loop-item.item-index c.args.text.now.items c.loop-item.text.items c.put-2.new.text.items c.loop-item-test.false c.loop-item.invariant.text c.put-2.ensures.put

@@ -8,7 +8,7 @@ from selenium.webdriver.chrome.service import Service
 from selenium.webdriver.common.by import By
 from selenium.webdriver.support.ui import WebDriverWait
 
-PATIENCE = 120      # seconds for what takes one on a machine that does nothing else
+PATIENCE = 300      # seconds for what takes one on a machine that does nothing else
 
 
 class Browser:

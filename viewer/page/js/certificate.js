@@ -1,0 +1,142 @@
+// The certificate: how large the tree is, and its picture, or of a large one its leaves by depth.
+
+import { price, whole } from "./numbers.js";
+import { placed, depthsOf } from "./tree.js";
+import { drawFacts } from "./facts.js";
+import { readingOf, sizeTo } from "./frame.js";
+import { UNPUBLISHED, unpublishedText, zoneNames } from "./sentences.js";
+
+const DRAWN = 161;
+const HIGH = 220;
+const SHAPES = { o: d3.symbolCircle, x: d3.symbolDiamond, i: d3.symbolSquare, u: d3.symbolSquare };
+const NAMES = { B: "branch", o: "bound", x: "conflict", i: "cut in", u: "cut out" };
+
+export class Certificate {
+  constructor(host, day) {
+    Object.assign(this, { host, day });
+    const panel = d3.select(host);
+    this.reading = readingOf(host);
+    this.facts = panel.append("dl").attr("class", "facts");
+    panel.append("p").attr("class", "legend").html(`<i class="leaf o"></i>bound
+      <i class="leaf cut"></i>cut <i class="leaf x"></i>conflict
+      <i class="key way"></i>published gates; left closed, right open`);
+    this.svg = panel.append("svg").attr("role", "img");
+    this.note = panel.append("p").attr("class", "note");
+    new ResizeObserver(() => this.resize()).observe(host);
+  }
+
+  resize() {
+    const width = Math.max(300, this.host.clientWidth - 24);
+    if (width === this.width) return;
+    this.width = width;
+    if (this.view) this.draw(this.view);
+  }
+
+  draw(view) {
+    this.view = view;
+    if (!this.width) this.resize();
+    this.svg.selectAll("*").remove();
+    sizeTo(this.svg, this.width, 0);
+    this.note.text("");
+    const { nodes } = view;
+    this.drawFacts(view);
+    if (!view.run) {
+      this.note.text(unpublishedText(view.short, this.day.budget));
+    } else if (!nodes) {
+      this.note.text("The tree doesn\u2019t fit the gated bids of the run: the feed and the market files "
+        + "aren\u2019t of one day.");
+    } else if (nodes.length <= DRAWN) {
+      this.drawTree(placed(nodes), view);
+    } else {
+      this.drawDepths(depthsOf(nodes));
+    }
+  }
+
+  drawFacts(view) {
+    const { nodes, gates } = view;
+    const items = view.run ? view.run.tree.items : "";
+    const count = (letters) => [...items].filter((letter) => letters.includes(letter)).length;
+    const facts = !view.run
+      ? [["Nodes", whole(view.short.nodes)], ["Budget", whole(this.day.budget)]]
+      : [["Nodes", whole(items.length)], ["Depth", nodes ? whole(d3.max(nodes, (n) => n.depth)) : ""],
+        ["Branches", whole(count("B"))], ["Bounds", whole(count("o"))],
+        ["Cuts", whole(count("iu"))], ["Conflicts", whole(count("x"))],
+        ["Gated bids", whole(gates.length)], ["Budget", whole(this.day.budget)]];
+    drawFacts(this.facts, facts);
+    const many = items.length === 1 ? "one bound shows" : `${whole(items.length)} nodes show`;
+    this.reading.text(view.run ? `${many} that nothing is better` : UNPUBLISHED);
+  }
+
+  drawTree(nodes, view) {
+    const depth = d3.max(nodes, (node) => node.depth);
+    const left = depth > 0 && depth <= 20 ? 128 : 16;
+    const x = (node) => left + node.x * (this.width - left - 16);
+    const high = Math.min(HIGH, 28 + 40 * depth);
+    const y = d3.scaleLinear([0, Math.max(depth, 1)], [14, Math.max(15, high - 14)]);
+    sizeTo(this.svg, this.width, high);
+    this.svg.attr("aria-label", `Tree of ${nodes.length} nodes and depth ${depth}`);
+    const lines = this.svg.append("g").attr("class", "edges");
+    for (const published of [false, true]) {
+      lines.selectAll(null).data(nodes.filter((n) => n.above && n.published === published)).enter()
+        .append("path").classed("way", published)
+        .attr("d", (n) => `M${x(n.above)},${y(n.above.depth)}L${x(n)},${y(n.depth)}`);
+    }
+    if (left > 16) this.drawLevels(view.gates.slice(0, depth), y);
+    const size = nodes.length > 60 ? 34 : 60;
+    this.svg.append("g").selectAll("path").data(nodes.filter((node) => node.kind !== "B")).enter()
+      .append("path").attr("class", (node) => `leaf ${"iu".includes(node.kind) ? "cut" : node.kind}`)
+      .attr("transform", (node) => `translate(${x(node)},${y(node.depth)})`)
+      .attr("d", (node) => d3.symbol().type(SHAPES[node.kind]).size(size)())
+      .append("title").text((node) => this.leafText(node, view));
+  }
+
+  // Each level decides the gate of one bid.
+  drawLevels(gates, y) {
+    const levels = this.svg.append("g").attr("class", "levels").selectAll("text").data(gates)
+      .enter().append("text").attr("x", 4).attr("y", (gate, at) => y(at + 0.5) + 3.5)
+      .text((gate) => `${gate.bid.name}${gate.open ? " runs" : ""}`);
+    levels.classed("open", (gate) => gate.open);
+  }
+
+  leafText(node, view) {
+    const open = [];
+    for (let at = node; at.above; at = at.above) {
+      if (at.open) open.unshift(view.gates[at.depth - 1].bid.name);
+    }
+    const { zones, bounds } = view.run.tree;
+    const detail = zones[node.at] ? `, zones ${zoneNames(zones[node.at], this.day).join(", ")}`
+      : `, potentials from ${price(bounds[node.at][0])} to ${price(bounds[node.at][1])} EUR/MWh`;
+    return `${NAMES[node.kind]} at depth ${node.depth}${detail}; open: ${open.join(", ") || "none"}`;
+  }
+
+  // Of a large tree the leaves by depth.
+  drawDepths(rows) {
+    const [left, bottom] = [46, HIGH - 28];
+    sizeTo(this.svg, this.width, HIGH);
+    this.svg.attr("aria-label", "Leaves by depth");
+    const kinds = ["o", "cut", "x"];
+    const x = d3.scaleLinear([0, rows.length], [left, this.width - 10]);
+    const most = d3.max(rows, (row) => d3.sum(kinds, (kind) => row[kind]));
+    const y = d3.scaleLinear([0, most || 1], [bottom, 12]).nice(4);
+    const axis = this.svg.append("g").attr("class", "axis");
+    for (const tick of y.ticks(4)) {
+      axis.append("path").attr("d", `M${left},${y(tick)}H${this.width - 10}`);
+      axis.append("text").attr("x", left - 6).attr("y", y(tick) + 3.5).text(whole(tick));
+    }
+    this.svg.append("g").attr("class", "axis time").attr("transform", `translate(0,${bottom})`)
+      .call(d3.axisBottom(x).ticks(Math.min(10, rows.length)).tickFormat(d3.format("d")));
+    axis.append("text").attr("class", "unit").attr("x", this.width - 10).attr("y", HIGH - 1)
+      .text("leaves by depth");
+    for (const row of rows) {
+      let base = 0;
+      for (const kind of kinds) {
+        if (!row[kind]) continue;
+        this.svg.append("rect").attr("class", `leaf ${kind}`).attr("x", x(row.depth) + 0.5)
+          .attr("width", Math.max(1, x(row.depth + 1) - x(row.depth) - 1))
+          .attr("y", y(base + row[kind])).attr("height", y(base) - y(base + row[kind]));
+        base += row[kind];
+      }
+    }
+    this.note.text("The tree is too large to draw: its leaves are counted by depth.");
+  }
+}

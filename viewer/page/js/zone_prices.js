@@ -1,0 +1,62 @@
+// The price of each zone in each run as colours: a row for each zone, on the day's axis.
+
+import { price } from "./numbers.js";
+import { priceColour } from "./colour.js";
+
+function rowHeight(zones) {
+  return Math.max(2, Math.min(9, Math.floor(84 / zones)));
+}
+
+// A picture of one dot for each place across and each zone down.
+function painted(slots, x, width, zones, colour) {
+  const canvas = document.createElement("canvas");
+  [canvas.width, canvas.height] = [Math.max(1, Math.round(width)), zones];
+  const pen = canvas.getContext("2d");
+  const start = x.range()[0];
+  for (const { run, start: from, end: to } of slots) {
+    const left = Math.round(Math.max(0, x(from) - start));
+    const wide = Math.max(1, Math.round(Math.min(width, x(to) - start)) - left);
+    run.price.forEach((cents, zone) => {
+      pen.fillStyle = colour(cents);
+      pen.fillRect(left, zone, wide, 1);
+    });
+  }
+  return canvas.toDataURL();
+}
+
+export class ZonePrices {
+  constructor(day, range) {
+    Object.assign(this, { day, range, row: rowHeight(day.zones.length) });
+    this.high = this.row * day.zones.length;
+  }
+
+  draw(group, slots, x, top) {
+    Object.assign(this, { top, left: x.range()[0], width: x.range()[1] - x.range()[0] });
+    group.append("image").attr("x", this.left).attr("y", top).attr("width", this.width)
+      .attr("height", this.high).attr("preserveAspectRatio", "none")
+      .attr("href", painted(slots, x, this.width, this.day.zones.length, priceColour(this.range)));
+    this.names = group.append("g").attr("class", "axis zone-names");
+    this.frame = group.append("rect").attr("class", "zone-frame").attr("x", this.left)
+      .attr("width", this.width).attr("height", this.row);
+  }
+
+  // The names that fit, and always the selected zone's.
+  select(zone) {
+    const y = this.top + zone * this.row;
+    this.frame.attr("y", y);
+    this.names.selectAll("text").remove();
+    this.names.append("text").attr("x", this.left - 6).attr("y", y + this.row / 2 + 3.5)
+      .text(this.day.zones[zone]);
+  }
+
+  // The zone at a height, or null.
+  zoneAt(y) {
+    const zone = Math.floor((y - this.top) / this.row);
+    return zone >= 0 && zone < this.day.zones.length && y >= this.top ? zone : null;
+  }
+
+  note() {
+    return `EUR/MWh, from violet ${price(Math.round(this.range[0]))} to yellow ${
+      price(Math.round(this.range[1]))}; click picks zone and run`;
+  }
+}

@@ -1,0 +1,91 @@
+"""Days to show: market files of the examples and of an invented day, cleared by the program, each with its feed."""
+import importlib.machinery
+import importlib.util
+import os
+import shutil
+import subprocess
+import sys
+import tempfile
+
+HERE = os.path.dirname(os.path.abspath(__file__))
+VIEWER = os.path.dirname(HERE)
+TOP = os.path.dirname(VIEWER)
+BUILT = os.path.join(TOP, "crates", "mari_app", "out", "mari_app")
+SHIPPED = os.path.join(TOP, "release", "mari")
+PROGRAM = os.environ.get("MARI") or (BUILT if os.access(BUILT, os.X_OK) else SHIPPED)
+sys.path[:0] = [VIEWER, HERE]
+sys.dont_write_bytecode = True
+
+import fair_day                                          # noqa: E402
+
+
+def script(name):
+    """The script of the viewer with that name, as a module."""
+    loader = importlib.machinery.SourceFileLoader(name, os.path.join(VIEWER, name))
+    module = importlib.util.module_from_spec(importlib.util.spec_from_loader(name, loader))
+    loader.exec_module(module)
+    return module
+
+
+class Days:
+    """Cleared days, in a scratch folder that goes with the tests."""
+
+    def __init__(self):
+        self.scratch = tempfile.TemporaryDirectory(prefix="mari-viewer-")
+        self.cleared, self.pages = {}, {}
+
+    def empty(self):
+        return tempfile.mkdtemp(dir=self.scratch.name)
+
+    def market(self, name):
+        """A new folder with the market files of an example, or of the invented day `fair`."""
+        folder = self.empty()
+        if name == "fair":
+            fair_day.make(folder, 12)
+        else:
+            shutil.copytree(os.path.join(TOP, "examples", name), folder, dirs_exist_ok=True)
+        return folder
+
+    def day(self, name):
+        """(a new folder, its feed). Of the invented day two runs are too large for so small a budget."""
+        if name not in self.cleared:
+            folder = self.market(name)
+            options = ["--nodes", "60"] if name == "fair" else []
+            text = subprocess.run([PROGRAM, "clear", folder, *options], stdout=subprocess.PIPE, check=False).stdout
+            with open(os.path.join(folder, "publication.txt"), "wb") as publication:
+                publication.write(text)
+            self.cleared[name] = subprocess.run([PROGRAM, "feed", folder], stdout=subprocess.PIPE, check=True).stdout
+        return self.market(name), self.cleared[name]
+
+    def page_of(self, name):
+        """The path of a day's page."""
+        if name not in self.pages:
+            self.pages[name], _, _ = self.page(*self.day(name))
+        return self.pages[name]
+
+    def page(self, folder, feed):
+        """(path of the page, exit code, what was said) of `show`."""
+        path = os.path.join(folder, "day.html")
+        with open(path, "wb") as page:
+            done = subprocess.run([sys.executable, os.path.join(VIEWER, "show"), folder], input=feed, stdout=page,
+                                  stderr=subprocess.PIPE, check=False)
+        return path, done.returncode, done.stderr.decode()
+
+    def close(self):
+        self.scratch.cleanup()
+
+
+def change(folder, file, old, new):
+    """Replaces a text in a file of a folder."""
+    path = os.path.join(folder, file)
+    with open(path, encoding="utf-8", newline="") as page:
+        text = page.read()
+    assert old in text, (file, old)
+    with open(path, "w", encoding="utf-8", newline="") as page:
+        page.write(text.replace(old, new))
+
+
+def changed(feed, old, new):
+    """A feed with a text replaced."""
+    assert old in feed, old
+    return feed.replace(old, new)

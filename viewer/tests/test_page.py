@@ -1,0 +1,382 @@
+"""What a person sees of a page in chromium, opened from a file."""
+import json
+import os
+import re
+import subprocess
+import unittest
+
+from browser import Browser
+from days import Days, TOP, change, changed, PROGRAM
+from hostile_day import NAMES, rename_market, renamed_lines
+from pictures import take_pictures
+
+from making.day_parts import Day
+from making.market_files import MarketFiles
+from making.page import D3, Page
+
+from selenium.webdriver.common.keys import Keys
+
+
+def setUpModule():
+    """One browser and the same days for all tests, since to make them takes longer than most tests do."""
+    PageTest.days, PageTest.browser = Days(), Browser()
+    unittest.addModuleCleanup(PageTest.days.close)
+    unittest.addModuleCleanup(PageTest.browser.close)
+
+
+class PageTest(unittest.TestCase):
+    def show(self, name, fragment=""):
+        """Opens the page of a day."""
+        self.browser.open(self.days.page_of(name), fragment)
+
+    def cells(self, selector):
+        return [[cell.text for cell in row.find_elements("css selector", "td")]
+                for row in self.browser.all(f"{selector} tbody tr")]
+
+    def figures(self):
+        words = self.browser.text("#figures").split("\n")
+        return dict(zip(words[::2], words[1::2]))
+
+    def key(self, *keys):
+        self.browser.one("main").send_keys(*keys)
+
+    def tearDown(self):
+        self.assertEqual(self.browser.faults(), [])
+
+
+class Reading(PageTest):
+    def test_prices_and_borders(self):
+        self.show("two-zones")
+        self.assertEqual(self.figures()["Price in A"], "20.00 EUR/MWh")
+        self.assertEqual(self.cells("#network"),
+                         [["A \u2192 B", "50", "50", "100 %", "40.00", "500.0000"]])
+        prices = [text.text for text in self.browser.all(".zones .price")]
+        self.assertEqual(prices, ["20.00", "60.00"])
+        self.key(Keys.ARROW_DOWN)
+        self.assertEqual(self.figures()["Price in B"], "60.00 EUR/MWh")
+        self.assertEqual(self.cells("#merit-order")[0][:7],
+                         ["b1", "P2", "up", "60.00", "100", "30", "450.0000"])
+        self.assertIn("Demand 80 MW, served 80 MW = up 30 \u2212 down 0 + net import 50 MW",
+                      self.browser.text("#merit-order .balance"))
+
+    def test_the_certificate_is_drawn(self):
+        self.show("paradox-bid")
+        leaves = [leaf.get_attribute("textContent") for leaf in self.browser.all("#certificate path.leaf title")]
+        self.assertEqual(leaves, ["bound at depth 1, potentials from 99,999.00 to 99,999.00 EUR/MWh; open: none",
+                                  "conflict at depth 1, zones Z; open: i1"])
+        self.assertIn("Depth\n1", self.browser.text("#certificate dl"))
+
+    def test_unpublished_runs(self):
+        self.show("fair", "#run=2&zone=AT")
+        self.assertEqual(self.browser.text("#count"), "14 published, 2 unpublished")
+        self.assertEqual(self.figures()["Run"], "unpublished after 59 nodes")
+        self.assertIn("Run 2 is unpublished", self.browser.text("#certificate"))
+        self.assertEqual(len(self.browser.all("rect.unpublished")), 2)
+
+    def test_a_rejected_bid_leads_to_its_zone(self):
+        self.show("fair", "#run=14&zone=PT")
+        bid = self.browser.one("#rejected li button")
+        zone = re.match(r"q\d+-(.*)-\d+$", bid.text)[1]
+        self.assertNotEqual(zone, "PT")
+        bid.click()
+        self.assertIn(f"Price in {zone}", self.figures())
+
+    def test_bids_are_paid_what_the_ledger_says(self):
+        self.show("fair")
+        wrong = self.browser.driver.execute_async_script("""
+          const done = arguments[arguments.length - 1];
+          (async () => {
+            const day = parts_module.summary();
+            const wrong = [];
+            for (const { run } of day.runs) {
+              const view = await run_module.runView(day, run);
+              if (!view.run) continue;
+              const paid = new Map();
+              for (const bid of view.bids) {
+                paid.set(bid.provider, (paid.get(bid.provider) || 0n) + bid.amount);
+              }
+              view.run.providers.name.forEach((name, at) => {
+                if (paid.get(name) !== BigInt(view.run.providers.amount[at])) wrong.push([run, name]);
+              });
+              if (!view.nodes) wrong.push([run, "tree"]);
+            }
+            return wrong;
+          })().then(done, (fault) => done(String(fault)));""")
+        self.assertEqual(wrong, [])
+
+    def test_money_is_exact(self):
+        self.show("two-zones")
+        cases = {"1": "0.0025", "-1": "\u22120.0025", "0": "0.0000", "400": "1.0000",
+                 "4000000000000000000": "10,000,000,000,000,000.0000",
+                 "9223372036854775807": "23,058,430,092,136,939.5175",
+                 "-123456789": "\u2212308,641.9725"}
+        for quarters, text in cases.items():
+            self.assertEqual(self.browser.run("return numbers_module.euros(BigInt(arguments[0]))",
+                                              quarters), text)
+        self.assertEqual(self.browser.run("return numbers_module.price(-5)"), "\u22120.05")
+
+
+class Causes(PageTest):
+    """Why bids stay out, in days of two zones: A offers 100 MW at 20.00, B 100 MW at 60.00, and 50 MW flow to B."""
+
+    def reason(self, bids, links, demand):
+        """What is said of bid b2, with these bids more in zone B."""
+        folder = self.days.market("two-zones")
+        records = [f"{name},P3,B,1,up,{offer},both" for name, offer in bids.items()]
+        change(folder, "bids.csv", "b1,", "\n".join([*records, "b1,"]))
+        change(folder, "links.csv", "kind,first,second\n", "\n".join(["kind,first,second", *links, ""]))
+        change(folder, "demands.csv", "1,B,80,", f"1,B,{demand},")
+        with open(os.path.join(folder, "publication.txt"), "wb") as publication:
+            subprocess.run([PROGRAM, "clear", folder], stdout=publication, check=True)
+        feed = subprocess.run([PROGRAM, "feed", folder], stdout=subprocess.PIPE, check=True).stdout
+        self.browser.open(self.days.page(folder, feed)[0])
+        return next(line.text for line in self.browser.all("#rejected li") if line.text.startswith("b2 "))
+
+    def test_no_consistent_prices(self):
+        self.assertEqual(
+            self.reason({"b2": "45.00,30,30"}, [], 60),
+            "b2 of P3 offers 30 MW or nothing, up, at 45.00 EUR/MWh. At B\u2019s price of 60.00 EUR/MWh it would gain "
+            "15.00 EUR/MWh, 112.5000 EUR over the quarter hour. With it, and every other gated bid as it is, there are "
+            "no consistent prices: the price can\u2019t fall from B to A, but orders need a higher one in B than "
+            "others allow in A.")
+
+    def test_no_greater_welfare(self):
+        bids = {"b2": "59.00,30,30", "b3": "70.00,5,5"}
+        self.assertTrue(self.reason(bids, [], 60).endswith(
+            "With it there is no greater welfare: a bound of the certificate shows it."))
+
+    def test_no_balance(self):
+        self.assertTrue(self.reason({"b2": "45.00,200,200"}, [], 60).endswith(
+            "With it there is no balance: A, B couldn\u2019t send out what they would have too much."))
+
+    def test_its_group(self):
+        bids = {"b3": "45.00,0,100", "b2": "46.00,0,100"}
+        self.assertTrue(self.reason(bids, ["group,g,b3", "group,g,b2"], 170).endswith(
+            "Of its group g at most one bid runs, and b3 does."))
+
+    def test_its_parent(self):
+        bids = {"b3": "500.00,0,10", "b2": "45.00,0,100"}
+        self.assertTrue(self.reason(bids, ["child,b2,b3"], 80).endswith(
+            "It runs only where its parent b3 does, which isn\u2019t activated."))
+
+
+class Picking(PageTest):
+    def test_keys_and_address(self):
+        self.show("fair", "#run=3&zone=FR")
+        self.key(Keys.ARROW_RIGHT, Keys.ARROW_DOWN)
+        self.browser.drawn(4)
+        self.assertEqual(self.browser.text("#when"), "quarter 4, 00:45\u201301:00, scheduled")
+        self.assertTrue(self.browser.driver.current_url.endswith("#run=4&zone=HU"))
+        self.key(Keys.END)
+        self.browser.drawn(16)
+        self.assertEqual(self.browser.text("#when"), "quarter 12, 02:45\u201303:00, direct")
+        self.browser.run("location.hash = '#run=5&zone=PL'")
+        self.browser.drawn(5)
+        self.assertIn("Price in PL", self.figures())
+
+    def test_a_click_in_the_day(self):
+        self.show("fair", "#run=1&zone=FR")
+        for number in (11, 6, 10, 9, 12):
+            spot = self.browser.run("""
+              const at = Array.from(document.querySelectorAll("#day-chart .bars.money.scheduled,"
+                + "#day-chart .bars.money.direct"))[0].ownerSVGElement.getBoundingClientRect();
+              const slots = strokes_module.slotsOf(parts_module.summary().runs);
+              const slot = slots[arguments[0] - 1];
+              const left = 74, right = at.width - 14;
+              return [at.left + left + (slot.start + slot.end) / 2 / 12 * (right - left),
+                at.top + 60];""", number)
+            for kind in ("mousePressed", "mouseReleased"):
+                self.browser.command("Input.dispatchMouseEvent", type=kind, x=spot[0], y=spot[1],
+                                     button="left", clickCount=1)
+            self.browser.drawn(number)
+            self.assertEqual(self.browser.one("#run").get_attribute("value"), str(number))
+
+    def test_a_click_on_a_zone(self):
+        self.show("fair")
+        zones = self.browser.all(".zones g")
+        [zone for zone in zones if "\nES" in "\n" + zone.text][0].click()
+        self.assertIn("Price in ES", self.figures())
+        self.assertIn("ES,", self.browser.text("#merit-order h2"))
+
+    def test_the_ledger_is_sorted(self):
+        self.show("fair")
+        head = [h for h in self.browser.all("#ledger .operators th button") if "Net" in h.text][0]
+        nets = lambda: [float(row[3].replace(",", "").replace("\u2212", "-"))   # noqa: E731
+                        for row in self.cells("#ledger .operators")]
+        head.click()
+        self.assertEqual(nets(), sorted(nets(), reverse=True))
+        head.click()
+        self.assertEqual(nets(), sorted(nets()))
+        self.assertAlmostEqual(sum(nets()), 0)
+        run = nets()
+        self.browser.one("#ledger input[value=day]").click()
+        self.assertNotEqual(nets(), run)
+        self.assertEqual(self.browser.one("#ledger .operators th[aria-sort]").text[:3], "Net")
+
+    def test_layout_is_the_same_in_each_run(self):
+        places = lambda: [zone.get_attribute("transform")                       # noqa: E731
+                          for zone in self.browser.all(".zones g")]
+        self.show("fair", "#run=1")
+        first = places()
+        self.show("fair", "#run=9")
+        self.assertEqual(places(), first)
+
+
+class Harm(PageTest):
+    def show_hostile(self):
+        """Opens the page of a day with hostile names, which is made past the check of the feed."""
+        folder, feed = self.days.day("two-zones")
+        rename_market(folder)
+        path = os.path.join(folder, "day.html")
+        with open(D3, encoding="utf-8") as d3, open(path, "w", encoding="utf-8", newline="\n") as text:
+            page, day = Page(text.write, d3.read()), Day(MarketFiles(folder))
+            page.start()
+            for kind, value in zip(("head", "published", "totals"), renamed_lines(feed)):
+                for part in day.take(kind, value):
+                    page.part(*part)
+            page.end(day.summary())
+        self.browser.open(path)
+
+    def test_hostile_names_stay_text(self):
+        self.show_hostile()
+        self.assertIsNone(self.browser.run("return window.hit || null"))
+        self.assertEqual(self.browser.run("return document.querySelectorAll('img,i>i,b>b').length"), 0)
+        names = [name.get_attribute("textContent") for name in self.browser.all("#zone option")]
+        self.assertEqual(names, [NAMES["A"], NAMES["B"]])
+        cut = [name.get_attribute("textContent")[:15] for name in self.browser.all(".zones .name")]
+        self.assertEqual(cut, [NAMES["A"][:15], NAMES["B"][:15]])
+        self.assertEqual(len(self.cells("#ledger .operators")), 2)
+        self.assertEqual(self.browser.run("return document.querySelector('.operators td').textContent"), NAMES["TA"])
+        self.key(Keys.ARROW_DOWN)
+        self.assertEqual(self.browser.run("return new URLSearchParams(location.hash.slice(1)).get('zone')"), NAMES["B"])
+        self.assertEqual(self.cells("#merit-order")[0][0], "constructor")
+
+    def test_a_hostile_feed_is_refused(self):
+        folder, feed = self.days.day("two-zones")
+        rename_market(folder)
+        hostile = "".join(json.dumps(line) + "\n" for line in renamed_lines(feed)).encode()
+        path, code, _ = self.days.page(folder, hostile)
+        self.browser.open(path, wait=False)
+        self.assertEqual(code, 3)
+        self.assertEqual(self.browser.text("#fault"), "The day is damaged. feed, line 2: its bids isn't one of a feed.")
+        self.assertIsNone(self.browser.run("return window.hit || null"))
+
+    def test_damage_is_said_and_the_rest_shown(self):
+        folder, feed = self.days.day("fair")
+        path, code, _ = self.days.page(folder, changed(feed, b'"run":6', b'"run":"<b>6"'))
+        self.browser.open(path)
+        self.assertEqual(code, 3)
+        self.assertEqual(self.browser.text("#fault"), "The day is damaged. feed, line 7: its run isn't one of a feed. "
+                         "The 5 of 16 runs before it are shown.")
+        self.assertEqual(self.browser.text("#of"), "of 5")
+
+    def test_a_page_without_a_day(self):
+        folder, feed = self.days.day("fair")
+        os.remove(os.path.join(folder, "zones.csv"))
+        path, _, _ = self.days.page(folder, feed)
+        self.browser.open(path, wait=False)
+        self.assertEqual(self.browser.text("#fault"), "The day is damaged. zones.csv: the folder hasn't this file.")
+        self.assertFalse(self.browser.one("main").is_displayed())
+
+    def test_a_page_that_was_cut(self):
+        path, _, _ = self.days.page(*self.days.day("fair"))
+        with open(path, encoding="utf-8", newline="") as page:
+            text = page.read()
+        with open(path, "w", encoding="utf-8", newline="") as page:
+            page.write(re.sub(r'id="run-4">....', 'id="run-4">!!!!', text))
+        self.browser.open(path, "#run=4", wait=False)
+        self.assertIn("run-4 can't be read", self.browser.wait_for("#fault"))
+
+    def test_nothing_leaves_the_page(self):
+        self.show("two-zones")
+        self.assertEqual(self.browser.run(
+            "return performance.getEntriesByType('resource').filter("
+            "(entry) => !/^(data|blob):/.test(entry.name)).length"), 0)
+        self.assertIn("default-src 'none'", self.browser.run(
+            "return document.querySelector('meta[http-equiv]').content"))
+
+
+class Manners(PageTest):
+    def contrast(self, dark):
+        self.browser.command("Emulation.setEmulatedMedia", features=[
+            {"name": "prefers-color-scheme", "value": "dark" if dark else "light"}])
+        return self.browser.run("""
+          const light = (text) => {
+            const part = text.match(/[0-9.]+/g).slice(0, 3).map((v) => {
+              const s = v / 255; return s <= 0.03928 ? s / 12.92 : ((s + 0.055) / 1.055) ** 2.4; });
+            return 0.2126 * part[0] + 0.7152 * part[1] + 0.0722 * part[2]; };
+          const ground = light(getComputedStyle(document.querySelector("section")).backgroundColor);
+          const least = {};
+          for (const [name, key] of [["td", "color"], [".reading", "color"], ["#when", "color"],
+              [".axis text", "fill"], [".reasons button", "color"], [".bars.up", "fill"],
+              [".bars.down", "fill"], [".chosen .direct", "stroke"]]) {
+            const found = document.querySelector(name);
+            if (!found) continue;
+            const ink = light(getComputedStyle(found)[key]);
+            least[name] = (Math.max(ink, ground) + 0.05) / (Math.min(ink, ground) + 0.05);
+          }
+          return least;""")
+
+    def test_contrast(self):
+        self.show("fair", "#run=14")
+        for dark in (True, False):
+            for name, ratio in self.contrast(dark).items():
+                drawn = name.startswith((".bars", ".chosen"))
+                self.assertGreaterEqual(ratio, 3 if drawn else 4.5, (name, dark))
+
+    def test_names_and_roles(self):
+        self.show("fair")
+        self.assertEqual(self.browser.run("""
+          const named = (e) => e.getAttribute("aria-label") || e.textContent.trim()
+            || e.querySelector("title");
+          return [...document.querySelectorAll("svg, button, section, .rows")].filter((e) =>
+            !(e.getAttribute("aria-labelledby") || named(e))).length
+            + [...document.querySelectorAll("svg:not([role])")].length
+            + [...document.querySelectorAll("th:not([scope])")].length
+            + [...document.querySelectorAll("input, select")].filter((e) => !e.labels.length).length
+            """), 0)
+        self.assertIn("Run 1, quarter 1", self.browser.one("#spoken").get_attribute("textContent"))
+
+    def test_what_has_less_room_is_drawn_smaller(self):
+        self.show("fair")
+        self.assertEqual(self.browser.run("""
+          return [...document.querySelectorAll("section")].filter((panel) => {
+            panel.style.width = "320px";
+            return panel.querySelector("svg")?.getBoundingClientRect().right > panel.getBoundingClientRect().right;
+          }).map((panel) => panel.id)"""), [])
+
+    def test_print(self):
+        self.show("fair")
+        made = self.browser.command("Page.printToPDF", printBackground=True)["data"]
+        self.assertGreater(len(made), 20_000)
+
+
+class Whole(PageTest):
+    def view(self, folder):
+        return subprocess.run([os.path.join(TOP, "view"), folder], env={**os.environ, "MARI": PROGRAM},
+                              capture_output=True, check=False)
+
+    def test_a_folder_is_viewed(self):
+        folder = self.days.market("eight-zones")
+        for _ in range(2):      # cleared at first, and then as it is
+            done = self.view(folder)
+            self.assertEqual((done.returncode, done.stderr), (0, b""))
+            self.browser.open(done.stdout.decode().strip())
+            self.assertEqual(self.browser.text("#count"), "1 published")
+
+    def test_a_day_of_other_files_is_not_viewed(self):
+        folder = self.days.market("eight-zones")
+        self.view(folder)
+        change(folder, "demands.csv", "1,DK,60,", "1,DK,61,")
+        done = self.view(folder)
+        self.assertEqual(done.returncode, 7)
+        self.assertIn(b"publication.txt isn't the day of the folder's market files: invalid 1 ", done.stderr)
+
+    def test_pictures_are_light_and_dark(self):
+        light, dark = (os.path.getsize(path) for path in take_pictures(self.days, self.days.empty()))
+        self.assertGreater(min(light, dark), 50_000)
+        self.assertNotEqual(light, dark)
+
+
+if __name__ == "__main__":
+    unittest.main()

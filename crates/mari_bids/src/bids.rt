@@ -147,7 +147,7 @@ fn has_bad_field(line: &Row) -> bool
 }
 
 /// The bid of a line after others with these names, but for the place of its provider, or the first check that fails.
-fn bid_of(zones: &ZoneBook, quarters: u32, ids: &NameIndex, line: &Row) -> Result<Bid, BidCheck>
+fn read_bid(zones: &ZoneBook, quarters: u32, ids: &NameIndex, line: &Row) -> Result<Bid, BidCheck>
     ensures bid { (earlier : List Line) → ids.now ≡ map id_of earlier
         → IsRead bid_check_number result (first_failing (bid_checks zones.now quarters earlier line.now)) (bid_at zones.now quarters 0 line.now) }
     ensures quarter { IfOk result (λ bid. bid.quarter ≤ quarters) }
@@ -234,7 +234,7 @@ impl<'a> BookSoFar for BidsSoFar<'a> {
     ghost Holds = { λ so_far lines. HoldsBids lines so_far };
 
     fn take(&mut self, alloc: Global, line: &Row) -> Result<(), LineFault<BidCheck>> {
-        let mut bid = match bid_of(self.zones, self.quarters, &self.ids, line) {
+        let mut bid = match read_bid(self.zones, self.quarters, &self.ids, line) {
             Ok(bid) => bid,
             Err(check) => return Err(LineFault::Fails(check)),
         };

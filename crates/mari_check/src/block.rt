@@ -127,7 +127,7 @@ fn pricing_fault(
     Ok(None)
 }
 
-/// Whether the tree is a whole one, of no more items than the budget, where there is one.
+/// Whether the tree is whole, and of no more items than the budget, if there is a budget.
 fn is_shaped(market: &Market, tree: &[TreeItem], budget: Option<u32>) -> bool
     requires { IsValid market.now }
     ensures { IsTrue result ↔ IsShaped market.now budget tree.now }

@@ -23,7 +23,9 @@ use std::alloc::Global;
 /// where there is none, where the totals are other sums.
 #[derive(Clone, Copy, Debug, Drop, PartialEq, Eq)]
 pub enum Verdict {
+    /// Every run is as it should be: how many are published, and how many are not.
     Valid { published: u32, unpublished: u32 },
+    /// A run has a fault: its number, and that of its least fault.
     Invalid { run: u32, fault: u8 },
 }
 

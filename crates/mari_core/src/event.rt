@@ -14,27 +14,37 @@ use std::alloc::{AllocError, AllocFailed};
 pub enum Event {
     /// The actor looks at the incumbent.
     Look {
+        /// The actor's number.
         actor: u32,
     },
     /// The actor offers an admissible activation of this welfare.
     Offer {
+        /// The actor's number.
         actor: u32,
+        /// The activation and its welfare, in quarter-cents.
         attained: Attained,
     },
     /// The actor takes a node that waits.
     Take {
+        /// The actor's number.
         actor: u32,
+        /// The node's number.
         node: u32,
     },
     /// The actor says what it found of a node that it has taken.
     Settle {
+        /// The actor's number.
         actor: u32,
+        /// The node's number.
         node: u32,
+        /// What the examination of the node's prefix found.
         finding: Finding,
     },
     /// The actor gives a node back that it has taken.
     GiveBack {
+        /// The actor's number.
         actor: u32,
+        /// The node's number.
         node: u32,
     },
 }
@@ -65,15 +75,16 @@ pub enum StepFault {
     NotUntaken,
     /// The node isn't taken by that actor.
     NotTaken,
-    /// Want of memory.
+    /// Out of memory.
     Memory,
 }
 
-/// The first step of a list that was refused, counted from 1, and why. Want of memory comes only before the first
-/// step, and has place 0.
+/// The first step of a list that was refused, and why. Out of memory comes only before the first step.
 #[derive(Clone, Copy, Debug, Drop, PartialEq, Eq)]
 pub struct ReplayFault {
+    /// The place of the step, counted from 1; 0 where memory ran out before the first.
     pub place: usize,
+    /// Why it was refused.
     pub fault: StepFault,
 }
 
@@ -82,7 +93,7 @@ pub struct ReplayFault {
 pub enum FinishFault {
     /// This node is, in preorder, the first leaf that isn't closed.
     NotClosed(u32),
-    /// Want of memory.
+    /// Out of memory.
     Memory,
 }
 

@@ -265,7 +265,7 @@ impl<'m> Growth<'m> {
         }
     }
 
-    /// Puts a taken node back for want of budget, and marks that.
+    /// Puts a taken node back, since the budget has no room for its children, and marks that.
     fn mark(&mut self, node: u32)
         requires may { CanBranch self.old node }
         requires full { self.old.budget < length self.old.nodes + length (children_at self.old node) }

@@ -11,7 +11,7 @@ pub enum JournalEntry {
     Close { actor: u32, node: u32, cutoff: u64 },
     /// The children of the node were made.
     Branch { actor: u32, node: u32, cutoff: u64 },
-    /// The node was put back for want of budget.
+    /// The node was put back, since the budget has no room for its children.
     Full { actor: u32, node: u32, cutoff: u64 },
     /// The actor gave the node back.
     GiveBack { actor: u32, node: u32 },

@@ -25,8 +25,11 @@ use std::marker::Model;
 /// What an actor saw and offered, in quarter-cents, and the best activation that it has.
 #[derive(Drop)]
 pub struct Actor {
+    /// The greatest welfare that it has seen of the incumbent.
     pub seen: u64,
+    /// The greatest welfare that it has offered, or the first activation's.
     pub offered: u64,
+    /// The activation of that welfare, if it has offered one above the first.
     pub best: Option<Attained>,
 }
 

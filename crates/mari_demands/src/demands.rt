@@ -3,7 +3,7 @@ ghost use Rattle.std.specs.Prelude.{◌≡◌, ◌≤◌, ◌+◌, [], length, I
 ghost use Rattle.mari_rows.specs.Books.{book_in, first_failing, GivesBook};
 ghost use Rattle.mari_rows.specs.Checks.{IsRead};
 ghost use Rattle.mari_demands.specs.DemandChecks.{demand_check_name, demand_check_number};
-ghost use Rattle.mari_demands.specs.Demands.{IsDemandBook, demand_checks, demand_columns, demand_grammar, demand_of as demand_in, mw_in};
+ghost use Rattle.mari_demands.specs.Demands.{IsDemandBook, demand_checks, demand_columns, demand_grammar, demand_of, mw_in};
 
 use crate::runs::RunBook;
 use mari_rows::{
@@ -106,8 +106,8 @@ fn mw_of(line: &Row) -> Option<i64>
 }
 
 /// The demand of a line, or the first check that fails.
-fn demand_of(zones: &ZoneBook, runs: u32, line: &Row) -> Result<Demand, DemandCheck>
-    ensures demand { IsRead demand_check_number result (first_failing (demand_checks zones.now runs line.now)) (demand_in zones.now runs line.now) }
+fn read_demand(zones: &ZoneBook, runs: u32, line: &Row) -> Result<Demand, DemandCheck>
+    ensures demand { IsRead demand_check_number result (first_failing (demand_checks zones.now runs line.now)) (demand_of zones.now runs line.now) }
     ensures run { IfOk result (λ demand. demand.run ≤ runs) }
 {
     let price = line.field(3);
@@ -177,7 +177,7 @@ impl<'a> BookSoFar for DemandsSoFar<'a> {
     ghost Holds = { λ so_far lines. HoldsDemands lines so_far };
 
     fn take(&mut self, _alloc: Global, line: &Row) -> Result<(), LineFault<DemandCheck>> {
-        let demand = match demand_of(self.zones, self.runs, line) {
+        let demand = match read_demand(self.zones, self.runs, line) {
             Ok(demand) => demand,
             Err(check) => return Err(LineFault::Fails(check)),
         };

@@ -5,7 +5,7 @@ ghost use Rattle.mari_rows.specs.Books.{book_in, first_failing, GivesBook};
 ghost use Rattle.mari_rows.specs.Checks.{IsRead};
 ghost use Rattle.mari_demands.specs.LimitChecks.{limit_check_name, limit_check_number};
 ghost use Rattle.mari_demands.specs.LimitPairs.{limits_in, IsLimitTable};
-ghost use Rattle.mari_demands.specs.Limits.{border_in, leads, limit_columns, limit_grammar, limits_of as limits_of_line, name_checks, pair_place};
+ghost use Rattle.mari_demands.specs.Limits.{border_in, leads, limit_columns, limit_grammar, limits_of, name_checks, pair_place};
 
 use crate::runs::RunBook;
 use mari_rows::{BookFault, BookSoFar, FileCheck, LineFault, Row, is_whole, number_of, read_book};
@@ -149,8 +149,8 @@ fn border_of(zones: &ZoneBook, borders: &BorderBook, line: &Row) -> Option<usize
 }
 
 /// The limits that a line states.
-fn limits_of(line: &Row) -> Option<Limits>
-    ensures { result ≡ limits_of_line line.now }
+fn read_limits(line: &Row) -> Option<Limits>
+    ensures { result ≡ limits_of line.now }
 {
     let Some(limit) = file_limit_of(line.field(3)) else {
         return None;
@@ -235,7 +235,7 @@ impl<'a> BookSoFar for LimitsSoFar<'a> {
         if self.limits[place].is_some() {
             return Err(LineFault::Fails(LimitCheck::Repeated));
         }
-        let Some(limits) = limits_of(line) else {
+        let Some(limits) = read_limits(line) else {
             return Err(LineFault::Fails(LimitCheck::Range));
         };
         self.limits[place] = Some(limits);

@@ -5,7 +5,7 @@ ghost use Rattle.mari_rows.specs.Books.{book_in, first_failing, GivesBook};
 ghost use Rattle.mari_rows.specs.Checks.{IsRead};
 ghost use Rattle.mari_rows.specs.declared.rows.Row.{Row as Line};
 ghost use Rattle.mari_demands.specs.RunChecks.{run_check_name, run_check_number};
-ghost use Rattle.mari_demands.specs.Runs.{IsRunBook, comes_too_late as comes_too_late_in, is_direct as is_direct_in, is_number_below, last_quarter, run_checks, run_columns, run_grammar, run_of as run_in};
+ghost use Rattle.mari_demands.specs.Runs.{IsRunBook, comes_too_late as comes_too_late_in, is_direct as is_direct_in, is_number_below, last_quarter, run_checks, run_columns, run_grammar, run_of};
 
 use mari_rows::{
     BookFault, BookSoFar, FileCheck, LineFault, Row, cents_of, is_first_of, is_whole, number_of,
@@ -124,9 +124,9 @@ fn comes_too_late(last: Option<u32>, line: &Row) -> bool
 }
 
 /// The run of a line after `runs` runs, the last of which has this quarter, or the first check that fails.
-fn run_of(quarters: u32, runs: usize, last: Option<u32>, line: &Row) -> Result<Run, RunCheck>
+fn read_run(quarters: u32, runs: usize, last: Option<u32>, line: &Row) -> Result<Run, RunCheck>
     ensures { (earlier : List Line) → runs ≡ length earlier → last ≡ last_quarter quarters earlier
-        → IsRead run_check_number result (first_failing (run_checks quarters earlier line.now)) (run_in quarters line.now) }
+        → IsRead run_check_number result (first_failing (run_checks quarters earlier line.now)) (run_of quarters line.now) }
 {
     if runs >= MOST_RUNS {
         return Err(RunCheck::TooMany);
@@ -175,7 +175,7 @@ impl BookSoFar for RunsSoFar {
     ghost Holds = { λ so_far lines. HoldsRuns lines so_far };
 
     fn take(&mut self, _alloc: Global, line: &Row) -> Result<(), LineFault<RunCheck>> {
-        match run_of(self.quarters, self.runs.len(), self.last, line) {
+        match read_run(self.quarters, self.runs.len(), self.last, line) {
             Ok(run) => {
                 self.last = Some(run.quarter);
                 Ok(self.runs.push(run)?)

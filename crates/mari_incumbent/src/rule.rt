@@ -4,10 +4,15 @@ use atomic_table::{Join, Play, Split, TableRule};
 
 /// What a seat knows. No value of it is made.
 pub struct View {
+    /// The incumbent's first number.
     pub first: u64,
+    /// The parts of all seats together.
     pub all: u64,
+    /// The greatest number that the seat has seen.
     pub seen: u64,
+    /// The greatest number that it has offered.
     pub offered: u64,
+    /// Its own parts.
     pub parts: u64,
 }
 

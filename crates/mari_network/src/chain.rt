@@ -15,13 +15,17 @@ use mari_market::Border;
 /// A border over which energy can move from a zone to that of an earlier hop.
 #[derive(Clone, Copy, Drop)]
 pub struct Hop {
+    /// The zone that energy leaves.
     pub zone: u32,
+    /// The place of the border.
     pub border: usize,
+    /// Whether the energy flows from the border's `from` to its `to`.
     pub forth: bool,
+    /// The place of the earlier hop.
     pub before: usize,
 }
 
-/// A flow after so much more goes that way.
+/// A flow after more goes that way, in MW.
 fn flow_after(border: &Border, now: i64, more: i64, forth: bool) -> i64
     requires within { IsWithinLimits border.now now }
     requires more { pos 0 ≤ℤ more }
@@ -37,13 +41,17 @@ fn flow_after(border: &Border, now: i64, more: i64, forth: bool) -> i64
 /// less, its sink: the hops lead from place `at` back to the first, which is the sink's zone.
 #[derive(Drop)]
 pub struct Chain {
+    /// The place of the slot that puts in less.
     pub sink: usize,
+    /// The place of the slot that puts in more.
     pub source: usize,
+    /// The place of the hop of the source's zone.
     pub at: usize,
+    /// The hops of the search, of which those on the way from `at` to the first are the chain.
     pub hops: Vec<Hop>,
 }
 
-/// Lets so much more flow over the border of a hop.
+/// Lets more flow over the border of a hop, in MW.
 fn push_hop(borders: &[Border], flows: &mut [i64], hop: Hop, more: i64)
     // The border of the hop can carry that much.
     requires lengths { length flows.old ≡ length borders.now }
@@ -132,7 +140,7 @@ fn room(borders: &[Border], flows: &[i64], hops: &[Hop], at: usize, most: i64) -
 }
 
 /// Moves energy along a chain back to its first zone.
-fn carry(borders: &[Border], flows: &mut [i64], hops: &[Hop], at: usize, most: i64)
+fn push_chain(borders: &[Border], flows: &mut [i64], hops: &[Hop], at: usize, most: i64)
     // Flows that may be, and a chain that has so much room.
     requires lengths { length flows.old ≡ length borders.now }
     requires at { at < length hops.now }
@@ -187,7 +195,7 @@ pub fn improve(network: &Network, amounts: &mut [i64], flows: &mut [i64], chain:
     ensures rises { sum_along slot_gain network.now.slots.now amounts.old <ℤ sum_along slot_gain network.now.slots.now amounts.new }
 {
     let more = most_along(network, amounts, flows, chain);
-    carry(network.borders, flows, &chain.hops, chain.at, more);
+    push_chain(network.borders, flows, &chain.hops, chain.at, more);
     move_amount(network.slots, amounts, chain.sink, -more);
     move_amount(network.slots, amounts, chain.source, more);
 }

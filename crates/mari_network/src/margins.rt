@@ -13,7 +13,9 @@ use std::alloc::{AllocError, Global};
 /// A zone's dearest slot that may put in less, and its cheapest that may put in more.
 #[derive(Clone, Copy, Drop)]
 pub struct Margin {
+    /// The place of the dearest that may put in less.
     pub dearest: Option<usize>,
+    /// The place of the cheapest that may put in more.
     pub cheapest: Option<usize>,
 }
 

@@ -12,12 +12,16 @@ use crate::slots::Slot;
 use mari_market::{Border, Market};
 use std::alloc::{AllocError, Global};
 
-/// Slots and borders between zones, lent, and for each zone the places of its slots and of the borders that meet it.
+/// Slots and borders between zones, lent, with the places of both by zone.
 #[derive(Drop)]
 pub struct Network<'a> {
+    /// The slots of all zones.
     pub slots: &'a [Slot],
+    /// The market's borders.
     pub borders: &'a [Border],
+    /// For each zone the places of its slots.
     pub members: Vec<Vec<usize>>,
+    /// For each zone the places of the borders that meet it.
     pub meeting: Vec<Vec<usize>>,
 }
 

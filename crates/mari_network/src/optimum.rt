@@ -24,19 +24,23 @@ use std::alloc::{AllocError, Global};
 
 /// An activation of the greatest welfare within the bounds of a prefix, and potentials that show it.
 ///
-/// The potentials are one for each zone, in cents per MWh. The welfare is in quarter-cents; it is stated as 0 where it
-/// is negative, as it may be where gates are open.
+/// The welfare is stated as 0 where it is negative, as it may be where gates are open.
 #[derive(Clone, Drop)]
 pub struct Solved {
+    /// The activation.
     pub activation: Activation,
+    /// One potential for each zone, in cents per MWh.
     pub potentials: Prices,
+    /// The welfare, in quarter-cents.
     pub welfare: u64,
 }
 
-/// Why there is no optimum: a cut, since no activation lies within the bounds, or want of memory.
+/// Why there is no optimum.
 #[derive(Clone, Drop)]
 pub enum SolveFault {
+    /// No activation lies within the bounds, as the cut shows.
     Cut(Cut),
+    /// Out of memory.
     Memory,
 }
 
@@ -141,7 +145,7 @@ pub fn answer(
     // The answer, by whatever bounds the slots were made.
     ensures { (spans : Order → Span) (more : List Slot) → AreSlotsOf spans market.now more network.now.slots.now → IsAnswer spans market.now result }
 {
-    // What runs is told by the network, whose amounts, flows and prices these are.
+    // What runs is said by the network, whose amounts, flows and prices these are.
     let _network = network;
     match first_short(amounts, market.orders.as_slice().len()) {
         None => Ok(solved_from(alloc, market, amounts, flows, prices)?),

@@ -18,10 +18,12 @@ use crate::slots::BEYOND;
 use mari_market::Border;
 use std::alloc::{AllocError, Global};
 
-/// What a search finds: an improving chain, or tight prices, one for each zone.
+/// What a search finds.
 #[derive(Drop)]
 pub enum Found {
+    /// A chain along which more welfare can be had.
     Improving(Chain),
+    /// Tight prices, one for each zone, in cents per MWh: there is no such chain.
     Tight(Vec<i64>),
 }
 

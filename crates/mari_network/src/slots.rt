@@ -15,15 +15,19 @@ use mari_market::{Market, Order, Prefix, Side};
 use mari_units::MOST_ZONES;
 use std::alloc::{AllocError, Global};
 
-/// A price above that of every order.
+/// A price above that of every order, in cents per MWh: the greatest is `CAP`, 9,999,900.
 pub const BEYOND: i64 = 20_000_000;
 
 /// What may put energy into a zone at a price, or take it out where the amount is negative.
 #[derive(Clone, Copy, Drop)]
 pub struct Slot {
+    /// The place of the zone.
     pub zone: u32,
+    /// The price, in cents per MWh.
     pub price: i64,
+    /// The least amount, in MW: below 0 where energy is taken out.
     pub low: i64,
+    /// The greatest amount, in MW.
     pub high: i64,
 }
 

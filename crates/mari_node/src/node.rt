@@ -143,7 +143,7 @@ pub fn examine(alloc: Global, market: &Market, prefix: &Prefix) -> Result<Findin
 ///
 /// What is found is what `examine` may find, whatever the start is: of any lengths, within the prefix's bounds or not.
 /// At a prefix that leaves a gate to decide there is an activation wherever the optimum that is left is admissible.
-/// The start is as it was where nothing lies within the bounds, and after want of memory.
+/// The start is as it was where nothing lies within the bounds, and when out of memory.
 pub fn examine_from(
     alloc: Global,
     market: &Market,

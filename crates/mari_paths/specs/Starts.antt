@@ -8,6 +8,23 @@ use Rattle.mari_network.specs.Orders.{stand_in_of}
 use Rattle.mari_network.specs.Slots.{slot_into}
 use Rattle.mari_units.specs.declared.limits.TheConstants.{MOST_FLOW}
 
+-- bounds of what a start puts in and moves, in MW, so that sums fit: above an order's quantity and a border's flow,
+-- `MOST_MW` and `MOST_FLOW`
+abbrev pub most_moved : ℕ
+most_moved = 200000
+
+-- above what all orders put in, `MOST_ORDERS` of at most `MOST_MW`
+abbrev pub most_put_in : ℕ
+most_put_in = 500000000
+
+-- above what a zone is short of: that, and a flow at both ends of each of `MOST_BORDERS`
+abbrev pub most_short : ℕ
+most_short = 700000000
+
+-- and where a flow is counted at one of its ends alone
+abbrev pub most_halfway : ℕ
+most_halfway = 700200000
+
 -- the least of a slot is at most its greatest
 abbrev pub IsOrdered : Slot → Type 0
 IsOrdered s = s.low ≤ℤ s.high

@@ -12,11 +12,14 @@ ghost use Rattle.mari_network.specs.Slots.{slot_gain};
 
 use mari_network::{Chain, Hop, Margin, Network, Slot, has_room, improve, refresh};
 
-/// Where a chain ends and starts, and the place of its start's hop.
+/// Where a chain ends and starts.
 #[derive(Clone, Copy, Drop)]
 pub struct Ends {
+    /// The place of the slot that puts in less.
     pub sink: usize,
+    /// The place of the slot that puts in more.
     pub source: usize,
+    /// The place of the hop of the source's zone.
     pub at: usize,
 }
 
@@ -89,7 +92,7 @@ fn go_on(
     ensures hops { chain.new.hops ≡ chain.old.hops }
     ensures improving { result ≡ true → IsImproving network.now amounts.now flows.now chain.new }
 {
-    // What the ends are is told by the margins, which are those of these amounts.
+    // What the ends are is said by the margins, which are those of these amounts.
     let _amounts = amounts;
     match next_ends(network, flows, margins, &chain.hops, price) {
         None => false,

@@ -8,7 +8,7 @@ ghost use Rattle.mari_market.specs.Activation.{IsWithinLimits, carried_out};
 ghost use Rattle.mari_market.specs.Market.{IsValid, IsBetween};
 ghost use Rattle.mari_network.specs.Orders.{IsOrderSlot, AreOrderSlots};
 ghost use Rattle.mari_network.specs.Slots.{slot_into, IsSmallSlot, IsWithinSlot};
-ghost use Rattle.mari_paths.specs.Starts.{stand_ins, IsOrdered, IsNear, AreSmallLimits, AreShort};
+ghost use Rattle.mari_paths.specs.Starts.{most_halfway, most_moved, most_put_in, most_short, stand_ins, IsOrdered, IsNear, AreSmallLimits, AreShort};
 
 use crate::merit::{amounts_at, balancing_price};
 use mari_market::{Activation, Border, MOST_ORDERS, Market, Order, Side};
@@ -22,16 +22,10 @@ fn nearest_within(slot: Slot, amount: i64) -> i64
     requires small { IsSmallSlot slot }
     ensures { IsWithinSlot slot result }
 {
-    if amount < slot.low {
-        slot.low
-    } else if slot.high < amount {
-        slot.high
-    } else {
-        amount
-    }
+    amount.clamp(slot.low, slot.high)
 }
 
-/// What an order puts in where it runs so much.
+/// What an order of this side puts in at a quantity, in MW.
 fn put(side: Side, mw: u32) -> i64 {
     match side {
         Side::Inject => i64::from(mw),
@@ -63,8 +57,7 @@ fn amounts_near(
 fn flow_near(border: &Border, flow: i64) -> i64
     ensures { IsWithinLimits border.now result }
 {
-    flow.max(-i64::from(border.back))
-        .min(i64::from(border.limit))
+    flow.clamp(-i64::from(border.back), i64::from(border.limit))
 }
 
 /// The flows of borders, as near to these as their limits let them be.
@@ -113,8 +106,8 @@ pub fn first_run(
 /// Adds to what a zone is short of.
 fn add_at(short: &mut [i64], zone: usize, more: i64)
     requires zone { zone < length short.old }
-    requires before { IsNear 900000000 (int_at short.old zone) }
-    requires more { IsNear 200000 more }
+    requires before { IsNear most_halfway (int_at short.old zone) }
+    requires more { IsNear most_moved more }
     ensures { short.new ≡ slice_set short.old zone (int_at short.old zone +ℤ more) }
 {
     let now = short[zone];
@@ -124,8 +117,8 @@ fn add_at(short: &mut [i64], zone: usize, more: i64)
 /// Takes from what a zone is short of.
 fn take_at(short: &mut [i64], zone: usize, less: i64)
     requires zone { zone < length short.old }
-    requires before { IsNear 900000000 (int_at short.old zone) }
-    requires less { IsNear 200000 less }
+    requires before { IsNear most_halfway (int_at short.old zone) }
+    requires less { IsNear most_moved less }
     ensures { short.new ≡ slice_set short.old zone (int_at short.old zone -ℤ less) }
 {
     let now = short[zone];
@@ -135,8 +128,8 @@ fn take_at(short: &mut [i64], zone: usize, less: i64)
 /// Adds to what zones are short of what a border carries out of them.
 fn carry_out(short: &mut [i64], border: &Border, flow: i64)
     requires ends { IsBetween (length short.old) border.now }
-    requires near { (z : ℕ) → IsNear 800000000 (int_at short.old z) }
-    requires flow { IsNear 200000 flow }
+    requires near { (z : ℕ) → IsNear most_short (int_at short.old z) }
+    requires flow { IsNear most_moved flow }
     ensures long { length short.new ≡ length short.old }
     ensures each { (z : ℕ) → int_at short.new z ≡ int_at short.old z +ℤ carried_out z border.now flow }
 {
@@ -154,7 +147,7 @@ fn take_amounts(short: &mut [i64], slots: &[Slot], amounts: &[i64])
 
     // So much each zone is short then, and flows can still be added.
     ensures long { length short.new ≡ length short.old }
-    ensures near { (z : ℕ) → IsNear 500000000 (int_at short.new z) }
+    ensures near { (z : ℕ) → IsNear most_put_in (int_at short.new z) }
     ensures each { (z : ℕ) → int_at short.new z ≡ neg_ℤ (sum_along (slot_into z) slots.now amounts.now) }
 {
     for (i, slot) in slots.iter().enumerate() {
@@ -171,11 +164,11 @@ fn add_flows(short: &mut [i64], borders: &[Border], flows: &[i64])
     requires within { AllZip IsWithinLimits borders.now flows.now }
 
     // What the slots left.
-    requires near { (z : ℕ) → IsNear 500000000 (int_at short.old z) }
+    requires near { (z : ℕ) → IsNear most_put_in (int_at short.old z) }
 
     // So much each zone is short then, and no number runs over.
     ensures long { length short.new ≡ length short.old }
-    ensures near { (z : ℕ) → IsNear 700000000 (int_at short.new z) }
+    ensures near { (z : ℕ) → IsNear most_short (int_at short.new z) }
     ensures each { (z : ℕ) → int_at short.new z ≡ int_at short.old z +ℤ sum_along (carried_out z) borders.now flows.now }
 {
     for (i, border) in borders.iter().enumerate() {
@@ -195,7 +188,7 @@ pub fn shortages(
     requires slots { AreOrderSlots market.now.zones market.now.orders slots.now }
     requires amounts { AllZip IsWithinSlot slots.now amounts.now }
     requires flows { AllZip IsWithinLimits market.now.borders flows.now }
-    ensures near { IfOk result (λ v. (z : ℕ) → IsNear 700000000 (int_at v.items z)) }
+    ensures near { IfOk result (λ v. (z : ℕ) → IsNear most_short (int_at v.items z)) }
     ensures short { IfOk result (λ v. AreShort market.now.zones slots.now market.now.borders amounts.now flows.now v.items) }
 {
     let mut short = vec![in alloc; 0i64; market.zones as usize]?;

@@ -60,7 +60,7 @@ impl<'m, N: SearchName> Model for Pool<'m, N> {
 pub enum PoolFault {
     /// This node is, in preorder, the first leaf that isn't closed.
     NotClosed(u32),
-    /// Want of memory.
+    /// Out of memory.
     Memory,
 }
 
@@ -175,6 +175,7 @@ impl<'m, N: SearchName> Pool<'m, N> {
         if !self.is_fresh(&ticket) {
             return Settled::Stale;
         }
+        // That a seat has offered at least the incumbent's first number, and has seen what it offered.
         let _offered = seat.offered();
         let cutoff = seat.seen();
         let key = child_key(&finding);
@@ -338,6 +339,7 @@ impl<'m, N: SearchName> Pool<'m, N> {
     pub fn facts_are_kept(&self)
         ensures { IsPool N.market N.budget N.workers N.incumbent self.now }
     {
+        // A field is read, so that the type's invariant is at hand.
         let _taken = self.taken;
     }
 

@@ -7,12 +7,16 @@ use crate::name::SearchName;
 use mari_market::Prefix;
 use std::marker::PhantomData;
 
-/// A node that a worker took: its number, the turn at which it was taken, and the gates that it decides.
+/// A node that a worker took.
 #[derive(Drop)]
 pub struct Ticket<N: SearchName> {
+    /// The node's number.
     pub node: u32,
+    /// The turn at which it was taken: the place of that in the journal.
     pub turn: u64,
+    /// The worker's number.
     pub worker: u32,
+    /// The gates that the node decides.
     pub prefix: Prefix,
     of: PhantomData<N>,
     ghost feasible: { IsFeasiblePrefix N.market prefix },
@@ -24,11 +28,11 @@ pub struct Ticket<N: SearchName> {
 pub enum Took<N: SearchName> {
     /// A node.
     Took(Ticket<N>),
-    /// No node waits, and so many are taken.
+    /// No node waits, and this number of nodes is taken.
     Idle(u32),
     /// No node waits, and none is taken.
     Finished,
-    /// A node could not branch within the budget. The tree has so many nodes.
+    /// A node could not branch within the budget. The number is that of the tree's nodes.
     Spent(u32),
 }
 
@@ -41,7 +45,7 @@ pub enum Settled {
     Closed,
     /// Its children wait.
     Branched,
-    /// It waits again, since its children don't fit the budget. The tree has so many nodes.
+    /// It waits again, since its children don't fit the budget. The number is that of the tree's nodes.
     Full(u32),
 }
 

@@ -151,7 +151,7 @@ fn admit(search: &Search<'_>, queue: &mut Queue, key: u64)
     }
 }
 
-/// Visits the nodes of a search, always the one whose parent has the greatest bound. It tells whether none waits any
+/// Visits the nodes of a search, always the one whose parent has the greatest bound. It says whether none waits any
 /// more; else one could not branch within the budget.
 ///
 /// Of equal bounds the node that was made first is the next. Where the root branches, its optimum is rounded.
@@ -214,7 +214,7 @@ fn part_of(alloc: Global, search: Search<'_>) -> Result<Cleared, Memory>
     Ok(Cleared::Spent(Spent { items }))
 }
 
-/// The first activation's clearing, or want of memory, of a search whose nodes are all branched or closed.
+/// The first activation's clearing of a search whose nodes are all branched or closed.
 fn settled(
     alloc: Global,
     market: &Market,

@@ -10,6 +10,7 @@ use std::alloc::Global;
 /// here says that the closure calls `search`.
 #[derive(Drop)]
 pub struct Crew<F: Fn(Global, &Market, u32) -> Cleared> {
+    /// The closure.
     pub run: F,
 }
 

@@ -30,7 +30,7 @@ struct Cutting {
 }
 
 /// The certificate by which a branched prefix is closed, by its own examination and at the welfare, if it is. A bound above
-/// the welfare tells that it isn't.
+/// the welfare says that it isn't.
 fn closing_at(
     alloc: Global,
     market: &Market,
@@ -181,7 +181,7 @@ impl Cutting {
         }
     }
 
-    /// Goes on behind the item of the next prefix.
+    /// Goes on after the item of the next prefix.
     fn advance(
         &mut self,
         alloc: Global,

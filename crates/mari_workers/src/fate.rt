@@ -18,16 +18,22 @@ use std::alloc::Global;
 /// What a walk looks for: activations of the optimal welfare whose gate words come before this one.
 #[derive(Clone, Copy, Drop)]
 pub(crate) struct Aim {
+    /// The gate word.
     pub(crate) word: Prefix,
+    /// The optimal welfare, in quarter-cents.
     pub(crate) welfare: u64,
+    /// The most items of the tree.
     pub(crate) budget: u32,
 }
 
-/// What becomes of a leaf: it stays or another takes its place, its prefix branches, or there is an activation.
+/// What becomes of a leaf.
 #[derive(Drop)]
 pub(crate) enum Fate {
+    /// It stays, or this one takes its place.
     Stays(Leaf),
+    /// Its prefix branches.
     Branches(Leaf),
+    /// At its prefix, which decides every gate, there is an earlier activation of the optimal welfare.
     Yields(Leaf, Activation),
 }
 

@@ -24,8 +24,8 @@ fn closed_prefix(market: &Market) -> Prefix
     prefix
 }
 
-/// The best activation with every gate closed, from which a search starts, or want of memory. Its welfare, in
-/// quarter-cents, is the closed welfare, which then is one number and at least 0.
+/// The best activation with every gate closed, from which a search starts. Its welfare, in quarter-cents, is the closed
+/// welfare, which then is one number and at least 0.
 pub fn first_of(alloc: Global, market: &Market) -> Result<Attained, Memory>
     requires { IsValid market.now }
     ensures attained { IfOk result (IsAttained market.now) }

@@ -55,7 +55,7 @@ impl Walk {
         }
     }
 
-    /// Puts a branch of the prefix behind what is done; its closed child is the next.
+    /// Puts a branch of the prefix after what is done; its closed child is the next.
     fn descend(&mut self, prefix: &Prefix) -> Result<(), Memory>
         requires room { prefix.now.length < MOST_GATES }
         requires cleared { IsCleared prefix.now }
@@ -202,7 +202,7 @@ fn shapes_of(alloc: Global, tree: &[TreeItem]) -> Result<Vec<PartItem>, Memory>
     Ok(items)
 }
 
-/// Takes turns until one stops the walk or no prefix is left, and tells what the last of them came to.
+/// Takes turns until one stops the walk or no prefix is left, and says what the last of them came to.
 fn walked(
     alloc: Global,
     market: &Market,

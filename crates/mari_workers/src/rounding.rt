@@ -58,7 +58,7 @@ pub(crate) fn rounded(market: &Market, activation: &Activation) -> Prefix
 }
 
 /// The best activation of the gates that the start, a relaxed optimum, comes to by rounding, if they have one. The
-/// start is left at their relaxed optimum; where nothing lies within their bounds, and after want of memory, it stays
+/// start is left at their relaxed optimum; where nothing lies within their bounds, and when out of memory, it stays
 /// as it was.
 pub(crate) fn best_rounded(
     alloc: Global,

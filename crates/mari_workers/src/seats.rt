@@ -10,10 +10,12 @@ use mari_incumbent::{Incumbent, Seat};
 use mari_market::Market;
 use std::alloc::{AllocError, Global};
 
-/// A worker, by its number, and its seat.
+/// A worker and its seat.
 #[derive(Drop)]
 pub(crate) struct Seated {
+    /// The worker's number.
     pub(crate) worker: u32,
+    /// Its seat.
     pub(crate) seat: Seat,
 }
 

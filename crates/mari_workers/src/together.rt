@@ -194,7 +194,7 @@ fn run_workers<'m, N: SearchName + Send + Sync, G: Turnstile, R: Threads + Wait 
 }
 
 /// Starts a pool with its part of the seat, lets the workers run over it, and settles what they left. Beside the pool
-/// it tells whether no leaf of it is open; else a node could not branch within the budget.
+/// it says whether no leaf of it is open; else a node could not branch within the budget.
 fn run<'m, N: SearchName + Send + Sync, G: Turnstile, R: Threads + Wait + Sync>(
     rt: &R,
     alloc: Global,
@@ -224,7 +224,7 @@ fn run<'m, N: SearchName + Send + Sync, G: Turnstile, R: Threads + Wait + Sync>(
     ensures mine { OnOk result (HoldsBest N.market N.incumbent mine.new) }
     ensures parts { OnOk result (mine.new.seat.parts ≡ mine.old.seat.parts) }
 
-    // What is told of the pool.
+    // What is known of the pool.
     ensures idle { IfOk result (λ ran. ran.1 ≡ true → IsIdle ran.0 ran.0 0) }
     ensures spent { IfOk result (λ ran. ran.1 ≡ false → ran.0.tree.full ≡ true) }
 {
@@ -257,8 +257,8 @@ fn spent<'m, N: SearchName>(alloc: Global, pool: Pool<'m, N>) -> Result<Cleared,
     Ok(Cleared::Spent(Spent { items }))
 }
 
-/// Clears a market from the best activation with every gate closed, by a search of this name, and refines what is
-/// found.
+/// Clears a market by a search of this name, from the best activation with every gate closed, by workers over a pool,
+/// and refines what is found.
 ///
 /// While the workers run the incumbent lies on a cache line of its own, since each of them steps on it.
 fn searched<N: SearchName + Send + Sync, G: Turnstile, R: Threads + Wait + Sync>(
@@ -319,8 +319,8 @@ fn searched<N: SearchName + Send + Sync, G: Turnstile, R: Threads + Wait + Sync>
     ended
 }
 
-/// Names the search, finds the root's optimum, and starts the incumbent at the closed welfare, with a part for each
-/// worker, the pool and this thread.
+/// Clears a market from its best activation with every gate closed: names the search, finds the root's optimum, and
+/// starts the incumbent at the closed welfare, with a part for each worker, the pool and this thread.
 fn named<G: Turnstile, R: Threads + Wait + Sync>(
     rt: &R,
     alloc: Global,

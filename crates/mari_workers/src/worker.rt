@@ -21,11 +21,12 @@ use mari_units::Memory;
 use std::alloc::Global;
 use std::sync::{Condvar, Mutex, Wait};
 
-/// What a worker hands back: its seat, and the best activation that it offered, if it offered any above the
-/// incumbent's first value.
+/// What a worker hands back.
 #[derive(Drop)]
 pub struct Worked {
+    /// Its seat.
     pub seat: Seat,
+    /// The best activation that it offered, if it offered any above the incumbent's first value.
     pub best: Option<Attained>,
 }
 
@@ -42,6 +43,7 @@ fn offer(
     ensures parts { worked.new.seat.parts ≡ worked.old.seat.parts }
     ensures seen { OnOk result (attained.now.welfare ≤ worked.new.seat.seen) }
 {
+    // That a seat has seen what it offered.
     let _seen = worked.seat.seen();
     if worked.seat.offered() < attained.welfare {
         let best = copy_of(attained)?;

@@ -5,7 +5,7 @@ ghost use Rattle.mari_rows.specs.Books.{first_failing, GivesBook};
 ghost use Rattle.mari_rows.specs.Checks.{IsRead};
 ghost use Rattle.mari_rows.specs.declared.rows.Row.{Row as Line};
 ghost use Rattle.mari_zones.specs.BorderChecks.{border_check_name, border_check_number};
-ghost use Rattle.mari_zones.specs.Borders.{IsBorderBook, bare_columns, border_checks, border_columns, border_grammar, border_of as border_in, borders_in, columns_in, file_limit_in, is_between_same as is_between_same_in, limit_in, version_in};
+ghost use Rattle.mari_zones.specs.Borders.{IsBorderBook, bare_columns, border_checks, border_columns, border_grammar, border_of, borders_in, columns_in, file_limit_in, is_between_same as is_between_same_in, limit_in, version_in};
 
 use crate::zones::ZoneBook;
 use mari_rows::{
@@ -150,14 +150,14 @@ fn is_repeated(border: BorderEnds, earlier: &[BorderEnds]) -> bool
 }
 
 /// The border of a line after these, or the first check that fails.
-fn border_of(
+fn read_border(
     zones: &ZoneBook,
     version: u8,
     earlier: &[BorderEnds],
     line: &Row,
 ) -> Result<BorderEnds, BorderCheck>
-    ensures { (lines : List Line) → earlier.now ≡ map (border_in zones.now version) lines
-        → IsRead border_check_number result (first_failing (border_checks zones.now version lines line.now)) (border_in zones.now version line.now) }
+    ensures { (lines : List Line) → earlier.now ≡ map (border_of zones.now version) lines
+        → IsRead border_check_number result (first_failing (border_checks zones.now version lines line.now)) (border_of zones.now version line.now) }
 {
     if earlier.len() >= MOST_BORDERS {
         return Err(BorderCheck::TooManyBorders);
@@ -208,7 +208,7 @@ impl<'a> BookSoFar for BordersSoFar<'a> {
     ghost Holds = { λ so_far lines. HoldsBorders lines so_far };
 
     fn take(&mut self, _alloc: Global, line: &Row) -> Result<(), LineFault<BorderCheck>> {
-        match border_of(self.zones, self.version, self.borders.as_slice(), line) {
+        match read_border(self.zones, self.version, self.borders.as_slice(), line) {
             Ok(border) => Ok(self.borders.push(border)?),
             Err(check) => Err(LineFault::Fails(check)),
         }

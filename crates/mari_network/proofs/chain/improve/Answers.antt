@@ -34,9 +34,9 @@ returns-clause-runs c =
       amounts_long = omega arith;
       flows_long = omega arith;
       amounts = c.move_amount-2.ensures.within (c.move_amount.ensures.within c.requires.runs.amounts);
-      flows = c.carry.ensures.within;
+      flows = c.push_chain.ensures.within;
       balance = λ z h. move_balances z (slot_at c.args.network.now.slots.now c.args.chain.now.sink).zone (slot_at c.args.network.now.slots.now c.args.chain.now.source).zone (hop_at c.args.chain.now.hops.items 0).zone (hop_at c.args.chain.now.hops.items c.args.chain.now.at).zone c.most_along-more.result _ _ _ _ _ c.requires.chain.to c.requires.chain.from
-          (rw less at c.move_amount.ensures.into z) (rw (to_z-of_z r) at c.move_amount-2.ensures.into z) (rw (c.deref.ensures.value, to_z-of_z r) at c.carry.ensures.carried z) (c.requires.runs.balance z h);
+          (rw less at c.move_amount.ensures.into z) (rw (to_z-of_z r) at c.move_amount-2.ensures.into z) (rw (c.deref.ensures.value, to_z-of_z r) at c.push_chain.ensures.carried z) (c.requires.runs.balance z h);
     }
 
 pub returns-clause-rises : goal.returns-clause-rises

@@ -1,7 +1,7 @@
 use Rattle.std.proofs.Common.{◌≡◌, false, rules}
 use Rattle.mari_bids.specs.Bids.{has_bad_field}
 use Rattle.mari_bids.proofs.BidLemmas.{good-names}
-use Rattle.mari_bids.proofs.bids.bid_of.Goals as goal
+use Rattle.mari_bids.proofs.bids.read_bid.Goals as goal
 
 pub returns-clause-provider : goal.returns-clause-provider
 returns-clause-provider c =

@@ -4,7 +4,7 @@ use Rattle.mari_market.specs.Sums.{sum_along}
 use Rattle.mari_market.specs.Activation.{IsWithinLimits, carried_out}
 use Rattle.mari_network.specs.Slots.{at_zone}
 use Rattle.mari_network.specs.Chain.{HasRoom, hop_at}
-use Rattle.mari_network.proofs.chain.carry.Given as goal
+use Rattle.mari_network.proofs.chain.push_chain.Given as goal
 
 abbrev pub invariant-loop-place : goal.invariant-loop-place
 invariant-loop-place l = record {

@@ -1,7 +1,7 @@
 use Rattle.std.proofs.Common.{◌≡◌, ℤ, to_z, of_z, to_z-of_z, sym, w64, arith, subst, List}
 use Rattle.mari_network.specs.Chain.{HasRoom, hop_at, IsHop}
 use Rattle.mari_network.proofs.Chains.{hop_has, HopHas, room_stays, one_hop}
-use Rattle.mari_network.proofs.chain.carry.Goals as goal
+use Rattle.mari_network.proofs.chain.push_chain.Goals as goal
 
 pub loop-place-preserved : goal.loop-place-preserved
 loop-place-preserved c =

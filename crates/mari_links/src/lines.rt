@@ -4,7 +4,7 @@ ghost use Rattle.mari_units.specs.Names.{is_name};
 ghost use Rattle.mari_rows.specs.Books.{first_failing};
 ghost use Rattle.mari_rows.specs.Checks.{IsRead};
 ghost use Rattle.mari_links.specs.LinkChecks.{link_check_number};
-ghost use Rattle.mari_links.specs.Links.{bid_named, kind_named, kind_of as kind_in, least_of_bid as least_in, link_of as link_in, name_checks, quarter_of as quarter_in};
+ghost use Rattle.mari_links.specs.Links.{bid_named, kind_named, kind_of as kind_in, least_of_bid as least_in, link_of, name_checks, quarter_of as quarter_in};
 ghost use Rattle.mari_links.specs.Entries.{some_link};
 
 use crate::links::LinkCheck;
@@ -74,11 +74,11 @@ pub fn least_of(bids: &BidBook, bid: u32) -> u32
 }
 
 /// The link of a line that names what it should, or the first check that fails.
-pub fn link_of(bids: &BidBook, line: &Row) -> Result<Link, LinkCheck>
+pub fn read_link(bids: &BidBook, line: &Row) -> Result<Link, LinkCheck>
     ensures link { IsRead link_check_number result (first_failing (name_checks bids.now line.now)) (some_link bids.now line.now) }
     ensures passes { OnOk result (first_failing (name_checks bids.now line.now) ≡ None) }
     ensures kind { IfOk result (λ link. kind_in line.now ≡ Some link.kind) }
-    ensures says { IfOk result (λ link. link ≡ link_in bids.now line.now link.kind) }
+    ensures says { IfOk result (λ link. link ≡ link_of bids.now line.now link.kind) }
     ensures first { IfOk result (λ link. link.first < length bids.now.ids) }
     ensures second { IfOk result (λ link. link.second < length bids.now.ids) }
 {

@@ -6,13 +6,13 @@ ghost use Rattle.mari_rows.specs.Books.{first_failing};
 ghost use Rattle.mari_rows.specs.Checks.{TakesLine};
 ghost use Rattle.mari_links.specs.LinkChecks.{link_check_number};
 ghost use Rattle.mari_rows.specs.declared.rows.Row.{Row as Line};
-ghost use Rattle.mari_links.specs.Links.{has_wrong_quarter as has_wrong_quarter_in, is_repeated as is_repeated_in, is_same_link, kind_of, first_of, line_checks, link_book, link_file_checks, link_of as link_of_line, place_checks, said_by, Member, Said};
+ghost use Rattle.mari_links.specs.Links.{has_wrong_quarter as has_wrong_quarter_in, is_repeated as is_repeated_in, is_same_link, kind_of, first_of, line_checks, link_book, link_file_checks, link_of, place_checks, said_by, Member, Said};
 ghost use Rattle.mari_links.specs.declared.lines.Link.{Link as TheLink};
 
 use crate::entries::{Entry, links_of};
 use crate::gates::has_too_many_gates;
 use crate::groups::Groups;
-use crate::lines::{Link, LinkKind, least_of, link_of, quarter_of};
+use crate::lines::{Link, LinkKind, least_of, quarter_of, read_link};
 use crate::links::{LinkBook, LinkCheck};
 use indexmap::IndexSet;
 use mari_bids::BidBook;
@@ -87,7 +87,7 @@ impl LinksSoFar {
     /// Whether a line links bids of quarters that cannot be so linked.
     fn has_wrong_quarter(&self, bids: &BidBook, line: &Row, link: Link) -> bool
         requires kind { kind_of line.now ≡ Some link.kind }
-        requires link { link ≡ link_of_line bids.now line.now link.kind }
+        requires link { link ≡ link_of bids.now line.now link.kind }
         ensures { (said : Said) → HoldsLinks bids.now said self.now → result ≡ has_wrong_quarter_in bids.now said line.now link.kind }
     {
         let first = u64::from(quarter_of(bids, link.first));
@@ -108,7 +108,7 @@ impl LinksSoFar {
         requires first { link.first < length bids.now.ids }
         requires second { link.second < length bids.now.ids }
         requires sized { length self.now.entries.items ≡ length bids.now.ids }
-        requires link { link ≡ link_of_line bids.now line.now link.kind }
+        requires link { link ≡ link_of bids.now line.now link.kind }
         ensures { (said : Said) → HoldsLinks bids.now said self.now → result ≡ is_repeated_in bids.now said line.now link.kind }
     {
         match link.kind {
@@ -124,7 +124,7 @@ impl LinksSoFar {
         requires second { link.second < length bids.now.ids }
         requires sized { length self.now.entries.items ≡ length bids.now.ids }
         requires kind { kind_of line.now ≡ Some link.kind }
-        requires link { link ≡ link_of_line bids.now line.now link.kind }
+        requires link { link ≡ link_of bids.now line.now link.kind }
         ensures { (said : Said) → HoldsLinks bids.now said self.now → option_map link_check_number result ≡ first_failing (place_checks bids.now said line.now) }
     {
         if self.has_wrong_quarter(bids, line, link) {
@@ -148,7 +148,7 @@ impl LinksSoFar {
 
         // What is understood of the line: its kind, its bids and, in a group, a name.
         requires kind { kind_of line.now ≡ Some link.kind }
-        requires link { link ≡ link_of_line bids.now line.now link.kind }
+        requires link { link ≡ link_of bids.now line.now link.kind }
         requires group { link.kind ≡ LinkKind.Group → is_name (first_of line.now) ≡ true }
 
         // What the lines before it say and what this one says, unless it repeats one of them.
@@ -177,7 +177,7 @@ impl LinksSoFar {
             → TakesLine link_check_number result (first_failing (line_checks bids.now earlier line.now))
             (λ _. HoldsLinks bids.now (said_by bids.now (earlier ++ line.now ∷ [])) self.new) }
     {
-        let link = match link_of(bids, line) {
+        let link = match read_link(bids, line) {
             Ok(link) => link,
             Err(check) => return Err(LineFault::Fails(check)),
         };

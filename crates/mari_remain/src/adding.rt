@@ -72,7 +72,7 @@ fn keep_if(same: bool, flow: &mut [i64])
 }
 
 /// Adds flows to those of the same quarter, or to nothing where another quarter begins.
-pub(crate) fn carry(same: bool, flow: &mut [i64], more: &[i64])
+pub(crate) fn keep_and_add(same: bool, flow: &mut [i64], more: &[i64])
     requires lengths { length more.now ≡ length flow.old }
     requires small { (k : ℕ) → unsigned_abs ((if same then get_or flow.old k (pos 0) else pos 0) +ℤ get_or more.now k (pos 0)) ≤ MOST_MW }
     ensures { (k : ℕ) → get_or flow.new k (pos 0) ≡ (if same then get_or flow.old k (pos 0) else pos 0) +ℤ get_or more.now k (pos 0) }

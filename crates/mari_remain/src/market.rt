@@ -11,7 +11,7 @@ ghost use Rattle.mari_remain.specs.FirstBlocks.{StandsFor, block_of, taken_in};
 ghost use Rattle.mari_remain.specs.Lists.{bids_of_quarter, demand_at, numbers_of_run, run_numbered};
 ghost use Rattle.mari_remain.specs.RunMarket.{bid_order as bid_order_of, demand_order as demand_order_of, demands_of_run as demands_in, gate_at, gate_of as gate_in, gates_of as gates_in, inelastic_price as inelastic_price_of, orders_of as orders_in, run_market_left, run_market_of};
 
-use crate::adding::{add_mw, carry, mark_if};
+use crate::adding::{add_mw, keep_and_add, mark_if};
 use crate::books::Books;
 use crate::borders::borders_of;
 use crate::choice::{Choice, choose, group_of, parent_of};
@@ -323,7 +323,7 @@ impl Remaining {
         add_mw(&mut self.mw, bids, mw);
         mark_if(entry.direct, &mut self.direct, bids, mw);
         let same = self.is_of(entry.quarter);
-        carry(same, &mut self.flow, activation.flow.as_slice());
+        keep_and_add(same, &mut self.flow, activation.flow.as_slice());
         self.quarter = Some(entry.quarter);
     }
 }

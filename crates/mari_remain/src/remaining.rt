@@ -42,7 +42,7 @@ impl Model for Remaining {
 }
 
 /// The quarter of each bid.
-fn quarters_of(alloc: Global, bids: &[Bid]) -> Result<Vec<u32>, Memory>
+fn bid_quarters(alloc: Global, bids: &[Bid]) -> Result<Vec<u32>, Memory>
     ensures { IfOk result (λ quarters. quarters.items ≡ map (λ (bid : TheBid). bid.quarter) bids.now) }
 {
     let mut quarters = Vec::new(alloc);
@@ -57,13 +57,13 @@ fn bids_by_quarter(alloc: Global, books: &Books) -> Result<Vec<Numbers>, Memory>
     requires { IsAccepted books.now }
     ensures { IfOk result (λ index. index.items ≡ map (bids_of_quarter books.now.bids.bids) (range_with_len 0 (books.now.quarters + 1))) }
 {
-    let quarters = quarters_of(alloc, books.bids.bids.as_slice())?;
+    let quarters = bid_quarters(alloc, books.bids.bids.as_slice())?;
     let index = index_of(alloc, &quarters, books.quarters + 1)?;
     Ok(index)
 }
 
 /// The run of each demand.
-fn runs_of(alloc: Global, demands: &[Demand]) -> Result<Vec<u32>, Memory>
+fn demand_runs(alloc: Global, demands: &[Demand]) -> Result<Vec<u32>, Memory>
     ensures { IfOk result (λ runs. runs.items ≡ map (λ (demand : TheDemand). demand.run) demands.now) }
 {
     let mut runs = Vec::new(alloc);
@@ -78,7 +78,7 @@ fn demands_by_run(alloc: Global, books: &Books) -> Result<Vec<Numbers>, Memory>
     requires { IsAccepted books.now }
     ensures { IfOk result (λ index. index.items ≡ map (numbers_of_run books.now.demands.demands) (range_with_len 0 (length books.now.runs.runs + 1))) }
 {
-    let runs = runs_of(alloc, books.demands.demands.as_slice())?;
+    let runs = demand_runs(alloc, books.demands.demands.as_slice())?;
     let count = books.runs.runs.as_slice().len() as u32;
     let index = index_of(alloc, &runs, count + 1)?;
     Ok(index)

@@ -1,6 +1,6 @@
 use Rattle.std.proofs.Common.{◌≡◌, ◌++◌, drop, map}
 use Rattle.mari_bids.specs.declared.bids.Bid.{Bid}
-use Rattle.mari_remain.proofs.remaining.quarters_of.Given as goal
+use Rattle.mari_remain.proofs.remaining.bid_quarters.Given as goal
 
 -- with those still to come it is the whole
 abbrev pub invariant-loop-bid : goal.invariant-loop-bid

@@ -18,7 +18,7 @@ use Rattle.mari_progress.specs.Runs.{IsRunOf}
 use Rattle.mari_day.specs.Assembled.{HasShapes, IsAssembled, IsPriced}
 use Rattle.mari_progress.specs.Money.{amount_line, amounts_of, money_lines_of, providers_among}
 use Rattle.mari_progress.specs.Told.{activation_of, prices_of}
-use Rattle.mari_day.specs.Published.{IsPublishedOf}
+use Rattle.mari_day.specs.Published.{IsPublishedOf, IsToldOf}
 use Rattle.mari_day.specs.Run.{clearing_of}
 
 along2 : {A B : Type 0} (P : A → B → Type 0) (a a' : A) (b b' : B) → a' ≡ a → b' ≡ b → P a b → P a' b'
@@ -39,8 +39,8 @@ module _ (books : Books) (budget run : ℕ) (made : RunMarket) (also : Option (L
   pub same_amounts : IsPriced books made also clearing priced → priced.ledger.providers ≡ amounts_of books made also b
   same_amounts p = p.providers ∙ sym (same2 (λ x ps. provider_amounts books.bids made.bids x ps (scheduled_or ps also)) clearing.activation (activation_of b) priced.pricing.published.cents (prices_of b) same_activation is.zones.prices)
 
-  pub published : IsClearing made.market budget clearing → IsPriced books made also clearing priced → length clearing.activation.mw ≡ length made.bids + made.demands → IsPublishedOf books budget run made also b
-  published clears p long =
+  pub told : IsPriced books made also clearing priced → length clearing.activation.mw ≡ length made.bids + made.demands → IsToldOf books run made also clearing b
+  told p long =
       let m = made.market in
       let a = clearing.activation in
       let ps = priced.pricing.published.cents in
@@ -50,7 +50,7 @@ module _ (books : Books) (budget run : ℕ) (made : RunMarket) (also : Option (L
           lines = is.names;
           demands = ap length is.orders.demands ∙ simp length-drop (omega (arith, long));
         };
-        clearing = subst (IsClearing m budget) (sym same_clearing) clears;
+        cleared = same_clearing;
         prices = record {
           published = along2 (ArePublishedPrices m) a (activation_of b) ps (prices_of b) same_activation is.zones.prices p.prices.published;
           consistent = along2 (IsConsistent m) a (activation_of b) ps (prices_of b) same_activation is.zones.prices p.prices.consistent;
@@ -68,6 +68,11 @@ module _ (books : Books) (budget run : ℕ) (made : RunMarket) (also : Option (L
           };
         };
       }
+
+  pub published : IsClearing made.market budget clearing → IsPriced books made also clearing priced → length clearing.activation.mw ≡ length made.bids + made.demands → IsPublishedOf books budget run made also b
+  published clears p long =
+      let t = told p long in
+      record { heading = t.heading; names = t.names; clearing = subst (IsClearing made.market budget) (sym same_clearing) clears; prices = t.prices; ledger = t.ledger }
 
   -- what the block adds to its day
   pub run-of : (settled : SettledRun) → IsPriced books made also clearing priced → HasShapes books made.bids clearing priced → settled.made ≡ made → settled.activation ≡ clearing.activation → settled.prices ≡ priced.pricing.published

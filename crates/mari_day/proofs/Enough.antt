@@ -13,7 +13,7 @@ use Rattle.mari_progress.specs.Behind.{market_behind}
 use Rattle.mari_day.specs.Day.{HasEnough, IsDay, IsDayPart}
 use Rattle.mari_day.specs.Published.{IsBlock}
 
-get-first : {X : Type 0} (n : ℕ) (xs : List X) (k : ℕ) → k < n → slice_get (take n xs) k ≡ slice_get xs k
+pub get-first : {X : Type 0} (n : ℕ) (xs : List X) (k : ℕ) → k < n → slice_get (take n xs) k ≡ slice_get xs k
 get-first zero xs k l = absurd (omega (arith, l))
 get-first (suc n) [] k l = refl
 get-first (suc n) (x ∷ xs) zero l = refl

@@ -13,7 +13,7 @@ use Rattle.mari_day.specs.Day.{IsDayPart}
 use Rattle.mari_day.specs.Keeps.{BlockSumsToZero}
 use Rattle.mari_day.proofs.Progressing.{sound-block}
 
-balanced-in : (books : Books) (b : Block) → sound.BalancesIn books b → BlockSumsToZero b
+pub balanced-in : (books : Books) (b : Block) → sound.BalancesIn books b → BlockSumsToZero b
 balanced-in books (block.Published b) h = h.to_zero
 balanced-in books (block.Unpublished heading count) h = tt
 

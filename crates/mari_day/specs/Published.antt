@@ -1,6 +1,7 @@
 -- A published run: what its block promises, and what an unpublished one says.
 use Rattle.std.specs.Prelude.{◌≡◌, ℕ, List, Option, length}
 use Rattle.mari_units.specs.declared.numbers.Cents.{Cents}
+use Rattle.mari_market.specs.declared.clearing.Clearing.{Clearing}
 use Rattle.mari_market.specs.declared.clearing.Spent.{Spent}
 use Rattle.mari_market.specs.Clearing.{IsClearing, IsSpent}
 use Rattle.mari_lines.specs.declared.line.Heading.{Heading}
@@ -14,6 +15,15 @@ use Rattle.mari_progress.specs.Money.{HasLedger}
 use Rattle.mari_progress.specs.Told.{NamesMarket, heading_of}
 use Rattle.mari_progress.specs.Prices.{HasPrices}
 use Rattle.mari_day.specs.Run.{clearing_of}
+
+-- what a block says of a run and of its clearing: its heading, the names of its market's lines, the clearing, the prices,
+-- intervals and areas, and the ledger
+pub record IsToldOf (books : Books) (run : ℕ) (made : RunMarket) (also : Option (List Cents)) (clearing : Clearing) (b : FullBlock) : Type 0 where
+  pub heading : b.heading ≡ heading_of books run
+  pub names : NamesMarket books made b
+  pub cleared : clearing_of b ≡ clearing
+  pub prices : HasPrices made.market b
+  pub ledger : HasLedger books made also b
 
 -- a published run of a market: a first activation of its market, with its welfare and a certificate tree of at most so
 -- many items that holds at it for its gate word; the prices, intervals and areas; and the ledger

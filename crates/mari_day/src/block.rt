@@ -6,13 +6,13 @@ ghost use Rattle.mari_units.specs.Names.{IsName};
 ghost use Rattle.mari_market.specs.Clearing.{IsClearing};
 ghost use Rattle.mari_market.specs.Optimal.{IsAdmissible, IsOptimal};
 ghost use Rattle.mari_market.specs.Price.{ArePrices};
-ghost use Rattle.mari_publish.specs.Ranges.{FullFits};
+ghost use Rattle.mari_publish.specs.Ranges.{FullFits, MarketFits};
 ghost use Rattle.mari_remain.specs.Accepted.{IsAccepted};
 ghost use Rattle.mari_progress.specs.Money.{amount_line, providers_among};
 ghost use Rattle.mari_progress.specs.Runs.{IsMarketOf, IsRunOf};
 ghost use Rattle.mari_day.specs.Assembled.{HasShapes, IsAssembled, IsPriced};
 ghost use Rattle.mari_day.specs.Dated.{IsDated};
-ghost use Rattle.mari_day.specs.Published.{IsPublishedOf};
+ghost use Rattle.mari_day.specs.Published.{IsPublishedOf, IsToldOf};
 
 use crate::lines::{amount_lines, bid_lines, border_lines, demand_mws, money_lines, zone_lines};
 use mari_bids::BidBook;
@@ -155,6 +155,10 @@ pub fn published_run(
     requires made { IsMarketOf books.now made }
     requires optimal { IsOptimal made.market clearing.activation }
     requires also { IfSome also (λ scheduled. ArePrices made.market scheduled.now.cents) }
+
+    // What the block says of the clearing, of which nothing but the activation is asked.
+    ensures market_fits { IfOk result (λ p. MarketFits p.block) }
+    ensures told { IfOk result (λ p. IsToldOf books.now run made (option_map (λ scheduled. scheduled.now.cents) also.entry) clearing p.block) }
 
     // The block, by whatever budget the market was cleared.
     ensures published { (budget : ℕ) → IsClearing made.market budget clearing

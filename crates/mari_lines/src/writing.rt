@@ -11,8 +11,9 @@ mod tree;
 
 use crate::line::{AmountLine, BidLine, BorderLine, Heading, MoneyLine, ZoneLine};
 use mari_units::{Memory, Name, put};
-use pieces::{put_field, put_flow, put_money, put_number_field, put_price};
+use pieces::{put_flow, put_money, put_price};
 use std::alloc::Global;
+pub use pieces::{put_field, put_number_field};
 pub use tree::{put_at, put_bound, put_branch, put_conflict, put_cut, put_flow_line, put_mw_line};
 
 /// Appends the first line.
@@ -44,7 +45,7 @@ fn put_kind(out: &mut Vec<u8>, direct: bool) -> Result<(), Memory>
 }
 
 /// Appends a run's keyword, its number, its quarter and its kind.
-fn put_heading(alloc: Global, out: &mut Vec<u8>, heading: Heading) -> Result<(), Memory>
+pub fn put_heading(alloc: Global, out: &mut Vec<u8>, heading: Heading) -> Result<(), Memory>
     ensures { OnOk result (out.new.items ≡ out.old.items ++ codes "run" ++ spaced (heading_fields heading)) }
 {
     put(out, b"run")?;

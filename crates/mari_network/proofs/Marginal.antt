@@ -2,7 +2,7 @@
 use Rattle.std.proofs.Common.{◌≡◌, ℕ, ◌+◌, ◌<◌, ℤ, ◌≤ℤ◌, List, [], ◌∷◌, ◌++◌, length, get_or, arith, refl, sym, ap, subst, ◌∙◌, inl, inr, Bool, true, false, Option, Some, None, ◌⊎◌, ◌<ℤ◌}
 use Rattle.std.specs.Prelude.{IfSome}
 use Rattle.std.proofs.lemmas.Int.{ints}
-use Rattle.std.proofs.lemmas.Bool.{cases_lt}
+use Rattle.std.proofs.lemmas.Bool.{cases_eq, cases_lt}
 use Rattle.std.proofs.lemmas.List.{get_or_append_left, get_or_push, length_push}
 use Rattle.mari_network.specs.declared.slots.Slot.{Slot}
 use Rattle.mari_network.specs.declared.margins.Margin.{Margin}
@@ -10,7 +10,7 @@ use Rattle.mari_market.specs.Sums.{int_at}
 use Rattle.mari_network.specs.Slots.{slot_at, zone_of, price_of, CanLess, CanMore}
 use Rattle.mari_network.specs.Network.{place_at, AreMembers}
 use Rattle.mari_network.specs.Spread.{is_marked}
-use Rattle.mari_network.specs.Margins.{no_margin, dearest_at, cheapest_at, IsAbove, IsBelow, IsDearestAmong, IsCheapestAmong, IsMarginOf, AreMargins, IsDearest, NoneLess, IsCheaper, NoneCheaper, IsDearestOf}
+use Rattle.mari_network.specs.Margins.{no_margin, dearest_at, cheapest_at, IsAbove, IsBelow, IsDearestAmong, IsCheapestAmong, IsDearestIn, IsCheapestIn, IsMarginOf, IsMoved, AreMargins, IsDearest, NoneLess, IsCheaper, NoneCheaper, IsDearestOf}
 
 abbrev some_or : Option ℕ → ℕ
 some_or None = 0
@@ -63,17 +63,104 @@ cheapest_take slots xs places n i best next e can one below keeps d = record {
 }
 
 -- the marginal slots among a zone's are those of the zone
-pub margin_is : (slots : List Slot) (xs : List ℤ) (z : ℕ) (places : List ℕ) (m : Margin) → AreMembers slots (length slots) z places → IsDearestAmong slots xs places (length places) m.dearest → IsCheapestAmong slots xs places (length places) m.cheapest → IsMarginOf slots xs z m
-margin_is slots xs z places m a d c = record {
-  dearest = record {
-    one = λ i e. let o = d.one i e in (o.0, sym (ap (zone_of slots) o.3) ∙ a.zone o.1 o.2);
-    all = λ k l can e. let j = a.all k l e in subst (λ (i : ℕ). IsAbove slots (price_of slots i) m.dearest) j.2 (d.all j.0 j.1 (subst (λ (i : ℕ). CanLess slots xs i) (sym j.2) can));
-  };
-  cheapest = record {
-    one = λ i e. let o = c.one i e in (o.0, sym (ap (zone_of slots) o.3) ∙ a.zone o.1 o.2);
-    all = λ k l can e. let j = a.all k l e in subst (λ (i : ℕ). IsBelow slots (price_of slots i) m.cheapest) j.2 (c.all j.0 j.1 (subst (λ (i : ℕ). CanMore slots xs i) (sym j.2) can));
-  };
+pub dearest_is_in : (slots : List Slot) (xs : List ℤ) (z : ℕ) (places : List ℕ) (best : Option ℕ) → AreMembers slots (length slots) z places → IsDearestAmong slots xs places (length places) best → IsDearestIn slots xs z (length slots) best
+dearest_is_in slots xs z places best a d = record {
+  one = λ i e. let o = d.one i e in (o.0, sym (ap (zone_of slots) o.3) ∙ a.zone o.1 o.2);
+  all = λ k l can e. let j = a.all k l e in subst (λ (i : ℕ). IsAbove slots (price_of slots i) best) j.2 (d.all j.0 j.1 (subst (λ (i : ℕ). CanLess slots xs i) (sym j.2) can));
 }
+
+pub cheapest_is_in : (slots : List Slot) (xs : List ℤ) (z : ℕ) (places : List ℕ) (best : Option ℕ) → AreMembers slots (length slots) z places → IsCheapestAmong slots xs places (length places) best → IsCheapestIn slots xs z (length slots) best
+cheapest_is_in slots xs z places best a c = record {
+  one = λ i e. let o = c.one i e in (o.0, sym (ap (zone_of slots) o.3) ∙ a.zone o.1 o.2);
+  all = λ k l can e. let j = a.all k l e in subst (λ (i : ℕ). IsBelow slots (price_of slots i) best) j.2 (c.all j.0 j.1 (subst (λ (i : ℕ). CanMore slots xs i) (sym j.2) can));
+}
+
+pub margin_is : (slots : List Slot) (xs : List ℤ) (z : ℕ) (places : List ℕ) (m : Margin) → AreMembers slots (length slots) z places → IsDearestAmong slots xs places (length places) m.dearest → IsCheapestAmong slots xs places (length places) m.cheapest → IsMarginOf slots xs z m
+margin_is slots xs z places m a d c = record { dearest = dearest_is_in slots xs z places m.dearest a d; cheapest = cheapest_is_in slots xs z places m.cheapest a c }
+
+module _ (slots : List Slot) (old new : List ℤ) (sink source : ℕ) (moved : IsMoved slots old new sink source) (z n : ℕ) (best : Option ℕ) where
+  -- after energy moved, the dearest slot may put in less as before, unless it is a sink that may not
+  less_still : (zone_of slots sink ≡ z → (slot_at slots sink).low <ℤ int_at new sink) → IsDearestIn slots old z n best → (i : ℕ) → best ≡ Some i → CanLess slots new i × (zone_of slots i ≡ z)
+  less_still stays d i e =
+      let o = d.one i e in
+      elim (cases_eq i sink) [
+        | inl is ↦ ((o.0.0, subst (λ (k : ℕ). (slot_at slots k).low <ℤ int_at new k) (sym is) (stays (sym (ap (zone_of slots) is) ∙ o.1))), o.1)
+        | inr other ↦ elim (cases_eq i source) [
+            | inl is ↦ ((o.0.0, subst (λ (k : ℕ). (slot_at slots k).low <ℤ int_at new k) (sym is) (omega (arith, ints, moved.least, moved.more))), o.1)
+            | inr far ↦ ((o.0.0, subst (λ (x : ℤ). (slot_at slots i).low <ℤ x) (sym (moved.others i other far)) o.0.1), o.1)
+          ]
+      ]
+
+  -- and of the others none but the source may put in less than before
+  less_before : IsDearestIn slots old z n best → (k : ℕ) → k < n → (k ≡ source → ⊥) → CanLess slots new k → zone_of slots k ≡ z → IsAbove slots (price_of slots k) best
+  less_before d k l far can e = elim (cases_eq k sink) [
+    | inl is ↦
+        let below : (slot_at slots sink).low <ℤ int_at new sink = subst (λ (j : ℕ). (slot_at slots j).low <ℤ int_at new j) is can.1 in
+        d.all k l (can.0, subst (λ (j : ℕ). (slot_at slots j).low <ℤ int_at old j) (sym is) (omega (arith, ints, moved.less, below))) e
+    | inr other ↦ d.all k l (can.0, subst (λ (x : ℤ). (slot_at slots k).low <ℤ x) (moved.others k other far) can.1) e
+  ]
+
+  pub dearest_with_source : (next : Option ℕ) → source < length slots → zone_of slots source ≡ z → ((next ≡ best) ⊎ (next ≡ Some source)) → IsAbove slots (price_of slots source) next → ((v : ℤ) → IsAbove slots v best → IsAbove slots v next) → (zone_of slots sink ≡ z → (slot_at slots sink).low <ℤ int_at new sink) → IsDearestIn slots old z n best
+      → IsDearestIn slots new z n next
+  dearest_with_source next there here one above keeps stays d = record {
+    one = λ i h. elim one [
+      | inl same ↦ less_still stays d i (sym same ∙ h)
+      | inr is ↦
+          let k_is : source ≡ i = some_same source i (sym is ∙ h) in
+          (subst (λ (k : ℕ). CanLess slots new k) k_is (there, omega (arith, ints, moved.least, moved.more)), sym (ap (zone_of slots) k_is) ∙ here)
+    ];
+    all = λ k l can e. elim (cases_eq k source) [
+      | inl is ↦ subst (λ (j : ℕ). IsAbove slots (price_of slots j) next) (sym is) above
+      | inr far ↦ keeps (price_of slots k) (less_before d k l far can e)
+    ];
+  }
+
+  pub dearest_without_source : (zone_of slots source ≡ z → ⊥) → (zone_of slots sink ≡ z → (slot_at slots sink).low <ℤ int_at new sink) → IsDearestIn slots old z n best → IsDearestIn slots new z n best
+  dearest_without_source away stays d = record {
+    one = less_still stays d;
+    all = λ k l can e. less_before d k l (λ is. away (sym (ap (zone_of slots) is) ∙ e)) can e;
+  }
+
+  -- the same of the cheapest slot, with sink and source exchanged
+  more_still : (zone_of slots source ≡ z → int_at new source <ℤ (slot_at slots source).high) → IsCheapestIn slots old z n best → (i : ℕ) → best ≡ Some i → CanMore slots new i × (zone_of slots i ≡ z)
+  more_still stays c i e =
+      let o = c.one i e in
+      elim (cases_eq i source) [
+        | inl is ↦ ((o.0.0, subst (λ (k : ℕ). int_at new k <ℤ (slot_at slots k).high) (sym is) (stays (sym (ap (zone_of slots) is) ∙ o.1))), o.1)
+        | inr other ↦ elim (cases_eq i sink) [
+            | inl is ↦ ((o.0.0, subst (λ (k : ℕ). int_at new k <ℤ (slot_at slots k).high) (sym is) (omega (arith, ints, moved.less, moved.most))), o.1)
+            | inr far ↦ ((o.0.0, subst (λ (x : ℤ). x <ℤ (slot_at slots i).high) (sym (moved.others i far other)) o.0.1), o.1)
+          ]
+      ]
+
+  more_before : IsCheapestIn slots old z n best → (k : ℕ) → k < n → (k ≡ sink → ⊥) → CanMore slots new k → zone_of slots k ≡ z → IsBelow slots (price_of slots k) best
+  more_before c k l far can e = elim (cases_eq k source) [
+    | inl is ↦
+        let above : int_at new source <ℤ (slot_at slots source).high = subst (λ (j : ℕ). int_at new j <ℤ (slot_at slots j).high) is can.1 in
+        c.all k l (can.0, subst (λ (j : ℕ). int_at old j <ℤ (slot_at slots j).high) (sym is) (omega (arith, ints, moved.more, above))) e
+    | inr other ↦ c.all k l (can.0, subst (λ (x : ℤ). x <ℤ (slot_at slots k).high) (moved.others k far other) can.1) e
+  ]
+
+  pub cheapest_with_sink : (next : Option ℕ) → sink < length slots → zone_of slots sink ≡ z → ((next ≡ best) ⊎ (next ≡ Some sink)) → IsBelow slots (price_of slots sink) next → ((v : ℤ) → IsBelow slots v best → IsBelow slots v next) → (zone_of slots source ≡ z → int_at new source <ℤ (slot_at slots source).high) → IsCheapestIn slots old z n best
+      → IsCheapestIn slots new z n next
+  cheapest_with_sink next there here one below keeps stays c = record {
+    one = λ i h. elim one [
+      | inl same ↦ more_still stays c i (sym same ∙ h)
+      | inr is ↦
+          let k_is : sink ≡ i = some_same sink i (sym is ∙ h) in
+          (subst (λ (k : ℕ). CanMore slots new k) k_is (there, omega (arith, ints, moved.less, moved.most)), sym (ap (zone_of slots) k_is) ∙ here)
+    ];
+    all = λ k l can e. elim (cases_eq k sink) [
+      | inl is ↦ subst (λ (j : ℕ). IsBelow slots (price_of slots j) next) (sym is) below
+      | inr far ↦ keeps (price_of slots k) (more_before c k l far can e)
+    ];
+  }
+
+  pub cheapest_without_sink : (zone_of slots sink ≡ z → ⊥) → (zone_of slots source ≡ z → int_at new source <ℤ (slot_at slots source).high) → IsCheapestIn slots old z n best → IsCheapestIn slots new z n best
+  cheapest_without_sink away stays c = record {
+    one = more_still stays c;
+    all = λ k l can e. more_before c k l (λ is. away (sym (ap (zone_of slots) is) ∙ e)) can e;
+  }
 
 -- the marginal slots of a zone whose slots' amounts stay
 pub margin_stays : (slots : List Slot) (old new : List ℤ) (z : ℕ) (m : Margin) → ((k : ℕ) → zone_of slots k ≡ z → int_at new k ≡ int_at old k) → IsMarginOf slots old z m → IsMarginOf slots new z m

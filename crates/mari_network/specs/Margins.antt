@@ -1,8 +1,9 @@
 -- Marginal slots: in each zone the dearest that may put in less, and the cheapest that may put in more.
-use Rattle.std.specs.Prelude.{◌≡◌, Bool, true, false, ℕ, ◌<◌, ℤ, ◌≤ℤ◌, ◌<ℤ◌, List, length, slice_index_or, Option, Some, None, MatchOption}
+use Rattle.std.specs.Prelude.{◌≡◌, ◌≢◌, Bool, true, false, ℕ, ◌<◌, ℤ, ◌≤ℤ◌, ◌<ℤ◌, List, length, slice_index_or, Option, Some, None, MatchOption}
+use Rattle.mari_market.specs.Sums.{int_at}
 use Rattle.mari_network.specs.declared.slots.Slot.{Slot}
 use Rattle.mari_network.specs.declared.margins.Margin.{Margin}
-use Rattle.mari_network.specs.Slots.{zone_of, price_of, CanLess, CanMore}
+use Rattle.mari_network.specs.Slots.{slot_at, zone_of, price_of, CanLess, CanMore}
 use Rattle.mari_network.specs.Network.{place_at}
 use Rattle.mari_network.specs.Spread.{is_marked}
 
@@ -83,3 +84,11 @@ pub record IsCheapestAmong (slots : List Slot) (xs : List ℤ) (places : List �
 pub record IsMarginOf (slots : List Slot) (xs : List ℤ) (z : ℕ) (m : Margin) : Type 0 where
   pub dearest : IsDearestIn slots xs z (length slots) m.dearest
   pub cheapest : IsCheapestIn slots xs z (length slots) m.cheapest
+
+-- energy moved from a source to a sink: the source puts in more and the sink less, and no other slot's amount changed
+pub record IsMoved (slots : List Slot) (old new : List ℤ) (sink source : ℕ) : Type 0 where
+  pub others : (k : ℕ) → k ≢ sink → k ≢ source → int_at new k ≡ int_at old k
+  pub less : int_at new sink <ℤ int_at old sink
+  pub most : int_at old sink ≤ℤ (slot_at slots sink).high
+  pub more : int_at old source <ℤ int_at new source
+  pub least : (slot_at slots source).low ≤ℤ int_at old source

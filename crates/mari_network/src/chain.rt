@@ -6,6 +6,7 @@ ghost use Rattle.mari_market.specs.Sums.{sum_along, int_at};
 ghost use Rattle.mari_market.specs.Activation.{IsWithinLimits, carried_out};
 ghost use Rattle.mari_network.specs.Slots.{slot_at, at_zone, slot_gain};
 ghost use Rattle.mari_network.specs.Network.{border_at, IsNetwork, Runs};
+ghost use Rattle.mari_network.specs.Margins.{IsMoved};
 ghost use Rattle.mari_network.specs.Chain.{hop_at, hop_room, room_of, head_of, tail_of, more_flow, HasRoom, IsTrace, IsImproving};
 
 use crate::network::Network;
@@ -191,7 +192,7 @@ pub fn improve(network: &Network, amounts: &mut [i64], flows: &mut [i64], chain:
     requires runs { Runs network.now amounts.old flows.old }
     requires chain { IsImproving network.now amounts.old flows.old chain.now }
     ensures runs { Runs network.now amounts.new flows.new }
-    ensures others { (k : ℕ) → k ≢ chain.now.sink → k ≢ chain.now.source → int_at amounts.new k ≡ int_at amounts.old k }
+    ensures moved { IsMoved network.now.slots.now amounts.old amounts.new chain.now.sink chain.now.source }
     ensures rises { sum_along slot_gain network.now.slots.now amounts.old <ℤ sum_along slot_gain network.now.slots.now amounts.new }
 {
     let more = most_along(network, amounts, flows, chain);

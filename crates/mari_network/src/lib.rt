@@ -15,7 +15,7 @@ mod search;
 mod slots;
 
 pub use chain::{Chain, Hop, has_room, improve};
-pub use margins::{Margin, margins_of, refresh};
+pub use margins::{Margin, margins_of, renew};
 pub use network::{Network, network_of};
 pub use optimum::{SolveFault, Solved, answer};
 pub use search::{Found, find_chain};

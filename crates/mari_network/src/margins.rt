@@ -4,7 +4,7 @@ ghost use Rattle.std.specs.Prelude.{◌≡◌, ◌≢◌, ◌⊎◌, ℕ, ℤ, �
 ghost use Rattle.mari_network.specs.Slots.{price_of};
 ghost use Rattle.mari_network.specs.Network.{place_at, IsNetwork};
 ghost use Rattle.mari_network.specs.Spread.{is_marked};
-ghost use Rattle.mari_network.specs.Margins.{no_margin, dearest_at, cheapest_at, IsAbove, IsBelow, IsDearestAmong, IsCheapestAmong, IsMarginOf, AreMargins, IsDearestOf, IsCheapestOf};
+ghost use Rattle.mari_network.specs.Margins.{no_margin, dearest_at, cheapest_at, IsAbove, IsBelow, IsDearestAmong, IsCheapestAmong, IsDearestIn, IsCheapestIn, IsMarginOf, IsMoved, AreMargins, IsDearestOf, IsCheapestOf};
 
 use crate::network::{Network, members_at};
 use crate::slots::Slot;
@@ -49,6 +49,38 @@ fn cheaper(slots: &[Slot], best: Option<usize>, slot: usize) -> Option<usize>
         }
     }
     Some(slot)
+}
+
+/// The dearer of two slots, that of the lesser place where they cost the same.
+fn dearer_in_order(slots: &[Slot], best: Option<usize>, slot: usize) -> Option<usize>
+    requires best { (i : ℕ) → best ≡ Some i → i < length slots.now }
+    requires slot { slot < length slots.now }
+    ensures one { (result ≡ best) ⊎ (result ≡ Some slot) }
+    ensures above { IsAbove slots.now (price_of slots.now slot) result }
+    ensures keeps { (v : ℤ) → IsAbove slots.now v best → IsAbove slots.now v result }
+{
+    if let Some(first) = best {
+        if first > slot && slots[first].price == slots[slot].price {
+            return Some(slot);
+        }
+    }
+    dearer(slots, best, slot)
+}
+
+/// The cheaper of two slots, that of the lesser place where they cost the same.
+fn cheaper_in_order(slots: &[Slot], best: Option<usize>, slot: usize) -> Option<usize>
+    requires best { (i : ℕ) → best ≡ Some i → i < length slots.now }
+    requires slot { slot < length slots.now }
+    ensures one { (result ≡ best) ⊎ (result ≡ Some slot) }
+    ensures below { IsBelow slots.now (price_of slots.now slot) result }
+    ensures keeps { (v : ℤ) → IsBelow slots.now v best → IsBelow slots.now v result }
+{
+    if let Some(first) = best {
+        if first > slot && slots[first].price == slots[slot].price {
+            return Some(slot);
+        }
+    }
+    cheaper(slots, best, slot)
 }
 
 /// The dearest of some slots that may put in less, with one slot more.
@@ -105,22 +137,122 @@ fn margin_of(network: &Network, amounts: &[i64], zone: usize) -> Margin
     margin_among(network.slots, amounts, members_at(network, zone))
 }
 
-/// Looks for the marginal slots of a zone again.
-pub fn refresh(network: &Network, amounts: &[i64], margins: &mut [Margin], zone: usize)
+/// The dearest of the slots at these places, of those that may put in less.
+fn dearest_among(slots: &[Slot], amounts: &[i64], places: &[usize]) -> Option<usize>
+    requires lengths { length amounts.now ≡ length slots.now }
+    requires there { (j : ℕ) → j < length places.now → place_at places.now j < length slots.now }
+    ensures { IsDearestAmong slots.now amounts.now places.now (length places.now) result }
+{
+    let mut best = None;
+    for place in places {
+        best = dearest_with(slots, amounts, best, *place);
+    }
+    best
+}
+
+/// The cheapest of the slots at these places, of those that may put in more.
+fn cheapest_among(slots: &[Slot], amounts: &[i64], places: &[usize]) -> Option<usize>
+    requires lengths { length amounts.now ≡ length slots.now }
+    requires there { (j : ℕ) → j < length places.now → place_at places.now j < length slots.now }
+    ensures { IsCheapestAmong slots.now amounts.now places.now (length places.now) result }
+{
+    let mut best = None;
+    for place in places {
+        best = cheapest_with(slots, amounts, best, *place);
+    }
+    best
+}
+
+/// A zone's dearest slot that may put in less, after energy moved from a source to a sink. All slots of the zone are
+/// looked at where the sink may put in no less any more.
+fn dearest_after(
+    network: &Network,
+    amounts: &[i64],
+    before: Option<usize>,
+    zone: usize,
+    sink: usize,
+    source: usize,
+) -> Option<usize>
+    requires network { IsNetwork network.now }
+    requires amounts { length amounts.now ≡ length network.now.slots.now }
+    requires zone { zone < length network.now.meeting.items }
+    requires sink { sink < length network.now.slots.now }
+    requires source { source < length network.now.slots.now }
+    requires before { (i : ℕ) → before ≡ Some i → i < length network.now.slots.now }
+    ensures { (old : List ℤ) → IsMoved network.now.slots.now old amounts.now sink source → IsDearestIn network.now.slots.now old zone (length network.now.slots.now) before
+        → IsDearestIn network.now.slots.now amounts.now zone (length network.now.slots.now) result }
+{
+    let slots = network.slots;
+    if slots[sink].zone as usize == zone && amounts[sink] <= slots[sink].low {
+        return dearest_among(slots, amounts, members_at(network, zone));
+    }
+    if slots[source].zone as usize == zone {
+        return dearer_in_order(slots, before, source);
+    }
+    before
+}
+
+/// A zone's cheapest slot that may put in more, after energy moved from a source to a sink. All slots of the zone are
+/// looked at where the source may put in no more.
+fn cheapest_after(
+    network: &Network,
+    amounts: &[i64],
+    before: Option<usize>,
+    zone: usize,
+    sink: usize,
+    source: usize,
+) -> Option<usize>
+    requires network { IsNetwork network.now }
+    requires amounts { length amounts.now ≡ length network.now.slots.now }
+    requires zone { zone < length network.now.meeting.items }
+    requires sink { sink < length network.now.slots.now }
+    requires source { source < length network.now.slots.now }
+    requires before { (i : ℕ) → before ≡ Some i → i < length network.now.slots.now }
+    ensures { (old : List ℤ) → IsMoved network.now.slots.now old amounts.now sink source → IsCheapestIn network.now.slots.now old zone (length network.now.slots.now) before
+        → IsCheapestIn network.now.slots.now amounts.now zone (length network.now.slots.now) result }
+{
+    let slots = network.slots;
+    if slots[source].zone as usize == zone && amounts[source] >= slots[source].high {
+        return cheapest_among(slots, amounts, members_at(network, zone));
+    }
+    if slots[sink].zone as usize == zone {
+        return cheaper_in_order(slots, before, sink);
+    }
+    before
+}
+
+/// Brings the marginal slots of a zone up to date, after energy moved from a source to a sink.
+pub fn renew(
+    network: &Network,
+    amounts: &[i64],
+    margins: &mut [Margin],
+    zone: usize,
+    sink: usize,
+    source: usize,
+)
     // What the caller knows of what runs.
     requires network { IsNetwork network.now }
     requires amounts { length amounts.now ≡ length network.now.slots.now }
+    requires sink { sink < length network.now.slots.now }
+    requires source { source < length network.now.slots.now }
 
-    // One of the zones, each of which has an entry.
+    // One of the zones, each of which has an entry that names slots.
     requires zone { zone < length network.now.meeting.items }
     requires long { length margins.old ≡ length network.now.meeting.items }
+    requires dearest { (i : ℕ) → dearest_at margins.old zone ≡ Some i → i < length network.now.slots.now }
+    requires cheapest { (i : ℕ) → cheapest_at margins.old zone ≡ Some i → i < length network.now.slots.now }
 
-    // The entry of this zone is right, whatever stood there.
+    // The entry of this zone is right, where it was right before.
     ensures long { length margins.new ≡ length margins.old }
-    ensures here { IsMarginOf network.now.slots.now amounts.now zone (slice_index_or margins.new zone no_margin) }
+    ensures here { (old : List ℤ) → IsMoved network.now.slots.now old amounts.now sink source → IsMarginOf network.now.slots.now old zone (slice_index_or margins.old zone no_margin)
+        → IsMarginOf network.now.slots.now amounts.now zone (slice_index_or margins.new zone no_margin) }
     ensures others { (z : ℕ) → z ≢ zone → slice_index_or margins.new z no_margin ≡ slice_index_or margins.old z no_margin }
 {
-    margins[zone] = margin_of(network, amounts, zone);
+    let before = margins[zone];
+    margins[zone] = Margin {
+        dearest: dearest_after(network, amounts, before.dearest, zone, sink, source),
+        cheapest: cheapest_after(network, amounts, before.cheapest, zone, sink, source),
+    };
 }
 
 /// The marginal slots of each zone.

@@ -10,7 +10,7 @@ ghost use Rattle.mari_network.specs.Margins.{dearest_at, cheapest_at, AreMargins
 ghost use Rattle.mari_network.specs.Network.{IsNetwork, Runs};
 ghost use Rattle.mari_network.specs.Slots.{slot_gain};
 
-use mari_network::{Chain, Hop, Margin, Network, Slot, has_room, improve, refresh};
+use mari_network::{Chain, Hop, Margin, Network, Slot, has_room, improve, renew};
 
 /// Where a chain ends and starts.
 #[derive(Clone, Copy, Drop)]
@@ -105,7 +105,7 @@ fn go_on(
     }
 }
 
-/// Moves energy along a chain, and looks at the zones of its ends again.
+/// Moves energy along a chain, and brings the margins of its ends' zones up to date.
 fn push_along(
     network: &Network,
     amounts: &mut [i64],
@@ -125,18 +125,13 @@ fn push_along(
     ensures rises { sum_along slot_gain network.now.slots.now amounts.old <ℤ sum_along slot_gain network.now.slots.now amounts.new }
 {
     improve(network, amounts, flows, chain);
-    refresh(
-        network,
-        amounts,
-        margins,
-        network.slots[chain.sink].zone as usize,
-    );
-    refresh(
-        network,
-        amounts,
-        margins,
-        network.slots[chain.source].zone as usize,
-    );
+    let Chain { sink, source, .. } = chain;
+    let to = network.slots[*sink].zone as usize;
+    let from = network.slots[*source].zone as usize;
+    renew(network, amounts, margins, to, *sink, *source);
+    if from != to {
+        renew(network, amounts, margins, from, *sink, *source);
+    }
 }
 
 /// Improves along a chain, and then along others of the same hops while there are any, to sinks of the same price or

@@ -21,4 +21,7 @@ pub use mari_lines::{AmountLine, BidLine, BorderLine, Heading, MoneyLine, ZoneLi
 pub use publication::{Block, FullBlock, Part, Publication};
 pub use reader::TextReader;
 pub use reading::read_text;
-pub use write::{block_text, closing_text, head_text, total_text, write_text};
+pub use write::{
+    block_text, closing_text, head_text, put_market, put_market_lines, put_opening, put_tree_lines,
+    total_text, write_text,
+};

@@ -6,9 +6,9 @@
 
 ghost use Rattle.std.specs.Prelude.{◌≡◌, ◌++◌, ◌+◌, ◌≤◌, ◌<◌, OnOk, IfOk, map, length};
 ghost use Rattle.std.specs.List.{All, flat_map};
-ghost use Rattle.mari_publish.specs.Lines.{demand_lines, opening_lines, market_lines, ending_lines, full_lines, block_lines, closing_lines_by, published_in as published_of, unpublished_in as unpublished_of};
+ghost use Rattle.mari_publish.specs.Lines.{demand_lines, opening_lines, market_lines, market_lines_by, ending_lines, full_lines, block_lines, closing_lines_by, published_in as published_of, unpublished_in as unpublished_of};
 ghost use Rattle.mari_lines.specs.Ranges.{InRange, IsMoney, IsMoneyLine, IsAmountLine};
-ghost use Rattle.mari_publish.specs.Ranges.{FullFits, BlockFits, TotalsFit, HasText};
+ghost use Rattle.mari_publish.specs.Ranges.{BlockFits, FullFits, HasText, MarketFits, TotalsFit};
 ghost use Rattle.mari_publish.specs.Texts.{text_of_lines, head_text_of, block_text_of, total_text_of, text_of};
 ghost use Rattle.mari_lines.specs.declared.line.Line.TheVariants as line;
 
@@ -22,7 +22,7 @@ use mari_lines::{
 };
 use mari_units::{MOST_DEMANDS, MOST_RUNS, Memory, Name};
 use std::alloc::Global;
-use tree::put_tree_lines;
+pub use tree::put_tree_lines;
 
 /// Appends the zones' lines.
 fn put_zones(alloc: Global, out: &mut Vec<u8>, zones: &[ZoneLine]) -> Result<(), Memory>
@@ -118,19 +118,42 @@ fn put_demands(alloc: Global, out: &mut Vec<u8>, demands: &[u32]) -> Result<(), 
     Ok(())
 }
 
+/// Appends the lines of zones, borders, bids and demands, which are numbered from 1 on.
+pub fn put_market_lines(
+    alloc: Global,
+    out: &mut Vec<u8>,
+    zones: &[ZoneLine],
+    borders: &[BorderLine],
+    bids: &[BidLine],
+    demands: &[u32],
+) -> Result<(), Memory>
+    requires rents { All (λ b. IsMoney b.rent) borders.now }
+    requires demands { length demands.now ≤ MOST_DEMANDS }
+    ensures { OnOk result (out.new.items ≡ out.old.items ++ text_of_lines (market_lines_by zones.now borders.now bids.now demands.now)) }
+{
+    put_zones(alloc, out, zones)?;
+    put_borders(alloc, out, borders)?;
+    put_bids(alloc, out, bids)?;
+    put_demands(alloc, out, demands)
+}
+
 /// Appends a block's lines of zones, borders, bids and demands.
-fn put_market(alloc: Global, out: &mut Vec<u8>, block: &FullBlock) -> Result<(), Memory>
-    requires { FullFits block.now }
+pub fn put_market(alloc: Global, out: &mut Vec<u8>, block: &FullBlock) -> Result<(), Memory>
+    requires { MarketFits block.now }
     ensures { OnOk result (out.new.items ≡ out.old.items ++ text_of_lines (market_lines block.now)) }
 {
-    put_zones(alloc, out, block.zones.as_slice())?;
-    put_borders(alloc, out, block.borders.as_slice())?;
-    put_bids(alloc, out, block.bids.as_slice())?;
-    put_demands(alloc, out, block.demands.as_slice())
+    put_market_lines(
+        alloc,
+        out,
+        block.zones.as_slice(),
+        block.borders.as_slice(),
+        block.bids.as_slice(),
+        block.demands.as_slice(),
+    )
 }
 
 /// Appends the two lines that a block begins with.
-fn put_opening(alloc: Global, out: &mut Vec<u8>, block: &FullBlock) -> Result<(), Memory>
+pub fn put_opening(alloc: Global, out: &mut Vec<u8>, block: &FullBlock) -> Result<(), Memory>
     ensures { OnOk result (out.new.items ≡ out.old.items ++ text_of_lines (opening_lines block.now)) }
 {
     put_run(alloc, out, block.heading)?;

@@ -4,6 +4,7 @@ ghost use Rattle.std.specs.Prelude.{◌≡◌, ◌++◌, OnOk, OnErr};
 ghost use Rattle.std.specs.Fmt.{decimal};
 
 use crate::faults::Memory;
+use itoa::Buffer;
 use std::alloc::Global;
 
 /// Appends a piece to a text. Out of memory, the text stays as it is.
@@ -19,5 +20,9 @@ pub fn put_number(alloc: Global, text: &mut Vec<u8>, number: u128) -> Result<(),
     ensures put { OnOk result (text.new.items ≡ text.old.items ++ decimal number) }
     ensures same { OnErr result (text.new.items ≡ text.old.items) }
 {
+    if let Ok(short) = u64::try_from(number) {
+        let mut buffer = Buffer::new();
+        return put(text, buffer.format(short).as_bytes());
+    }
     put(text, number.to_string(alloc)?.as_bytes())
 }

@@ -19,8 +19,8 @@ pub use faults::{Memory, NameFault, NumberFault, Refusal};
 pub use items::Items;
 pub use limits::{
     LAST_NUMBER, MOST_BID_MW, MOST_BIDS, MOST_BORDERS, MOST_DEMANDS, MOST_FLOW, MOST_GATES,
-    MOST_MW, MOST_NAME, MOST_NODES, MOST_PAGE, MOST_PROVIDERS, MOST_QUARTERS, MOST_RUNS,
-    MOST_WORKERS, MOST_ZONES,
+    MOST_MW, MOST_NAME, MOST_NODES, MOST_PAGE, MOST_PROVIDERS, MOST_QUARTERS, MOST_RAISE,
+    MOST_RUNS, MOST_WORKERS, MOST_ZONES,
 };
 pub use name::{Name, is_name_text, read_name};
 pub use numbers::{CAP, Cents, Mw, Quarters};

@@ -48,5 +48,8 @@ pub const MOST_NODES: u32 = 50_000;
 /// The most workers that search a run at once, one thread each.
 pub const MOST_WORKERS: u32 = 16;
 
+/// The most by which the limit of a border is raised to see what more of it is worth, in MW.
+pub const MOST_RAISE: u32 = 1_000;
+
 /// The last number of a generated day.
 pub const LAST_NUMBER: u32 = 2_147_483_647;

@@ -5,8 +5,8 @@ use Rattle.mari_market.specs.Market.{IsValid}
 use Rattle.mari_market.specs.declared.clearing.Clearing.{Clearing}
 use Rattle.mari_market.specs.declared.market.Market.{Market}
 use Rattle.mari_market.proofs.Sizes.{as_many, welfare_at_most}
-use Rattle.mari_day.proofs.Assembles.{published, run-of}
-use Rattle.mari_day.proofs.BlockFits.{block-fits}
+use Rattle.mari_day.proofs.Assembles.{published, run-of, told}
+use Rattle.mari_day.proofs.BlockFits.{block-fits, market-fits}
 use Rattle.mari_day.proofs.Shapes.{shapes}
 use Rattle.mari_day.proofs.block.published_run.Goals as goal
 
@@ -20,6 +20,20 @@ assemble-requires-clause-there c = rw c.as_slice.ensures c.requires.made.there
 pub assemble-requires-clause-shapes : goal.assemble-requires-clause-shapes
 assemble-requires-clause-shapes c =
     rw c.as_slice.ensures (shapes c.args.books.now c.args.made c.requires.made _ c.args.clearing c.in_ok-priced.priced c.in_ok-priced.ensures c.requires.optimal.admissible.feasible)
+
+pub returns-clause-market_fits : goal.returns-clause-market_fits
+returns-clause-market_fits c =
+    let feasible = c.requires.optimal.admissible.feasible in
+    let is = rw c.as_slice.ensures at c.in_ok-done.ensures.block in
+    let long = as_many c.args.made.market c.args.clearing.activation feasible ∙ c.requires.made.orders in
+    let whole = told c.args.books.now 0 c.args.run c.args.made _ c.args.clearing c.in_ok-priced.priced c.in_ok-done.done.block is c.in_ok-priced.ensures long in
+    market-fits c.args.books.now c.requires.accepted c.requires.dated 0 c.args.run c.args.made _ c.requires.made c.args.clearing c.in_ok-priced.priced c.in_ok-done.done.block is
+    (shapes c.args.books.now c.args.made c.requires.made _ c.args.clearing c.in_ok-priced.priced c.in_ok-priced.ensures feasible) c.in_ok-priced.ensures feasible whole.names.demands
+
+pub returns-clause-told : goal.returns-clause-told
+returns-clause-told c =
+    told c.args.books.now 0 c.args.run c.args.made _ c.args.clearing c.in_ok-priced.priced c.in_ok-done.done.block (rw c.as_slice.ensures at c.in_ok-done.ensures.block) c.in_ok-priced.ensures
+    (as_many c.args.made.market c.args.clearing.activation c.requires.optimal.admissible.feasible ∙ c.requires.made.orders)
 
 pub returns-clause-published : goal.returns-clause-published
 returns-clause-published c = λ budget clears.

@@ -1,4 +1,4 @@
-use Rattle.std.proofs.Common.{◌≡◌, ℤ, pos, ◌-ℤ◌, ◌≤ℤ◌, neg_ℤ, to_z, of_z, to_z-of_z, sym, ap, ◌∙◌, rules, FitsSigned, w64, arith, List, get_or-set_other}
+use Rattle.std.proofs.Common.{◌≡◌, ◌≢◌, ℕ, ◌+ℤ◌, ℤ, pos, ◌-ℤ◌, ◌≤ℤ◌, neg_ℤ, to_z, of_z, to_z-of_z, sym, ap, ◌∙◌, rules, FitsSigned, w64, arith, List, get_or-set_other, get_or-set_same}
 use Rattle.std.proofs.lemmas.Int.{ints}
 use Rattle.mari_market.specs.Sums.{int_at}
 use Rattle.mari_network.specs.Slots.{no_slot, slot_at, IsWithinSlot}
@@ -37,6 +37,30 @@ returns-clause-runs c =
       flows = c.push_chain.ensures.within;
       balance = λ z h. move_balances z (slot_at c.args.network.now.slots.now c.args.chain.now.sink).zone (slot_at c.args.network.now.slots.now c.args.chain.now.source).zone (hop_at c.args.chain.now.hops.items 0).zone (hop_at c.args.chain.now.hops.items c.args.chain.now.at).zone c.most_along-more.result _ _ _ _ _ c.requires.chain.to c.requires.chain.from
           (rw less at c.move_amount.ensures.into z) (rw (to_z-of_z r) at c.move_amount-2.ensures.into z) (rw (c.deref.ensures.value, to_z-of_z r) at c.push_chain.ensures.carried z) (c.requires.runs.balance z h);
+    }
+
+pub returns-clause-moved : goal.returns-clause-moved
+returns-clause-moved c =
+    let sink = c.args.chain.now.sink in
+    let source = c.args.chain.now.source in
+    let old = c.args.amounts.now in
+    let new = c.move_amount-2.new.amounts in
+    let r : FitsSigned w64 c.most_along-more.result = search rules in
+    let some : pos 1 ≤ℤ c.most_along-more.result = c.most_along-more.ensures.some in
+    let less : to_z w64 (of_z w64 (pos 0 -ℤ to_z w64 (of_z w64 c.most_along-more.result))) ≡ neg_ℤ c.most_along-more.result = omega (arith, ints) in
+    let at_sink : IsWithinSlot (slot_at c.args.network.now.slots.now sink) (int_at old sink) = AllZip-at IsWithinSlot c.args.network.now.slots.now old sink no_slot (pos 0) c.requires.chain.less.0 c.requires.runs.amounts in
+    let at_source : IsWithinSlot (slot_at c.args.network.now.slots.now source) (int_at old source) = AllZip-at IsWithinSlot c.args.network.now.slots.now old source no_slot (pos 0) c.requires.chain.more.0 c.requires.runs.amounts in
+    let apart : source ≢ sink = λ e. other_slot c.args.network.now.slots.now sink source c.requires.chain.dearer (sym e) in
+    let first : (k : ℕ) → k ≢ sink → int_at c.move_amount.new.amounts k ≡ int_at old k = λ k far. ap (λ (xs : List ℤ). int_at xs k) c.move_amount.ensures.moved ∙ get_or-set_other old sink k _ (pos 0) far in
+    let second : (k : ℕ) → k ≢ source → int_at new k ≡ int_at c.move_amount.new.amounts k = λ k far. ap (λ (xs : List ℤ). int_at xs k) c.move_amount-2.ensures.moved ∙ get_or-set_other c.move_amount.new.amounts source k _ (pos 0) far in
+    let sunk : int_at c.move_amount.new.amounts sink ≡ int_at old sink +ℤ neg_ℤ c.most_along-more.result = ap (λ (xs : List ℤ). int_at xs sink) (rw less at c.move_amount.ensures.moved) ∙ get_or-set_same old sink _ (pos 0) (omega (arith, c.requires.runs.amounts_long, c.requires.chain.less.0)) in
+    let risen : int_at new source ≡ int_at c.move_amount.new.amounts source +ℤ c.most_along-more.result = ap (λ (xs : List ℤ). int_at xs source) (rw (to_z-of_z r) at c.move_amount-2.ensures.moved) ∙ get_or-set_same c.move_amount.new.amounts source _ (pos 0) (search rules) in
+    record {
+      others = λ k a b. second k b ∙ first k a;
+      less = omega (arith, ints, second sink (λ e. apart (sym e)), sunk, some);
+      most = at_sink.most;
+      more = omega (arith, ints, risen, first source apart, some);
+      least = at_source.least;
     }
 
 pub returns-clause-rises : goal.returns-clause-rises

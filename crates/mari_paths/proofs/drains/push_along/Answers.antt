@@ -1,4 +1,4 @@
-use Rattle.std.proofs.Common.{◌≡◌, ℕ, length, get_or, sym, ap, ◌∙◌, subst, inl, inr}
+use Rattle.std.proofs.Common.{◌≡◌, ◌≢◌, ◌<◌, ℕ, length, get_or, sym, ap, ◌∙◌, subst, rules, inl, inr}
 use Rattle.std.proofs.lemmas.Bool.{cases_eq}
 use Rattle.mari_network.specs.declared.margins.Margin.{Margin}
 use Rattle.mari_network.specs.Slots.{zone_of}
@@ -6,19 +6,43 @@ use Rattle.mari_network.specs.Margins.{no_margin, IsMarginOf}
 use Rattle.mari_network.proofs.Marginal.{margins_from, margins_at, margin_stays}
 use Rattle.mari_paths.proofs.drains.push_along.Goals as goal
 
-pub returns-clause-margins : goal.returns-clause-margins
-returns-clause-margins c =
-    let n = c.args.network.now in
-    let long : length c.refresh-2.new.margins ≡ length n.meeting.items = c.refresh-2.ensures.long ∙ c.refresh.ensures.long ∙ c.requires.margins.long in
-    margins_from c.args.network.now.slots.now c.improve.new.amounts (length c.args.network.now.meeting.items) c.refresh-2.new.margins long
-    (λ z l. elim (cases_eq z (zone_of c.args.network.now.slots.now c.args.chain.now.source)) [
-      | inl e ↦ subst (λ (k : ℕ). IsMarginOf c.args.network.now.slots.now c.improve.new.amounts k (get_or c.refresh-2.new.margins k no_margin)) (sym e) c.refresh-2.ensures.here
-      | inr other ↦ subst (λ (m : Margin). IsMarginOf c.args.network.now.slots.now c.improve.new.amounts z m) (sym (c.refresh-2.ensures.others z other))
-          (elim (cases_eq z (zone_of c.args.network.now.slots.now c.args.chain.now.sink)) [
-            | inl e ↦ subst (λ (k : ℕ). IsMarginOf c.args.network.now.slots.now c.improve.new.amounts k (get_or c.refresh.new.margins k no_margin)) (sym e) c.refresh.ensures.here
-            | inr first ↦ subst (λ (m : Margin). IsMarginOf c.args.network.now.slots.now c.improve.new.amounts z m) (sym (c.refresh.ensures.others z first))
-                (margin_stays c.args.network.now.slots.now c.args.amounts.now c.improve.new.amounts z (get_or c.args.margins.now z no_margin)
-                (λ k e. c.improve.ensures.others k (λ s. first (sym e ∙ ap (zone_of c.args.network.now.slots.now) s)) (λ s. other (sym e ∙ ap (zone_of c.args.network.now.slots.now) s)))
-                (margins_at c.args.network.now.slots.now c.args.amounts.now (length c.args.network.now.meeting.items) c.args.margins.now z c.requires.margins l))
+pub returns-then-from-to-clause-margins : goal.returns-then-from-to-clause-margins
+returns-then-from-to-clause-margins c =
+    let slots = c.args.network.now.slots.now in
+    let to = zone_of slots c.args.chain.now.sink in
+    let from = zone_of slots c.args.chain.now.source in
+    let new = c.improve.new.amounts in
+    let apart : from ≢ to = search rules in
+    let right : (z : ℕ) → z < length c.args.network.now.meeting.items → IsMarginOf slots c.args.amounts.now z (get_or c.args.margins.now z no_margin) = λ z l. margins_at slots c.args.amounts.now (length c.args.network.now.meeting.items) c.args.margins.now z c.requires.margins l in
+    margins_from slots new (length c.args.network.now.meeting.items) c.renew-then-from-to.new.margins (c.renew-then-from-to.ensures.long ∙ c.renew.ensures.long ∙ c.requires.margins.long)
+    (λ z l. elim (cases_eq z from) [
+      | inl e ↦ subst (λ (k : ℕ). IsMarginOf slots new k (get_or c.renew-then-from-to.new.margins k no_margin)) (sym e)
+          (c.renew-then-from-to.ensures.here c.args.amounts.now c.improve.ensures.moved
+          (subst (λ (m : Margin). IsMarginOf slots c.args.amounts.now from m) (sym (c.renew.ensures.others from apart)) (right from (subst (λ (k : ℕ). k < length c.args.network.now.meeting.items) e l))))
+      | inr other ↦ subst (λ (m : Margin). IsMarginOf slots new z m) (sym (c.renew-then-from-to.ensures.others z other))
+          (elim (cases_eq z to) [
+            | inl e ↦ subst (λ (k : ℕ). IsMarginOf slots new k (get_or c.renew.new.margins k no_margin)) (sym e)
+                (c.renew.ensures.here c.args.amounts.now c.improve.ensures.moved (right to (subst (λ (k : ℕ). k < length c.args.network.now.meeting.items) e l)))
+            | inr first ↦ subst (λ (m : Margin). IsMarginOf slots new z m) (sym (c.renew.ensures.others z first))
+                (margin_stays slots c.args.amounts.now new z (get_or c.args.margins.now z no_margin)
+                (λ k e. c.improve.ensures.moved.others k (λ s. first (sym e ∙ ap (zone_of slots) s)) (λ s. other (sym e ∙ ap (zone_of slots) s)))
+                (right z l))
           ])
+    ])
+
+pub returns-else-from-to-clause-margins : goal.returns-else-from-to-clause-margins
+returns-else-from-to-clause-margins c =
+    let slots = c.args.network.now.slots.now in
+    let to = zone_of slots c.args.chain.now.sink in
+    let new = c.improve.new.amounts in
+    let same : zone_of slots c.args.chain.now.source ≡ to = search rules in
+    let right : (z : ℕ) → z < length c.args.network.now.meeting.items → IsMarginOf slots c.args.amounts.now z (get_or c.args.margins.now z no_margin) = λ z l. margins_at slots c.args.amounts.now (length c.args.network.now.meeting.items) c.args.margins.now z c.requires.margins l in
+    margins_from slots new (length c.args.network.now.meeting.items) c.renew.new.margins (c.renew.ensures.long ∙ c.requires.margins.long)
+    (λ z l. elim (cases_eq z to) [
+      | inl e ↦ subst (λ (k : ℕ). IsMarginOf slots new k (get_or c.renew.new.margins k no_margin)) (sym e)
+          (c.renew.ensures.here c.args.amounts.now c.improve.ensures.moved (right to (subst (λ (k : ℕ). k < length c.args.network.now.meeting.items) e l)))
+      | inr first ↦ subst (λ (m : Margin). IsMarginOf slots new z m) (sym (c.renew.ensures.others z first))
+          (margin_stays slots c.args.amounts.now new z (get_or c.args.margins.now z no_margin)
+          (λ k e. c.improve.ensures.moved.others k (λ s. first (sym e ∙ ap (zone_of slots) s)) (λ s. first (sym e ∙ ap (zone_of slots) s ∙ same)))
+          (right z l))
     ])

@@ -80,7 +80,7 @@ starts p date quarters budget rest e =
     record { date_is = cc; quarters_is = cc; budget_is = cc; rest_is = cc }
 
 -- a head comes first
-first : (books : Books) (parts : List Part) (day : DayCheck) (date : List ℕ) (quarters budget : ℕ) → IsOpen books parts day → Comes parts (part.Head date quarters budget) → parts ≡ []
+pub first : (books : Books) (parts : List Part) (day : DayCheck) (date : List ℕ) (quarters budget : ℕ) → IsOpen books parts day → Comes parts (part.Head date quarters budget) → parts ≡ []
 first books [] day date quarters budget o c = refl
 first books (part.Head d q b ∷ rest) day date quarters budget o c =
     let p = c.whole in

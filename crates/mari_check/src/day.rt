@@ -67,8 +67,8 @@ impl DayCheck {
         None
     }
 
-    /// The run after the blocks so far.
-    pub(crate) fn next_run(&self) -> u32
+    /// The run after the blocks so far, counted from 1; there may be none of that number.
+    pub fn next_run(&self) -> u32
         requires { self.now.progress.published + self.now.unpublished ≤ MOST_RUNS }
         ensures { result ≡ self.now.progress.published + self.now.unpublished + 1 }
     {

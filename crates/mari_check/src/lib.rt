@@ -26,4 +26,5 @@ pub use day::DayCheck;
 pub use fault::Fault;
 pub use laws::{free_blocks_show, valid_days_keep};
 pub use stream::{StreamFault, check_stream};
+pub use told::{activation_of, prices_of};
 pub use verdict::{Verdict, check_day};

@@ -35,8 +35,9 @@ fn cents_of(alloc: Global, lines: &[ZoneLine]) -> Result<Vec<Cents>, Memory>
     Ok(cents)
 }
 
-/// The activation that a block states.
-pub(crate) fn activation_of(alloc: Global, block: &FullBlock) -> Result<Activation, Memory>
+/// The activation that a block states: what its bids and after them its demands run, and the flows of its borders, all
+/// in MW and in the order of its lines.
+pub fn activation_of(alloc: Global, block: &FullBlock) -> Result<Activation, Memory>
     ensures { IfOk result (λ activation. activation ≡ activation_told block.now) }
 {
     let mut mw = mws_of(alloc, block.bids.as_slice())?;
@@ -48,8 +49,8 @@ pub(crate) fn activation_of(alloc: Global, block: &FullBlock) -> Result<Activati
     })
 }
 
-/// The prices that it states.
-pub(crate) fn prices_of(alloc: Global, block: &FullBlock) -> Result<Prices, Memory>
+/// The prices that a block states: one for each of its zones, in cents per MWh and in the order of its lines.
+pub fn prices_of(alloc: Global, block: &FullBlock) -> Result<Prices, Memory>
     ensures { IfOk result (λ prices. prices.cents ≡ prices_told block.now) }
 {
     let cents = cents_of(alloc, block.zones.as_slice())?;

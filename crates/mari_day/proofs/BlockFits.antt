@@ -36,23 +36,10 @@ use Rattle.mari_progress.specs.Money.{amount_line, money_line, providers_among}
 use Rattle.mari_rows.specs.Names.{name_at}
 use Rattle.mari_day.specs.declared.block.Priced.{Priced}
 use Rattle.mari_day.proofs.AreaFits.{areas-fit, greatest-fit, least-fit}
-use Rattle.mari_progress.proofs.Lists.{along-length}
+use Rattle.mari_progress.proofs.Lists.{along-length, as-many, of-map}
+use Rattle.mari_progress.proofs.Small.{money}
 use Rattle.mari_progress.proofs.Listing.{few-providers, providers-there}
 use Rattle.mari_day.proofs.TreeFits.{flows-fit, mws-fit, tree-fits}
-
--- what holds of a list that another is mapped to
-of-map : {X Y : Type 0} (f : X → Y) (Q : Y → Type 0) (xs : List X) (ys : List Y) → map f xs ≡ ys → All Q ys → All (λ x. Q (f x)) xs
-of-map f Q xs ys same all = λ k d l.
-    let here : k < length ys = omega (arith, ap length same, length-map xs f) in
-    let value : get_or ys k (f d) ≡ f (get_or xs k d) = rw same at (get_or-map f xs k d (f d) l) in
-    subst Q value (all k (f d) here)
-
--- as long as what it is mapped to
-as-many : {X Y : Type 0} (f : X → Y) (xs : List X) (ys : List Y) → map f xs ≡ ys → length xs ≡ length ys
-as-many f xs ys same = sym (length-map xs f) ∙ ap length same
-
-pub money : (q : Quarters) → IsSmall q → IsMoney q
-money q small = omega (arith, small)
 
 -- within half of the most money, so that a net is within it
 abbrev pub IsHalf : OperatorLine → Type 0

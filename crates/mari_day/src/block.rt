@@ -14,11 +14,13 @@ ghost use Rattle.mari_day.specs.Assembled.{HasShapes, IsAssembled, IsPriced};
 ghost use Rattle.mari_day.specs.Dated.{IsDated};
 ghost use Rattle.mari_day.specs.Published.{IsPublishedOf, IsToldOf};
 
-use crate::lines::{amount_lines, bid_lines, border_lines, demand_mws, money_lines, zone_lines};
+use crate::lines::{amount_lines, money_lines};
 use mari_bids::BidBook;
 use mari_market::{Activation, Clearing, Prices};
 use mari_prices::{Pricing, areas, published_prices};
-use mari_progress::{SettledRun, heading, ledger_of, providers_of};
+use mari_progress::{
+    SettledRun, bid_lines, border_lines, demand_mws, heading, ledger_of, providers_of, zone_lines,
+};
 use mari_publish::{AmountLine, FullBlock};
 use mari_remain::{Books, RunMarket};
 use mari_settle::Ledger;
@@ -73,7 +75,14 @@ fn assemble(
     let flow = clearing.activation.flow.as_slice();
     let ends = books.borders.borders.as_slice();
     let ledger = &priced.ledger;
-    let zones = zone_lines(alloc, names, &priced.pricing, &priced.areas)?;
+    let zones = zone_lines(
+        alloc,
+        names,
+        priced.pricing.published.cents.as_slice(),
+        priced.pricing.least.cents.as_slice(),
+        priced.pricing.greatest.cents.as_slice(),
+        &priced.areas,
+    )?;
     let borders = border_lines(alloc, names, ends, flow, ledger.rents.as_slice())?;
     let bids = bid_lines(alloc, &books.bids.ids, numbers, mw)?;
     let demands = demand_mws(alloc, mw, numbers.len())?;

@@ -1,145 +1,17 @@
-//! The lines of a block: zones, borders, bids, operators and providers, each by its name.
+//! The lines of a ledger: operators and providers, each by its name.
 
-ghost use Rattle.std.specs.Prelude.{◌≡◌, ◌≤◌, ◌<◌, ◌*◌, ◌^◌, IfOk, length, map, take, drop};
+ghost use Rattle.std.specs.Prelude.{◌≡◌, ◌≤◌, ◌<◌, ◌*◌, ◌^◌, IfOk, length, map};
 ghost use Rattle.std.specs.List.{All};
 ghost use Rattle.mari_units.specs.Names.{IsName};
-ghost use Rattle.mari_zones.specs.declared.borders.BorderEnds.{BorderEnds as Ends};
-ghost use Rattle.mari_lines.specs.declared.line.BidLine.{BidLine as BidLineOf};
-ghost use Rattle.mari_lines.specs.declared.line.BorderLine.{BorderLine as BorderLineOf};
-ghost use Rattle.mari_lines.specs.declared.line.ZoneLine.{ZoneLine as ZoneLineOf};
 ghost use Rattle.mari_settle.specs.Conditions.{LineIsWithin};
-ghost use Rattle.mari_rows.specs.Names.{name_at};
 ghost use Rattle.mari_progress.specs.Money.{amount_line, money_lines_of};
 
-use mari_prices::Pricing;
-use mari_publish::{AmountLine, BidLine, BorderLine, MoneyLine, ZoneLine};
+use mari_progress::name_of;
+use mari_publish::{AmountLine, MoneyLine};
 use mari_rows::NameIndex;
 use mari_settle::OperatorLine;
-use mari_units::{MOST_ZONES, Memory, Name, NameFault, Quarters, read_name};
-use mari_zones::BorderEnds;
+use mari_units::{MOST_ZONES, Memory, Quarters};
 use std::alloc::Global;
-
-/// The name at a place.
-pub fn name_of(alloc: Global, names: &NameIndex, place: u32) -> Result<Name, Memory>
-    requires names { All IsName names.now }
-    requires there { place < length names.now }
-    ensures { IfOk result (λ name. name ≡ name_at names.now place) }
-{
-    let Some(name) = names.name_at(place) else {
-        unreachable!()
-    };
-    match read_name(alloc, name) {
-        Ok(name) => Ok(name),
-        Err(NameFault::Memory) => Err(Memory),
-        Err(NameFault::NotAName) => unreachable!(),
-    }
-}
-
-/// A line for each zone.
-pub fn zone_lines(
-    alloc: Global,
-    zones: &NameIndex,
-    pricing: &Pricing,
-    areas: &[u32],
-) -> Result<Vec<ZoneLine>, Memory>
-    // The zones by their names.
-    requires few { length zones.now ≤ MOST_ZONES }
-    requires names { All IsName zones.now }
-
-    // Three prices and an area for each.
-    requires published { length pricing.now.published.cents ≡ length zones.now }
-    requires least { length pricing.now.least.cents ≡ length zones.now }
-    requires greatest { length pricing.now.greatest.cents ≡ length zones.now }
-    requires areas { length areas.now ≡ length zones.now }
-
-    // The lines stand in the zones' order.
-    ensures names { IfOk result (λ lines. map (λ (l : ZoneLineOf). l.name) lines.items ≡ zones.now) }
-    ensures prices { IfOk result (λ lines. map (λ (l : ZoneLineOf). l.price) lines.items ≡ pricing.now.published.cents) }
-    ensures least { IfOk result (λ lines. map (λ (l : ZoneLineOf). l.least) lines.items ≡ pricing.now.least.cents) }
-    ensures greatest { IfOk result (λ lines. map (λ (l : ZoneLineOf). l.greatest) lines.items ≡ pricing.now.greatest.cents) }
-    ensures areas { IfOk result (λ lines. map (λ (l : ZoneLineOf). l.area) lines.items ≡ areas.now) }
-{
-    let published = pricing.published.cents.as_slice();
-    let least = pricing.least.cents.as_slice();
-    let greatest = pricing.greatest.cents.as_slice();
-    let mut lines = Vec::new(alloc);
-    for (zone, area) in areas.iter().enumerate() {
-        let name = name_of(alloc, zones, zone as u32)?;
-        lines.push(ZoneLine {
-            name,
-            price: published[zone],
-            least: least[zone],
-            greatest: greatest[zone],
-            area: *area,
-        })?;
-    }
-    Ok(lines)
-}
-
-/// A line for each border.
-pub fn border_lines(
-    alloc: Global,
-    zones: &NameIndex,
-    borders: &[BorderEnds],
-    flow: &[i64],
-    rents: &[Quarters],
-) -> Result<Vec<BorderLine>, Memory>
-    // The borders, between zones with names.
-    requires names { All IsName zones.now }
-    requires from { All (λ (b : Ends). b.from < length zones.now) borders.now }
-    requires to { All (λ (b : Ends). b.to < length zones.now) borders.now }
-
-    // A flow and a rent for each.
-    requires flow { length flow.now ≡ length borders.now }
-    requires rents { length rents.now ≡ length borders.now }
-
-    // The lines stand in the borders' order.
-    ensures from { IfOk result (λ lines. map (λ (l : BorderLineOf). l.from) lines.items ≡ map (λ (b : Ends). name_at zones.now b.from) borders.now) }
-    ensures to { IfOk result (λ lines. map (λ (l : BorderLineOf). l.to) lines.items ≡ map (λ (b : Ends). name_at zones.now b.to) borders.now) }
-    ensures flow { IfOk result (λ lines. map (λ (l : BorderLineOf). l.flow) lines.items ≡ flow.now) }
-    ensures rents { IfOk result (λ lines. map (λ (l : BorderLineOf). l.rent) lines.items ≡ rents.now) }
-{
-    let mut lines = Vec::new(alloc);
-    for (border, ends) in borders.iter().enumerate() {
-        let from = name_of(alloc, zones, ends.from)?;
-        let to = name_of(alloc, zones, ends.to)?;
-        lines.push(BorderLine {
-            from,
-            to,
-            flow: flow[border],
-            rent: rents[border],
-        })?;
-    }
-    Ok(lines)
-}
-
-/// A line for each of these bids, by their numbers.
-pub fn bid_lines(
-    alloc: Global,
-    ids: &NameIndex,
-    numbers: &[u32],
-    mw: &[u32],
-) -> Result<Vec<BidLine>, Memory>
-    requires names { All IsName ids.now }
-    requires there { All (λ number. number < length ids.now) numbers.now }
-    requires mw { length numbers.now ≤ length mw.now }
-    ensures ids { IfOk result (λ lines. map (λ (l : BidLineOf). l.id) lines.items ≡ map (name_at ids.now) numbers.now) }
-    ensures mw { IfOk result (λ lines. map (λ (l : BidLineOf). l.mw) lines.items ≡ take (length numbers.now) mw.now) }
-{
-    let mut lines = Vec::new(alloc);
-    for (order, number) in numbers.iter().enumerate() {
-        let id = name_of(alloc, ids, *number)?;
-        lines.push(BidLine { id, mw: mw[order] })?;
-    }
-    Ok(lines)
-}
-
-/// How many MW each order runs after the first `bids` of them.
-pub fn demand_mws(alloc: Global, mw: &[u32], bids: usize) -> Result<Vec<u32>, Memory>
-    ensures { IfOk result (λ rest. rest.items ≡ drop bids mw.now) }
-{
-    Ok(mw.iter().skip(bids).copied().collect(alloc)?)
-}
 
 /// A line for each operator, by the lines of a ledger.
 pub fn money_lines(

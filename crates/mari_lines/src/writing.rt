@@ -12,8 +12,8 @@ mod tree;
 use crate::line::{AmountLine, BidLine, BorderLine, Heading, MoneyLine, ZoneLine};
 use mari_units::{Memory, Name, put};
 use pieces::{put_flow, put_money, put_price};
-use std::alloc::Global;
 pub use pieces::{put_field, put_number_field};
+use std::alloc::Global;
 pub use tree::{put_at, put_bound, put_branch, put_conflict, put_cut, put_flow_line, put_mw_line};
 
 /// Appends the first line.

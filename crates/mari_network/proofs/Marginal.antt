@@ -86,9 +86,9 @@ module _ (slots : List Slot) (old new : List ℤ) (sink source : ℕ) (moved : I
       elim (cases_eq i sink) [
         | inl is ↦ ((o.0.0, subst (λ (k : ℕ). (slot_at slots k).low <ℤ int_at new k) (sym is) (stays (sym (ap (zone_of slots) is) ∙ o.1))), o.1)
         | inr other ↦ elim (cases_eq i source) [
-            | inl is ↦ ((o.0.0, subst (λ (k : ℕ). (slot_at slots k).low <ℤ int_at new k) (sym is) (omega (arith, ints, moved.least, moved.more))), o.1)
-            | inr far ↦ ((o.0.0, subst (λ (x : ℤ). (slot_at slots i).low <ℤ x) (sym (moved.others i other far)) o.0.1), o.1)
-          ]
+          | inl is ↦ ((o.0.0, subst (λ (k : ℕ). (slot_at slots k).low <ℤ int_at new k) (sym is) (omega (arith, ints, moved.least, moved.more))), o.1)
+          | inr far ↦ ((o.0.0, subst (λ (x : ℤ). (slot_at slots i).low <ℤ x) (sym (moved.others i other far)) o.0.1), o.1)
+        ]
       ]
 
   -- and of the others none but the source may put in less than before
@@ -128,9 +128,9 @@ module _ (slots : List Slot) (old new : List ℤ) (sink source : ℕ) (moved : I
       elim (cases_eq i source) [
         | inl is ↦ ((o.0.0, subst (λ (k : ℕ). int_at new k <ℤ (slot_at slots k).high) (sym is) (stays (sym (ap (zone_of slots) is) ∙ o.1))), o.1)
         | inr other ↦ elim (cases_eq i sink) [
-            | inl is ↦ ((o.0.0, subst (λ (k : ℕ). int_at new k <ℤ (slot_at slots k).high) (sym is) (omega (arith, ints, moved.less, moved.most))), o.1)
-            | inr far ↦ ((o.0.0, subst (λ (x : ℤ). x <ℤ (slot_at slots i).high) (sym (moved.others i far other)) o.0.1), o.1)
-          ]
+          | inl is ↦ ((o.0.0, subst (λ (k : ℕ). int_at new k <ℤ (slot_at slots k).high) (sym is) (omega (arith, ints, moved.less, moved.most))), o.1)
+          | inr far ↦ ((o.0.0, subst (λ (x : ℤ). x <ℤ (slot_at slots i).high) (sym (moved.others i far other)) o.0.1), o.1)
+        ]
       ]
 
   more_before : IsCheapestIn slots old z n best → (k : ℕ) → k < n → (k ≡ sink → ⊥) → CanMore slots new k → zone_of slots k ≡ z → IsBelow slots (price_of slots k) best

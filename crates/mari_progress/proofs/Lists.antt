@@ -1,9 +1,10 @@
--- Lists: lists side by side, and one item more behind others.
-use Rattle.std.proofs.Common.{◌≡◌, ◌∙◌, ℕ, suc, List, [], ◌∷◌, ◌++◌, length, take, Some, refl, sym, ap, arith, inl, inr}
+-- Lists: lists side by side, lists that are mapped, and one item more behind others.
+use Rattle.std.proofs.Common.{◌≡◌, ◌∙◌, ◌<◌, ℕ, suc, List, [], ◌∷◌, ◌++◌, get_or, length, map, take, Some, refl, sym, ap, arith, inl, inr, subst}
 use Rattle.std.specs.Prelude.{slice_get}
 use Rattle.std.proofs.Math.Seq.{take-length}
 use Rattle.std.proofs.lemmas.Bool.{cases_lt}
-use Rattle.std.proofs.lemmas.List.{length-append, take-append-le}
+use Rattle.std.specs.List.{All}
+use Rattle.std.proofs.lemmas.List.{get_or-map, length-append, length-map, take-append-le}
 use Rattle.std.proofs.lemmas.Option.{slice_get_within}
 use Rattle.mari_settle.specs.Lines.{map_along}
 use Rattle.mari_units.proofs.Lists.{get_front, get_seam}
@@ -13,6 +14,17 @@ pub along-length : {X Y Z : Type 0} (f : X → Y → Z) (xs : List X) (ys : List
 along-length f [] ys e = refl
 along-length f (x ∷ xs) [] e = absurd (omega arith)
 along-length f (x ∷ xs) (y ∷ ys) e = ap suc (along-length f xs ys (omega arith))
+
+-- what holds of a list that another is mapped to
+pub of-map : {X Y : Type 0} (f : X → Y) (Q : Y → Type 0) (xs : List X) (ys : List Y) → map f xs ≡ ys → All Q ys → All (λ x. Q (f x)) xs
+of-map f Q xs ys same all = λ k d l.
+    let here : k < length ys = omega (arith, ap length same, length-map xs f) in
+    let value : get_or ys k (f d) ≡ f (get_or xs k d) = rw same at (get_or-map f xs k d (f d) l) in
+    subst Q value (all k (f d) here)
+
+-- as long as what it is mapped to
+pub as-many : {X Y : Type 0} (f : X → Y) (xs : List X) (ys : List Y) → map f xs ≡ ys → length xs ≡ length ys
+as-many f xs ys same = sym (length-map xs f) ∙ ap length same
 
 -- what holds of each item behind those before it holds of one more, where it holds of that one behind all of them
 pub each-more : {X : Type 0} (P : List X → X → Type 0) (xs : List X) (y : X) → ((k : ℕ) (x : X) → slice_get xs k ≡ Some x → P (take k xs) x) → P xs y

@@ -1,4 +1,4 @@
--- How much the bids of a run may run.
+-- How much the bids of a run may run, and money that is small.
 use Rattle.std.proofs.Common.{ℕ, zero, suc, ◌≤◌, List, [], ◌∷◌, take, arith}
 use Rattle.std.specs.List.{All, AllZip}
 use Rattle.std.proofs.lemmas.List.Elements.{All-cons, All-head, All-nil, All-tail}
@@ -9,6 +9,13 @@ use Rattle.mari_market.specs.declared.activation.Activation.{Activation}
 use Rattle.mari_market.specs.declared.market.Market.{Market}
 use Rattle.mari_market.specs.declared.market.Order.{Order}
 use Rattle.mari_market.proofs.Sizes.{at_most}
+use Rattle.mari_units.specs.declared.numbers.Quarters.{Quarters}
+use Rattle.mari_lines.specs.Ranges.{IsMoney}
+use Rattle.mari_settle.specs.Conditions.{IsSmall}
+
+-- a small amount may be printed
+pub money : (q : Quarters) → IsSmall q → IsMoney q
+money q small = omega (arith, small)
 
 -- first orders of at most 9,999 MW run at most as much
 module _ (m : Market) (a : Activation) where

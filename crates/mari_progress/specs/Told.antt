@@ -42,12 +42,16 @@ rents_told b = map (λ (l : BorderLine). l.rent) b.borders
 abbrev pub heading_of : Books → ℕ → Heading
 heading_of books run = record { run = run; quarter = (run_numbered books run).quarter; direct = (run_numbered books run).direct }
 
--- the lines name the zones, the borders and the bids of these numbers, in their order
-pub record NamesLines (books : Books) (numbers : List ℕ) (b : FullBlock) : Type 0 where
-  pub zones : map (λ (l : ZoneLine). l.name) b.zones ≡ books.zones.zones
-  pub from : map (λ (l : BorderLine). l.from) b.borders ≡ map (λ (ends : BorderEnds). name_at books.zones.zones ends.from) books.borders.borders
-  pub to : map (λ (l : BorderLine). l.to) b.borders ≡ map (λ (ends : BorderEnds). name_at books.zones.zones ends.to) books.borders.borders
-  pub bids : map (λ (l : BidLine). l.id) b.bids ≡ map (name_at books.bids.ids) numbers
+-- lines name the zones, the borders and the bids of these numbers, in their order
+pub record NameLines (books : Books) (numbers : List ℕ) (zone_lines : List ZoneLine) (border_lines : List BorderLine) (bid_lines : List BidLine) : Type 0 where
+  pub zones : map (λ (l : ZoneLine). l.name) zone_lines ≡ books.zones.zones
+  pub from : map (λ (l : BorderLine). l.from) border_lines ≡ map (λ (ends : BorderEnds). name_at books.zones.zones ends.from) books.borders.borders
+  pub to : map (λ (l : BorderLine). l.to) border_lines ≡ map (λ (ends : BorderEnds). name_at books.zones.zones ends.to) books.borders.borders
+  pub bids : map (λ (l : BidLine). l.id) bid_lines ≡ map (name_at books.bids.ids) numbers
+
+-- so do those of a block
+abbrev pub NamesLines : Books → (numbers : List ℕ) → FullBlock → Type 0
+NamesLines books numbers b = NameLines books numbers b.zones b.borders b.bids
 
 -- so they name those of the run's market, and there is a line for each of its demands
 pub record NamesMarket (books : Books) (made : RunMarket) (b : FullBlock) : Type 0 where

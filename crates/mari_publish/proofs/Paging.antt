@@ -5,7 +5,7 @@ use Rattle.std.proofs.Math.Seq.{take-append-add, take-append_seam}
 use Rattle.std.proofs.lemmas.Bool.{cases_lt}
 use Rattle.std.proofs.lemmas.List.{take-append-drop, nil_from_length}
 use Rattle.mari_io.specs.Outside.{AppendsExactly, IsOverlong, IsPiece, OpenTells, most_given}
-use Rattle.mari_publish.specs.Faults.{IsOutcome, IsTextFault}
+use Rattle.mari_publish.specs.Faults.{IsOutcome, IsText, IsTextFault}
 use Rattle.mari_publish.specs.Paged.{IsLineFault, IsToldFault, IsTooLong}
 use Rattle.mari_publish.specs.Paged.IsToldFault.{OfPage as of-page, OfGiven as of-given}
 use Rattle.mari_publish.specs.Pieces.{ComeState, ComesFrom, HasPart, IsNext, NoFault, with_part}
@@ -14,7 +14,7 @@ use Rattle.mari_publish.specs.declared.fault.TextFault.TheVariants as fault
 use Rattle.mari_publish.specs.declared.publication.Part.{Part}
 use Rattle.mari_publish.specs.declared.publication.Publication.{Publication}
 use Rattle.mari_publish.proofs.MoreText.{line_stays, order_stays}
-use Rattle.mari_publish.proofs.Outcomes.{line_answer, order_answer, truncated_answer}
+use Rattle.mari_publish.proofs.Outcomes.{line_answer, order_answer, text_answer, truncated_answer}
 
 -- ---- faults
 
@@ -44,15 +44,20 @@ told-first page f (of-given long h) =
     let P : List ℕ → Type 0 = λ xs. IsTextFault xs f in
     subst P (take-append-drop most_given page) (fault-first (take most_given page ++ drop most_given page) f (fault-stays (take most_given page) (drop most_given page) f h))
 
+-- a text that was given stands at the front of what is given of the page
+pub given-front : (text more : List ℕ) → length text ≤ most_given → (front : List ℕ) × (text ++ front ≡ take most_given (text ++ more))
+given-front text more few =
+    let room : ℕ = most_given - length text in
+    let all : length text + room ≡ most_given = omega (arith, few) in
+    (take room more, sym (take-append-add text more room) ∙ ap (λ (n : ℕ). take n (text ++ more)) all)
+
 -- the fault of a line is told once the line is given
-fault-told : (text more : List ℕ) (f : TextFault) → length text ≤ most_given → IsLineFault text f → IsToldFault (text ++ more) f
+pub fault-told : (text more : List ℕ) (f : TextFault) → length text ≤ most_given → IsLineFault text f → IsToldFault (text ++ more) f
 fault-told text more f few h = elim (cases_lt most_given (length (text ++ more))) [
   | inl long ↦
-      let room : ℕ = most_given - length text in
-      let all : length text + room ≡ most_given = omega (arith, few) in
-      let front : take most_given (text ++ more) ≡ text ++ take room more = ap (λ (n : ℕ). take n (text ++ more)) (sym all) ∙ take-append-add text more room in
+      let front = given-front text more few in
       let P : List ℕ → Type 0 = λ xs. IsLineFault xs f in
-      of-given long (subst P (sym front) (fault-stays text (take room more) f h))
+      of-given long (subst P front.1 (fault-stays text front.0 f h))
   | inr short ↦ of-page (omega (arith, short)) (fault-first (text ++ more) f (fault-stays text more f h))
 ]
 
@@ -65,6 +70,40 @@ same-fault page answer f o told = first f (told-first page f told)
     first (fault.BadOrder n) h = order_answer page answer o n h
     first (fault.Truncated n) h = truncated_answer page answer o n h
     first fault.Memory h = absurd h
+
+-- ---- a page has one fault at most
+
+-- the text of a publication has none
+pub no-fault-of-text : (page : List ℕ) (p : Publication) (f : TextFault) → IsText page p → IsTextFault page f → ⊥
+no-fault-of-text page p (fault.BadLine n) is bad = elim (text_answer page (Err (fault.BadLine n)) bad p is) [ inl e ↦ cc | inr e ↦ cc ]
+no-fault-of-text page p (fault.BadOrder n) is bad = elim (text_answer page (Err (fault.BadOrder n)) bad p is) [ inl e ↦ cc | inr e ↦ cc ]
+no-fault-of-text page p (fault.Truncated n) is bad = elim (text_answer page (Err (fault.Truncated n)) bad p is) [ inl e ↦ cc | inr e ↦ cc ]
+no-fault-of-text page p fault.Memory is bad = bad
+
+outcome-of : (page : List ℕ) (f : TextFault) → IsTextFault page f → IsOutcome page (Err f)
+outcome-of page (fault.BadLine n) bad = bad
+outcome-of page (fault.BadOrder n) bad = bad
+outcome-of page (fault.Truncated n) bad = bad
+outcome-of page fault.Memory bad = absurd bad
+
+-- two answers that don't say that memory ran out are one
+abbrev error : TextFault → Result Publication TextFault
+error f = Err f
+
+same-error : (page : List ℕ) (f g : TextFault) → IsTextFault page f → (error f ≡ error g) ⊎ (error f ≡ error fault.Memory) → f ≡ g
+same-error page f g bad (inl e) = cc
+same-error page f g bad (inr e) = let memory : f ≡ fault.Memory = cc in let P : TextFault → Type 0 = λ x. IsTextFault page x in absurd (subst P memory bad)
+
+pub one-fault : (page : List ℕ) (f g : TextFault) → IsTextFault page f → IsTextFault page g → f ≡ g
+one-fault page f (fault.BadLine n) bad other = same-error page f _ bad (line_answer page (Err f) (outcome-of page f bad) n other)
+one-fault page f (fault.BadOrder n) bad other = same-error page f _ bad (order_answer page (Err f) (outcome-of page f bad) n other)
+one-fault page f (fault.Truncated n) bad other = same-error page f _ bad (truncated_answer page (Err f) (outcome-of page f bad) n other)
+one-fault page f fault.Memory bad other = absurd other
+
+-- of a page that is too long none is told
+pub long-none : (page : List ℕ) (f : TextFault) → IsTooLong page → IsToldFault page f → ⊥
+long-none page f long (of-page short bad) = omega (arith, long.longer, short)
+long-none page f long (of-given more bad) = no-line-fault (take most_given page) f long.no_fault bad
 
 -- ---- what the reader gives
 
@@ -103,7 +142,14 @@ pub dropped : (rest now : Option (List ℕ)) (left : List ℕ) (n : ℕ) → res
 dropped rest now left n e f = f ∙ ap (option_map (λ l. drop n l)) e
 
 module _ (Known : List ℕ → Type 0) (page rest : Option (List ℕ)) (given : ℕ) (u : Under Known page rest given) where
-  -- as many bytes as may be were given, and some are left
+  -- as many bytes as may be were given: they are what has come
+  pub overlong-front : IsOverlong rest given → (whole : List ℕ) → page ≡ Some whole → u.text ≡ take most_given whole
+  overlong-front over whole is =
+      let t = u.told whole is in
+      let o : (given ≡ most_given) × (t.0 ≢ []) = subst (λ r. IsOverlong r given) t.1 over in
+      sym (take-append_seam u.text t.0) ∙ ap (λ (n : ℕ). take n (u.text ++ t.0)) (sym u.given_is ∙ o.0) ∙ ap (λ (xs : List ℕ). take most_given xs) t.2
+
+  -- and some are left
   pub overlong-page : IsOverlong rest given → (whole : List ℕ) → page ≡ Some whole → IsTooLong whole
   overlong-page over whole is =
       let t = u.told whole is in
@@ -111,8 +157,7 @@ module _ (Known : List ℕ → Type 0) (page rest : Option (List ℕ)) (given : 
       let many = length-append u.text t.0 in
       let some = not-empty t.0 o.1 in
       let sum : length (u.text ++ t.0) ≡ length whole = ap length t.2 in
-      let front : take most_given whole ≡ u.text = ap (λ (xs : List ℕ). take most_given xs) (sym t.2) ∙ ap (λ (n : ℕ). take n (u.text ++ t.0)) (sym o.0 ∙ u.given_is) ∙ take-append_seam u.text t.0 in
-      record { longer = omega (arith, many, some, sum, o.0, u.given_is); no_fault = subst NoFault (sym front) u.no_fault }
+      record { longer = omega (arith, many, some, sum, o.0, u.given_is); no_fault = subst NoFault (overlong-front over whole is) u.no_fault }
     where
       not-empty : (xs : List ℕ) → (xs ≢ []) → 0 < length xs
       not-empty [] h = absurd (h refl)
@@ -120,7 +165,7 @@ module _ (Known : List ℕ → Type 0) (page rest : Option (List ℕ)) (given : 
 
   module _ (piece : List ℕ) (n : ℕ) (many : length piece ≡ n) (within : given + n ≤ most_given) (is_piece : (left : List ℕ) → rest ≡ Some left → IsPiece left [] piece n) where
     -- the text with the piece is as long as what is given then
-    with-piece : length (u.text ++ piece) ≤ most_given
+    pub with-piece : length (u.text ++ piece) ≤ most_given
     with-piece = let longer = length-append u.text piece in omega (arith, longer, many, within, u.given_is)
 
     module _ (whole : List ℕ) (is : page ≡ Some whole) where

@@ -78,7 +78,7 @@ pub own-mw : (books : Books) (kept : Tally) (quarter i : ℕ) → (bid_numbered 
 own-mw books kept quarter i e = rw (eq-eqb (bid_numbered books.bids.bids i).quarter quarter e) refl
 
 -- the quarter of a number, in either word
-quarter-at : (bids : BidBook) (i : ℕ) → quarter_of bids i ≡ (bid_numbered bids.bids i).quarter
+pub quarter-at : (bids : BidBook) (i : ℕ) → quarter_of bids i ≡ (bid_numbered bids.bids i).quarter
 quarter-at bids i = elim (cases_lt i (length bids.bids)) [
   | inl l ↦ rw (slice_get-get_or bids.bids i no_bid l) refl
   | inr past ↦ rw (slice_get_past bids.bids i past) (ap (λ (b : Bid). b.quarter) (sym (get_or-eq_default bids.bids no_bid past)))

@@ -171,13 +171,13 @@ module _ (books : Books) (ok : IsAccepted books) where
         → (if option_map_or (λ last. last == quarter) kept.quarter false then get_or kept.flow k (pos 0) else pos 0) ≡ flow_of (of_quarter quarter blocks) k
     flow-before quarter k r l there is = flow_is quarter k (r, l, there, is) (option_map_or (λ last. last == quarter) kept.quarter false) refl
 
-    -- for the next run
-    pub same-taken : (run : ℕ) → run ≡ length blocks + 1 → run ≤ length books.runs.runs → taken_in books kept (run_numbered books run).quarter ≡ taken_by blocks (run_numbered books run).quarter
-    same-taken run next there =
+    -- for a later run
+    pub same-taken : (run : ℕ) → length blocks < run → run ≤ length books.runs.runs → taken_in books kept (run_numbered books run).quarter ≡ taken_by blocks (run_numbered books run).quarter
+    same-taken run later there =
         let quarter = (run_numbered books run).quarter in
         let own = own-blocks books ok blocks stands.first in
         let mws = fun_ext (λ i. ap (λ n. if (bid_numbered books.bids.bids i).quarter == quarter then n else 0) (kept-mw i) ∙ sym (mw-own quarter i blocks own)) in
         let activated = fun_ext (λ i. ap (nat_lt 0) (kept-mw i)) in
         let direct = fun_ext kept-direct in
-        let flows = fun_ext (λ k. flow-before quarter k run (omega (arith, next)) there refl) in
+        let flows = fun_ext (λ k. flow-before quarter k run later there refl) in
         λ i. record { mw = mws i; activated = activated i; by_direct_run = direct i; flow = flows i }

@@ -2,6 +2,7 @@
 use Rattle.std.proofs.Common.{◌≡◌, ℕ, ◌+◌, ◌-◌, ◌<◌, ◌≤◌, ◌==◌, ℤ, Bool, true, false, List, [], ◌∷◌, length, map, cond, refl, ap, ◌∙◌, sym, arith, Option, Some, None, IfSome, filter, unwrap_or, slice_get, slice_index_or, get_or, zero-add, length-append, int_lt, unsigned_abs, pos, negsuc, neg_ℤ, ◌≤ℤ◌, ◌+ℤ◌, ◌-ℤ◌}
 use Rattle.std.proofs.lemmas.Int.{ints}
 use Rattle.std.specs.Option.{option_and_then}
+use Rattle.std.specs.Prelude.{IfOk, Result, Ok, Err}
 use Rattle.std.specs.List.{All, AllPairs, Contains, range_with_len}
 use Rattle.std.proofs.lemmas.List.Elements.{All-append, All-filter, Contains-append_left, All-contains_itself, All-map, All-weaker}
 use Rattle.std.proofs.lemmas.List.Kept.{AllPairs-filter}
@@ -25,6 +26,7 @@ use Rattle.mari_market.specs.Gates.{parent_of}
 use Rattle.mari_market.specs.Market.{IsValid, IsValidBorder, IsValidGate, IsValidOrder, GateFits}
 use Rattle.mari_market.specs.Price.{IsCapped, IsPrice}
 use Rattle.mari_remain.specs.declared.books.Books.{Books}
+use Rattle.mari_remain.specs.declared.market.RunMarket.{RunMarket}
 use Rattle.mari_remain.specs.Accepted.{IsAccepted}
 use Rattle.mari_demands.specs.LimitPairs.{IsLimitTable}
 use Rattle.mari_demands.specs.declared.limits.Limits.{Limits}
@@ -51,7 +53,7 @@ border zones b limits flow h limit back small = record {
 }
 
 -- its least quantity is at most its greatest, and at least 1 with a gate
-least_fits : (gates : ℕ) (b : Bid) (gate : Option ℕ) (taken : ℕ) → b.least ≤ b.greatest → 1 ≤ b.greatest → ((g : ℕ) → gate ≡ Some g → g < gates)
+pub least_fits : (gates : ℕ) (b : Bid) (gate : Option ℕ) (taken : ℕ) → b.least ≤ b.greatest → 1 ≤ b.greatest → ((g : ℕ) → gate ≡ Some g → g < gates)
     → (least_left gate b.least ≤ greatest_left gate b.greatest taken) × GateFits gates (bid_order b gate taken)
 least_fits gates b None taken h one there = (omega arith, refl)
 least_fits gates b (Some g) taken h one there = let in_order : cond (b.least == 0) 1 b.least ≤ b.greatest = grind arith in let some : 1 ≤ cond (b.least == 0) 1 b.least = grind arith in (in_order, (there g refl, some))
@@ -83,11 +85,11 @@ demand_price None mw h = inelastic mw
 demand_price (Some p) mw h = h
 
 -- a demand's order
-demand : (zones : ZoneBook) (runs gates : ℕ) (d : Demand) → IsDemand zones runs d → IsValidOrder (length zones.zones) gates (demand_order d)
+pub demand : (zones : ZoneBook) (runs gates : ℕ) (d : Demand) → IsDemand zones runs d → IsValidOrder (length zones.zones) gates (demand_order d)
 demand zones runs gates d h = record { zone = h.zone; price = demand_price d.price d.mw h.price; in_order = omega arith; small = h.mw; gate = refl }
 
 -- what a list contains is contained, mapped, in the list of what it is mapped to
-contains-map : {X Y : Type 0} (f : X → Y) (xs : List X) (x : X) → Contains xs x → Contains (map f xs) (f x)
+pub contains-map : {X Y : Type 0} (f : X → Y) (xs : List X) (x : X) → Contains xs x → Contains (map f xs) (f x)
 contains-map f xs x (k, l, e) = (k, simp length-map l, get_or-map f xs k x (f x) l ∙ ap f e)
 
 parent_in : (parent : Option ℕ) (gated : List ℕ) (h : ℕ) → option_and_then (gate_of gated) parent ≡ Some h → (p : ℕ) × (parent ≡ Some p) × (gate_of gated p ≡ Some h)
@@ -234,3 +236,8 @@ module _ (books : Books) (taken : Taken) (run : ℕ) (ok : IsAccepted books) (sm
     gates = gate;
     reference = let own = ok.runs.runs (run - 1) _ (omega arith) in record { low = own.reference.low; high = own.reference.high };
   }
+
+-- what is made is valid where it is this market, which is
+pub valid-made : {E : Type 0} (answer : Result RunMarket E) (m : RunMarket) → IfOk answer (λ made. made ≡ m) → IsValid m.market → IfOk answer (λ made. IsValid made.market)
+valid-made (Ok made) m e h = rw e h
+valid-made (Err e) m same h = tt

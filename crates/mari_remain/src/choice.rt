@@ -29,7 +29,7 @@ pub(crate) struct Choice {
 }
 
 /// The group of a bid, if it is in one.
-pub(crate) fn group_of(links: &[BidLinks], number: u32) -> Option<u32>
+pub fn group_of(links: &[BidLinks], number: u32) -> Option<u32>
     ensures { result ≡ group_at links.now number }
 {
     match links.get(number as usize) {
@@ -39,7 +39,7 @@ pub(crate) fn group_of(links: &[BidLinks], number: u32) -> Option<u32>
 }
 
 /// The parent of a bid, if it has one.
-pub(crate) fn parent_of(links: &[BidLinks], number: u32) -> Option<u32>
+pub fn parent_of(links: &[BidLinks], number: u32) -> Option<u32>
     ensures { result ≡ parent_at links.now number }
 {
     match links.get(number as usize) {
@@ -49,7 +49,7 @@ pub(crate) fn parent_of(links: &[BidLinks], number: u32) -> Option<u32>
 }
 
 /// Whether a bid has a gate.
-fn is_gated(links: &LinkBook, number: u32) -> bool
+pub fn is_gated(links: &LinkBook, number: u32) -> bool
     ensures { result ≡ has_gate links.now number }
 {
     match links.links.as_slice().get(number as usize) {

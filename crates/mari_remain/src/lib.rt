@@ -19,7 +19,8 @@ mod migration;
 mod remaining;
 
 pub use books::Books;
+pub use choice::{group_of, is_gated, parent_of};
 pub use laws::{migration_keeps_markets, offers_are_kept, stands_after};
-pub use market::{RunMarket, run_entry};
+pub use market::{RunMarket, bid_of, bid_order, run_entry};
 pub use migration::{borders_text, limits_text};
 pub use remaining::Remaining;

@@ -79,7 +79,7 @@ fn place_of(numbers: &[u32], number: u32) -> Option<usize>
 
 /// The order of a bid of which `taken` MW were taken: upward it gives energy and downward it takes it. One with a gate
 /// runs at least 1 MW where it runs, and is offered whole.
-fn bid_order(bid: Bid, gate: Option<u32>, taken: u32) -> Order
+pub fn bid_order(bid: Bid, gate: Option<u32>, taken: u32) -> Order
     ensures { result ≡ bid_order_of bid gate taken }
 {
     Order {
@@ -126,7 +126,7 @@ fn demand_order(demand: &Demand) -> Order
 }
 
 /// The bid of a number.
-pub(crate) fn bid_of(bids: &[Bid], number: u32) -> Bid
+pub fn bid_of(bids: &[Bid], number: u32) -> Bid
     ensures { result ≡ bid_numbered bids.now number }
 {
     bids.get(number as usize).copied().unwrap_or(NO_BID)
@@ -300,6 +300,18 @@ impl Remaining {
         // Exactly the market after the blocks, whatever list of them this stands for.
         ensures market { (blocks : List PastBlock) → StandsFor books.now blocks self.now → run ≡ length blocks + 1
             → IfOk result (λ made. made ≡ run_market_of books.now blocks run) }
+        ensures valid { IfOk result (λ made. IsValid made.market) }
+    {
+        made_of(alloc, books, self, run)
+    }
+
+    /// The market of a run, counted from 1, over no blocks, as if no run came before it. Nothing is taken so far.
+    pub fn market_alone(&self, alloc: Global, books: &Books, run: u32) -> Result<RunMarket, Memory>
+        requires accepted { IsAccepted books.now }
+        requires first { 1 ≤ run }
+        requires last { run ≤ length books.now.runs.runs }
+        requires nothing { StandsFor books.now [] self.now }
+        ensures market { IfOk result (λ made. made ≡ run_market_of books.now [] run) }
         ensures valid { IfOk result (λ made. IsValid made.market) }
     {
         made_of(alloc, books, self, run)

@@ -13,4 +13,5 @@ mod rents;
 mod settlement;
 
 pub use ledger::{Ledger, OperatorLine};
+pub use rents::write_rents;
 pub use settlement::settle_run;

@@ -42,8 +42,8 @@ pub(crate) fn rent_of(border: &Border, flow: i64, prices: &[Cents]) -> i128
     worth(Cents(gap_of(border, prices)), flow)
 }
 
-/// Writes each border's rent.
-pub(crate) fn write_rents(
+/// Writes each border's rent, in quarter-cents: how much dearer its second zone is than its first, times its flow.
+pub fn write_rents(
     rents: &mut [Quarters],
     market: &Market,
     activation: &Activation,

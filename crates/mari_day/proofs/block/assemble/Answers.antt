@@ -10,7 +10,7 @@ pub money_lines-requires-clause-few : goal.money_lines-requires-clause-few
 money_lines-requires-clause-few c = c.requires.accepted.zones.few_operators
 
 pub money_lines-requires-clause-small : goal.money_lines-requires-clause-small
-money_lines-requires-clause-small c = rw c.as_slice-2.ensures (have-nets _ (halves c.args.priced.now.ledger.operators c.requires.shapes.small.operators))
+money_lines-requires-clause-small c = rw c.as_slice-5.ensures (have-nets _ (halves c.args.priced.now.ledger.operators c.requires.shapes.small.operators))
 
 pub provider_lines-requires-clause-there : goal.provider_lines-requires-clause-there
 provider_lines-requires-clause-there c = providers-there c.args.books.now.bids.bids _ _ (λ k d l. (c.requires.accepted.bids.bids k d l).provider) c.requires.there
@@ -27,9 +27,9 @@ returns-clause-block c = record {
     bids = rw c.of-3.ensures c.in_ok-bids.ensures.ids;
   };
   zones = record {
-    prices = rw c.of.ensures c.in_ok-zones.ensures.prices;
-    least = rw c.of.ensures c.in_ok-zones.ensures.least;
-    greatest = rw c.of.ensures c.in_ok-zones.ensures.greatest;
+    prices = rw c.of.ensures (c.in_ok-zones.ensures.prices ∙ c.as_slice.ensures);
+    least = rw c.of.ensures (c.in_ok-zones.ensures.least ∙ c.as_slice-2.ensures);
+    greatest = rw c.of.ensures (c.in_ok-zones.ensures.greatest ∙ c.as_slice-3.ensures);
     areas = rw c.of.ensures (c.in_ok-zones.ensures.areas ∙ c.deref.ensures.value);
   };
   flow = rw c.of-2.ensures (c.in_ok-borders.ensures.flow ∙ c.as_slice-flow.ensures);
@@ -38,8 +38,8 @@ returns-clause-block c = record {
     demands = rw c.of-4.ensures (rw c.as_slice-mw.ensures at c.in_ok-demands.ensures);
   };
   ledger = record {
-    rents = rw c.of-2.ensures (c.in_ok-borders.ensures.rents ∙ c.as_slice.ensures);
-    operators = c.of-5.ensures ∙ rw c.as_slice-2.ensures at c.in_ok-operators.ensures;
-    providers = c.of-6.ensures ∙ rw c.as_slice-3.ensures at c.in_ok-providers.ensures;
+    rents = rw c.of-2.ensures (c.in_ok-borders.ensures.rents ∙ c.as_slice-4.ensures);
+    operators = c.of-5.ensures ∙ rw c.as_slice-5.ensures at c.in_ok-operators.ensures;
+    providers = c.of-6.ensures ∙ rw c.as_slice-6.ensures at c.in_ok-providers.ensures;
   };
 }

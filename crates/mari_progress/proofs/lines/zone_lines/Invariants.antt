@@ -1,6 +1,6 @@
 use Rattle.std.proofs.Common.{◌≡◌, map, take}
 use Rattle.mari_lines.specs.declared.line.ZoneLine.{ZoneLine}
-use Rattle.mari_day.proofs.lines.zone_lines.Given as goal
+use Rattle.mari_progress.proofs.lines.zone_lines.Given as goal
 
 -- the lines of the zones before this one
 abbrev pub invariant-loop-zone : goal.invariant-loop-zone

@@ -2,7 +2,7 @@ use Rattle.std.proofs.Common.{◌≡◌, map, take}
 use Rattle.mari_zones.specs.declared.borders.BorderEnds.{BorderEnds}
 use Rattle.mari_lines.specs.declared.line.BorderLine.{BorderLine}
 use Rattle.mari_rows.specs.Names.{name_at}
-use Rattle.mari_day.proofs.lines.border_lines.Given as goal
+use Rattle.mari_progress.proofs.lines.border_lines.Given as goal
 
 -- the lines of the borders before this one
 abbrev pub invariant-loop-border : goal.invariant-loop-border

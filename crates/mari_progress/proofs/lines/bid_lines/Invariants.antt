@@ -1,7 +1,7 @@
 use Rattle.std.proofs.Common.{◌≡◌, map, take}
 use Rattle.mari_lines.specs.declared.line.BidLine.{BidLine}
 use Rattle.mari_rows.specs.Names.{name_at}
-use Rattle.mari_day.proofs.lines.bid_lines.Given as goal
+use Rattle.mari_progress.proofs.lines.bid_lines.Given as goal
 
 -- the lines of the bids before this one
 abbrev pub invariant-loop-order : goal.invariant-loop-order

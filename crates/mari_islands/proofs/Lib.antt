@@ -1,0 +1,16 @@
+pub mod Numbers
+pub mod Beside
+pub mod Bound
+pub mod Inside
+pub mod Valid
+pub mod Open
+pub mod Feasible
+pub mod Whole
+pub mod Consistent
+pub mod Sums
+pub mod First
+pub mod Laws
+pub mod Uniting
+pub mod Homes
+pub mod Placing
+pub mod Cleared

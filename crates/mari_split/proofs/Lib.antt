@@ -1,0 +1,5 @@
+pub mod Blocks
+pub mod Progressing
+pub mod Texts
+pub mod Enough
+pub mod Keeping

@@ -1,0 +1,70 @@
+-- What is kept of a day part stands for one block more after each run.
+use Rattle.std.proofs.Common.{◌≡◌, ◌∙◌, ℕ, ◌+◌, ◌≤◌, List, [], ◌∷◌, ◌++◌, length, map, Some, None, sym, ap, subst, arith}
+use Rattle.std.proofs.lemmas.List.{length-append, length-map, map-append}
+use Rattle.mari_publish.specs.declared.publication.Block.{Block}
+use Rattle.mari_publish.specs.declared.publication.Block.TheVariants as block
+use Rattle.mari_publish.specs.declared.publication.FullBlock.{FullBlock}
+use Rattle.mari_remain.specs.declared.books.Books.{Books}
+use Rattle.mari_remain.specs.Accepted.{IsAccepted}
+use Rattle.mari_progress.specs.declared.progress.Progress.{Progress}
+use Rattle.mari_progress.specs.declared.progress.SettledRun.{SettledRun}
+use Rattle.mari_progress.specs.Behind.{run_behind}
+use Rattle.mari_progress.specs.Progress.{IsProgress}
+use Rattle.mari_progress.specs.Runs.{IsNextRun, IsSoundRun}
+use Rattle.mari_progress.proofs.Lists.{each-more}
+use Rattle.mari_progress.proofs.Progressing.{unpublished-too}
+use Rattle.mari_split.specs.declared.split.SplitBlock.{SplitBlock}
+use Rattle.mari_split.specs.declared.split.SplitBlock.TheVariants as split
+use Rattle.mari_split.specs.declared.split.SplitRun.{SplitRun}
+use Rattle.mari_split.specs.Split.{IsSplitBlock, IsSplitPart, IsSplitRun, block_of, blocks_of}
+use Rattle.mari_split.specs.Steps.{AddsToDay, IsSplitProgress}
+
+-- a published run of a day is sound
+pub sound : (books : Books) (budget : ℕ) (before : List SplitBlock) (r : SplitRun) → IsSplitRun books budget before r → IsSoundRun books (blocks_of before) r.block
+sound books budget before r is = record {
+  heading = is.heading;
+  names = is.names;
+  feasible = is.first.first.optimal.admissible.feasible;
+  consistent = is.prices.consistent;
+  ledger = is.ledger;
+}
+
+-- the blocks with one more, as the later runs read them
+pub blocks_more : (blocks : List SplitBlock) (b : SplitBlock) → blocks_of (blocks ++ b ∷ []) ≡ blocks_of blocks ++ block_of b ∷ []
+blocks_more blocks b = map-append block_of blocks (b ∷ [])
+
+-- a day part with one block more
+pub part_more : (books : Books) (budget : ℕ) (blocks : List SplitBlock) (b : SplitBlock) → IsSplitPart books budget blocks → length blocks + 1 ≤ length books.runs.runs → IsSplitBlock books budget blocks b → IsSplitPart books budget (blocks ++ b ∷ [])
+part_more books budget blocks b part last is = record {
+  few = omega (arith, last, length-append blocks (b ∷ []));
+  each = each-more (IsSplitBlock books budget) blocks b part.each is;
+}
+
+module _ (books : Books) (budget : ℕ) (blocks : List SplitBlock) (kept : Progress) (progress : IsSplitProgress books budget blocks kept) (last : run_behind (blocks_of blocks) ≤ length books.runs.runs) where
+  room : length blocks + 1 ≤ length books.runs.runs
+  room = omega (arith, last, length-map blocks block_of)
+
+  -- a block that adds nothing
+  pub none_more : IsAccepted books → (b : SplitBlock) → IsSplitBlock books budget blocks b → AddsToDay books blocks b None → IsSplitProgress books budget (blocks ++ b ∷ []) kept
+  none_more ok (split.Published r) is of = absurd of
+  none_more ok (split.Unpublished heading island count) is of =
+      let b : SplitBlock = split.Unpublished heading island count in
+      record {
+        part = part_more books budget blocks b progress.part room is;
+        kept = subst (λ (bs : List Block). IsProgress books bs kept) (sym (blocks_more blocks b)) (unpublished-too books ok (blocks_of blocks) kept progress.kept last heading count is.is_of);
+      }
+
+  -- a block that adds something is published
+  pub some_run : (d : SplitBlock) → IsSplitBlock books budget blocks d → (settled : SettledRun) → AddsToDay books blocks d (Some settled) → (b : FullBlock) × IsNextRun books (blocks_of blocks) b settled
+  some_run (split.Unpublished heading island count) is settled of = absurd of
+  some_run (split.Published r) is settled of = (r.block, record { sound = sound books budget blocks r is; adds = of })
+
+  pub some_more : (d : SplitBlock) → IsSplitBlock books budget blocks d → (settled : SettledRun) → AddsToDay books blocks d (Some settled) → (after : Progress)
+      → ((b : FullBlock) → IsNextRun books (blocks_of blocks) b settled → IsProgress books (blocks_of blocks ++ block.Published b ∷ []) after) → IsSplitProgress books budget (blocks ++ d ∷ []) after
+  some_more (split.Unpublished heading island count) is settled of after added = absurd of
+  some_more (split.Published r) is settled of after added =
+      let b : SplitBlock = split.Published r in
+      record {
+        part = part_more books budget blocks b progress.part room is;
+        kept = subst (λ (bs : List Block). IsProgress books bs after) (sym (blocks_more blocks b)) (added r.block (record { sound = sound books budget blocks r is; adds = of }));
+      }

@@ -1,0 +1,4 @@
+pub mod Split
+pub mod Lines
+pub mod Days
+pub mod Steps

@@ -1,0 +1,10 @@
+pub mod BlockChecks
+pub mod Blocks
+pub mod Cutting
+pub mod Joint
+pub mod JointChecks
+pub mod Parts
+pub mod Printed
+pub mod Prices
+pub mod SoFar
+pub mod Text

@@ -1,0 +1,13 @@
+pub mod RaisedMarkets
+pub mod Bounding
+pub mod Worths
+pub mod Texts
+pub mod Blocks
+pub mod RisesBound
+pub mod HeldParts
+pub mod FirstFaults
+pub mod Parts
+pub mod Pages
+pub mod Endings
+pub mod Exact
+pub mod Whole

@@ -1,6 +1,8 @@
 pub mod Appended
 pub mod Printed
 pub mod Canonical
+pub mod Signs
+pub mod Naturals
 pub mod Numbers
 pub mod NotRead
 pub mod Splits

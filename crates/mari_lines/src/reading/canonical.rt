@@ -3,9 +3,9 @@
 ghost use Rattle.std.specs.Prelude.{◌≡◌, ◌≢◌, ◌≤◌, ◌+◌, ◌/◌, ◌%◌, ◌^◌, ◌↔◌, ◌∷◌, [], ◌++◌, IsTrue, List, MatchOption, unsigned_abs, ℕ};
 ghost use Rattle.std.specs.Fmt.{decimal, signed_decimal};
 ghost use Rattle.mari_units.specs.Numbers.{printed_ten_thousandths, sign_of};
-ghost use Rattle.mari_lines.specs.Spelling.{price_text, money_text};
+ghost use Rattle.mari_lines.specs.Spelling.{money_text};
 
-use mari_units::{Cents, Quarters};
+use mari_units::Quarters;
 
 /// What stands before a text's last byte, where that is `end`.
 fn before(text: &[u8], end: u8) -> Option<&[u8]>
@@ -91,16 +91,6 @@ pub fn is_whole_text(text: &[u8], value: i128) -> bool
         return false;
     };
     is_decimal(size, value.unsigned_abs())
-}
-
-/// Whether a text is a price as it is printed.
-pub fn is_cents_text(text: &[u8], price: Cents) -> bool
-    ensures { IsTrue result ↔ (text.now ≡ price_text price) }
-{
-    let Some(size) = behind_sign(text, price.0 < 0) else {
-        return false;
-    };
-    is_hundredths(size, u128::from(price.0.unsigned_abs()))
 }
 
 /// Whether a text is an amount of money as it is printed.

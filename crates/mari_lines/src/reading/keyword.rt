@@ -6,26 +6,26 @@ ghost use Rattle.mari_lines.specs.declared.line.Keyword.{Keyword as KeywordValue
 
 use crate::line::Keyword;
 
-/// All keywords, in the order in which their lines first come.
+/// All keywords, those of which a text may have many lines first.
 const KEYWORDS: [Keyword; 21] = [
-    Keyword::Mari,
-    Keyword::Run,
-    Keyword::Welfare,
-    Keyword::Zone,
-    Keyword::Border,
     Keyword::Bid,
+    Keyword::Provider,
     Keyword::Demand,
-    Keyword::Tree,
     Keyword::Branch,
     Keyword::Bound,
-    Keyword::Cut,
+    Keyword::Zone,
+    Keyword::Border,
+    Keyword::Operator,
     Keyword::Conflict,
     Keyword::At,
     Keyword::Flows,
     Keyword::Mws,
-    Keyword::Operator,
-    Keyword::Provider,
+    Keyword::Cut,
+    Keyword::Run,
+    Keyword::Welfare,
+    Keyword::Tree,
     Keyword::End,
+    Keyword::Mari,
     Keyword::TotalOperator,
     Keyword::TotalProvider,
     Keyword::Done,

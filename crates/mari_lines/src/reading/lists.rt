@@ -1,6 +1,7 @@
 //! Lists of numbers in a line.
 
-ghost use Rattle.std.specs.Prelude.{◌≡◌, ◌≤◌, map};
+ghost use Rattle.std.specs.Prelude.{◌≡◌, ◌≤◌, [], map, MatchResult};
+ghost use Rattle.mari_lines.specs.declared.fault.FormFault.TheVariants as form_fault;
 ghost use Rattle.std.specs.Fmt.{decimal, signed_decimal};
 ghost use Rattle.mari_market.specs.Price.{IsCapped};
 ghost use Rattle.mari_units.specs.Numbers.{Within};
@@ -15,11 +16,21 @@ use mari_market::MOST_ORDERS;
 use mari_units::{Cents, Items, MOST_BORDERS, MOST_FLOW, MOST_MW, MOST_ZONES};
 use std::alloc::Global;
 
+/// An empty list with room for about as many items as there are words left, and for no more than it may have.
+fn list_for<T>(alloc: Global, words: &Words<'_>, most: usize) -> Result<Vec<T>, FormFault>
+    ensures { MatchResult result (λ list. list.items ≡ []) (λ fault. fault ≡ form_fault.Memory) }
+{
+    match Vec::with_capacity(alloc, words.about().min(most)) {
+        Ok(list) => Ok(list),
+        Err(_) => Err(FormFault::Memory),
+    }
+}
+
 /// One to `MOST_ZONES` prices, to the end of the line.
 pub fn read_prices(alloc: Global, words: &mut Words<'_>) -> Result<Items<Cents>, FormFault>
     ensures { Reads (Listed 1 MOST_ZONES IsCapped) (map price_text) words.old result }
 {
-    let mut prices = Vec::new(alloc);
+    let mut prices = list_for(alloc, words, MOST_ZONES)?;
     while let Some(word) = words.next_word() {
         if prices.len() >= MOST_ZONES {
             return Err(FormFault::Formless);
@@ -37,7 +48,7 @@ pub fn read_prices(alloc: Global, words: &mut Words<'_>) -> Result<Items<Cents>,
 pub fn read_flows(alloc: Global, words: &mut Words<'_>) -> Result<Items<i64>, FormFault>
     ensures { Reads (Listed 0 MOST_BORDERS (λ flow. Within MOST_FLOW flow)) (map signed_decimal) words.old result }
 {
-    let mut flows = Vec::new(alloc);
+    let mut flows = list_for(alloc, words, MOST_BORDERS)?;
     while let Some(word) = words.next_word() {
         if flows.len() >= MOST_BORDERS {
             return Err(FormFault::Formless);
@@ -52,7 +63,7 @@ pub fn read_flows(alloc: Global, words: &mut Words<'_>) -> Result<Items<i64>, Fo
 pub fn read_mws(alloc: Global, words: &mut Words<'_>) -> Result<Items<u32>, FormFault>
     ensures { Reads (Listed 0 MOST_ORDERS (λ mw. mw ≤ MOST_MW)) (map decimal) words.old result }
 {
-    let mut mws = Vec::new(alloc);
+    let mut mws = list_for(alloc, words, MOST_ORDERS)?;
     while let Some(word) = words.next_word() {
         if mws.len() >= MOST_ORDERS {
             return Err(FormFault::Formless);
@@ -67,7 +78,7 @@ pub fn read_mws(alloc: Global, words: &mut Words<'_>) -> Result<Items<u32>, Form
 pub fn read_zones(alloc: Global, words: &mut Words<'_>) -> Result<Items<u32>, FormFault>
     ensures { Reads (Listed 1 MOST_ZONES IsZone) (map zone_text) words.old result }
 {
-    let mut zones = Vec::new(alloc);
+    let mut zones = list_for(alloc, words, MOST_ZONES)?;
     while let Some(word) = words.next_word() {
         if zones.len() >= MOST_ZONES {
             return Err(FormFault::Formless);

@@ -14,7 +14,7 @@ ghost use Rattle.mari_lines.specs.declared.fault.FormFault.TheVariants as form_f
 use super::number::{
     read_date, read_flow, read_money, read_name_text, read_number, read_price, read_welfare,
 };
-use super::separator::split_once;
+use super::separator::split_near;
 use crate::fault::FormFault;
 use mari_market::CutSide;
 use mari_units::{Cents, MOST_FLOW, Name, Quarters};
@@ -51,12 +51,20 @@ impl<'a> Words<'a> {
         Words { rest: Some(text) }
     }
 
+    /// About how many words are left: one more than there would be of four bytes each. No clause says how many.
+    pub fn about(&self) -> usize {
+        match self.rest {
+            None => 0,
+            Some(text) => (text.len() / 5).saturating_add(1),
+        }
+    }
+
     /// Takes the next word.
     pub fn next_word(&mut self) -> Option<&'a [u8]>
         ensures { MatchOption result ((self.old ≡ []) × (self.new ≡ [])) (λ word. self.old ≡ word.now ∷ self.new) }
     {
         let text = self.rest?;
-        match split_once(b' ', text) {
+        match split_near(b' ', text) {
             Some((word, after)) => {
                 self.rest = Some(after);
                 Some(word)

@@ -7,5 +7,5 @@ use Rattle.mari_lines.proofs.reading.lists.read_mws.Goals as goal
 
 pub returns-in_err-mw : goal.returns-in_err-mw
 returns-in_err-mw c =
-    begun_unread (λ mw. mw ≤ 99999) decimal 0 4608 c.loop-word.mws.items c.in-Some.word.now c.loop-word.words c.next_word.new.self c.args.words.now _ c.from_residual.result c.loop-word.invariant c.in-Some.ensures
-    (part_unread _ decimal c.in-Some.word.now (λ mw. mw ≤ 99999) decimal c.in-Some.word.now _ c.in_err-mw.ensures (λ mw le e. (mw, (omega arith, le), e))) (err_from_is_err_and c.from_residual.result c.from_residual.ensures.1)
+    begun_unread (λ mw. mw ≤ 99999) decimal 0 4608 c.loop-word.mws.items c.in-Some.word.now c.loop-word.words c.next_word.new.self c.args.words.now _ c.from_residual-in_err-mw.result c.loop-word.invariant c.in-Some.ensures
+    (part_unread _ decimal c.in-Some.word.now (λ mw. mw ≤ 99999) decimal c.in-Some.word.now _ c.in_err-mw.ensures (λ mw le e. (mw, (omega arith, le), e))) (err_from_is_err_and c.from_residual-in_err-mw.result c.from_residual-in_err-mw.ensures.1)

@@ -1,12 +1,8 @@
-use Rattle.std.proofs.Common.{pos, arith}
-use Rattle.std.specs.Fmt.{decimal, signed_decimal}
-use Rattle.std.proofs.lemmas.Int.{ints}
-use Rattle.std.proofs.lemmas.Result.{err_from_is_err_and}
-use Rattle.mari_lines.specs.Ranges.{Between}
-use Rattle.mari_lines.proofs.NotRead.{handed_on}
+use Rattle.std.proofs.Common.{sym, ◌∙◌, arith}
+use Rattle.std.proofs.lemmas.Fmt.{decimal_injective}
 use Rattle.mari_lines.proofs.reading.number.read_number.Goals as goal
 
-pub returns-in_err-value : goal.returns-in_err-value
-returns-in_err-value c =
-    handed_on _ signed_decimal c.args.text.now (Between c.args.least c.args.greatest) decimal c.args.text.now _ c.from_residual.result
-    (err_from_is_err_and c.from_residual.result c.from_residual.ensures.1) c.in_err-value.ensures (λ n r e. (pos n, (omega (arith, ints), omega (arith, ints)), e))
+pub returns-then-number-least : goal.returns-then-number-least
+returns-then-number-least c = λ n r e.
+    let same = decimal_injective n c.in-Some.number (omega arith) (omega arith) (e ∙ sym c.in-Some.ensures.1) in
+    omega (arith, same, r.0, c.if-number-least.true)

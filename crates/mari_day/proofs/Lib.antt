@@ -11,6 +11,7 @@ pub mod Days
 pub mod Progressing
 pub mod Keeping
 pub mod Enough
+pub mod Facts
 pub mod Texts
 pub mod Migrated
 pub mod MigratedFolder

@@ -5,7 +5,7 @@ use Rattle.mari_units.specs.declared.limits.TheConstants.{MOST_PAGE}
 use Rattle.mari_io.specs.Outside.{Pages, page_of}
 use Rattle.mari_zones.specs.Borders.{version_in}
 use Rattle.mari_day.specs.declared.files.File.{File}
-use Rattle.mari_day.specs.declared.files.TheConstants.{PUBLICATION}
+use Rattle.mari_day.specs.declared.files.TheConstants.{BLOCKS, PUBLICATION}
 use Rattle.mari_day.specs.declared.files.File.TheVariants.{Day, Zones, Borders, Bids, Links, Runs, Demands, Limits}
 
 -- a file's name in its folder
@@ -41,13 +41,14 @@ file_number Runs = 6
 file_number Demands = 7
 file_number Limits = 9
 
--- the number of a file, which a market file or the publication has
+-- the number of a file, which a market file, the publication or the file of blocks has
 abbrev pub IsNamed : ℕ → Type 0
-IsNamed number = (1 ≤ number) × (number ≤ file_number Limits)
+IsNamed number = (1 ≤ number) × (number ≤ BLOCKS)
 
 -- the number of a market file
 pub record IsFileNumber (number : ℕ) : Type 0 where
-  pub named : IsNamed number
+  pub from_one : 1 ≤ number
+  pub to_last : number ≤ file_number Limits
   pub other : number ≢ PUBLICATION
 
 -- the market file of a number, if it is that of one
@@ -78,7 +79,7 @@ name_or_publication None = codes "publication.txt"
 
 -- the name of the file of a number
 abbrev pub file_named : ℕ → List ℕ
-file_named number = name_or_publication (file_with number)
+file_named number = if number == BLOCKS then codes "blocks.csv" else name_or_publication (file_with number)
 
 -- a file's page among the pages of its folder
 abbrev pub page_among : List (List ℕ) → File → List ℕ

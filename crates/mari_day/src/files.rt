@@ -41,6 +41,10 @@ pub const FILES: [File; 7] = [
 /// The number of the publication among the files of a folder. It is no market file.
 pub const PUBLICATION: u8 = 8;
 
+/// The number of blocks.csv, of blocks of bids over several quarter hours. Only the command that clears these reads it,
+/// so it is no market file.
+pub const BLOCKS: u8 = 10;
+
 impl File {
     /// The file's name in its folder.
     pub fn name(self) -> &'static str
@@ -113,11 +117,14 @@ pub fn path_in(alloc: Global, folder: &str, name: &str) -> Result<String, Memory
     Ok(path)
 }
 
-/// The name of the file of a number, from 1: of a market file, or of the publication.
+/// The name of the file of a number, from 1: of a market file, of the publication, or of the blocks.
 pub fn file_name(number: u8) -> &'static str
     requires { IsNamed number }
     ensures { result.now ≡ file_named number }
 {
+    if number == BLOCKS {
+        return "blocks.csv";
+    }
     match File::with_number(number) {
         Some(file) => file.name(),
         None => "publication.txt",

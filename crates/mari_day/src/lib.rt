@@ -18,7 +18,7 @@ mod text;
 pub use block::{PublishedRun, published_run};
 pub use calendar_page::DateCheck;
 pub use day::{DayEnd, run_day};
-pub use files::{File, PUBLICATION, file_name, path_in};
+pub use files::{BLOCKS, File, PUBLICATION, file_name, path_in};
 pub use laws::{days_keep, migration_keeps_days};
 pub use mari_io::write_all;
 pub use reading::{BooksFault, read_books};

@@ -9,7 +9,7 @@ use Rattle.mari_words.specs.Given.{asked_by, asked_in, given_of}
 use Rattle.mari_words.specs.Line.{line}
 use Rattle.mari_words.specs.Seen.{Text}
 use Rattle.mari_words.specs.Words.{Given, Verb, asked_for, command_at, given_by, verb_named}
-use Rattle.mari_words.specs.Words.Verb.{Clears, Checks, Generates, Migrates, Feeds}
+use Rattle.mari_words.specs.Words.Verb.{Clears, Checks, Generates, Migrates, Feeds, Splits, Joins, Values}
 use Rattle.mari_words.proofs.Keys.{filled_not, rules}
 use Rattle.mari_words.proofs.Sorts.{Sort}
 use Rattle.mari_words.proofs.Sorts.Sort.{dashes, named, plain, short}
@@ -37,17 +37,24 @@ rest_passes name [] seen = refl
 rest_passes name (word ∷ words) seen = rest_passes name words (seen ++ word ∷ [])
 
 met_as : (name : Text) → subcommand_met names waits.idle name ≡ option_map name_of (verb_named name)
-met_as name = go (bytes_eq (codes "clear") name) (bytes_eq (codes "check") name) (bytes_eq (codes "generate") name) (bytes_eq (codes "migrate") name) (bytes_eq (codes "feed") name) refl refl refl refl refl
+met_as name =
+    go (bytes_eq (codes "clear") name) (bytes_eq (codes "check") name) (bytes_eq (codes "generate") name) (bytes_eq (codes "migrate") name)
+    (bytes_eq (codes "feed") name) (bytes_eq (codes "split") name) (bytes_eq (codes "blocks") name) (bytes_eq (codes "value") name)
+    refl refl refl refl refl refl refl refl
   where
-    go : (a b c d e : Bool)
-        → bytes_eq (codes "clear") name ≡ a → bytes_eq (codes "check") name ≡ b → bytes_eq (codes "generate") name ≡ c → bytes_eq (codes "migrate") name ≡ d → bytes_eq (codes "feed") name ≡ e
+    go : (a b c d e f g h : Bool)
+        → bytes_eq (codes "clear") name ≡ a → bytes_eq (codes "check") name ≡ b → bytes_eq (codes "generate") name ≡ c → bytes_eq (codes "migrate") name ≡ d
+        → bytes_eq (codes "feed") name ≡ e → bytes_eq (codes "split") name ≡ f → bytes_eq (codes "blocks") name ≡ g → bytes_eq (codes "value") name ≡ h
         → subcommand_met names waits.idle name ≡ option_map name_of (verb_named name)
-    go true b c d e p q r s t = rw p refl
-    go false true c d e p q r s t = rw (p, q) refl
-    go false false true d e p q r s t = rw (p, q, r) refl
-    go false false false true e p q r s t = rw (p, q, r, s) refl
-    go false false false false true p q r s t = rw (p, q, r, s, t) refl
-    go false false false false false p q r s t = rw (p, q, r, s, t) refl
+    go true b c d e f g h p q r s t u v w = rw p refl
+    go false true c d e f g h p q r s t u v w = rw (p, q) refl
+    go false false true d e f g h p q r s t u v w = rw (p, q, r) refl
+    go false false false true e f g h p q r s t u v w = rw (p, q, r, s) refl
+    go false false false false true f g h p q r s t u v w = rw (p, q, r, s, t) refl
+    go false false false false false true g h p q r s t u v w = rw (p, q, r, s, t, u) refl
+    go false false false false false false true h p q r s t u v w = rw (p, q, r, s, t, u, v) refl
+    go false false false false false false false true p q r s t u v w = rw (p, q, r, s, t, u, v, w) refl
+    go false false false false false false false false p q r s t u v w = rw (p, q, r, s, t, u, v, w) refl
 
 -- ---- a subcommand's name
 
@@ -57,6 +64,9 @@ first_passes Checks name m = rw m refl
 first_passes Generates name m = rw m refl
 first_passes Migrates name m = rw m refl
 first_passes Feeds name m = rw m refl
+first_passes Splits name m = rw m refl
+first_passes Joins name m = rw m refl
+first_passes Values name m = rw m refl
 
 first_met : (verb : Verb) (name : Text) → subcommand_met names waits.idle name ≡ Some (name_of verb) → walked [] names (walk_from nothing_held) name ≡ met (name_of verb) []
 unfolding walked
@@ -82,6 +92,9 @@ total_met Checks rest = or_none _
 total_met Generates rest = or_none _
 total_met Migrates rest = or_none _
 total_met Feeds rest = or_none _
+total_met Splits rest = or_none _
+total_met Joins rest = or_none _
+total_met Values rest = or_none _
 
 module _ (verb : Verb) (name : Text) (rest : List Text) (is : verb_named name ≡ Some verb) where
   name_met : subcommand_met names waits.idle name ≡ Some (name_of verb)
@@ -108,6 +121,9 @@ module _ (verb : Verb) (name : Text) (rest : List Text) (is : verb_named name �
       entered_is Generates = refl
       entered_is Migrates = refl
       entered_is Feeds = refl
+      entered_is Splits = refl
+      entered_is Joins = refl
+      entered_is Values = refl
 
 -- ---- any other first word
 
@@ -135,6 +151,9 @@ named_verb Checks rows = refl
 named_verb Generates rows = refl
 named_verb Migrates rows = refl
 named_verb Feeds rows = refl
+named_verb Splits rows = refl
+named_verb Joins rows = refl
+named_verb Values rows = refl
 
 pub agrees : (words : List Text) → Spelled words → Agrees words
 agrees [] sp = record { taken = λ h. absurd (no_words h); refused = λ h. refl }

@@ -5,10 +5,10 @@ use Rattle.clap.specs.Faults.{check_fault, default_fault, defaults_fault, level_
 use Rattle.clap.specs.Takes.{is_given}
 use Rattle.mari_words.specs.Seen.{Choice, Seen, Text, nothing, seen_from, whole}
 use Rattle.mari_words.specs.Words.{Given, Verb, form_of, given_by, given_in}
-use Rattle.mari_words.specs.Words.Verb.{Clears, Checks, Generates, Migrates, Feeds}
+use Rattle.mari_words.specs.Words.Verb.{Clears, Checks, Generates, Migrates, Feeds, Splits, Joins, Values}
 use Rattle.mari_words.specs.Given.{given_of}
 use Rattle.mari_words.proofs.Keys.{Finds, Key, filled_not, held, id, key_of, keys, row, rule, rules}
-use Rattle.mari_words.proofs.Keys.Key.{First, Second, Nodes, Workers}
+use Rattle.mari_words.proofs.Keys.Key.{First, Second, Third, Nodes, Workers}
 use Rattle.mari_words.proofs.Steps.{Follows, Spelled, State, at, leaf, none_both, none_first, none_second, values}
 use Rattle.mari_words.proofs.Turns.{Pending, mk, no_value}
 use Rattle.mari_words.proofs.Walks.{Walks, walks}
@@ -19,6 +19,8 @@ default_passes First rows true e = (rw e refl, rw e refl)
 default_passes First rows false e = (rw e refl, rw e refl)
 default_passes Second rows true e = (rw e refl, rw e refl)
 default_passes Second rows false e = (rw e refl, rw e refl)
+default_passes Third rows true e = (rw e refl, rw e refl)
+default_passes Third rows false e = (rw e refl, rw e refl)
 default_passes Nodes rows true e = (rw e refl, rw e refl)
 default_passes Nodes rows false e = (rw e refl, rw e refl)
 default_passes Workers rows true e = (rw e refl, rw e refl)
@@ -52,10 +54,23 @@ module _ (rows : List Row) (o : Key → Option Text) (f : Finds rows o) where
   none_given Generates e h = filled_not h (rw (given_is First None e) refl)
   none_given Migrates e h = filled_not h (rw (given_is First None e) refl)
   none_given Feeds e h = filled_not h (rw (given_is First None e) refl)
+  none_given Splits e h = filled_not h (rw (given_is First None e) refl)
+  none_given Joins e h = filled_not h (rw (given_is First None e) refl)
+  none_given Values e h = filled_not h (rw (given_is First None e) refl)
 
-  -- one word of two
+  -- one word of more
   migrate_one : (t : Text) → o First ≡ Some t → o Second ≡ None → check_fault (leaf Migrates) rows false ≡ [] → ⊥
   migrate_one t e n h = filled_not h (rw (given_is First (Some t) e, given_is Second None n) refl)
+
+  blocks_one : (t : Text) → o First ≡ Some t → o Second ≡ None → check_fault (leaf Joins) rows false ≡ [] → ⊥
+  blocks_one t e n h = filled_not h (rw (given_is First (Some t) e, given_is Second None n) refl)
+
+  value_one : (t : Text) → o First ≡ Some t → o Second ≡ None → check_fault (leaf Values) rows false ≡ [] → ⊥
+  value_one t e n h = filled_not h (rw (given_is First (Some t) e, given_is Second None n) refl)
+
+  -- two words of three
+  blocks_two : (t u : Text) → o First ≡ Some t → o Second ≡ Some u → o Third ≡ None → check_fault (leaf Joins) rows false ≡ [] → ⊥
+  blocks_two t u e n f h = filled_not h (rw (given_is First (Some t) e, given_is Second (Some u) n, given_is Third None f) refl)
 
   -- all words
   clear_given : (t : Text) → o First ≡ Some t → check_fault (leaf Clears) rows false ≡ []
@@ -70,8 +85,17 @@ module _ (rows : List Row) (o : Key → Option Text) (f : Finds rows o) where
   feed_given : (t : Text) → o First ≡ Some t → check_fault (leaf Feeds) rows false ≡ []
   feed_given t e = rw (given_is First (Some t) e) refl
 
+  split_given : (t : Text) → o First ≡ Some t → check_fault (leaf Splits) rows false ≡ []
+  split_given t e = rw (given_is First (Some t) e) refl
+
   migrate_given : (t u : Text) → o First ≡ Some t → o Second ≡ Some u → check_fault (leaf Migrates) rows false ≡ []
   migrate_given t u e n = rw (given_is First (Some t) e, given_is Second (Some u) n) refl
+
+  value_given : (t u : Text) → o First ≡ Some t → o Second ≡ Some u → check_fault (leaf Values) rows false ≡ []
+  value_given t u e n = rw (given_is First (Some t) e, given_is Second (Some u) n) refl
+
+  blocks_given : (t u v : Text) → o First ≡ Some t → o Second ≡ Some u → o Third ≡ Some v → check_fault (leaf Joins) rows false ≡ []
+  blocks_given t u v e n f = rw (given_is First (Some t) e, given_is Second (Some u) n, given_is Third (Some v) f) refl
 
 -- ---- where the walk ends
 
@@ -93,6 +117,7 @@ module _ (verb : Verb) (rows : List Row) (pending : Pending) (words : List Text)
   same_given f = λ i. record {
     first = reads now (values s) f First (slice_get words 0) refl i;
     second = reads now (values s) f Second (slice_get words 1) refl i;
+    third = reads now (values s) f Third (slice_get words 2) refl i;
     nodes = reads now (values s) f Nodes nodes refl i;
     workers = reads now (values s) f Workers workers refl i;
   }
@@ -120,10 +145,22 @@ ends_open Generates rows pending (t ∷ u ∷ more) n w end few st = absurd (ome
 ends_open Feeds rows pending [] n w end few st = few_words Feeds rows pending [] n w end (none_given _ (values (mk [] n w None end)) st.1 Feeds refl)
 ends_open Feeds rows pending (t ∷ []) n w end few st = all_words Feeds rows pending (t ∷ []) n w end st (feed_given _ (values (mk (t ∷ []) n w None end)) st.1 t refl)
 ends_open Feeds rows pending (t ∷ u ∷ more) n w end few st = absurd (omega (arith, few))
+ends_open Splits rows pending [] n w end few st = few_words Splits rows pending [] n w end (none_given _ (values (mk [] n w None end)) st.1 Splits refl)
+ends_open Splits rows pending (t ∷ []) n w end few st = all_words Splits rows pending (t ∷ []) n w end st (split_given _ (values (mk (t ∷ []) n w None end)) st.1 t refl)
+ends_open Splits rows pending (t ∷ u ∷ more) n w end few st = absurd (omega (arith, few))
 ends_open Migrates rows pending [] n w end few st = few_words Migrates rows pending [] n w end (none_given _ (values (mk [] n w None end)) st.1 Migrates refl)
 ends_open Migrates rows pending (t ∷ []) n w end few st = few_words Migrates rows pending (t ∷ []) n w end (migrate_one _ (values (mk (t ∷ []) n w None end)) st.1 t refl refl)
 ends_open Migrates rows pending (t ∷ u ∷ []) n w end few st = all_words Migrates rows pending (t ∷ u ∷ []) n w end st (migrate_given _ (values (mk (t ∷ u ∷ []) n w None end)) st.1 t u refl refl)
 ends_open Migrates rows pending (t ∷ u ∷ v ∷ more) n w end few st = absurd (omega (arith, few))
+ends_open Values rows pending [] n w end few st = few_words Values rows pending [] n w end (none_given _ (values (mk [] n w None end)) st.1 Values refl)
+ends_open Values rows pending (t ∷ []) n w end few st = few_words Values rows pending (t ∷ []) n w end (value_one _ (values (mk (t ∷ []) n w None end)) st.1 t refl refl)
+ends_open Values rows pending (t ∷ u ∷ []) n w end few st = all_words Values rows pending (t ∷ u ∷ []) n w end st (value_given _ (values (mk (t ∷ u ∷ []) n w None end)) st.1 t u refl refl)
+ends_open Values rows pending (t ∷ u ∷ v ∷ more) n w end few st = absurd (omega (arith, few))
+ends_open Joins rows pending [] n w end few st = few_words Joins rows pending [] n w end (none_given _ (values (mk [] n w None end)) st.1 Joins refl)
+ends_open Joins rows pending (t ∷ []) n w end few st = few_words Joins rows pending (t ∷ []) n w end (blocks_one _ (values (mk (t ∷ []) n w None end)) st.1 t refl refl)
+ends_open Joins rows pending (t ∷ u ∷ []) n w end few st = few_words Joins rows pending (t ∷ u ∷ []) n w end (blocks_two _ (values (mk (t ∷ u ∷ []) n w None end)) st.1 t u refl refl refl)
+ends_open Joins rows pending (t ∷ u ∷ v ∷ []) n w end few st = all_words Joins rows pending (t ∷ u ∷ v ∷ []) n w end st (blocks_given _ (values (mk (t ∷ u ∷ v ∷ []) n w None end)) st.1 t u v refl refl refl)
+ends_open Joins rows pending (t ∷ u ∷ v ∷ x ∷ more) n w end few st = absurd (omega (arith, few))
 
 ends_at : (verb : Verb) (rows : List Row) (pending : Pending) (words : List Text) (nodes workers : Option Text) (wait : Option Choice) (end : Bool)
     → length words ≤ (form_of verb).words → State verb rows pending (mk words nodes workers wait end) wait
@@ -152,6 +189,7 @@ begins verb = record { rows = []; pending = None; is = refl; few = least verb; s
     none : Finds [] (values nothing)
     none First = refl
     none Second = refl
+    none Third = refl
     none Nodes = refl
     none Workers = refl
 

@@ -8,17 +8,19 @@ use Rattle.mari_words.specs.Line.{option_rule, required_word}
 use Rattle.mari_words.specs.Seen.{Choice, Text}
 use Rattle.mari_words.specs.Seen.{Choice as choice}
 use Rattle.mari_words.specs.Words.{Verb}
-use Rattle.mari_words.specs.Words.Verb.{Clears, Checks, Generates, Migrates, Feeds}
+use Rattle.mari_words.specs.Words.Verb.{Clears, Checks, Generates, Migrates, Feeds, Splits, Joins, Values}
 
 pub data Key : Type 0 where
   First : Key
   Second : Key
+  Third : Key
   Nodes : Key
   Workers : Key
 
 abbrev pub id : Key → Text
 id First = codes "first"
 id Second = codes "second"
+id Third = codes "third"
 id Nodes = codes "nodes"
 id Workers = codes "workers"
 
@@ -26,6 +28,7 @@ id Workers = codes "workers"
 abbrev pub rule : Key → Rule
 rule First = with_index 1 (filled (required_word (codes "first")))
 rule Second = with_index 2 (filled (required_word (codes "second")))
+rule Third = with_index 3 (filled (required_word (codes "third")))
 rule Nodes = filled (option_rule (codes "nodes"))
 rule Workers = filled (option_rule (codes "workers"))
 
@@ -35,6 +38,9 @@ keys Checks = First ∷ []
 keys Generates = First ∷ []
 keys Migrates = First ∷ Second ∷ []
 keys Feeds = First ∷ []
+keys Splits = First ∷ Nodes ∷ Workers ∷ []
+keys Joins = First ∷ Second ∷ Third ∷ Nodes ∷ Workers ∷ []
+keys Values = First ∷ Second ∷ []
 
 abbrev pub rules : Verb → List Rule
 rules verb = map rule (keys verb)
@@ -123,6 +129,7 @@ placed name change last rows n =
 used_last : (k : Key) (text : Text) (rows : List Row) → found (id k) rows ≡ None → used (rule k) (text ∷ []) rows ≡ rows ++ row k text ∷ []
 used_last First text rows n = placed (codes "first") (more_values CommandLine (text ∷ [])) (row First text) rows n
 used_last Second text rows n = placed (codes "second") (more_values CommandLine (text ∷ [])) (row Second text) rows n
+used_last Third text rows n = placed (codes "third") (more_values CommandLine (text ∷ [])) (row Third text) rows n
 used_last Nodes text rows n = placed (codes "nodes") (more_values CommandLine (text ∷ [])) (row Nodes text) rows n
 used_last Workers text rows n = placed (codes "workers") (more_values CommandLine (text ∷ [])) (row Workers text) rows n
 
@@ -130,6 +137,7 @@ used_last Workers text rows n = placed (codes "workers") (more_values CommandLin
 first_use : (k : Key) (text : Text) (rows : List Row) → has_row (id k) rows ≡ false → use_fault false (rule k) (text ∷ []) rows ≡ []
 first_use First text rows e = rw e refl
 first_use Second text rows e = rw e refl
+first_use Third text rows e = rw e refl
 first_use Nodes text rows e = rw e refl
 first_use Workers text rows e = rw e refl
 
@@ -137,6 +145,7 @@ first_use Workers text rows e = rw e refl
 second_use : (k : Key) (text : Text) (rows : List Row) → has_row (id k) rows ≡ true → use_fault false (rule k) (text ∷ []) rows ≡ [] → ⊥
 second_use First text rows y n = filled_not n (rw y refl)
 second_use Second text rows y n = filled_not n (rw y refl)
+second_use Third text rows y n = filled_not n (rw y refl)
 second_use Nodes text rows y n = filled_not n (rw y refl)
 second_use Workers text rows y n = filled_not n (rw y refl)
 
@@ -144,24 +153,34 @@ second_use Workers text rows y n = filled_not n (rw y refl)
 pub empty_use : (k : Key) (rows : List Row) → use_fault false (rule k) [] rows ≡ [] → ⊥
 empty_use First rows n = filled_not n refl
 empty_use Second rows n = filled_not n refl
+empty_use Third rows n = filled_not n refl
 empty_use Nodes rows n = filled_not n refl
 empty_use Workers rows n = filled_not n refl
 
 same_key : (a b : Key) → bytes_eq (id a) (id b) ≡ true → a ≡ b
 same_key First First h = refl
 same_key First Second h = absurd (true≢false (sym h))
+same_key First Third h = absurd (true≢false (sym h))
 same_key First Nodes h = absurd (true≢false (sym h))
 same_key First Workers h = absurd (true≢false (sym h))
 same_key Second First h = absurd (true≢false (sym h))
 same_key Second Second h = refl
+same_key Second Third h = absurd (true≢false (sym h))
 same_key Second Nodes h = absurd (true≢false (sym h))
 same_key Second Workers h = absurd (true≢false (sym h))
+same_key Third First h = absurd (true≢false (sym h))
+same_key Third Second h = absurd (true≢false (sym h))
+same_key Third Third h = refl
+same_key Third Nodes h = absurd (true≢false (sym h))
+same_key Third Workers h = absurd (true≢false (sym h))
 same_key Nodes First h = absurd (true≢false (sym h))
 same_key Nodes Second h = absurd (true≢false (sym h))
+same_key Nodes Third h = absurd (true≢false (sym h))
 same_key Nodes Nodes h = refl
 same_key Nodes Workers h = absurd (true≢false (sym h))
 same_key Workers First h = absurd (true≢false (sym h))
 same_key Workers Second h = absurd (true≢false (sym h))
+same_key Workers Third h = absurd (true≢false (sym h))
 same_key Workers Nodes h = absurd (true≢false (sym h))
 same_key Workers Workers h = refl
 

@@ -12,9 +12,9 @@ use Rattle.clap.specs.Faults.{bundle_fault, flags_fault, long_fault, settle_faul
 use Rattle.mari_words.specs.Seen.{Choice, Seen, Text, choice_named, choice_of}
 use Rattle.mari_words.specs.Seen.{Choice as choice}
 use Rattle.mari_words.specs.Words.{Verb, form_of}
-use Rattle.mari_words.specs.Words.Verb.{Clears, Checks, Generates, Migrates, Feeds}
+use Rattle.mari_words.specs.Words.Verb.{Clears, Checks, Generates, Migrates, Feeds, Splits, Joins, Values}
 use Rattle.mari_words.proofs.Keys.{Finds, Key, filled_not, held, id, key_of, rule, rules}
-use Rattle.mari_words.proofs.Keys.Key.{First, Second, Nodes, Workers}
+use Rattle.mari_words.proofs.Keys.Key.{First, Second, Third, Nodes, Workers}
 use Rattle.mari_words.proofs.Sorts.{Sort}
 use Rattle.mari_words.proofs.Sorts.Sort.{dashes, named, plain, short}
 
@@ -24,6 +24,9 @@ name_of Checks = codes "check"
 name_of Generates = codes "generate"
 name_of Migrates = codes "migrate"
 name_of Feeds = codes "feed"
+name_of Splits = codes "split"
+name_of Joins = codes "blocks"
+name_of Values = codes "value"
 
 -- the subcommand, as the command line is built
 abbrev pub leaf : Verb → Shape
@@ -39,6 +42,7 @@ leaf verb = record (new_shape (name_of verb)) {
 abbrev pub values : Seen → Key → Option Text
 values s First = slice_get s.words 0
 values s Second = slice_get s.words 1
+values s Third = slice_get s.words 2
 values s Nodes = s.nodes
 values s Workers = s.workers
 
@@ -116,6 +120,9 @@ all_single Checks = refl
 all_single Generates = refl
 all_single Migrates = refl
 all_single Feeds = refl
+all_single Splits = refl
+all_single Joins = refl
+all_single Values = refl
 
 pub by_short : (verb : Verb) (x : ℕ) → arg_by_short (rules verb) x ≡ None
 by_short Clears x = refl
@@ -123,6 +130,9 @@ by_short Checks x = refl
 by_short Generates x = refl
 by_short Migrates x = refl
 by_short Feeds x = refl
+by_short Splits x = refl
+by_short Joins x = refl
+by_short Values x = refl
 
 abbrev named_choice : Text → Option Rule
 named_choice name = option_map (λ ch. rule (key_of ch)) (choice_named name)
@@ -141,6 +151,9 @@ by_long Checks name = refl
 by_long Generates name = refl
 by_long Migrates name = refl
 by_long Feeds name = refl
+by_long Splits name = options_by_long name
+by_long Joins name = options_by_long name
+by_long Values name = refl
 
 pub known_choice : (verb : Verb) (name : Text) (ch : Choice) → choice_of (form_of verb) name ≡ Some ch → Known verb (key_of ch)
 known_choice Clears name choice.Nodes e = refl
@@ -149,6 +162,11 @@ known_choice Checks name ch e = absurd (true≢false (sym (ap is_some e)))
 known_choice Generates name ch e = absurd (true≢false (sym (ap is_some e)))
 known_choice Migrates name ch e = absurd (true≢false (sym (ap is_some e)))
 known_choice Feeds name ch e = absurd (true≢false (sym (ap is_some e)))
+known_choice Splits name choice.Nodes e = refl
+known_choice Splits name choice.Workers e = refl
+known_choice Joins name choice.Nodes e = refl
+known_choice Joins name choice.Workers e = refl
+known_choice Values name ch e = absurd (true≢false (sym (ap is_some e)))
 
 pub not_both : {X : Type 0} (b : Bool) (x y : X) → cond (b && false) x y ≡ y
 not_both true x y = refl

@@ -5,9 +5,9 @@ use Rattle.clap.specs.Walk.{Step as step}
 use Rattle.clap.specs.Faults.{settle_fault, step_fault, use_fault}
 use Rattle.mari_words.specs.Seen.{Choice, Seen, Text, with_word}
 use Rattle.mari_words.specs.Words.{Verb, form_of}
-use Rattle.mari_words.specs.Words.Verb.{Clears, Checks, Generates, Migrates, Feeds}
+use Rattle.mari_words.specs.Words.Verb.{Clears, Checks, Generates, Migrates, Feeds, Splits, Joins, Values}
 use Rattle.mari_words.proofs.Keys.{Finds, Key, empty_use, filled_not, held, id, row, rule, rules, upd, use_passes, used_finds}
-use Rattle.mari_words.proofs.Keys.Key.{First, Second, Nodes, Workers}
+use Rattle.mari_words.proofs.Keys.Key.{First, Second, Third, Nodes, Workers}
 use Rattle.mari_words.proofs.Steps.{Follows, Known, State, at, leaf, not_both, values}
 
 abbrev pub Pending : Type 0
@@ -80,6 +80,7 @@ module _ (verb : Verb) (rows : List Row) (pending : Pending) (nodes workers : Op
       value : (j : Key) → values (with_words (word ∷ [])) j ≡ upd First word (values (with_words [])) j
       value First = refl
       value Second = refl
+      value Third = refl
       value Nodes = refl
       value Workers = refl
 
@@ -95,6 +96,7 @@ module _ (verb : Verb) (rows : List Row) (pending : Pending) (nodes workers : Op
       value : (j : Key) → values (with_words (one ∷ word ∷ [])) j ≡ upd Second word (values (with_words (one ∷ []))) j
       value First = refl
       value Second = refl
+      value Third = refl
       value Nodes = refl
       value Workers = refl
 
@@ -102,6 +104,23 @@ module _ (verb : Verb) (rows : List Row) (pending : Pending) (nodes workers : Op
           ≡ at now (Some (id Second, word ∷ [])) (mk (one ∷ word ∷ []) nodes workers None b)
       moved true = rw (not_both (is_pending (rule Second) pending) (held rows pending) (settled (rules verb) (held rows pending))) refl
       moved false = rw (not_both (is_pending (rule Second) pending) (held rows pending) (settled (rules verb) (held rows pending))) refl
+
+  put_third : (one two : Text) → Known verb Third → arg_by_index (rules verb) 3 ≡ Some (rule Third) → 3 ≤ (form_of verb).words
+      → State verb rows pending (with_words (one ∷ two ∷ [])) None
+      → Puts verb rows pending (with_words (one ∷ two ∷ [])) word (Some (with_words (one ∷ two ∷ word ∷ [])))
+  put_third one two known e few st = put Third (one ∷ two ∷ []) (one ∷ two ∷ word ∷ []) known e (passes_at Third 3 refl e st.0) (moved ended) few refl value st
+    where
+      value : (j : Key) → values (with_words (one ∷ two ∷ word ∷ [])) j ≡ upd Third word (values (with_words (one ∷ two ∷ []))) j
+      value First = refl
+      value Second = refl
+      value Third = refl
+      value Nodes = refl
+      value Workers = refl
+
+      moved : (b : Bool) → to_positional (rules verb) (Some (rule Third)) word (at rows pending (mk (one ∷ two ∷ []) nodes workers None b)) (held rows pending)
+          ≡ at now (Some (id Third, word ∷ [])) (mk (one ∷ two ∷ word ∷ []) nodes workers None b)
+      moved true = rw (not_both (is_pending (rule Third) pending) (held rows pending) (settled (rules verb) (held rows pending))) refl
+      moved false = rw (not_both (is_pending (rule Third) pending) (held rows pending) (settled (rules verb) (held rows pending))) refl
 
 pub puts : (verb : Verb) (rows : List Row) (pending : Pending) (words : List Text) (nodes workers : Option Text) (ended : Bool) (word : Text)
     → length words ≤ (form_of verb).words → State verb rows pending (mk words nodes workers None ended) None
@@ -118,10 +137,22 @@ puts Generates rows pending (one ∷ two ∷ more) n w ended word few st = absur
 puts Feeds rows pending [] n w ended word few st = put_first Feeds rows pending n w ended word refl refl (omega arith) st
 puts Feeds rows pending (one ∷ []) n w ended word few st = puts_none Feeds rows pending 2 refl
 puts Feeds rows pending (one ∷ two ∷ more) n w ended word few st = absurd (omega (arith, few))
+puts Splits rows pending [] n w ended word few st = put_first Splits rows pending n w ended word refl refl (omega arith) st
+puts Splits rows pending (one ∷ []) n w ended word few st = puts_none Splits rows pending 2 refl
+puts Splits rows pending (one ∷ two ∷ more) n w ended word few st = absurd (omega (arith, few))
 puts Migrates rows pending [] n w ended word few st = put_first Migrates rows pending n w ended word refl refl (omega arith) st
 puts Migrates rows pending (one ∷ []) n w ended word few st = put_second Migrates rows pending n w ended word one refl refl (omega arith) st
 puts Migrates rows pending (one ∷ two ∷ []) n w ended word few st = puts_none Migrates rows pending 3 refl
 puts Migrates rows pending (one ∷ two ∷ three ∷ more) n w ended word few st = absurd (omega (arith, few))
+puts Values rows pending [] n w ended word few st = put_first Values rows pending n w ended word refl refl (omega arith) st
+puts Values rows pending (one ∷ []) n w ended word few st = put_second Values rows pending n w ended word one refl refl (omega arith) st
+puts Values rows pending (one ∷ two ∷ []) n w ended word few st = puts_none Values rows pending 3 refl
+puts Values rows pending (one ∷ two ∷ three ∷ more) n w ended word few st = absurd (omega (arith, few))
+puts Joins rows pending [] n w ended word few st = put_first Joins rows pending n w ended word refl refl (omega arith) st
+puts Joins rows pending (one ∷ []) n w ended word few st = put_second Joins rows pending n w ended word one refl refl (omega arith) st
+puts Joins rows pending (one ∷ two ∷ []) n w ended word few st = put_third Joins rows pending n w ended word one two refl refl (omega arith) st
+puts Joins rows pending (one ∷ two ∷ three ∷ []) n w ended word few st = puts_none Joins rows pending 4 refl
+puts Joins rows pending (one ∷ two ∷ three ∷ four ∷ more) n w ended word few st = absurd (omega (arith, few))
 
 -- ---- an option with its value
 
@@ -134,6 +165,7 @@ pub with_nodes : (text : Text) (words : List Text) (nodes workers : Option Text)
     → values (mk words (Some text) workers None ended) j ≡ upd Nodes text (values (mk words nodes workers None ended)) j
 with_nodes text words nodes workers ended First = refl
 with_nodes text words nodes workers ended Second = refl
+with_nodes text words nodes workers ended Third = refl
 with_nodes text words nodes workers ended Nodes = refl
 with_nodes text words nodes workers ended Workers = refl
 
@@ -141,5 +173,6 @@ pub with_workers : (text : Text) (words : List Text) (nodes workers : Option Tex
     → values (mk words nodes (Some text) None ended) j ≡ upd Workers text (values (mk words nodes workers None ended)) j
 with_workers text words nodes workers ended First = refl
 with_workers text words nodes workers ended Second = refl
+with_workers text words nodes workers ended Third = refl
 with_workers text words nodes workers ended Nodes = refl
 with_workers text words nodes workers ended Workers = refl

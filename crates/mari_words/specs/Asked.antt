@@ -7,13 +7,19 @@ use Rattle.mari_words.specs.declared.asking.Asked.{Asked as Lent}
 use Rattle.mari_words.specs.declared.asking.Asked.TheVariants as lent
 
 -- a folder to clear, with how many nodes each run's search may make and how many workers; a folder to check; the number
--- of a generated day; a folder of which a file's new form is printed; and a folder whose publication is printed as JSON
+-- of a generated day; a folder of which a file's new form is printed; a folder whose publication is printed as JSON; a
+-- folder to clear island by island, with how many nodes each island's search may make and how many workers; a folder of
+-- whose quarter hours those from a first to a last one are cleared as one market, with how many nodes and workers; and a
+-- folder of whose borders it is printed what so many MW more on each limit are worth
 pub data Asked : Type 0 where
   Clear : (folder : List ℕ) (nodes workers : ℕ) → Asked
   Check : (folder : List ℕ) → Asked
   Generate : (number : ℕ) → Asked
   Migrate : (folder : List ℕ) (part : FilePart) → Asked
   Feed : (folder : List ℕ) → Asked
+  Split : (folder : List ℕ) (nodes workers : ℕ) → Asked
+  Blocks : (folder : List ℕ) (first last nodes workers : ℕ) → Asked
+  Value : (folder : List ℕ) (more : ℕ) → Asked
 
 -- the same, of a command
 abbrev pub asked : Command → Asked
@@ -22,6 +28,9 @@ asked (owned.Check folder) = Asked.Check (string_bytes folder)
 asked (owned.Generate number) = Asked.Generate number
 asked (owned.Migrate folder part) = Asked.Migrate (string_bytes folder) part
 asked (owned.Feed folder) = Asked.Feed (string_bytes folder)
+asked (owned.Split folder nodes workers) = Asked.Split (string_bytes folder) nodes workers
+asked (owned.Blocks folder first last nodes workers) = Asked.Blocks (string_bytes folder) first last nodes workers
+asked (owned.Value folder more) = Asked.Value (string_bytes folder) more
 
 -- the same, where the folder is lent
 abbrev pub lent_asked : Lent → Asked
@@ -30,3 +39,6 @@ lent_asked (lent.Check folder) = Asked.Check folder.now
 lent_asked (lent.Generate number) = Asked.Generate number
 lent_asked (lent.Migrate folder part) = Asked.Migrate folder.now part
 lent_asked (lent.Feed folder) = Asked.Feed folder.now
+lent_asked (lent.Split folder nodes workers) = Asked.Split folder.now nodes workers
+lent_asked (lent.Blocks folder first last nodes workers) = Asked.Blocks folder.now first last nodes workers
+lent_asked (lent.Value folder more) = Asked.Value folder.now more

@@ -9,6 +9,7 @@ abbrev pub given_of : List Row → Given
 given_of rows = record {
   first = first_of (codes "first") rows;
   second = first_of (codes "second") rows;
+  third = first_of (codes "third") rows;
   nodes = first_of (codes "nodes") rows;
   workers = first_of (codes "workers") rows;
 }

@@ -19,6 +19,9 @@ one_word name = with_rule (new_app name) (required_word (codes "first"))
 abbrev pub two_words : Text → App
 two_words name = with_rule (one_word name) (required_word (codes "second"))
 
+abbrev pub three_words : Text → App
+three_words name = with_rule (two_words name) (required_word (codes "third"))
+
 -- the options behind the words
 abbrev pub with_options : App → App
 with_options app = with_rule (with_rule app (option_rule (codes "nodes"))) (option_rule (codes "workers"))
@@ -44,8 +47,14 @@ line =
     (with_subcommand
     (with_subcommand
     (with_subcommand
+    (with_subcommand
+    (with_subcommand
+    (with_subcommand
     (with_subcommand bare_line (with_options (one_word (codes "clear"))).top)
     (one_word (codes "check")).top)
     (one_word (codes "generate")).top)
     (two_words (codes "migrate")).top)
-    (one_word (codes "feed")).top
+    (one_word (codes "feed")).top)
+    (with_options (one_word (codes "split"))).top)
+    (with_options (three_words (codes "blocks"))).top)
+    (two_words (codes "value")).top

@@ -9,10 +9,10 @@ use Rattle.mari_words.specs.declared.command.FilePart.{FilePart}
 use Rattle.mari_words.specs.declared.command.FilePart.TheVariants.{Borders, Limits}
 use Rattle.mari_words.specs.declared.command.WordsFault.{WordsFault}
 use Rattle.mari_words.specs.declared.command.WordsFault.TheVariants.{Usage, Memory}
-use Rattle.mari_units.specs.declared.limits.TheConstants.{LAST_NUMBER, MOST_NODES, MOST_WORKERS}
+use Rattle.mari_units.specs.declared.limits.TheConstants.{LAST_NUMBER, MOST_NODES, MOST_QUARTERS, MOST_RAISE, MOST_WORKERS}
 use Rattle.mari_words.specs.declared.command.TheConstants.{USUAL_NODES, USUAL_WORKERS}
 use Rattle.mari_words.specs.Asked.{Asked, asked}
-use Rattle.mari_words.specs.Asked.Asked.{Clear, Check, Generate, Migrate, Feed}
+use Rattle.mari_words.specs.Asked.Asked.{Clear, Check, Generate, Migrate, Feed, Split, Blocks, Value}
 use Rattle.mari_words.specs.Seen.{Form, Seen, Text, nothing, seen_from, whole}
 
 -- a folder's word: neither empty nor a dash alone
@@ -40,6 +40,9 @@ pub data Verb : Type 0 where
   Generates : Verb
   Migrates : Verb
   Feeds : Verb
+  Splits : Verb
+  Joins : Verb
+  Values : Verb
 
 abbrev pub verb_named : Text → Option Verb
 verb_named name =
@@ -47,7 +50,10 @@ verb_named name =
     else (if bytes_eq (codes "check") name then Some Checks
     else (if bytes_eq (codes "generate") name then Some Generates
     else (if bytes_eq (codes "migrate") name then Some Migrates
-    else (if bytes_eq (codes "feed") name then Some Feeds else None))))
+    else (if bytes_eq (codes "feed") name then Some Feeds
+    else (if bytes_eq (codes "split") name then Some Splits
+    else (if bytes_eq (codes "blocks") name then Some Joins
+    else (if bytes_eq (codes "value") name then Some Values else None)))))))
 
 -- how many words stand behind the command's name, and whether options do
 abbrev pub form_of : Verb → Form
@@ -56,16 +62,26 @@ form_of Checks = record { words = 1; has_options = false }
 form_of Generates = record { words = 1; has_options = false }
 form_of Migrates = record { words = 2; has_options = false }
 form_of Feeds = record { words = 1; has_options = false }
+form_of Splits = record { words = 1; has_options = true }
+form_of Joins = record { words = 3; has_options = true }
+form_of Values = record { words = 2; has_options = false }
 
 -- the words that belong to no option, and the options' values
 pub record Given : Type 0 where
   pub first : Option Text
   pub second : Option Text
+  pub third : Option Text
   pub nodes : Option Text
   pub workers : Option Text
 
 abbrev pub given_in : Seen → Given
-given_in seen = record { first = slice_get seen.words 0; second = slice_get seen.words 1; nodes = seen.nodes; workers = seen.workers }
+given_in seen = record {
+  first = slice_get seen.words 0;
+  second = slice_get seen.words 1;
+  third = slice_get seen.words 2;
+  nodes = seen.nodes;
+  workers = seen.workers;
+}
 
 abbrev pub nodes_in : Given → Option ℕ
 nodes_in given = number_or USUAL_NODES 1 MOST_NODES given.nodes
@@ -74,7 +90,8 @@ abbrev pub workers_in : Given → Option ℕ
 workers_in given = number_or USUAL_WORKERS 1 MOST_WORKERS given.workers
 
 -- `clear FOLDER [--nodes N] [--workers K]`, `check FOLDER`, `generate NUMBER`, `migrate FOLDER borders`,
--- `migrate FOLDER limits` or `feed FOLDER`
+-- `migrate FOLDER limits`, `feed FOLDER`, `split FOLDER [--nodes N] [--workers K]`,
+-- `blocks FOLDER FIRST LAST [--nodes N] [--workers K]` or `value FOLDER K`
 abbrev pub asked_for : Verb → Given → Option Asked
 asked_for Clears given = do
   word ← given.first
@@ -100,6 +117,28 @@ asked_for Feeds given = do
   word ← given.first
   folder ← folder_in word
   Some (Feed folder)
+asked_for Splits given = do
+  word ← given.first
+  folder ← folder_in word
+  nodes ← nodes_in given
+  workers ← workers_in given
+  Some (Split folder nodes workers)
+asked_for Joins given = do
+  word ← given.first
+  folder ← folder_in word
+  from ← given.second
+  first ← natural_in 1 MOST_QUARTERS from
+  to ← given.third
+  last ← natural_in first MOST_QUARTERS to
+  nodes ← nodes_in given
+  workers ← workers_in given
+  Some (Blocks folder first last nodes workers)
+asked_for Values given = do
+  word ← given.first
+  folder ← folder_in word
+  text ← given.second
+  more ← natural_in 1 MOST_RAISE text
+  Some (Value folder more)
 
 -- what the words behind a command's name give, if they are of its form
 abbrev pub given_by : Verb → List Text → Option Given

@@ -5,12 +5,12 @@ ghost use Rattle.std.specs.Option.{option_copied};
 ghost use Rattle.clap.specs.Words.{first_of, found_of, rows_of};
 ghost use Rattle.mari_words.specs.Asked.{lent_asked};
 ghost use Rattle.mari_words.specs.Words.{asked_for, folder_in, natural_in, nodes_in, number_or, part_named, workers_in};
-ghost use Rattle.mari_words.specs.Words.Verb.{Clears, Checks, Generates, Migrates, Feeds};
+ghost use Rattle.mari_words.specs.Words.Verb.{Clears, Checks, Generates, Migrates, Feeds, Splits, Joins, Values};
 ghost use Rattle.mari_words.specs.Given.{asked_by, given_of};
 
 use crate::command::{FilePart, USUAL_NODES, USUAL_WORKERS};
 use clap::ArgMatches;
-use mari_units::{LAST_NUMBER, MOST_NODES, MOST_WORKERS, read_mw};
+use mari_units::{LAST_NUMBER, MOST_NODES, MOST_QUARTERS, MOST_RAISE, MOST_WORKERS, read_mw};
 
 /// What words ask for.
 #[derive(Clone, Copy, Debug)]
@@ -32,6 +32,22 @@ pub enum Asked<'a> {
     },
     Feed {
         folder: &'a str,
+    },
+    Split {
+        folder: &'a str,
+        nodes: u32,
+        workers: u32,
+    },
+    Blocks {
+        folder: &'a str,
+        first: u32,
+        last: u32,
+        nodes: u32,
+        workers: u32,
+    },
+    Value {
+        folder: &'a str,
+        more: u32,
     },
 }
 
@@ -149,6 +165,48 @@ fn feed<'a>(found: &ArgMatches<'a>) -> Option<Asked<'a>>
     Some(Asked::Feed { folder })
 }
 
+/// What `split` asks for, if its words are right.
+fn split<'a>(found: &ArgMatches<'a>) -> Option<Asked<'a>>
+    ensures { option_map lent_asked result ≡ asked_for Splits (given_of (rows_of (found_of found.now))) }
+{
+    let folder = folder(text(found, "first")?)?;
+    let nodes = nodes(found)?;
+    let workers = workers(found)?;
+    Some(Asked::Split {
+        folder,
+        nodes,
+        workers,
+    })
+}
+
+/// What `blocks` asks for, if its words are right.
+fn blocks<'a>(found: &ArgMatches<'a>) -> Option<Asked<'a>>
+    ensures { option_map lent_asked result ≡ asked_for Joins (given_of (rows_of (found_of found.now))) }
+{
+    let folder = folder(text(found, "first")?)?;
+    let first = number(1, MOST_QUARTERS, text(found, "second")?.as_bytes())?;
+    let last = number(first, MOST_QUARTERS, text(found, "third")?.as_bytes())?;
+    let nodes = nodes(found)?;
+    let workers = workers(found)?;
+    Some(Asked::Blocks {
+        folder,
+        first,
+        last,
+        nodes,
+        workers,
+    })
+}
+
+/// What `value` asks for, if its words are right.
+fn value<'a>(found: &ArgMatches<'a>) -> Option<Asked<'a>>
+    ensures { option_map lent_asked result ≡ asked_for Values (given_of (rows_of (found_of found.now))) }
+{
+    let folder = folder(text(found, "first")?)?;
+    let word = text(found, "second")?;
+    let more = number(1, MOST_RAISE, word.as_bytes())?;
+    Some(Asked::Value { folder, more })
+}
+
 /// What the command of this name asks for.
 pub fn asked_of<'a>(name: &str, found: &ArgMatches<'a>) -> Option<Asked<'a>>
     ensures { option_map lent_asked result ≡ asked_by name.now (rows_of (found_of found.now)) }
@@ -159,6 +217,9 @@ pub fn asked_of<'a>(name: &str, found: &ArgMatches<'a>) -> Option<Asked<'a>>
         "generate" => generate(found),
         "migrate" => migrate(found),
         "feed" => feed(found),
+        "split" => split(found),
+        "blocks" => blocks(found),
+        "value" => value(found),
         _ => None,
     }
 }

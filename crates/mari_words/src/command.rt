@@ -52,6 +52,26 @@ pub enum Command {
     Feed {
         folder: String,
     },
+    /// `split FOLDER [--nodes N] [--workers K]`: the options of `clear`.
+    Split {
+        folder: String,
+        nodes: u32,
+        workers: u32,
+    },
+    /// `blocks FOLDER FIRST LAST [--nodes N] [--workers K]`: quarter hours from 1 to `MOST_QUARTERS`, the first at most
+    /// the last, and the options of `clear`.
+    Blocks {
+        folder: String,
+        first: u32,
+        last: u32,
+        nodes: u32,
+        workers: u32,
+    },
+    /// `value FOLDER K`: 1 to `MOST_RAISE` MW.
+    Value {
+        folder: String,
+        more: u32,
+    },
 }
 
 /// Why words gave no command: they are none, or there was no memory to keep it.
@@ -85,6 +105,32 @@ fn kept(alloc: Global, lent: Asked<'_>) -> Result<Command, Memory>
         },
         Asked::Feed { folder } => Command::Feed {
             folder: String::from_str(alloc, folder)?,
+        },
+        Asked::Split {
+            folder,
+            nodes,
+            workers,
+        } => Command::Split {
+            folder: String::from_str(alloc, folder)?,
+            nodes,
+            workers,
+        },
+        Asked::Blocks {
+            folder,
+            first,
+            last,
+            nodes,
+            workers,
+        } => Command::Blocks {
+            folder: String::from_str(alloc, folder)?,
+            first,
+            last,
+            nodes,
+            workers,
+        },
+        Asked::Value { folder, more } => Command::Value {
+            folder: String::from_str(alloc, folder)?,
+            more,
         },
     })
 }

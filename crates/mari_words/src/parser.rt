@@ -1,8 +1,8 @@
-//! The program's command line: one command with five subcommands, one level, without help or version.
+//! The program's command line: one command with eight subcommands, one level, without help or version.
 
 ghost use Rattle.std.specs.Prelude.{◌≡◌, IfOk, false};
 ghost use Rattle.clap.specs.Words.{app_of, rule_of};
-ghost use Rattle.mari_words.specs.Line.{IsSubcommand, bare_line, line, one_word, option_rule, required_word, two_words, with_options};
+ghost use Rattle.mari_words.specs.Line.{IsSubcommand, bare_line, line, one_word, option_rule, required_word, three_words, two_words, with_options};
 
 use clap::{Arg, ArgAction, Command as Parser};
 use mari_units::Memory;
@@ -53,6 +53,19 @@ fn with_word_and_options<'a>(alloc: Global, name: &'a str) -> Result<Parser<'a>,
     Ok(command)
 }
 
+/// A subcommand with three words behind it, and the options.
+fn with_three_words_and_options<'a>(alloc: Global, name: &'a str) -> Result<Parser<'a>, Memory>
+    ensures { IfOk result (IsSubcommand (with_options (three_words name.entry.now))) }
+{
+    let command = Parser::new(alloc, name)
+        .arg(word(alloc, "first"))?
+        .arg(word(alloc, "second"))?
+        .arg(word(alloc, "third"))?
+        .arg(option(alloc, "nodes"))?
+        .arg(option(alloc, "workers"))?;
+    Ok(command)
+}
+
 /// The program's command line before its subcommands.
 fn bare<'a>(alloc: Global) -> Parser<'a>
     ensures { app_of result ≡ bare_line }
@@ -74,6 +87,9 @@ pub fn parser<'a>(alloc: Global) -> Result<Parser<'a>, Memory>
         .subcommand(with_word(alloc, "check")?)?
         .subcommand(with_word(alloc, "generate")?)?
         .subcommand(with_two_words(alloc, "migrate")?)?
-        .subcommand(with_word(alloc, "feed")?)?;
+        .subcommand(with_word(alloc, "feed")?)?
+        .subcommand(with_word_and_options(alloc, "split")?)?
+        .subcommand(with_three_words_and_options(alloc, "blocks")?)?
+        .subcommand(with_two_words(alloc, "value")?)?;
     Ok(mari)
 }

@@ -19,4 +19,7 @@ returns-in_default c =
       other (codes "generate") c.args.name.now c.in_default.not-generate,
       other (codes "migrate") c.args.name.now c.in_default.not-migrate,
       other (codes "feed") c.args.name.now c.in_default.not-feed,
+      other (codes "split") c.args.name.now c.in_default.not-split,
+      other (codes "blocks") c.args.name.now c.in_default.not-blocks,
+      other (codes "value") c.args.name.now c.in_default.not-value,
     ) refl

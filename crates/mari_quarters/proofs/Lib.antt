@@ -1,0 +1,3 @@
+mod Checking
+mod Passing
+pub mod Facts

@@ -1,0 +1,101 @@
+-- What a stage says passes to the whole.
+use Rattle.std.proofs.Common.{◌≡◌, inl, ℕ, List, Option, None, Result, Ok, Err, refl, subst, sym}
+use Rattle.mari_units.specs.declared.faults.Refusal.{Refusal}
+use Rattle.mari_io.specs.Outside.{Pages}
+use Rattle.mari_io.specs.declared.shelf.Fetch.{Fetch}
+use Rattle.mari_io.specs.declared.shelf.Fetch.TheVariants as fetch
+use Rattle.mari_remain.specs.declared.books.Books.{Books}
+use Rattle.mari_day.specs.Files.{gap_of}
+use Rattle.mari_day.specs.Reading.{BooksTell, HasBooks, IsFetchFault, NamesAFile}
+use Rattle.mari_day.specs.Refusals.{RefusesByCheck}
+use Rattle.mari_day.specs.declared.files.TheConstants.{BLOCKS}
+use Rattle.mari_day.specs.declared.reading.BooksFault.{BooksFault}
+use Rattle.mari_day.specs.declared.reading.BooksFault.TheVariants as why
+use Rattle.mari_blocks.specs.declared.blocks.BlockBook.{BlockBook}
+use Rattle.mari_blocks.specs.declared.clearing.JointText.{JointText}
+use Rattle.mari_quarters.specs.Quarters.{HasPage, NamesQuartersFile, QuartersTell, RefusesQuartersByCheck, blocks_in, blocks_page}
+use Rattle.mari_quarters.specs.Quarters.{HasQuartersGap as gaps}
+use Rattle.mari_quarters.specs.Quarters.{HasQuartersRefusal as refusals}
+use Rattle.mari_quarters.specs.Quarters.{IsQuartersCheck as checks}
+use Rattle.mari_quarters.specs.Stages.{ClearsQuarters, IsOfBlocks, PageTells, ReadsBlocks}
+
+-- ---- without books
+
+pub files-named : (fault : BooksFault) → NamesAFile {T = Books} (Err fault) → NamesQuartersFile {T = JointText} (Err fault)
+files-named (why.Fetch number f) named = inl named
+files-named (why.Refused refusal) named = inl named
+files-named why.Memory named = tt
+
+pub files-check : (fault : BooksFault) → RefusesByCheck {T = Books} (Err fault) → RefusesQuartersByCheck {T = JointText} (Err fault)
+files-check (why.Fetch number f) by = tt
+files-check (why.Refused refusal) by = checks.OfFiles by
+files-check why.Memory by = tt
+
+pub files-tell : (told : Pages) (folder : List ℕ) (first last budget : ℕ) (fault : BooksFault) → BooksTell told folder (Err fault) → QuartersTell told folder first last budget (Err fault)
+files-tell told folder first last budget (why.Fetch number fetch.Failed) tells = tt
+files-tell told folder first last budget (why.Fetch number fetch.Missing) tells = gaps.OfFiles tells
+files-tell told folder first last budget (why.Fetch number fetch.TooLong) tells = gaps.OfFiles tells
+files-tell told folder first last budget (why.Fetch number fetch.Memory) tells = tells
+files-tell told folder first last budget (why.Refused refusal) tells = refusals.OfFiles tells
+files-tell told folder first last budget why.Memory tells = tt
+
+-- ---- without a page
+
+pub page-tells : (told : Pages) (folder : List ℕ) (first last budget : ℕ) (books : Books) → HasBooks told folder books → (fault : BooksFault)
+    → PageTells (blocks_page told folder) (Err fault) → IsOfBlocks {T = List ℕ} (Err fault) → QuartersTell told folder first last budget (Err fault)
+page-tells told folder first last budget books has (why.Fetch number fetch.Failed) tells file = tt
+page-tells told folder first last budget books has (why.Fetch number fetch.Missing) tells file = gaps.OfBlocks books has tells file
+page-tells told folder first last budget books has (why.Fetch number fetch.TooLong) tells file = gaps.OfBlocks books has tells file
+page-tells told folder first last budget books has (why.Fetch number fetch.Memory) tells file = absurd tells
+page-tells told folder first last budget books has (why.Refused refusal) tells file = absurd tells
+page-tells told folder first last budget books has why.Memory tells file = tt
+
+-- the page of blocks.csv, which was had
+pub has-page : (told : Pages) (folder : List ℕ) (books : Books) (page : List ℕ) → HasBooks told folder books → PageTells (blocks_page told folder) (Ok page) → HasPage told folder books page
+has-page told folder books page has held = record { gives = has; held = held.0; short = subst (λ (p : Option (List ℕ)). gap_of p ≡ None) held.0 held.1 }
+
+-- ---- without a book of blocks, and with one
+
+module _ (books : Books) (first last budget : ℕ) (page : List ℕ) where
+  pub unread-no-fetch : (fault : BooksFault) → ReadsBlocks (Err fault) (blocks_in books first last page) → (f : Fetch) → IsFetchFault {T = JointText} f (Err fault) → ⊥
+  unread-no-fetch (why.Fetch number g) read f e = read
+  unread-no-fetch (why.Refused refusal) read f e = e
+  unread-no-fetch why.Memory read f e = e
+
+  pub unread-named : (fault : BooksFault) → NamesQuartersFile {T = BlockBook} (Err fault) → NamesQuartersFile {T = JointText} (Err fault)
+  unread-named (why.Fetch number f) named = named
+  unread-named (why.Refused refusal) named = named
+  unread-named why.Memory named = tt
+
+  pub unread-check : (fault : BooksFault) → RefusesQuartersByCheck {T = BlockBook} (Err fault) → RefusesQuartersByCheck {T = JointText} (Err fault)
+  unread-check (why.Fetch number f) by = tt
+  unread-check (why.Refused refusal) by = by
+  unread-check why.Memory by = tt
+
+  pub unread-tells : (fault : BooksFault) → ReadsBlocks (Err fault) (blocks_in books first last page) → (told : Pages) (folder : List ℕ) → HasPage told folder books page
+      → QuartersTell told folder first last budget (Err fault)
+  unread-tells (why.Fetch number fault) read told folder has = absurd read
+  unread-tells (why.Refused refusal) read told folder has = refusals.OfBlocks books page refusal.line refusal.number has read.0 (file refusal read.1)
+    where
+      file : (r : Refusal) → r.file ≡ BLOCKS → r ≡ record { file = BLOCKS; line = r.line; number = r.number }
+      file r e = rw (sym e) refl
+  unread-tells why.Memory read told folder has = tt
+
+  module _ (blocks : BlockBook) (read : blocks_in books first last page ≡ Ok blocks) where
+    pub market-no-fetch : (result : Result JointText BooksFault) → ClearsQuarters books blocks first last budget result → (f : Fetch) → IsFetchFault f result → ⊥
+    market-no-fetch (Ok printed) clears f e = e
+    market-no-fetch (Err (why.Fetch number g)) clears f e = clears
+    market-no-fetch (Err (why.Refused refusal)) clears f e = e
+    market-no-fetch (Err why.Memory) clears f e = e
+
+    pub market-tells : (result : Result JointText BooksFault) → ClearsQuarters books blocks first last budget result → (told : Pages) (folder : List ℕ) → HasPage told folder books page
+        → QuartersTell told folder first last budget result
+    market-tells (Ok printed) clears told folder has = record {
+      books = books;
+      blocks = blocks;
+      has = record { page = page; has = has; read = read };
+      is_text = clears;
+    }
+    market-tells (Err (why.Refused refusal)) clears told folder has = refusals.OfMarket books blocks (record { page = page; has = has; read = read }) clears
+    market-tells (Err why.Memory) clears told folder has = tt
+    market-tells (Err (why.Fetch number fault)) clears told folder has = absurd clears

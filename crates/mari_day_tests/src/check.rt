@@ -11,13 +11,13 @@ use std::alloc::Global;
 use std::test::Fail;
 
 /// A folder, and the lines of its day.
-struct Day {
-    folder: Pages,
-    lines: &'static [&'static str],
+pub(crate) struct Day {
+    pub folder: Pages,
+    pub lines: &'static [&'static str],
 }
 
 /// Two zones with a border that is full.
-const FULL: Day = Day {
+pub(crate) const FULL: Day = Day {
     folder: TWO_ZONES,
     lines: &[
         "mari 1 2025-03-12 96 10000",
@@ -113,7 +113,12 @@ const OF_FREE: &[Row] = &[
 const DAYS: &[(Day, &[Row])] = &[(FULL, OF_FULL), (FREE, OF_FREE)];
 
 /// The text of a day, with this line at this place.
-fn text_with(alloc: Global, day: &Day, place: usize, line: &[u8]) -> Result<Vec<u8>, Fail> {
+pub(crate) fn text_with(
+    alloc: Global,
+    day: &Day,
+    place: usize,
+    line: &[u8],
+) -> Result<Vec<u8>, Fail> {
     let mut text = Vec::new(alloc);
     for (at, own) in day.lines.iter().enumerate() {
         let chosen = if at == place { line } else { own.as_bytes() };
@@ -163,7 +168,7 @@ fn told_whole(alloc: Global, books: &Books, text: &[u8]) -> Result<(Option<u8>, 
 }
 
 /// A shelf that gives a text in pieces of `piece` bytes.
-fn shelf_of(alloc: Global, text: &[u8], piece: u32) -> Result<MemoryShelf, Fail> {
+pub(crate) fn shelf_of(alloc: Global, text: &[u8], piece: u32) -> Result<MemoryShelf, Fail> {
     if piece == 0 || piece > 65_536 {
         return Err("a piece has 1 to 65,536 bytes".into());
     }

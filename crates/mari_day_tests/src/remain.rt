@@ -7,14 +7,14 @@ ghost use Rattle.mari_remain.specs.FirstBlocks.{StandsFor};
 
 use crate::folder::{Pages, TWO_ZONES, books};
 use mari_market::Activation;
-use mari_remain::{Books, Remaining, RunMarket, borders_text, limits_text};
+use mari_remain::{Books, Remaining, RunMarket};
 use mari_units::Items;
 use mari_welfare::is_feasible;
 use std::alloc::Global;
 use std::test::Fail;
 
 /// A border of 50 MW there and 20 back; a scheduled run and a direct one of a quarter, and a direct one of the next.
-const THREE_RUNS: Pages = Pages {
+pub(crate) const THREE_RUNS: Pages = Pages {
     borders: b"from,to,limit,back\nA,B,50,20\n",
     bids: b"id,provider,zone,quarter,direction,price,least,greatest,kind\n\
         a1,P1,A,1,up,20.00,0,100,both\nb1,P2,B,1,up,60.00,0,100,both\nb2,P2,B,2,up,60.00,0,9,both\n",
@@ -47,7 +47,7 @@ const LINKED: Pages = Pages {
 };
 
 /// Limits that are stated for the first two runs.
-const STATED: Pages = Pages {
+pub(crate) const STATED: Pages = Pages {
     borders: b"from,to\nA,B\n",
     limits: Some(b"run,from,to,limit,back\n2,A,B,30,50\n1,A,B,50,50\n"),
     ..THREE_RUNS
@@ -383,53 +383,6 @@ fn a_run_has_what_those_before_it_left(rt: HostRuntime) -> Result<(), Fail> {
             let told = told_in(rt.alloc(), folder, case)?;
             assert_eq!(rt; told, wanted(case), "{}", case.name);
         }
-    }
-    Ok(())
-}
-
-/// A folder with one run and a border with the same limit there and back.
-const ONE_RUN: Pages = Pages {
-    borders: b"from,to,limit,back\nA,B,50,050\n",
-    runs: b"run,quarter,kind,reference\n1,1,scheduled,40.00\n",
-    demands: b"run,zone,mw,price\n1,B,80,\n",
-    ..THREE_RUNS
-};
-
-/// Whether the pages that state limits for each run are these.
-fn are_pages(alloc: Global, books: &Books, borders: &str, limits: &str) -> Result<[bool; 2], Fail>
-    requires { IsAccepted books.now }
-{
-    let text = borders_text(alloc, books)?;
-    let is_borders = text.as_slice() == borders.as_bytes();
-    drop(text);
-    let text = limits_text(alloc, books)?;
-    let is_limits = text.as_slice() == limits.as_bytes();
-    drop(text);
-    Ok([is_borders, is_limits])
-}
-
-/// Whether those of a folder of one border are these limits.
-fn has_limits(alloc: Global, folder: &Pages, limits: &str) -> Result<[bool; 2], Fail> {
-    let books = books(alloc, folder)?;
-    let told = are_pages(alloc, &books, "from,to\nA,B\n", limits);
-    drop(books);
-    told
-}
-
-/// Folders of one border, and the pages of their limits.
-const LIMITS: &[(Pages, &str)] = &[
-    (ONE_RUN, "run,from,to,limit,back\n1,A,B,50,50\n"),
-    (
-        STATED,
-        "run,from,to,limit,back\n1,A,B,50,50\n2,A,B,30,50\n3,A,B,0,0\n",
-    ),
-];
-
-#[test]
-fn pages_of_limits_for_each_run(rt: HostRuntime) -> Result<(), Fail> {
-    for (folder, limits) in LIMITS {
-        let told = has_limits(rt.alloc(), folder, limits)?;
-        assert_eq!(rt; told, [true, true], "{limits}");
     }
     Ok(())
 }

@@ -1,6 +1,6 @@
 //! Tests of what clears a market: markets themselves, gates, welfare, certificates, the merit order, both solvers of a
-//! network, prices, a node, the machine of a search, the incumbent, the pool, and searches on one thread and by several
-//! workers.
+//! network, prices, a node, the gain of a raised limit, the machine of a search, the incumbent, the pool, searches on one
+//! thread and by several workers, and islands.
 //!
 //! They call what is public alone, so they stand apart from what they test, which then is proved once.
 #![tactic(auto)]
@@ -8,9 +8,15 @@
 #[cfg(test)]
 mod certificates;
 #[cfg(test)]
+mod cleared_islands;
+#[cfg(test)]
+mod gains;
+#[cfg(test)]
 mod gates;
 #[cfg(test)]
 mod incumbent;
+#[cfg(test)]
+mod islands;
 #[cfg(test)]
 mod looking;
 #[cfg(test)]

@@ -79,18 +79,18 @@ module _ (asked : Option Asked) (pages : Option Pages) (failed : Type 0) (before
   first-part = record { usage = λ e. absurd (cc (feed, e)); summary = λ number e. absurd (cc (feed, e)) }
 
   wanted : MayWant asked PUBLICATION
-  wanted = inr (inr (folder, feed), refl)
+  wanted = inr (inr (inl (folder, feed)), refl)
 
   -- there was no memory for more
   starves : WhereTold pages (λ told. TookOf TookFirst (page_in told) before between) → after ≡ between → Ends status.Memory
-  starves took p = (λ told t. by told (page_in told) refl (took told t), inr (inr (folder, feed)))
+  starves took p = (λ told t. by told (page_in told) refl (took told t), inr (inr (inl (folder, feed))))
     where
       by : (told : Pages) (page : Option (List ℕ)) → page_in told ≡ page → TookOf TookFirst page before between → IsStarved asked told before after
       by told None is t = starved-before (p ∙ t)
       by told (Some page) is t = let P : Option (List ℕ) → Type 0 = λ x. TookFirst page before x in starved-feed page (fed told page is) (subst P (sym p) t)
 
   never-memory : (WhereTold pages (λ told. ⊥)) → Ends status.Memory
-  never-memory none = (λ told t. absurd (none told t), inr (inr (folder, feed)))
+  never-memory none = (λ told t. absurd (none told t), inr (inr (inl (folder, feed))))
 
   no-summary : TookSummary asked before after
   no-summary number e = absurd (cc)
@@ -117,9 +117,9 @@ module _ (asked : Option Asked) (pages : Option Pages) (failed : Type 0) (before
   -- a call of the shelf failed
   of-failed : (result : Status) → failed → Tells (Err (stop.Fetch fetch.Failed)) → Reports (file_line (codes "readfault") PUBLICATION) status.ReadFault between after result → Ends result
   of-failed result why tells (Printed e p) =
-      subst Ends (sym e) (inr (folder, feed), (PUBLICATION, wanted, record { between = between; ahead = lines-ahead folder feed (λ told t. ahead-failed (page_in told) (tells told t)); took = p }))
+      subst Ends (sym e) (inr (inl (folder, feed)), (PUBLICATION, wanted, record { between = between; ahead = lines-ahead folder feed refl (λ told t. ahead-failed (page_in told) (tells told t)); took = p }))
   of-failed result why tells (CutOff e p) =
-      let cut : Ends status.WriteFault = (λ told t. cut-fault why (record { between = between; ahead = lines-ahead folder feed (λ other u. let P : Pages → Type 0 = λ x. TookOf TookFirst (page_in x) before between in subst P (same told other u) (ahead-failed (page_in told) (tells told t))); began = p }), first-part) in
+      let cut : Ends status.WriteFault = (λ told t. cut-fault why (record { between = between; ahead = lines-ahead folder feed refl (λ other u. let P : Pages → Type 0 = λ x. TookOf TookFirst (page_in x) before between in subst P (same told other u) (ahead-failed (page_in told) (tells told t))); began = p }), first-part) in
       subst Ends (sym e) cut
     where
       same : (told other : Pages) → Some told ≡ Some other → told ≡ other
@@ -136,13 +136,13 @@ module _ (asked : Option Asked) (pages : Option Pages) (failed : Type 0) (before
   long-gap told (Some page) is t = lacks-long page (fed told page is) t.0 refl refl
 
   gap-ends : (gap : Gap) (line : WhereTold pages (λ told. LacksPage asked told PUBLICATION gap)) (took : WhereTold pages (λ told. TookOf TookFirst (page_in told) before between)) → after ≡ then_took between (file_line (gap_word gap) PUBLICATION) → Ends (gap_status gap)
-  gap-ends NotHeld line took p = (inr (folder, feed), record { file = PUBLICATION; wanted = wanted; first = line; line = record { between = between; ahead = lines-ahead folder feed took; took = p } })
-  gap-ends OverLimit line took p = (inr (folder, feed), record { file = PUBLICATION; wanted = wanted; first = line; line = record { between = between; ahead = lines-ahead folder feed took; took = p } })
+  gap-ends NotHeld line took p = (inr (inl (folder, feed)), record { file = PUBLICATION; wanted = wanted; first = line; line = record { between = between; ahead = lines-ahead folder feed refl took; took = p } })
+  gap-ends OverLimit line took p = (inr (inl (folder, feed)), record { file = PUBLICATION; wanted = wanted; first = line; line = record { between = between; ahead = lines-ahead folder feed refl took; took = p } })
 
   of-gap : (gap : Gap) (result : Status) → WhereTold pages (λ told. LacksPage asked told PUBLICATION gap) → WhereTold pages (λ told. TookOf TookFirst (page_in told) before between) → Reports (file_line (gap_word gap) PUBLICATION) (gap_status gap) between after result → Ends result
   of-gap gap result line took (Printed e p) = subst Ends (sym e) (gap-ends gap line took p)
   of-gap gap result line took (CutOff e p) =
-      let cut : Ends status.WriteFault = (λ told t. cut-gap gap (line told t) (record { between = between; ahead = lines-ahead folder feed (λ other u. let P : Pages → Type 0 = λ x. TookOf TookFirst (page_in x) before between in subst P (same told other u) (took told t)); began = p }), first-part) in
+      let cut : Ends status.WriteFault = (λ told t. cut-gap gap (line told t) (record { between = between; ahead = lines-ahead folder feed refl (λ other u. let P : Pages → Type 0 = λ x. TookOf TookFirst (page_in x) before between in subst P (same told other u) (took told t)); began = p }), first-part) in
       subst Ends (sym e) cut
     where
       same : (told other : Pages) → Some told ≡ Some other → told ≡ other
@@ -154,14 +154,21 @@ module _ (asked : Option Asked) (pages : Option Pages) (failed : Type 0) (before
   fault-refused f told None is t = absurd t
   fault-refused f told (Some page) is t = refused-feed page f (record { fed = fed told page is; told = t.0 }) refl
 
+  -- its refusal names the publication
+  text-file : (f : TextFault) → (text_refusal f).file ≡ PUBLICATION
+  text-file (text_fault.BadLine n) = refl
+  text-file (text_fault.BadOrder n) = refl
+  text-file (text_fault.Truncated n) = refl
+  text-file text_fault.Memory = refl
+
   of-fault : (f : TextFault) (result : Status) → HasName (text_refusal f) → Tells (Err (stop.Text f)) → ReportsRefusal (text_refusal f) between after result → Ends result
   of-fault f result name tells (Printed e p) =
-      subst Ends (sym e) (inr (folder, feed), (λ told t. fault-refused f told (page_in told) refl (tells told t)), record { between = between; ahead = lines-ahead folder feed (λ told t. ahead-fault f (page_in told) (tells told t)); took = p }, name)
+      subst Ends (sym e) (inr (inl (folder, feed)), (λ told t. fault-refused f told (page_in told) refl (tells told t)), record { between = between; ahead = lines-ahead folder feed (text-file f) (λ told t. ahead-fault f (page_in told) (tells told t)); took = p }, name)
   of-fault f result name tells (CutOff e p) =
       let cut : Ends status.WriteFault = (
         λ told t.
             cut-refused (text_refusal f) (fault-refused f told (page_in told) refl (tells told t))
-            (record { between = between; ahead = lines-ahead folder feed (λ other u. let P : Pages → Type 0 = λ x. TookOf TookAll (page_in x) before between in subst P (same told other u) (ahead-fault f (page_in told) (tells told t))); began = p }),
+            (record { between = between; ahead = lines-ahead folder feed refl (λ other u. let P : Pages → Type 0 = λ x. TookOf TookAll (page_in x) before between in subst P (same told other u) (ahead-fault f (page_in told) (tells told t))); began = p }),
         first-part,
       ) in
       subst Ends (sym e) cut

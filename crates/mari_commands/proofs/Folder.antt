@@ -1,72 +1,14 @@
--- What a folder's pages say is one thing: their books, their first refusal, or the first page that can't be had.
-use Rattle.std.proofs.Common.{◌≡◌, ◌∙◌, ℕ, List, [], ◌∷◌, Option, Some, None, ap, map, refl, subst, sym}
+-- The folder that a command reads, and the commands that clear one.
+use Rattle.std.proofs.Common.{◌≡◌, ◌∙◌, ℕ, Bool, true, false, List, Option, Some, None, ap, refl, subst, sym}
 use Rattle.std.specs.Prelude.{option_and_then}
-use Rattle.mari_units.specs.declared.faults.Refusal.{Refusal}
 use Rattle.mari_io.specs.Outside.{Pages}
-use Rattle.mari_remain.specs.declared.books.Books.{Books}
-use Rattle.mari_day.specs.declared.files.File.{File}
-use Rattle.mari_day.specs.Files.{AreHeld, FileGap, Gap}
-use Rattle.mari_day.specs.Files.Gap.{NotHeld}
-use Rattle.mari_day.specs.Reading.{HasBooks, HasGap, HasRefusal, books_at}
+use Rattle.mari_day.proofs.Facts.{Agree, Fact, Holds, agree}
 use Rattle.mari_words.specs.Asked.{Asked}
-use Rattle.mari_commands.specs.Commands.{ReadsFolder, folder_of}
-
-pub data Fact : Type 0 where
-  Gives : Books → Fact
-  Refuses : Refusal → Fact
-  Lacks : ℕ → Gap → Fact
-
-abbrev pub Holds : Pages → List ℕ → Fact → Type 0
-Holds pages folder (Gives books) = HasBooks pages folder books
-Holds pages folder (Refuses refusal) = HasRefusal pages folder refusal
-Holds pages folder (Lacks file gap) = HasGap pages folder file gap
-
-pub some_same : (xs ys : List (List ℕ)) → map {B = Option (List ℕ)} Some xs ≡ map Some ys → xs ≡ ys
-some_same [] [] e = refl
-some_same [] (y ∷ ys) e = absurd (cc)
-some_same (x ∷ xs) [] e = absurd (cc)
-some_same (x ∷ xs) (y ∷ ys) e =
-    let first : x ≡ y = cc in
-    let rest : map {B = Option (List ℕ)} Some xs ≡ map Some ys = cc in
-    let more = some_same xs ys rest in
-    cc
-
-same_texts : (pages : Pages) (folder : List ℕ) (xs ys : List (List ℕ)) → AreHeld pages folder xs → AreHeld pages folder ys → xs ≡ ys
-same_texts pages folder xs ys h k = some_same xs ys (sym h.held ∙ k.held)
-
-abbrev gap_record : File → Gap → FileGap
-gap_record f g = record { file = f; gap = g }
-
--- the gap of a file, or any where there is none
-abbrev gap_or_held : Option FileGap → Gap
-gap_or_held None = NotHeld
-gap_or_held (Some x) = x.gap
-
-same_gap : (pages : Pages) (folder : List ℕ) (n k : ℕ) (g h : Gap) → HasGap pages folder n g → HasGap pages folder k h → g ≡ h
-same_gap pages folder n k g h a b =
-    let same : Some (gap_record a.file g) ≡ Some (gap_record b.file h) = sym a.first ∙ b.first in
-    ap gap_or_held same
-
-held_no_gap : (pages : Pages) (folder : List ℕ) (texts : List (List ℕ)) (n : ℕ) (gap : Gap) → AreHeld pages folder texts → HasGap pages folder n gap → ⊥
-held_no_gap pages folder texts n gap h g = let none = h.no_gap in let some = g.first in cc
-
--- two facts of one folder agree; of a gap only why there is one is told
-abbrev pub Agree : Fact → Fact → Type 0
-Agree (Gives a) (Gives b) = a ≡ b
-Agree (Refuses a) (Refuses b) = a ≡ b
-Agree (Lacks n g) (Lacks k h) = g ≡ h
-Agree _ _ = ⊥
-
-agree : (pages : Pages) (folder : List ℕ) (a b : Fact) → Holds pages folder a → Holds pages folder b → Agree a b
-agree pages folder (Gives a) (Gives b) h k = let e = ap books_at (same_texts pages folder h.texts k.texts h.held k.held) in let x = h.read in let y = k.read in cc
-agree pages folder (Gives a) (Refuses b) h k = let e = ap books_at (same_texts pages folder h.texts k.texts h.held k.held) in let x = h.read in let y = k.read in cc
-agree pages folder (Gives a) (Lacks n g) h k = held_no_gap pages folder h.texts n g h.held k
-agree pages folder (Refuses a) (Gives b) h k = let e = ap books_at (same_texts pages folder h.texts k.texts h.held k.held) in let x = h.read in let y = k.read in cc
-agree pages folder (Refuses a) (Refuses b) h k = let e = ap books_at (same_texts pages folder h.texts k.texts h.held k.held) in let x = h.read in let y = k.read in cc
-agree pages folder (Refuses a) (Lacks n g) h k = held_no_gap pages folder h.texts n g h.held k
-agree pages folder (Lacks n g) (Gives b) h k = held_no_gap pages folder k.texts n g k.held h
-agree pages folder (Lacks n g) (Refuses b) h k = held_no_gap pages folder k.texts n g k.held h
-agree pages folder (Lacks n g) (Lacks k i) h l = same_gap pages folder n k g i h l
+use Rattle.mari_words.specs.Asked.Asked.{Clear, Split}
+use Rattle.mari_commands.specs.declared.outcome.Way.{Way}
+use Rattle.mari_commands.specs.declared.outcome.Way.TheVariants.{Whole, Islands}
+use Rattle.mari_commands.specs.Commands.{AsksForFiles, ReadsFolder, folder_of}
+use Rattle.mari_commands.specs.Splits.{command_by}
 
 -- what the words ask for reads one folder, so that two facts of what they read agree
 pub one : (asked : Option Asked) (pages : Pages) (f g : List ℕ) (a b : Fact) → ReadsFolder asked f → ReadsFolder asked g → Holds pages f a → Holds pages g b → Agree a b
@@ -85,3 +27,44 @@ reads_none asked folder e h = let q : None ≡ Some folder = sym (ap (option_and
 
 pub reads_no_folder : (asked : Option Asked) (x : Asked) (folder : List ℕ) → asked ≡ Some x → folder_of x ≡ None → ReadsFolder asked folder → ⊥
 reads_no_folder asked x folder e n h = let q : None ≡ Some folder = sym (ap (option_and_then folder_of) e ∙ n) ∙ h in cc
+
+-- ---- the commands that clear a folder's runs
+
+-- they read its files
+pub folder_by : (way : Way) (folder : List ℕ) (nodes workers : ℕ) → folder_of (command_by way folder nodes workers) ≡ Some folder
+folder_by Whole folder nodes workers = refl
+folder_by Islands folder nodes workers = refl
+
+pub files_by : (asked : Option Asked) (way : Way) (folder : List ℕ) (nodes workers : ℕ) → asked ≡ Some (command_by way folder nodes workers) → AsksForFiles asked
+files_by asked way folder nodes workers e = (folder, reads asked (command_by way folder nodes workers) folder e (folder_by way folder nodes workers))
+
+-- and are no other commands
+abbrev pub clears : Asked → Bool
+clears (Clear folder nodes workers) = true
+clears (Split folder nodes workers) = true
+clears _ = false
+
+clears_by : (way : Way) (folder : List ℕ) (nodes workers : ℕ) → clears (command_by way folder nodes workers) ≡ true
+clears_by Whole folder nodes workers = refl
+clears_by Islands folder nodes workers = refl
+
+abbrev clears_or_not : Option Asked → Bool
+clears_or_not None = false
+clears_or_not (Some x) = clears x
+
+pub no_other : (asked : Option Asked) (way : Way) (folder : List ℕ) (nodes workers : ℕ) (x : Asked) → asked ≡ Some (command_by way folder nodes workers) → asked ≡ Some x → clears x ≡ false → ⊥
+no_other asked way folder nodes workers x e f n =
+    let both : true ≡ false = sym (clears_by way folder nodes workers) ∙ sym (ap clears_or_not e) ∙ ap clears_or_not f ∙ n in
+    cc
+
+-- two of them are one
+pub record IsOneWay (v w : Way) (f g : List ℕ) (n m : ℕ) : Type 0 where
+  pub way : v ≡ w
+  pub folder : f ≡ g
+  pub nodes : n ≡ m
+
+pub one_way : (v w : Way) (f g : List ℕ) (n m j k : ℕ) → command_by v f n j ≡ command_by w g m k → IsOneWay v w f g n m
+one_way Whole Whole f g n m j k e = record { way = refl; folder = cc; nodes = cc }
+one_way Whole Islands f g n m j k e = absurd (cc)
+one_way Islands Whole f g n m j k e = absurd (cc)
+one_way Islands Islands f g n m j k e = record { way = refl; folder = cc; nodes = cc }

@@ -26,7 +26,7 @@ use Rattle.mari_day.specs.Files.{files_in, page_in}
 use Rattle.mari_day.specs.Reading.{HasBooks, books_at}
 use Rattle.mari_scenario.specs.Accepted.{AreAccepted, HasPage}
 use Rattle.mari_scenario.specs.Pages.{date_text, rule_text}
-use Rattle.mari_commands.proofs.Folder.{some_same}
+use Rattle.mari_day.proofs.Facts.{some_same}
 
 -- a page that is there, and what is said of it
 there : (pages : Pages) (name : List ℕ) (Is : List ℕ → Type 0) → HasPage pages name Is → (page : List ℕ) × (page_of pages name ≡ Some page) × Is page

@@ -1,7 +1,12 @@
+pub mod Comes
 pub mod Complete
 pub mod Feeds
+pub mod Valued
+pub mod Outcomes
 pub mod Ending
 pub mod Folder
+pub mod Joint
+pub mod Decided
 pub mod Gates
 pub mod GeneratedBooks
 pub mod Limits

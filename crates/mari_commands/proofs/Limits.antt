@@ -4,10 +4,10 @@ use Rattle.std.specs.Prelude.{◌≤◌, ◌&&◌, nat_le, Bool, true, false, if
 use Rattle.std.proofs.lemmas.Bool.Decides.{nat_tests}
 use Rattle.mari_units.specs.Numbers.{natural_of}
 use Rattle.mari_words.specs.Asked.{Asked}
-use Rattle.mari_words.specs.Asked.Asked.{Clear, Check, Generate, Migrate, Feed}
+use Rattle.mari_words.specs.Asked.Asked.{Blocks, Clear, Check, Generate, Migrate, Feed, Split, Value}
 use Rattle.mari_words.specs.Words.{Given, Verb, asked_for, command_at, command_of, folder_in, given_by, natural_in, number_or, part_named, verb_named}
-use Rattle.mari_words.specs.Words.Verb.{Clears, Checks, Generates, Migrates, Feeds}
-use Rattle.mari_units.specs.declared.limits.TheConstants.{LAST_NUMBER, MOST_NODES, MOST_WORKERS}
+use Rattle.mari_words.specs.Words.Verb.{Clears, Checks, Generates, Migrates, Feeds, Splits, Joins, Values}
+use Rattle.mari_units.specs.declared.limits.TheConstants.{LAST_NUMBER, MOST_NODES, MOST_QUARTERS, MOST_RAISE, MOST_WORKERS}
 use Rattle.mari_market.specs.Clearing.{IsBudget, IsWorkerCount}
 use Rattle.mari_words.specs.declared.command.TheConstants.{USUAL_NODES, USUAL_WORKERS}
 
@@ -17,6 +17,9 @@ IsWithin (Check folder) = ⊤
 IsWithin (Generate number) = number ≤ LAST_NUMBER
 IsWithin (Migrate folder part) = ⊤
 IsWithin (Feed folder) = ⊤
+IsWithin (Split folder nodes workers) = IsBudget nodes × IsWorkerCount workers
+IsWithin (Value folder more) = (1 ≤ more) × (more ≤ MOST_RAISE)
+IsWithin (Blocks folder first last nodes workers) = (first ≤ last) × (last ≤ MOST_QUARTERS) × IsBudget nodes × IsWorkerCount workers
 
 -- what was there where a step behind it gave something
 pub record Step (A B : Type 0) (o : Option A) (f : A → Option B) (y : B) : Type 0 where
@@ -76,6 +79,33 @@ asked-within Feeds given x e =
     let a = step given.first _ x e in
     let b = step (folder_in a.x) _ x a.gives in
     same-within (Feed b.x) x b.gives tt
+asked-within Splits given x e =
+    let a = step given.first _ x e in
+    let b = step (folder_in a.x) _ x a.gives in
+    let c = step (number_or USUAL_NODES 1 MOST_NODES given.nodes) _ x b.gives in
+    let d = step (number_or USUAL_WORKERS 1 MOST_WORKERS given.workers) _ x c.gives in
+    let nodes = usual-within USUAL_NODES 1 MOST_NODES c.x given.nodes (omega arith, omega arith) c.is in
+    let workers = usual-within USUAL_WORKERS 1 MOST_WORKERS d.x given.workers (omega arith, omega arith) d.is in
+    same-within (Split b.x c.x d.x) x d.gives (nodes, workers)
+asked-within Joins given x e =
+    let a = step given.first _ x e in
+    let b = step (folder_in a.x) _ x a.gives in
+    let c = step given.second _ x b.gives in
+    let d = step (natural_in 1 MOST_QUARTERS c.x) _ x c.gives in
+    let f = step given.third _ x d.gives in
+    let g = step (natural_in d.x MOST_QUARTERS f.x) _ x f.gives in
+    let h = step (number_or USUAL_NODES 1 MOST_NODES given.nodes) _ x g.gives in
+    let i = step (number_or USUAL_WORKERS 1 MOST_WORKERS given.workers) _ x h.gives in
+    let last = number-within d.x MOST_QUARTERS g.x f.x g.is in
+    let nodes = usual-within USUAL_NODES 1 MOST_NODES h.x given.nodes (omega arith, omega arith) h.is in
+    let workers = usual-within USUAL_WORKERS 1 MOST_WORKERS i.x given.workers (omega arith, omega arith) i.is in
+    same-within (Blocks b.x d.x g.x h.x i.x) x i.gives (last.0, last.1, nodes, workers)
+asked-within Values given x e =
+    let a = step given.first _ x e in
+    let b = step (folder_in a.x) _ x a.gives in
+    let c = step given.second _ x b.gives in
+    let d = step (natural_in 1 MOST_RAISE c.x) _ x c.gives in
+    same-within (Value b.x d.x) x d.gives (number-within 1 MOST_RAISE d.x c.x d.is)
 
 pub within : (words : List (List ℕ)) (x : Asked) → command_at words ≡ Some x → IsWithin x
 within [] x e = absurd (cc)

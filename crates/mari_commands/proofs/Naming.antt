@@ -1,5 +1,5 @@
 -- Every check by which a file may be refused has a name.
-use Rattle.std.proofs.Common.{◌≡◌, ℕ, [], Some, Err, arith, subst, sym}
+use Rattle.std.proofs.Common.{◌≡◌, ℕ, [], Some, Result, Ok, Err, arith, inl, inr, subst, sym}
 use Rattle.std.specs.Prelude.{◌≢◌, IsSomeAnd}
 use Rattle.mari_units.specs.declared.faults.Refusal.{Refusal}
 use Rattle.mari_rows.specs.Checks.{row_check_name, row_check_number}
@@ -23,7 +23,17 @@ use Rattle.mari_publish.specs.declared.fault.TextFault.{TextFault}
 use Rattle.mari_publish.specs.declared.fault.TextFault.TheVariants as text_fault
 use Rattle.mari_remain.specs.declared.books.Books.{Books}
 use Rattle.mari_day.specs.DateChecks.{date_check_name}
-use Rattle.mari_day.specs.Files.{file_number}
+use Rattle.mari_day.specs.Files.{IsFileNumber, IsNamed, file_number}
+use Rattle.mari_day.specs.declared.files.TheConstants.{BLOCKS}
+use Rattle.mari_blocks.specs.BlockChecks.{block_check_name, block_check_number}
+use Rattle.mari_blocks.specs.JointChecks.{joint_check_name, refusal_by}
+use Rattle.mari_blocks.specs.declared.blocks.BlockCheck.{BlockCheck}
+use Rattle.mari_blocks.specs.declared.blocks.BlockCheck.TheVariants as block
+use Rattle.mari_blocks.specs.declared.checks.JointCheck.{JointCheck}
+use Rattle.mari_blocks.specs.declared.checks.JointCheck.TheVariants as joint
+use Rattle.mari_blocks.specs.declared.clearing.JointText.{JointText}
+use Rattle.mari_quarters.specs.Quarters.{IsQuartersCheck, IsQuartersFile, NamesQuartersFile, RefusesQuartersByCheck}
+use Rattle.mari_quarters.specs.Quarters.IsQuartersCheck.{OfFiles, OfRows as OfBlockRows, OfBlocks, OfMarket}
 use Rattle.mari_day.specs.Reading.{NamesAFile}
 use Rattle.mari_day.specs.Refusals.{IsByCheck, IsCheckNumber, OwnCheck, RefusesByCheck, own_number}
 use Rattle.mari_day.specs.Refusals.IsCheckNumber.{OfRows, Own}
@@ -35,7 +45,7 @@ use Rattle.mari_day.specs.declared.reading.BooksFault.TheVariants as why
 use Rattle.mari_words.specs.declared.command.FilePart.{FilePart}
 use Rattle.mari_commands.specs.Checks.{migration_check_name, text_check_name}
 use Rattle.mari_commands.specs.Commands.{already_two, text_refusal}
-use Rattle.mari_commands.specs.Outcome.{IsMigrated, IsReportable, no_books, refusal_of, text_outcome}
+use Rattle.mari_commands.specs.Outcome.{IsMigrated, IsReportable, IsSayable, no_books, refusal_of, text_outcome}
 use Rattle.mari_commands.specs.Refusals.{HasName, check_name}
 use Rattle.mari_commands.specs.declared.outcome.Outcome.{Outcome}
 use Rattle.mari_commands.specs.declared.outcome.Outcome.TheVariants as outcome
@@ -98,6 +108,21 @@ own-named Limits limit.UnknownBorder = λ e. cc e
 own-named Limits limit.Repeated = λ e. cc e
 own-named Limits limit.Range = λ e. cc e
 
+-- and those of blocks.csv, and of what can't be one market
+block-named : (check : BlockCheck) → IsNamedCheck BLOCKS (block_check_number check)
+unfolding check_name block_check_name
+block-named block.BadField = λ e. cc e
+block-named block.UnknownBid = λ e. cc e
+block-named block.Quarter = λ e. cc e
+block-named block.Repeated = λ e. cc e
+block-named block.Linked = λ e. cc e
+
+joint-named : (check : JointCheck) → HasName (refusal_by check)
+unfolding check_name joint_check_name
+joint-named joint.NoScheduled = λ e. cc e
+joint-named joint.AcrossQuarters = λ e. cc e
+joint-named joint.TooLarge = λ e. cc e
+
 named : (file : File) (number : ℕ) → IsCheckNumber file number → IsNamedCheck (file_number file) number
 named file number (OfRows check e) = rw e (row-named (file_number file) check)
 named file number (Own check e) = rw e (own-named file check)
@@ -107,10 +132,14 @@ by-name refusal by =
     let P : ℕ → Type 0 = λ file. IsNamedCheck file refusal.number in
     subst P (sym by.numbered) (named by.file refusal.number by.check)
 
+-- the number of a market file is one of a file that has a name
+named-file : (file : ℕ) → IsFileNumber file → IsNamed file
+named-file file is = (is.from_one, omega (arith, is.to_last))
+
 -- a folder that has no books
 pub fault-reportable : (fault : BooksFault) → NamesAFile {T = Books} (Err fault) → RefusesByCheck {T = Books} (Err fault) → IsReportable (no_books fault)
-fault-reportable (why.Fetch file f) names by = names.named
-fault-reportable (why.Refused refusal) names by = (names.named, by-name refusal by)
+fault-reportable (why.Fetch file f) names by = named-file file names
+fault-reportable (why.Refused refusal) names by = (named-file refusal.file names, by-name refusal by)
 fault-reportable why.Memory names by = tt
 
 -- a publication whose text has a fault
@@ -130,6 +159,8 @@ pub migrated-reportable : (books : Books) (part : FilePart) (o : Outcome) → Is
 migrated-reportable books part outcome.NoCommand is = tt
 migrated-reportable books part (outcome.Day job) is = absurd is
 migrated-reportable books part (outcome.Feed folder) is = absurd is
+migrated-reportable books part (outcome.Blocks quarters) is = absurd is
+migrated-reportable books part (outcome.Values v) is = absurd is
 migrated-reportable books part (outcome.Text text) is = tt
 migrated-reportable books part (outcome.Invalid run fault) is = tt
 migrated-reportable books part (outcome.NoPage file why) is = absurd is
@@ -142,3 +173,20 @@ refusal-named (text_fault.BadLine n) refusal e = let same : refusal ≡ text_ref
 refusal-named (text_fault.BadOrder n) refusal e = let same : refusal ≡ text_refusal (text_fault.BadOrder n) = cc in subst (λ r. IsReportable (outcome.Refused r)) (sym same) (text-reportable (text_fault.BadOrder n))
 refusal-named (text_fault.Truncated n) refusal e = let same : refusal ≡ text_refusal (text_fault.Truncated n) = cc in subst (λ r. IsReportable (outcome.Refused r)) (sym same) (text-reportable (text_fault.Truncated n))
 refusal-named text_fault.Memory refusal e = absurd cc
+
+-- what clearing quarters gives
+file-named : (file : ℕ) → IsQuartersFile file → IsNamed file
+file-named file (inl is) = named-file file is
+file-named file (inr is) = rw is (omega arith, omega arith)
+
+quarters-named : (refusal : Refusal) → IsQuartersCheck refusal → HasName refusal
+quarters-named refusal (OfFiles by) = by-name refusal by
+quarters-named refusal (OfBlockRows is check e) = rw (is, e) (row-named BLOCKS check)
+quarters-named refusal (OfBlocks is check e) = rw (is, e) (block-named check)
+quarters-named refusal (OfMarket check e) = rw e (joint-named check)
+
+pub quarters-sayable : (given : Result JointText BooksFault) → NamesQuartersFile given → RefusesQuartersByCheck given → IsSayable given
+quarters-sayable (Ok printed) names by = tt
+quarters-sayable (Err (why.Fetch file fault)) names by = file-named file names
+quarters-sayable (Err (why.Refused refusal)) names by = (file-named refusal.file names, quarters-named refusal by)
+quarters-sayable (Err why.Memory) names by = tt

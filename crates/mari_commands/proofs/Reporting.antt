@@ -1,6 +1,12 @@
--- Reports of one text under another name, of a refusal, and of a feed of which nothing is printed.
-use Rattle.std.proofs.Common.{◌≡◌, ℕ, List, Option, Some, None, refl, subst}
+-- Reports of one text under another name, of a text with a line behind it, of a refusal, and of a feed of which nothing is
+-- printed.
+use Rattle.std.proofs.Common.{◌≡◌, ◌∙◌, ◌+◌, ℕ, List, ◌++◌, length, take, Option, Some, None, inl, inr, ap, arith, refl, subst, sym}
 use Rattle.std.specs.Prelude.{Err}
+use Rattle.std.proofs.Math.Seq.{take-append-add, take-append_seam}
+use Rattle.std.proofs.lemmas.Bool.{cases_lt}
+use Rattle.std.proofs.lemmas.List.{take-append-le, take_all}
+use Rattle.mari_io.specs.Taken.{TookPart, then_took}
+use Rattle.mari_io.proofs.Taken.{took_both}
 use Rattle.mari_units.specs.declared.faults.Refusal.{Refusal}
 use Rattle.mari_publish.specs.declared.fault.TextFault.{TextFault}
 use Rattle.mari_publish.specs.declared.fault.TextFault.TheVariants as text_fault
@@ -20,6 +26,18 @@ same_refusal (text_fault.BadLine n) refusal before after result e r = let same :
 same_refusal (text_fault.BadOrder n) refusal before after result e r = let same : refusal ≡ text_refusal (text_fault.BadOrder n) = cc in subst (λ x. ReportsRefusal x before after result) same r
 same_refusal (text_fault.Truncated n) refusal before after result e r = let same : refusal ≡ text_refusal (text_fault.Truncated n) = cc in subst (λ x. ReportsRefusal x before after result) same r
 same_refusal text_fault.Memory refusal before after result e r = absurd cc
+
+-- a first part of a text is one of the text with a line behind it
+pub cut_before : (before after : Option (List ℕ)) (text line : List ℕ) → TookPart before after text → TookPart before after (text ++ line)
+cut_before before after text line cut = elim (cases_lt (length text) cut.0) [
+  | inl over ↦ (length text, cut.1 ∙ ap (then_took before) (take_all cut.0 text (omega (arith, over)) ∙ sym (take-append_seam text line)))
+  | inr within ↦ (cut.0, cut.1 ∙ ap (then_took before) (sym (take-append-le cut.0 text line (omega (arith, within)))))
+]
+
+-- and so is the text with a first part of the line
+pub cut_behind : (before between after : Option (List ℕ)) (text line : List ℕ) → between ≡ then_took before text → TookPart between after line → TookPart before after (text ++ line)
+cut_behind before between after text line whole cut =
+    (length text + cut.0, took_both before between after text (take cut.0 line) whole cut.1 ∙ ap (then_took before) (sym (take-append-add text line cut.0)))
 
 -- nothing is printed yet of a page
 pub nothing_fed : (page : Option (List ℕ)) (before : Option (List ℕ)) → FeedTells {T = Unit {0}} page before before (Err stop.Memory)

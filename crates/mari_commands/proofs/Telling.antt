@@ -1,5 +1,5 @@
 -- What an outcome says of the words and the pages, by how it came.
-use Rattle.std.proofs.Common.{ℕ, List, Option, Some, inl, refl}
+use Rattle.std.proofs.Common.{ℕ, List, Option, Some, inl, inr, refl}
 use Rattle.std.specs.Prelude.{Err}
 use Rattle.mari_io.specs.declared.shelf.Fetch.TheVariants as fetch
 use Rattle.mari_io.specs.Outside.{Pages}
@@ -16,8 +16,8 @@ use Rattle.mari_words.specs.Asked.{Asked}
 use Rattle.mari_words.specs.Asked.Asked.{Check, Generate, Migrate}
 use Rattle.mari_words.specs.declared.command.FilePart.{FilePart}
 use Rattle.mari_commands.specs.declared.outcome.Outcome.{Outcome}
-use Rattle.mari_commands.specs.declared.outcome.Outcome.TheVariants.{NoCommand, Day, Feed as Feeds, Text, Invalid, NoPage, Refused, Memory as NoMemory}
-use Rattle.mari_commands.specs.Commands.{ReadsFolder}
+use Rattle.mari_commands.specs.declared.outcome.Outcome.TheVariants.{NoCommand, Day, Feed as Feeds, Blocks as Joins, Values, Text, Invalid, NoPage, Refused, Memory as NoMemory}
+use Rattle.mari_commands.specs.Commands.{AsksForLines, ReadsFolder}
 use Rattle.mari_commands.specs.Outcome.{IsMigrated, IsOfWords, IsSummarised, IsToldVerdict, Says, no_books, text_outcome}
 use Rattle.mari_commands.specs.Outcome.Says.{OfRefusal, OfGap, Fails, Starves}
 
@@ -29,26 +29,39 @@ says-fault asked pages folder (why.Fetch n fetch.Memory) r tells = absurd tells
 says-fault asked pages folder (why.Refused refusal) r tells = OfRefusal folder refusal r tells refl
 says-fault asked pages folder why.Memory r tells = Starves refl
 
+-- words that ask for no lines of a publication
+pub check-no-lines : (folder : List ℕ) → AsksForLines (Some (Check folder)) → ⊥
+check-no-lines folder (inl (other, e)) = absurd (cc e)
+check-no-lines folder (inr (other, more, e)) = absurd (cc e)
+
+migrate-no-lines : (folder : List ℕ) (part : FilePart) → AsksForLines (Some (Migrate folder part)) → ⊥
+migrate-no-lines folder part (inl (other, e)) = absurd (cc e)
+migrate-no-lines folder part (inr (other, more, e)) = absurd (cc e)
+
 -- what the words ask for, by the outcome
 pub words-of-fault : (asked : Option Asked) (folder : List ℕ) (fault : BooksFault) → ReadsFolder asked folder → NamesAFile {T = Books} (Err fault) → IsOfWords asked (no_books fault)
-words-of-fault asked folder (why.Fetch n w) r named = ((folder, r), inl named)
-words-of-fault asked folder (why.Refused refusal) r named = (folder, r)
+words-of-fault asked folder (why.Fetch n w) r named = ((folder, r), inl ((folder, r), named), λ lines. named.other)
+words-of-fault asked folder (why.Refused refusal) r named = ((folder, r), λ lines. named.other)
 words-of-fault asked folder why.Memory r named = tt
 
 pub words-of-migrated : (folder : List ℕ) (part : FilePart) (books : Books) (o : Outcome) → IsMigrated books part o → IsOfWords (Some (Migrate folder part)) o
 words-of-migrated folder part books NoCommand is = absurd is
 words-of-migrated folder part books (Day job) is = absurd is
 words-of-migrated folder part books (Feeds other) is = absurd is
+words-of-migrated folder part books (Joins quarters) is = absurd is
+words-of-migrated folder part books (Values v) is = absurd is
 words-of-migrated folder part books (Text t) is = tt
 words-of-migrated folder part books (Invalid run n) is = absurd is
 words-of-migrated folder part books (NoPage n w) is = absurd is
-words-of-migrated folder part books (Refused refusal) is = (folder, refl)
+words-of-migrated folder part books (Refused refusal) is = ((folder, refl), λ lines. absurd (migrate-no-lines folder part lines))
 words-of-migrated folder part books NoMemory is = tt
 
 pub words-of-summary : (number : ℕ) (o : Outcome) → IsSummarised number o → IsOfWords (Some (Generate number)) o
 words-of-summary number NoCommand is = absurd is
 words-of-summary number (Day job) is = absurd is
 words-of-summary number (Feeds folder) is = absurd is
+words-of-summary number (Joins quarters) is = absurd is
+words-of-summary number (Values v) is = absurd is
 words-of-summary number (Text t) is = is
 words-of-summary number (Invalid run n) is = absurd is
 words-of-summary number (NoPage n w) is = absurd is
@@ -61,6 +74,8 @@ words-of-verdict folder (verdict.Valid published unpublished) NoMemory is = tt
 words-of-verdict folder (verdict.Valid published unpublished) NoCommand is = absurd is
 words-of-verdict folder (verdict.Valid published unpublished) (Day job) is = absurd is
 words-of-verdict folder (verdict.Valid published unpublished) (Feeds other) is = absurd is
+words-of-verdict folder (verdict.Valid published unpublished) (Joins quarters) is = absurd is
+words-of-verdict folder (verdict.Valid published unpublished) (Values v) is = absurd is
 words-of-verdict folder (verdict.Valid published unpublished) (Invalid run n) is = absurd is
 words-of-verdict folder (verdict.Valid published unpublished) (NoPage n w) is = absurd is
 words-of-verdict folder (verdict.Valid published unpublished) (Refused refusal) is = absurd is
@@ -69,12 +84,14 @@ words-of-verdict folder (verdict.Invalid run fault) NoMemory is = absurd is
 words-of-verdict folder (verdict.Invalid run fault) NoCommand is = absurd is
 words-of-verdict folder (verdict.Invalid run fault) (Day job) is = absurd is
 words-of-verdict folder (verdict.Invalid run fault) (Feeds other) is = absurd is
+words-of-verdict folder (verdict.Invalid run fault) (Joins quarters) is = absurd is
+words-of-verdict folder (verdict.Invalid run fault) (Values v) is = absurd is
 words-of-verdict folder (verdict.Invalid run fault) (Text t) is = absurd is
 words-of-verdict folder (verdict.Invalid run fault) (NoPage n w) is = absurd is
 words-of-verdict folder (verdict.Invalid run fault) (Refused refusal) is = absurd is
 
 pub words-of-text : (folder : List ℕ) (f : TextFault) → IsOfWords (Some (Check folder)) (text_outcome f)
-words-of-text folder (text_fault.BadLine n) = (folder, refl)
-words-of-text folder (text_fault.BadOrder n) = (folder, refl)
-words-of-text folder (text_fault.Truncated n) = (folder, refl)
+words-of-text folder (text_fault.BadLine n) = ((folder, refl), λ lines. absurd (check-no-lines folder lines))
+words-of-text folder (text_fault.BadOrder n) = ((folder, refl), λ lines. absurd (check-no-lines folder lines))
+words-of-text folder (text_fault.Truncated n) = ((folder, refl), λ lines. absurd (check-no-lines folder lines))
 words-of-text folder text_fault.Memory = tt

@@ -3,6 +3,8 @@
 use Rattle.std.specs.Prelude.{ℕ, ◌≡◌, ◌≢◌, ◌≤◌, ◌⊎◌, List, length, Option, Some, None, option_and_then}
 use Rattle.mari_units.specs.declared.faults.Refusal.{Refusal}
 use Rattle.mari_io.specs.Outside.{Pages, page_of, most_given}
+use Rattle.mari_io.specs.declared.shelf.Fetch.{Fetch}
+use Rattle.mari_io.specs.declared.shelf.Fetch.TheVariants as fetch
 use Rattle.mari_publish.specs.declared.fault.TextFault.{TextFault}
 use Rattle.mari_publish.specs.declared.fault.TextFault.TheVariants as text_fault
 use Rattle.mari_publish.specs.declared.publication.Publication.{Publication}
@@ -17,8 +19,12 @@ use Rattle.mari_day.specs.Files.Gap.{NotHeld, OverLimit}
 use Rattle.mari_day.specs.Reading.{HasBooks, HasGap, HasRefusal}
 use Rattle.mari_check.specs.Day.{IsFirstFault, IsValidPublication}
 use Rattle.mari_publish.specs.Paged.{IsToldFault, IsTooLong}
+use Rattle.mari_capacity.specs.declared.ending.ValueEnd.{ValueEnd}
+use Rattle.mari_capacity.specs.declared.ending.ValueEnd.TheVariants as values
+use Rattle.mari_capacity.specs.Ends.{IsEndOf}
+use Rattle.mari_capacity.specs.Streams.{ValueTells}
 use Rattle.mari_words.specs.Asked.{Asked}
-use Rattle.mari_words.specs.Asked.Asked.{Clear, Check, Generate, Migrate, Feed}
+use Rattle.mari_words.specs.Asked.Asked.{Blocks, Clear, Check, Generate, Migrate, Feed, Split, Value}
 use Rattle.mari_words.specs.declared.command.FilePart.{FilePart}
 use Rattle.mari_words.specs.declared.command.FilePart.TheVariants.{Borders, Limits}
 use Rattle.mari_commands.specs.declared.checks.MigrationCheck.TheVariants.{AlreadyTwo}
@@ -27,13 +33,16 @@ use Rattle.mari_commands.specs.Checks.{migration_check_number, text_check_number
 use Rattle.mari_commands.specs.Printing.{valid_line}
 use Rattle.mari_commands.specs.Summary.{IsGenerated}
 
--- the folder whose market files a command reads
+-- the folder whose market files a command reads; quarters that are cleared as one market have their own definitions
 abbrev pub folder_of : Asked → Option (List ℕ)
 folder_of (Clear folder nodes workers) = Some folder
 folder_of (Check folder) = Some folder
 folder_of (Generate number) = None
 folder_of (Migrate folder part) = Some folder
 folder_of (Feed folder) = None
+folder_of (Split folder nodes workers) = Some folder
+folder_of (Value folder more) = Some folder
+folder_of (Blocks folder first last nodes workers) = None
 
 -- the words ask for what reads the market files of this folder
 abbrev pub ReadsFolder : Option Asked → List ℕ → Type 0
@@ -53,9 +62,25 @@ AsksForFiles asked = (folder : List ℕ) × ReadsFolder asked folder
 abbrev pub AsksForFeed : Option Asked → Type 0
 AsksForFeed asked = (folder : List ℕ) × (asked ≡ Some (Feed folder))
 
--- the words ask for what reads pages: a folder's market files, or its publication alone
+-- the words ask for the values of a folder's limits
+abbrev pub AsksForValues : Option Asked → Type 0
+AsksForValues asked = (folder : List ℕ) × (more : ℕ) × (asked ≡ Some (Value folder more))
+
+-- the words ask for lines of what a publication says, which stand before the line of a status
+abbrev pub AsksForLines : Option Asked → Type 0
+AsksForLines asked = AsksForFeed asked ⊎ AsksForValues asked
+
+-- before a line that names this file none of these stand
+abbrev pub IsAlone : Option Asked → (file : ℕ) → Type 0
+IsAlone asked file = AsksForLines asked → file ≢ PUBLICATION
+
+-- the words ask for quarters of a folder as one market
+abbrev pub AsksForBlocks : Option Asked → Type 0
+AsksForBlocks asked = (folder : List ℕ) × (first : ℕ) × (last : ℕ) × (nodes : ℕ) × (workers : ℕ) × (asked ≡ Some (Blocks folder first last nodes workers))
+
+-- the words ask for what reads pages: a folder's market files, its publication alone, or its market files and blocks.csv
 abbrev pub AsksForPages : Option Asked → Type 0
-AsksForPages asked = AsksForFiles asked ⊎ AsksForFeed asked
+AsksForPages asked = AsksForFiles asked ⊎ (AsksForFeed asked ⊎ AsksForBlocks asked)
 
 -- the name of a folder's publication
 abbrev pub publication_path : List ℕ → List ℕ
@@ -91,6 +116,24 @@ pub record IsFeedable (asked : Option Asked) (pages : Pages) : Type 0 where
   pub short : length page ≤ most_given
   pub read : IsText page publication
 
+-- the limits of the folder's borders are valued: its market files give books, and the valuing of its publication ends so
+pub record EndsValues (asked : Option Asked) (pages : Pages) (end : ValueEnd) : Type 0 where
+  pub folder : List ℕ
+  pub more : ℕ
+  pub value : asked ≡ Some (Value folder more)
+  pub books : Books
+  pub gives : HasBooks pages folder books
+  pub ends : IsEndOf books (page_of pages (publication_path folder)) end
+
+-- and these are the lines that are printed where it ends so
+pub record TellsValues (asked : Option Asked) (pages : Pages) (end : ValueEnd) (lines : List ℕ) : Type 0 where
+  pub folder : List ℕ
+  pub more : ℕ
+  pub value : asked ≡ Some (Value folder more)
+  pub books : Books
+  pub gives : HasBooks pages folder books
+  pub tells : ValueTells books more (page_of pages (publication_path folder)) lines end
+
 -- the publication is refused at a line, by the number of a check
 abbrev pub text_refusal_at : (line number : ℕ) → Refusal
 text_refusal_at line number = record { file = PUBLICATION; line = line; number = number }
@@ -124,14 +167,20 @@ pub record RefusesFeed (asked : Option Asked) (pages : Pages) (page : List ℕ) 
   pub fed : HasFeed asked pages page
   pub told : IsToldFault page fault
 
--- what is refused: the market files, or the text of the publication that is checked or printed as a feed
+-- what is refused: the market files, or the text of the publication that is checked, printed as a feed or valued
 pub data IsRefused (asked : Option Asked) (pages : Pages) (refusal : Refusal) : Type 0 where
   OfFiles : RefusesFiles asked pages refusal → IsRefused asked pages refusal
   OfText : (page : List ℕ) (fault : TextFault) → RefusesText asked pages page fault → refusal ≡ text_refusal fault → IsRefused asked pages refusal
   OfFeed : (page : List ℕ) (fault : TextFault) → RefusesFeed asked pages page fault → refusal ≡ text_refusal fault → IsRefused asked pages refusal
+  OfValues : (fault : TextFault) → EndsValues asked pages (values.Text fault) → refusal ≡ text_refusal fault → IsRefused asked pages refusal
+
+-- the answer of a fetch of a page that can't be had
+abbrev pub fetch_of : Gap → Fetch
+fetch_of NotHeld = fetch.Missing
+fetch_of OverLimit = fetch.TooLong
 
 -- the first file whose page can't be had, by its number, and why: a market file of the folder; or the publication that
--- is checked or printed as a feed, which isn't held, or is longer than may be given in pieces
+-- is checked, printed as a feed or valued, which isn't held, or is longer than may be given in pieces
 pub data LacksPage (asked : Option Asked) (pages : Pages) (file : ℕ) (gap : Gap) : Type 0 where
   OfBooks : (folder : List ℕ) → ReadsFolder asked folder → HasGap pages folder file gap → LacksPage asked pages file gap
   NoPublication : (folder : List ℕ) (books : Books) → asked ≡ Some (Check folder) → HasBooks pages folder books → page_of pages (publication_path folder) ≡ None
@@ -139,6 +188,7 @@ pub data LacksPage (asked : Option Asked) (pages : Pages) (file : ℕ) (gap : Ga
   LongPublication : (books : Books) (page : List ℕ) → HasPublication asked pages books page → IsTooLong page → file ≡ PUBLICATION → gap ≡ OverLimit → LacksPage asked pages file gap
   NoFeed : (folder : List ℕ) → asked ≡ Some (Feed folder) → page_of pages (publication_path folder) ≡ None → file ≡ PUBLICATION → gap ≡ NotHeld → LacksPage asked pages file gap
   LongFeed : (page : List ℕ) → HasFeed asked pages page → IsTooLong page → file ≡ PUBLICATION → gap ≡ OverLimit → LacksPage asked pages file gap
+  OfValues : EndsValues asked pages (values.Fetch (fetch_of gap)) → file ≡ PUBLICATION → LacksPage asked pages file gap
 
 -- the new form of a file
 abbrev pub page_of_part : FilePart → Books → List ℕ
@@ -155,18 +205,20 @@ pub record IsMigratable (asked : Option Asked) (pages : Pages) : Type 0 where
   pub first : books.limits ≡ None
 
 -- a text that is printed whole, where all is well: that the publication that is checked is valid, with the numbers of
--- its published and of its other blocks; the new form of a file of a folder whose borders state their limits; or the
--- summary of a generated day
+-- its published and of its other blocks; the new form of a file of a folder whose borders state their limits; the
+-- summary of a generated day; or the values of the limits of a valid publication
 pub data Prints (asked : Option Asked) (pages : Pages) (text : List ℕ) : Type 0 where
   Valid : (is : IsReadable asked pages) → IsValidPublication is.books is.publication
       → text ≡ valid_line (published_in is.publication.blocks) (unpublished_in is.publication.blocks) → Prints asked pages text
   Migrated : (is : IsMigratable asked pages) → text ≡ page_of_part is.part is.books → Prints asked pages text
   Generated : (number : ℕ) → asked ≡ Some (Generate number) → IsGenerated number text → Prints asked pages text
+  Valued : (published unpublished : ℕ) → TellsValues asked pages (values.Valid published unpublished) text → Prints asked pages text
 
--- the publication that is checked has a fault: the first run that has one, and its least
-pub record IsInvalid (asked : Option Asked) (pages : Pages) (run fault : ℕ) : Type 0 where
-  pub is_read : IsReadable asked pages
-  pub first : IsFirstFault is_read.books is_read.publication run fault
+-- the publication that is checked has a fault: the first run that has one, and its least; or the one that is valued has
+-- it, and its text has none before
+pub data IsInvalid (asked : Option Asked) (pages : Pages) (run fault : ℕ) : Type 0 where
+  OfCheck : (is : IsReadable asked pages) → IsFirstFault is.books is.publication run fault → IsInvalid asked pages run fault
+  OfValues : EndsValues asked pages (values.Invalid run fault) → IsInvalid asked pages run fault
 
 -- the books of the folder that the words ask to clear, and its budget of nodes
 pub record AreCleared (asked : Option Asked) (pages : Pages) (books : Books) (nodes : ℕ) : Type 0 where

@@ -1,5 +1,5 @@
 -- What the words and the pages come to, and how it is reported.
-use Rattle.std.specs.Prelude.{ℕ, ◌≡◌, ◌≢◌, ◌⊎◌, ◌==◌, if◌then◌else◌, List, Option, Some, None, Result, Ok, Err, ⊤, String, string_bytes}
+use Rattle.std.specs.Prelude.{ℕ, ◌≡◌, ◌≢◌, ◌⊎◌, ◌≤◌, ◌==◌, ◌++◌, if◌then◌else◌, List, Option, Some, None, Result, Ok, Err, ⊤, String, string_bytes}
 use lib.Chars.{codes}
 use Rattle.std.specs.declared.alloc.Global.{Global}
 use Rattle.mari_io.specs.declared.shelf.Fetch.{Fetch}
@@ -11,15 +11,17 @@ use Rattle.mari_publish.specs.declared.fault.TextFault.TheVariants as text_fault
 use Rattle.mari_remain.specs.declared.books.Books.{Books}
 use Rattle.mari_remain.specs.Accepted.{IsAccepted}
 use Rattle.mari_day.specs.Dated.{IsDated}
-use Rattle.mari_day.specs.Day.{EndsDay, TookPart, then_took}
+use Rattle.mari_day.specs.Day.{TookPart, then_took}
 use Rattle.mari_day.specs.declared.day.DayEnd.{DayEnd}
 use Rattle.mari_day.specs.declared.day.DayEnd.TheVariants as end
 use Rattle.mari_day.specs.declared.files.TheConstants.{PUBLICATION}
 use Rattle.mari_day.specs.Files.{Gap, IsFileNumber, IsNamed}
-use Rattle.mari_day.specs.Files.Gap.{NotHeld, OverLimit}
-use Rattle.mari_day.specs.Reading.{HasBooks, HasGap, HasRefusal}
+use Rattle.mari_day.specs.Reading.{HasBooks, HasGap, HasRefusal, IsFetchFault}
 use Rattle.mari_day.specs.declared.reading.BooksFault.{BooksFault}
 use Rattle.mari_day.specs.declared.reading.BooksFault.TheVariants as why
+use Rattle.mari_blocks.specs.declared.clearing.JointText.{JointText}
+use Rattle.mari_quarters.specs.Quarters.{NamesQuartersFile, QuartersTell}
+use Rattle.mari_units.specs.declared.limits.TheConstants.{MOST_QUARTERS}
 use Rattle.mari_check.specs.declared.verdict.Verdict.{Verdict}
 use Rattle.mari_check.specs.declared.verdict.Verdict.TheVariants as verdict
 use Rattle.mari_check.specs.Streams.{StreamTells}
@@ -28,18 +30,25 @@ use Rattle.mari_feed.specs.Streams.{FeedTells, IsFeedFetch}
 use Rattle.mari_feed.specs.declared.stream.FeedStop.{FeedStop}
 use Rattle.mari_feed.specs.declared.stream.FeedStop.TheVariants as stop
 use Rattle.mari_words.specs.Asked.{Asked}
-use Rattle.mari_words.specs.Asked.Asked.{Clear, Check, Generate, Migrate, Feed}
+use Rattle.mari_words.specs.Asked.Asked.{Blocks, Clear, Check, Generate, Migrate, Feed, Split, Value}
+use Rattle.mari_capacity.specs.declared.ending.ValueEnd.{ValueEnd}
+use Rattle.mari_capacity.specs.declared.ending.Valued.{Valued}
+use Rattle.mari_capacity.specs.Ends.{IsEndOf}
+use Rattle.mari_capacity.specs.Streams.{EndsAs, IsPageEnd, IsWrapped, ValueTells}
 use Rattle.mari_market.specs.Clearing.{IsBudget, IsWorkerCount}
 use Rattle.mari_commands.specs.declared.outcome.Job.{Job}
+use Rattle.mari_commands.specs.declared.outcome.Quarters.{Quarters}
 use Rattle.mari_commands.specs.declared.outcome.Outcome.{Outcome}
-use Rattle.mari_commands.specs.declared.outcome.Outcome.TheVariants.{NoCommand, Day, Feed as Feeds, Text, Invalid, NoPage, Refused, Memory as NoMemory}
+use Rattle.mari_commands.specs.declared.outcome.Outcome.TheVariants.{NoCommand, Day, Feed as Feeds, Blocks as Joins, Values, Text, Invalid, NoPage, Refused, Memory as NoMemory}
 use Rattle.mari_commands.specs.declared.status.Status.{Status}
 use Rattle.mari_commands.specs.declared.status.Status.TheVariants as status
 use Rattle.mari_words.specs.declared.command.FilePart.{FilePart}
-use Rattle.mari_commands.specs.Commands.{AsksForFeed, AsksForFiles, AsksToCheck, ReadsFolder, already_two, page_of_part, publication_path, text_refusal}
+use Rattle.mari_commands.specs.Commands.{AsksForFeed, AsksForFiles, AsksForLines, AsksForValues, AsksToCheck, IsAlone, ReadsFolder, already_two, fetch_of, page_of_part, publication_path, text_refusal}
+use Rattle.mari_commands.specs.Splits.{EndsBy, command_by}
 use Rattle.mari_commands.specs.Summary.{IsGenerated}
 use Rattle.mari_commands.specs.Printing.{file_line, invalid_line, refused_line, usage_line, valid_line}
 use Rattle.mari_commands.specs.Refusals.{HasName}
+use Rattle.mari_commands.specs.Values.{value_line, value_status}
 
 -- the line of a publication that is valid
 abbrev pub IsValidLine : List ℕ → Type 0
@@ -53,32 +62,43 @@ AsksForText (Some (Clear folder nodes workers)) text = ⊥
 AsksForText (Some (Check folder)) text = IsValidLine text
 AsksForText (Some (Migrate folder part)) text = ⊤
 AsksForText (Some (Feed folder)) text = ⊥
+AsksForText (Some (Split folder nodes workers)) text = ⊥
+AsksForText (Some (Value folder more)) text = ⊥
+AsksForText (Some (Blocks folder first last nodes workers)) text = ⊥
 AsksForText (Some (Generate number)) text = IsGenerated number text
 
--- a file whose page may be wanted: a market file of the folder, or its publication where that is checked or printed
--- as a feed
+-- a file whose page may be wanted: a market file of the folder, where the words read these; or its publication, where
+-- that is checked, printed as a feed or valued
 abbrev pub MayWant : Option Asked → (file : ℕ) → Type 0
-MayWant asked file = IsFileNumber file ⊎ ((AsksToCheck asked ⊎ AsksForFeed asked) × (file ≡ PUBLICATION))
+MayWant asked file = (AsksForFiles asked × IsFileNumber file) ⊎ ((AsksToCheck asked ⊎ AsksForLines asked) × (file ≡ PUBLICATION))
+
+-- the command that clears these quarters as one market
+abbrev pub blocks_of : Quarters → Asked
+blocks_of quarters = Blocks (string_bytes quarters.folder) quarters.first quarters.last quarters.nodes quarters.workers
 
 -- the words ask for what may come to this outcome, whatever the pages are
 abbrev pub IsOfWords : Option Asked → Outcome → Type 0
 IsOfWords asked NoCommand = asked ≡ None
-IsOfWords asked (Day job) = (folder : List ℕ) × (asked ≡ Some (Clear folder job.nodes job.workers))
+IsOfWords asked (Day job) = (folder : List ℕ) × (asked ≡ Some (command_by job.way folder job.nodes job.workers))
 IsOfWords asked (Feeds folder) = asked ≡ Some (Feed (string_bytes folder))
+IsOfWords asked (Joins quarters) = asked ≡ Some (blocks_of quarters)
+IsOfWords asked (Values v) = AsksForValues asked × (IsWrapped v.end → ⊥)
 IsOfWords asked (Text text) = AsksForText asked text.items
 IsOfWords asked (Invalid run number) = AsksToCheck asked
-IsOfWords asked (NoPage file why) = AsksForFiles asked × MayWant asked file
-IsOfWords asked (Refused refusal) = AsksForFiles asked
+IsOfWords asked (NoPage file why) = AsksForFiles asked × MayWant asked file × IsAlone asked file
+IsOfWords asked (Refused refusal) = AsksForFiles asked × IsAlone asked refusal.file
 IsOfWords asked NoMemory = ⊤
 
 -- the fetch of some file gave this answer
 abbrev pub IsNoPage : Fetch → Outcome → Type 0
 IsNoPage why (NoPage file w) = w ≡ why
+IsNoPage why (Values v) = IsPageEnd why v.end
 IsNoPage why _ = ⊥
 
 -- whoever reports the outcome still asks the shelf for a page
 abbrev pub IsOwn : Outcome → Type 0
 IsOwn (Feeds folder) = ⊤
+IsOwn (Joins quarters) = ⊤
 IsOwn _ = ⊥
 
 -- a job that can be done: its books are a folder's, and its numbers are within their limits
@@ -88,9 +108,17 @@ pub record IsReady (job : Job) : Type 0 where
   pub nodes : IsBudget job.nodes
   pub workers : IsWorkerCount job.workers
 
+-- quarters that can be cleared as one market, if their folder's pages let them: all numbers are within their limits
+pub record AreJoinable (quarters : Quarters) : Type 0 where
+  pub in_order : quarters.first ≤ quarters.last
+  pub last : quarters.last ≤ MOST_QUARTERS
+  pub nodes : IsBudget quarters.nodes
+  pub workers : IsWorkerCount quarters.workers
+
 -- an outcome that can be reported
 abbrev pub IsReportable : Outcome → Type 0
 IsReportable (Day job) = IsReady job
+IsReportable (Joins quarters) = AreJoinable quarters
 IsReportable (NoPage file why) = IsNamed file
 IsReportable (Refused refusal) = IsNamed refusal.file × HasName refusal
 IsReportable _ = ⊤
@@ -111,7 +139,7 @@ pub data Reports (text : List ℕ) (wanted : Status) (before after : Option (Lis
 -- how a job is reported: its day is written as it is made
 pub record ReportsDay (job : Job) (before after : Option (List ℕ)) (result : Status) : Type 0 where
   pub ended : DayEnd
-  pub ends : EndsDay job.books job.nodes before after ended
+  pub ends : EndsBy job.way job.books job.nodes before after ended
   pub status : result ≡ day_status ended
 
 -- how a refusal is reported
@@ -149,11 +177,41 @@ pub record ReportsParts (pages : Option Pages) (failed : Type 0) (folder : List 
   pub tells : (told : Pages) → pages ≡ Some told → FeedTells (page_of told (publication_path folder)) before between end
   pub reports : ReportsFeed end between after result
 
+-- how the values of limits are reported by how they end: the lines are printed, and then the line of the status
+abbrev pub ReportsValues : (lines : List ℕ) → ValueEnd → (before after : Option (List ℕ)) → Status → Type 0
+ReportsValues lines end before after result = Reports (lines ++ value_line end) (value_status end) before after result
+
+-- of what clearing quarters gives, the file of a fault has a name, and the check of a refusal
+abbrev pub IsSayable : {T : Type 0} → Result T BooksFault → Type 0
+IsSayable (Ok printed) = ⊤
+IsSayable (Err (why.Fetch file fault)) = IsNamed file
+IsSayable (Err (why.Refused refusal)) = IsNamed refusal.file × HasName refusal
+IsSayable (Err why.Memory) = ⊤
+
+-- how it is reported: the text is printed; or the line of a refusal, or of a page that can't be had
+abbrev pub ReportsQuarters : Result JointText BooksFault → (before after : Option (List ℕ)) → Status → Type 0
+ReportsQuarters (Ok printed) before after result = Reports printed.text (if printed.published then status.Done else status.Unpublished) before after result
+ReportsQuarters (Err (why.Fetch file fault)) before after result = ReportsNoPage file fault before after result
+ReportsQuarters (Err (why.Refused refusal)) before after result = ReportsRefusal refusal before after result
+ReportsQuarters (Err why.Memory) before after result = (result ≡ status.Memory) × (after ≡ before)
+
+-- how quarters are reported that are cleared as one market, by what that gives; that a call of the shelf failed is said
+-- only where one did
+pub record ReportsBlocks (pages : Option Pages) (failed : Type 0) (quarters : Quarters) (before after : Option (List ℕ)) (result : Status) : Type 0 where
+  pub given : Result JointText BooksFault
+  pub tells : (told : Pages) → pages ≡ Some told → QuartersTell told (string_bytes quarters.folder) quarters.first quarters.last quarters.nodes given
+  pub file : NamesQuartersFile given
+  pub sayable : IsSayable given
+  pub cause : IsFetchFault fetch.Failed given → failed
+  pub reports : ReportsQuarters given before after result
+
 -- how an outcome is reported
 abbrev pub Reported : Option Pages → (failed : Type 0) → Outcome → (before after : Option (List ℕ)) → Status → Type 0
 Reported pages failed NoCommand before after result = Reports usage_line status.Usage before after result
 Reported pages failed (Day job) before after result = ReportsDay job before after result
 Reported pages failed (Feeds folder) before after result = ReportsParts pages failed (string_bytes folder) before after result
+Reported pages failed (Joins quarters) before after result = ReportsBlocks pages failed quarters before after result
+Reported pages failed (Values v) before after result = ReportsValues v.text v.end before after result
 Reported pages failed (Text text) before after result = Reports text.items status.Done before after result
 Reported pages failed (Invalid run fault) before after result = Reports (invalid_line run fault) (status.Invalid run fault) before after result
 Reported pages failed (NoPage file why) before after result = ReportsNoPage file why before after result
@@ -210,6 +268,8 @@ abbrev pub CheckTells : Books → Option (List ℕ) → Outcome → Type 0
 CheckTells books page NoCommand = ⊥
 CheckTells books page (Day job) = ⊥
 CheckTells books page (Feeds folder) = ⊥
+CheckTells books page (Joins quarters) = ⊥
+CheckTells books page (Values v) = ⊥
 CheckTells books page (Text text) =
     (published : ℕ) × (unpublished : ℕ) × StreamTells books page (Ok (verdict.Valid published unpublished))
     × (text.items ≡ valid_line published unpublished)
@@ -219,23 +279,31 @@ CheckTells books page (Refused refusal) =
     (fault : TextFault) × StreamTells books page (Err (stream.Text fault)) × (refusal ≡ text_refusal fault)
 CheckTells books page NoMemory = ⊤
 
--- the answer of a fetch of a page that can't be had
-abbrev pub fetch_of : Gap → Fetch
-fetch_of NotHeld = fetch.Missing
-fetch_of OverLimit = fetch.TooLong
+-- what is said of the page of a publication that is valued against these books, and how that ends
+abbrev pub ValuesTell : Books → (more : ℕ) → Option (List ℕ) → Valued → Type 0
+ValuesTell books more page v = ValueTells books more page v.text v.end × ((end : ValueEnd) → IsEndOf books page end → EndsAs end v)
+
+-- what comes of a publication that is valued against these books
+abbrev pub IsToldValues : Books → (more : ℕ) → Option (List ℕ) → Outcome → Type 0
+IsToldValues books more page (Values v) = ValuesTell books more page v
+IsToldValues books more page NoMemory = ⊤
+IsToldValues books more page _ = ⊥
 
 -- what an outcome says of what the words ask for and of the pages: the words are no command; a folder's market files
--- are refused, or a page of them can't be had; or they give books, which are cleared, checked or migrated; a day is
--- generated; a publication is printed as a feed; or a fetch failed, or there was no memory
+-- are refused, or a page of them can't be had; or they give books, which are cleared, checked, migrated or valued; a day
+-- is generated; a publication is printed as a feed; quarters are cleared as one market; or a fetch failed, or there was no
+-- memory
 pub data Says (asked : Option Asked) (pages : Pages) (o : Outcome) : Type 0 where
   OfUsage : asked ≡ None → o ≡ NoCommand → Says asked pages o
   OfRefusal : (folder : List ℕ) (refusal : Refusal) → ReadsFolder asked folder → HasRefusal pages folder refusal → o ≡ Refused refusal → Says asked pages o
   OfGap : (folder : List ℕ) (file : ℕ) (gap : Gap) → ReadsFolder asked folder → HasGap pages folder file gap → o ≡ NoPage file (fetch_of gap) → Says asked pages o
-  OfClear : (folder : List ℕ) (job : Job) → asked ≡ Some (Clear folder job.nodes job.workers) → HasBooks pages folder job.books → o ≡ Day job → Says asked pages o
+  OfClear : (folder : List ℕ) (job : Job) → asked ≡ Some (command_by job.way folder job.nodes job.workers) → HasBooks pages folder job.books → o ≡ Day job → Says asked pages o
   OfCheck : (folder : List ℕ) (books : Books) → asked ≡ Some (Check folder) → HasBooks pages folder books → CheckTells books (page_of pages (publication_path folder)) o → Says asked pages o
   OfMigrate : (folder : List ℕ) (part : FilePart) (books : Books) → asked ≡ Some (Migrate folder part) → HasBooks pages folder books → IsMigrated books part o → Says asked pages o
   OfGenerate : (number : ℕ) → asked ≡ Some (Generate number) → IsSummarised number o → Says asked pages o
+  OfValues : (folder : List ℕ) (more : ℕ) (books : Books) → asked ≡ Some (Value folder more) → HasBooks pages folder books → IsToldValues books more (page_of pages (publication_path folder)) o → Says asked pages o
   OfFeed : (folder : String Global) → asked ≡ Some (Feed (string_bytes folder)) → o ≡ Feeds folder → Says asked pages o
+  OfBlocks : (quarters : Quarters) → asked ≡ Some (blocks_of quarters) → o ≡ Joins quarters → Says asked pages o
   Fails : (folder : List ℕ) (file : ℕ) → ReadsFolder asked folder → o ≡ NoPage file fetch.Failed → Says asked pages o
   Starves : o ≡ NoMemory → Says asked pages o
 

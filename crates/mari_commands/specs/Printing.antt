@@ -8,7 +8,7 @@ use Rattle.mari_commands.specs.Refusals.{check_name}
 
 -- the line that tells how the program is called
 unfoldable pub usage_line : List ℕ
-usage_line = codes "usage: mari clear FOLDER [--nodes N] [--workers K] | mari check FOLDER | mari generate NUMBER | mari migrate FOLDER borders | mari migrate FOLDER limits | mari feed FOLDER\n"
+usage_line = codes "usage: mari clear FOLDER [--nodes N] [--workers K] | mari check FOLDER | mari generate NUMBER | mari migrate FOLDER borders | mari migrate FOLDER limits | mari feed FOLDER | mari split FOLDER [--nodes N] [--workers K] | mari blocks FOLDER FIRST LAST [--nodes N] [--workers K] | mari value FOLDER K\n"
 
 -- the line of a file, by its number from 1, whose page can't be had
 abbrev pub file_line : List ℕ → ℕ → List ℕ

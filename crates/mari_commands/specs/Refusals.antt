@@ -30,10 +30,16 @@ use Rattle.mari_demands.specs.declared.limits.LimitCheck.TheVariants as limit
 use Rattle.mari_day.specs.Files.{file_with}
 use Rattle.mari_day.specs.declared.files.File.{File}
 use Rattle.mari_day.specs.declared.files.File.TheVariants as file
-use Rattle.mari_day.specs.declared.files.TheConstants.{PUBLICATION}
+use Rattle.mari_day.specs.declared.files.TheConstants.{BLOCKS, PUBLICATION}
 use Rattle.mari_day.specs.DateChecks.{date_check_name, date_check_number}
 use Rattle.mari_day.specs.declared.calendar_page.DateCheck.{DateCheck}
 use Rattle.mari_day.specs.declared.calendar_page.DateCheck.TheVariants as date
+use Rattle.mari_blocks.specs.BlockChecks.{block_check_name, block_check_number}
+use Rattle.mari_blocks.specs.JointChecks.{joint_check_name, joint_check_number}
+use Rattle.mari_blocks.specs.declared.blocks.BlockCheck.{BlockCheck}
+use Rattle.mari_blocks.specs.declared.blocks.BlockCheck.TheVariants as block
+use Rattle.mari_blocks.specs.declared.checks.JointCheck.{JointCheck}
+use Rattle.mari_blocks.specs.declared.checks.JointCheck.TheVariants as joint
 use Rattle.mari_commands.specs.Checks.{migration_check_name, migration_check_number, text_check_name, text_check_number}
 use Rattle.mari_commands.specs.declared.checks.MigrationCheck.{MigrationCheck}
 use Rattle.mari_commands.specs.declared.checks.MigrationCheck.TheVariants as migration
@@ -79,10 +85,17 @@ checks_of_texts = text.BadLine ∷ text.BadOrder ∷ text.Truncated ∷ []
 abbrev pub checks_of_limits : List LimitCheck
 checks_of_limits = limit.BadField ∷ limit.UnknownRun ∷ limit.UnknownBorder ∷ limit.Repeated ∷ limit.Range ∷ []
 
+abbrev pub checks_of_blocks : List BlockCheck
+checks_of_blocks = block.BadField ∷ block.UnknownBid ∷ block.Quarter ∷ block.Repeated ∷ block.Linked ∷ []
+
 -- the name of a check of borders.csv, by its number
 abbrev pub border_name : ℕ → Option (List ℕ)
 border_name number = option_or (name_among border_check_number border_check_name checks_of_borders number)
     (name_among migration_check_number migration_check_name checks_of_migrations number)
+
+-- the name of a check of a file, or of this one of what can't be one market, which is reported of the file
+abbrev pub name_or_joint : Option (List ℕ) → JointCheck → ℕ → Option (List ℕ)
+name_or_joint own check number = option_or own (name_among joint_check_number joint_check_name (check ∷ []) number)
 
 -- the name of a check of a market file's own
 abbrev pub named_of : Option File → (number : ℕ) → Option (List ℕ)
@@ -90,8 +103,8 @@ named_of (Some file.Day) number = name_among date_check_number date_check_name c
 named_of (Some file.Zones) number = name_among zone_check_number zone_check_name checks_of_zones number
 named_of (Some file.Borders) number = border_name number
 named_of (Some file.Bids) number = name_among bid_check_number bid_check_name checks_of_bids number
-named_of (Some file.Links) number = name_among link_check_number link_check_name checks_of_links number
-named_of (Some file.Runs) number = name_among run_check_number run_check_name checks_of_runs number
+named_of (Some file.Links) number = name_or_joint (name_among link_check_number link_check_name checks_of_links number) joint.AcrossQuarters number
+named_of (Some file.Runs) number = name_or_joint (name_among run_check_number run_check_name checks_of_runs number) joint.NoScheduled number
 named_of (Some file.Demands) number = name_among demand_check_number demand_check_name checks_of_demands number
 named_of (Some file.Limits) number = name_among limit_check_number limit_check_name checks_of_limits number
 named_of None number = None
@@ -99,7 +112,9 @@ named_of None number = None
 -- the name of a check of one file of its own, by the file's number from 1
 abbrev pub own_name : (file number : ℕ) → Option (List ℕ)
 own_name file number =
-    if file == PUBLICATION then name_among text_check_number text_check_name checks_of_texts number else named_of (file_with file) number
+    if file == PUBLICATION then name_among text_check_number text_check_name checks_of_texts number else
+    if file == BLOCKS then name_or_joint (name_among block_check_number block_check_name checks_of_blocks number) joint.TooLarge number else
+    named_of (file_with file) number
 
 -- the name of a check, by its file's number from 1 and its own
 unfoldable pub check_name : (file number : ℕ) → Option (List ℕ)

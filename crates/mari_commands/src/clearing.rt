@@ -1,19 +1,20 @@
-//! Clearing the runs of a day, whose text is written as it is made.
+//! Clearing the runs of a day, each as a whole or island by island. Its text is written as it is made.
 
 ghost use Rattle.std.specs.Prelude.{◌≡◌, Some};
 ghost use Rattle.mari_market.specs.Clearing.{Clears, IsBudget, IsWorkerCount};
 ghost use Rattle.mari_market.specs.Market.{IsValid};
 ghost use Rattle.mari_io.specs.Outside.{Counts, Pages};
 ghost use Rattle.mari_io.specs.declared.shelf.Fetch.TheVariants as fetch;
-ghost use Rattle.mari_words.specs.Asked.Asked.{Clear};
 ghost use Rattle.mari_commands.specs.Outcome.{IsNoPage, IsOfWords, IsReady, IsReportable, ReportsDay, Says, day_status};
+ghost use Rattle.mari_commands.specs.Splits.{command_by};
 
 use crate::books::books_in;
-use crate::outcome::{Job, Outcome};
+use crate::outcome::{Job, Outcome, Way};
 use crate::status::Status;
 use mari_day::{DayEnd, run_day};
 use mari_io::{Shelf, Sink};
 use mari_market::{Cleared, Clearer, Market};
+use mari_split::split_day;
 use mari_workers::{Alone, Crew, Turnstile, search};
 use std::alloc::Global;
 use std::sync::Wait;
@@ -43,7 +44,10 @@ fn clear_by<C: Clearer, K: Sink>(alloc: Global, job: &Job, clearer: &mut C, sink
     ensures reports { ReportsDay job.now (K.taken sink.old) (K.taken sink.new) result }
     ensures cause { Counts (result ≡ Status.WriteFault) (K.faults sink.old) (K.faults sink.new) }
 {
-    status_of(run_day(alloc, &job.books, job.nodes, clearer, sink))
+    match job.way {
+        Way::Whole => status_of(run_day(alloc, &job.books, job.nodes, clearer, sink)),
+        Way::Islands => status_of(split_day(alloc, &job.books, job.nodes, clearer, sink)),
+    }
 }
 
 /// Clears a day by one worker, which is this thread. It waits for nobody.
@@ -77,11 +81,12 @@ pub fn clear_together<K: Sink, G: Turnstile, R: Threads + Wait + Sync>(
     clear_by(alloc, job, &mut crew, sink)
 }
 
-/// What comes of a folder whose day is to be cleared.
+/// What comes of a folder whose day is to be cleared in this way.
 pub fn to_clear<S: Shelf>(
     alloc: Global,
     shelf: &mut S,
     folder: &str,
+    way: Way,
     nodes: u32,
     workers: u32,
 ) -> Outcome
@@ -91,10 +96,10 @@ pub fn to_clear<S: Shelf>(
 
     // What is found of the folder's pages, where the shelf tells them.
     ensures same { S.pages shelf.new ≡ S.pages shelf.old }
-    ensures told { (told : Pages) → S.pages shelf.old ≡ Some told → Says (Some (Clear folder.now nodes workers)) told result }
+    ensures told { (told : Pages) → S.pages shelf.old ≡ Some told → Says (Some (command_by way folder.now nodes workers)) told result }
 
     // What comes of the words on any shelf.
-    ensures words { IsOfWords (Some (Clear folder.now nodes workers)) result }
+    ensures words { IsOfWords (Some (command_by way folder.now nodes workers)) result }
     ensures reportable { IsReportable result }
 
     // Why a page wasn't had.
@@ -105,6 +110,7 @@ pub fn to_clear<S: Shelf>(
     match books_in(alloc, shelf, folder) {
         Ok(books) => Outcome::Day(Job {
             books,
+            way,
             nodes,
             workers,
         }),

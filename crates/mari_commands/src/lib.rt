@@ -1,5 +1,7 @@
 //! The commands of the program: `mari clear FOLDER [--nodes N] [--workers K]`, `mari check FOLDER`,
-//! `mari generate NUMBER`, `mari migrate FOLDER borders`, `mari migrate FOLDER limits` and `mari feed FOLDER`.
+//! `mari generate NUMBER`, `mari migrate FOLDER borders`, `mari migrate FOLDER limits`, `mari feed FOLDER`,
+//! `mari split FOLDER [--nodes N] [--workers K]`, `mari blocks FOLDER FIRST LAST [--nodes N] [--workers K]` and
+//! `mari value FOLDER K`.
 //!
 //! `run_program` is all of them over any shelf and sink: words, the books of a folder, the text of their day, its check,
 //! and bytes. Its contract carries the headline (`specs/Headline.antt`). It stands on all the crates of the program.
@@ -11,6 +13,7 @@ mod checks;
 mod clearing;
 mod feeding;
 mod generating;
+mod joining;
 mod migrating;
 mod outcome;
 mod program;
@@ -18,6 +21,7 @@ mod refusals;
 mod saying;
 mod status;
 mod summary;
+mod valuing;
 mod writing;
 
 pub use program::run_program;

@@ -6,20 +6,26 @@ ghost use Rattle.mari_io.specs.Outside.{Counts, Pages, Rose};
 ghost use Rattle.mari_io.specs.declared.shelf.Fetch.TheVariants as fetch;
 ghost use Rattle.mari_publish.specs.declared.fault.TextFault.{TextFault};
 ghost use Rattle.mari_day.specs.Files.{Gap};
+ghost use Rattle.mari_capacity.specs.declared.ending.ValueEnd.{ValueEnd as TheValueEnd};
 ghost use Rattle.mari_words.specs.Asked.Asked.{Generate};
 ghost use Rattle.mari_words.specs.Words.{command_at};
-ghost use Rattle.mari_commands.specs.Commands.{AsksForFiles, AsksForPages, IsClearable, IsFeedable, IsMigratable, IsReadable, LacksPage, RefusesFeed, RefusesFiles, RefusesText, text_refusal};
+ghost use Rattle.mari_commands.specs.Commands.{AsksForFiles, AsksForPages, EndsValues, IsClearable, IsFeedable, IsMigratable, IsReadable, LacksPage, RefusesFeed, RefusesFiles, RefusesText, text_refusal};
 ghost use Rattle.mari_commands.specs.Headline.{HasBudget};
 ghost use Rattle.mari_commands.specs.Outcome.{IsNoPage, IsOfWords, IsOwn, IsReportable, IsSummarised, Reported, Says};
-ghost use Rattle.mari_commands.specs.Program.{Answers, IsDayStatus, IsStatus, IsVerdictStatus, OrFault, gap_status};
+ghost use Rattle.mari_commands.specs.Values.{value_status};
+ghost use Rattle.mari_commands.specs.Program.{IsDayStatus, IsStatus, IsVerdictStatus, OrFault, gap_status};
+ghost use Rattle.mari_commands.specs.Joint.{AnswersOf, Decides, IsJoinable};
+ghost use Rattle.mari_commands.specs.Splits.{HasIslandBudget, IsSplittable};
 
 use crate::checking::checked;
 use crate::clearing::{clear_together, to_clear};
 use crate::generating::generated;
+use crate::joining::join_together;
 use crate::migrating::migrated;
-use crate::outcome::Outcome;
+use crate::outcome::{Outcome, Quarters, Way};
 use crate::saying::report;
 use crate::status::Status;
+use crate::valuing::valued;
 use mari_io::{Shelf, Sink};
 use mari_words::{Command, WordsFault, read_words};
 use mari_workers::Turnstile;
@@ -59,18 +65,41 @@ fn outcome_of<S: Shelf, G: Turnstile, R: Threads + Wait + Sync>(
                 nodes,
                 workers,
             },
-        ) => to_clear(alloc, shelf, &folder, nodes, workers),
+        ) => to_clear(alloc, shelf, &folder, Way::Whole, nodes, workers),
         Ok(Command::Check { folder }) => checked(alloc, shelf, &folder),
         Ok(Command::Generate { number }) => generated(rt, alloc, number, turnstile),
         Ok(Command::Migrate { folder, part }) => migrated(alloc, shelf, &folder, part),
         Ok(Command::Feed { folder }) => Outcome::Feed(folder),
+        Ok(
+            Command::Split {
+                folder,
+                nodes,
+                workers,
+            },
+        ) => to_clear(alloc, shelf, &folder, Way::Islands, nodes, workers),
+        Ok(Command::Value { folder, more }) => valued(alloc, shelf, &folder, more),
+        Ok(
+            Command::Blocks {
+                folder,
+                first,
+                last,
+                nodes,
+                workers,
+            },
+        ) => Outcome::Blocks(Quarters {
+            folder,
+            first,
+            last,
+            nodes,
+            workers,
+        }),
         Err(WordsFault::Usage) => Outcome::NoCommand,
         Err(WordsFault::Memory) => Outcome::Memory,
     }
 }
 
-/// Writes what is printed of an outcome, and answers its status. It waits for workers only where a day is cleared by
-/// several.
+/// Writes what is printed of an outcome, and answers its status. It waits for workers only where a day or quarters are
+/// cleared by several.
 fn finish<S: Shelf, K: Sink, G: Turnstile, R: Threads + Wait + Sync>(
     rt: &R,
     alloc: Global,
@@ -92,6 +121,9 @@ fn finish<S: Shelf, K: Sink, G: Turnstile, R: Threads + Wait + Sync>(
 {
     match outcome {
         Outcome::Day(job) if job.workers > 1 => clear_together(rt, alloc, job, sink, turnstile),
+        Outcome::Blocks(quarters) if quarters.workers > 1 => {
+            join_together(rt, alloc, quarters, shelf, sink, turnstile)
+        }
         other => report(alloc, shelf, sink, other),
     }
 }
@@ -106,10 +138,16 @@ fn finish<S: Shelf, K: Sink, G: Turnstile, R: Threads + Wait + Sync>(
 /// - `migrate FOLDER borders` and `migrate FOLDER limits` print these files in the form that states limits for each
 ///   run.
 /// - `feed FOLDER` prints the folder's publication.txt, of which alone it reads, as JSON: a line for each part.
+/// - `split FOLDER [--nodes N] [--workers K]` clears the runs of the folder's day island by island, each island within N
+///   nodes, and prints the day as it is made.
+/// - `value FOLDER K` prints what K MW more, 1 to `MOST_RAISE`, on each limit of a border would bring each run of the
+///   folder's publication.txt, which it checks block by block, up to its first fault.
+/// - `blocks FOLDER FIRST LAST [--nodes N] [--workers K]` clears the scheduled runs of the quarter hours FIRST to LAST, 1
+///   to `MOST_QUARTERS`, as one market, with the blocks of bids of the folder's blocks.csv, and prints it.
 ///
-/// The market files of a folder are fetched in their order and then read in that order. Two or more workers take their
-/// findings from the turnstile, and the call may then wait for them. On `check`, on `migrate`, on `feed`, and on `clear`
-/// with one worker it uses only calls that return.
+/// The market files of a folder are fetched in their order and then read in that order; blocks.csv after them. Two or
+/// more workers take their findings from the turnstile, and the call may then wait for them. On `check`, on `migrate`, on
+/// `feed`, on `value`, and on `clear`, `split` and `blocks` with one worker it uses only calls that return.
 pub fn run_program<S: Shelf, K: Sink, G: Turnstile, R: Threads + Wait + Sync>(
     rt: &R,
     alloc: Global,
@@ -119,7 +157,7 @@ pub fn run_program<S: Shelf, K: Sink, G: Turnstile, R: Threads + Wait + Sync>(
     turnstile: &G,
 ) -> Status
     // The headline is in here: what each answer says of the words, of the pages and of what is printed.
-    ensures answers { Answers (command_at (map string_bytes words.now)) (S.pages shelf.old) (Rose (S.faults shelf.old) (S.faults shelf.new)) (K.taken sink.old) (K.taken sink.new) result }
+    ensures answers { AnswersOf (command_at (map string_bytes words.now)) (S.pages shelf.old) (Rose (S.faults shelf.old) (S.faults shelf.new)) (K.taken sink.old) (K.taken sink.new) result }
     ensures same { S.pages shelf.new ≡ S.pages shelf.old }
 
     // Where the words read no page, nothing is fetched.
@@ -143,15 +181,24 @@ pub fn run_program<S: Shelf, K: Sink, G: Turnstile, R: Threads + Wait + Sync>(
     ensures gaps { (told : Pages) (file : ℕ) (gap : Gap) → S.pages shelf.old ≡ Some told → LacksPage (command_at (map string_bytes words.now)) told file gap
         → OrFault (IsStatus (gap_status gap)) result }
 
-    // Folders whose pages are accepted are cleared, and wholly where the budget holds each run's search tree; a
-    // publication that is read is checked, or printed as a feed; files that state their limits for the day are migrated;
-    // and days are generated.
+    // Folders whose pages are accepted are cleared, and wholly where the budget holds each run's search tree, or that of
+    // each island where they are cleared island by island; a publication that is read is checked, or printed as a feed;
+    // the values of limits end as the publication does, with their last line exactly where it is valid; files that state
+    // their limits for the day are migrated; and days are generated.
     ensures cleared { (told : Pages) → S.pages shelf.old ≡ Some told → IsClearable (command_at (map string_bytes words.now)) told → OrFault IsDayStatus result }
     ensures complete { (told : Pages) → S.pages shelf.old ≡ Some told → HasBudget (command_at (map string_bytes words.now)) told → OrFault (IsStatus Status.Done) result }
+    ensures split { (told : Pages) → S.pages shelf.old ≡ Some told → IsSplittable (command_at (map string_bytes words.now)) told → OrFault IsDayStatus result }
+    ensures islands { (told : Pages) → S.pages shelf.old ≡ Some told → HasIslandBudget (command_at (map string_bytes words.now)) told → OrFault (IsStatus Status.Done) result }
     ensures checked { (told : Pages) → S.pages shelf.old ≡ Some told → IsReadable (command_at (map string_bytes words.now)) told → OrFault IsVerdictStatus result }
     ensures fed { (told : Pages) → S.pages shelf.old ≡ Some told → IsFeedable (command_at (map string_bytes words.now)) told → OrFault (IsStatus Status.Done) result }
+    ensures values { (told : Pages) (end : TheValueEnd) → S.pages shelf.old ≡ Some told → EndsValues (command_at (map string_bytes words.now)) told end → OrFault (IsStatus (value_status end)) result }
     ensures migrated { (told : Pages) → S.pages shelf.old ≡ Some told → IsMigratable (command_at (map string_bytes words.now)) told → OrFault (IsStatus Status.Done) result }
     ensures generated { (number : ℕ) → command_at (map string_bytes words.now) ≡ Some (Generate number) → (result ≡ Status.Done) ⊎ ((result ≡ Status.WriteFault) ⊎ (result ≡ Status.Memory)) }
+
+    // Quarters that are cleared as one market are refused by their first refusal, lack their first page that can't be had,
+    // and are cleared where there is one; wholly where the budget holds its search tree.
+    ensures blocks { (told : Pages) (wanted : Status) → S.pages shelf.old ≡ Some told → Decides (command_at (map string_bytes words.now)) told wanted → OrFault (IsStatus wanted) result }
+    ensures joined { (told : Pages) → S.pages shelf.old ≡ Some told → IsJoinable (command_at (map string_bytes words.now)) told → OrFault IsDayStatus result }
 {
     let outcome = outcome_of(rt, alloc, words, shelf, turnstile);
     finish(rt, alloc, &outcome, shelf, sink, turnstile)

@@ -1,11 +1,12 @@
 //! The names of the checks by which a file may be refused, which are those of its readers.
 
 ghost use Rattle.std.specs.Prelude.{◌≡◌, ◌≢◌, [], Some, option_map};
-ghost use Rattle.mari_commands.specs.Refusals.{border_name as border_named, check_name as check_named, name_among as named_among, own_name as own_named, HasName};
+ghost use Rattle.mari_commands.specs.Refusals.{border_name as border_named, check_name as check_named, name_among as named_among, name_or_joint as named_or_joint, own_name as own_named, HasName};
 
 use crate::checks::{MigrationCheck, TextCheck};
 use mari_bids::BidCheck;
-use mari_day::{DateCheck, File, PUBLICATION};
+use mari_blocks::{BlockCheck, JointCheck};
+use mari_day::{BLOCKS, DateCheck, File, PUBLICATION};
 use mari_demands::{DemandCheck, LimitCheck, RunCheck};
 use mari_links::LinkCheck;
 use mari_rows::{FileCheck, RowCheck};
@@ -32,6 +33,16 @@ fn border_name(number: u8) -> Option<&'static str>
     }
 }
 
+/// A name, or that of a check of what can't be one market where it has this number.
+fn name_or_joint(own: Option<&'static str>, check: JointCheck, number: u8) -> Option<&'static str>
+    ensures { option_map (λ name. name.now) result ≡ named_or_joint (option_map (λ name. name.now) own.entry) check number }
+{
+    match own {
+        Some(name) => Some(name),
+        None => name_among(&[check], number),
+    }
+}
+
 /// The name of a check of one file of its own, by the file's number from 1.
 fn own_name(file: u8, number: u8) -> Option<&'static str>
     ensures { option_map (λ name. name.now) result ≡ own_named file number }
@@ -39,13 +50,28 @@ fn own_name(file: u8, number: u8) -> Option<&'static str>
     if file == PUBLICATION {
         return name_among(TextCheck::ALL, number);
     }
+    if file == BLOCKS {
+        return name_or_joint(
+            name_among(BlockCheck::ALL, number),
+            JointCheck::TooLarge,
+            number,
+        );
+    }
     match File::with_number(file) {
         Some(File::Day) => name_among(DateCheck::ALL, number),
         Some(File::Zones) => name_among(ZoneCheck::ALL, number),
         Some(File::Borders) => border_name(number),
         Some(File::Bids) => name_among(BidCheck::ALL, number),
-        Some(File::Links) => name_among(LinkCheck::ALL, number),
-        Some(File::Runs) => name_among(RunCheck::ALL, number),
+        Some(File::Links) => name_or_joint(
+            name_among(LinkCheck::ALL, number),
+            JointCheck::AcrossQuarters,
+            number,
+        ),
+        Some(File::Runs) => name_or_joint(
+            name_among(RunCheck::ALL, number),
+            JointCheck::NoScheduled,
+            number,
+        ),
         Some(File::Demands) => name_among(DemandCheck::ALL, number),
         Some(File::Limits) => name_among(LimitCheck::ALL, number),
         None => None,

@@ -1,6 +1,6 @@
 //! What is printed of an outcome, and the status that it ends with.
 
-ghost use Rattle.std.specs.Prelude.{◌≡◌, ◌≢◌};
+ghost use Rattle.std.specs.Prelude.{◌≡◌, ◌≢◌, ◌++◌};
 ghost use Rattle.mari_io.specs.Outside.{Counts, Rose};
 ghost use Rattle.mari_day.specs.Files.{IsNamed};
 ghost use Rattle.mari_commands.specs.Outcome.{IsOwn, IsReportable, Reported, Reports, ReportsNoPage};
@@ -9,21 +9,38 @@ ghost use Rattle.mari_commands.specs.Refusals.{HasName};
 
 use crate::clearing::clear_alone;
 use crate::feeding::fed;
+use crate::joining::join_alone;
 use crate::outcome::Outcome;
 use crate::status::Status;
+use crate::valuing::say_values;
 use crate::writing::{file_line, pair_line, refused_line, usage_line};
 use mari_io::{Fetch, Shelf, Sink, write_all};
 use mari_units::Refusal;
 use std::alloc::Global;
 
 /// Writes a text, and answers its status, or that of a write fault.
-fn say<K: Sink>(sink: &mut K, text: &[u8], status: Status) -> Status
+pub fn say<K: Sink>(sink: &mut K, text: &[u8], status: Status) -> Status
     requires { status ≢ Status.WriteFault }
     ensures reports { Reports text.now status (K.taken sink.old) (K.taken sink.new) result }
     ensures cause { Counts (result ≡ Status.WriteFault) (K.faults sink.old) (K.faults sink.new) }
 {
     match write_all(sink, text) {
         Ok(()) => status,
+        Err(_) => Status::WriteFault,
+    }
+}
+
+/// Writes a text and then a line, and answers their status, or that of a write fault.
+pub fn say_after<K: Sink>(sink: &mut K, text: &[u8], line: &[u8], status: Status) -> Status
+    requires { status ≢ Status.WriteFault }
+    ensures reports { Reports (text.now ++ line.now) status (K.taken sink.old) (K.taken sink.new) result }
+    ensures cause { Counts (result ≡ Status.WriteFault) (K.faults sink.old) (K.faults sink.new) }
+{
+    match write_all(sink, text) {
+        Ok(()) => match write_all(sink, line) {
+            Ok(()) => status,
+            Err(_) => Status::WriteFault,
+        },
         Err(_) => Status::WriteFault,
     }
 }
@@ -79,8 +96,9 @@ fn say_invalid<K: Sink>(alloc: Global, sink: &mut K, run: u32, fault: u8) -> Sta
     }
 }
 
-/// Writes what is printed of an outcome, and answers its status. A day is cleared by this thread, so that the call
-/// waits for nobody. Of the shelf it asks only for the publication that is printed as a feed.
+/// Writes what is printed of an outcome, and answers its status. A day and quarters are cleared by this thread, so that the
+/// call waits for nobody. Of the shelf it asks only for the publication that is printed as a feed, and for the files of
+/// quarters that are cleared as one market.
 pub fn report<S: Shelf, K: Sink>(
     alloc: Global,
     shelf: &mut S,
@@ -102,6 +120,8 @@ pub fn report<S: Shelf, K: Sink>(
         Outcome::NoCommand => say(sink, usage_line(), Status::Usage),
         Outcome::Day(job) => clear_alone(alloc, job, sink),
         Outcome::Feed(folder) => fed(alloc, shelf, sink, folder),
+        Outcome::Blocks(quarters) => join_alone(alloc, quarters, shelf, sink),
+        Outcome::Values(valued) => say_values(alloc, sink, valued),
         Outcome::Text(text) => say(sink, text, Status::Done),
         Outcome::Invalid { run, fault } => say_invalid(alloc, sink, *run, *fault),
         Outcome::NoPage(file, why) => say_no_page(alloc, sink, *file, *why),

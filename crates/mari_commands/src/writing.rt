@@ -16,7 +16,7 @@ use std::alloc::Global;
 pub fn usage_line() -> &'static [u8]
     ensures { result.now ≡ usage_text }
 {
-    b"usage: mari clear FOLDER [--nodes N] [--workers K] | mari check FOLDER | mari generate NUMBER | mari migrate FOLDER borders | mari migrate FOLDER limits | mari feed FOLDER\n"
+    b"usage: mari clear FOLDER [--nodes N] [--workers K] | mari check FOLDER | mari generate NUMBER | mari migrate FOLDER borders | mari migrate FOLDER limits | mari feed FOLDER | mari split FOLDER [--nodes N] [--workers K] | mari blocks FOLDER FIRST LAST [--nodes N] [--workers K] | mari value FOLDER K\n"
 }
 
 /// The line of a file, by its number from 1, whose page can't be had.

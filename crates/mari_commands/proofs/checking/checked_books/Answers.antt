@@ -1,10 +1,10 @@
 use Rattle.std.proofs.Common.{inl, inr, refl}
 use Rattle.mari_commands.proofs.Naming.{text-reportable}
-use Rattle.mari_commands.proofs.Telling.{words-of-text, words-of-verdict}
+use Rattle.mari_commands.proofs.Telling.{check-no-lines, words-of-text, words-of-verdict}
 use Rattle.mari_commands.proofs.checking.checked_books.Goals as goal
 
 pub returns-in-Err-Fetch-clause-words : goal.returns-in-Err-Fetch-clause-words
-returns-in-Err-Fetch-clause-words g c = ((c.args.folder.now, refl), inr (inl (c.args.folder.now, refl), refl))
+returns-in-Err-Fetch-clause-words g c = ((c.args.folder.now, refl), inr (inl (c.args.folder.now, refl), refl), λ lines. absurd (check-no-lines c.args.folder.now lines))
 
 pub returns-in-Err-Text-clause-words : goal.returns-in-Err-Text-clause-words
 returns-in-Err-Text-clause-words g c = rw c.text_outcome.ensures (words-of-text _ _)

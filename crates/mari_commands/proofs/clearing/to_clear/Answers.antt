@@ -1,16 +1,17 @@
 use Rattle.std.proofs.Common.{Some, refl}
-use Rattle.mari_words.specs.Asked.Asked.{Clear}
 use Rattle.mari_commands.specs.declared.outcome.Job.{Job}
 use Rattle.mari_commands.specs.Outcome.Says.{OfClear}
+use Rattle.mari_commands.specs.Splits.{command_by}
+use Rattle.mari_commands.proofs.Folder.{folder_by}
 use Rattle.mari_commands.proofs.clearing.to_clear.Goals as goal
 
 pub returns-in-Ok-clause-told : goal.returns-in-Ok-clause-told
 returns-in-Ok-clause-told g c = λ told e.
-    let job : Job = record { books = c.in-Ok.books; nodes = c.args.nodes; workers = c.args.workers } in
-    OfClear c.args.folder.now job refl (c.in-Ok.ensures.told (Some (Clear c.args.folder.now c.args.nodes c.args.workers)) told refl e) refl
+    let job : Job = record { books = c.in-Ok.books; way = c.args.way; nodes = c.args.nodes; workers = c.args.workers } in
+    OfClear c.args.folder.now job refl (c.in-Ok.ensures.told (Some (command_by c.args.way c.args.folder.now c.args.nodes c.args.workers)) told (folder_by c.args.way c.args.folder.now c.args.nodes c.args.workers) e) refl
 
 pub returns-in-Err-clause-told : goal.returns-in-Err-clause-told
-returns-in-Err-clause-told g c = λ told e. c.in-Err.ensures.told (Some (Clear c.args.folder.now c.args.nodes c.args.workers)) told refl e
+returns-in-Err-clause-told g c = λ told e. c.in-Err.ensures.told (Some (command_by c.args.way c.args.folder.now c.args.nodes c.args.workers)) told (folder_by c.args.way c.args.folder.now c.args.nodes c.args.workers) e
 
 pub returns-in-Err-clause-words : goal.returns-in-Err-clause-words
-returns-in-Err-clause-words g c = c.in-Err.ensures.words (Some (Clear c.args.folder.now c.args.nodes c.args.workers)) refl
+returns-in-Err-clause-words g c = c.in-Err.ensures.words (Some (command_by c.args.way c.args.folder.now c.args.nodes c.args.workers)) (folder_by c.args.way c.args.folder.now c.args.nodes c.args.workers)

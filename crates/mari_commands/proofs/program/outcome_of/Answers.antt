@@ -1,8 +1,9 @@
 use Rattle.std.proofs.Common.{◌≡◌, ◌∙◌, ℕ, List, Option, Global, Some, ap, map, refl, subst, sym}
-use Rattle.std.specs.Prelude.{string_bytes}
+use Rattle.std.specs.Prelude.{String, string_bytes}
 use Rattle.mari_words.specs.Asked.{Asked, asked}
 use Rattle.mari_words.specs.declared.command.Command.{Command}
-use Rattle.mari_commands.specs.Outcome.Says.{OfFeed, OfGenerate}
+use Rattle.mari_commands.specs.Outcome.Says.{OfBlocks, OfFeed, OfGenerate}
+use Rattle.mari_commands.specs.declared.outcome.Quarters.{Quarters}
 use Rattle.mari_commands.proofs.Limits.{IsWithin, within}
 use Rattle.mari_commands.specs.Commands.{AsksForFiles, folder_of}
 use Rattle.mari_commands.proofs.Folder.{reads}
@@ -60,3 +61,52 @@ returns-in-Ok-Check-clause-untouched g c = λ none. absurd (none (reads-files _ 
 
 pub returns-in-Ok-Migrate-clause-untouched : goal.returns-in-Ok-Migrate-clause-untouched
 returns-in-Ok-Migrate-clause-untouched g c = λ none. absurd (none (reads-files _ _ _ _ c.in-Ok-Migrate.ensures c.in-Ok-Migrate.field-0-is refl))
+
+pub to_clear-requires-in-Ok-Split-clause-nodes : goal.to_clear-requires-in-Ok-Split-clause-nodes
+to_clear-requires-in-Ok-Split-clause-nodes g c = (subst is_within c.in-Ok-Split.field-0-is (within (map (string_bytes {Z = Global}) c.args.words.now) (asked c.in-Ok-Split.field-0) c.in-Ok-Split.ensures)).0
+
+pub to_clear-requires-in-Ok-Split-clause-workers : goal.to_clear-requires-in-Ok-Split-clause-workers
+to_clear-requires-in-Ok-Split-clause-workers g c = (subst is_within c.in-Ok-Split.field-0-is (within (map (string_bytes {Z = Global}) c.args.words.now) (asked c.in-Ok-Split.field-0) c.in-Ok-Split.ensures)).1
+
+pub returns-in-Ok-Split-clause-told : goal.returns-in-Ok-Split-clause-told
+returns-in-Ok-Split-clause-told g c = λ told e. rw (c.in-Ok-Split.ensures, c.in-Ok-Split.field-0-is, sym c.deref-in-Ok-Split.ensures) (c.to_clear-in-Ok-Split.ensures.told told e)
+
+pub returns-in-Ok-Split-clause-words : goal.returns-in-Ok-Split-clause-words
+returns-in-Ok-Split-clause-words g c = rw (c.in-Ok-Split.ensures, c.in-Ok-Split.field-0-is, sym c.deref-in-Ok-Split.ensures) c.to_clear-in-Ok-Split.ensures.words
+
+pub returns-in-Ok-Split-clause-untouched : goal.returns-in-Ok-Split-clause-untouched
+returns-in-Ok-Split-clause-untouched g c = λ none. absurd (none (reads-files _ _ _ _ c.in-Ok-Split.ensures c.in-Ok-Split.field-0-is refl))
+
+pub generated-requires-after_bounds : goal.generated-requires-after_bounds
+generated-requires-after_bounds g c κs met = subst is_within c.in-Ok-Generate.field-0-is (within (map (string_bytes {Z = Global}) c.args.words.now) (asked c.in-Ok-Generate.field-0) c.in-Ok-Generate.ensures)
+
+pub valued-requires-clause-some : goal.valued-requires-clause-some
+valued-requires-clause-some g c = (subst is_within c.in-Ok-Value.field-0-is (within (map (string_bytes {Z = Global}) c.args.words.now) (asked c.in-Ok-Value.field-0) c.in-Ok-Value.ensures)).0
+
+pub valued-requires-clause-more : goal.valued-requires-clause-more
+valued-requires-clause-more g c = (subst is_within c.in-Ok-Value.field-0-is (within (map (string_bytes {Z = Global}) c.args.words.now) (asked c.in-Ok-Value.field-0) c.in-Ok-Value.ensures)).1
+
+pub returns-in-Ok-Value-clause-told : goal.returns-in-Ok-Value-clause-told
+returns-in-Ok-Value-clause-told g c = λ told e. rw (c.in-Ok-Value.ensures, c.in-Ok-Value.field-0-is, sym c.deref-in-Ok-Value.ensures) (c.valued.ensures.told told e)
+
+pub returns-in-Ok-Value-clause-words : goal.returns-in-Ok-Value-clause-words
+returns-in-Ok-Value-clause-words g c = rw (c.in-Ok-Value.ensures, c.in-Ok-Value.field-0-is, sym c.deref-in-Ok-Value.ensures) c.valued.ensures.words
+
+pub returns-in-Ok-Value-clause-untouched : goal.returns-in-Ok-Value-clause-untouched
+returns-in-Ok-Value-clause-untouched g c = λ none. absurd (none (reads-files _ _ _ _ c.in-Ok-Value.ensures c.in-Ok-Value.field-0-is refl))
+
+-- the quarters of the words
+abbrev quarters_of : (folder : String Global) (first last nodes workers : ℕ) → Quarters
+quarters_of folder first last nodes workers = record { folder = folder; first = first; last = last; nodes = nodes; workers = workers }
+
+pub returns-in-Ok-Blocks-clause-told : goal.returns-in-Ok-Blocks-clause-told
+returns-in-Ok-Blocks-clause-told g c = λ told e.
+    OfBlocks (quarters_of c.in-Ok-Blocks.folder c.in-Ok-Blocks.first c.in-Ok-Blocks.last c.in-Ok-Blocks.nodes c.in-Ok-Blocks.workers) (c.in-Ok-Blocks.ensures ∙ ap (λ (x : Command). Some (asked x)) c.in-Ok-Blocks.field-0-is) refl
+
+pub returns-in-Ok-Blocks-clause-words : goal.returns-in-Ok-Blocks-clause-words
+returns-in-Ok-Blocks-clause-words g c = c.in-Ok-Blocks.ensures ∙ ap (λ (x : Command). Some (asked x)) c.in-Ok-Blocks.field-0-is
+
+pub returns-in-Ok-Blocks-clause-reportable : goal.returns-in-Ok-Blocks-clause-reportable
+returns-in-Ok-Blocks-clause-reportable g c =
+    let limits = subst is_within c.in-Ok-Blocks.field-0-is (within (map (string_bytes {Z = Global}) c.args.words.now) (asked c.in-Ok-Blocks.field-0) c.in-Ok-Blocks.ensures) in
+    record { in_order = limits.0; last = limits.1; nodes = limits.2; workers = limits.3 }

@@ -1,18 +1,19 @@
-use Rattle.std.proofs.Common.{◌∙◌, Option, arith, inl, inr}
+use Rattle.std.proofs.Common.{◌∙◌, Option, ◌⊎◌, arith, inl, inr}
 use Rattle.std.specs.Prelude.{string_bytes}
-use Rattle.mari_commands.specs.Commands.{AsksForFeed}
+use Rattle.mari_commands.specs.Commands.{AsksForBlocks, AsksForFeed}
 use Rattle.mari_commands.specs.Outcome.{IsOfWords, IsOwn}
 use Rattle.mari_commands.specs.declared.outcome.Outcome.{Outcome}
 use Rattle.mari_commands.specs.declared.outcome.Outcome.TheVariants as outcome
 use Rattle.mari_words.specs.Asked.{Asked}
 use Rattle.mari_commands.proofs.Causes.{failed-counts, missing-counts, too-long-counts}
-use Rattle.mari_commands.proofs.Complete.{checked-answer, cleared-answer, complete-answer, fed-answer, gap-answer, migrated-answer, refuses-answer, refuses-feed-answer, refuses-text-answer}
-use Rattle.mari_commands.proofs.Ending.{answers}
+use Rattle.mari_commands.proofs.Complete.{checked-answer, cleared-answer, complete-answer, fed-answer, gap-answer, islands-answer, migrated-answer, refuses-answer, refuses-feed-answer, refuses-text-answer, split-answer, values-answer}
+use Rattle.mari_commands.proofs.Decided.{decided-answer, joined-answer}
+use Rattle.mari_commands.proofs.Joint.{answers-of}
 use Rattle.mari_commands.proofs.program.run_program.Goals as goal
 
 pub returns-clause-answers : goal.returns-clause-answers
 returns-clause-answers g c =
-    answers _ _ _ _ _ _ c.outcome_of-outcome.ensures.same _ (λ r. omega (arith, r, c.outcome_of-outcome.ensures.failed.later)) c.outcome_of-outcome.result c.finish.result c.outcome_of-outcome.ensures.told c.outcome_of-outcome.ensures.words c.outcome_of-outcome.ensures.reportable (λ h. omega (arith, c.outcome_of-outcome.ensures.failed.rose h, c.finish.ensures.read_fault.later)) c.finish.ensures.reported
+    answers-of _ _ _ _ _ c.outcome_of-outcome.ensures.same _ (λ r. omega (arith, r, c.outcome_of-outcome.ensures.failed.later)) c.outcome_of-outcome.result c.finish.result _ c.outcome_of-outcome.ensures.told c.outcome_of-outcome.ensures.words c.outcome_of-outcome.ensures.reportable (λ h. omega (arith, c.outcome_of-outcome.ensures.failed.rose h, c.finish.ensures.read_fault.later)) c.finish.ensures.reported
 
 pub returns-clause-refuses : goal.returns-clause-refuses
 returns-clause-refuses g c = λ told refusal t h.
@@ -32,11 +33,20 @@ returns-clause-cleared g c = λ told t h. cleared-answer _ _ _ _ _ _ told (c.out
 pub returns-clause-complete : goal.returns-clause-complete
 returns-clause-complete g c = λ told t h. complete-answer _ _ _ _ _ _ told (c.outcome_of-outcome.ensures.same ∙ t) c.outcome_of-outcome.result c.outcome_of-outcome.ensures.words (c.outcome_of-outcome.ensures.told told t) c.finish.ensures.reported h
 
+pub returns-clause-split : goal.returns-clause-split
+returns-clause-split g c = λ told t h. split-answer _ _ _ _ _ _ told (c.outcome_of-outcome.ensures.same ∙ t) c.outcome_of-outcome.result c.outcome_of-outcome.ensures.words (c.outcome_of-outcome.ensures.told told t) c.finish.ensures.reported h
+
+pub returns-clause-islands : goal.returns-clause-islands
+returns-clause-islands g c = λ told t h. islands-answer _ _ _ _ _ _ told (c.outcome_of-outcome.ensures.same ∙ t) c.outcome_of-outcome.result c.outcome_of-outcome.ensures.words (c.outcome_of-outcome.ensures.told told t) c.finish.ensures.reported h
+
 pub returns-clause-checked : goal.returns-clause-checked
 returns-clause-checked g c = λ told t h. checked-answer _ _ _ _ _ _ told (c.outcome_of-outcome.ensures.same ∙ t) c.outcome_of-outcome.result c.outcome_of-outcome.ensures.words (c.outcome_of-outcome.ensures.told told t) c.finish.ensures.reported h
 
 pub returns-clause-migrated : goal.returns-clause-migrated
 returns-clause-migrated g c = λ told t h. migrated-answer _ _ _ _ _ _ told (c.outcome_of-outcome.ensures.same ∙ t) c.outcome_of-outcome.result c.outcome_of-outcome.ensures.words (c.outcome_of-outcome.ensures.told told t) c.finish.ensures.reported h
+
+pub returns-clause-values : goal.returns-clause-values
+returns-clause-values g c = λ told end t h. values-answer _ _ _ _ _ _ told (c.outcome_of-outcome.ensures.same ∙ t) c.outcome_of-outcome.result c.outcome_of-outcome.ensures.words (c.outcome_of-outcome.ensures.told told t) c.finish.ensures.reported end h
 
 pub returns-clause-refuses_feed : goal.returns-clause-refuses_feed
 returns-clause-refuses_feed g c = λ told page f t h.
@@ -54,11 +64,19 @@ returns-clause-missing g c = missing-counts _ _ c.outcome_of-outcome.result _ _ 
 pub returns-clause-too_long : goal.returns-clause-too_long
 returns-clause-too_long g c = too-long-counts _ _ c.outcome_of-outcome.result _ _ c.finish.result c.finish.ensures.reported _ _ _ c.outcome_of-outcome.ensures.too_long c.finish.ensures.too_long
 
--- whoever reports a feed was asked for one
-asked-for : (words : Option Asked) (o : Outcome) → IsOfWords words o → IsOwn o → AsksForFeed words
+pub returns-clause-blocks : goal.returns-clause-blocks
+returns-clause-blocks g c = λ told wanted t h. decided-answer _ _ _ _ _ _ told (c.outcome_of-outcome.ensures.same ∙ t) c.outcome_of-outcome.result (c.outcome_of-outcome.ensures.told told t) c.finish.ensures.reported wanted h
+
+pub returns-clause-joined : goal.returns-clause-joined
+returns-clause-joined g c = λ told t h. joined-answer _ _ _ _ _ _ told (c.outcome_of-outcome.ensures.same ∙ t) c.outcome_of-outcome.result (c.outcome_of-outcome.ensures.told told t) c.finish.ensures.reported h
+
+-- whoever reports a feed or quarters was asked for them
+asked-for : (words : Option Asked) (o : Outcome) → IsOfWords words o → IsOwn o → AsksForFeed words ⊎ AsksForBlocks words
 asked-for words outcome.NoCommand w own = absurd own
 asked-for words (outcome.Day job) w own = absurd own
-asked-for words (outcome.Feed folder) w own = (string_bytes folder, w)
+asked-for words (outcome.Feed folder) w own = inl (string_bytes folder, w)
+asked-for words (outcome.Blocks quarters) w own = inr (string_bytes quarters.folder, quarters.first, quarters.last, quarters.nodes, quarters.workers, w)
+asked-for words (outcome.Values v) w own = absurd own
 asked-for words (outcome.Text text) w own = absurd own
 asked-for words (outcome.Invalid run fault) w own = absurd own
 asked-for words (outcome.NoPage file why) w own = absurd own

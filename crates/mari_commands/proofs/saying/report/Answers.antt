@@ -21,3 +21,9 @@ returns-in-Day-clause-reported g c = rw c.in-Day.is c.clear_alone.ensures.report
 
 pub returns-in-Feed-clause-untouched : goal.returns-in-Feed-clause-untouched
 returns-in-Feed-clause-untouched g c = λ none. absurd (none (rw c.in-Feed.is tt))
+
+pub returns-in-Blocks-clause-reported : goal.returns-in-Blocks-clause-reported
+returns-in-Blocks-clause-reported g c = rw c.in-Blocks.is c.join_alone.ensures.reported
+
+pub returns-in-Blocks-clause-untouched : goal.returns-in-Blocks-clause-untouched
+returns-in-Blocks-clause-untouched g c = λ none. absurd (none (rw c.in-Blocks.is tt))

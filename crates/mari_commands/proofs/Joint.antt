@@ -1,0 +1,150 @@
+-- Quarters that are cleared as one market: what each answer says of them.
+use Rattle.std.proofs.Common.{◌≡◌, ◌∙◌, ℕ, Bool, true, false, List, Option, Some, None, Result, Ok, Err, if◌then◌else◌, ap, refl, subst, sym}
+use Rattle.std.specs.Prelude.{string_bytes}
+use lib.Chars.{codes}
+use Rattle.mari_io.specs.Outside.{Pages}
+use Rattle.mari_io.specs.Taken.{TookPart, then_took}
+use Rattle.mari_io.specs.declared.shelf.Fetch.TheVariants as fetch
+use Rattle.mari_day.specs.Files.Gap.{NotHeld, OverLimit}
+use Rattle.mari_day.specs.Reading.{IsFetchFault}
+use Rattle.mari_day.specs.declared.reading.BooksFault.{BooksFault}
+use Rattle.mari_day.specs.declared.reading.BooksFault.TheVariants as why
+use Rattle.mari_blocks.specs.declared.clearing.JointText.{JointText}
+use Rattle.mari_quarters.specs.Quarters.{HasQuartersText, NamesQuartersFile, QuartersTell}
+use Rattle.mari_words.specs.Asked.{Asked}
+use Rattle.mari_words.specs.Asked.Asked.{Blocks, Clear, Check, Generate, Migrate, Feed, Split, Value}
+use Rattle.mari_commands.specs.declared.outcome.Quarters.{Quarters}
+use Rattle.mari_commands.specs.declared.outcome.Outcome.{Outcome}
+use Rattle.mari_commands.specs.declared.outcome.Outcome.TheVariants.{NoCommand, Day, Feed as Feeds, Blocks as Joins, Values, Text, Invalid, NoPage, Refused, Memory as NoMemory}
+use Rattle.mari_commands.specs.declared.status.Status.{Status}
+use Rattle.mari_commands.specs.declared.status.Status.TheVariants as status
+use Rattle.mari_commands.specs.Commands.{AsksForBlocks}
+use Rattle.mari_commands.specs.Joint.{AnswersOf, AreCutOff, BlocksAnswers}
+use Rattle.mari_commands.specs.Joint.AreCutOff.{Text as CutText, Refuses, Lacks, Fails}
+use Rattle.mari_commands.specs.Outcome.{IsNoPage, IsOfWords, IsReportable, IsSayable, Reported, Reports, ReportsBlocks, ReportsQuarters, Says, blocks_of}
+use Rattle.mari_commands.specs.Outcome.Reports.{Printed, CutOff, Starved}
+use Rattle.mari_commands.specs.Printing.{file_line, refused_line}
+use Rattle.mari_commands.specs.Program.{WhereTold}
+use Rattle.mari_commands.proofs.Ending.{answers}
+use Rattle.mari_commands.proofs.Folder.{no_other}
+
+-- ---- why a page wasn't had
+
+-- a text that is reported with another status
+other-text : (wanted : Status) → (status.WriteFault ≡ wanted → ⊥) → (status.Memory ≡ wanted → ⊥) → (text : List ℕ) (own : Status) (before after : Option (List ℕ)) (result : Status)
+    → (own ≡ wanted → ⊥) → Reports text own before after result → result ≡ wanted → ⊥
+other-text wanted no-write no-memory text own before after result not (Printed e p) f = not (sym e ∙ f)
+other-text wanted no-write no-memory text own before after result not (CutOff e p) f = no-write (sym e ∙ f)
+other-text wanted no-write no-memory text own before after result not (Starved e p) f = no-memory (sym e ∙ f)
+
+-- a market's status is another
+no-market : (published : Bool) (wanted : Status) → (status.Done ≡ wanted → ⊥) → (status.Unpublished ≡ wanted → ⊥) → (if published then status.Done else status.Unpublished) ≡ wanted → ⊥
+no-market true wanted done other e = done e
+no-market false wanted done other e = other e
+
+pub quarters-failed : (given : Result JointText BooksFault) (before after : Option (List ℕ)) (result : Status) → ReportsQuarters given before after result → result ≡ status.ReadFault → IsFetchFault fetch.Failed given
+quarters-failed (Ok printed) before after result r e =
+    absurd (other-text status.ReadFault (λ f. absurd (cc f)) (λ f. absurd (cc f)) _ _ before after result (no-market printed.published status.ReadFault (λ f. absurd (cc f)) (λ f. absurd (cc f))) r e)
+quarters-failed (Err (why.Fetch n fetch.Failed)) before after result r e = refl
+quarters-failed (Err (why.Fetch n fetch.Missing)) before after result r e = absurd (other-text status.ReadFault (λ f. absurd (cc f)) (λ f. absurd (cc f)) _ _ before after result (λ f. absurd (cc f)) r e)
+quarters-failed (Err (why.Fetch n fetch.TooLong)) before after result r e = absurd (other-text status.ReadFault (λ f. absurd (cc f)) (λ f. absurd (cc f)) _ _ before after result (λ f. absurd (cc f)) r e)
+quarters-failed (Err (why.Fetch n fetch.Memory)) before after result r e = let f = sym r.0 ∙ e in absurd (cc f)
+quarters-failed (Err (why.Refused refusal)) before after result r e = absurd (other-text status.ReadFault (λ f. absurd (cc f)) (λ f. absurd (cc f)) _ _ before after result (λ f. absurd (cc f)) r e)
+quarters-failed (Err why.Memory) before after result r e = let f = sym r.0 ∙ e in absurd (cc f)
+
+pub quarters-missing : (given : Result JointText BooksFault) (before after : Option (List ℕ)) (result : Status) → ReportsQuarters given before after result → result ≡ status.Missing → IsFetchFault fetch.Missing given
+quarters-missing (Ok printed) before after result r e =
+    absurd (other-text status.Missing (λ f. absurd (cc f)) (λ f. absurd (cc f)) _ _ before after result (no-market printed.published status.Missing (λ f. absurd (cc f)) (λ f. absurd (cc f))) r e)
+quarters-missing (Err (why.Fetch n fetch.Failed)) before after result r e = absurd (other-text status.Missing (λ f. absurd (cc f)) (λ f. absurd (cc f)) _ _ before after result (λ f. absurd (cc f)) r e)
+quarters-missing (Err (why.Fetch n fetch.Missing)) before after result r e = refl
+quarters-missing (Err (why.Fetch n fetch.TooLong)) before after result r e = absurd (other-text status.Missing (λ f. absurd (cc f)) (λ f. absurd (cc f)) _ _ before after result (λ f. absurd (cc f)) r e)
+quarters-missing (Err (why.Fetch n fetch.Memory)) before after result r e = let f = sym r.0 ∙ e in absurd (cc f)
+quarters-missing (Err (why.Refused refusal)) before after result r e = absurd (other-text status.Missing (λ f. absurd (cc f)) (λ f. absurd (cc f)) _ _ before after result (λ f. absurd (cc f)) r e)
+quarters-missing (Err why.Memory) before after result r e = let f = sym r.0 ∙ e in absurd (cc f)
+
+pub quarters-too-long : (given : Result JointText BooksFault) (before after : Option (List ℕ)) (result : Status) → ReportsQuarters given before after result → result ≡ status.TooLong → IsFetchFault fetch.TooLong given
+quarters-too-long (Ok printed) before after result r e =
+    absurd (other-text status.TooLong (λ f. absurd (cc f)) (λ f. absurd (cc f)) _ _ before after result (no-market printed.published status.TooLong (λ f. absurd (cc f)) (λ f. absurd (cc f))) r e)
+quarters-too-long (Err (why.Fetch n fetch.Failed)) before after result r e = absurd (other-text status.TooLong (λ f. absurd (cc f)) (λ f. absurd (cc f)) _ _ before after result (λ f. absurd (cc f)) r e)
+quarters-too-long (Err (why.Fetch n fetch.Missing)) before after result r e = absurd (other-text status.TooLong (λ f. absurd (cc f)) (λ f. absurd (cc f)) _ _ before after result (λ f. absurd (cc f)) r e)
+quarters-too-long (Err (why.Fetch n fetch.TooLong)) before after result r e = refl
+quarters-too-long (Err (why.Fetch n fetch.Memory)) before after result r e = let f = sym r.0 ∙ e in absurd (cc f)
+quarters-too-long (Err (why.Refused refusal)) before after result r e = absurd (other-text status.TooLong (λ f. absurd (cc f)) (λ f. absurd (cc f)) _ _ before after result (λ f. absurd (cc f)) r e)
+quarters-too-long (Err why.Memory) before after result r e = let f = sym r.0 ∙ e in absurd (cc f)
+
+-- ---- what each answer says
+
+module _ (q : Quarters) (pages : Option Pages) (failed : Type 0) (before after : Option (List ℕ)) where
+  abbrev Ends : Status → Type 0
+  Ends = BlocksAnswers (string_bytes q.folder) q.first q.last q.nodes pages failed before after
+
+  abbrev Cut : Pages → Type 0
+  Cut told = AreCutOff (string_bytes q.folder) q.first q.last q.nodes told failed before after
+
+  of-report : (text : List ℕ) (wanted result : Status) → Reports text wanted before after result → (after ≡ then_took before text → Ends wanted) → WhereTold pages (λ told. TookPart before after text → Cut told) → Ends result
+  of-report text wanted result (Printed e p) done cut = subst Ends (sym e) (done p)
+  of-report text wanted result (CutOff e p) done cut = let all : Ends status.WriteFault = λ told t. cut told t p in subst Ends (sym e) all
+  of-report text wanted result (Starved e p) done cut = let all : Ends status.Memory = p in subst Ends (sym e) all
+
+  of-nothing : (result : Status) → result ≡ status.Memory → after ≡ before → Ends result
+  of-nothing result e p = let all : Ends status.Memory = p in subst Ends (sym e) all
+
+  of-text : (published : Bool) (text : List ℕ) (result : Status) → WhereTold pages (λ told. HasQuartersText told (string_bytes q.folder) q.first q.last q.nodes published text)
+      → Reports text (if published then status.Done else status.Unpublished) before after result → Ends result
+  of-text true text result has r = of-report text status.Done result r (λ p told t. record { text = text; has = has told t; taken = p }) (λ told t p. CutText true text (has told t) p)
+  of-text false text result has r = of-report text status.Unpublished result r (λ p told t. record { text = text; has = has told t; taken = p }) (λ told t p. CutText false text (has told t) p)
+
+  by-given : (given : Result JointText BooksFault) (result : Status) → WhereTold pages (λ told. QuartersTell told (string_bytes q.folder) q.first q.last q.nodes given) → NamesQuartersFile given → IsSayable given
+      → (IsFetchFault fetch.Failed given → failed) → ReportsQuarters given before after result → Ends result
+  by-given (Ok printed) result tells file said cause r = of-text printed.published printed.text result tells r
+  by-given (Err (why.Fetch n fetch.Failed)) result tells file said cause r = of-report (file_line (codes "readfault") n) status.ReadFault result r (λ p. (n, file, p)) (λ told t p. Fails (cause refl) n file p)
+  by-given (Err (why.Fetch n fetch.Missing)) result tells file said cause r =
+      of-report (file_line (codes "missing") n) status.Missing result r (λ p. record { file = n; named = file; lacks = tells; taken = p }) (λ told t p. Lacks n NotHeld (tells told t) p)
+  by-given (Err (why.Fetch n fetch.TooLong)) result tells file said cause r =
+      of-report (file_line (codes "toolong") n) status.TooLong result r (λ p. record { file = n; named = file; lacks = tells; taken = p }) (λ told t p. Lacks n OverLimit (tells told t) p)
+  by-given (Err (why.Fetch n fetch.Memory)) result tells file said cause r = of-nothing result r.0 r.1
+  by-given (Err (why.Refused refusal)) result tells file said cause r = of-report (refused_line refusal) (status.Refused refusal) result r (λ p. (tells, file, said.1, p)) (λ told t p. Refuses refusal (tells told t) p)
+  by-given (Err why.Memory) result tells file said cause r = of-nothing result r.0 r.1
+
+-- the words ask for quarters, and this is what is reported of them
+module _ (pages : Option Pages) (failed : Type 0) (before after : Option (List ℕ)) (result : Status) (late : Type 0) (later : late → failed) where
+  of-quarters : (x : Asked) (q : Quarters) → Some x ≡ Some (blocks_of q) → ReportsBlocks pages late q before after result → AnswersOf (Some x) pages failed before after result
+  of-quarters x q e r =
+      let ends : AnswersOf (Some (blocks_of q)) pages failed before after result = by-given q pages failed before after r.given result r.tells r.file r.sayable (λ h. later (r.cause h)) r.reports in
+      subst (λ (o : Option Asked). AnswersOf o pages failed before after result) (sym e) ends
+
+  blocks-answers : (folder : List ℕ) (first last nodes workers : ℕ) (o : Outcome) → IsOfWords (Some (Blocks folder first last nodes workers)) o → Reported pages late o before after result
+      → AnswersOf (Some (Blocks folder first last nodes workers)) pages failed before after result
+  blocks-answers folder first last nodes workers NoCommand words r = absurd (cc words)
+  blocks-answers folder first last nodes workers (Day job) words r = absurd (no_other (Some (Blocks folder first last nodes workers)) job.way words.0 job.nodes job.workers (Blocks folder first last nodes workers) words.1 refl refl)
+  blocks-answers folder first last nodes workers (Feeds other) words r = absurd (cc words)
+  blocks-answers folder first last nodes workers (Joins q) words r = of-quarters (Blocks folder first last nodes workers) q words r
+  blocks-answers folder first last nodes workers (Values v) words r = absurd (let e = words.0.2 in cc e)
+  blocks-answers folder first last nodes workers (Text t) words r = absurd words
+  blocks-answers folder first last nodes workers (Invalid run number) words r = absurd (let e = words.1 in cc e)
+  blocks-answers folder first last nodes workers (NoPage k w) words r = absurd (let e = words.0.1 in cc e)
+  blocks-answers folder first last nodes workers (Refused refusal) words r = absurd (let e = words.0.1 in cc e)
+  blocks-answers folder first last nodes workers NoMemory words r =
+      let all : AnswersOf (Some (Blocks folder first last nodes workers)) pages failed before after status.Memory = r.1 in
+      subst (λ (s : Status). AnswersOf (Some (Blocks folder first last nodes workers)) pages failed before after s) (sym r.0) all
+
+-- what else the words may ask for
+abbrev is_blocks : Option Asked → Bool
+is_blocks (Some (Blocks folder first last nodes workers)) = true
+is_blocks _ = false
+
+no-blocks : (asked : Option Asked) → is_blocks asked ≡ false → AsksForBlocks asked → ⊥
+no-blocks asked n (folder, first, last, nodes, workers, e) = let both : false ≡ true = sym n ∙ ap is_blocks e in cc
+
+module _ (pages : Option Pages) (failed : Type 0) (before after : Option (List ℕ)) (shown : Option Pages) (same : shown ≡ pages) (late : Type 0) (later : late → failed) (o : Outcome) (result : Status) where
+  pub answers-of : (asked : Option Asked) → WhereTold pages (λ told. Says asked told o) → IsOfWords asked o → IsReportable o → (IsNoPage fetch.Failed o → failed) → Reported shown late o before after result → AnswersOf asked pages failed before after result
+  answers-of None says words ready cause r = answers None pages failed before after (no-blocks None refl) shown same late later o result says words ready cause r
+  answers-of (Some (Clear folder nodes workers)) says words ready cause r = answers (Some (Clear folder nodes workers)) pages failed before after (no-blocks (Some (Clear folder nodes workers)) refl) shown same late later o result says words ready cause r
+  answers-of (Some (Check folder)) says words ready cause r = answers (Some (Check folder)) pages failed before after (no-blocks (Some (Check folder)) refl) shown same late later o result says words ready cause r
+  answers-of (Some (Generate number)) says words ready cause r = answers (Some (Generate number)) pages failed before after (no-blocks (Some (Generate number)) refl) shown same late later o result says words ready cause r
+  answers-of (Some (Migrate folder part)) says words ready cause r = answers (Some (Migrate folder part)) pages failed before after (no-blocks (Some (Migrate folder part)) refl) shown same late later o result says words ready cause r
+  answers-of (Some (Feed folder)) says words ready cause r = answers (Some (Feed folder)) pages failed before after (no-blocks (Some (Feed folder)) refl) shown same late later o result says words ready cause r
+  answers-of (Some (Split folder nodes workers)) says words ready cause r = answers (Some (Split folder nodes workers)) pages failed before after (no-blocks (Some (Split folder nodes workers)) refl) shown same late later o result says words ready cause r
+  answers-of (Some (Value folder more)) says words ready cause r = answers (Some (Value folder more)) pages failed before after (no-blocks (Some (Value folder more)) refl) shown same late later o result says words ready cause r
+  answers-of (Some (Blocks folder first last nodes workers)) says words ready cause r =
+      blocks-answers pages failed before after result late later folder first last nodes workers o words (subst (λ (ps : Option Pages). Reported ps late o before after result) same r)

@@ -1,0 +1,36 @@
+use Rattle.std.proofs.Common.{ℕ, List, subst}
+use Rattle.mari_quarters.specs.Quarters.{QuartersTell}
+use Rattle.mari_commands.proofs.Joint.{quarters-failed, quarters-missing, quarters-too-long}
+use Rattle.mari_commands.proofs.Naming.{quarters-sayable}
+use Rattle.mari_commands.proofs.joining.join_by.Goals as goal
+
+pub say_quarters-requires : goal.say_quarters-requires
+say_quarters-requires g c = quarters-sayable c.clear_quarters-given.result c.clear_quarters-given.ensures.file c.clear_quarters-given.ensures.check
+
+pub returns-clause-reported : goal.returns-clause-reported
+returns-clause-reported g c = record {
+  given = c.clear_quarters-given.result;
+  tells = λ told t. let P : List ℕ → Type 0 = λ folder. QuartersTell told folder c.args.quarters.now.first c.args.quarters.now.last c.args.quarters.now.nodes c.clear_quarters-given.result in subst P c.as_str.ensures.value (c.clear_quarters-given.ensures.told told t);
+  file = c.clear_quarters-given.ensures.file;
+  sayable = quarters-sayable c.clear_quarters-given.result c.clear_quarters-given.ensures.file c.clear_quarters-given.ensures.check;
+  cause = c.clear_quarters-given.ensures.failed.rose;
+  reports = c.say_quarters.ensures.reports;
+}
+
+pub returns-clause-read_fault : goal.returns-clause-read_fault
+returns-clause-read_fault g c = record {
+  later = c.clear_quarters-given.ensures.failed.later;
+  rose = λ e. c.clear_quarters-given.ensures.failed.rose (quarters-failed c.clear_quarters-given.result _ _ c.say_quarters.result c.say_quarters.ensures.reports e);
+}
+
+pub returns-clause-missing : goal.returns-clause-missing
+returns-clause-missing g c = record {
+  later = c.clear_quarters-given.ensures.missing.later;
+  rose = λ e. c.clear_quarters-given.ensures.missing.rose (quarters-missing c.clear_quarters-given.result _ _ c.say_quarters.result c.say_quarters.ensures.reports e);
+}
+
+pub returns-clause-too_long : goal.returns-clause-too_long
+returns-clause-too_long g c = record {
+  later = c.clear_quarters-given.ensures.too_long.later;
+  rose = λ e. c.clear_quarters-given.ensures.too_long.rose (quarters-too-long c.clear_quarters-given.result _ _ c.say_quarters.result c.say_quarters.ensures.reports e);
+}

@@ -35,6 +35,7 @@ pub(crate) struct Folder<'a> {
     pub(crate) runs: &'a str,
     pub(crate) demands: &'a str,
     pub(crate) limits: Option<&'a str>,
+    pub(crate) blocks: Option<&'a str>,
     pub(crate) publication: Option<&'a [&'a str]>,
 }
 
@@ -48,6 +49,7 @@ pub(crate) const ONE_ZONE: Folder<'static> = Folder {
     runs: "run,quarter,kind,reference\n1,1,scheduled,40.00\n",
     demands: ONE_DEMAND,
     limits: None,
+    blocks: None,
     publication: None,
 };
 
@@ -217,6 +219,7 @@ pub(crate) fn pages(alloc: Global, folder: Folder<'_>) -> Result<Vec<Page>, Fail
         ("F/runs.csv", Some(folder.runs)),
         ("F/demands.csv", Some(folder.demands)),
         ("F/limits.csv", folder.limits),
+        ("F/blocks.csv", folder.blocks),
     ] {
         if let Some(text) = text {
             let bytes = joined(alloc, &[*text])?;

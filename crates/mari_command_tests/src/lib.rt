@@ -21,6 +21,12 @@ mod gated_bids;
 #[cfg(test)]
 mod generates;
 #[cfg(test)]
+mod joint_refusals;
+#[cfg(test)]
+mod joint_sizes;
+#[cfg(test)]
+mod joints;
+#[cfg(test)]
 mod largest;
 #[cfg(test)]
 mod limits;
@@ -37,4 +43,13 @@ mod refusals;
 #[cfg(test)]
 mod shelf_and_sink;
 #[cfg(test)]
+mod split_days;
+#[cfg(test)]
+mod splits;
+#[cfg(test)]
+#[cfg(test)]
 mod two_leaves;
+#[cfg(test)]
+mod value_faults;
+#[cfg(test)]
+mod values;

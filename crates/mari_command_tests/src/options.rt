@@ -26,7 +26,7 @@ done 1 0
 const USAGE: Case = Case {
     code: 2,
     printed: Whole(&[
-        "usage: mari clear FOLDER [--nodes N] [--workers K] | mari check FOLDER | mari generate NUMBER | mari migrate FOLDER borders | mari migrate FOLDER limits | mari feed FOLDER\n",
+        "usage: mari clear FOLDER [--nodes N] [--workers K] | mari check FOLDER | mari generate NUMBER | mari migrate FOLDER borders | mari migrate FOLDER limits | mari feed FOLDER | mari split FOLDER [--nodes N] [--workers K] | mari blocks FOLDER FIRST LAST [--nodes N] [--workers K] | mari value FOLDER K\n",
     ]),
     ..CLEARS
 };
@@ -46,6 +46,52 @@ const CASES: &[Case] = &[
             &["migrate", "F", "zones"],
             &["feed"],
             &["feed", "F", "--nodes", "3"],
+            &["split"],
+            &["split", "F", "F"],
+            &["split", "F", "--nodes", "0"],
+            &["split", "F", "--workers", "17"],
+            &["blocks", "F"],
+            &["blocks", "F", "1"],
+            &["blocks", "F", "1", "2", "3"],
+            &["blocks", "F", "1", "2", "--nodes", "0"],
+            &["blocks", "F", "1", "2", "--workers", "17"],
+            &["value", "F"],
+            &["value", "F", "10", "10"],
+            &["value", "F", "10", "--nodes", "3"],
+        ],
+        ..USAGE
+    },
+    Case {
+        name: "limits raised by nothing, by too much, and by what isn't written in digits alone",
+        calls: &[
+            &["value", "F", "0"],
+            &["value", "F", "000"],
+            &["value", "F", "1001"],
+            &["value", "F", "+1"],
+            &["value", "F", "-1"],
+            &["value", "F", ""],
+            &["value", "F", " 1"],
+            &["value", "F", "1 "],
+            &["value", "F", "1.0"],
+        ],
+        ..USAGE
+    },
+    Case {
+        name: "quarters out of range, exchanged, and not written in digits alone",
+        calls: &[
+            &["blocks", "F", "0", "2"],
+            &["blocks", "F", "0", "0"],
+            &["blocks", "F", "1", "0"],
+            &["blocks", "F", "2", "1"],
+            &["blocks", "F", "400", "399"],
+            &["blocks", "F", "1", "401"],
+            &["blocks", "F", "401", "401"],
+            &["blocks", "F", "+1", "2"],
+            &["blocks", "F", "1", "-2"],
+            &["blocks", "F", "1", ""],
+            &["blocks", "F", " 1", "2"],
+            &["blocks", "F", "1", "2.0"],
+            &["blocks", "1", "2", "F"],
         ],
         ..USAGE
     },

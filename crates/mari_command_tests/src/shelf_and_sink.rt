@@ -11,10 +11,12 @@ use std::sync::Wait;
 use std::test::Fail;
 use std::thread::Threads;
 
-/// Clears a folder of these pages, one of which can't be had, and compares the exit code and what is printed.
+/// Calls the program with these words on a folder of these pages, one of which can't be had, and compares the exit code
+/// and what is printed.
 fn lacks(
     rt: &(impl Abort + Threads + Wait + Sync),
     alloc: Global,
+    words: &[&str],
     pages: Vec<Page>,
     faults: &[u32],
     code: u8,
@@ -23,25 +25,36 @@ fn lacks(
     let shelf = MemoryShelf::new(pages, plan(alloc, faults)?);
     let sink = sink(alloc, 10, 10_000, &[])?;
     let want = (code, Whole(&[printed]));
-    compare(rt, alloc, "a page", &["clear", "F"], shelf, sink, want)
+    compare(rt, alloc, "a page", words, shelf, sink, want)
 }
+
+/// The words of each command that reads the market files.
+const READERS: &[&[&str]] = &[
+    &["clear", "F"],
+    &["check", "F"],
+    &["split", "F"],
+    &["blocks", "F", "1", "1"],
+    &["value", "F", "10"],
+];
 
 #[test]
 fn a_page_that_fails_one_that_is_missing_and_one_that_is_too_long(
     rt: HostRuntime,
 ) -> Result<(), Fail> {
     let alloc = rt.alloc();
-    let held = pages(alloc, ONE_ZONE)?;
-    lacks(&rt, alloc, held, &[4], 4, "readfault bids.csv\n")?;
+    for words in READERS {
+        let held = pages(alloc, ONE_ZONE)?;
+        lacks(&rt, alloc, words, held, &[4], 4, "readfault bids.csv\n")?;
 
-    let mut held = pages(alloc, ONE_ZONE)?;
-    held.truncate(4);
-    lacks(&rt, alloc, held, &[], 8, "missing links.csv\n")?;
-
+        let mut held = pages(alloc, ONE_ZONE)?;
+        held.truncate(4);
+        lacks(&rt, alloc, words, held, &[], 8, "missing links.csv\n")?;
+    }
     let day = page(alloc, "F/day.csv", b"date,rule\n".to_vec(alloc)?)?;
     let zones = page(alloc, "F/zones.csv", vec![in alloc; b'Z'; 268_435_457]?)?;
     let held = vec![in alloc; day, zones]?;
-    lacks(&rt, alloc, held, &[], 9, "toolong zones.csv\n")
+    let words = ["clear", "F"].as_slice();
+    lacks(&rt, alloc, words, held, &[], 9, "toolong zones.csv\n")
 }
 
 /// Clears a folder into a sink in which a write fails, and compares what the sink took.

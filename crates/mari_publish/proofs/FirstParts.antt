@@ -1,4 +1,4 @@
--- The parts that a text begins with: they are in range, and behind the fault of a line no further one comes.
+-- The parts that a text begins with: they are in range, and after the fault of a line no further one comes.
 use Rattle.std.proofs.Common.{◌≡◌, ◌∙◌, ℕ, List, [], ◌∷◌, ◌++◌, map, inl, inr, refl, sym, ap, subst, append_assoc, append-nil}
 use Rattle.std.specs.List.{All, AllByRecursion}
 use Rattle.std.proofs.lemmas.Grind.{flat_map-append}
@@ -56,7 +56,7 @@ part_fits text parts x h = (all_back PartFits parts (x ∷ []) (parts_fit text (
 pub come_parts : (come : ComeState) (text : List ℕ) (parts : List Part) → ComesFrom come text parts → HoldsParts text parts
 come_parts come text parts s = record { lines = s.lines; after = s.rest; is = s.is; in_range = s.in_range; kept = come.kept; gives = s.gives }
 
--- ---- behind a fault of a line no part comes, whatever text comes behind it
+-- ---- after a fault of a line no part comes, whatever text comes after it
 
 module _ (text left : List ℕ) (parts : List Part) (none : NoPart text parts) (A : List Line) (R S : List ℕ) (is : text ≡ text_of_lines A ++ R) (s : Stop (text ++ left) A S) where
   ahead : (x : Part) (h : HasPart (text ++ left) parts x) (C : List Line) → h.lines ≡ A ++ C → S ≡ text_of_lines C ++ h.after → ⊥

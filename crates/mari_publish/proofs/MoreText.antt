@@ -62,7 +62,7 @@ long_ends u v piece front behind rest whole is h =
 pub from_place : (items d : List ℕ) (n : ℕ) (xs : List ℕ) → d ≡ items → take (length d - n) (drop n d) ≡ xs → drop n items ≡ xs
 from_place items d n xs e is = ap (λ (ys : List ℕ). drop n ys) (sym e) ∙ sym (ap (λ k. take k (drop n d)) (sym (length-drop n d)) ∙ take-length (drop n d)) ∙ is
 
--- what is left behind a line
+-- what is left after a line
 pub drop_line : (bytes here behind : List ℕ) (handled : ℕ) → drop handled bytes ≡ here ++ 10 ∷ behind → drop (handled + (length here + 1)) bytes ≡ behind
 drop_line bytes here behind handled e = sym (drop-drop (length here + 1) handled bytes) ∙ ap (λ (xs : List ℕ). drop (length here + 1) xs) e ∙ drop-append-add here (10 ∷ behind) 1
 

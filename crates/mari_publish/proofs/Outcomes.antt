@@ -63,7 +63,7 @@ compare (l ∷ A) (m ∷ B) X Y a b e =
 pub fit_begun : (ls : List Line) → Begins ls → Fit ls
 fit_begun ls b = all_front InRange ls b.1 (subst Fit b.3 (lines_in_range b.0 b.2))
 
--- lines that begin a text, behind which no line goes on
+-- lines that begin a text, after which no line goes on
 pub record Stop (text : List ℕ) (A : List Line) (R : List ℕ) : Type 0 where
   pub parts : text ≡ text_of_lines A ++ R
   pub begins : Begins A

@@ -18,7 +18,7 @@ use Rattle.mari_publish.proofs.Outcomes.{line_answer, order_answer, text_answer,
 
 -- ---- faults
 
--- the fault of a line stays, whatever comes behind it, and is the first of its text
+-- the fault of a line stays, whatever comes after it, and is the first of its text
 fault-stays : (text more : List ℕ) (f : TextFault) → IsLineFault text f → IsLineFault (text ++ more) f
 fault-stays text more (fault.BadLine n) h = line_stays text more n h
 fault-stays text more (fault.BadOrder n) h = order_stays text more n h

@@ -26,7 +26,7 @@ use Rattle.mari_publish.proofs.Steps.{some_is}
 use Rattle.mari_publish.proofs.Whole.{Stands, next}
 use Rattle.mari_publish.proofs.Follows.{Came, came_more, in_parts, stands_first}
 
--- behind the first line and before the last one the whole parts are the head and the blocks
+-- after the first line and before the last one the whole parts are the head and the blocks
 abbrev Inner : Held → Type 0
 Inner h = (p : Publication) → parts_so_far p h ≡ front_parts p
 
@@ -166,7 +166,7 @@ not_longer P xs x e =
     let same = ap length e in
     absurd (omega (arith, len, one, same))
 
--- of two lists with one item more neither goes on behind the other
+-- of two lists with one item more neither goes on after the other
 pub same_last : (ps : List Part) (x y : Part) (xs : List Part) → ps ++ y ∷ [] ≡ (ps ++ x ∷ []) ++ xs → x ≡ y
 same_last [] x y xs e = cc
 same_last (p ∷ ps) x y xs e = let rest : ps ++ y ∷ [] ≡ (ps ++ x ∷ []) ++ xs = cc in same_last ps x y xs rest

@@ -198,7 +198,7 @@ with_pending_step p g new l fits room e = (
   (fits.0, record { listing = fits.1.listing; some = fits.1.some; items = fits.1.items; due = λ _. room }),
 )
 
--- the first operator behind a tree
+-- the first operator after a tree
 operator_step : (p : Publication) (g : Growing) (o : MoneyLine) → HeldFits p (held.Growing g) → length g.tree ≡ g.count → pending_lines g.pending ≡ []
     → Moves p (held.Growing g) (line.Operator o) (held.Ending (record { listing = g.listing; tree = g.tree; operators = o ∷ []; providers = [] }))
 operator_step p g o fits full nothing = (
@@ -238,7 +238,7 @@ growing_step p g (Flows zones prices flows) (line.Mws mws) h is fits e =
     subst (λ x. Moves p (held.Growing g) (line.Mws mws) x) (some_is (with_item g i) h e) (with_item_step p g i (line.Mws mws) fits (fits.1.due (ap is_nothing is)) (ap (λ x. pending_lines x ++ line.Mws mws ∷ []) (sym is)))
 growing_step p g _ _ h is fits e = absurd cc
 
--- a line behind a tree
+-- a line after a tree
 pub ending_step : (p : Publication) (n : Ending) (l : Line) (h : Held) → HeldFits p (held.Ending n) → after_ending n l ≡ Some h → Moves p (held.Ending n) l h
 ending_step p n (line.Operator o) h fits e =
     let made = held.Ending (record { listing = n.listing; tree = n.tree; operators = n.operators ++ o ∷ []; providers = n.providers }) in

@@ -24,7 +24,7 @@ pub record IsText (text : List ℕ) (p : Publication) : Type 0 where
 abbrev pub IsFormless : List ℕ → Type 0
 IsFormless here = (l : Line) → InRange l → spelling l ≡ here → ⊥
 
--- behind lines that begin a publication comes a line of no form
+-- after lines that begin a publication comes a line of no form
 pub record BadLineAt (text : List ℕ) (n : ℕ) : Type 0 where
   pub before : List Line
   pub here : List ℕ
@@ -35,7 +35,7 @@ pub record BadLineAt (text : List ℕ) (n : ℕ) : Type 0 where
   pub number : n ≡ length before + 1
   pub formless : IsFormless here
 
--- behind lines that begin a publication comes one that no publication has there
+-- after lines that begin a publication comes one that no publication has there
 pub record BadOrderAt (text : List ℕ) (n : ℕ) : Type 0 where
   pub before : List Line
   pub here : Line
@@ -46,7 +46,7 @@ pub record BadOrderAt (text : List ℕ) (n : ℕ) : Type 0 where
   pub in_range : InRange here
   pub misplaced : Begins (before ++ here ∷ []) → ⊥
 
--- behind lines that begin a publication, but are not all of one, or within a line, the text ends
+-- after lines that begin a publication, but are not all of one, or within a line, the text ends
 pub record TruncatedAt (text : List ℕ) (n : ℕ) : Type 0 where
   pub before : List Line
   pub rest : List ℕ

@@ -1,4 +1,4 @@
--- What handling the first line behind the handled ones comes to.
+-- What handling the first line after the handled ones comes to.
 use Rattle.std.specs.Prelude.{◌≡◌, ℕ, ◌+◌, List, ◌∷◌, ◌++◌, Option, Some, None, Result, Ok, Err, ◌⊎◌}
 use Rattle.mari_publish.specs.declared.publication.Part.{Part}
 use Rattle.mari_lines.specs.declared.line.Line.{Line}

@@ -43,7 +43,7 @@ listing_lines b = opening_lines_by b.heading b.welfare ++ market_lines_by b.zone
 abbrev pub growing_lines : Growing → List Line
 growing_lines g = listing_lines g.listing ++ line.Tree g.count ∷ (flat_map item_lines g.tree ++ pending_lines g.pending)
 
--- of a block behind its tree
+-- of a block after its tree
 abbrev pub ending_part : Ending → List Line
 ending_part e = listing_lines e.listing ++ line.Tree (length e.tree) ∷ (flat_map item_lines e.tree ++ (map line.Operator e.operators ++ map line.Provider e.providers))
 
@@ -91,7 +91,7 @@ after_listing b _ = None
 abbrev pub conflict_item : List ℕ → List Cents → List ℤ → List ℕ → TreeItem
 conflict_item zones prices flows mws = items.Leaf (leaves.Conflict (record { chain = zones; potentials = record { cents = prices }; activation = record { mw = mws; flow = flows } }))
 
--- in a tree: an item where one is due, and behind the last one an operator
+-- in a tree: an item where one is due, and after the last one an operator
 abbrev pub after_growing : Growing → Pending → Line → Option Held
 after_growing g Nothing line.Branch = if nat_lt (length g.tree) g.count then Some (with_item g items.Branch) else None
 after_growing g Nothing (line.Bound prices) = if nat_lt (length g.tree) g.count then Some (with_item g (items.Leaf (leaves.Bound (record { cents = prices })))) else None
@@ -118,7 +118,7 @@ full_block e = block.Published (record {
   providers = e.providers;
 })
 
--- behind a tree: operators, and then providers
+-- after a tree: operators, and then providers
 abbrev pub after_ending : Ending → Line → Option Held
 after_ending e (line.Operator o) = if empty e.providers && nat_lt (length e.operators) MOST_ZONES
     then Some (held.Ending (record { listing = e.listing; tree = e.tree; operators = e.operators ++ o ∷ []; providers = e.providers })) else None
@@ -137,7 +137,7 @@ abbrev pub keeps : Kept → Option Held → Option (Kept × Option Part)
 keeps k None = None
 keeps k (Some h) = Some (record { held = h; counts = k.counts }, None)
 
--- behind the head or a block
+-- after the head or a block
 abbrev pub starts_block : Kept → Line → Option (Kept × Option Part)
 starts_block k (line.Run h) = if nat_lt (k.counts.published + k.counts.unpublished) MOST_RUNS
     then Some (record { held = held.Run h; counts = k.counts }, None) else None

@@ -29,13 +29,13 @@ front_parts p = part.Head p.date p.quarters p.budget ∷ map part.Block p.blocks
 abbrev pub parts_of : Publication → List Part
 parts_of p = front_parts p ++ part.Totals p.operators p.providers ∷ []
 
--- the parts that are whole, by what is held behind them
+-- the parts that are whole, by what is held after them
 abbrev pub parts_so_far : Publication → Held → List Part
 parts_so_far p held.Start = []
 parts_so_far p held.Done = parts_of p
 parts_so_far p _ = front_parts p
 
--- lines that may follow one another are those of the parts and, behind these, of what is held; and so many blocks of
+-- lines that may follow one another are those of the parts and, after these, of what is held; and so many blocks of
 -- either kind are among the parts
 pub record Gives (lines : List Line) (parts : List Part) (k : Kept) : Type 0 where
   pub so_far : Publication
@@ -45,7 +45,7 @@ pub record Gives (lines : List Line) (parts : List Part) (k : Kept) : Type 0 whe
   pub published : k.counts.published ≡ published_in so_far.blocks
   pub unpublished : k.counts.unpublished ≡ unpublished_in so_far.blocks
 
--- a text as far as it has come: what is kept of the handled lines and how many they are, and the bytes behind them
+-- a text as far as it has come: what is kept of the handled lines and how many they are, and the bytes after them
 pub record ComeState : Type 0 where
   pub kept : Kept
   pub lines : ℕ
@@ -60,14 +60,14 @@ pub record ReaderState : Type 0 where
   pub come : ComeState
   pub waits : Bool
 
--- the bytes behind the handled lines; of a line that is too long there is a mark in place of them
+-- the bytes after the handled lines; of a line that is too long there is a mark in place of them
 abbrev pub IsAhead : Ahead → List ℕ → List ℕ → Type 0
 IsAhead mark.Kept unread rest = rest ≡ unread
 IsAhead mark.TooLong unread rest = Lacks 10 rest × (MOST_LINE < length rest)
 IsAhead mark.Ended unread rest = (here : List ℕ) × (after : List ℕ) × (rest ≡ here ++ 10 ∷ after) × Lacks 10 here × (MOST_LINE < length here)
 
 -- what has come comes from a text, of which these parts were given: the text is that of handled lines, none of which
--- has a fault, and the bytes behind them
+-- has a fault, and the bytes after them
 pub record ComesFrom (r : ComeState) (text : List ℕ) (parts : List Part) : Type 0 where
   pub lines : List Line
   pub rest : List ℕ
@@ -90,7 +90,7 @@ NoLineIn mark.Ended unread = ⊥
 abbrev pub HasNoLine : ComeState → Type 0
 HasNoLine r = NoLineIn r.ahead r.unread
 
--- no more bytes are kept behind the handled lines than a line may have
+-- no more bytes are kept after the handled lines than a line may have
 abbrev pub KeepsFew : ComeState → Type 0
 KeepsFew r = length r.unread ≤ MOST_LINE
 
@@ -109,11 +109,11 @@ pub record HoldsParts (text : List ℕ) (parts : List Part) : Type 0 where
   pub kept : Kept
   pub gives : Gives lines parts kept
 
--- behind these parts it holds this one whole
+-- after these parts it holds this one whole
 abbrev pub HasPart : List ℕ → List Part → Part → Type 0
 HasPart text parts x = HoldsParts text (parts ++ x ∷ [])
 
--- behind these parts it holds none
+-- after these parts it holds none
 abbrev pub NoPart : List ℕ → List Part → Type 0
 NoPart text parts = (x : Part) → HasPart text parts x → ⊥
 

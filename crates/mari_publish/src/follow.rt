@@ -15,33 +15,49 @@ mod tree;
 
 use crate::held::{Held, Kept};
 use crate::publication::Part;
-use ending::behind_tree;
-use heading::{at_start, behind_heading, between_blocks};
-use listing::in_listing;
+use ending::{close_block, list_party};
+use heading::{after_heading, at_start, between_blocks};
+use listing::{list_line, open_tree};
 use mari_lines::Line;
 use mari_units::MOST_RUNS;
 use std::alloc::Global;
-use std::mem;
 pub use step::FollowFault;
-use step::refuse_line;
-use totals::in_totals;
-use tree::in_tree;
+use step::{no_part, refuse_line};
+use totals::{close_totals, list_total};
+use tree::{close_tree, grow};
 
 /// Takes a line, and gives the part that is whole with it. What is kept stays as it is where the line may not follow,
 /// and where there is no memory for it.
+///
+/// A line that goes on in what is held is taken in place; only one that ends it takes it out.
 pub fn follow(alloc: Global, kept: &mut Kept, line: Line) -> Result<Option<Part>, FollowFault>
     requires counts { kept.old.counts.published + kept.old.counts.unpublished ≤ MOST_RUNS }
     requires room { HasRoom kept.old.held kept.old.counts }
     ensures { Follows (after kept.old kept.old.held line) kept.old kept.new result }
 {
-    match mem::replace(&mut kept.held, Held::Done) {
+    match &mut kept.held {
         Held::Start => at_start(kept, line),
         Held::Between => between_blocks(alloc, kept, line),
-        Held::Run(heading) => behind_heading(alloc, kept, heading, line),
-        Held::Listing(block) => in_listing(alloc, kept, block, line),
-        Held::Growing(growing) => in_tree(alloc, kept, growing, line),
-        Held::Ending(ending) => behind_tree(alloc, kept, ending, line),
-        Held::Totals(operators, providers) => { in_totals(alloc, kept, operators, providers, line) }
+        Held::Run(heading) => {
+            let heading = *heading;
+            after_heading(alloc, kept, heading, line)
+        }
+        Held::Listing(block) => match line {
+            Line::Tree(count) => open_tree(alloc, kept, count),
+            line => no_part(list_line(alloc, block, line)),
+        },
+        Held::Growing(growing) => match line {
+            Line::Operator(operator) => close_tree(alloc, kept, operator),
+            line => no_part(grow(alloc, growing, line)),
+        },
+        Held::Ending(ending) => match line {
+            Line::End(run) => close_block(kept, run),
+            line => no_part(list_party(alloc, ending, line)),
+        },
+        Held::Totals(operators, providers) => match line {
+            Line::Done(published, unpublished) => close_totals(kept, published, unpublished),
+            line => no_part(list_total(alloc, operators, providers, line)),
+        },
         Held::Done => refuse_line(kept, Held::Done, line),
     }
 }

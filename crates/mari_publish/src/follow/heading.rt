@@ -104,7 +104,7 @@ fn open_listing(alloc: Global, heading: Heading, welfare: u64) -> Held
 }
 
 /// The line after a run's heading.
-pub fn behind_heading(
+pub fn after_heading(
     alloc: Global,
     kept: &mut Kept,
     heading: Heading,

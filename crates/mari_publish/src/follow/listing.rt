@@ -1,14 +1,17 @@
 //! The lists of a block are open, before its tree.
 
-ghost use Rattle.mari_publish.specs.Order.{after, after_listing, kept_with, Steps, Follows};
+ghost use Rattle.std.specs.Prelude.{◌≡◌, ℕ};
+ghost use Rattle.mari_publish.specs.Order.{after, after_listing, Steps, Follows};
 ghost use Rattle.mari_publish.specs.declared.held.Held.TheVariants as held_as;
+ghost use Rattle.mari_publish.specs.declared.held.Listing.{Listing as ListingValue};
 
-use super::step::{FollowFault, empty, keep, push, stay};
+use super::step::{FollowFault, empty, go_on, push, refuse};
 use crate::held::{Growing, Held, Kept, Listing, Pending};
 use crate::publication::Part;
 use mari_lines::{BidLine, BorderLine, Line, ZoneLine};
 use mari_units::{MOST_BIDS, MOST_BORDERS, MOST_ZONES};
 use std::alloc::Global;
+use std::mem;
 
 /// A zone's line in a block before its tree.
 fn list_zone(alloc: Global, block: &mut Listing, zone: ZoneLine) -> Result<(), FollowFault>
@@ -77,58 +80,40 @@ fn list_demand(alloc: Global, block: &mut Listing, place: u32, mw: u32) -> Resul
     Ok(push(alloc, &mut block.demands, mw)?)
 }
 
-/// The first line of a block's tree.
-fn open_tree(alloc: Global, block: Listing, count: u32) -> (Held, Result<(), FollowFault>)
-    ensures { Steps (after_listing block (Line.Tree count)) (held_as.Listing block) result.0 result.1 }
+/// A line of a block before its tree, but not the tree's first.
+pub fn list_line(alloc: Global, block: &mut Listing, line: Line) -> Result<(), FollowFault>
+    requires { (count : ℕ) → line ≡ Line.Tree count → ⊥ }
+    ensures { Steps (after_listing block.old line) (held_as.Listing block.old) (held_as.Listing block.new) result }
 {
-    if block.zones.as_slice().is_empty() {
-        return (Held::Listing(block), Err(FollowFault::OutOfOrder));
-    }
-    let growing = Growing {
-        listing: block,
-        count,
-        tree: empty(alloc),
-        pending: Pending::Nothing,
-    };
-    (Held::Growing(growing), Ok(()))
-}
-
-/// A line of a block before its tree.
-fn after_listed(alloc: Global, block: Listing, line: Line) -> (Held, Result<(), FollowFault>)
-    ensures { Steps (after_listing block line) (held_as.Listing block) result.0 result.1 }
-{
-    let mut block = block;
     match line {
-        Line::Zone(zone) => {
-            let step = list_zone(alloc, &mut block, zone);
-            (Held::Listing(block), step)
+        Line::Zone(zone) => list_zone(alloc, block, zone),
+        Line::Border(border) => list_border(alloc, block, border),
+        Line::Bid(bid) => list_bid(alloc, block, bid),
+        Line::Demand(place, mw) => list_demand(alloc, block, place, mw),
+        line => {
+            drop(line);
+            Err(FollowFault::OutOfOrder)
         }
-        Line::Border(border) => {
-            let step = list_border(alloc, &mut block, border);
-            (Held::Listing(block), step)
-        }
-        Line::Bid(bid) => {
-            let step = list_bid(alloc, &mut block, bid);
-            (Held::Listing(block), step)
-        }
-        Line::Demand(place, mw) => {
-            let step = list_demand(alloc, &mut block, place, mw);
-            (Held::Listing(block), step)
-        }
-        Line::Tree(count) => open_tree(alloc, block, count),
-        line => stay(Held::Listing(block), line),
     }
 }
 
-/// A line before a block's tree.
-pub fn in_listing(
-    alloc: Global,
-    kept: &mut Kept,
-    block: Listing,
-    line: Line,
-) -> Result<Option<Part>, FollowFault>
-    ensures { Follows (after kept.old (held_as.Listing block) line) (kept_with kept.old (held_as.Listing block)) kept.new result }
+/// The first line of a block's tree.
+pub fn open_tree(alloc: Global, kept: &mut Kept, count: u32) -> Result<Option<Part>, FollowFault>
+    ensures { (block : ListingValue) → kept.old.held ≡ held_as.Listing block → Follows (after kept.old (held_as.Listing block) (Line.Tree count)) kept.old kept.new result }
 {
-    let (held, step) = after_listed(alloc, block, line);
-    keep(kept, held, step)
+    match mem::replace(&mut kept.held, Held::Done) {
+        Held::Listing(listing) => {
+            if listing.zones.as_slice().is_empty() {
+                return refuse(kept, Held::Listing(listing));
+            }
+            let growing = Growing {
+                listing,
+                count,
+                tree: empty(alloc),
+                pending: Pending::Nothing,
+            };
+            go_on(kept, Held::Growing(growing), None)
+        }
+        held => refuse(kept, held),
+    }
 }

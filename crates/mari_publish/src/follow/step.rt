@@ -1,8 +1,9 @@
 //! What a line comes to: it is refused, or what is held goes on.
 
-ghost use Rattle.std.specs.Prelude.{◌≡◌, ◌∷◌, ◌++◌, [], Option, OnOk, OnErr, IsOk, Ok, Err, MatchResult};
+ghost use Rattle.std.specs.Prelude.{◌≡◌, ◌∷◌, ◌++◌, [], Option, OnOk, OnErr, Ok, Err};
 ghost use Rattle.mari_publish.specs.Order.{keeps, kept_with, Steps, Follows};
 ghost use Rattle.mari_publish.specs.declared.held.Held.{Held as HeldValue};
+ghost use Rattle.mari_publish.specs.declared.held.Kept.{Kept as KeptValue};
 
 use crate::held::{Held, Kept};
 use crate::publication::Part;
@@ -42,13 +43,6 @@ pub fn push<T: Drop>(alloc: Global, items: &mut Items<T>, item: T) -> Result<(),
     if pushed { Ok(()) } else { Err(Memory) }
 }
 
-/// Whether there was memory for an item, as a step's answer.
-pub fn more(pushed: Result<(), Memory>) -> Result<(), FollowFault>
-    ensures { MatchResult pushed (λ _. IsOk result) (λ _. result ≡ Err FollowFault.Memory) }
-{
-    Ok(pushed?)
-}
-
 /// An empty list.
 pub fn empty<T>(alloc: Global) -> Items<T>
     ensures { result ≡ [] }
@@ -64,15 +58,10 @@ pub fn hold(kept: &mut Kept, held: Held)
     drop(mem::replace(&mut kept.held, held));
 }
 
-/// What is held now, with the same counts.
-pub fn keep(
-    kept: &mut Kept,
-    held: Held,
-    step: Result<(), FollowFault>,
-) -> Result<Option<Part>, FollowFault>
-    ensures { (expected : Option HeldValue) (old : HeldValue) → Steps expected old held step → Follows (keeps kept.old expected) (kept_with kept.old old) kept.new result }
+/// The answer where a line was taken in place, or refused: no part is whole with it.
+pub fn no_part(step: Result<(), FollowFault>) -> Result<Option<Part>, FollowFault>
+    ensures { (kept : KeptValue) (expected : Option HeldValue) (old new : HeldValue) → Steps expected old new step → Follows (keeps kept expected) (kept_with kept old) (kept_with kept new) result }
 {
-    hold(kept, held);
     match step {
         Ok(()) => Ok(None),
         Err(refused) => Err(refused),
@@ -95,15 +84,6 @@ pub fn refuse_line(kept: &mut Kept, held: Held, line: Line) -> Result<Option<Par
 {
     drop(line);
     refuse(kept, held)
-}
-
-/// A line that may not follow, where what is held is not stored yet.
-pub fn stay(held: Held, line: Line) -> (Held, Result<(), FollowFault>)
-    ensures held { result.0 ≡ held }
-    ensures refused { result.1 ≡ Err FollowFault.OutOfOrder }
-{
-    drop(line);
-    (held, Err(FollowFault::OutOfOrder))
 }
 
 /// A line that may, and the part that is whole with it.

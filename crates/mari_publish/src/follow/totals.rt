@@ -1,117 +1,74 @@
 //! The totals are open.
 
-ghost use Rattle.mari_publish.specs.Order.{after, after_totals, kept_with, Steps, Follows};
+ghost use Rattle.std.specs.Prelude.{◌≡◌, List, ℕ};
+ghost use Rattle.mari_lines.specs.declared.line.AmountLine.{AmountLine as AmountLineValue};
+ghost use Rattle.mari_lines.specs.declared.line.MoneyLine.{MoneyLine as MoneyLineValue};
+ghost use Rattle.mari_publish.specs.Order.{after, after_totals, Steps, Follows};
 ghost use Rattle.mari_publish.specs.declared.held.Held.TheVariants as held_as;
 
-use super::step::{FollowFault, go_on, keep, more, push, refuse, stay};
+use super::step::{FollowFault, go_on, push, refuse};
 use crate::held::{Held, Kept};
 use crate::publication::Part;
 use mari_lines::{AmountLine, Line, MoneyLine};
 use mari_units::{Items, MOST_PROVIDERS, MOST_ZONES};
 use std::alloc::Global;
+use std::mem;
 
-/// An operator's line of the totals.
-fn total_operator(
+/// A line of the totals, but not the last.
+pub fn list_total(
     alloc: Global,
-    operators: Items<MoneyLine>,
-    providers: Items<AmountLine>,
-    operator: MoneyLine,
-) -> (Held, Result<(), FollowFault>)
-    ensures { Steps (after_totals operators providers (Line.TotalOperator operator)) (held_as.Totals operators providers) result.0 result.1 }
-{
-    let mut operators = operators;
-    if !providers.as_slice().is_empty() {
-        return (
-            Held::Totals(operators, providers),
-            Err(FollowFault::OutOfOrder),
-        );
-    }
-    if operators.as_slice().len() >= MOST_ZONES {
-        return (
-            Held::Totals(operators, providers),
-            Err(FollowFault::OutOfOrder),
-        );
-    }
-    let step = more(push(alloc, &mut operators, operator));
-    (Held::Totals(operators, providers), step)
-}
-
-/// A provider's.
-fn total_provider(
-    alloc: Global,
-    operators: Items<MoneyLine>,
-    providers: Items<AmountLine>,
-    provider: AmountLine,
-) -> (Held, Result<(), FollowFault>)
-    ensures { Steps (after_totals operators providers (Line.TotalProvider provider)) (held_as.Totals operators providers) result.0 result.1 }
-{
-    let mut providers = providers;
-    if providers.as_slice().len() >= MOST_PROVIDERS {
-        return (
-            Held::Totals(operators, providers),
-            Err(FollowFault::OutOfOrder),
-        );
-    }
-    let step = more(push(alloc, &mut providers, provider));
-    (Held::Totals(operators, providers), step)
-}
-
-/// A line of the totals' lists.
-fn after_total(
-    alloc: Global,
-    operators: Items<MoneyLine>,
-    providers: Items<AmountLine>,
+    operators: &mut Items<MoneyLine>,
+    providers: &mut Items<AmountLine>,
     line: Line,
-) -> (Held, Result<(), FollowFault>)
-    ensures { Steps (after_totals operators providers line) (held_as.Totals operators providers) result.0 result.1 }
+) -> Result<(), FollowFault>
+    requires { (published unpublished : ℕ) → line ≡ Line.Done published unpublished → ⊥ }
+    ensures { Steps (after_totals operators.old providers.old line) (held_as.Totals operators.old providers.old) (held_as.Totals operators.new providers.new) result }
 {
     match line {
-        Line::TotalOperator(operator) => total_operator(alloc, operators, providers, operator),
-        Line::TotalProvider(provider) => total_provider(alloc, operators, providers, provider),
-        line => stay(Held::Totals(operators, providers), line),
+        Line::TotalOperator(operator) => {
+            if !providers.as_slice().is_empty() {
+                return Err(FollowFault::OutOfOrder);
+            }
+            if operators.as_slice().len() >= MOST_ZONES {
+                return Err(FollowFault::OutOfOrder);
+            }
+            Ok(push(alloc, operators, operator)?)
+        }
+        Line::TotalProvider(provider) => {
+            if providers.as_slice().len() >= MOST_PROVIDERS {
+                return Err(FollowFault::OutOfOrder);
+            }
+            Ok(push(alloc, providers, provider)?)
+        }
+        line => {
+            drop(line);
+            Err(FollowFault::OutOfOrder)
+        }
     }
 }
 
-/// The last line.
-fn close_totals(
+/// The last line of a text, with how many runs are published and how many are not.
+pub fn close_totals(
     kept: &mut Kept,
-    operators: Items<MoneyLine>,
-    providers: Items<AmountLine>,
     published: u32,
     unpublished: u32,
 ) -> Result<Option<Part>, FollowFault>
-    ensures { Follows (after kept.old (held_as.Totals operators providers) (Line.Done published unpublished)) (kept_with kept.old (held_as.Totals operators providers)) kept.new result }
+    ensures { (operators : List MoneyLineValue) (providers : List AmountLineValue) → kept.old.held ≡ held_as.Totals operators providers → Follows (after kept.old (held_as.Totals operators providers) (Line.Done published unpublished)) kept.old kept.new result }
 {
-    if published != kept.counts.published {
-        return refuse(kept, Held::Totals(operators, providers));
-    }
-    if unpublished != kept.counts.unpublished {
-        return refuse(kept, Held::Totals(operators, providers));
-    }
-    let totals = Part::Totals {
-        operators,
-        providers,
-    };
-    go_on(kept, Held::Done, Some(totals))
-}
-
-/// A line of the totals.
-pub fn in_totals(
-    alloc: Global,
-    kept: &mut Kept,
-    operators: Items<MoneyLine>,
-    providers: Items<AmountLine>,
-    line: Line,
-) -> Result<Option<Part>, FollowFault>
-    ensures { Follows (after kept.old (held_as.Totals operators providers) line) (kept_with kept.old (held_as.Totals operators providers)) kept.new result }
-{
-    match line {
-        Line::Done(published, unpublished) => {
-            close_totals(kept, operators, providers, published, unpublished)
+    match mem::replace(&mut kept.held, Held::Done) {
+        Held::Totals(operators, providers) => {
+            if published != kept.counts.published {
+                return refuse(kept, Held::Totals(operators, providers));
+            }
+            if unpublished != kept.counts.unpublished {
+                return refuse(kept, Held::Totals(operators, providers));
+            }
+            let totals = Part::Totals {
+                operators,
+                providers,
+            };
+            go_on(kept, Held::Done, Some(totals))
         }
-        line => {
-            let (held, step) = after_total(alloc, operators, providers, line);
-            keep(kept, held, step)
-        }
+        held => refuse(kept, held),
     }
 }

@@ -1,65 +1,162 @@
 //! The tree of a block is open.
 
-ghost use Rattle.std.specs.Prelude.{◌≡◌, ◌<◌, length, nat_lt, if◌then◌else◌, Some, None, Err, IsOk, true, vec_len, vec_capacity};
+ghost use Rattle.std.specs.Prelude.{◌≡◌, ◌<◌, ℕ, length, nat_lt, if◌then◌else◌, Some, None, IsOk};
 ghost use Rattle.mari_publish.specs.Order.{after, after_growing, with_item, with_pending, conflict_item, kept_with, Steps, Follows};
+ghost use Rattle.mari_lines.specs.declared.line.MoneyLine.{MoneyLine as MoneyLineValue};
+ghost use Rattle.mari_publish.specs.declared.held.Growing.{Growing as GrowingValue};
 ghost use Rattle.mari_publish.specs.declared.held.Held.TheVariants as held_as;
 
-use super::step::{FollowFault, empty, keep, more, push, stay};
-use crate::held::{Ending, Growing, Held, Kept, Listing, Pending};
+use super::step::{FollowFault, empty, go_on, hold, push, refuse};
+use crate::held::{Ending, Growing, Held, Kept, Pending};
 use crate::publication::Part;
 use mari_lines::{Line, MoneyLine};
 use mari_market::{Activation, Conflict, Leaf, Prices, TreeItem};
 use mari_units::{Cents, Items};
 use std::alloc::Global;
+use std::mem;
+
+/// Waits for the next line of a conflict, with what has come of it.
+fn wait_with(growing: &mut Growing, pending: Pending)
+    ensures { held_as.Growing growing.new ≡ with_pending growing.old pending }
+{
+    drop(mem::replace(&mut growing.pending, pending));
+}
 
 /// An item of one line.
-fn add_item(alloc: Global, growing: Growing, item: TreeItem) -> (Held, Result<(), FollowFault>)
-    requires { growing.pending ≡ Pending.Nothing }
-    ensures { Steps (if nat_lt (length growing.tree) growing.count then Some (with_item growing item) else None) (held_as.Growing growing) result.0 result.1 }
+fn add_item(alloc: Global, growing: &mut Growing, item: TreeItem) -> Result<(), FollowFault>
+    requires { growing.old.pending ≡ Pending.Nothing }
+    ensures { Steps (if nat_lt (length growing.old.tree) growing.old.count then Some (with_item growing.old item) else None) (held_as.Growing growing.old) (held_as.Growing growing.new) result }
 {
-    let mut growing = growing;
     if growing.tree.as_slice().len() as u64 >= u64::from(growing.count) {
         drop(item);
-        return (Held::Growing(growing), Err(FollowFault::OutOfOrder));
+        return Err(FollowFault::OutOfOrder);
     }
-    let step = more(push(alloc, &mut growing.tree, item));
-    (Held::Growing(growing), step)
+    Ok(push(alloc, &mut growing.tree, item)?)
 }
 
 /// The first of a conflict's lines.
-fn open_conflict(growing: Growing, zones: Items<u32>) -> (Held, Result<(), FollowFault>)
-    requires { growing.pending ≡ Pending.Nothing }
-    ensures { Steps (after_growing growing Pending.Nothing (Line.Conflict zones)) (held_as.Growing growing) result.0 result.1 }
+fn open_conflict(growing: &mut Growing, zones: Items<u32>) -> Result<(), FollowFault>
+    requires { growing.old.pending ≡ Pending.Nothing }
+    ensures { Steps (after_growing growing.old Pending.Nothing (Line.Conflict zones)) (held_as.Growing growing.old) (held_as.Growing growing.new) result }
 {
     if growing.tree.as_slice().len() as u64 >= u64::from(growing.count) {
-        return (Held::Growing(growing), Err(FollowFault::OutOfOrder));
+        drop(zones);
+        return Err(FollowFault::OutOfOrder);
     }
-    let Growing {
-        listing,
-        count,
-        tree,
-        pending,
-    } = growing;
-    drop(pending);
-    let held = tree_with(listing, count, tree, Pending::Zones(zones));
-    (held, Ok(()))
+    wait_with(growing, Pending::Zones(zones));
+    Ok(())
 }
 
-/// The first operator's line after a tree.
-fn close_tree(
+/// The first line of an item.
+fn begin_item(alloc: Global, growing: &mut Growing, line: Line) -> Result<(), FollowFault>
+    requires pending { growing.old.pending ≡ Pending.Nothing }
+    requires line { (operator : MoneyLineValue) → line ≡ Line.Operator operator → ⊥ }
+    ensures { Steps (after_growing growing.old Pending.Nothing line) (held_as.Growing growing.old) (held_as.Growing growing.new) result }
+{
+    match line {
+        Line::Branch => add_item(alloc, growing, TreeItem::Branch),
+        Line::Bound(cents) => {
+            let item = TreeItem::Leaf(Leaf::Bound(Prices { cents }));
+            add_item(alloc, growing, item)
+        }
+        Line::Cut(cut) => add_item(alloc, growing, TreeItem::Leaf(Leaf::Cut(cut))),
+        Line::Conflict(zones) => open_conflict(growing, zones),
+        line => {
+            drop(line);
+            Err(FollowFault::OutOfOrder)
+        }
+    }
+}
+
+/// The item of a conflict's four lines.
+fn conflict_of(chain: Items<u32>, cents: Items<Cents>, flow: Items<i64>, mw: Items<u32>) -> TreeItem
+    ensures { result ≡ conflict_item chain cents flow mw }
+{
+    TreeItem::Leaf(Leaf::Conflict(Conflict {
+        chain,
+        potentials: Prices { cents },
+        activation: Activation { mw, flow },
+    }))
+}
+
+/// The last of a conflict's lines. Room for the item is made first, so that the lines that have come are not lost.
+fn close_conflict(
     alloc: Global,
+    growing: &mut Growing,
+    zones: Items<u32>,
+    prices: Items<Cents>,
+    flows: Items<i64>,
+    mws: Items<u32>,
+) -> Result<(), FollowFault>
+    requires { growing.old.pending ≡ Pending.Nothing }
+    ensures { Steps (Some (with_item growing.old (conflict_item zones prices flows mws))) (with_pending growing.old (Pending.Flows zones prices flows)) (held_as.Growing growing.new) result }
+{
+    let mut tree = mem::replace(&mut growing.tree, empty(alloc)).into_vec();
+    if tree.reserve(1).is_err() {
+        growing.tree = Items::of(tree);
+        wait_with(growing, Pending::Flows(zones, prices, flows));
+        return Err(FollowFault::Memory);
+    }
+    tree.push_reserved(conflict_of(zones, prices, flows, mws));
+    growing.tree = Items::of(tree);
+    Ok(())
+}
+
+/// A line of a conflict that is not the next one: what has come waits on.
+fn wait_on(growing: &mut Growing, pending: Pending, line: Line) -> Result<(), FollowFault>
+    ensures held { held_as.Growing growing.new ≡ with_pending growing.old pending }
+    ensures refused { result ≡ Err FollowFault.OutOfOrder }
+{
+    drop(line);
+    wait_with(growing, pending);
+    Err(FollowFault::OutOfOrder)
+}
+
+/// A line of a block's tree, but not the operator's line after it.
+pub fn grow(alloc: Global, growing: &mut Growing, line: Line) -> Result<(), FollowFault>
+    requires { (operator : MoneyLineValue) → line ≡ Line.Operator operator → ⊥ }
+    ensures { Steps (after_growing growing.old growing.old.pending line) (held_as.Growing growing.old) (held_as.Growing growing.new) result }
+{
+    match mem::replace(&mut growing.pending, Pending::Nothing) {
+        Pending::Nothing => begin_item(alloc, growing, line),
+        Pending::Zones(zones) => match line {
+            Line::At(at) => {
+                wait_with(growing, Pending::At(zones, at));
+                Ok(())
+            }
+            line => wait_on(growing, Pending::Zones(zones), line),
+        },
+        Pending::At(zones, at) => match line {
+            Line::Flows(flows) => {
+                wait_with(growing, Pending::Flows(zones, at, flows));
+                Ok(())
+            }
+            line => wait_on(growing, Pending::At(zones, at), line),
+        },
+        Pending::Flows(zones, at, flows) => match line {
+            Line::Mws(mws) => close_conflict(alloc, growing, zones, at, flows, mws),
+            line => wait_on(growing, Pending::Flows(zones, at, flows), line),
+        },
+    }
+}
+
+/// The block after its tree, with the first operator's line.
+fn end_tree(
+    alloc: Global,
+    kept: &mut Kept,
     growing: Growing,
     operator: MoneyLine,
-) -> (Held, Result<(), FollowFault>)
+) -> Result<Option<Part>, FollowFault>
     requires { growing.pending ≡ Pending.Nothing }
-    ensures { Steps (after_growing growing Pending.Nothing (Line.Operator operator)) (held_as.Growing growing) result.0 result.1 }
+    ensures { Follows (after kept.old (held_as.Growing growing) (Line.Operator operator)) (kept_with kept.old (held_as.Growing growing)) kept.new result }
 {
     if growing.tree.as_slice().len() as u64 != u64::from(growing.count) {
-        return (Held::Growing(growing), Err(FollowFault::OutOfOrder));
+        return refuse(kept, Held::Growing(growing));
     }
     let mut operators = empty(alloc);
     if push(alloc, &mut operators, operator).is_err() {
-        return (Held::Growing(growing), Err(FollowFault::Memory));
+        hold(kept, Held::Growing(growing));
+        return Err(FollowFault::Memory);
     }
     let Growing {
         listing,
@@ -74,168 +171,24 @@ fn close_tree(
         operators,
         providers: empty(alloc),
     };
-    (Held::Ending(ending), Ok(()))
+    go_on(kept, Held::Ending(ending), None)
 }
 
-/// The first line of an item, or the first operator's line.
-fn at_item(alloc: Global, growing: Growing, line: Line) -> (Held, Result<(), FollowFault>)
-    requires { growing.pending ≡ Pending.Nothing }
-    ensures { Steps (after_growing growing Pending.Nothing line) (held_as.Growing growing) result.0 result.1 }
-{
-    match line {
-        Line::Branch => add_item(alloc, growing, TreeItem::Branch),
-        Line::Bound(cents) => {
-            let item = TreeItem::Leaf(Leaf::Bound(Prices { cents }));
-            add_item(alloc, growing, item)
-        }
-        Line::Cut(cut) => add_item(alloc, growing, TreeItem::Leaf(Leaf::Cut(cut))),
-        Line::Conflict(zones) => open_conflict(growing, zones),
-        Line::Operator(operator) => close_tree(alloc, growing, operator),
-        line => stay(Held::Growing(growing), line),
-    }
-}
-
-/// A block in its tree.
-fn tree_with(listing: Listing, count: u32, tree: Items<TreeItem>, pending: Pending) -> Held
-    ensures { result ≡ held_as.Growing (record { listing = listing; count = count; tree = tree; pending = pending }) }
-{
-    Held::Growing(Growing {
-        listing,
-        count,
-        tree,
-        pending,
-    })
-}
-
-/// The item of a conflict's four lines.
-fn conflict_of(chain: Items<u32>, cents: Items<Cents>, flow: Items<i64>, mw: Items<u32>) -> TreeItem
-    ensures { result ≡ conflict_item chain cents flow mw }
-{
-    TreeItem::Leaf(Leaf::Conflict(Conflict {
-        chain,
-        potentials: Prices { cents },
-        activation: Activation { mw, flow },
-    }))
-}
-
-/// Room for one item more. The items stay.
-fn reserve<T>(items: Vec<T>) -> (Vec<T>, bool)
-    ensures items { result.0.items ≡ items.items }
-    ensures room { result.1 ≡ true → vec_len result.0 < vec_capacity result.0 }
-{
-    let mut items = items;
-    let has_room = items.reserve(1).is_ok();
-    (items, has_room)
-}
-
-/// The last of a conflict's lines. Room for the item is made first, so that the lines that have come are not lost.
-fn close_conflict(
-    growing: Growing,
-    zones: Items<u32>,
-    prices: Items<Cents>,
-    flows: Items<i64>,
-    mws: Items<u32>,
-) -> (Held, Result<(), FollowFault>)
-    requires { growing.pending ≡ Pending.Nothing }
-    ensures { Steps (Some (with_item growing (conflict_item zones prices flows mws))) (with_pending growing (Pending.Flows zones prices flows)) result.0 result.1 }
-{
-    let Growing {
-        listing,
-        count,
-        tree,
-        pending,
-    } = growing;
-    drop(pending);
-    let (mut tree, has_room) = reserve(tree.into_vec());
-    if !has_room {
-        let pending = Pending::Flows(zones, prices, flows);
-        let held = tree_with(listing, count, Items::of(tree), pending);
-        return (held, Err(FollowFault::Memory));
-    }
-    tree.push_reserved(conflict_of(zones, prices, flows, mws));
-    let held = tree_with(listing, count, Items::of(tree), Pending::Nothing);
-    (held, Ok(()))
-}
-
-/// A line of a conflict, where it is the next one.
-fn goes_on(
-    listing: Listing,
-    count: u32,
-    tree: Items<TreeItem>,
-    pending: Pending,
-) -> (Held, Result<(), FollowFault>)
-    ensures held { result.0 ≡ held_as.Growing (record { listing = listing; count = count; tree = tree; pending = pending }) }
-    ensures taken { IsOk result.1 }
-{
-    (tree_with(listing, count, tree, pending), Ok(()))
-}
-
-/// A line of a conflict, where it is not the next one.
-fn stays(
-    listing: Listing,
-    count: u32,
-    tree: Items<TreeItem>,
-    pending: Pending,
-    line: Line,
-) -> (Held, Result<(), FollowFault>)
-    ensures held { result.0 ≡ held_as.Growing (record { listing = listing; count = count; tree = tree; pending = pending }) }
-    ensures refused { result.1 ≡ Err FollowFault.OutOfOrder }
-{
-    stay(tree_with(listing, count, tree, pending), line)
-}
-
-/// A line of a block's tree.
-fn after_grown(alloc: Global, growing: Growing, line: Line) -> (Held, Result<(), FollowFault>)
-    ensures { Steps (after_growing growing growing.pending line) (held_as.Growing growing) result.0 result.1 }
-{
-    let Growing {
-        listing,
-        count,
-        tree,
-        pending,
-    } = growing;
-    match pending {
-        Pending::Nothing => {
-            let growing = Growing {
-                listing,
-                count,
-                tree,
-                pending: Pending::Nothing,
-            };
-            at_item(alloc, growing, line)
-        }
-        Pending::Zones(zones) => match line {
-            Line::At(at) => goes_on(listing, count, tree, Pending::At(zones, at)),
-            line => stays(listing, count, tree, Pending::Zones(zones), line),
-        },
-        Pending::At(zones, at) => match line {
-            Line::Flows(flows) => goes_on(listing, count, tree, Pending::Flows(zones, at, flows)),
-            line => stays(listing, count, tree, Pending::At(zones, at), line),
-        },
-        Pending::Flows(zones, at, flows) => match line {
-            Line::Mws(mws) => {
-                let growing = Growing {
-                    listing,
-                    count,
-                    tree,
-                    pending: Pending::Nothing,
-                };
-                close_conflict(growing, zones, at, flows, mws)
-            }
-            line => stays(listing, count, tree, Pending::Flows(zones, at, flows), line),
-        },
-    }
-}
-
-/// A line in a block's tree.
-pub fn in_tree(
+/// The operator's line after a block's tree.
+pub fn close_tree(
     alloc: Global,
     kept: &mut Kept,
-    growing: Growing,
-    line: Line,
+    operator: MoneyLine,
 ) -> Result<Option<Part>, FollowFault>
-    ensures { Follows (after kept.old (held_as.Growing growing) line) (kept_with kept.old (held_as.Growing growing)) kept.new result }
+    ensures { (growing : GrowingValue) → kept.old.held ≡ held_as.Growing growing → Follows (after kept.old (held_as.Growing growing) (Line.Operator operator)) kept.old kept.new result }
 {
-    let (held, step) = after_grown(alloc, growing, line);
-    keep(kept, held, step)
+    match mem::replace(&mut kept.held, Held::Done) {
+        Held::Growing(growing) => {
+            if matches!(growing.pending, Pending::Nothing) {
+                return end_tree(alloc, kept, growing, operator);
+            }
+            refuse(kept, Held::Growing(growing))
+        }
+        held => refuse(kept, held),
+    }
 }

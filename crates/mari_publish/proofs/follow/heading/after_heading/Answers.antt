@@ -6,7 +6,7 @@ use Rattle.mari_publish.specs.declared.held.Held.TheVariants as held
 use Rattle.mari_publish.specs.declared.held.Kept.{Kept}
 use Rattle.mari_publish.specs.Order.{after}
 use Rattle.mari_publish.proofs.Refusals.{refused_so}
-use Rattle.mari_publish.proofs.follow.heading.behind_heading.Goals as goal
+use Rattle.mari_publish.proofs.follow.heading.after_heading.Goals as goal
 
 no_welfare : (k : Kept) (h : Heading) (l : Line) → ((n : ℕ) → l ≡ line.Welfare n → ⊥) → after k (held.Run h) l ≡ None
 no_welfare k h (line.Welfare n) not = absurd (not n refl)

@@ -192,7 +192,7 @@ fn keys_of(alloc: Global, search: &Search<'_>, queue: &Queue) -> Result<Vec<u64>
 }
 
 /// The optimal clearing of a search whose nodes are all branched or closed. It may be refined.
-fn published(alloc: Global, search: Search<'_>) -> Result<Clearing, Memory>
+fn optimum_of_search(alloc: Global, search: Search<'_>) -> Result<Clearing, Memory>
     requires { IsFinished search }
     ensures { IfOk result (MayRefine search.entry.tree.market search.entry.tree.budget) }
 {
@@ -204,7 +204,7 @@ fn published(alloc: Global, search: Search<'_>) -> Result<Clearing, Memory>
 }
 
 /// The part of the search tree of a search in which a node could not branch within the budget.
-fn part_of(alloc: Global, search: Search<'_>) -> Result<Cleared, Memory>
+fn part_of_search(alloc: Global, search: Search<'_>) -> Result<Cleared, Memory>
     requires { search.tree.full ≡ true }
     ensures { IfOk result (Clears search.entry.tree.market search.entry.tree.budget) }
 {
@@ -231,7 +231,7 @@ fn settled(
 {
     let keys = keys_of(alloc, &search, &queue);
     drop(queue);
-    let found = published(alloc, search)?;
+    let found = optimum_of_search(alloc, search)?;
     match Bounds::of(alloc, found.tree.as_slice(), keys) {
         Ok(bounds) => published_from(alloc, market, found, budget, bounds, root),
         Err(Memory) => {
@@ -243,7 +243,7 @@ fn settled(
 
 /// Visits the nodes of a search, and ends it: where none waits any more there is an optimal clearing, which is refined,
 /// and else a part of the search tree.
-fn searched(
+fn search_to_end(
     alloc: Global,
     market: &Market,
     mut search: Search<'_>,
@@ -260,7 +260,7 @@ fn searched(
         Ok(true) => settled(alloc, market, search, queue, budget, root),
         Ok(false) => {
             drop(queue);
-            part_of(alloc, search)
+            part_of_search(alloc, search)
         }
         Err(Memory) => {
             drop(queue);
@@ -280,7 +280,7 @@ fn cleared(alloc: Global, market: &Market, budget: u32) -> Result<Cleared, Memor
     let root = Root::of(alloc, market, &first.activation)?;
     let search = Search::start(alloc, market, ACTOR + 1, first, budget)?;
     let queue = Queue::start(alloc, budget)?;
-    searched(alloc, market, search, queue, budget, &root)
+    search_to_end(alloc, market, search, queue, budget, &root)
 }
 
 /// Clears a market by branch and bound on this thread, within a budget of 1 to `MOST_NODES` nodes.

@@ -70,7 +70,7 @@ fn fate_by(mut finding: Finding, leaf: Leaf, most: u64, full: bool) -> Fate
 }
 
 /// A welfare as quarter-cents.
-fn quarters_of(welfare: u64) -> Quarters
+fn quarter_cents_of(welfare: u64) -> Quarters
     ensures { result.0 ≡ pos welfare }
 {
     Quarters(i128::from(welfare))
@@ -96,7 +96,7 @@ pub(crate) fn fate_of(
         return Ok(Fate::Stays(leaf));
     }
     let most = aim.welfare - 1;
-    if check_leaf(market, prefix, &leaf, quarters_of(most)) {
+    if check_leaf(market, prefix, &leaf, quarter_cents_of(most)) {
         return Ok(Fate::Stays(leaf));
     }
     let finding = root.examine(alloc, market, prefix)?;

@@ -33,7 +33,7 @@ use std::thread;
 use std::thread::Threads;
 
 /// Runs each worker in a thread of its own, or on this thread where none can be made for it. All have ended then.
-fn run_all<'m, N: SearchName + Send + Sync, G: Turnstile, R: Threads + Wait + Sync>(
+fn run_in_threads<'m, N: SearchName + Send + Sync, G: Turnstile, R: Threads + Wait + Sync>(
     rt: &R,
     alloc: Global,
     market: &Market,
@@ -113,7 +113,7 @@ fn settle_rest<'m, N: SearchName, R: Wait>(
 }
 
 /// The optimal clearing of a tree without open leaves: the incumbent closes at the best that was offered.
-fn published<'m, N: SearchName>(
+fn optimum_of_pool<'m, N: SearchName>(
     alloc: Global,
     pool: Pool<'m, N>,
     incumbent: Incumbent,
@@ -160,7 +160,7 @@ fn published<'m, N: SearchName>(
 }
 
 /// Lets all workers run over a pool, and gathers what they found.
-fn run_workers<'m, N: SearchName + Send + Sync, G: Turnstile, R: Threads + Wait + Sync>(
+fn run_and_gather<'m, N: SearchName + Send + Sync, G: Turnstile, R: Threads + Wait + Sync>(
     rt: &R,
     alloc: Global,
     market: &Market,
@@ -186,7 +186,7 @@ fn run_workers<'m, N: SearchName + Send + Sync, G: Turnstile, R: Threads + Wait 
 {
     let seated = seated_of(alloc, incumbent, &mut mine.seat, workers)?;
     let bell = Condvar::new();
-    let worked = run_all::<N, G, R>(
+    let worked = run_in_threads::<N, G, R>(
         rt, alloc, market, pool, &bell, incumbent, seated, turnstile, root,
     )?;
     gather(market, incumbent, mine, worked);
@@ -195,7 +195,7 @@ fn run_workers<'m, N: SearchName + Send + Sync, G: Turnstile, R: Threads + Wait 
 
 /// Starts a pool with its part of the seat, lets the workers run over it, and settles what they left. Beside the pool
 /// it says whether no leaf of it is open; else a node could not branch within the budget.
-fn run<'m, N: SearchName + Send + Sync, G: Turnstile, R: Threads + Wait + Sync>(
+fn run_pool<'m, N: SearchName + Send + Sync, G: Turnstile, R: Threads + Wait + Sync>(
     rt: &R,
     alloc: Global,
     market: &'m Market,
@@ -229,7 +229,7 @@ fn run<'m, N: SearchName + Send + Sync, G: Turnstile, R: Threads + Wait + Sync>(
     ensures spent { IfOk result (λ ran. ran.1 ≡ false → ran.0.tree.full ≡ true) }
 {
     let pool = Mutex::new(Pool::<N>::start(alloc, market, budget, workers, pooled)?);
-    let ran = run_workers(
+    let ran = run_and_gather(
         rt, alloc, market, workers, &pool, incumbent, mine, turnstile, root,
     );
     let mut pool = pool.into_inner();
@@ -247,7 +247,7 @@ fn run<'m, N: SearchName + Send + Sync, G: Turnstile, R: Threads + Wait + Sync>(
 }
 
 /// The part of the search tree of a pool in which a node could not branch within the budget.
-fn spent<'m, N: SearchName>(alloc: Global, pool: Pool<'m, N>) -> Result<Cleared, Memory>
+fn part_of_pool<'m, N: SearchName>(alloc: Global, pool: Pool<'m, N>) -> Result<Cleared, Memory>
     requires { pool.tree.full ≡ true }
     ensures { IfOk result (Clears N.market N.budget) }
 {
@@ -261,7 +261,7 @@ fn spent<'m, N: SearchName>(alloc: Global, pool: Pool<'m, N>) -> Result<Cleared,
 /// and refines what is found.
 ///
 /// While the workers run the incumbent lies on a cache line of its own, since each of them steps on it.
-fn searched<N: SearchName + Send + Sync, G: Turnstile, R: Threads + Wait + Sync>(
+fn search_over_pool<N: SearchName + Send + Sync, G: Turnstile, R: Threads + Wait + Sync>(
     rt: &R,
     alloc: Global,
     market: &Market,
@@ -294,14 +294,14 @@ fn searched<N: SearchName + Send + Sync, G: Turnstile, R: Threads + Wait + Sync>
     let incumbent = CachePadded::new(incumbent);
     let mut mine = Worked { seat, best: None };
     let pooled = incumbent.split(&mut mine.seat);
-    let ran = run::<N, G, R>(
+    let ran = run_pool::<N, G, R>(
         rt, alloc, market, workers, budget, pooled, &incumbent, &mut mine, turnstile, root,
     );
     let incumbent = incumbent.into_inner();
     let ended = match ran {
         Ok((pool, true)) => {
             let keys = pool.keys(alloc);
-            let found = published(alloc, pool, incumbent, mine, first)?;
+            let found = optimum_of_pool(alloc, pool, incumbent, mine, first)?;
             return match Bounds::of(alloc, found.tree.as_slice(), keys) {
                 Ok(bounds) => published_from(alloc, market, found, budget, bounds, root),
                 Err(Memory) => {
@@ -310,7 +310,7 @@ fn searched<N: SearchName + Send + Sync, G: Turnstile, R: Threads + Wait + Sync>
                 }
             };
         }
-        Ok((pool, false)) => spent(alloc, pool),
+        Ok((pool, false)) => part_of_pool(alloc, pool),
         Err(Memory) => Err(Memory),
     };
     drop(incumbent);
@@ -321,7 +321,7 @@ fn searched<N: SearchName + Send + Sync, G: Turnstile, R: Threads + Wait + Sync>
 
 /// Clears a market from its best activation with every gate closed: names the search, finds the root's optimum, and
 /// starts the incumbent at the closed welfare, with a part for each worker, the pool and this thread.
-fn named<G: Turnstile, R: Threads + Wait + Sync>(
+fn search_under_name<G: Turnstile, R: Threads + Wait + Sync>(
     rt: &R,
     alloc: Global,
     market: &Market,
@@ -337,7 +337,7 @@ fn named<G: Turnstile, R: Threads + Wait + Sync>(
     let first = first_of(alloc, market)?;
     let root = Root::of(alloc, market, &first.activation)?;
     let (incumbent, seat) = Incumbent::start(alloc, first.welfare, u64::from(workers) + 2)?;
-    searched::<Brand, G, R>(
+    search_over_pool::<Brand, G, R>(
         rt, alloc, market, workers, budget, incumbent, seat, first, turnstile, &root,
     )
 }
@@ -361,7 +361,7 @@ pub fn search<G: Turnstile, R: Threads + Wait + Sync>(
     requires budget { IsBudget budget }
     ensures { Clears market.now budget result }
 {
-    match named(rt, alloc, market, workers, budget, turnstile) {
+    match search_under_name(rt, alloc, market, workers, budget, turnstile) {
         Ok(Cleared::Spent(spent)) => {
             drop(spent);
             search_alone(alloc, market, budget)

@@ -24,7 +24,7 @@ returns-then-check_leaf c =
     let word = word_of c.args.prefix.now in
     let some = early_above m c.args.aim.now word c.requires.aim (c.comes_before.ensures.0 c.if-not-comes_before.false) in
     low_stays m w (w - 1) (word_of c.args.aim.now.word) word c.args.leaf (omega (arith, some))
-    (subst (λ (z : ℤ). LeafHolds m z word c.args.leaf) c.quarters_of.ensures (c.check_leaf.ensures.holds.0 c.if-check_leaf.true))
+    (subst (λ (z : ℤ). LeafHolds m z word c.args.leaf) c.quarter_cents_of.ensures (c.check_leaf.ensures.holds.0 c.if-check_leaf.true))
 
 all_or_less : (n k : ℕ) → n ≤ k → eqb n k ≡ false → n < k
 all_or_less n k l e = grind (arith, nat_tests)

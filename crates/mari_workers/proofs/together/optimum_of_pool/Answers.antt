@@ -10,7 +10,7 @@ use Rattle.mari_incumbent.specs.Incumbent.{SeatView}
 use Rattle.mari_pool.specs.declared.pool.PoolFault.{PoolFault}
 use Rattle.mari_pool.specs.Taking.{IsOpenAt}
 use Rattle.mari_workers.proofs.Rest.{all_done, best_of_all, clearing_by_tree, refinable}
-use Rattle.mari_workers.proofs.together.published.Goals as goal
+use Rattle.mari_workers.proofs.together.optimum_of_pool.Goals as goal
 
 pub unreachable-requires : goal.unreachable-requires
 unreachable-requires g c =

@@ -3,7 +3,7 @@ use Rattle.mari_core.specs.declared.event.FinishFault.{FinishFault}
 use Rattle.mari_core.specs.Preorder.{IsOpenFault}
 use Rattle.mari_workers.proofs.Rest.{all_done}
 use Rattle.mari_workers.proofs.Visits.{may_refine}
-use Rattle.mari_workers.proofs.alone.published.Goals as goal
+use Rattle.mari_workers.proofs.alone.optimum_of_search.Goals as goal
 
 pub returns-in-Ok : goal.returns-in-Ok
 returns-in-Ok c = may_refine c.args.search c.in-Ok.clearing c.requires c.in-Ok.ensures.clearing c.in-Ok.ensures.welfare c.in-Ok.ensures.first c.in-Ok.ensures.search

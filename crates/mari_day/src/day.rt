@@ -14,7 +14,7 @@ ghost use Rattle.mari_day.specs.Stepped.{Closes, WroteFirst};
 ghost use Rattle.mari_market.specs.Clearing.{IsBudget};
 
 use crate::lines::{amount_lines, money_lines};
-use crate::step::{Stop, step, write_text};
+use crate::step::{Stop, day_step, write_text};
 use mari_bids::BidBook;
 use mari_io::Sink;
 use mari_market::Clearer;
@@ -101,7 +101,7 @@ fn write_runs<C: Clearer, K: Sink>(
 {
     let mut progress = begin(alloc, books, budget, sink)?;
     for run in 0..run_count(books) {
-        match step(alloc, books, run + 1, budget, &mut progress, clearer, sink) {
+        match day_step(alloc, books, run + 1, budget, &mut progress, clearer, sink) {
             Ok(()) => {}
             Err(stop) => return Err(stop),
         }

@@ -124,7 +124,7 @@ fn write_block<K: Sink>(alloc: Global, sink: &mut K, block: &Block) -> Result<()
 }
 
 /// Clears a run, writes its block, and adds it to what the day keeps.
-pub fn step<C: Clearer, K: Sink>(
+pub fn day_step<C: Clearer, K: Sink>(
     alloc: Global,
     books: &Books,
     run: u32,

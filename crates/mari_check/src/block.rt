@@ -198,7 +198,7 @@ fn market_fault(
 }
 
 /// What is found of a published block of a run with this market, whose quarter has these scheduled prices, or none.
-pub(crate) fn examine(
+pub(crate) fn examine_block(
     alloc: Global,
     books: &Books,
     run: u32,
@@ -256,7 +256,7 @@ pub fn check_run(
     requires also { IfSome also (λ scheduled. ArePrices made.now.market scheduled.now.cents) }
     ensures { IfOk result (FindsNumber (IsFreeOf books.now run made.now (option_map (λ scheduled. scheduled.now.cents) also.entry) None block.now)) }
 {
-    match examine(alloc, books, run, made, block, also, None)? {
+    match examine_block(alloc, books, run, made, block, also, None)? {
         Examined::Faulty(fault) => Ok(Some(fault.number())),
         Examined::Sound {
             activation,

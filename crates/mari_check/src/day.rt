@@ -10,7 +10,7 @@ ghost use Rattle.mari_check.specs.Day.{FillsBudget, IsFreeIn, IsNextHeading};
 ghost use Rattle.mari_check.specs.Faults.{Finds, FindsNumber};
 ghost use Rattle.mari_publish.specs.declared.publication.Block.{Block as PrintedBlock};
 
-use crate::block::{Examined, examine};
+use crate::block::{Examined, examine_block};
 use crate::fault::Fault;
 use mari_progress::{Progress, SettledRun, heading, run_count};
 use mari_publish::{Block, FullBlock, Heading};
@@ -91,7 +91,7 @@ impl DayCheck {
         let made = self.progress.market_of(alloc, books, run)?;
         let also = self.progress.also(books, run);
         let budget = Some(self.budget);
-        match examine(alloc, books, run, &made, block, also, budget)? {
+        match examine_block(alloc, books, run, &made, block, also, budget)? {
             Examined::Faulty(fault) => Ok(Tested::Faulty(fault)),
             Examined::Sound {
                 activation,

@@ -109,7 +109,7 @@ fn tightest(
 }
 
 /// The prices of heights.
-fn prices_of(alloc: Global, heights: &[u64], end: End) -> Result<Vec<Cents>, Memory>
+fn prices_of_heights(alloc: Global, heights: &[u64], end: End) -> Result<Vec<Cents>, Memory>
     requires { AreSmall heights.now }
     ensures { IfOk result (λ prices. ArePricesOf end heights.now prices.items) }
 {
@@ -136,6 +136,6 @@ pub(crate) fn ends_of(
     let (borders, flow) = (market.borders.as_slice(), activation.flow.as_slice());
     let bounds = tightest(alloc, market.zones, orders, mw, end)?;
     let heights = spread(bounds, borders, flow, end.along());
-    let prices = prices_of(alloc, &heights, end)?;
+    let prices = prices_of_heights(alloc, &heights, end)?;
     Ok(prices)
 }

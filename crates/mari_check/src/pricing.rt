@@ -80,7 +80,7 @@ pub(crate) fn has_intervals(
 }
 
 /// The price from the least to the greatest that is nearest to the reference.
-fn nearest(line: &ZoneLine, reference: Cents) -> Cents
+fn nearest_of_line(line: &ZoneLine, reference: Cents) -> Cents
     requires { IsInOrder line.now }
     ensures { IsNearest line.now.least.0 line.now.greatest.0 reference.0 result.0 }
 {
@@ -92,7 +92,7 @@ fn is_nearest(line: &ZoneLine, reference: Cents) -> bool
     requires { IsInOrder line.now }
     ensures { IsTrue result ↔ IsNearestLine reference line.now }
 {
-    is_same(line.price, nearest(line, reference))
+    is_same(line.price, nearest_of_line(line, reference))
 }
 
 /// Whether each zone's price is the one of its interval that is nearest to the reference.

@@ -28,7 +28,7 @@ fn flows_of(alloc: Global, lines: &[BorderLine]) -> Result<Vec<i64>, Memory>
 }
 
 /// What the zones' prices are.
-fn cents_of(alloc: Global, lines: &[ZoneLine]) -> Result<Vec<Cents>, Memory>
+fn cents_of_zones(alloc: Global, lines: &[ZoneLine]) -> Result<Vec<Cents>, Memory>
     ensures { IfOk result (λ cents. cents.items ≡ map (λ (l : TheZoneLine). l.price) lines.now) }
 {
     let cents: Vec<Cents> = lines.iter().map(|line| line.price).collect(alloc)?;
@@ -53,7 +53,7 @@ pub fn activation_of(alloc: Global, block: &FullBlock) -> Result<Activation, Mem
 pub fn prices_of(alloc: Global, block: &FullBlock) -> Result<Prices, Memory>
     ensures { IfOk result (λ prices. prices.cents ≡ prices_told block.now) }
 {
-    let cents = cents_of(alloc, block.zones.as_slice())?;
+    let cents = cents_of_zones(alloc, block.zones.as_slice())?;
     Ok(Prices {
         cents: Items::of(cents),
     })

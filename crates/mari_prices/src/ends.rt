@@ -67,7 +67,7 @@ pub(crate) fn ends_of(
 }
 
 /// The prices that the values stand for.
-pub(crate) fn prices_of(
+pub(crate) fn prices_of_settled(
     alloc: Global,
     settled: &[Option<SettledZone>],
     end: End,

@@ -10,7 +10,7 @@ ghost use Rattle.mari_prices.specs.Answers.{OnConflict};
 ghost use Rattle.mari_units.specs.declared.Cents.{Cents};
 
 use crate::bounds::End;
-use crate::ends::{chain_to, contradicted, ends_of, prices_of};
+use crate::ends::{chain_to, contradicted, ends_of, prices_of_settled};
 use mari_market::{Activation, Market, Prices};
 use mari_units::Items;
 use std::alloc::{AllocError, Global};
@@ -77,7 +77,7 @@ pub fn price_test(
         return Err(PriceFault::Conflict(Items::of(chain)));
     }
     Ok(Intervals {
-        least: prices_of(alloc, &least.settled, End::Least)?,
-        greatest: prices_of(alloc, &greatest.settled, End::Greatest)?,
+        least: prices_of_settled(alloc, &least.settled, End::Least)?,
+        greatest: prices_of_settled(alloc, &greatest.settled, End::Greatest)?,
     })
 }

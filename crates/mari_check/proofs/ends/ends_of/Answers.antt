@@ -20,8 +20,8 @@ spread-heights-requires-clause-small c =
     tight_small c.args.end c.args.market.now c.args.activation.now.mw c.in_ok-bounds.bounds.items c.requires.valid c.in_ok-bounds.ensures.one_each
     (rw (c.as_slice-orders.ensures, c.as_slice-mw.ensures) at c.in_ok-bounds.ensures.tightest)
 
-pub prices_of-requires : goal.prices_of-requires
-prices_of-requires c =
+pub prices_of_heights-requires : goal.prices_of_heights-requires
+prices_of_heights-requires c =
     let small = tight_small c.args.end c.args.market.now c.args.activation.now.mw c.in_ok-bounds.bounds.items c.requires.valid c.in_ok-bounds.ensures.one_each
     (rw (c.as_slice-orders.ensures, c.as_slice-mw.ensures) at c.in_ok-bounds.ensures.tightest) in
     subst AreSmall (sym c.deref.ensures.value) (spread-small _ c.in_ok-bounds.bounds.items c.spread-heights.result.items c.spread-heights.ensures small)

@@ -48,31 +48,31 @@ returns-in-Some-clause-zones c =
     (at_lists c.in_ok-least.least.settled.items c.deref.result.now c.in_ok-greatest.greatest.bounds.items c.deref-2.result.now c.in-Some.zone c.deref.ensures.value c.deref-2.ensures.value c.in-Some.ensures) trail in
     subst (All (λ (z : ℕ). z < c.args.market.now.zones)) (sym c.of.ensures) shows.zones
 
-pub prices_of-requires : goal.prices_of-requires
-prices_of-requires c = subst ArePriced (sym c.deref-3.ensures.value) (priced Least c.args.market.now c.args.activation.now c.in_ok-least.least.bounds.items c.in_ok-least.least.settled.items c.requires.valid c.in_ok-least.ensures)
+pub prices_of_settled-requires : goal.prices_of_settled-requires
+prices_of_settled-requires c = subst ArePriced (sym c.deref-3.ensures.value) (priced Least c.args.market.now c.args.activation.now c.in_ok-least.least.bounds.items c.in_ok-least.least.settled.items c.requires.valid c.in_ok-least.ensures)
 
-pub prices_of-requires-2 : goal.prices_of-requires-2
-prices_of-requires-2 c = subst ArePriced (sym c.deref-4.ensures.value) (priced Greatest c.args.market.now c.args.activation.now c.in_ok-greatest.greatest.bounds.items c.in_ok-greatest.greatest.settled.items c.requires.valid c.in_ok-greatest.ensures)
+pub prices_of_settled-requires-2 : goal.prices_of_settled-requires-2
+prices_of_settled-requires-2 c = subst ArePriced (sym c.deref-4.ensures.value) (priced Greatest c.args.market.now c.args.activation.now c.in_ok-greatest.greatest.bounds.items c.in_ok-greatest.greatest.settled.items c.requires.valid c.in_ok-greatest.ensures)
 
 pub returns-clause-some : goal.returns-clause-some
 returns-clause-some c =
     let fit = fits_lists c.in_ok-least.least.settled.items c.deref.result.now c.in_ok-greatest.greatest.bounds.items c.deref-2.result.now c.deref.ensures.value c.deref-2.ensures.value c.in_default.ensures in
-    let p = subst (λ (xs : List (Option SettledZone)). ArePricesOf Least xs c.in_ok-prices_of.field-0.cents) c.deref-3.ensures.value c.in_ok-prices_of.ensures in
-    let k = least_keeps c.args.market.now c.args.activation.now c.in_ok-least.least.bounds.items c.in_ok-greatest.greatest.bounds.items c.in_ok-least.least.settled.items c.in_ok-greatest.greatest.settled.items c.in_ok-prices_of.field-0.cents c.requires.valid c.requires.feasible c.in_ok-least.ensures c.in_ok-greatest.ensures fit p in
-    (c.in_ok-prices_of.field-0.cents, keeps_consistent c.args.market.now c.args.activation.now c.in_ok-prices_of.field-0.cents c.requires.valid c.requires.feasible k)
+    let p = subst (λ (xs : List (Option SettledZone)). ArePricesOf Least xs c.in_ok-prices_of_settled.field-0.cents) c.deref-3.ensures.value c.in_ok-prices_of_settled.ensures in
+    let k = least_keeps c.args.market.now c.args.activation.now c.in_ok-least.least.bounds.items c.in_ok-greatest.greatest.bounds.items c.in_ok-least.least.settled.items c.in_ok-greatest.greatest.settled.items c.in_ok-prices_of_settled.field-0.cents c.requires.valid c.requires.feasible c.in_ok-least.ensures c.in_ok-greatest.ensures fit p in
+    (c.in_ok-prices_of_settled.field-0.cents, keeps_consistent c.args.market.now c.args.activation.now c.in_ok-prices_of_settled.field-0.cents c.requires.valid c.requires.feasible k)
 
 pub returns-clause-least : goal.returns-clause-least
 returns-clause-least c =
     let fit = fits_lists c.in_ok-least.least.settled.items c.deref.result.now c.in_ok-greatest.greatest.bounds.items c.deref-2.result.now c.deref.ensures.value c.deref-2.ensures.value c.in_default.ensures in
-    let p = subst (λ (xs : List (Option SettledZone)). ArePricesOf Least xs c.in_ok-prices_of.field-0.cents) c.deref-3.ensures.value c.in_ok-prices_of.ensures in
-    let k = least_keeps c.args.market.now c.args.activation.now c.in_ok-least.least.bounds.items c.in_ok-greatest.greatest.bounds.items c.in_ok-least.least.settled.items c.in_ok-greatest.greatest.settled.items c.in_ok-prices_of.field-0.cents c.requires.valid c.requires.feasible c.in_ok-least.ensures c.in_ok-greatest.ensures fit p in
-    are_least c.args.market.now c.args.activation.now c.in_ok-least.least.bounds.items c.in_ok-least.least.settled.items c.in_ok-prices_of.field-0.cents c.requires.valid c.requires.feasible c.in_ok-least.ensures k p
+    let p = subst (λ (xs : List (Option SettledZone)). ArePricesOf Least xs c.in_ok-prices_of_settled.field-0.cents) c.deref-3.ensures.value c.in_ok-prices_of_settled.ensures in
+    let k = least_keeps c.args.market.now c.args.activation.now c.in_ok-least.least.bounds.items c.in_ok-greatest.greatest.bounds.items c.in_ok-least.least.settled.items c.in_ok-greatest.greatest.settled.items c.in_ok-prices_of_settled.field-0.cents c.requires.valid c.requires.feasible c.in_ok-least.ensures c.in_ok-greatest.ensures fit p in
+    are_least c.args.market.now c.args.activation.now c.in_ok-least.least.bounds.items c.in_ok-least.least.settled.items c.in_ok-prices_of_settled.field-0.cents c.requires.valid c.requires.feasible c.in_ok-least.ensures k p
 
 pub returns-clause-greatest : goal.returns-clause-greatest
 returns-clause-greatest c =
     let fit = fits_lists c.in_ok-least.least.settled.items c.deref.result.now c.in_ok-greatest.greatest.bounds.items c.deref-2.result.now c.deref.ensures.value c.deref-2.ensures.value c.in_default.ensures in
-    let p = subst (λ (xs : List (Option SettledZone)). ArePricesOf Least xs c.in_ok-prices_of.field-0.cents) c.deref-3.ensures.value c.in_ok-prices_of.ensures in
-    let k = least_keeps c.args.market.now c.args.activation.now c.in_ok-least.least.bounds.items c.in_ok-greatest.greatest.bounds.items c.in_ok-least.least.settled.items c.in_ok-greatest.greatest.settled.items c.in_ok-prices_of.field-0.cents c.requires.valid c.requires.feasible c.in_ok-least.ensures c.in_ok-greatest.ensures fit p in
-    let q = subst (λ (xs : List (Option SettledZone)). ArePricesOf Greatest xs c.in_ok-prices_of-2.field-0.cents) c.deref-4.ensures.value c.in_ok-prices_of-2.ensures in
-    let l = greatest_keeps c.args.market.now c.args.activation.now c.in_ok-greatest.greatest.bounds.items c.in_ok-greatest.greatest.settled.items c.in_ok-prices_of.field-0.cents c.in_ok-prices_of-2.field-0.cents c.requires.valid c.requires.feasible c.in_ok-greatest.ensures k q in
-    are_greatest c.args.market.now c.args.activation.now c.in_ok-greatest.greatest.bounds.items c.in_ok-greatest.greatest.settled.items c.in_ok-prices_of-2.field-0.cents c.requires.valid c.requires.feasible c.in_ok-greatest.ensures l q
+    let p = subst (λ (xs : List (Option SettledZone)). ArePricesOf Least xs c.in_ok-prices_of_settled.field-0.cents) c.deref-3.ensures.value c.in_ok-prices_of_settled.ensures in
+    let k = least_keeps c.args.market.now c.args.activation.now c.in_ok-least.least.bounds.items c.in_ok-greatest.greatest.bounds.items c.in_ok-least.least.settled.items c.in_ok-greatest.greatest.settled.items c.in_ok-prices_of_settled.field-0.cents c.requires.valid c.requires.feasible c.in_ok-least.ensures c.in_ok-greatest.ensures fit p in
+    let q = subst (λ (xs : List (Option SettledZone)). ArePricesOf Greatest xs c.in_ok-prices_of_settled-2.field-0.cents) c.deref-4.ensures.value c.in_ok-prices_of_settled-2.ensures in
+    let l = greatest_keeps c.args.market.now c.args.activation.now c.in_ok-greatest.greatest.bounds.items c.in_ok-greatest.greatest.settled.items c.in_ok-prices_of_settled.field-0.cents c.in_ok-prices_of_settled-2.field-0.cents c.requires.valid c.requires.feasible c.in_ok-greatest.ensures k q in
+    are_greatest c.args.market.now c.args.activation.now c.in_ok-greatest.greatest.bounds.items c.in_ok-greatest.greatest.settled.items c.in_ok-prices_of_settled-2.field-0.cents c.requires.valid c.requires.feasible c.in_ok-greatest.ensures l q

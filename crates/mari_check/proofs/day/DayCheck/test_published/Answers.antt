@@ -7,8 +7,8 @@ use Rattle.mari_check.proofs.day.DayCheck.test_published.Goals as goal
 pub market_of-requires-clause-behind : goal.market_of-requires-clause-behind
 market_of-requires-clause-behind c = let s = c.requires.stands in (s.0, s.1.progress, s.2)
 
-pub examine-requires-clause-also : goal.examine-requires-clause-also
-examine-requires-clause-also c =
+pub examine_block-requires-clause-also : goal.examine_block-requires-clause-also
+examine_block-requires-clause-also c =
     let s = c.requires.stands in
     priced-behind c.args.books.now s.0 c.in_ok-made.made (c.in_ok-made.ensures.market s.0 s.1.progress s.2) _ c.also-also.result (c.also-also.ensures.prices s.0 s.1.progress)
 

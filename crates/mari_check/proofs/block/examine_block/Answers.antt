@@ -5,7 +5,7 @@ use Rattle.mari_check.specs.declared.fault.Fault.TheVariants as fault
 use Rattle.mari_progress.specs.Told.{prices_of}
 use Rattle.mari_check.proofs.Examining.{with-ledger, without-ledger}
 use Rattle.mari_check.proofs.Least.{found-none, found-some}
-use Rattle.mari_check.proofs.block.examine.Goals as goal
+use Rattle.mari_check.proofs.block.examine_block.Goals as goal
 
 pub told_ledger-requires-clause-feasible : goal.told_ledger-requires-clause-feasible
 told_ledger-requires-clause-feasible c =

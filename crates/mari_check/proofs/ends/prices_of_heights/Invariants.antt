@@ -1,7 +1,7 @@
 use Rattle.std.proofs.Common.{◌≡◌, ℕ, ◌<◌, length, slice_index}
 use Rattle.mari_market.specs.Price.{price_at}
 use Rattle.mari_check.specs.Ends.{IsHeight}
-use Rattle.mari_check.proofs.ends.prices_of.Given as goal
+use Rattle.mari_check.proofs.ends.prices_of_heights.Given as goal
 
 -- the prices of the heights so far
 abbrev pub invariant-loop-height : goal.invariant-loop-height

@@ -3,7 +3,7 @@ use Rattle.mari_market.specs.Price.{price_at}
 use Rattle.mari_prices.specs.declared.spread.SettledZone.{SettledZone}
 use Rattle.mari_prices.specs.Spread.{entry_at}
 use Rattle.mari_prices.specs.Tightest.{signed}
-use Rattle.mari_prices.proofs.ends.prices_of.Given as goal
+use Rattle.mari_prices.proofs.ends.prices_of_settled.Given as goal
 
 abbrev pub invariant-loop-entry : goal.invariant-loop-entry
 invariant-loop-entry l = record {

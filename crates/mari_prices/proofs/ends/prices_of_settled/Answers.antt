@@ -6,7 +6,7 @@ use Rattle.mari_market.specs.Price.{IsPrice}
 use Rattle.mari_prices.specs.Ends.{ArePricesOf}
 use Rattle.mari_prices.specs.Spread.{entry_at}
 use Rattle.mari_prices.proofs.Extremes.{entry_within}
-use Rattle.mari_prices.proofs.ends.prices_of.Goals as goal
+use Rattle.mari_prices.proofs.ends.prices_of_settled.Goals as goal
 
 pub price-requires : goal.price-requires
 price-requires c =

@@ -197,7 +197,7 @@ impl<'a> LimitsSoFar<'a> {
     }
 
     /// The place of what is stated of the run and the border that a line names, or the first check that it fails.
-    fn place_of(&self, line: &Row) -> Result<usize, LimitCheck>
+    fn place_of_pair(&self, line: &Row) -> Result<usize, LimitCheck>
         requires borders { length self.now.borders.now.borders ≤ MOST_BORDERS }
         requires runs { self.now.runs ≤ MOST_RUNS }
         ensures { IsRead limit_check_number result (first_failing (name_checks self.now.zones.now self.now.borders.now self.now.runs line.now))
@@ -228,7 +228,7 @@ impl<'a> BookSoFar for LimitsSoFar<'a> {
     ghost Holds = { λ so_far lines. HoldsLimits lines so_far };
 
     fn take(&mut self, _alloc: Global, line: &Row) -> Result<(), LineFault<LimitCheck>> {
-        let place = match self.place_of(line) {
+        let place = match self.place_of_pair(line) {
             Ok(place) => place,
             Err(check) => return Err(LineFault::Fails(check)),
         };

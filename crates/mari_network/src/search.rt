@@ -218,7 +218,7 @@ fn level(prices: &mut [i64], marked: &[bool], price: i64)
 }
 
 /// The place of a zone's hop.
-fn place_of(hops: &[Hop], zone: u32) -> usize
+fn place_of_hop(hops: &[Hop], zone: u32) -> usize
     requires { (k : ℕ) × (k < length hops.now) × ((hop_at hops.now k).zone ≡ zone) }
     ensures there { result < length hops.now }
     ensures zone { (hop_at hops.now result).zone ≡ zone }
@@ -264,7 +264,7 @@ fn chain_by_levels(
         level(prices, marked, slot.price);
         let hops = spread(alloc, network, flows, marked, slot.zone)?;
         if let Some(source) = cheapest(slots, margins, marked, slot.price) {
-            let at = place_of(&hops, slots[source].zone);
+            let at = place_of_hop(&hops, slots[source].zone);
             return Ok(Some(Chain {
                 sink,
                 source,

@@ -25,8 +25,8 @@ cheapest-requires-clause-there c = λ z i l e.
     let mar = c.requires.margins in
     ((mar.cheapest z (omega (arith, mar.long))).one i e).0.0
 
-pub place_of-at-requires : goal.place_of-at-requires
-place_of-at-requires c =
+pub place_of_hop-at-requires : goal.place_of_hop-at-requires
+place_of_hop-at-requires c =
     let mar = c.requires.margins in
     let zoned : (k : ℕ) → k < length c.args.network.now.slots.now → zone_of c.args.network.now.slots.now k < length c.args.network.now.meeting.items = λ k l. c.requires.network.zones k no_slot l in
     let d : IsDearest c.args.network.now.slots.now c.args.amounts.now c.loop-sink.marked c.in-Some.sink = dearest_is c.args.network.now.slots.now c.args.amounts.now (length c.args.network.now.meeting.items) c.args.margins.now c.loop-sink.marked c.in-Some.sink zoned mar (subst (λ (n : ℕ). IsDearestOf c.args.network.now.slots.now c.args.margins.now c.loop-sink.marked n (Some c.in-Some.sink)) mar.long c.in-Some.ensures.dearest) in
@@ -46,16 +46,16 @@ returns-in-Some-cheapest c =
     let p : FitsSigned w64 (price_of c.args.network.now.slots.now c.in-Some.sink) = omega (arith, ints, small.cheap, small.dear) in
     let some = c.in-Some-cheapest.ensures.some c.in-Some-cheapest.source refl in
     let cheap : IsCheaper c.args.network.now.slots.now c.args.amounts.now c.spread.new.marked (price_of c.args.network.now.slots.now c.in-Some.sink) c.in-Some-cheapest.source = cheaper_is c.args.network.now.slots.now c.args.amounts.now (length c.args.network.now.meeting.items) c.args.margins.now c.spread.new.marked (price_of c.args.network.now.slots.now c.in-Some.sink) c.in-Some-cheapest.source some.1 mar (rw (to_z-of_z p) at some.0) (omega (arith, some.2, mar.long)) some.3 some.4 in
-    let there : c.place_of-at.result < length c.in_ok-hops.hops.items = rw c.deref.ensures.value at c.place_of-at.ensures.there in
+    let there : c.place_of_hop-at.result < length c.in_ok-hops.hops.items = rw c.deref.ensures.value at c.place_of_hop-at.ensures.there in
     record {
       trace = c.in_ok-hops.ensures.spread.trace;
       there = there;
       less = d.less;
       more = cheap.more;
       to = sym c.in_ok-hops.ensures.spread.first;
-      from = sym (rw c.deref.ensures.value at c.place_of-at.ensures.zone);
+      from = sym (rw c.deref.ensures.value at c.place_of_hop-at.ensures.zone);
       dearer = cheap.below;
-      room = c.in_ok-hops.ensures.spread.room c.place_of-at.result there;
+      room = c.in_ok-hops.ensures.spread.room c.place_of_hop-at.result there;
     }
 
 pub loop-sink-preserved : goal.loop-sink-preserved

@@ -164,7 +164,7 @@ impl<'a> BlocksSoFar<'a> {
     }
 
     /// The bid of a line, or the first check that the line fails.
-    fn bid_of(&self, line: &Row) -> Result<u32, BlockCheck>
+    fn bid_of_line(&self, line: &Row) -> Result<u32, BlockCheck>
         requires { (earlier : List Line) × HoldsBlocks earlier self.now }
         ensures bid { (earlier : List Line) → HoldsBlocks earlier self.now
             → IsRead block_check_number result (first_failing (line_checks self.now.bids.now self.now.links.now self.now.first self.now.last earlier line.now)) (bid_at self.now.bids.now line.now) }
@@ -203,7 +203,7 @@ impl<'a> BookSoFar for BlocksSoFar<'a> {
     ghost Holds = { λ so_far lines. HoldsBlocks lines so_far };
 
     fn take(&mut self, alloc: Global, line: &Row) -> Result<(), LineFault<BlockCheck>> {
-        let bid = match self.bid_of(line) {
+        let bid = match self.bid_of_line(line) {
             Ok(bid) => bid,
             Err(check) => return Err(LineFault::Fails(check)),
         };

@@ -17,14 +17,14 @@ fn scheduled_run(runs: &[Run], quarter: u32) -> Option<u32>
     ensures first { IfSome result (λ run. 1 ≤ run) }
     ensures last { IfSome result (λ run. run ≤ length runs.now) }
 {
-    match place_of(runs, quarter) {
+    match place_of_scheduled(runs, quarter) {
         Some(place) => Some(place as u32 + 1),
         None => None,
     }
 }
 
 /// The place of a quarter's scheduled run.
-fn place_of(runs: &[Run], quarter: u32) -> Option<usize>
+fn place_of_scheduled(runs: &[Run], quarter: u32) -> Option<usize>
     ensures place { result ≡ position (is_scheduled quarter) runs.now }
     ensures within { IfSome result (λ place. place < length runs.now) }
 {

@@ -32,7 +32,7 @@ fn mark(marks: &mut [bool], bids: &[u32], more: &[u32])
 }
 
 /// Sets each flow to 0.
-fn clear(flow: &mut [i64])
+fn set_to_zero(flow: &mut [i64])
     ensures { (k : ℕ) → get_or flow.new k (pos 0) ≡ pos 0 }
 {
     for k in 0..flow.len() {
@@ -67,7 +67,7 @@ fn keep_if(same: bool, flow: &mut [i64])
     ensures { (k : ℕ) → get_or flow.new k (pos 0) ≡ (if same then get_or flow.old k (pos 0) else pos 0) }
 {
     if !same {
-        clear(flow);
+        set_to_zero(flow);
     }
 }
 

@@ -63,14 +63,14 @@ fn gate_of(gated: &[u32], number: u32) -> Option<u32>
     requires { length gated.now ≤ MOST_GATES }
     ensures { result ≡ gate_in gated.now number }
 {
-    match place_of(gated, number) {
+    match place_among(gated, number) {
         Some(place) => Some(place as u32),
         None => None,
     }
 }
 
 /// The place of a number in a list.
-fn place_of(numbers: &[u32], number: u32) -> Option<usize>
+fn place_among(numbers: &[u32], number: u32) -> Option<usize>
     ensures place { result ≡ position (λ j. j == number) numbers.now }
     ensures within { IfSome result (λ place. place < length numbers.now) }
 {
@@ -155,7 +155,7 @@ fn bid_orders(
 }
 
 /// The demand of a number.
-fn demand_of(demands: &[Demand], number: u32) -> Demand
+fn demand_numbered(demands: &[Demand], number: u32) -> Demand
     ensures { result ≡ demand_at demands.now number }
 {
     demands.get(number as usize).copied().unwrap_or(NO_DEMAND)
@@ -167,7 +167,7 @@ fn demands_at(alloc: Global, demands: &[Demand], numbers: &[u32]) -> Result<Vec<
 {
     let mut own = Vec::new(alloc);
     for number in numbers {
-        own.push(demand_of(demands, *number))?;
+        own.push(demand_numbered(demands, *number))?;
     }
     Ok(own)
 }
@@ -251,7 +251,7 @@ pub fn run_entry(books: &Books, run: u32) -> Run
 }
 
 /// The market of a run, from its entry.
-fn made_of(
+fn run_market(
     alloc: Global,
     books: &Books,
     remaining: &Remaining,
@@ -302,7 +302,7 @@ impl Remaining {
             → IfOk result (λ made. made ≡ run_market_of books.now blocks run) }
         ensures valid { IfOk result (λ made. IsValid made.market) }
     {
-        made_of(alloc, books, self, run)
+        run_market(alloc, books, self, run)
     }
 
     /// The market of a run, counted from 1, over no blocks, as if no run came before it. Nothing is taken so far.
@@ -314,7 +314,7 @@ impl Remaining {
         ensures market { IfOk result (λ made. made ≡ run_market_of books.now [] run) }
         ensures valid { IfOk result (λ made. IsValid made.market) }
     {
-        made_of(alloc, books, self, run)
+        run_market(alloc, books, self, run)
     }
 
     /// Adds the published block of a run: the market that was made of it here, and an activation that is feasible in

@@ -57,7 +57,7 @@ fn earned(bid: &Bid, mw: u32, prices: &[Cents], scheduled: &[Cents]) -> i128
 }
 
 /// Sets each amount to 0.
-fn clear(amounts: &mut [Quarters])
+fn set_to_zero(amounts: &mut [Quarters])
     ensures lengths { length amounts.new ≡ length amounts.old }
     ensures cleared { (k : ℕ) → amount_at amounts.new k ≡ pos 0 }
 {
@@ -139,7 +139,7 @@ pub(crate) fn write_amounts(
     ensures value { amounts.new ≡ provider_amounts bids.now numbers.now activation.now prices.now scheduled.now }
     ensures small { All IsSmall amounts.new }
 {
-    clear(amounts);
+    set_to_zero(amounts);
     pay_all(
         amounts,
         bids,

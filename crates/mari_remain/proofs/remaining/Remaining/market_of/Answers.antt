@@ -10,13 +10,13 @@ use Rattle.mari_remain.proofs.Standing.{kept-small, same-taken}
 use Rattle.mari_remain.proofs.Validity.{valid, valid-made}
 use Rattle.mari_remain.proofs.remaining.Remaining.market_of.Goals as goal
 
-pub made_of-requires-clause-small : goal.made_of-requires-clause-small
-made_of-requires-clause-small c = kept-small c.args.books.now c.requires.accepted c.requires.stands.0 c.args.self.now c.requires.stands.1
+pub run_market-requires-clause-small : goal.run_market-requires-clause-small
+run_market-requires-clause-small c = kept-small c.args.books.now c.requires.accepted c.requires.stands.0 c.args.self.now c.requires.stands.1
 
 pub returns-clause-market : goal.returns-clause-market
 returns-clause-market c = λ blocks stands next.
     let e = ap (λ (taken : Taken). run_market_left c.args.books.now taken c.args.run) (same-taken c.args.books.now c.requires.accepted blocks c.args.self.now stands c.args.run (omega (arith, next)) c.requires.last) in
-    subst (λ (m : RunMarket). IfOk c.made_of.result (λ made. made ≡ m)) e c.made_of.ensures
+    subst (λ (m : RunMarket). IfOk c.run_market.result (λ made. made ≡ m)) e c.run_market.ensures
 
 pub returns-clause-valid : goal.returns-clause-valid
 returns-clause-valid c =
@@ -28,4 +28,4 @@ returns-clause-valid c =
     let same = same-taken books c.requires.accepted blocks c.args.self.now stands run (omega (arith, c.requires.stands.2)) c.requires.last in
     let small : (k : ℕ) → unsigned_abs ((taken_in books c.args.self.now quarter).flow k) ≤ 99999 =
     λ k. let P : Taken → Type 0 = λ taken. unsigned_abs (taken.flow k) ≤ 99999 in subst P (sym same) (bounded books c.requires.accepted blocks stands.first quarter k) in
-    valid-made c.made_of.result _ c.made_of.ensures (valid books (taken_in books c.args.self.now quarter) run c.requires.accepted small (omega (arith, c.requires.stands.2)) c.requires.last)
+    valid-made c.run_market.result _ c.run_market.ensures (valid books (taken_in books c.args.self.now quarter) run c.requires.accepted small (omega (arith, c.requires.stands.2)) c.requires.last)

@@ -6,7 +6,7 @@ use Rattle.mari_rows.specs.Rows.{field_of}
 use Rattle.mari_rows.proofs.BookFacts.{position-below}
 use Rattle.mari_blocks.specs.Blocks.{bid_in, block_name, is_linked, is_within, quarter_at}
 use Rattle.mari_blocks.proofs.HeldBlocks.{is-in, one-each}
-use Rattle.mari_blocks.proofs.blocks.BlocksSoFar.bid_of.Goals as goal
+use Rattle.mari_blocks.proofs.blocks.BlocksSoFar.bid_of_line.Goals as goal
 
 pub index-requires : goal.index-requires
 index-requires c =

@@ -4,7 +4,7 @@ use Rattle.mari_remain.specs.FirstBlocks.{taken_in}
 use Rattle.mari_remain.specs.RunMarket.{demands_of_run}
 use Rattle.mari_remain.proofs.Choosing.{few-chosen, own-chosen}
 use Rattle.mari_remain.proofs.Validity.{few, small}
-use Rattle.mari_remain.proofs.market.made_of.Goals as goal
+use Rattle.mari_remain.proofs.market.run_market.Goals as goal
 
 pub orders_of-requires-clause-gates : goal.orders_of-requires-clause-gates
 orders_of-requires-clause-gates c =

@@ -215,7 +215,7 @@ fn part_of_search(alloc: Global, search: Search<'_>) -> Result<Cleared, Memory>
 }
 
 /// The first activation's clearing of a search whose nodes are all branched or closed.
-fn settled(
+fn first_of_search(
     alloc: Global,
     market: &Market,
     search: Search<'_>,
@@ -257,7 +257,7 @@ fn search_to_end(
     ensures { IfOk result (Clears market.now budget) }
 {
     match visit_all(alloc, market, &mut search, &mut queue, root) {
-        Ok(true) => settled(alloc, market, search, queue, budget, root),
+        Ok(true) => first_of_search(alloc, market, search, queue, budget, root),
         Ok(false) => {
             drop(queue);
             part_of_search(alloc, search)

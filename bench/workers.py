@@ -1,11 +1,13 @@
 #!/usr/bin/env python3
 """Wall time of `mari clear` by 1, 2 and 4 workers on a market of some thousand nodes.
 
-usage: python3 bench/workers.py [PROGRAM [REPEATS]]
+usage: python3 bench/workers.py [PROGRAM [REPEATS [pairs]]]
 
-PROGRAM is the built program, by default crates/mari_app/out/mari_app. It prints a table: for each number of workers the
-best and the median wall time of all repeats, and the ratio of the best to that of one worker. It is no test: nothing
-fails where a machine is slow or busy, and the load average is told beside the times.
+PROGRAM is the built program, by default crates/mari_app/out/mari_app. With `pairs` the second gated bid of each zone is
+like its first, the fourth like its third and so on: then many activations are as good as the best, the tree is ten
+times as large, and it is cut back and refined twice. It prints a table: for each number of workers the best and the
+median wall time of all repeats, and the ratio of the best to that of one worker. It is no test: nothing fails where a
+machine is slow or busy, and the load average is told beside the times.
 """
 
 import os
@@ -27,7 +29,7 @@ PLAIN = 500
 NODES = 50_000
 
 
-def pages(seed):
+def pages(seed, pairs=False):
     """The pages of a folder: a ring of zones, plain bids in each, and gated bids priced close to the margin."""
     dice = random.Random(seed)
     zones = [f"Z{zone}" for zone in range(1, ZONES + 1)]
@@ -38,9 +40,13 @@ def pages(seed):
         for number in range(PLAIN):
             price = f"{30 + dice.randrange(60)}.{dice.randrange(100):02}"
             made["bids.csv"].append((f"{zone}p{number}", "P", zone, 1, "up", price, 0, 1 + dice.randrange(4), "both"))
+    priced = []
     for gate in range(GATES):
         price = f"{40 + dice.randrange(6)}.{dice.randrange(100):02}"
         quantity = 37 + dice.randrange(40)
+        priced.append((price, quantity))
+        if pairs and gate // ZONES % 2 == 1:
+            price, quantity = priced[gate - ZONES]
         made["bids.csv"].append((f"g{gate}", "Q", zones[gate % ZONES], 1, "up", price, quantity, quantity, "both"))
     made["runs.csv"] = [(1, 1, "scheduled", "40.00")]
     made["demands.csv"] = [(1, zone, 250 + dice.randrange(100), "") for zone in zones]
@@ -62,9 +68,10 @@ def clear(program, folder, workers):
 def main():
     program = sys.argv[1] if len(sys.argv) > 1 else str(TOP / "crates/mari_app/out/mari_app")
     repeats = int(sys.argv[2]) if len(sys.argv) > 2 else 7
+    pairs = sys.argv[3:] == ["pairs"]
     with tempfile.TemporaryDirectory() as scratch:
         folder = os.path.join(scratch, "F")
-        folders.write(folder, pages(1))
+        folders.write(folder, pages(1, pairs))
         print(f"{clock.machine()}, {repeats} repeats\n")
         print("| workers | best, s | median, s | of one worker | printed |")
         print("|---|---|---|---|---|")

@@ -177,7 +177,10 @@ impl Cutting {
         let bound = bounds.take_next();
         match closing_at(alloc, market, prefix, bound, welfare, root)? {
             Some(leaf) => self.cut(market, prefix, leaf, welfare, bounds),
-            None => self.descend(market, prefix, welfare),
+            None => {
+                bounds.add(bound)?;
+                self.descend(market, prefix, welfare)
+            }
         }
     }
 
@@ -223,11 +226,12 @@ fn walked(
     while let Some(prefix) = walk.next {
         walk.advance(alloc, market, &prefix, welfare, bounds, root)?;
     }
-    Ok(())
+    bounds.rewind()
 }
 
-/// A tree that holds at a welfare, cut back at it. The bounds, in quarter-cents, are those that were found at its branches,
-/// in preorder: a branch is examined again where its bound is no more than the welfare.
+/// A tree that holds at a welfare, cut back at it. The bounds, in quarter-cents, are those that were found at its
+/// branches, in preorder: a branch is examined again where its bound is no more than the welfare. They become those of
+/// the branches that stay, so that what is cut back twice isn't examined twice.
 ///
 /// What comes holds at the same welfare, and has no more items.
 pub(crate) fn cut_back(

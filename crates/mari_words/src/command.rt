@@ -22,7 +22,9 @@ pub const USUAL_WORKERS: u32 = 2;
 /// The file of a folder whose new form is asked for.
 #[derive(Clone, Copy, Debug, PartialEq, Eq)]
 pub enum FilePart {
+    /// borders.csv.
     Borders,
+    /// limits.csv.
     Limits,
 }
 
@@ -74,10 +76,12 @@ pub enum Command {
     },
 }
 
-/// Why words gave no command: they are none, or there was no memory to keep it.
+/// Why words gave no command.
 #[derive(Clone, Copy, Debug, PartialEq, Eq)]
 pub enum WordsFault {
+    /// They are no command.
     Usage,
+    /// Out of memory, which the command would have been kept in.
     Memory,
 }
 
@@ -161,7 +165,7 @@ fn fault_of(error: &Error) -> WordsFault
     }
 }
 
-/// The command that the words behind the program's name are.
+/// The command that the words after the program's name are.
 pub fn read_words(alloc: Global, words: &[String]) -> Result<Command, WordsFault>
     ensures { Reads result (command_at (map string_bytes words.now)) }
 {

@@ -1,7 +1,7 @@
 //! The program's command line: one command with eight subcommands, one level, without help or version.
 
 ghost use Rattle.std.specs.Prelude.{◌≡◌, IfOk, false};
-ghost use Rattle.clap.specs.Words.{app_of, rule_of};
+ghost use Rattle.clap.specs.Words.{App, app_of, rule_of, with_subcommand as with_more};
 ghost use Rattle.mari_words.specs.Line.{IsSubcommand, bare_line, line, one_word, option_rule, required_word, three_words, two_words, with_options};
 
 use clap::{Arg, ArgAction, Command as Parser};
@@ -24,7 +24,7 @@ fn option<'a>(alloc: Global, name: &'a str) -> Arg<'a>
     Arg::new(alloc, name).long(name).action(ArgAction::Set)
 }
 
-/// A subcommand with one word behind it.
+/// A subcommand with one word after it.
 fn with_word<'a>(alloc: Global, name: &'a str) -> Result<Parser<'a>, Memory>
     ensures { IfOk result (IsSubcommand (one_word name.entry.now)) }
 {
@@ -32,7 +32,7 @@ fn with_word<'a>(alloc: Global, name: &'a str) -> Result<Parser<'a>, Memory>
     Ok(command)
 }
 
-/// A subcommand with two words behind it.
+/// A subcommand with two words after it.
 fn with_two_words<'a>(alloc: Global, name: &'a str) -> Result<Parser<'a>, Memory>
     ensures { IfOk result (IsSubcommand (two_words name.entry.now)) }
 {
@@ -42,7 +42,7 @@ fn with_two_words<'a>(alloc: Global, name: &'a str) -> Result<Parser<'a>, Memory
     Ok(command)
 }
 
-/// A subcommand with one word behind it, and the options.
+/// A subcommand with one word after it, and the options.
 fn with_word_and_options<'a>(alloc: Global, name: &'a str) -> Result<Parser<'a>, Memory>
     ensures { IfOk result (IsSubcommand (with_options (one_word name.entry.now))) }
 {
@@ -53,7 +53,7 @@ fn with_word_and_options<'a>(alloc: Global, name: &'a str) -> Result<Parser<'a>,
     Ok(command)
 }
 
-/// A subcommand with three words behind it, and the options.
+/// A subcommand with three words after it, and the options.
 fn with_three_words_and_options<'a>(alloc: Global, name: &'a str) -> Result<Parser<'a>, Memory>
     ensures { IfOk result (IsSubcommand (with_options (three_words name.entry.now))) }
 {
@@ -78,18 +78,28 @@ fn bare<'a>(alloc: Global) -> Parser<'a>
         .subcommand_required(true)
 }
 
-/// The program's command line.
+/// The line with one more subcommand, where that could be made.
+fn with_subcommand<'a>(
+    line: Parser<'a>,
+    command: Result<Parser<'a>, Memory>,
+) -> Result<Parser<'a>, Memory>
+    ensures { IfOk result (λ new. (sub : App) → IfOk command.entry (IsSubcommand sub) → app_of new ≡ with_more (app_of line.entry) sub.top) }
+{
+    let new = line.subcommand(command?)?;
+    Ok(new)
+}
+
+/// The program's command line. Nothing else is held where a step fails, so little is let go there.
 pub fn parser<'a>(alloc: Global) -> Result<Parser<'a>, Memory>
     ensures { IfOk result (λ parser. app_of parser ≡ line) }
 {
-    let mari = bare(alloc)
-        .subcommand(with_word_and_options(alloc, "clear")?)?
-        .subcommand(with_word(alloc, "check")?)?
-        .subcommand(with_word(alloc, "generate")?)?
-        .subcommand(with_two_words(alloc, "migrate")?)?
-        .subcommand(with_word(alloc, "feed")?)?
-        .subcommand(with_word_and_options(alloc, "split")?)?
-        .subcommand(with_three_words_and_options(alloc, "blocks")?)?
-        .subcommand(with_two_words(alloc, "value")?)?;
+    let mari = with_subcommand(bare(alloc), with_word_and_options(alloc, "clear"))?;
+    let mari = with_subcommand(mari, with_word(alloc, "check"))?;
+    let mari = with_subcommand(mari, with_word(alloc, "generate"))?;
+    let mari = with_subcommand(mari, with_two_words(alloc, "migrate"))?;
+    let mari = with_subcommand(mari, with_word(alloc, "feed"))?;
+    let mari = with_subcommand(mari, with_word_and_options(alloc, "split"))?;
+    let mari = with_subcommand(mari, with_three_words_and_options(alloc, "blocks"))?;
+    let mari = with_subcommand(mari, with_two_words(alloc, "value"))?;
     Ok(mari)
 }

@@ -8,6 +8,7 @@ pub mod NotRead
 pub mod Splits
 pub mod Gathered
 pub mod Graphic
+pub mod Leading
 pub mod Keywords
 pub mod FirstWords
 pub mod LineWords

@@ -8,6 +8,7 @@ ghost use Rattle.mari_lines.specs.declared.line.Line.TheVariants as line;
 
 mod canonical;
 mod keyword;
+mod leading;
 mod lists;
 mod number;
 mod separator;
@@ -56,7 +57,7 @@ fn read_head(alloc: Global, words: &mut Words<'_>) -> Result<(Name, u32, u32), F
 }
 
 /// A run's welfare.
-fn read_welfare(words: &mut Words<'_>) -> Result<u64, FormFault>
+fn read_welfare_line(words: &mut Words<'_>) -> Result<u64, FormFault>
     ensures { Reads (λ x. InRange (line.Welfare x)) (λ x. fields (line.Welfare x)) words.old result }
 {
     let welfare = words.welfare()?;
@@ -200,7 +201,7 @@ fn read_fields(alloc: Global, keyword: Keyword, words: &mut Words<'_>) -> Result
             Ok(Line::Head(date, quarters, budget))
         }
         Keyword::Run => read_run(words),
-        Keyword::Welfare => Ok(Line::Welfare(read_welfare(words)?)),
+        Keyword::Welfare => Ok(Line::Welfare(read_welfare_line(words)?)),
         Keyword::Zone => Ok(Line::Zone(read_zone(alloc, words)?)),
         Keyword::Border => Ok(Line::Border(read_border(alloc, words)?)),
         Keyword::Bid => Ok(Line::Bid(read_bid(alloc, words)?)),

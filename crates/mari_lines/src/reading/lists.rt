@@ -9,7 +9,7 @@ ghost use Rattle.mari_lines.specs.Ranges.{Listed, IsZone};
 ghost use Rattle.mari_lines.specs.Spelling.{price_text, zone_text};
 ghost use Rattle.mari_lines.specs.Reading.{Reads};
 
-use super::number::{read_flow, read_number, read_price, read_zone_number};
+use super::number::{read_flow, read_zone_number};
 use super::words::Words;
 use crate::fault::FormFault;
 use mari_market::MOST_ORDERS;
@@ -31,11 +31,11 @@ pub fn read_prices(alloc: Global, words: &mut Words<'_>) -> Result<Items<Cents>,
     ensures { Reads (Listed 1 MOST_ZONES IsCapped) (map price_text) words.old result }
 {
     let mut prices = list_for(alloc, words, MOST_ZONES)?;
-    while let Some(word) = words.next_word() {
+    while let Some(price) = words.next_price() {
         if prices.len() >= MOST_ZONES {
             return Err(FormFault::Formless);
         }
-        let price = read_price(word)?;
+        let price = price?;
         prices.push(price)?;
     }
     if prices.is_empty() {
@@ -64,11 +64,11 @@ pub fn read_mws(alloc: Global, words: &mut Words<'_>) -> Result<Items<u32>, Form
     ensures { Reads (Listed 0 MOST_ORDERS (λ mw. mw ≤ MOST_MW)) (map decimal) words.old result }
 {
     let mut mws = list_for(alloc, words, MOST_ORDERS)?;
-    while let Some(word) = words.next_word() {
+    while let Some(mw) = words.next_number(MOST_MW) {
         if mws.len() >= MOST_ORDERS {
             return Err(FormFault::Formless);
         }
-        let mw = read_number(word, 0, MOST_MW)?;
+        let mw = mw?;
         mws.push(mw)?;
     }
     Ok(Items::of(mws))

@@ -1,6 +1,6 @@
 //! The words of a line, read one after the other.
 
-ghost use Rattle.std.specs.Prelude.{◌≡◌, ◌≢◌, ◌==◌, ◌∷◌, [], ◌<◌, ◌^◌, ◌↔◌, IsTrue, MatchOption, MatchResult, codes, ⊤};
+ghost use Rattle.std.specs.Prelude.{◌≡◌, ◌≢◌, ◌≤◌, ◌==◌, ◌∷◌, ◌++◌, [], List, ℕ, ◌<◌, ◌^◌, ◌↔◌, IsTrue, IfSome, MatchOption, MatchResult, codes, ⊤};
 ghost use Rattle.std.specs.List.{slice_split};
 ghost use Rattle.std.specs.Fmt.{decimal, signed_decimal};
 ghost use Rattle.mari_market.specs.Price.{IsCapped};
@@ -8,16 +8,17 @@ ghost use Rattle.mari_units.specs.Names.{IsName};
 ghost use Rattle.mari_units.specs.Numbers.{Within};
 ghost use Rattle.mari_lines.specs.Ranges.{Between, IsDate, IsMoney};
 ghost use Rattle.mari_lines.specs.Spelling.{price_text, money_text, kind_text, published_text, side_text};
-ghost use Rattle.mari_lines.specs.Reading.{ReadsFirst};
+ghost use Rattle.mari_lines.specs.Reading.{Lacks, Reads, ReadsFirst, words_in};
 ghost use Rattle.mari_lines.specs.declared.fault.FormFault.TheVariants as form_fault;
 
+use super::leading::{leading_hundredths, leading_number};
 use super::number::{
     read_date, read_flow, read_money, read_name_text, read_number, read_price, read_welfare,
 };
 use super::separator::split_near;
 use crate::fault::FormFault;
 use mari_market::CutSide;
-use mari_units::{Cents, MOST_FLOW, Name, Quarters};
+use mari_units::{CAP, Cents, MOST_FLOW, Name, Quarters};
 use std::alloc::Global;
 use std::marker::Model;
 
@@ -26,6 +27,35 @@ fn is_same(text: &[u8], other: &[u8]) -> bool
     ensures { IsTrue result ↔ (text.now ≡ other.now) }
 {
     text == other
+}
+
+/// What is left of a line whose word has just ended: nothing where it hasn't.
+fn after_word(text: &[u8]) -> Option<Option<&[u8]>>
+    ensures { IfSome result (λ rest. (word : List ℕ) → Lacks 32 word → slice_split (λ b. b == 32) (word ++ text.now) ≡ word ∷ words_in rest) }
+{
+    match text {
+        [] => Some(None),
+        [b' ', rest @ ..] => Some(Some(rest)),
+        _ => None,
+    }
+}
+
+/// The price that is the first word of a text and isn't below 0, and what is left of the line after it.
+fn plain_price(text: &[u8]) -> Option<(Cents, Option<&[u8]>)>
+    ensures { IfSome result (λ x. IsCapped x.0 × (slice_split (λ b. b == 32) text.now ≡ price_text x.0 ∷ words_in x.1)) }
+{
+    let (cents, after) = leading_hundredths(text, CAP as u32)?;
+    let rest = after_word(after)?;
+    Some((Cents(i64::from(cents)), rest))
+}
+
+/// The number up to `greatest` that is the first word of a text, and what is left of the line after it.
+fn plain_number(text: &[u8], greatest: u32) -> Option<(u32, Option<&[u8]>)>
+    ensures { IfSome result (λ x. (x.0 ≤ greatest) × (slice_split (λ b. b == 32) text.now ≡ decimal x.0 ∷ words_in x.1)) }
+{
+    let (number, after) = leading_number(text, greatest)?;
+    let rest = after_word(after)?;
+    Some((number, rest))
 }
 
 /// The words that are left of a line, which contracts see as the list of them.
@@ -74,6 +104,32 @@ impl<'a> Words<'a> {
                 Some(text)
             }
         }
+    }
+
+    /// Takes the next word, which is to be a price.
+    pub fn next_price(&mut self) -> Option<Result<Cents, FormFault>>
+        ensures { MatchOption result ((self.old ≡ []) × (self.new ≡ [])) (λ price. (word : List ℕ) × (self.old ≡ word ∷ self.new) × Reads IsCapped price_text word price) }
+    {
+        let text = self.rest?;
+        if let Some((price, rest)) = plain_price(text) {
+            self.rest = rest;
+            return Some(Ok(price));
+        }
+        let word = self.next_word()?;
+        Some(read_price(word))
+    }
+
+    /// Takes the next word, which is to be a number from 0 to `greatest`.
+    pub fn next_number(&mut self, greatest: u32) -> Option<Result<u32, FormFault>>
+        ensures { MatchOption result ((self.old ≡ []) × (self.new ≡ [])) (λ number. (word : List ℕ) × (self.old ≡ word ∷ self.new) × Reads (λ n. n ≤ greatest) decimal word number) }
+    {
+        let text = self.rest?;
+        if let Some((number, rest)) = plain_number(text, greatest) {
+            self.rest = rest;
+            return Some(Ok(number));
+        }
+        let word = self.next_word()?;
+        Some(read_number(word, 0, greatest))
     }
 
     /// Asks for the end of the line.

@@ -38,7 +38,7 @@ pub fn put_flow(alloc: Global, out: &mut Vec<u8>, flow: i64) -> Result<(), Memor
     put_field(out, &whole_text(alloc, i128::from(flow))?)
 }
 
-/// Appends a space and an amount of money.
+/// Appends a space and an amount of money, in quarter-cents.
 pub fn put_money(alloc: Global, out: &mut Vec<u8>, money: Quarters) -> Result<(), Memory>
     requires { unsigned_abs money.0 ≤ 10 ^ 30 }
     ensures { OnOk result (out.new.items ≡ out.old.items ++ 32 ∷ money_text money) }

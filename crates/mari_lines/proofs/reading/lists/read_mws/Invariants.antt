@@ -5,8 +5,8 @@ use Rattle.mari_lines.proofs.Gathered.{Begun}
 use Rattle.mari_lines.proofs.reading.lists.read_mws.Given as goal
 
 -- those so far were gathered from the words so far
-abbrev pub invariant-loop-word : goal.invariant-loop-word
-invariant-loop-word l = Begun (λ mw. mw ≤ 99999) decimal 4608 l.mws.items l.words l.fn.words
+abbrev pub invariant-loop-mw : goal.invariant-loop-mw
+invariant-loop-mw l = Begun (λ mw. mw ≤ 99999) decimal 4608 l.mws.items l.words l.fn.words
 
-abbrev pub decreases-loop-word : goal.decreases-loop-word
-decreases-loop-word l = length l.words
+abbrev pub decreases-loop-mw : goal.decreases-loop-mw
+decreases-loop-mw l = length l.words

@@ -5,8 +5,8 @@ use Rattle.mari_lines.proofs.Gathered.{Begun}
 use Rattle.mari_lines.proofs.reading.lists.read_prices.Given as goal
 
 -- those so far were gathered from the words so far
-abbrev pub invariant-loop-word : goal.invariant-loop-word
-invariant-loop-word l = Begun IsCapped price_text 64 l.prices.items l.words l.fn.words
+abbrev pub invariant-loop-price : goal.invariant-loop-price
+invariant-loop-price l = Begun IsCapped price_text 64 l.prices.items l.words l.fn.words
 
-abbrev pub decreases-loop-word : goal.decreases-loop-word
-decreases-loop-word l = length l.words
+abbrev pub decreases-loop-price : goal.decreases-loop-price
+decreases-loop-price l = length l.words

@@ -1,0 +1,62 @@
+-- Numbers that stand first in a text.
+use Rattle.std.proofs.Common.{◌≡◌, ◌≤◌, ◌<◌, ◌^◌, ◌/◌, ◌%◌, ◌+◌, ◌-◌, ℕ, List, [], ◌∷◌, ◌++◌, length, take, drop, get_or, eqb, pos, Result, Ok, Err, sym, ap, ◌∙◌, refl, arith}
+use Rattle.std.proofs.lemmas.Int.{ints}
+use Rattle.std.specs.List.{slice_split}
+use Rattle.std.proofs.lemmas.List.{append-nil, append_assoc, take_all, take-append-drop, length-take-le, length-drop, get_or-take}
+use Rattle.std.specs.Fmt.{decimal}
+use Rattle.mari_units.specs.Numbers.{value_of_digits, printed_cents}
+use Rattle.mari_units.specs.Prices.{IsPrice}
+use Rattle.mari_units.proofs.Digits.{AreDigits}
+use Rattle.mari_lines.specs.declared.fault.FormFault.{FormFault}
+use Rattle.mari_lines.specs.declared.fault.FormFault.TheVariants as form_fault
+use Rattle.mari_lines.specs.Ranges.{Between}
+use Rattle.mari_lines.specs.Reading.{Lacks, Reads}
+use Rattle.mari_lines.proofs.Graphic.{graphic_cents, lacks_space}
+use Rattle.mari_lines.proofs.Naturals.{digits_are}
+use Rattle.mari_lines.proofs.Printed.{not_below}
+use Rattle.mari_lines.proofs.Signs.{hundredths_text, price_of_parts}
+use Rattle.mari_lines.proofs.Splits.{first_split, only_split}
+
+-- digits before a place, and what stands from there on
+pub number_then : (n place : ℕ) (text : List ℕ) → n < 2 ^ 64 → n ≡ value_of_digits (take place text) → AreDigits (take place text) → 0 < place → place ≤ length text
+    → (get_or text 0 0 ≡ 48 → place ≡ 1) → text ≡ decimal n ++ take (length text - place) (drop place text)
+number_then n place text small is digits some le alone =
+    let front = take place text in
+    let long : length front ≡ place = length-take-le place text le in
+    let first : get_or front 0 0 ≡ get_or text 0 0 = get_or-take place text 0 0 some in
+    let same = digits_are n front small is digits (omega (arith, long, some)) (λ zero. long ∙ alone (sym first ∙ zero)) in
+    let rest : length (drop place text) ≤ length text - place = omega (arith, length-drop place text) in
+    sym (take-append-drop place text) ∙ ap (λ t. t ++ drop place text) (sym same) ∙ ap (λ t. decimal n ++ t) (sym (take_all (length text - place) (drop place text) rest))
+
+-- a whole number, a point and two digits after it
+pub hundredths_then : (n whole tenths ones : ℕ) (text pointed after : List ℕ) → text ≡ decimal whole ++ pointed → pointed ≡ 46 ∷ tenths ∷ ones ∷ after
+    → n / 100 ≡ whole → 48 + n % 100 / 10 ≡ tenths → 48 + n % 10 ≡ ones → text ≡ hundredths_text n ++ after
+hundredths_then n whole tenths ones text pointed after e f w t o =
+    let parts : hundredths_text n ≡ decimal whole ++ 46 ∷ tenths ∷ ones ∷ [] = cc in
+    e ∙ ap (λ bs. decimal whole ++ bs) f ∙ sym (append_assoc (decimal whole) (46 ∷ tenths ∷ ones ∷ []) after) ∙ ap (λ bs. bs ++ after) (sym parts)
+
+-- hundredths from 0 to the cap are a price, and written so
+pub small_price : (n : ℕ) → n ≤ 9999900 → IsPrice (pos n)
+small_price n le = record { low = omega (arith, ints); high = omega (arith, ints) }
+
+pub written_price : (n : ℕ) → printed_cents (pos n) ≡ hundredths_text n
+written_price n = price_of_parts (pos n) _ n (hundredths_text n) (hundredths_text n) (not_below n) refl refl refl
+
+pub hundredths_lack : (n : ℕ) → n ≤ 9999900 → Lacks 32 (hundredths_text n)
+hundredths_lack n le = lacks_space (hundredths_text n) (rw (sym (written_price n)) (graphic_cents (pos n) (omega arith)))
+
+-- the words of a text that begins with a word that ends there
+pub word_alone : (word text : List ℕ) → text ≡ [] → Lacks 32 word → slice_split (λ b. eqb b 32) (word ++ text) ≡ word ∷ []
+word_alone word text none lack = ap (λ bs. slice_split (λ b. eqb b 32) (word ++ bs)) none ∙ ap (λ bs. slice_split (λ b. eqb b 32) bs) (append-nil word) ∙ only_split 32 word lack
+
+pub word_first : (word text : List ℕ) → 0 < length text → get_or text 0 0 ≡ 32 → Lacks 32 word → slice_split (λ b. eqb b 32) (word ++ text) ≡ word ∷ slice_split (λ b. eqb b 32) (take (length text - 1) (drop 1 text))
+word_first word [] some is lack = absurd (omega arith)
+word_first word (b ∷ bs) some is lack =
+    let all : take (length (b ∷ bs) - 1) bs ≡ bs = take_all (length (b ∷ bs) - 1) bs (omega arith) in
+    ap (λ (c : ℕ). slice_split (λ b. eqb b 32) (word ++ c ∷ bs)) is ∙ first_split 32 word bs lack ∙ ap (λ t. word ∷ slice_split (λ b. eqb b 32) t) (sym all)
+
+-- a number from 0 on
+pub from_zero : (greatest : ℕ) (w : List ℕ) (r : Result ℕ FormFault) → Reads (Between 0 greatest) decimal w r → Reads (λ n. n ≤ greatest) decimal w r
+from_zero greatest w (Ok n) read = (read.0.1, read.1)
+from_zero greatest w (Err form_fault.Formless) none = λ n le e. none n (omega arith, le) e
+from_zero greatest w (Err form_fault.Memory) read = tt

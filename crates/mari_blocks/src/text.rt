@@ -4,30 +4,39 @@ ghost use Rattle.std.specs.Fmt.{decimal};
 ghost use Rattle.std.specs.List.{All, flat_map};
 ghost use Rattle.mari_blocks.specs.Text.{JointFits, QuarterFits, count_text, ending_text, heading_text, joint_text_of, opening_text, quarter_text, unpublished_text_of};
 
-use mari_lines::put_welfare;
+use mari_lines::{put_field, put_number_field, put_welfare};
 use mari_market::TreeItem;
 use mari_publish::{BidLine, BorderLine, ZoneLine, put_market_lines, put_tree_lines};
-use mari_units::{Items, MOST_NODES, Memory, put, put_number};
+use mari_units::{Items, MOST_NODES, Memory, put};
 use std::alloc::Global;
 
-/// What is printed of a quarter, which counts from 1: a line for each zone, border and bid, and the MW of its demands.
+/// What is printed of a quarter.
 #[derive(Drop)]
 pub struct QuarterBlock {
+    /// The quarter, counted from 1.
     pub quarter: u32,
+    /// A line for each zone.
     pub zones: Items<ZoneLine>,
+    /// A line for each border.
     pub borders: Items<BorderLine>,
+    /// A line for each bid that is printed.
     pub bids: Items<BidLine>,
+    /// The MW of its demands.
     pub demands: Items<u32>,
 }
 
-/// What is printed of a joint market that is published: its first and its last quarter, its welfare in quarter-cents,
-/// a part for each quarter, and its certificate tree.
+/// What is printed of a joint market that is published.
 #[derive(Drop)]
 pub struct JointBlock {
+    /// Its first quarter, counted from 1.
     pub first: u32,
+    /// Its last quarter.
     pub last: u32,
+    /// Its welfare in quarter-cents.
     pub welfare: u64,
+    /// A part for each of its quarters.
     pub quarters: Items<QuarterBlock>,
+    /// Its certificate tree.
     pub tree: Items<TreeItem>,
 }
 
@@ -35,10 +44,9 @@ pub struct JointBlock {
 fn put_opening(alloc: Global, out: &mut Vec<u8>, first: u32, last: u32) -> Result<(), Memory>
     ensures { OnOk result (out.new.items ≡ out.old.items ++ opening_text first last) }
 {
-    put(out, b"blocks ")?;
-    put_number(alloc, out, u128::from(first))?;
-    put(out, b" ")?;
-    put_number(alloc, out, u128::from(last))
+    put(out, b"blocks")?;
+    put_number_field(alloc, out, u64::from(first))?;
+    put_number_field(alloc, out, u64::from(last))
 }
 
 /// Appends what is printed of a quarter.
@@ -46,8 +54,8 @@ fn put_quarter(alloc: Global, out: &mut Vec<u8>, block: &QuarterBlock) -> Result
     requires { QuarterFits block.now }
     ensures { OnOk result (out.new.items ≡ out.old.items ++ quarter_text block.now) }
 {
-    put(out, b"quarter ")?;
-    put_number(alloc, out, u128::from(block.quarter))?;
+    put(out, b"quarter")?;
+    put_number_field(alloc, out, u64::from(block.quarter))?;
     put(out, b"\n")?;
     put_market_lines(
         alloc,
@@ -104,8 +112,8 @@ pub fn joint_text(alloc: Global, block: &JointBlock) -> Result<Vec<u8>, Memory>
 fn put_count(alloc: Global, out: &mut Vec<u8>, count: u32) -> Result<(), Memory>
     ensures { OnOk result (out.new.items ≡ out.old.items ++ count_text count) }
 {
-    put(out, b" unpublished ")?;
-    put_number(alloc, out, u128::from(count))?;
+    put_field(out, b"unpublished")?;
+    put_number_field(alloc, out, u64::from(count))?;
     put(out, b"\n")
 }
 

@@ -13,8 +13,8 @@ use Rattle.mari_publish.specs.declared.fault.TextFault.TheVariants as fault
 use Rattle.mari_publish.specs.declared.publication.Part.{Part}
 use Rattle.mari_remain.specs.declared.books.Books.{Books}
 use Rattle.mari_check.specs.declared.verdict.Verdict.TheVariants as verdict
-use Rattle.mari_capacity.specs.declared.ending.Stop.{Stop}
-use Rattle.mari_capacity.specs.declared.ending.Stop.TheVariants.{At, Memory as NoMemory}
+use Rattle.mari_capacity.specs.declared.ending.ValueStop.{ValueStop}
+use Rattle.mari_capacity.specs.declared.ending.ValueStop.TheVariants.{At, Memory as NoMemory}
 use Rattle.mari_capacity.specs.declared.ending.ValueEnd.TheVariants.{Valid, Invalid, Text as OfText, Fetch as OfFetch}
 use Rattle.mari_capacity.specs.declared.stream.ValueStream.{ValueStream}
 use Rattle.mari_capacity.specs.Lines.{closing_line}
@@ -81,14 +81,14 @@ line-memory text (fault.Truncated k) h e = absurd h
 line-memory text fault.Memory h e = h
 
 -- no stop in a text says that memory ran out as another cause, nor is it a fault of the shelf
-pub text-never : (books : Books) (n : ℕ) (text lines : List ℕ) (why : Stop) → StopsInText books n text lines why → IsWrappedStop why → ⊥
+pub text-never : (books : Books) (n : ℕ) (text lines : List ℕ) (why : ValueStop) → StopsInText books n text lines why → IsWrappedStop why → ⊥
 text-never books n text lines (At (Invalid run number)) h w = w
 text-never books n text lines (At (Valid published unpublished)) h w = w
 text-never books n text lines (At (OfText f)) h w = line-memory text f h.here w
 text-never books n text lines (At (OfFetch why)) h w = absurd h
 text-never books n text lines NoMemory h w = w
 
-pub text-no-fetch : (T : Type 0) (books : Books) (n : ℕ) (text lines : List ℕ) (why : Stop) (g : Fetch) → StopsInText books n text lines why → IsStopFetch {T = T} g (Err why) → ⊥
+pub text-no-fetch : (T : Type 0) (books : Books) (n : ℕ) (text lines : List ℕ) (why : ValueStop) (g : Fetch) → StopsInText books n text lines why → IsStopFetch {T = T} g (Err why) → ⊥
 text-no-fetch T books n text lines (At (Invalid run number)) g h w = w
 text-no-fetch T books n text lines (At (Valid published unpublished)) g h w = w
 text-no-fetch T books n text lines (At (OfText f)) g h w = w

@@ -21,8 +21,8 @@ use Rattle.mari_check.specs.Day.{AreFree}
 use Rattle.mari_check.specs.Streams.{IsFound, SettlesVerdict}
 use Rattle.mari_check.specs.Verdicts.{IsVerdict}
 use Rattle.mari_check.proofs.Streaming.{all-found}
-use Rattle.mari_capacity.specs.declared.ending.Stop.{Stop}
-use Rattle.mari_capacity.specs.declared.ending.Stop.TheVariants.{At, Memory as NoMemory}
+use Rattle.mari_capacity.specs.declared.ending.ValueStop.{ValueStop}
+use Rattle.mari_capacity.specs.declared.ending.ValueStop.TheVariants.{At, Memory as NoMemory}
 use Rattle.mari_capacity.specs.declared.ending.ValueEnd.TheVariants.{Valid, Invalid, Text as OfText, Fetch as OfFetch}
 use Rattle.mari_capacity.specs.declared.stream.ValueStream.{ValueStream}
 use Rattle.mari_capacity.specs.Ends.{AreChecked, blocks_in}
@@ -46,10 +46,10 @@ read-tells books n text parts s r = record { holds = come_parts s.reader.come te
 -- ---- why it stopped
 
 -- in a text that is the front of a page
-pub stops-on : (books : Books) (n : ℕ) (text left page lines : List ℕ) (why : Stop) → text ++ left ≡ page → length text ≤ most_given → StopsInText books n text lines why → StopsOnPage books n page lines why
+pub stops-on : (books : Books) (n : ℕ) (text left page lines : List ℕ) (why : ValueStop) → text ++ left ≡ page → length text ≤ most_given → StopsInText books n text lines why → StopsOnPage books n page lines why
 stops-on books n text left page lines why e few h = subst (λ (p : List ℕ). StopsOnPage books n p lines why) e (own why h)
   where
-    own : (w : Stop) → StopsInText books n text lines w → StopsOnPage books n (text ++ left) lines w
+    own : (w : ValueStop) → StopsInText books n text lines w → StopsOnPage books n (text ++ left) lines w
     own (At (Invalid run number)) s =
         let front = given-front text left few in
         let there : HasPart (take most_given (text ++ left)) s.parts s.part = subst (λ (t : List ℕ). HasPart t s.parts s.part) front.1 (parts-stay text front.0 (s.parts ++ s.part ∷ []) s.there) in
@@ -65,7 +65,7 @@ stops-on books n text left page lines why e few h = subst (λ (p : List ℕ). St
     own NoMemory s = tt
 
 -- and on any shelf
-pub stops-tell : (books : Books) (n : ℕ) (text lines : List ℕ) (why : Stop) → StopsInText books n text lines why → StopTells books n lines why
+pub stops-tell : (books : Books) (n : ℕ) (text lines : List ℕ) (why : ValueStop) → StopsInText books n text lines why → StopTells books n lines why
 stops-tell books n text lines (At (Invalid run number)) s = (s.parts, s.tells)
 stops-tell books n text lines (At (OfText f)) s = (s.parts, s.tells.tells)
 stops-tell books n text lines (At (Valid published unpublished)) s = absurd s
@@ -109,7 +109,7 @@ module _ (books : Books) (more : ℕ) (page rest : Option (List ℕ)) (given : �
   fetch-tells fetch.Memory = tt
 
   module _ (piece : List ℕ) (n : ℕ) (many : length piece ≡ n) (within : given + n ≤ most_given) (is_piece : (left : List ℕ) → rest ≡ Some left → IsPiece left [] piece n) where
-    pub piece-stops : (whole : List ℕ) → page ≡ Some whole → (lines : List ℕ) (why : Stop) → StopsInText books more (u.text ++ piece) lines why → StopsOnPage books more whole lines why
+    pub piece-stops : (whole : List ℕ) → page ≡ Some whole → (lines : List ℕ) (why : ValueStop) → StopsInText books more (u.text ++ piece) lines why → StopsOnPage books more whole lines why
     piece-stops whole is lines why h =
         stops-on books more (u.text ++ piece) (drop n (u.told whole is).0) whole lines why (all-of-it _ _ _ _ u piece n many within is_piece whole is) (with-piece _ _ _ _ u piece n many within is_piece) h
 
@@ -132,7 +132,7 @@ all-read books n text parts s (Some x) e h stands waits taken = absurd (cc e)
 all-read books n text parts s None e h stands waits taken = record { parts = parts; read = record { stands = stands; taken = taken }; waits = waits; no_fault = h.1; no_more = h.0 }
 
 -- a part has a fault of the check
-pub part-stops : (books : Books) (n : ℕ) (text : List ℕ) (parts : List Part) (x : Part) (lines : List ℕ) (why : Stop) → HasPart text parts x → StopsAtPart books n parts x lines why → StopsInText books n text lines why
+pub part-stops : (books : Books) (n : ℕ) (text : List ℕ) (parts : List Part) (x : Part) (lines : List ℕ) (why : ValueStop) → HasPart text parts x → StopsAtPart books n parts x lines why → StopsInText books n text lines why
 part-stops books n text parts x lines (At (Invalid run number)) there h = record { parts = parts; part = x; there = there; fault = h.0; tells = h.1 }
 part-stops books n text parts x lines (At (Valid published unpublished)) there h = absurd h
 part-stops books n text parts x lines (At (OfText f)) there h = absurd h

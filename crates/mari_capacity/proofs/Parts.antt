@@ -22,7 +22,7 @@ use Rattle.mari_check.specs.Faults.{FindsNumber}
 use Rattle.mari_check.specs.Streams.{Comes, IsFound, IsOpen}
 use Rattle.mari_check.specs.Verdicts.{IsVerdict}
 use Rattle.mari_check.proofs.Streaming.{IsLater, Way, block-found, first, head-found, totals-settle, way}
-use Rattle.mari_capacity.specs.declared.ending.Stop.{Stop}
+use Rattle.mari_capacity.specs.declared.ending.ValueStop.{ValueStop}
 use Rattle.mari_capacity.specs.declared.stream.ValueStream.{ValueStream}
 use Rattle.mari_capacity.specs.Ends.{AreChecked, HasFault, blocks_in, budget_in}
 use Rattle.mari_capacity.specs.Streams.{TellsChecked}
@@ -169,14 +169,14 @@ module _ (books : Books) (more : ℕ) (parts : List Part) (old new : ValueStream
 
 module _ (books : Books) (more : ℕ) (parts : List Part) (old new : ValueStream) (x : Part) (t : HasTaken books more parts old) (c : Comes parts x) where
   module _ (date : List ℕ) (quarters budget : ℕ) (is : x ≡ part.Head date quarters budget) (stated : new.day.budget ≡ budget) (checked : IsChecked books [] new.day) (found : new.found ≡ old.found) (lines : new.lines ≡ old.lines) (same : new.more ≡ old.more) where
-    pub head-goes-on : {T : Type 0} (number : Option ℕ) (r : Res T Stop) → FindsHead (HasHead books date quarters) number → IsStopAt 0 (Ok number) r
+    pub head-goes-on : {T : Type 0} (number : Option ℕ) (r : Res T ValueStop) → FindsHead (HasHead books date quarters) number → IsStopAt 0 (Ok number) r
         → OnOk r (HasTaken books more (parts ++ x ∷ []) new)
     head-goes-on None (Ok done) finds stop = head-taken books more parts old new x t c date quarters budget is finds checked stated found lines same
     head-goes-on None (Err why) finds stop = tt
     head-goes-on (Some n) (Ok done) finds stop = absurd stop
     head-goes-on (Some n) (Err why) finds stop = tt
 
-    pub head-stops : {T : Type 0} (number : Option ℕ) (r : Res T Stop) → FindsHead (HasHead books date quarters) number → IsStopAt 0 (Ok number) r
+    pub head-stops : {T : Type 0} (number : Option ℕ) (r : Res T ValueStop) → FindsHead (HasHead books date quarters) number → IsStopAt 0 (Ok number) r
         → IfErr r (StopsAtPart books more parts x new.lines.items)
     head-stops None (Ok done) finds stop = tt
     head-stops None (Err why) finds stop = absurd stop
@@ -186,10 +186,10 @@ module _ (books : Books) (more : ℕ) (parts : List Part) (old new : ValueStream
         let own : HasFault books parts (part.Head date quarters budget) 0 n = (none, finds.0, refl, finds.1) in
         let fault : HasFault books parts x 0 n = subst (λ (y : Part). HasFault books parts y 0 n) (sym is) own in
         let tells : TellsChecked books more parts new.lines.items = rw lines t.tells in
-        subst (λ (w : Stop). StopsAtPart books more parts x new.lines.items w) (sym stop) (fault, tells)
+        subst (λ (w : ValueStop). StopsAtPart books more parts x new.lines.items w) (sym stop) (fault, tells)
 
   module _ (b : Block) (is : x ≡ part.Block b) (later : IsLater x) (run : ℕ) (behind : run ≡ run_behind (blocks_in parts)) (same : IsSameButDay old new) where
-    pub block-goes-on : {T : Type 0} (found : Res (Option ℕ) NoRoom) (r : Res T Stop) → IfOk found (FindsNumber (IsFreeIn books old.day.budget (blocks_in parts) b)) → (found ≡ Ok None → IsChecked books (blocks_in parts ++ b ∷ []) new.day)
+    pub block-goes-on : {T : Type 0} (found : Res (Option ℕ) NoRoom) (r : Res T ValueStop) → IfOk found (FindsNumber (IsFreeIn books old.day.budget (blocks_in parts) b)) → (found ≡ Ok None → IsChecked books (blocks_in parts ++ b ∷ []) new.day)
         → (found ≡ Ok None → IsValueText books more (blocks_in parts ++ b ∷ []) new.lines.items) → IsStopAt run found r → OnOk r (HasTaken books more (parts ++ x ∷ []) new)
     block-goes-on (Ok None) (Ok done) finds checked lines stop = block-taken books more parts old new x t c b is later finds (checked refl) same.budget same.found (lines refl) same.more
     block-goes-on (Ok None) (Err why) finds checked lines stop = tt
@@ -198,7 +198,7 @@ module _ (books : Books) (more : ℕ) (parts : List Part) (old new : ValueStream
     block-goes-on (Err e) (Ok done) finds checked lines stop = absurd stop
     block-goes-on (Err e) (Err why) finds checked lines stop = tt
 
-    pub block-stops : {T : Type 0} (found : Res (Option ℕ) NoRoom) (r : Res T Stop) → IfOk found (FindsNumber (IsFreeIn books old.day.budget (blocks_in parts) b)) → IfOk found (λ number. IsSome number → new.lines ≡ old.lines) → IsStopAt run found r
+    pub block-stops : {T : Type 0} (found : Res (Option ℕ) NoRoom) (r : Res T ValueStop) → IfOk found (FindsNumber (IsFreeIn books old.day.budget (blocks_in parts) b)) → IfOk found (λ number. IsSome number → new.lines ≡ old.lines) → IsStopAt run found r
         → IfErr r (StopsAtPart books more parts x new.lines.items)
     block-stops (Ok None) (Ok done) finds kept stop = tt
     block-stops (Ok None) (Err why) finds kept stop = absurd stop
@@ -207,6 +207,6 @@ module _ (books : Books) (more : ℕ) (parts : List Part) (old new : ValueStream
         let fault = block-fault books more parts old new x t c b is later run n behind finds in
         let lines : new.lines ≡ old.lines = kept refl in
         let tells : TellsChecked books more parts new.lines.items = rw lines t.tells in
-        subst (λ (w : Stop). StopsAtPart books more parts x new.lines.items w) (sym stop) (fault, tells)
+        subst (λ (w : ValueStop). StopsAtPart books more parts x new.lines.items w) (sym stop) (fault, tells)
     block-stops (Err e) (Ok done) finds kept stop = tt
-    block-stops (Err e) (Err why) finds kept stop = subst (λ (w : Stop). StopsAtPart books more parts x new.lines.items w) (sym stop) tt
+    block-stops (Err e) (Err why) finds kept stop = subst (λ (w : ValueStop). StopsAtPart books more parts x new.lines.items w) (sym stop) tt

@@ -5,8 +5,8 @@ use Rattle.mari_io.specs.Outside.{Counts, OpenTells}
 use Rattle.mari_io.specs.declared.shelf.Fetch.{Fetch}
 use Rattle.mari_io.specs.declared.shelf.Fetch.TheVariants as fetch
 use Rattle.mari_remain.specs.declared.books.Books.{Books}
-use Rattle.mari_capacity.specs.declared.ending.Stop.{Stop}
-use Rattle.mari_capacity.specs.declared.ending.Stop.TheVariants.{At}
+use Rattle.mari_capacity.specs.declared.ending.ValueStop.{ValueStop}
+use Rattle.mari_capacity.specs.declared.ending.ValueStop.TheVariants.{At}
 use Rattle.mari_capacity.specs.declared.ending.ValueEnd.{ValueEnd}
 use Rattle.mari_capacity.specs.declared.ending.Valued.{Valued}
 use Rattle.mari_capacity.specs.Streams.{EndsPage, IsPageEnd, IsPageFault, IsWrapped, LinesTell, ValueTells}
@@ -79,8 +79,8 @@ no-page-fault g (Ok v) h w = h w
 no-page-fault g (Err why) h w = w
 
 -- it was stopped
-pub stopped-tells : (books : Books) (m n : ℕ) (page : Option (List ℕ)) (bytes lines : List ℕ) (why : Stop) (end : ValueEnd) (v : Valued) → m ≡ n → page ≡ Some bytes → why ≡ At end → StopsOnPage books m bytes lines why → v.text ≡ lines → v.end ≡ end → ValueTells books n page v.text v.end
+pub stopped-tells : (books : Books) (m n : ℕ) (page : Option (List ℕ)) (bytes lines : List ℕ) (why : ValueStop) (end : ValueEnd) (v : Valued) → m ≡ n → page ≡ Some bytes → why ≡ At end → StopsOnPage books m bytes lines why → v.text ≡ lines → v.end ≡ end → ValueTells books n page v.text v.end
 stopped-tells books m n page bytes lines why end v e is at h text ends =
-    let own : EndsPage books m bytes lines end = subst (λ (w : Stop). StopsOnPage books m bytes lines w) at h in
+    let own : EndsPage books m bytes lines end = subst (λ (w : ValueStop). StopsOnPage books m bytes lines w) at h in
     let told : EndsPage books m bytes v.text v.end = rw (text, ends) own in
     page-tells books n page bytes v is (subst (λ (k : ℕ). EndsPage books k bytes v.text v.end) e told)

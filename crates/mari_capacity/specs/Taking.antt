@@ -14,8 +14,8 @@ use Rattle.mari_publish.specs.declared.publication.Part.TheVariants as part
 use Rattle.mari_units.specs.declared.faults.Memory.{Memory as NoRoom}
 use Rattle.mari_remain.specs.declared.books.Books.{Books}
 use Rattle.mari_check.specs.Streams.{IsFound}
-use Rattle.mari_capacity.specs.declared.ending.Stop.{Stop}
-use Rattle.mari_capacity.specs.declared.ending.Stop.TheVariants.{At, Memory as NoMemory}
+use Rattle.mari_capacity.specs.declared.ending.ValueStop.{ValueStop}
+use Rattle.mari_capacity.specs.declared.ending.ValueStop.TheVariants.{At, Memory as NoMemory}
 use Rattle.mari_capacity.specs.declared.ending.ValueEnd.TheVariants.{Valid, Invalid, Text as OfText, Fetch as OfFetch}
 use Rattle.mari_capacity.specs.declared.stream.ValueStream.{ValueStream}
 use Rattle.mari_capacity.specs.declared.ending.Valued.{Valued}
@@ -51,7 +51,7 @@ pub record TookAllParts (books : Books) (more : ℕ) (text : List ℕ) (s : Valu
 -- ---- why it stops
 
 -- at a part
-abbrev pub StopsAtPart : Books → (more : ℕ) → List Part → Part → (lines : List ℕ) → Stop → Type 0
+abbrev pub StopsAtPart : Books → (more : ℕ) → List Part → Part → (lines : List ℕ) → ValueStop → Type 0
 StopsAtPart books more parts x lines (At (Invalid run number)) = HasFault books parts x run number × TellsChecked books more parts lines
 StopsAtPart books more parts x lines (At (Valid published unpublished)) = ⊥
 StopsAtPart books more parts x lines (At (OfText f)) = ⊥
@@ -74,7 +74,7 @@ pub record FaultOfLine (books : Books) (more : ℕ) (text lines : List ℕ) (f :
   pub tells : TellsPage books more text parts lines
 
 -- in a text
-abbrev pub StopsInText : Books → (more : ℕ) → (text lines : List ℕ) → Stop → Type 0
+abbrev pub StopsInText : Books → (more : ℕ) → (text lines : List ℕ) → ValueStop → Type 0
 StopsInText books more text lines (At (Invalid run number)) = FaultOfPart books more text lines run number
 StopsInText books more text lines (At (OfText f)) = FaultOfLine books more text lines f
 StopsInText books more text lines (At (Valid published unpublished)) = ⊥
@@ -82,43 +82,43 @@ StopsInText books more text lines (At (OfFetch why)) = ⊥
 StopsInText books more text lines NoMemory = ⊤
 
 -- what is so when a text has come as far as this
-abbrev pub PushTells : {T : Type 0} → Books → (more : ℕ) → (text : List ℕ) → ValueStream → Result T Stop → Type 0
+abbrev pub PushTells : {T : Type 0} → Books → (more : ℕ) → (text : List ℕ) → ValueStream → Result T ValueStop → Type 0
 PushTells books more text s (Ok done) = TookAllParts books more text s
 PushTells books more text s (Err why) = StopsInText books more text s.lines.items why
 
 -- on a page, and on any shelf
-abbrev pub StopsOnPage : Books → (more : ℕ) → (page lines : List ℕ) → Stop → Type 0
+abbrev pub StopsOnPage : Books → (more : ℕ) → (page lines : List ℕ) → ValueStop → Type 0
 StopsOnPage books more page lines (At end) = EndsPage books more page lines end
 StopsOnPage books more page lines NoMemory = ⊤
 
-abbrev pub StopTells : Books → (more : ℕ) → (lines : List ℕ) → Stop → Type 0
+abbrev pub StopTells : Books → (more : ℕ) → (lines : List ℕ) → ValueStop → Type 0
 StopTells books more lines (At end) = LinesTell books more lines end
 StopTells books more lines NoMemory = ⊤
 
 -- what is so when a page was read to its end, or as far as could be
-abbrev pub PiecesTell : {T : Type 0} → Books → (more : ℕ) → (page : List ℕ) → ValueStream → Result T Stop → Type 0
+abbrev pub PiecesTell : {T : Type 0} → Books → (more : ℕ) → (page : List ℕ) → ValueStream → Result T ValueStop → Type 0
 PiecesTell books more page s (Ok done) = (length page ≤ most_given) × TookAllParts books more page s
 PiecesTell books more page s (Err why) = StopsOnPage books more page s.lines.items why
 
 -- the shelf gave this fault
-abbrev pub IsStopFetch : {T : Type 0} → Fetch → Result T Stop → Type 0
+abbrev pub IsStopFetch : {T : Type 0} → Fetch → Result T ValueStop → Type 0
 IsStopFetch why (Ok done) = ⊥
 IsStopFetch why (Err (At end)) = IsPageEnd why end
 IsStopFetch why (Err NoMemory) = ⊥
 
 -- out of memory is reported as another cause
-abbrev pub IsWrappedStop : Stop → Type 0
+abbrev pub IsWrappedStop : ValueStop → Type 0
 IsWrappedStop (At end) = IsWrapped end
 IsWrappedStop NoMemory = ⊥
 
 -- what a fault of the shelf is reported as, and one of the text
-abbrev pub stop_of_fetch : Fetch → Stop
+abbrev pub stop_of_fetch : Fetch → ValueStop
 stop_of_fetch fetch.Failed = At (OfFetch fetch.Failed)
 stop_of_fetch fetch.Missing = At (OfFetch fetch.Missing)
 stop_of_fetch fetch.TooLong = At (OfFetch fetch.TooLong)
 stop_of_fetch fetch.Memory = NoMemory
 
-abbrev pub stop_of_text : TextFault → Stop
+abbrev pub stop_of_text : TextFault → ValueStop
 stop_of_text (fault.BadLine n) = At (OfText (fault.BadLine n))
 stop_of_text (fault.BadOrder n) = At (OfText (fault.BadOrder n))
 stop_of_text (fault.Truncated n) = At (OfText (fault.Truncated n))
@@ -132,7 +132,7 @@ pub record IsSameButDay (old new : ValueStream) : Type 0 where
   pub budget : new.day.budget ≡ old.day.budget
 
 -- it stops where a fault was found, of this run
-abbrev pub IsStopAt : {T : Type 0} → (run : ℕ) → Result (Option ℕ) NoRoom → Result T Stop → Type 0
+abbrev pub IsStopAt : {T : Type 0} → (run : ℕ) → Result (Option ℕ) NoRoom → Result T ValueStop → Type 0
 IsStopAt run (Ok None) (Ok done) = ⊤
 IsStopAt run (Ok None) (Err why) = ⊥
 IsStopAt run (Ok (Some number)) (Ok done) = ⊥

@@ -42,7 +42,7 @@ pub struct Valued {
 
 /// Why no more of a publication is taken.
 #[derive(Clone, Copy, Debug, PartialEq, Eq)]
-pub enum Stop {
+pub enum ValueStop {
     /// It ends here.
     At(ValueEnd),
     /// Out of memory.
@@ -50,33 +50,33 @@ pub enum Stop {
 }
 
 /// What a fault of the shelf is reported as. One of memory is reported as that alone.
-pub(crate) fn stop_of_shelf(fault: Fetch) -> Stop
+pub(crate) fn stop_of_shelf(fault: Fetch) -> ValueStop
     ensures { result ≡ stop_of_fetch fault }
 {
     match fault {
-        Fetch::Memory => Stop::Memory,
-        other => Stop::At(ValueEnd::Fetch(other)),
+        Fetch::Memory => ValueStop::Memory,
+        other => ValueStop::At(ValueEnd::Fetch(other)),
     }
 }
 
 /// What a fault of the text is reported as. One of memory is reported as that alone.
-pub(crate) fn stop_of_reader(fault: TextFault) -> Stop
+pub(crate) fn stop_of_reader(fault: TextFault) -> ValueStop
     ensures { result ≡ stop_of_text fault }
 {
     match fault {
-        TextFault::Memory => Stop::Memory,
-        other => Stop::At(ValueEnd::Text(other)),
+        TextFault::Memory => ValueStop::Memory,
+        other => ValueStop::At(ValueEnd::Text(other)),
     }
 }
 
 /// Stops where a fault was found, of a run.
-pub(crate) fn stop_at(run: u32, found: Result<Option<u8>, Memory>) -> Result<(), Stop>
+pub(crate) fn stop_at(run: u32, found: Result<Option<u8>, Memory>) -> Result<(), ValueStop>
     ensures { IsStopAt run found result }
 {
     match found {
         Ok(None) => Ok(()),
-        Ok(Some(fault)) => Err(Stop::At(ValueEnd::Invalid { run, fault })),
-        Err(Memory) => Err(Stop::Memory),
+        Ok(Some(fault)) => Err(ValueStop::At(ValueEnd::Invalid { run, fault })),
+        Err(Memory) => Err(ValueStop::Memory),
     }
 }
 

@@ -1,31 +1,22 @@
-//! The lines that tell what limits are worth.
+//! The lines that say what limits are worth.
 
-ghost use Rattle.std.specs.Prelude.{◌≡◌, ◌++◌, ◌∷◌, ◌≤◌, ◌^◌, OnOk, length, unsigned_abs};
+ghost use Rattle.std.specs.Prelude.{◌≡◌, ◌++◌, OnOk, length};
 ghost use Rattle.std.specs.List.{All};
-ghost use Rattle.mari_lines.specs.Spelling.{money_text};
 ghost use Rattle.mari_capacity.specs.Lines.{ArePrintable, IsPrintable, border_line as line_of_border, border_lines as lines_of_borders, closing_line as line_of_close, opening_line as line_of_opening, run_lines, unpublished_line as line_of_unpublished, worth_fields as fields_of_worth};
 
 use crate::worth::{BorderWorth, Worth};
+use mari_lines::{put_field, put_money, put_number_field};
 use mari_publish::{BorderLine, FullBlock};
-use mari_units::{Memory, Quarters, euros_text, put, put_number};
+use mari_units::{Memory, put};
 use std::alloc::Global;
 
 /// Appends the first line.
 pub(crate) fn put_opening(alloc: Global, text: &mut Vec<u8>, more: u32) -> Result<(), Memory>
     ensures { OnOk result (text.new.items ≡ text.old.items ++ line_of_opening more) }
 {
-    put(text, b"value 1 ")?;
-    put_number(alloc, text, u128::from(more))?;
+    put(text, b"value 1")?;
+    put_number_field(alloc, text, u64::from(more))?;
     put(text, b"\n")
-}
-
-/// Appends a space and an amount of money.
-fn put_money(alloc: Global, text: &mut Vec<u8>, money: Quarters) -> Result<(), Memory>
-    requires { unsigned_abs money.0 ≤ 10 ^ 30 }
-    ensures { OnOk result (text.new.items ≡ text.old.items ++ 32 ∷ money_text money) }
-{
-    put(text, b" ")?;
-    put(text, &euros_text(alloc, money)?)
 }
 
 /// Appends a gain and a rise.
@@ -47,10 +38,9 @@ fn put_border(
     requires { ArePrintable worth }
     ensures { OnOk result (text.new.items ≡ text.old.items ++ line_of_border line.now worth) }
 {
-    put(text, b"border ")?;
-    put(text, line.from.bytes())?;
-    put(text, b" ")?;
-    put(text, line.to.bytes())?;
+    put(text, b"border")?;
+    put_field(text, line.from.bytes())?;
+    put_field(text, line.to.bytes())?;
     put_worth(alloc, text, worth.forth)?;
     put_worth(alloc, text, worth.back)?;
     put(text, b"\n")
@@ -84,8 +74,8 @@ pub(crate) fn put_run(
     requires printable { All ArePrintable worths.now }
     ensures { OnOk result (text.new.items ≡ text.old.items ++ run_lines block.now worths.now) }
 {
-    put(text, b"run ")?;
-    put_number(alloc, text, u128::from(block.heading.run))?;
+    put(text, b"run")?;
+    put_number_field(alloc, text, u64::from(block.heading.run))?;
     put(text, b"\n")?;
     put_borders(alloc, text, block.borders.as_slice(), worths)
 }
@@ -94,9 +84,9 @@ pub(crate) fn put_run(
 pub(crate) fn put_unpublished(alloc: Global, text: &mut Vec<u8>, run: u32) -> Result<(), Memory>
     ensures { OnOk result (text.new.items ≡ text.old.items ++ line_of_unpublished run) }
 {
-    put(text, b"run ")?;
-    put_number(alloc, text, u128::from(run))?;
-    put(text, b" unpublished")?;
+    put(text, b"run")?;
+    put_number_field(alloc, text, u64::from(run))?;
+    put_field(text, b"unpublished")?;
     put(text, b"\n")
 }
 
@@ -109,9 +99,8 @@ pub(crate) fn put_closing(
 ) -> Result<(), Memory>
     ensures { OnOk result (text.new.items ≡ text.old.items ++ line_of_close published unpublished) }
 {
-    put(text, b"done ")?;
-    put_number(alloc, text, u128::from(published))?;
-    put(text, b" ")?;
-    put_number(alloc, text, u128::from(unpublished))?;
+    put(text, b"done")?;
+    put_number_field(alloc, text, u64::from(published))?;
+    put_number_field(alloc, text, u64::from(unpublished))?;
     put(text, b"\n")
 }

@@ -19,7 +19,9 @@ ghost use Rattle.mari_capacity.specs.Streams.{EndsAs, EndsPage, IsPageEnd, IsPag
 ghost use Rattle.mari_capacity.specs.Taking.{HasTaken, IsSameButDay, IsStopFetch, IsWrappedStop, PiecesTell, PushTells, StopTells, StopsAtPart, TookAllParts, TookParts};
 ghost use Rattle.mari_capacity.specs.declared.ending.ValueEnd.{ValueEnd as TheEnd};
 
-use crate::ending::{Stop, ValueEnd, Valued, stop_at, stop_of_reader, stop_of_shelf, unopened};
+use crate::ending::{
+    ValueEnd, ValueStop, Valued, stop_at, stop_of_reader, stop_of_shelf, unopened,
+};
 use crate::lines::{put_closing, put_opening, put_run, put_unpublished};
 use crate::worth::worths_of;
 use mari_check::{DayCheck, Verdict};
@@ -63,8 +65,8 @@ impl ValueStream {
         })
     }
 
-    /// The number of the least fault of a published block; or none, and then there are its lines, in the market after the
-    /// blocks before it.
+    /// The number of the least fault of a published block; or none, and then there are its lines, in the market after
+    /// the blocks before it.
     fn add_published(
         &mut self,
         alloc: Global,
@@ -128,7 +130,7 @@ impl ValueStream {
     }
 
     /// Takes a part, or stops at its fault. That of the totals is reported at the end.
-    fn take_part(&mut self, alloc: Global, books: &Books, part: &Part) -> Result<(), Stop>
+    fn take_part(&mut self, alloc: Global, books: &Books, part: &Part) -> Result<(), ValueStop>
         requires accepted { IsAccepted books.now }
         requires more { self.old.more ≤ MOST_RAISE }
         requires comes { (parts : List ThePart) × HasTaken books.now self.old.more parts self.old × Comes parts part.now }
@@ -159,7 +161,7 @@ impl ValueStream {
     }
 
     /// Takes a part, which isn't kept.
-    fn take(&mut self, alloc: Global, books: &Books, part: Part) -> Result<(), Stop>
+    fn take(&mut self, alloc: Global, books: &Books, part: Part) -> Result<(), ValueStop>
         requires accepted { IsAccepted books.now }
         requires more { self.old.more ≤ MOST_RAISE }
         requires comes { (parts : List ThePart) × HasTaken books.now self.old.more parts self.old × Comes parts part }
@@ -172,7 +174,7 @@ impl ValueStream {
     }
 
     /// Takes all parts that have come, up to a fault of the check or of the text.
-    fn take_parts(&mut self, alloc: Global, books: &Books) -> Result<(), Stop>
+    fn take_parts(&mut self, alloc: Global, books: &Books) -> Result<(), ValueStop>
         requires accepted { IsAccepted books.now }
         requires more { self.old.more ≤ MOST_RAISE }
         requires read { (text : List ℕ) × (parts : List ThePart) × TookParts books.now self.old.more text parts self.old }
@@ -192,7 +194,7 @@ impl ValueStream {
     }
 
     /// Takes a piece of the text, and all parts that have come with it.
-    fn push(&mut self, alloc: Global, books: &Books, piece: &[u8]) -> Result<(), Stop>
+    fn push(&mut self, alloc: Global, books: &Books, piece: &[u8]) -> Result<(), ValueStop>
         requires accepted { IsAccepted books.now }
         requires more { self.old.more ≤ MOST_RAISE }
         requires read { (text : List ℕ) × (parts : List ThePart) × TookParts books.now self.old.more text parts self.old }
@@ -201,7 +203,7 @@ impl ValueStream {
     {
         match self.reader.push(piece) {
             Ok(()) => self.take_parts(alloc, books),
-            Err(_) => Err(Stop::Memory),
+            Err(_) => Err(ValueStop::Memory),
         }
     }
 
@@ -260,7 +262,7 @@ fn read_pieces<S: Shelf>(
     books: &Books,
     shelf: &mut S,
     stream: &mut ValueStream,
-) -> Result<(), Stop>
+) -> Result<(), ValueStop>
     // Nothing of the publication is read yet.
     requires accepted { IsAccepted books.now }
     requires open { S.is_open shelf.old ≡ true }
@@ -268,7 +270,7 @@ fn read_pieces<S: Shelf>(
     requires more { stream.old.more ≤ MOST_RAISE }
     requires read { TookParts books.now stream.old.more [] [] stream.old }
 
-    // What was read, and where it is told what was left, how far.
+    // What was read, and where what was left is reported, how far.
     ensures same { S.pages shelf.new ≡ S.pages shelf.old }
     ensures more { stream.new.more ≡ stream.old.more }
     ensures read { OnOk result ((text : List ℕ) × TookAllParts books.now stream.old.more text stream.new) }
@@ -298,15 +300,15 @@ fn read_pieces<S: Shelf>(
     }
 }
 
-/// What so many MW more on each border are worth in each published run of the publication whose text is the page of that
-/// name, which is read in pieces. Each block is checked before its line is made. The valuing ends at the first fault: one
-/// of the check stands where its head or its block ends, and one that the end of a publication shows stands after every
-/// fault of the text.
+/// What so many MW more on each border are worth in each published run of the publication whose text is the page of
+/// that name, which is read in pieces. Each block is checked before its line is made. The valuing ends at the first
+/// fault: one of the check stands where its head or its block ends, and one that the end of a publication shows stands
+/// after every fault of the text.
 ///
 /// The first line is `value 1 K`. A published block has a line `run RUN` and a line for each border, with the gain and
 /// the rise forth and then back, as money; another block has the line `run RUN unpublished`. The last line of a valid
-/// publication is `done PUBLISHED UNPUBLISHED`, and no other has it. Over a shelf that doesn't tell its pages nothing is
-/// said of which publication it is.
+/// publication is `done PUBLISHED UNPUBLISHED`, and no other has it. Over a shelf that doesn't report its pages nothing
+/// is said of which publication it is.
 pub fn value_stream<S: Shelf>(
     alloc: Global,
     books: &Books,
@@ -319,7 +321,7 @@ pub fn value_stream<S: Shelf>(
     requires more { more ≤ MOST_RAISE }
     ensures same { S.pages shelf.new ≡ S.pages shelf.old }
 
-    // What is said of the page, where pages are told; and on any shelf, that the lines are those of checked blocks.
+    // What is said of the page, where pages are reported; and on any shelf, that the lines are those of checked blocks.
     ensures told { (told : Pages) → S.pages shelf.old ≡ Some told → IfOk result (λ v. ValueTells books.now more (page_of told name.now) v.text v.end) }
     ensures lines { IfOk result (λ v. LinesTell books.now more v.text v.end) }
 
@@ -339,7 +341,7 @@ pub fn value_stream<S: Shelf>(
     }
     match read_pieces(alloc, books, shelf, &mut stream) {
         Ok(()) => stream.end(alloc),
-        Err(Stop::At(end)) => Ok(stream.stopped(end)),
-        Err(Stop::Memory) => Err(Memory),
+        Err(ValueStop::At(end)) => Ok(stream.stopped(end)),
+        Err(ValueStop::Memory) => Err(Memory),
     }
 }

@@ -5,5 +5,5 @@ use Rattle.mari_blocks.proofs.text.put_count.Goals as goal
 
 pub returns : goal.returns
 returns c =
-    on-ok c.put-2.result _ _ c.put-2.ensures.put (λ e. e ∙ rw (c.in_ok-put_number.ensures.put, c.in_ok-put.ensures.put, c.from.ensures)
-    (three-pieces c.args.out.now.items (codes " unpublished ") (decimal c.args.count) (10 ∷ [])))
+    on-ok c.put.result _ _ c.put.ensures.put (λ e. e ∙ rw (c.in_ok-put_number_field.ensures, c.in_ok-put_field.ensures, c.from.ensures)
+    (three-pieces c.args.out.now.items (32 ∷ codes "unpublished") (32 ∷ decimal c.args.count) (10 ∷ [])))

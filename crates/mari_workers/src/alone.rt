@@ -12,7 +12,7 @@ ghost use Rattle.mari_pool.specs.Queued.{IsMore};
 ghost use Rattle.mari_workers.specs.Alone.{best_in, after_offer, IsAtNode, IsFinished, IsUnderWay, IsVisited};
 ghost use Rattle.mari_workers.specs.Refine.{MayRefine};
 
-use crate::bounds::Bounds;
+use crate::bounds::BranchBounds;
 use crate::first::first_of;
 use crate::publishing::published_from;
 use crate::root::Root;
@@ -232,7 +232,7 @@ fn first_of_search(
     let keys = keys_of(alloc, &search, &queue);
     drop(queue);
     let found = optimum_of_search(alloc, search)?;
-    match Bounds::of(alloc, found.tree.as_slice(), keys) {
+    match BranchBounds::of(alloc, found.tree.as_slice(), keys) {
         Ok(bounds) => published_from(alloc, market, found, budget, bounds, root),
         Err(Memory) => {
             drop(found);

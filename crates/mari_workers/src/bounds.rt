@@ -7,17 +7,17 @@ use std::alloc::Global;
 /// The bounds of a tree's branches, in quarter-cents and in preorder: of those that a walk has done, and of those that
 /// are left, the next at the end.
 ///
-/// They tell which branches are worth another look. No promise rests on them.
+/// They show which branches are worth another look. No promise rests on them.
 #[derive(Drop)]
-pub(crate) struct Bounds {
+pub(crate) struct BranchBounds {
     done: Vec<u64>,
     left: Vec<u64>,
 }
 
-impl Bounds {
+impl BranchBounds {
     /// No bound is known.
-    pub(crate) fn none(alloc: Global) -> Bounds {
-        Bounds {
+    pub(crate) fn none(alloc: Global) -> BranchBounds {
+        BranchBounds {
             done: Vec::new(alloc),
             left: Vec::new(alloc),
         }
@@ -29,9 +29,9 @@ impl Bounds {
         alloc: Global,
         tree: &[TreeItem],
         keys: Result<Vec<u64>, Memory>,
-    ) -> Result<Bounds, Memory> {
+    ) -> Result<BranchBounds, Memory> {
         let keys = keys?;
-        let mut bounds = Bounds::none(alloc);
+        let mut bounds = BranchBounds::none(alloc);
         for (item, key) in tree.iter().zip(keys.iter().skip(1)) {
             if let TreeItem::Branch = item {
                 bounds.left.push(*key)?;

@@ -12,7 +12,7 @@ ghost use Rattle.mari_market.specs.Tree.{AreParts, LeafHolds};
 ghost use Rattle.mari_workers.specs.Cutting.{IsAtItem, IsBelow, IsCutting, IsPast};
 ghost use Rattle.mari_workers.specs.Refine.{IsOldLeaf};
 
-use crate::bounds::Bounds;
+use crate::bounds::BranchBounds;
 use crate::root::Root;
 use mari_core::closing_leaf;
 use mari_gates::{child_of, empty_prefix, next_after};
@@ -29,8 +29,8 @@ struct Cutting {
     next: Option<Prefix>,
 }
 
-/// The certificate by which a branched prefix is closed, by its own examination and at the welfare, if it is. A bound above
-/// the welfare says that it isn't.
+/// The certificate by which a branched prefix is closed, by its own examination and at the welfare, if it is. A bound
+/// above the welfare says that it isn't.
 fn closing_at(
     alloc: Global,
     market: &Market,
@@ -101,7 +101,7 @@ impl Cutting {
         above: &Prefix,
         at: &Prefix,
         welfare: u64,
-        bounds: &mut Bounds,
+        bounds: &mut BranchBounds,
     )
         requires market { IsValid market.now }
         requires below { IsBelow market.now welfare (word_of above.now) self.old.left.items (Some at.now) }
@@ -124,7 +124,13 @@ impl Cutting {
     }
 
     /// Drops the items below a prefix.
-    fn drop_below(&mut self, market: &Market, above: &Prefix, welfare: u64, bounds: &mut Bounds)
+    fn drop_below(
+        &mut self,
+        market: &Market,
+        above: &Prefix,
+        welfare: u64,
+        bounds: &mut BranchBounds,
+    )
         requires market { IsValid market.now }
         requires below { IsBelow market.now welfare (word_of above.now) self.old.left.items self.old.next }
         ensures below { IsBelow market.now welfare (word_of above.now) self.new.left.items self.new.next }
@@ -147,7 +153,7 @@ impl Cutting {
         prefix: &Prefix,
         leaf: Leaf,
         welfare: u64,
-        bounds: &mut Bounds,
+        bounds: &mut BranchBounds,
     ) -> Result<(), Memory>
         requires market { IsValid market.now }
         requires walk { IsAtItem market.now welfare prefix.now BranchItem self.old.done.items self.old.left.items }
@@ -167,7 +173,7 @@ impl Cutting {
         market: &Market,
         prefix: &Prefix,
         welfare: u64,
-        bounds: &mut Bounds,
+        bounds: &mut BranchBounds,
         root: &Root,
     ) -> Result<(), Memory>
         requires market { IsValid market.now }
@@ -191,7 +197,7 @@ impl Cutting {
         market: &Market,
         prefix: &Prefix,
         welfare: u64,
-        bounds: &mut Bounds,
+        bounds: &mut BranchBounds,
         root: &Root,
     ) -> Result<(), Memory>
         requires market { IsValid market.now }
@@ -214,7 +220,7 @@ fn walked(
     market: &Market,
     welfare: u64,
     walk: &mut Cutting,
-    bounds: &mut Bounds,
+    bounds: &mut BranchBounds,
     root: &Root,
 ) -> Result<(), Memory>
     requires market { IsValid market.now }
@@ -238,7 +244,7 @@ pub(crate) fn cut_back(
     alloc: Global,
     market: &Market,
     tree: Items<TreeItem>,
-    bounds: &mut Bounds,
+    bounds: &mut BranchBounds,
     welfare: u64,
     root: &Root,
 ) -> Result<Items<TreeItem>, Memory>

@@ -8,7 +8,7 @@ ghost use Rattle.mari_market.specs.Optimal.{IsAdmissible, IsOptimal};
 ghost use Rattle.mari_market.specs.Prefix.{word_of, IsFeasiblePrefix};
 ghost use Rattle.mari_workers.specs.Refine.{HasNodes, MayRefine};
 
-use crate::bounds::Bounds;
+use crate::bounds::BranchBounds;
 use crate::cutting::cut_back;
 use crate::refining::refined_from;
 use crate::root::Root;
@@ -60,7 +60,7 @@ fn cut_and_refined(
     market: &Market,
     found: Clearing,
     budget: u32,
-    bounds: &mut Bounds,
+    bounds: &mut BranchBounds,
     root: &Root,
 ) -> Result<Cleared, Memory>
     requires market { IsValid market.now }
@@ -92,14 +92,14 @@ fn cut_and_refined(
 
 /// The same, where a tree that was refined for a later gate word than the first is cut back and refined again.
 ///
-/// So the tree rests on the market alone: its branches are those whose own certificate doesn't close them, at the welfare
-/// or, where they are early for the first gate word, at that less 1.
+/// So the tree rests on the market alone: its branches are those whose own certificate doesn't close them, at the
+/// welfare or, where they are early for the first gate word, at that less 1.
 fn settled(
     alloc: Global,
     market: &Market,
     found: Clearing,
     budget: u32,
-    bounds: &mut Bounds,
+    bounds: &mut BranchBounds,
     root: &Root,
 ) -> Result<Cleared, Memory>
     requires market { IsValid market.now }
@@ -127,7 +127,7 @@ pub(crate) fn published_from(
     market: &Market,
     found: Clearing,
     budget: u32,
-    mut bounds: Bounds,
+    mut bounds: BranchBounds,
     root: &Root,
 ) -> Result<Cleared, Memory>
     requires market { IsValid market.now }

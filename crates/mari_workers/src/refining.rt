@@ -7,7 +7,7 @@ ghost use Rattle.mari_market.specs.Market.{IsValid};
 ghost use Rattle.mari_market.specs.Prefix.{word_of, IsFeasiblePrefix, IsCleared};
 ghost use Rattle.mari_workers.specs.Refine.{ended, ClosesAtClosed, HasNodes, IsAim, IsAtLeaf, IsLastTurn, IsToBranch, IsTreeWalk, IsTurn, MayRefine};
 
-use crate::bounds::Bounds;
+use crate::bounds::BranchBounds;
 use crate::fate::{Aim, Fate, fate_of};
 use crate::root::Root;
 use mari_gates::{child_of, empty_prefix, gate_word, may_branch_up, next_after};
@@ -33,7 +33,7 @@ struct Walk {
 }
 
 /// A copy of a leaf.
-fn copy_of(leaf: &Leaf) -> Result<Leaf, AllocError>
+fn copy_of_leaf(leaf: &Leaf) -> Result<Leaf, AllocError>
     ensures { IfOk result (λ copy. copy ≡ leaf.now) }
 {
     leaf.clone()
@@ -74,7 +74,7 @@ impl Walk {
         ensures left { OnOk result (self.new.left.items ≡ self.old.left.items ++ (if may_open then TreeItem.Leaf leaf ∷ TreeItem.Leaf leaf ∷ [] else TreeItem.Leaf leaf ∷ [])) }
     {
         if may_open {
-            let copy = copy_of(&leaf)?;
+            let copy = copy_of_leaf(&leaf)?;
             self.left.push(TreeItem::Leaf(copy))?;
         }
         self.left.push(TreeItem::Leaf(leaf))?;
@@ -88,7 +88,7 @@ impl Walk {
         prefix: &Prefix,
         leaf: Leaf,
         aim: &Aim,
-        bounds: &mut Bounds,
+        bounds: &mut BranchBounds,
     ) -> Result<Turn, Memory>
         requires market { IsValid market.now }
         requires aim { IsAim market.now aim.now }
@@ -116,7 +116,7 @@ impl Walk {
         prefix: &Prefix,
         leaf: Leaf,
         aim: &Aim,
-        bounds: &mut Bounds,
+        bounds: &mut BranchBounds,
         root: &Root,
     ) -> Result<Turn, Memory>
         requires market { IsValid market.now }
@@ -145,7 +145,7 @@ impl Walk {
         market: &Market,
         prefix: &Prefix,
         aim: &Aim,
-        bounds: &mut Bounds,
+        bounds: &mut BranchBounds,
         root: &Root,
     ) -> Result<Turn, Memory>
         requires market { IsValid market.now }
@@ -208,7 +208,7 @@ fn walked(
     market: &Market,
     aim: &Aim,
     walk: &mut Walk,
-    bounds: &mut Bounds,
+    bounds: &mut BranchBounds,
     root: &Root,
 ) -> Result<Turn, Memory>
     requires market { IsValid market.now }
@@ -278,7 +278,7 @@ pub(crate) fn refined_from(
     market: &Market,
     found: Clearing,
     budget: u32,
-    bounds: &mut Bounds,
+    bounds: &mut BranchBounds,
     root: &Root,
 ) -> Result<Cleared, Memory>
     requires market { IsValid market.now }
@@ -321,7 +321,7 @@ fn refined(alloc: Global, market: &Market, found: Clearing, budget: u32) -> Resu
             market,
             found,
             budget,
-            &mut Bounds::none(alloc),
+            &mut BranchBounds::none(alloc),
             &root,
         ),
         Err(Memory) => {

@@ -14,7 +14,7 @@ ghost use Rattle.mari_workers.specs.Together.{IsSeated};
 ghost use Rattle.mari_workers.specs.Worked.{HoldsBest, IsWorked};
 
 use crate::alone::search_alone;
-use crate::bounds::Bounds;
+use crate::bounds::BranchBounds;
 use crate::first::first_of;
 use crate::publishing::published_from;
 use crate::root::Root;
@@ -302,7 +302,7 @@ fn search_over_pool<N: SearchName + Send + Sync, G: Turnstile, R: Threads + Wait
         Ok((pool, true)) => {
             let keys = pool.keys(alloc);
             let found = optimum_of_pool(alloc, pool, incumbent, mine, first)?;
-            return match Bounds::of(alloc, found.tree.as_slice(), keys) {
+            return match BranchBounds::of(alloc, found.tree.as_slice(), keys) {
                 Ok(bounds) => published_from(alloc, market, found, budget, bounds, root),
                 Err(Memory) => {
                     drop(found);

@@ -77,7 +77,7 @@ impl CalendarDay {
         };
         match records.next(alloc)? {
             Some(second) => Err(not_one(second.line)),
-            None => day_of(alloc, &row),
+            None => calendar_day_of(alloc, &row),
         }
     }
 }
@@ -90,7 +90,7 @@ fn not_one(line: u32) -> BookFault
 }
 
 /// The day of a record: its date, with its quarter hours by the rule of a clock.
-fn day_of(alloc: Global, row: &Row) -> Result<CalendarDay, BookFault>
+fn calendar_day_of(alloc: Global, row: &Row) -> Result<CalendarDay, BookFault>
     ensures day { GivesBook result (day_of_row row.now) }
     ensures facts { IfOk result IsCalendarDay }
 {

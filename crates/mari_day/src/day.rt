@@ -14,7 +14,7 @@ ghost use Rattle.mari_day.specs.Stepped.{Closes, WroteFirst};
 ghost use Rattle.mari_market.specs.Clearing.{IsBudget};
 
 use crate::lines::{amount_lines, money_lines};
-use crate::step::{Stop, day_step, write_text};
+use crate::step::{Stop, day_step, write_or_stop};
 use mari_bids::BidBook;
 use mari_io::Sink;
 use mari_market::Clearer;
@@ -71,7 +71,7 @@ fn begin<K: Sink>(alloc: Global, books: &Books, budget: u32, sink: &mut K) -> Re
 {
     let progress = Progress::start(alloc, books)?;
     let head = head_text(alloc, &books.date, books.quarters, budget)?;
-    match write_text(sink, &head) {
+    match write_or_stop(sink, &head) {
         Ok(()) => Ok(progress),
         Err(stop) => Err(stop),
     }
@@ -134,7 +134,7 @@ fn close<K: Sink>(
         progress.published,
         unpublished,
     )?;
-    write_text(sink, &text)
+    write_or_stop(sink, &text)
 }
 
 /// Writes a whole day, and answers how many of its runs are published.

@@ -22,5 +22,5 @@ pub use files::{BLOCKS, File, PUBLICATION, file_name, path_in};
 pub use laws::{days_keep, migration_keeps_days};
 pub use mari_io::write_all;
 pub use reading::{BooksFault, read_books};
-pub use step::{Stop, write_text};
+pub use step::{Stop, write_or_stop};
 pub use text::{PrintedDay, day_of};

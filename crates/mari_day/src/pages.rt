@@ -87,7 +87,7 @@ fn fetch_page<S: Shelf>(
     ensures file { IsOfFile file result }
     ensures memory { IsFault fetch.Memory result → ⊥ }
 
-    // What it says of the page, where pages are told.
+    // What it says of the page, where pages are reported.
     ensures told { (told : Pages) → S.pages shelf.old ≡ Some told → PageTells file (page_in told folder.now file) result }
 
     // Why the page wasn't had.
@@ -118,7 +118,7 @@ fn fetch_seven<S: Shelf>(
     ensures small { IfOk result (All (λ (page : List ℕ). length page ≤ MOST_PAGE)) }
     ensures fetched { FetchesPages 7 (S.fetches shelf.old) (S.fetches shelf.new) result }
 
-    // What it says of the pages, where they are told. Out of memory is reported as such.
+    // What it says of the pages, where they are reported. Out of memory is reported as such.
     ensures memory { IsFault fetch.Memory result → ⊥ }
     ensures told { (told : Pages) → S.pages shelf.old ≡ Some told → FetchingTells told folder.now files result }
 
@@ -178,7 +178,7 @@ pub fn fetch_pages<S: Shelf>(
     ensures same { S.pages shelf.new ≡ S.pages shelf.old }
     ensures fetched { FetchesFolder (S.pages shelf.old) folder.now (S.fetches shelf.old) (S.fetches shelf.new) result }
 
-    // What it says of the pages, where they are told. Out of memory is reported as such.
+    // What it says of the pages, where they are reported. Out of memory is reported as such.
     ensures memory { IsFault fetch.Memory result → ⊥ }
     ensures told { (told : Pages) → S.pages shelf.old ≡ Some told → FetchingTells told folder.now (files_in told folder.now) result }
 

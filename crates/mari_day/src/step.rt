@@ -99,7 +99,7 @@ fn run_done<C: Clearer>(
 }
 
 /// Writes a text, whose failure ends the day.
-pub fn write_text<K: Sink>(sink: &mut K, text: &[u8]) -> Result<(), Stop>
+pub fn write_or_stop<K: Sink>(sink: &mut K, text: &[u8]) -> Result<(), Stop>
     ensures whole { OnOk result (K.taken sink.new ≡ then_took (K.taken sink.old) text.now) }
     ensures part { OnErr result (TookPart (K.taken sink.old) (K.taken sink.new) text.now) }
     ensures error { IfErr result (λ stop. stop ≡ Stop.Sink) }
@@ -118,7 +118,7 @@ fn write_block<K: Sink>(alloc: Global, sink: &mut K, block: &Block) -> Result<()
     ensures cause { Counts (result ≡ Err Stop.Sink) (K.faults sink.old) (K.faults sink.new) }
 {
     let text = block_text(alloc, block)?;
-    let written = write_text(sink, &text);
+    let written = write_or_stop(sink, &text);
     drop(text);
     written
 }

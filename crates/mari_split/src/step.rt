@@ -15,7 +15,7 @@ ghost use Rattle.mari_split.specs.Steps.{IsSplitProgress, SplitFits, SplitSteppe
 use crate::run::{SplitDone, run_split};
 use crate::split::SplitBlock;
 use crate::text::block_text;
-use mari_day::{Stop, write_text};
+use mari_day::{Stop, write_or_stop};
 use mari_io::Sink;
 use mari_market::Clearer;
 use mari_progress::Progress;
@@ -35,7 +35,7 @@ fn write_block<K: Sink>(
     ensures cause { Counts (result ≡ Err Stop.Sink) (K.faults sink.old) (K.faults sink.new) }
 {
     let text = block_text(alloc, names, block)?;
-    let written = write_text(sink, &text);
+    let written = write_or_stop(sink, &text);
     drop(text);
     written
 }

@@ -15,7 +15,7 @@ ghost use Rattle.mari_day.specs.Stepped.{Writes};
 
 use crate::step::split_step;
 use crate::text::{end_text, head_text};
-use mari_day::{DayEnd, Stop, write_text};
+use mari_day::{DayEnd, Stop, write_or_stop};
 use mari_io::Sink;
 use mari_market::Clearer;
 use mari_progress::{Progress, run_count};
@@ -31,7 +31,7 @@ fn begin<K: Sink>(alloc: Global, books: &Books, budget: u32, sink: &mut K) -> Re
 {
     let progress = Progress::start(alloc, books)?;
     let head = head_text(alloc, &books.date, books.quarters, budget)?;
-    match write_text(sink, &head) {
+    match write_or_stop(sink, &head) {
         Ok(()) => Ok(progress),
         Err(stop) => Err(stop),
     }
@@ -79,7 +79,7 @@ fn close<K: Sink>(alloc: Global, books: &Books, published: u32, sink: &mut K) ->
 {
     let unpublished = run_count(books) - published;
     let text = end_text(alloc, published, unpublished)?;
-    write_text(sink, &text)
+    write_or_stop(sink, &text)
 }
 
 /// Writes a whole day, and answers how many of its runs are published.

@@ -39,7 +39,7 @@ returns-clause-closes g c = λ budget blocks range progress every.
     let books = c.args.books.now in
     let p = day-of-blocks books c.requires.accepted c.requires.dated budget range blocks c.args.progress.now progress every in
     let both = both_kinds blocks in
-    closes-by books budget blocks _ _ _ c.write_text.result c.write_text.ensures.whole c.write_text.ensures.part c.write_text.ensures.error p
+    closes-by books budget blocks _ _ _ c.write_or_stop.result c.write_or_stop.ensures.whole c.write_or_stop.ensures.part c.write_or_stop.ensures.error p
     (is-day books c.requires.accepted c.requires.dated budget range blocks c.args.progress.now progress every)
     (c.deref-3.ensures.value ∙ c.in_ok-text.ensures ∙ closing-text p _ _ _ _ (c.deref.ensures.value ∙ rw c.as_slice.ensures at c.in_ok-operators.ensures) (c.deref-2.ensures.value ∙ rw c.as_slice-2.ensures at c.in_ok-providers.ensures) progress.kept.published
     (omega (arith, c.run_count.ensures, every, progress.kept.published, both)))

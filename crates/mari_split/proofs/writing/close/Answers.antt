@@ -14,5 +14,5 @@ overflow_sub-unpublished g c =
 pub returns-clause-closes : goal.returns-clause-closes
 returns-clause-closes g c = λ budget blocks kept progress same every.
     let others : c.run_count.result - c.args.published ≡ unpublished_in (blocks_of blocks) = omega (arith, c.run_count.ensures, every, same, progress.kept.published, both_kinds (blocks_of blocks), length-map blocks block_of) in
-    writes_by _ _ _ _ c.write_text.result c.write_text.ensures.whole c.write_text.ensures.part c.write_text.ensures.error
+    writes_by _ _ _ _ c.write_or_stop.result c.write_or_stop.ensures.whole c.write_or_stop.ensures.part c.write_or_stop.ensures.error
     (c.deref.ensures.value ∙ c.in_ok-text.ensures ∙ end_by blocks c.args.published (c.run_count.result - c.args.published) (sym same ∙ progress.kept.published) others)

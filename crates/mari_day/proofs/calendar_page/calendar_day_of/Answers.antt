@@ -1,6 +1,6 @@
 use Rattle.std.proofs.Common.{sym}
 use Rattle.mari_day.proofs.Digits.{quarters-date}
-use Rattle.mari_day.proofs.calendar_page.day_of.Goals as goal
+use Rattle.mari_day.proofs.calendar_page.calendar_day_of.Goals as goal
 
 pub kept-requires : goal.kept-requires
 kept-requires c = quarters-date c.field-date.result.now c.field.result.now c.in-Ok.quarters (sym c.in-Ok.ensures.quarters)

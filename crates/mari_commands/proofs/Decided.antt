@@ -22,7 +22,7 @@ use Rattle.mari_quarters.specs.Quarters.{HasBlocks, HasQuartersGap, HasQuartersR
 use Rattle.mari_quarters.proofs.Facts.{made_accepted, made_held, one_gap, one_joint, one_refusal, refused_held}
 use Rattle.mari_words.specs.Asked.{Asked}
 use Rattle.mari_words.specs.Asked.Asked.{Blocks}
-use Rattle.mari_commands.specs.declared.outcome.Quarters.{Quarters}
+use Rattle.mari_commands.specs.declared.outcome.JointJob.{JointJob}
 use Rattle.mari_commands.specs.declared.outcome.Outcome.{Outcome}
 use Rattle.mari_commands.specs.declared.outcome.Outcome.TheVariants.{Blocks as Joins}
 use Rattle.mari_commands.specs.declared.status.Status.{Status}
@@ -39,7 +39,7 @@ use Rattle.mari_commands.proofs.Folder.{no_other, reads_no_folder}
 
 -- quarters come of the words
 record IsJoined (folder : List ℕ) (first last nodes workers : ℕ) (o : Outcome) : Type 0 where
-  quarters : Quarters
+  quarters : JointJob
   is : o ≡ Joins quarters
   words : blocks_of quarters ≡ Blocks folder first last nodes workers
 

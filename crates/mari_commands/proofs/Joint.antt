@@ -13,7 +13,7 @@ use Rattle.mari_blocks.specs.declared.clearing.JointText.{JointText}
 use Rattle.mari_quarters.specs.Quarters.{HasQuartersText, NamesQuartersFile, QuartersTell}
 use Rattle.mari_words.specs.Asked.{Asked}
 use Rattle.mari_words.specs.Asked.Asked.{Blocks, Clear, Check, Generate, Migrate, Feed, Split, Value}
-use Rattle.mari_commands.specs.declared.outcome.Quarters.{Quarters}
+use Rattle.mari_commands.specs.declared.outcome.JointJob.{JointJob}
 use Rattle.mari_commands.specs.declared.outcome.Outcome.{Outcome}
 use Rattle.mari_commands.specs.declared.outcome.Outcome.TheVariants.{NoCommand, Day, Feed as Feeds, Blocks as Joins, Values, Text, Invalid, NoPage, Refused, Memory as NoMemory}
 use Rattle.mari_commands.specs.declared.status.Status.{Status}
@@ -74,7 +74,7 @@ quarters-too-long (Err why.Memory) before after result r e = let f = sym r.0 ∙
 
 -- ---- what each answer says
 
-module _ (q : Quarters) (pages : Option Pages) (failed : Type 0) (before after : Option (List ℕ)) where
+module _ (q : JointJob) (pages : Option Pages) (failed : Type 0) (before after : Option (List ℕ)) where
   abbrev Ends : Status → Type 0
   Ends = BlocksAnswers (string_bytes q.folder) q.first q.last q.nodes pages failed before after
 
@@ -108,7 +108,7 @@ module _ (q : Quarters) (pages : Option Pages) (failed : Type 0) (before after :
 
 -- the words ask for quarters, and this is what is reported of them
 module _ (pages : Option Pages) (failed : Type 0) (before after : Option (List ℕ)) (result : Status) (late : Type 0) (later : late → failed) where
-  of-quarters : (x : Asked) (q : Quarters) → Some x ≡ Some (blocks_of q) → ReportsBlocks pages late q before after result → AnswersOf (Some x) pages failed before after result
+  of-quarters : (x : Asked) (q : JointJob) → Some x ≡ Some (blocks_of q) → ReportsBlocks pages late q before after result → AnswersOf (Some x) pages failed before after result
   of-quarters x q e r =
       let ends : AnswersOf (Some (blocks_of q)) pages failed before after result = by-given q pages failed before after r.given result r.tells r.file r.sayable (λ h. later (r.cause h)) r.reports in
       subst (λ (o : Option Asked). AnswersOf o pages failed before after result) (sym e) ends

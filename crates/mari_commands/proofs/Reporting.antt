@@ -1,10 +1,12 @@
--- Reports of one text under another name, of a text with a line behind it, of a refusal, and of a feed of which nothing is
--- printed.
+-- Reports of one text under another name, of a text with a line after it, of a page that can't be had, of a refusal, and of
+-- a feed of which nothing is printed.
 use Rattle.std.proofs.Common.{◌≡◌, ◌∙◌, ◌+◌, ℕ, List, ◌++◌, length, take, Option, Some, None, inl, inr, ap, arith, refl, subst, sym}
 use Rattle.std.specs.Prelude.{Err}
 use Rattle.std.proofs.Math.Seq.{take-append-add, take-append_seam}
 use Rattle.std.proofs.lemmas.Bool.{cases_lt}
 use Rattle.std.proofs.lemmas.List.{take-append-le, take_all}
+use Rattle.mari_io.specs.declared.shelf.Fetch.{Fetch}
+use Rattle.mari_io.specs.declared.shelf.Fetch.TheVariants as fetch
 use Rattle.mari_io.specs.Taken.{TookPart, then_took}
 use Rattle.mari_io.proofs.Taken.{took_both}
 use Rattle.mari_units.specs.declared.faults.Refusal.{Refusal}
@@ -14,11 +16,30 @@ use Rattle.mari_feed.specs.Streams.{FeedTells}
 use Rattle.mari_feed.specs.declared.stream.FeedStop.TheVariants as stop
 use Rattle.mari_feed.proofs.Piecemeal.{took_none}
 use Rattle.mari_commands.specs.declared.status.Status.{Status}
+use Rattle.mari_commands.specs.declared.status.Status.TheVariants as status
 use Rattle.mari_commands.specs.Commands.{text_refusal}
-use Rattle.mari_commands.specs.Outcome.{Reports, ReportsRefusal, ReportsText, refusal_of}
+use Rattle.mari_commands.specs.Outcome.{IsPageLine, Reports, ReportsNoPage, ReportsRefusal, ReportsText, refusal_of}
+use Rattle.mari_commands.specs.Outcome.Reports.{Starved}
 
 pub same_text : (text other : List ℕ) (wanted : Status) (before after : Option (List ℕ)) (result : Status) → text ≡ other → Reports text wanted before after result → Reports other wanted before after result
 same_text text other wanted before after result e r = let P : List ℕ → Type 0 = λ t. Reports t wanted before after result in subst P e r
+
+pub same_report : (text other : List ℕ) (wanted asked : Status) (before after : Option (List ℕ)) (result : Status) → text ≡ other → wanted ≡ asked → Reports text wanted before after result → Reports other asked before after result
+same_report text other wanted asked before after result e f r = let P : Status → Type 0 = λ s. Reports other s before after result in subst P f (same_text text other wanted before after result e r)
+
+-- the line of a file whose page can't be had, and the status that it has
+pub page_reported : (file : ℕ) (why : Fetch) (line : List ℕ) (wanted : Status) (before after : Option (List ℕ)) (result : Status) → IsPageLine file why line wanted → Reports line wanted before after result → ReportsNoPage file why before after result
+page_reported file fetch.Failed line wanted before after result is r = same_report line _ wanted _ before after result is.0 is.1 r
+page_reported file fetch.Missing line wanted before after result is r = same_report line _ wanted _ before after result is.0 is.1 r
+page_reported file fetch.TooLong line wanted before after result is r = same_report line _ wanted _ before after result is.0 is.1 r
+page_reported file fetch.Memory line wanted before after result is r = absurd is
+
+-- and out of memory nothing is printed of it
+pub page_starved : (file : ℕ) (why : Fetch) (before : Option (List ℕ)) → ReportsNoPage file why before before status.Memory
+page_starved file fetch.Failed before = Starved refl refl
+page_starved file fetch.Missing before = Starved refl refl
+page_starved file fetch.TooLong before = Starved refl refl
+page_starved file fetch.Memory before = (refl, refl)
 
 -- the refusal of a fault of a publication's text
 pub same_refusal : (fault : TextFault) (refusal : Refusal) (before after : Option (List ℕ)) (result : Status) → Some refusal ≡ refusal_of fault → ReportsRefusal refusal before after result → ReportsText fault before after result

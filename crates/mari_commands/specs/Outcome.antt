@@ -37,7 +37,7 @@ use Rattle.mari_capacity.specs.Ends.{IsEndOf}
 use Rattle.mari_capacity.specs.Streams.{EndsAs, IsPageEnd, IsWrapped, ValueTells}
 use Rattle.mari_market.specs.Clearing.{IsBudget, IsWorkerCount}
 use Rattle.mari_commands.specs.declared.outcome.Job.{Job}
-use Rattle.mari_commands.specs.declared.outcome.Quarters.{Quarters}
+use Rattle.mari_commands.specs.declared.outcome.JointJob.{JointJob}
 use Rattle.mari_commands.specs.declared.outcome.Outcome.{Outcome}
 use Rattle.mari_commands.specs.declared.outcome.Outcome.TheVariants.{NoCommand, Day, Feed as Feeds, Blocks as Joins, Values, Text, Invalid, NoPage, Refused, Memory as NoMemory}
 use Rattle.mari_commands.specs.declared.status.Status.{Status}
@@ -73,7 +73,7 @@ abbrev pub MayWant : Option Asked → (file : ℕ) → Type 0
 MayWant asked file = (AsksForFiles asked × IsFileNumber file) ⊎ ((AsksToCheck asked ⊎ AsksForLines asked) × (file ≡ PUBLICATION))
 
 -- the command that clears these quarters as one market
-abbrev pub blocks_of : Quarters → Asked
+abbrev pub blocks_of : JointJob → Asked
 blocks_of quarters = Blocks (string_bytes quarters.folder) quarters.first quarters.last quarters.nodes quarters.workers
 
 -- the words ask for what may come to this outcome, whatever the pages are
@@ -109,7 +109,7 @@ pub record IsReady (job : Job) : Type 0 where
   pub workers : IsWorkerCount job.workers
 
 -- quarters that can be cleared as one market, if their folder's pages let them: all numbers are within their limits
-pub record AreJoinable (quarters : Quarters) : Type 0 where
+pub record AreJoinable (quarters : JointJob) : Type 0 where
   pub in_order : quarters.first ≤ quarters.last
   pub last : quarters.last ≤ MOST_QUARTERS
   pub nodes : IsBudget quarters.nodes
@@ -152,6 +152,13 @@ ReportsNoPage file fetch.Failed before after result = Reports (file_line (codes 
 ReportsNoPage file fetch.Missing before after result = Reports (file_line (codes "missing") file) status.Missing before after result
 ReportsNoPage file fetch.TooLong before after result = Reports (file_line (codes "toolong") file) status.TooLong before after result
 ReportsNoPage file fetch.Memory before after result = (result ≡ status.Memory) × (after ≡ before)
+
+-- the line of a file whose page can't be had, and its status; there is none where the page was given up out of memory
+abbrev pub IsPageLine : (file : ℕ) → Fetch → (line : List ℕ) → Status → Type 0
+IsPageLine file fetch.Failed line s = (line ≡ file_line (codes "readfault") file) × (s ≡ status.ReadFault)
+IsPageLine file fetch.Missing line s = (line ≡ file_line (codes "missing") file) × (s ≡ status.Missing)
+IsPageLine file fetch.TooLong line s = (line ≡ file_line (codes "toolong") file) × (s ≡ status.TooLong)
+IsPageLine file fetch.Memory line s = ⊥
 
 -- how a publication is reported whose text has a fault
 abbrev pub ReportsText : TextFault → (before after : Option (List ℕ)) → Status → Type 0
@@ -197,7 +204,7 @@ ReportsQuarters (Err why.Memory) before after result = (result ≡ status.Memory
 
 -- how quarters are reported that are cleared as one market, by what that gives; that a call of the shelf failed is said
 -- only where one did
-pub record ReportsBlocks (pages : Option Pages) (failed : Type 0) (quarters : Quarters) (before after : Option (List ℕ)) (result : Status) : Type 0 where
+pub record ReportsBlocks (pages : Option Pages) (failed : Type 0) (quarters : JointJob) (before after : Option (List ℕ)) (result : Status) : Type 0 where
   pub given : Result JointText BooksFault
   pub tells : (told : Pages) → pages ≡ Some told → QuartersTell told (string_bytes quarters.folder) quarters.first quarters.last quarters.nodes given
   pub file : NamesQuartersFile given
@@ -303,7 +310,7 @@ pub data Says (asked : Option Asked) (pages : Pages) (o : Outcome) : Type 0 wher
   OfGenerate : (number : ℕ) → asked ≡ Some (Generate number) → IsSummarised number o → Says asked pages o
   OfValues : (folder : List ℕ) (more : ℕ) (books : Books) → asked ≡ Some (Value folder more) → HasBooks pages folder books → IsToldValues books more (page_of pages (publication_path folder)) o → Says asked pages o
   OfFeed : (folder : String Global) → asked ≡ Some (Feed (string_bytes folder)) → o ≡ Feeds folder → Says asked pages o
-  OfBlocks : (quarters : Quarters) → asked ≡ Some (blocks_of quarters) → o ≡ Joins quarters → Says asked pages o
+  OfBlocks : (quarters : JointJob) → asked ≡ Some (blocks_of quarters) → o ≡ Joins quarters → Says asked pages o
   Fails : (folder : List ℕ) (file : ℕ) → ReadsFolder asked folder → o ≡ NoPage file fetch.Failed → Says asked pages o
   Starves : o ≡ NoMemory → Says asked pages o
 

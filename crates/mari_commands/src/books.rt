@@ -28,7 +28,7 @@ fn no_books(fault: BooksFault) -> Outcome
 
 /// The books of a folder, whose market files are fetched in their order and then read in that order.
 pub fn books_in<S: Shelf>(alloc: Global, shelf: &mut S, folder: &str) -> Result<Books, Outcome>
-    // What is found of the folder's pages, where the shelf tells them.
+    // What is found of the folder's pages, where the shelf reports them.
     ensures same { S.pages shelf.new ≡ S.pages shelf.old }
     ensures told { (asked : Option Asked) (told : Pages) → ReadsFolder asked folder.now → S.pages shelf.old ≡ Some told → Found asked told folder.now result }
 

@@ -76,7 +76,7 @@ fn checked_books<S: Shelf>(alloc: Global, shelf: &mut S, books: &Books, folder: 
     // The market files are accepted.
     requires { IsAccepted books.now }
 
-    // What is found of the publication's page, where the shelf tells it.
+    // What is found of the publication's page, where the shelf reports it.
     ensures same { S.pages shelf.new ≡ S.pages shelf.old }
     ensures told { (told : Pages) → S.pages shelf.old ≡ Some told → CheckTells books.now (page_of told (path_of folder.now)) result }
 
@@ -102,7 +102,7 @@ fn checked_books<S: Shelf>(alloc: Global, shelf: &mut S, books: &Books, folder: 
 
 /// What comes of a folder whose publication is checked against its market files. It waits for nobody.
 pub fn checked<S: Shelf>(alloc: Global, shelf: &mut S, folder: &str) -> Outcome
-    // What is found of the folder's pages, where the shelf tells them.
+    // What is found of the folder's pages, where the shelf reports them.
     ensures same { S.pages shelf.new ≡ S.pages shelf.old }
     ensures told { (told : Pages) → S.pages shelf.old ≡ Some told → Says (Some (Check folder.now)) told result }
 

@@ -94,7 +94,7 @@ pub fn to_clear<S: Shelf>(
     requires nodes { IsBudget nodes }
     requires workers { IsWorkerCount workers }
 
-    // What is found of the folder's pages, where the shelf tells them.
+    // What is found of the folder's pages, where the shelf reports them.
     ensures same { S.pages shelf.new ≡ S.pages shelf.old }
     ensures told { (told : Pages) → S.pages shelf.old ≡ Some told → Says (Some (command_by way folder.now nodes workers)) told result }
 

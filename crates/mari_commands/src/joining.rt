@@ -6,7 +6,7 @@ ghost use Rattle.mari_market.specs.Market.{IsValid};
 ghost use Rattle.mari_io.specs.Outside.{Counts, Rose};
 ghost use Rattle.mari_commands.specs.Outcome.{AreJoinable, IsSayable, ReportsBlocks, ReportsQuarters};
 
-use crate::outcome::Quarters;
+use crate::outcome::JointJob;
 use crate::saying::{say, say_no_page, say_refused};
 use crate::status::Status;
 use mari_blocks::JointText;
@@ -20,7 +20,7 @@ use std::sync::Wait;
 use std::thread::Threads;
 
 /// The status of a joint market that is printed, by whether it is published.
-fn status_of(published: bool) -> Status
+fn joint_status(published: bool) -> Status
     ensures { result ≡ (if published then Status.Done else Status.Unpublished) }
 {
     if published {
@@ -41,7 +41,11 @@ fn say_quarters<K: Sink>(
     ensures cause { Counts (result ≡ Status.WriteFault) (K.faults sink.old) (K.faults sink.new) }
 {
     match given {
-        Ok(printed) => say(sink, printed.text.as_slice(), status_of(printed.published)),
+        Ok(printed) => say(
+            sink,
+            printed.text.as_slice(),
+            joint_status(printed.published),
+        ),
         Err(BooksFault::Fetch(file, why)) => say_no_page(alloc, sink, *file, *why),
         Err(BooksFault::Refused(refusal)) => say_refused(alloc, sink, *refusal),
         Err(BooksFault::Memory) => Status::Memory,
@@ -51,7 +55,7 @@ fn say_quarters<K: Sink>(
 /// Clears the quarters by this clearer, and writes what is printed of them. It returns if the clearer does.
 fn join_by<S: Shelf, K: Sink, C: Clearer>(
     alloc: Global,
-    quarters: &Quarters,
+    quarters: &JointJob,
     clearer: &mut C,
     shelf: &mut S,
     sink: &mut K,
@@ -82,7 +86,7 @@ fn join_by<S: Shelf, K: Sink, C: Clearer>(
 /// Clears quarters by one worker, which is this thread. It waits for nobody.
 pub fn join_alone<S: Shelf, K: Sink>(
     alloc: Global,
-    quarters: &Quarters,
+    quarters: &JointJob,
     shelf: &mut S,
     sink: &mut K,
 ) -> Status
@@ -103,7 +107,7 @@ pub fn join_alone<S: Shelf, K: Sink>(
 pub fn join_together<S: Shelf, K: Sink, G: Turnstile, R: Threads + Wait + Sync>(
     rt: &R,
     alloc: Global,
-    quarters: &Quarters,
+    quarters: &JointJob,
     shelf: &mut S,
     sink: &mut K,
     turnstile: &G,

@@ -58,7 +58,7 @@ fn migrated_books(alloc: Global, books: &Books, part: FilePart) -> Outcome
 
 /// What comes of a folder, a file of which is asked for in its new form.
 pub fn migrated<S: Shelf>(alloc: Global, shelf: &mut S, folder: &str, part: FilePart) -> Outcome
-    // What is found of the folder's pages, where the shelf tells them.
+    // What is found of the folder's pages, where the shelf reports them.
     ensures same { S.pages shelf.new ≡ S.pages shelf.old }
     ensures told { (told : Pages) → S.pages shelf.old ≡ Some told → Says (Some (Migrate folder.now part)) told result }
 

@@ -29,7 +29,7 @@ pub struct Job {
 
 /// Quarter hours of a folder to clear as one market.
 #[derive(Drop)]
-pub struct Quarters {
+pub struct JointJob {
     /// The folder.
     pub folder: String,
     /// The first quarter hour, from 1.
@@ -52,7 +52,7 @@ pub enum Outcome {
     /// The publication of this folder is to be printed as a feed.
     Feed(String),
     /// These quarter hours are to be cleared as one market.
-    Blocks(Quarters),
+    Blocks(JointJob),
     /// What the limits of a publication's borders are worth is to be printed, as far as they could be valued.
     Values(Valued),
     /// A text is to be printed.

@@ -22,7 +22,7 @@ use crate::clearing::{clear_together, to_clear};
 use crate::generating::generated;
 use crate::joining::join_together;
 use crate::migrating::migrated;
-use crate::outcome::{Outcome, Quarters, Way};
+use crate::outcome::{JointJob, Outcome, Way};
 use crate::saying::report;
 use crate::status::Status;
 use crate::valuing::valued;
@@ -41,7 +41,7 @@ fn outcome_of<S: Shelf, G: Turnstile, R: Threads + Wait + Sync>(
     shelf: &mut S,
     turnstile: &G,
 ) -> Outcome
-    // What is found of the pages, where the shelf tells them.
+    // What is found of the pages, where the shelf reports them.
     ensures same { S.pages shelf.new ≡ S.pages shelf.old }
     ensures told { (told : Pages) → S.pages shelf.old ≡ Some told → Says (command_at (map string_bytes words.now)) told result }
 
@@ -86,7 +86,7 @@ fn outcome_of<S: Shelf, G: Turnstile, R: Threads + Wait + Sync>(
                 nodes,
                 workers,
             },
-        ) => Outcome::Blocks(Quarters {
+        ) => Outcome::Blocks(JointJob {
             folder,
             first,
             last,
@@ -146,8 +146,8 @@ fn finish<S: Shelf, K: Sink, G: Turnstile, R: Threads + Wait + Sync>(
 ///   to `MOST_QUARTERS`, as one market, with the blocks of bids of the folder's blocks.csv, and prints it.
 ///
 /// The market files of a folder are fetched in their order and then read in that order; blocks.csv after them. Two or
-/// more workers take their findings from the turnstile, and the call may then wait for them. On `check`, on `migrate`, on
-/// `feed`, on `value`, and on `clear`, `split` and `blocks` with one worker it uses only calls that return.
+/// more workers take their findings from the turnstile, and the call may then wait for them. On `check`, on `migrate`,
+/// on `feed`, on `value`, and on `clear`, `split` and `blocks` with one worker it uses only calls that return.
 pub fn run_program<S: Shelf, K: Sink, G: Turnstile, R: Threads + Wait + Sync>(
     rt: &R,
     alloc: Global,
@@ -169,8 +169,9 @@ pub fn run_program<S: Shelf, K: Sink, G: Turnstile, R: Threads + Wait + Sync>(
     ensures too_long { Counts (result ≡ Status.TooLong) (S.overs shelf.old) (S.overs shelf.new) }
     ensures write_fault { Counts (result ≡ Status.WriteFault) (K.faults sink.old) (K.faults sink.new) }
 
-    // Words that are no command are answered so, the first refusal of the market files, the fault that is told of the
-    // text of a publication that is checked or printed as a feed, and the first page that isn't held or is too long.
+    // Words that are no command are answered so, the first refusal of the market files, the fault that is reported of
+    // the text of a publication that is checked or printed as a feed, and the first page that isn't held or is too
+    // long.
     ensures no_command { command_at (map string_bytes words.now) ≡ None → (result ≡ Status.Usage) ⊎ ((result ≡ Status.WriteFault) ⊎ (result ≡ Status.Memory)) }
     ensures refuses { (told : Pages) (refusal : Refusal) → S.pages shelf.old ≡ Some told → RefusesFiles (command_at (map string_bytes words.now)) told refusal
         → OrFault (IsStatus (Status.Refused refusal)) result }
@@ -181,10 +182,10 @@ pub fn run_program<S: Shelf, K: Sink, G: Turnstile, R: Threads + Wait + Sync>(
     ensures gaps { (told : Pages) (file : ℕ) (gap : Gap) → S.pages shelf.old ≡ Some told → LacksPage (command_at (map string_bytes words.now)) told file gap
         → OrFault (IsStatus (gap_status gap)) result }
 
-    // Folders whose pages are accepted are cleared, and wholly where the budget holds each run's search tree, or that of
-    // each island where they are cleared island by island; a publication that is read is checked, or printed as a feed;
-    // the values of limits end as the publication does, with their last line exactly where it is valid; files that state
-    // their limits for the day are migrated; and days are generated.
+    // Folders whose pages are accepted are cleared, and wholly where the budget holds each run's search tree, or that
+    // of each island where they are cleared island by island; a publication that is read is checked, or printed as a
+    // feed; the values of limits end as the publication does, with their last line exactly where it is valid; files
+    // that state their limits for the day are migrated; and days are generated.
     ensures cleared { (told : Pages) → S.pages shelf.old ≡ Some told → IsClearable (command_at (map string_bytes words.now)) told → OrFault IsDayStatus result }
     ensures complete { (told : Pages) → S.pages shelf.old ≡ Some told → HasBudget (command_at (map string_bytes words.now)) told → OrFault (IsStatus Status.Done) result }
     ensures split { (told : Pages) → S.pages shelf.old ≡ Some told → IsSplittable (command_at (map string_bytes words.now)) told → OrFault IsDayStatus result }
@@ -195,8 +196,8 @@ pub fn run_program<S: Shelf, K: Sink, G: Turnstile, R: Threads + Wait + Sync>(
     ensures migrated { (told : Pages) → S.pages shelf.old ≡ Some told → IsMigratable (command_at (map string_bytes words.now)) told → OrFault (IsStatus Status.Done) result }
     ensures generated { (number : ℕ) → command_at (map string_bytes words.now) ≡ Some (Generate number) → (result ≡ Status.Done) ⊎ ((result ≡ Status.WriteFault) ⊎ (result ≡ Status.Memory)) }
 
-    // Quarters that are cleared as one market are refused by their first refusal, lack their first page that can't be had,
-    // and are cleared where there is one; wholly where the budget holds its search tree.
+    // Quarters that are cleared as one market are refused by their first refusal, lack their first page that can't be
+    // had, and are cleared where there is one; wholly where the budget holds its search tree.
     ensures blocks { (told : Pages) (wanted : Status) → S.pages shelf.old ≡ Some told → Decides (command_at (map string_bytes words.now)) told wanted → OrFault (IsStatus wanted) result }
     ensures joined { (told : Pages) → S.pages shelf.old ≡ Some told → IsJoinable (command_at (map string_bytes words.now)) told → OrFault IsDayStatus result }
 {

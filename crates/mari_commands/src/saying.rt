@@ -4,7 +4,7 @@ ghost use Rattle.std.specs.Prelude.{◌≡◌, ◌≢◌, ◌++◌};
 ghost use Rattle.mari_io.specs.Outside.{Counts, Rose};
 ghost use Rattle.mari_day.specs.Files.{IsNamed};
 ghost use Rattle.mari_commands.specs.Outcome.{IsOwn, IsReportable, Reported, Reports, ReportsNoPage};
-ghost use Rattle.mari_commands.specs.Printing.{file_line as file_text, invalid_line as invalid_text, refused_line as refused_text};
+ghost use Rattle.mari_commands.specs.Printing.{invalid_line as invalid_text, refused_line as refused_text};
 ghost use Rattle.mari_commands.specs.Refusals.{HasName};
 
 use crate::clearing::clear_alone;
@@ -13,9 +13,9 @@ use crate::joining::join_alone;
 use crate::outcome::Outcome;
 use crate::status::Status;
 use crate::valuing::say_values;
-use crate::writing::{file_line, pair_line, refused_line, usage_line};
+use crate::writing::{invalid_line, page_line, refused_line, usage_line};
 use mari_io::{Fetch, Shelf, Sink, write_all};
-use mari_units::Refusal;
+use mari_units::{Memory, Refusal};
 use std::alloc::Global;
 
 /// Writes a text, and answers its status, or that of a write fault.
@@ -45,30 +45,15 @@ pub fn say_after<K: Sink>(sink: &mut K, text: &[u8], line: &[u8], status: Status
     }
 }
 
-/// Writes a line that names a file.
-fn say_file<K: Sink>(alloc: Global, sink: &mut K, word: &[u8], file: u8, status: Status) -> Status
-    requires number { IsNamed file }
-    requires status { status ≢ Status.WriteFault }
-    ensures reports { Reports (file_text word.now file) status (K.taken sink.old) (K.taken sink.new) result }
-    ensures cause { Counts (result ≡ Status.WriteFault) (K.faults sink.old) (K.faults sink.new) }
-{
-    match file_line(alloc, word, file) {
-        Ok(line) => say(sink, &line, status),
-        Err(_) => Status::Memory,
-    }
-}
-
 /// Writes the line of a file whose page can't be had.
 pub fn say_no_page<K: Sink>(alloc: Global, sink: &mut K, file: u8, why: Fetch) -> Status
     requires { IsNamed file }
     ensures reports { ReportsNoPage file why (K.taken sink.old) (K.taken sink.new) result }
     ensures cause { Counts (result ≡ Status.WriteFault) (K.faults sink.old) (K.faults sink.new) }
 {
-    match why {
-        Fetch::Failed => say_file(alloc, sink, b"readfault", file, Status::ReadFault),
-        Fetch::Missing => say_file(alloc, sink, b"missing", file, Status::Missing),
-        Fetch::TooLong => say_file(alloc, sink, b"toolong", file, Status::TooLong),
-        Fetch::Memory => Status::Memory,
+    match page_line(alloc, file, why) {
+        Ok((line, status)) => say(sink, &line, status),
+        Err(Memory) => Status::Memory,
     }
 }
 
@@ -81,7 +66,7 @@ pub fn say_refused<K: Sink>(alloc: Global, sink: &mut K, refusal: Refusal) -> St
 {
     match refused_line(alloc, refusal) {
         Ok(line) => say(sink, &line, Status::Refused(refusal)),
-        Err(_) => Status::Memory,
+        Err(Memory) => Status::Memory,
     }
 }
 
@@ -90,15 +75,15 @@ fn say_invalid<K: Sink>(alloc: Global, sink: &mut K, run: u32, fault: u8) -> Sta
     ensures reports { Reports (invalid_text run fault) (Status.Invalid run fault) (K.taken sink.old) (K.taken sink.new) result }
     ensures cause { Counts (result ≡ Status.WriteFault) (K.faults sink.old) (K.faults sink.new) }
 {
-    match pair_line(alloc, b"invalid ", run, u32::from(fault)) {
-        Ok(line) => say(sink, &line, Status::Invalid { run, fault }),
-        Err(_) => Status::Memory,
+    match invalid_line(alloc, run, fault) {
+        Ok((line, status)) => say(sink, &line, status),
+        Err(Memory) => Status::Memory,
     }
 }
 
-/// Writes what is printed of an outcome, and answers its status. A day and quarters are cleared by this thread, so that the
-/// call waits for nobody. Of the shelf it asks only for the publication that is printed as a feed, and for the files of
-/// quarters that are cleared as one market.
+/// Writes what is printed of an outcome, and answers its status. A day and quarters are cleared by this thread, so that
+/// the call waits for nobody. Of the shelf it asks only for the publication that is printed as a feed, and for the
+/// files of quarters that are cleared as one market.
 pub fn report<S: Shelf, K: Sink>(
     alloc: Global,
     shelf: &mut S,

@@ -14,10 +14,10 @@ use crate::checking::text_refusal;
 use crate::outcome::Outcome;
 use crate::saying::say_after;
 use crate::status::Status;
-use crate::writing::{file_line, pair_line, refused_line};
+use crate::writing::{invalid_line, page_line, refused_line};
 use mari_capacity::{ValueEnd, Valued, value_stream};
 use mari_day::{PUBLICATION, file_name, path_in};
-use mari_io::{Fetch, Shelf, Sink};
+use mari_io::{Shelf, Sink};
 use mari_publish::TextFault;
 use mari_remain::Books;
 use mari_units::{MOST_RAISE, Memory};
@@ -36,7 +36,7 @@ fn valued_books<S: Shelf>(
     requires some { 1 ≤ more }
     requires more { more ≤ MOST_RAISE }
 
-    // What is found of the publication's page, where the shelf tells it.
+    // What is found of the publication's page, where the shelf reports it.
     ensures same { S.pages shelf.new ≡ S.pages shelf.old }
     ensures told { (told : Pages) → S.pages shelf.old ≡ Some told → IsToldValues books.now more (page_of told (path_of folder.now)) result }
 
@@ -63,7 +63,7 @@ pub fn valued<S: Shelf>(alloc: Global, shelf: &mut S, folder: &str, more: u32) -
     requires some { 1 ≤ more }
     requires more { more ≤ MOST_RAISE }
 
-    // What is found of the folder's pages, where the shelf tells them.
+    // What is found of the folder's pages, where the shelf reports them.
     ensures same { S.pages shelf.new ≡ S.pages shelf.old }
     ensures told { (told : Pages) → S.pages shelf.old ≡ Some told → Says (Some (Value folder.now more)) told result }
 
@@ -93,22 +93,6 @@ fn text_ending(alloc: Global, fault: TextFault) -> Result<(Vec<u8>, Status), Mem
     }
 }
 
-/// The line of a publication that couldn't be had whole, and its status.
-fn page_ending(alloc: Global, why: Fetch) -> Result<(Vec<u8>, Status), Memory>
-    ensures ending { IfOk result (λ p. IsEnding (ValueEnd.Fetch why) p.0.items p.1) }
-    ensures writes { IfOk result (λ p. p.1 ≢ Status.WriteFault) }
-{
-    match why {
-        Fetch::Failed => Ok((
-            file_line(alloc, b"readfault", PUBLICATION)?,
-            Status::ReadFault,
-        )),
-        Fetch::Missing => Ok((file_line(alloc, b"missing", PUBLICATION)?, Status::Missing)),
-        Fetch::TooLong => Ok((file_line(alloc, b"toolong", PUBLICATION)?, Status::TooLong)),
-        Fetch::Memory => Err(Memory),
-    }
-}
-
 /// The line after the values, by how they end, and its status.
 fn ending(alloc: Global, end: ValueEnd) -> Result<(Vec<u8>, Status), Memory>
     ensures ending { IfOk result (λ p. IsEnding end p.0.items p.1) }
@@ -116,17 +100,14 @@ fn ending(alloc: Global, end: ValueEnd) -> Result<(Vec<u8>, Status), Memory>
 {
     match end {
         ValueEnd::Valid { .. } => Ok((Vec::new(alloc), Status::Done)),
-        ValueEnd::Invalid { run, fault } => Ok((
-            pair_line(alloc, b"invalid ", run, u32::from(fault))?,
-            Status::Invalid { run, fault },
-        )),
+        ValueEnd::Invalid { run, fault } => invalid_line(alloc, run, fault),
         ValueEnd::Text(fault) => text_ending(alloc, fault),
-        ValueEnd::Fetch(why) => page_ending(alloc, why),
+        ValueEnd::Fetch(why) => page_line(alloc, PUBLICATION, why),
     }
 }
 
-/// Writes the values, and then the line of their status. The line is there before the first byte is written, so that out
-/// of memory nothing is.
+/// Writes the values, and then the line of their status. The line is there before the first byte is written, so that
+/// out of memory nothing is.
 pub fn say_values<K: Sink>(alloc: Global, sink: &mut K, valued: &Valued) -> Status
     ensures reports { Reports (valued.now.text ++ value_line valued.now.end) (value_status valued.now.end) (K.taken sink.old) (K.taken sink.new) result }
     ensures cause { Counts (result ≡ Status.WriteFault) (K.faults sink.old) (K.faults sink.new) }

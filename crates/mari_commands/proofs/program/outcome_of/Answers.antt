@@ -3,7 +3,7 @@ use Rattle.std.specs.Prelude.{String, string_bytes}
 use Rattle.mari_words.specs.Asked.{Asked, asked}
 use Rattle.mari_words.specs.declared.command.Command.{Command}
 use Rattle.mari_commands.specs.Outcome.Says.{OfBlocks, OfFeed, OfGenerate}
-use Rattle.mari_commands.specs.declared.outcome.Quarters.{Quarters}
+use Rattle.mari_commands.specs.declared.outcome.JointJob.{JointJob}
 use Rattle.mari_commands.proofs.Limits.{IsWithin, within}
 use Rattle.mari_commands.specs.Commands.{AsksForFiles, folder_of}
 use Rattle.mari_commands.proofs.Folder.{reads}
@@ -96,7 +96,7 @@ pub returns-in-Ok-Value-clause-untouched : goal.returns-in-Ok-Value-clause-untou
 returns-in-Ok-Value-clause-untouched g c = λ none. absurd (none (reads-files _ _ _ _ c.in-Ok-Value.ensures c.in-Ok-Value.field-0-is refl))
 
 -- the quarters of the words
-abbrev quarters_of : (folder : String Global) (first last nodes workers : ℕ) → Quarters
+abbrev quarters_of : (folder : String Global) (first last nodes workers : ℕ) → JointJob
 quarters_of folder first last nodes workers = record { folder = folder; first = first; last = last; nodes = nodes; workers = workers }
 
 pub returns-in-Ok-Blocks-clause-told : goal.returns-in-Ok-Blocks-clause-told

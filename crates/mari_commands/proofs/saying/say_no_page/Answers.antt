@@ -1,10 +1,9 @@
+use Rattle.std.proofs.Common.{◌∙◌}
+use Rattle.mari_commands.proofs.Reporting.{page_reported, page_starved, same_text}
 use Rattle.mari_commands.proofs.saying.say_no_page.Goals as goal
 
-pub returns-in-Failed-clause-reports : goal.returns-in-Failed-clause-reports
-returns-in-Failed-clause-reports g c = rw c.in-Failed.is c.say_file.ensures.reports
+pub returns-in-Ok-clause-reports : goal.returns-in-Ok-clause-reports
+returns-in-Ok-clause-reports g c = page_reported c.args.file c.args.why _ _ _ _ _ c.in-Ok.ensures.line (same_text _ _ _ _ _ _ c.deref.ensures.value c.say.ensures.reports)
 
-pub returns-in-Missing-clause-reports : goal.returns-in-Missing-clause-reports
-returns-in-Missing-clause-reports g c = rw c.in-Missing.is c.say_file-in-Missing.ensures.reports
-
-pub returns-in-TooLong-clause-reports : goal.returns-in-TooLong-clause-reports
-returns-in-TooLong-clause-reports g c = rw c.in-TooLong.is c.say_file-in-TooLong.ensures.reports
+pub returns-in-Err-clause-reports : goal.returns-in-Err-clause-reports
+returns-in-Err-clause-reports g c = page_starved c.args.file c.args.why _

@@ -7,7 +7,7 @@ use std::env;
 use std::io::ErrorKind;
 use std::rt::Env;
 
-/// The words behind the first, which is the program's name.
+/// The words after the first, which is the program's name.
 fn behind_name(mut words: Vec<String>) -> Vec<String>
     ensures { result.items ≡ drop 1 words.items }
 {
@@ -17,8 +17,8 @@ fn behind_name(mut words: Vec<String>) -> Vec<String>
     words
 }
 
-/// The words behind the program's name. One that isn't text makes them no words at all, which are no command; want of
-/// memory has its own status.
+/// The words after the program's name. One that isn't text makes them no words at all, which are no command; running
+/// out of memory has its own status.
 pub fn words_of(rt: &(impl Env + AllocGlobal)) -> Result<Vec<String>, Status> {
     match env::args(rt) {
         Ok(words) => match words.collect(rt.alloc()) {

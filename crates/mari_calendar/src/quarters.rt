@@ -28,7 +28,7 @@ pub enum CalendarFault {
     #[error("outside the calendar's range")]
     OutOfRange,
     /// The day isn't of 1 to `MOST_QUARTERS` whole quarter hours.
-    #[error("not 1 to 400 whole quarter hours")]
+    #[error("not 1 to {most} whole quarter hours", most = MOST_QUARTERS)]
     NotWholeQuarters,
     /// Out of memory, which never comes.
     #[error("out of memory")]

@@ -143,7 +143,7 @@ impl DayCheck {
         if run > run_count(books) {
             return false;
         }
-        is_same(told, heading(books, run))
+        is_same_heading(told, heading(books, run))
     }
 
     /// The least fault of an unpublished block.
@@ -218,7 +218,7 @@ impl DayCheck {
 }
 
 /// Whether two headings are the same.
-fn is_same(told: Heading, other: Heading) -> bool
+fn is_same_heading(told: Heading, other: Heading) -> bool
     ensures { IsTrue result ↔ (told ≡ other) }
 {
     told == other

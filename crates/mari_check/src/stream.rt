@@ -173,7 +173,7 @@ fn read_pieces<S: Shelf>(
     requires given { S.given shelf.old ≡ 0 }
     requires read { HasRead books.now [] [] stream.old }
 
-    // What was read, and where it is told what was left, how far.
+    // What was read, and where what was left is reported, how far.
     ensures same { S.pages shelf.new ≡ S.pages shelf.old }
     ensures read { OnOk result ((text : List ℕ) × IsAllRead books.now text stream.new) }
     ensures told { (page : List ℕ) → S.rest shelf.old ≡ Some page → PiecesTell books.now page stream.new result }
@@ -213,7 +213,7 @@ pub fn check_stream<S: Shelf>(
     requires accepted { IsAccepted books.now }
     ensures same { S.pages shelf.new ≡ S.pages shelf.old }
 
-    // What it says of the page, where pages are told; and that nothing else is said of that page, whole.
+    // What it says of the page, where pages are reported; and that nothing else is said of that page, whole.
     ensures told { (told : Pages) → S.pages shelf.old ≡ Some told → StreamTells books.now (page_of told name.now) result }
     ensures whole { (told : Pages) (page : List ℕ) (answer : Res ThePublication TheTextFault) → S.pages shelf.old ≡ Some told → page_of told name.now ≡ Some page → IsOutcome page answer → SameAsRead books.now answer result }
 

@@ -29,7 +29,7 @@ pub enum FeedStop {
     Memory,
 }
 
-/// What a fault of the shelf is told as.
+/// What a fault of the shelf is reported as.
 fn stop_of_shelf(fault: Fetch) -> FeedStop
     ensures { result ≡ stop_of_fetch fault }
 {
@@ -39,7 +39,7 @@ fn stop_of_shelf(fault: Fetch) -> FeedStop
     }
 }
 
-/// What a fault of the text is told as.
+/// What a fault of the text is reported as.
 fn stop_of_reader(fault: TextFault) -> FeedStop
     ensures { result ≡ stop_of_text fault }
 {
@@ -136,11 +136,11 @@ fn print_pieces<S: Shelf, K: Sink>(
     }
 }
 
-/// Prints the publication whose text is the page of that name: a line of compact JSON for each part. The page is read in
-/// pieces, and a line is written as soon as its part is there. A fault of the text is told after the lines of all parts
-/// that are whole before it. After a fault of the shelf, or without memory, the lines of the first parts are printed, or
-/// of none; after a failed write a first part of such lines. Over a shelf that doesn't tell its pages nothing is said of
-/// what was printed.
+/// Prints the publication whose text is the page of that name: a line of compact JSON for each part. The page is read
+/// in pieces, and a line is written as soon as its part is there. A fault of the text is reported after the lines of
+/// all parts that are whole before it. After a fault of the shelf, or without memory, the lines of the first parts are
+/// printed, or of none; after a failed write a first part of such lines. Over a shelf that doesn't report its pages
+/// nothing is said of what was printed.
 pub fn print_feed<S: Shelf, K: Sink>(
     alloc: Global,
     shelf: &mut S,
@@ -149,10 +149,10 @@ pub fn print_feed<S: Shelf, K: Sink>(
 ) -> Result<(), FeedStop>
     ensures same { S.pages shelf.new ≡ S.pages shelf.old }
 
-    // What is said of the page and of what was printed, where pages are told.
+    // What is said of the page and of what was printed, where pages are reported.
     ensures told { (told : Pages) → S.pages shelf.old ≡ Some told → FeedTells (page_of told name.now) (K.taken sink.old) (K.taken sink.new) result }
 
-    // Nothing else is said of that page than whoever reads it whole is told.
+    // Nothing else is said of that page than of the page read whole.
     ensures whole { (told : Pages) (page : List ℕ) (answer : Res ThePublication TheTextFault) → S.pages shelf.old ≡ Some told → page_of told name.now ≡ Some page → IsOutcome page answer → SameAsRead answer result }
 
     // Why it stopped. That there is no memory is said as such.

@@ -20,7 +20,7 @@ use std::{fs, io};
 /// How many bytes of a file are read at once.
 const BUFFER: usize = 8192;
 
-/// Files by their paths. It tells no pages: what a file holds is trusted. Contracts see its counts.
+/// Files by their paths. It reports no pages: what a file holds is trusted. Contracts see its counts.
 #[derive(Drop)]
 pub struct DiskShelf<R: Files + Drop> {
     rt: R,
@@ -282,7 +282,7 @@ impl<R: Files + Drop> Shelf for DiskShelf<R> {
     fn fetch(&mut self, name: &str, into: &mut Vec<u8>) -> Result<(), Fetch>
         ensures fetched { self.new.calls ≡ counted self.old.calls }
 
-        // What was read; no page is told.
+        // What was read; no page is reported.
         ensures ok { OnOk result (AppendsAtMost MOST_PAGE into.old.items into.new.items) }
         ensures err { OnErr result (into.new.items ≡ into.old.items) }
         ensures told { (told : Pages) → None ≡ Some told → FetchTells (page_of told name.now) into.old.items into.new.items result }
@@ -307,7 +307,7 @@ impl<R: Files + Drop> Shelf for DiskShelf<R> {
     fn open_page(&mut self, name: &str) -> Result<(), Fetch>
         ensures fetched { self.new.calls ≡ counted self.old.calls }
 
-        // What is open: that file, of which nothing was given; no page is told.
+        // What is open: that file, of which nothing was given; no page is reported.
         ensures open { OnOk result (self.new.is_open ≡ true) }
         ensures given { OnOk result (self.new.given ≡ 0) }
         ensures told { (told : Pages) → None ≡ Some told → OpenTells (page_of told name.now) None result }
@@ -334,7 +334,7 @@ impl<R: Files + Drop> Shelf for DiskShelf<R> {
         requires open { self.old.is_open ≡ true }
         ensures fetched { self.new.calls ≡ counted self.old.calls }
 
-        // What was given; it isn't told what was left.
+        // What was given; what was left isn't reported.
         ensures ok { IfOk result (λ n. AppendsExactly n into.old.items into.new.items) }
         ensures few { IfOk result (λ n. n ≤ MOST_PIECE) }
         ensures told { (left : List ℕ) → None ≡ Some left → IfOk result (λ n. IsPiece left into.old.items into.new.items n) }

@@ -1,8 +1,8 @@
 //! The outside as two traits: a shelf that gives pages by their names, whole or in pieces, and a sink that takes
 //! bytes. Both count what went wrong, so that whoever calls them can say why a call failed.
 //!
-//! In memory a shelf tells its pages and a sink what it took, and both fail by a plan; over real files and standard
-//! output neither tells anything. The crate stands on `mari_units`. Its promise: an answer other than success or
+//! In memory a shelf reports its pages and a sink what it took, and both fail by a plan; over real files and standard
+//! output neither reports anything. The crate stands on `mari_units`. Its promise: an answer other than success or
 //! `Memory` comes only where its count rose in that call.
 #![tactic(auto)]
 

@@ -13,7 +13,7 @@ use crate::{FaultPlan, Fetch, Page, Shelf};
 use mari_units::MOST_PAGE;
 use std::marker::Model;
 
-/// Pages in memory, which the shelf tells. A call that the plan names fails; of two pages of one name the first
+/// Pages in memory, which the shelf reports. A call that the plan names fails; of two pages of one name the first
 /// counts.
 #[derive(Debug, Drop)]
 pub struct MemoryShelf {

@@ -9,7 +9,7 @@ use mari_units::Memory;
 use std::alloc::Global;
 use std::marker::Model;
 
-/// A sink in memory, which tells what it took. It has room for `room` bytes, takes at most `most` in a call, and a
+/// A sink in memory, which reports what it took. It has room for `room` bytes, takes at most `most` in a call, and a
 /// write that the plan names fails.
 #[derive(Debug, Drop)]
 pub struct MemorySink {

@@ -10,7 +10,7 @@ use std::io;
 use std::io::Write;
 use std::marker::Model;
 
-/// Standard output. It tells nothing: what arrived there is trusted. Contracts see its count.
+/// Standard output. It reports nothing: what arrived there is trusted. Contracts see its count.
 #[derive(Drop)]
 pub struct StdSink<R: Print + Drop> {
     rt: R,

@@ -28,7 +28,7 @@ pub enum Fetch {
 ///
 /// Its counts go up by one at each event of their kind, up to the last value of 64 bits, and never fall.
 pub trait Shelf {
-    /// The pages, where the shelf tells them.
+    /// The pages, where the shelf reports them.
     ghost pages: { Self → Option Pages };
 
     /// How many calls were made, of all its functions together.
@@ -43,7 +43,7 @@ pub trait Shelf {
     /// How often a page was too long.
     ghost overs: { Self → ℕ };
 
-    /// What is left of the page that was opened last, where pages are told.
+    /// What is left of the page that was opened last, where pages are reported.
     ghost rest: { Self → Option (List ℕ) };
 
     /// How many bytes were given since a page was opened.
@@ -101,7 +101,7 @@ pub trait Shelf {
         ensures same { pages self.new ≡ pages self.old }
         ensures fetched { fetches self.new ≡ counted (fetches self.old) }
 
-        // What was given: `n` bytes, and where it is told what was left, its first ones.
+        // What was given: `n` bytes, and where what was left is reported, its first ones.
         ensures ok { IfOk result (λ n. AppendsExactly n into.old.items into.new.items) }
         ensures few { IfOk result (λ n. n ≤ MOST_PIECE) }
         ensures told { (left : List ℕ) → rest self.old ≡ Some left → IfOk result (λ n. IsPiece left into.old.items into.new.items n) }

@@ -12,13 +12,13 @@ pub struct Failed;
 /// Its count goes up at each failed write, up to the last value of 64 bits, and never falls. A write that takes
 /// nothing of a piece that isn't empty counts as failed, too.
 pub trait Sink {
-    /// The bytes taken so far, where the sink tells them.
+    /// The bytes taken so far, where the sink reports them.
     ghost taken: { Self → Option (List ℕ) };
 
     /// How often a write failed, or took nothing of a piece.
     ghost faults: { Self → ℕ };
 
-    /// Takes the first bytes of the piece, as many as it answers. After an error none was taken, where the sink tells
+    /// Takes the first bytes of the piece, as many as it answers. After an error none was taken, where the sink reports
     /// what it takes; standard output may have taken first bytes.
     fn write(&mut self, piece: &[u8]) -> Result<usize, Failed>
         ensures bound { IfOk result (λ n. n ≤ length piece.now) }

@@ -30,7 +30,7 @@ fn fetch_blocks<S: Shelf>(
     ensures same { S.pages shelf.new ≡ S.pages shelf.old }
     ensures small { IfOk result (λ page. length page ≤ MOST_PAGE) }
 
-    // What it says of the page, where pages are told.
+    // What it says of the page, where pages are reported.
     ensures told { (told : Pages) → S.pages shelf.old ≡ Some told → PageTells (blocks_page told folder.now) result }
 
     // Why there is no page. Out of memory in a fetch is reported as out of memory.
@@ -160,7 +160,7 @@ pub fn clear_quarters<S: Shelf, C: Clearer>(
     requires ready { C.ready clearer.old }
     ensures ready { C.ready clearer.new }
 
-    // What is found of the folder's pages, where the shelf tells them.
+    // What is found of the folder's pages, where the shelf reports them.
     ensures same { S.pages shelf.new ≡ S.pages shelf.old }
     ensures told { (told : Pages) → S.pages shelf.old ≡ Some told → QuartersTell told folder.now first last budget result }
 

@@ -173,7 +173,7 @@ fn demands_at(alloc: Global, demands: &[Demand], numbers: &[u32]) -> Result<Vec<
 }
 
 /// The demands of a run.
-fn demands_of(
+fn run_demands(
     alloc: Global,
     books: &Books,
     remaining: &Remaining,
@@ -272,7 +272,7 @@ fn run_market(
 {
     let entry = run_entry(books, run);
     let choice = choose(alloc, books, remaining, entry)?;
-    let demands = demands_of(alloc, books, remaining, run)?;
+    let demands = run_demands(alloc, books, remaining, run)?;
     let orders = orders_of(alloc, books, remaining, entry.quarter, &choice, &demands)?;
     let gates = gates_of(alloc, books.links.links.as_slice(), &choice.gated)?;
     let borders = borders_of(alloc, books, remaining, run, entry.quarter)?;

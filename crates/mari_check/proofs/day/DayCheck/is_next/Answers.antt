@@ -11,5 +11,5 @@ returns-then-run-run_count c = λ blocks checked.
 
 pub returns : goal.returns
 returns c = λ blocks checked.
-    next-is c.args.books.now c.requires.accepted blocks c.args.self.now checked c.next_run-run.result c.next_run-run.ensures c.args.told c.is_same.result (omega (arith, c.if-run-run_count.false, c.run_count.ensures))
-    (λ t. c.is_same.ensures.0 t ∙ c.heading.ensures, λ e. c.is_same.ensures.1 (e ∙ sym c.heading.ensures))
+    next-is c.args.books.now c.requires.accepted blocks c.args.self.now checked c.next_run-run.result c.next_run-run.ensures c.args.told c.is_same_heading.result (omega (arith, c.if-run-run_count.false, c.run_count.ensures))
+    (λ t. c.is_same_heading.ensures.0 t ∙ c.heading.ensures, λ e. c.is_same_heading.ensures.1 (e ∙ sym c.heading.ensures))

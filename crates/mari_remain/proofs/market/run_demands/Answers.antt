@@ -3,7 +3,7 @@ use Rattle.mari_demands.specs.declared.demands.Demand.{Demand}
 use Rattle.mari_remain.specs.Lists.{demand_at, numbers_of_run}
 use Rattle.mari_remain.specs.RunMarket.{demands_of_run}
 use Rattle.mari_remain.proofs.Choosing.{demands-are, has-run}
-use Rattle.mari_remain.proofs.market.demands_of.Goals as goal
+use Rattle.mari_remain.proofs.market.run_demands.Goals as goal
 
 pub demands_of-numbers-requires : goal.demands_of-numbers-requires
 demands_of-numbers-requires c = (has-run c.args.books.now c.args.remaining.now c.args.run c.requires.index c.requires.last).there

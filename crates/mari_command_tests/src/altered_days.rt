@@ -1,6 +1,6 @@
 //! Publications that were altered, each with its answer.
 
-use crate::cases::{Folder, ONE_ZONE, TWO_ZONES, TWO_ZONES_DAY, joined};
+use crate::cases::{TWO_ZONES, TWO_ZONES_DAY, joined};
 use crate::checks::checks_text;
 use std::alloc::Global;
 use std::process::Abort;
@@ -24,8 +24,8 @@ fn altered<'a>(
 type Altered = (&'static str, &'static str, u8, &'static str);
 
 /// A piece of the two zones' day, another in its place, and the exit code and the line with the run and the fault that
-/// are told. The last four are texts that no day prints, and the last of them has a fault of the check before that of
-/// its text.
+/// are reported. The last four are texts that no day prints, and the last of them has a fault of the check before that
+/// of its text.
 const ALTERED: &[Altered] = &[
     ("96 10000\n", "95 10000\n", 7, "invalid 0 1\n"),
     ("run 1 1 scheduled", "run 1 2 scheduled", 7, "invalid 1 1\n"),
@@ -130,101 +130,4 @@ fn a_line_of_40000_digits_is_refused(rt: HostRuntime) -> Result<(), Fail> {
     let parts = [before, digits, "\n"];
     let printed = "refused publication.txt 21 11 BadLine\n";
     checks_text(&rt, alloc, TWO_ZONES, &parts, false, 3, printed)
-}
-
-/// The day of the two zones where the border may carry 80 MW, whose price in B lies between its bounds.
-const PRICE_BETWEEN: &str = "\
-mari 1 2025-03-12 96 10000
-run 1 1 scheduled published
-welfare 799832000
-zone A 20.00 20.00 20.00 1
-zone B 40.00 20.00 60.00 2
-border A B 80 400.0000
-bid a1 80
-bid b1 0
-demand 1 80
-tree 1
-bound 20.00 40.00
-operator TA -400.0000 200.0000 -600.0000
-operator TB 800.0000 200.0000 600.0000
-provider P1 400.0000
-provider P2 0.0000
-end 1
-total-operator TA -400.0000 200.0000 -600.0000
-total-operator TB 800.0000 200.0000 600.0000
-total-provider P1 400.0000
-total-provider P2 0.0000
-done 1 0
-";
-
-/// The day of two equal bids of 30 MW or none, of which the later runs.
-const TIE: &str = "\
-mari 1 2025-03-12 96 10000
-run 1 1 scheduled published
-welfare 299907000
-zone Z 40.00 30.00 50.00 1
-bid i1 0
-bid i2 30
-bid p1 0
-demand 1 30
-tree 5
-branch
-branch
-bound 50.00
-bound 30.00
-bound 30.00
-operator T 0.0000 0.0000 0.0000
-provider P 300.0000
-end 1
-total-operator T 0.0000 0.0000 0.0000
-total-provider P 300.0000
-done 1 0
-";
-
-/// A day that is valid, and what is printed where another piece stands for one.
-struct Day {
-    folder: Folder<'static>,
-    text: &'static str,
-    old: &'static str,
-    new: &'static str,
-    printed: &'static str,
-}
-
-const DAYS: &[Day] = &[
-    // A price that isn't the nearest to the reference.
-    Day {
-        folder: Folder {
-            borders: "from,to,limit,back\nA,B,80,50\n",
-            ..TWO_ZONES
-        },
-        text: PRICE_BETWEEN,
-        old: "zone B 40.00",
-        new: "zone B 41.00",
-        printed: "invalid 1 7\n",
-    },
-    // A tie that is published the wrong way.
-    Day {
-        folder: Folder {
-            bids: "id,provider,zone,quarter,direction,price,least,greatest,kind\ni1,P,Z,1,up,30.00,30,30,both\ni2,P,Z,1,up,30.00,30,30,both\np1,P,Z,1,up,50.00,0,100,both\n",
-            demands: "run,zone,mw,price\n1,Z,30,\n",
-            ..ONE_ZONE
-        },
-        text: TIE,
-        old: "bid i1 0\nbid i2 30\n",
-        new: "bid i1 30\nbid i2 0\n",
-        printed: "invalid 1 10\n",
-    },
-];
-
-#[test]
-fn a_valid_day_with_another_price_and_one_with_another_bid(rt: HostRuntime) -> Result<(), Fail> {
-    let alloc = rt.alloc();
-    for day in DAYS {
-        let whole = [day.text];
-        checks_text(&rt, alloc, day.folder, &whole, false, 0, "valid 1 0\n")?;
-        let (before, new, after) = altered(day.text, day.old, day.new)?;
-        let parts = [before, new, after];
-        checks_text(&rt, alloc, day.folder, &parts, false, 7, day.printed)?;
-    }
-    Ok(())
 }

@@ -1,4 +1,4 @@
-//! Worked folders and words, with the lines that they print.
+//! Folders in memory, and calls of the program on them.
 
 use mari_commands::run_program;
 use mari_io::{FaultPlan, MemoryShelf, MemorySink, Name64, Page};
@@ -62,6 +62,16 @@ pub(crate) const TWO_ZONES: Folder<'static> = Folder {
     ..ONE_ZONE
 };
 
+/// In each of two quarters a bid of 20 MW or none, which are one block, and a plain bid, for a demand of 40 MW. In the
+/// second quarter the plain bid is cheaper than the block.
+pub(crate) const AT_A_LOSS: Folder<'static> = Folder {
+    bids: "id,provider,zone,quarter,direction,price,least,greatest,kind\nx1,P,Z,1,up,30.00,20,20,both\nx2,P,Z,2,up,30.00,20,20,both\np1,P,Z,1,up,50.00,0,100,both\np2,P,Z,2,up,20.00,0,100,both\n",
+    runs: "run,quarter,kind,reference\n1,1,scheduled,40.00\n2,2,scheduled,40.00\n",
+    demands: "run,zone,mw,price\n1,Z,40,\n2,Z,40,\n",
+    blocks: Some("block,bid\nb,x1\nb,x2\n"),
+    ..ONE_ZONE
+};
+
 /// The head of the day that the two zones print.
 pub(crate) const HEAD: &str = "mari 1 2025-03-12 96 10000\n";
 
@@ -96,12 +106,10 @@ done 1 0
 /// The day that the two zones print, in its parts.
 pub(crate) const TWO_ZONES_DAY: &[&str] = &[HEAD, BLOCK, TOTALS];
 
-/// What is wanted of a printed text: that it is these parts, that it stands so before and after a certificate, or that
-/// it has each of these lines.
+/// What is wanted of a printed text: that it is these parts, or that it has each of these lines.
 #[derive(Clone, Copy)]
 pub(crate) enum Printed<'a> {
     Whole(&'a [&'a str]),
-    Around(&'a str, &'a str),
     Lines(&'a [&'a str]),
 }
 
@@ -110,7 +118,6 @@ impl Printed<'_> {
     pub(crate) fn is(&self, text: &str) -> bool {
         match self {
             Printed::Whole(parts) => is_joined(text, parts),
-            Printed::Around(before, after) => text.starts_with(*before) && text.ends_with(*after),
             Printed::Lines(lines) => has_each(text, lines),
         }
     }
@@ -120,10 +127,10 @@ impl Printed<'_> {
 pub(crate) fn is_joined(text: &str, parts: &[&str]) -> bool {
     let mut rest = text;
     for part in parts {
-        let Some(behind) = rest.strip_prefix(*part) else {
+        let Some(after) = rest.strip_prefix(*part) else {
             return false;
         };
-        rest = behind;
+        rest = after;
     }
     rest.is_empty()
 }
@@ -138,54 +145,8 @@ pub(crate) fn has_each(text: &str, lines: &[&str]) -> bool {
     true
 }
 
-/// Calls of the program, all answered alike: their words, the folder that they find, the numbers of the calls on the
-/// shelf that fail, whether it gives one byte at a time, their exit code, and what they print. The name says what they
-/// show.
-#[derive(Clone, Copy)]
-pub(crate) struct Case {
-    pub(crate) name: &'static str,
-    pub(crate) calls: &'static [&'static [&'static str]],
-    pub(crate) folder: Folder<'static>,
-    pub(crate) faults: &'static [u32],
-    pub(crate) by_bytes: bool,
-    pub(crate) code: u8,
-    pub(crate) printed: Printed<'static>,
-}
-
 /// How many bytes a sink has room for.
 pub(crate) const ROOM: u32 = 1_000_000;
-
-/// A folder that is cleared.
-pub(crate) const CLEARS: Case = Case {
-    name: "",
-    calls: &[&["clear", "F"]],
-    folder: ONE_ZONE,
-    faults: &[],
-    by_bytes: false,
-    code: 0,
-    printed: Printed::Whole(&[]),
-};
-
-/// A folder that 1, 2 and 4 workers clear alike.
-pub(crate) const CLEARS_ALIKE: Case = Case {
-    calls: &[
-        &["clear", "F", "--workers", "1"],
-        &["clear", "F", "--workers", "2"],
-        &["clear", "F", "--workers", "4"],
-    ],
-    ..CLEARS
-};
-
-/// A folder that 1, 2 and 4 workers don't clear wholly within one node.
-pub(crate) const CLEARS_A_PART: Case = Case {
-    calls: &[
-        &["clear", "F", "--nodes", "1", "--workers", "1"],
-        &["clear", "F", "--nodes", "1", "--workers", "2"],
-        &["clear", "F", "--nodes", "1", "--workers", "4"],
-    ],
-    code: 1,
-    ..CLEARS
-};
 
 /// The bytes of texts, one after the other.
 pub(crate) fn joined(alloc: Global, parts: &[&str]) -> Result<Vec<u8>, Fail> {
@@ -306,22 +267,5 @@ pub(crate) fn compare(
         agrees,
         "{name}: {texts:?} answers {code} and prints {text}"
     );
-    Ok(())
-}
-
-/// Makes each call of these cases, and compares its exit code and what it printed.
-pub(crate) fn agree(
-    rt: &(impl Abort + Threads + Wait + Sync),
-    alloc: Global,
-    cases: &[Case],
-) -> Result<(), Fail> {
-    for case in cases {
-        for texts in case.calls {
-            let shelf = shelf(alloc, case.folder, case.faults, case.by_bytes)?;
-            let sink = sink(alloc, 10, ROOM, &[])?;
-            let want = (case.code, case.printed);
-            compare(rt, alloc, case.name, texts, shelf, sink, want)?;
-        }
-    }
     Ok(())
 }

@@ -1,8 +1,7 @@
 //! Two quarter hours that have together as much as a market may have, and more.
 
 use crate::cases::Printed::{Lines, Whole};
-use crate::cases::{BIDS, DEMANDS, Folder, ONE_ZONE, ROOM, compare, shelf, sink};
-use crate::joints::AT_A_LOSS;
+use crate::cases::{AT_A_LOSS, BIDS, DEMANDS, Folder, ONE_ZONE, ROOM, compare, shelf, sink};
 use std::alloc::Global;
 use std::test::Fail;
 

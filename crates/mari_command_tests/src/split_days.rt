@@ -1,69 +1,13 @@
-//! Days that are cleared island by island: into a sink that fails, of many islands, and beside the same days cleared as
-//! a whole.
+//! Days that are cleared island by island: of many islands, and beside the same days cleared as a whole.
 
-use crate::cases::Printed::{Lines, Whole};
+use crate::cases::Printed::Lines;
 use crate::cases::{BIDS, DEMANDS, Folder, ONE_ZONE, ROOM, TWO_ZONES, compare, run, shelf, sink};
-use crate::days::LINKED_DAY;
-use crate::splits::{TWO_GATES, TWO_ISLANDS};
-use mari_io::MemorySink;
 use mari_workers::FreeTurnstile;
 use std::alloc::Global;
 use std::process::Abort;
 use std::sync::Wait;
 use std::test::Fail;
 use std::thread::Threads;
-
-/// The text of the two zones' day, in the parts that are each written at once.
-const PARTS: &[&str] = &[
-    "split 1 2025-03-12 96 10000\n",
-    "\
-run 1 1 scheduled published
-welfare 799712000
-zone A 20.00 20.00 20.00 1
-zone B 60.00 60.00 60.00 2
-border A B 50 500.0000
-bid a1 50
-bid b1 30
-demand 1 80
-island 1 799712000
-zones A B
-tree 1
-bound 20.00 60.00
-end 1
-",
-    "done 1 0\n",
-];
-
-/// Splits the two zones' day into a sink in which a write fails, and compares what the sink took.
-fn takes(
-    rt: &(impl Abort + Threads + Wait + Sync),
-    alloc: Global,
-    sink: MemorySink,
-    taken: &str,
-) -> Result<(), Fail> {
-    let shelf = shelf(alloc, TWO_ZONES, &[], false)?;
-    let want = (5, Whole(&[taken]));
-    compare(rt, alloc, "a sink", &["split", "F"], shelf, sink, want)
-}
-
-// Each part is written by 10 bytes a call; a call that fails leaves the pieces before it.
-#[test]
-fn each_write_of_a_split_day_that_fails(rt: HostRuntime) -> Result<(), Fail> {
-    let alloc = rt.alloc();
-    let mut taken = String::new(alloc);
-    let mut call = 0u32;
-    for part in PARTS {
-        for (place, letter) in part.chars().enumerate() {
-            if place % 10 == 0 {
-                call = call.saturating_add(1);
-                let sink = sink(alloc, 10, 10_000, &[call])?;
-                takes(&rt, alloc, sink, &taken)?;
-            }
-            taken.push(letter)?;
-        }
-    }
-    Ok(())
-}
 
 /// The pages of a market.
 #[derive(Drop)]
@@ -116,6 +60,32 @@ fn a_run_of_64_islands(rt: HostRuntime) -> Result<(), Fail> {
     }
     Ok(())
 }
+
+/// In each of two zones a bid of 40 MW or none, for which a demand of 30 MW is too small; nothing joins the zones. The
+/// folder `examples/two-islands` has these pages.
+const TWO_ISLANDS: Folder<'static> = Folder {
+    zones: "zone,operator\nA,TA\nB,TB\n",
+    bids: "id,provider,zone,quarter,direction,price,least,greatest,kind\ni1,P,A,1,up,30.00,40,40,both\nu1,P,A,1,up,50.00,0,100,both\ni2,P,B,1,up,30.00,40,40,both\nu2,P,B,1,up,50.00,0,100,both\n",
+    demands: "run,zone,mw,price\n1,A,30,\n1,B,30,\n",
+    ..ONE_ZONE
+};
+
+/// In each of two zones a bid of 10 MW or none and a dearer one, for a demand of 20 MW.
+const TWO_GATES: Folder<'static> = Folder {
+    zones: "zone,operator\nA,TA\nB,TB\n",
+    bids: "id,provider,zone,quarter,direction,price,least,greatest,kind\ni1,P,A,1,up,30.00,10,10,both\nu1,P,A,1,up,50.00,0,100,both\ni2,P,B,1,up,30.00,10,10,both\nu2,P,B,1,up,50.00,0,100,both\n",
+    demands: "run,zone,mw,price\n1,A,20,\n1,B,20,\n",
+    ..ONE_ZONE
+};
+
+/// A day of four runs in three quarters; the folder `examples/linked-day` has these pages.
+const LINKED_DAY: Folder<'static> = Folder {
+    bids: "id,provider,zone,quarter,direction,price,least,greatest,kind\ny,P,Z,1,up,10.00,0,10,both\nw,P,Z,2,up,20.00,0,10,both\nu,Q,Z,2,up,70.00,0,20,both\nx,P,Z,3,up,20.00,0,10,both\nz,P,Z,3,up,15.00,0,10,both\nv,P,Z,3,up,50.00,0,100,both\n",
+    runs: "run,quarter,kind,reference\n1,1,scheduled,40.00\n2,1,direct,40.00\n3,2,scheduled,40.00\n4,3,scheduled,40.00\n",
+    demands: "run,zone,mw,price\n1,Z,5,\n2,Z,3,\n3,Z,10,\n4,Z,20,\n",
+    links: "kind,first,second\nneeds,x,y\nbars,z,y\ntechnical,w,y\n",
+    ..ONE_ZONE
+};
 
 /// Two days in one, in zones that nothing joins: in the first, later runs find what earlier ones left.
 const TWICE_LINKED: Folder<'static> = Folder {

@@ -1,5 +1,6 @@
 //! The book of bids: what good pages say, and the first refusals of bad ones.
 
+use crate::same::same;
 use mari_bids::{Bid, BidBook};
 use mari_rows::BookFault;
 use mari_units::Cents;
@@ -56,9 +57,9 @@ u1,P1,B,96,up,99999,9999,9999,both\nd1,P2,A,1,down,-99999.00,0,1,scheduled\nu2,P
             both: true,
         },
     ];
-    assert_eq!(rt; book.bids.as_slice(), want.as_slice());
-    assert_eq!(rt; book.ids.find(b"u2"), Some(2));
-    assert_eq!(rt; book.providers.len(), 2);
+    same(&rt, book.bids.as_slice(), want.as_slice());
+    same(&rt, book.ids.find(b"u2"), Some(2));
+    same(&rt, book.providers.len(), 2);
     Ok(())
 }
 
@@ -96,14 +97,16 @@ fn each_refusal_of_bids(rt: HostRuntime) -> Result<(), Fail> {
         page.extend_from_slice(good)?;
         page.extend_from_slice(line)?;
         assert!(rt; page.len() < 1_000);
-        assert_eq!(rt;
+        same(
+            &rt,
             BidBook::read(rt.alloc(), page.as_slice(), &zones, 96).err(),
-            fault_of(*want)
+            fault_of(*want),
         );
     }
-    assert_eq!(rt;
+    same(
+        &rt,
         BidBook::read(rt.alloc(), b"id\n", &zones, 96).err(),
-        at(1, 1)
+        at(1, 1),
     );
     Ok(())
 }
@@ -120,17 +123,19 @@ fn four_thousand_and_ninety_six_bids_of_a_quarter_and_no_more(rt: HostRuntime) -
     }
     page.extend_from_slice(b"c,P,A,1,up,1,0,1,both\n")?;
     assert!(rt; page.len() < 200_000);
-    assert_eq!(rt;
+    same(
+        &rt,
         BidBook::read(rt.alloc(), page.as_slice(), &zones, 2)?
             .ids
             .len(),
-        4_097
+        4_097,
     );
     page.extend_from_slice(b"d,P,A,2,up,1,0,1,both\n")?;
     assert!(rt; page.len() < 200_000);
-    assert_eq!(rt;
+    same(
+        &rt,
         BidBook::read(rt.alloc(), page.as_slice(), &zones, 2).err(),
-        at(4_099, 17)
+        at(4_099, 17),
     );
     Ok(())
 }

@@ -1,5 +1,6 @@
 //! The books of runs, demands and limits: what good pages say, and the first refusals of bad ones.
 
+use crate::same::same;
 use mari_demands::{Demand, DemandBook, LimitBook, Run, RunBook};
 use mari_rows::BookFault;
 use mari_units::Cents;
@@ -22,7 +23,7 @@ fn runs_in_order(rt: HostRuntime) -> Result<(), Fail> {
         reference: Cents(-50),
     };
     assert_eq!(rt; book.runs.as_slice().len(), 3);
-    assert_eq!(rt; book.runs.as_slice()[1], want);
+    same(&rt, book.runs.as_slice()[1], want);
     Ok(())
 }
 
@@ -55,9 +56,10 @@ const REFUSED_RUNS: &[(&[u8], (u32, u8))] = &[
 #[test]
 fn each_refusal_of_runs(rt: HostRuntime) {
     for (page, want) in REFUSED_RUNS {
-        assert_eq!(rt;
+        same(
+            &rt,
             RunBook::read(rt.alloc(), page, 2).err(),
-            at(want.0, want.1)
+            at(want.0, want.1),
         );
     }
 }
@@ -70,9 +72,10 @@ fn a_thousand_runs_and_no_more(rt: HostRuntime) -> Result<(), Fail> {
         page.extend_from_slice(b",1,direct,0\n")?;
     }
     assert!(rt; page.len() < 100_000);
-    assert_eq!(rt;
+    same(
+        &rt,
         RunBook::read(rt.alloc(), page.as_slice(), 1).err(),
-        at(1_002, 15)
+        at(1_002, 15),
     );
     Ok(())
 }
@@ -109,11 +112,12 @@ fn demands_with_and_without_a_price(rt: HostRuntime) -> Result<(), Fail> {
             price: Some(Cents(6_050)),
         },
     ];
-    assert_eq!(rt; book.demands.as_slice(), want.as_slice());
+    same(&rt, book.demands.as_slice(), want.as_slice());
     for (page, want) in REFUSED_DEMANDS {
-        assert_eq!(rt;
+        same(
+            &rt,
             DemandBook::read(rt.alloc(), page, &runs, &zones).err(),
-            at(want.0, want.1)
+            at(want.0, want.1),
         );
     }
     Ok(())
@@ -129,7 +133,7 @@ fn five_hundred_and_twelve_demands_of_a_run_and_no_more(rt: HostRuntime) -> Resu
     }
     assert!(rt; page.len() < 100_000);
     let refused = DemandBook::read(rt.alloc(), page.as_slice(), &runs, &zones).err();
-    assert_eq!(rt; refused, at(515, 15));
+    same(&rt, refused, at(515, 15));
     Ok(())
 }
 
@@ -160,7 +164,7 @@ fn limits_of_each_border_in_each_run(rt: HostRuntime) -> Result<(), Fail> {
     assert!(rt; runs.runs.as_slice().len() == 3);
     let page = b"run,from,to,limit,back\n3,B,A,7,0\n1,A,C,99999,08\n01,B,A,-0,5\n";
     let book = LimitBook::read(rt.alloc(), page, &zones, &borders, &runs)?;
-    for (run, border, want) in [
+    for (run, border, want) in &[
         (1u32, 0u32, (0u32, 5u32)),
         (1, 1, (99_999, 8)),
         (2, 0, (0, 0)),
@@ -168,12 +172,13 @@ fn limits_of_each_border_in_each_run(rt: HostRuntime) -> Result<(), Fail> {
         (3, 0, (7, 0)),
         (3, 1, (0, 0)),
     ] {
-        assert_eq!(rt; book.of(run, border), want);
+        same(&rt, book.of(*run, *border), *want);
     }
     for (page, want) in REFUSED_LIMITS {
-        assert_eq!(rt;
+        same(
+            &rt,
             LimitBook::read(rt.alloc(), page, &zones, &borders, &runs).err(),
-            at(want.0, want.1)
+            at(want.0, want.1),
         );
     }
     Ok(())

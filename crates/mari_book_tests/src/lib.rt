@@ -13,6 +13,8 @@ mod links;
 #[cfg(test)]
 mod rows;
 #[cfg(test)]
+mod same;
+#[cfg(test)]
 mod units;
 #[cfg(test)]
 mod zones;

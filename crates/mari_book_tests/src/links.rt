@@ -1,5 +1,6 @@
 //! The book of links: what good pages say, and the first refusals of bad ones.
 
+use crate::same::same;
 use mari_bids::BidBook;
 use mari_links::LinkBook;
 use mari_rows::BookFault;
@@ -43,16 +44,17 @@ group,g,b3\nchild,d3,b3\ntechnical,d3,a2\nbars,b3,a2\n";
         (true, Some(1), None, &[], &[], &[]),
         (true, None, Some(3), &[], &[], &[1]),
     ];
-    assert_eq!(rt; book.links.as_slice().len(), 6);
+    same(&rt, book.links.as_slice().len(), 6);
     for (links, want) in book.links.as_slice().iter().zip(want) {
         let (gated, group, parent, needs, bars, technical) = want;
-        assert_eq!(rt;
+        same(
+            &rt,
             (links.gated, links.group, links.parent),
-            (gated, group, parent)
+            (gated, group, parent),
         );
-        assert_eq!(rt; links.needs.as_slice(), needs);
-        assert_eq!(rt; links.bars.as_slice(), bars);
-        assert_eq!(rt; links.technical.as_slice(), technical);
+        same(&rt, links.needs.as_slice(), needs);
+        same(&rt, links.bars.as_slice(), bars);
+        same(&rt, links.technical.as_slice(), technical);
     }
     Ok(())
 }
@@ -71,7 +73,7 @@ a,P,A,1,up,1,0,1,both\nb,P,A,1,up,1,0,1,both\nc,P,A,1,up,1,0,1,both\nd,P,A,1,up,
         &bids,
     )?;
     for (links, want) in book.links.as_slice().iter().zip([true, true, true, false]) {
-        assert_eq!(rt; links.gated, want);
+        same(&rt, links.gated, want);
     }
     Ok(())
 }
@@ -117,14 +119,16 @@ b4,P,A,4,up,1,0,1,both\nc4,P,A,4,up,1,0,1,both\n";
         )?;
         page.extend_from_slice(line)?;
         assert!(rt; page.len() < 1_000);
-        assert_eq!(rt;
+        same(
+            &rt,
             LinkBook::read(rt.alloc(), page.as_slice(), &bids).err(),
-            fault_of(*want)
+            fault_of(*want),
         );
     }
-    assert_eq!(rt;
+    same(
+        &rt,
         LinkBook::read(rt.alloc(), b"kind,first\n", &bids).err(),
-        at(1, 1)
+        at(1, 1),
     );
     Ok(())
 }
@@ -143,10 +147,11 @@ fn five_hundred_and_twelve_gates_of_a_quarter_and_no_more(rt: HostRuntime) -> Re
     assert!(rt; page.len() < 200_000);
     let bids = BidBook::read(rt.alloc(), page.as_slice(), &zones, 2)?;
     let book = LinkBook::read(rt.alloc(), b"kind,first,second\n", &bids)?;
-    assert_eq!(rt; book.links.as_slice().len(), 514);
-    assert_eq!(rt;
+    same(&rt, book.links.as_slice().len(), 514);
+    same(
+        &rt,
         LinkBook::read(rt.alloc(), b"kind,first,second\ngroup,g,d\n", &bids).err(),
-        at(1, 17)
+        at(1, 17),
     );
     Ok(())
 }

@@ -1,5 +1,6 @@
 //! The books of zones and borders: what good pages say, and the first refusals of bad ones.
 
+use crate::same::same;
 use mari_rows::BookFault;
 use mari_zones::{BorderBook, BorderEnds, ZoneBook, version_of};
 use std::alloc::Global;
@@ -14,35 +15,39 @@ fn at(line: u32, number: u8) -> Option<BookFault> {
 fn zones_and_their_operators(rt: HostRuntime) -> Result<(), Fail> {
     let page = b"\xef\xbb\xbf\"zone\",operator\r\nA,TA\n\"B\",TB\r\n\n\nC,TA\rD,TC";
     let book = ZoneBook::read(rt.alloc(), page)?;
-    assert_eq!(rt; book.zones.len(), 4);
-    assert_eq!(rt; book.zones.find(b"D"), Some(3));
-    assert_eq!(rt; book.operators.len(), 3);
-    assert_eq!(rt; book.operators.name_at(1), Some(b"TB".as_slice()));
-    assert_eq!(rt; book.operator_of.as_slice(), [0, 1, 0, 2].as_slice());
+    same(&rt, book.zones.len(), 4);
+    same(&rt, book.zones.find(b"D"), Some(3));
+    same(&rt, book.operators.len(), 3);
+    same(&rt, book.operators.name_at(1), Some(b"TB".as_slice()));
+    same(&rt, book.operator_of.as_slice(), [0, 1, 0, 2].as_slice());
     Ok(())
 }
 
+/// Pages of zones, with the line and the check that refuses each.
+const REFUSED_ZONES: &[(&[u8], (u32, u8))] = &[
+    (b"", (1, 1)),
+    (b"zone,operators\nA,TA\n", (1, 1)),
+    (b"\"zone,operator\"\nA,TA\n", (1, 1)),
+    (b"zone,operator,\nA,TA\n", (1, 1)),
+    (b"zone,operator\n!,TA\nB\n", (3, 2)),
+    (b"zone,operator\nB\n!,TA\n", (2, 2)),
+    (b"zone,operator\nA,TA\nB\xff,TA,C\n", (3, 2)),
+    (b"zone,operator\n!,TA\nA,T\xffA\nB\n", (3, 3)),
+    (b"zone,operator\nA,TA\nA,T!\n", (3, 12)),
+    (b"zone,operator\nA,\n", (2, 12)),
+    (b"zone,operator\nA12345678901234567,T\n", (2, 12)),
+    (b"zone,operator\nA,TA\nA,TB\n", (3, 13)),
+    (b"zone,operator\n", (1, 14)),
+];
+
 #[test]
 fn each_refusal_of_zones(rt: HostRuntime) {
-    for (page, want) in [
-        (b"".as_slice(), at(1, 1)),
-        (b"zone,operators\nA,TA\n".as_slice(), at(1, 1)),
-        (b"\"zone,operator\"\nA,TA\n".as_slice(), at(1, 1)),
-        (b"zone,operator,\nA,TA\n".as_slice(), at(1, 1)),
-        (b"zone,operator\n!,TA\nB\n".as_slice(), at(3, 2)),
-        (b"zone,operator\nB\n!,TA\n".as_slice(), at(2, 2)),
-        (b"zone,operator\nA,TA\nB\xff,TA,C\n".as_slice(), at(3, 2)),
-        (b"zone,operator\n!,TA\nA,T\xffA\nB\n".as_slice(), at(3, 3)),
-        (b"zone,operator\nA,TA\nA,T!\n".as_slice(), at(3, 12)),
-        (b"zone,operator\nA,\n".as_slice(), at(2, 12)),
-        (
-            b"zone,operator\nA12345678901234567,T\n".as_slice(),
-            at(2, 12),
-        ),
-        (b"zone,operator\nA,TA\nA,TB\n".as_slice(), at(3, 13)),
-        (b"zone,operator\n".as_slice(), at(1, 14)),
-    ] {
-        assert_eq!(rt; ZoneBook::read(rt.alloc(), page).err(), want);
+    for (page, want) in REFUSED_ZONES {
+        same(
+            &rt,
+            ZoneBook::read(rt.alloc(), page).err(),
+            at(want.0, want.1),
+        );
     }
 }
 
@@ -63,12 +68,13 @@ fn read_zones(rt: &impl Abort, alloc: Global, count: u32) -> Result<ZoneBook, Fa
 
 #[test]
 fn sixty_four_zones_and_no_more(rt: HostRuntime) -> Result<(), Fail> {
-    assert_eq!(rt; read_zones(&rt, rt.alloc(), 64)?.zones.len(), 64);
+    same(&rt, read_zones(&rt, rt.alloc(), 64)?.zones.len(), 64);
     let page = numbered(rt.alloc(), b"zone,operator\n", 65, b",T\n")?;
     assert!(rt; page.len() < 10_000);
-    assert_eq!(rt;
+    same(
+        &rt,
         ZoneBook::read(rt.alloc(), page.as_slice()).err(),
-        at(66, 11)
+        at(66, 11),
     );
     Ok(())
 }
@@ -92,7 +98,7 @@ fn borders_between_zones(rt: HostRuntime) -> Result<(), Fail> {
             back: 99_999,
         },
     ];
-    assert_eq!(rt; book.borders.as_slice(), want.as_slice());
+    same(&rt, book.borders.as_slice(), want.as_slice());
     Ok(())
 }
 
@@ -116,29 +122,42 @@ const REFUSED_BORDERS: &[(&[u8], (u32, u8))] = &[
 fn each_refusal_of_borders(rt: HostRuntime) -> Result<(), Fail> {
     let zones = ZoneBook::read(rt.alloc(), b"zone,operator\nA,TA\nB,TB\nC,TB\n")?;
     for (page, want) in REFUSED_BORDERS {
-        assert_eq!(rt;
+        same(
+            &rt,
             BorderBook::read(rt.alloc(), page, &zones).err(),
-            at(want.0, want.1)
+            at(want.0, want.1),
         );
     }
     Ok(())
 }
 
+/// Pages of borders, and the version of each.
+const VERSIONS: &[(&[u8], u8)] = &[
+    (b"from,to\n", 2u8),
+    (b"\xef\xbb\xbf\r\n\"from\",to", 2),
+    (b"from,to,limit,back\n", 1),
+    (b"from, to\n", 1),
+    (b"to,from\n", 1),
+    (b"from\n", 1),
+    (b"A,B\nfrom,to\n", 1),
+    (b"", 1),
+];
+
 #[test]
 fn the_version_of_a_page_of_borders(rt: HostRuntime) {
-    for (page, want) in [
-        (b"from,to\n".as_slice(), 2u8),
-        (b"\xef\xbb\xbf\r\n\"from\",to".as_slice(), 2),
-        (b"from,to,limit,back\n".as_slice(), 1),
-        (b"from, to\n".as_slice(), 1),
-        (b"to,from\n".as_slice(), 1),
-        (b"from\n".as_slice(), 1),
-        (b"A,B\nfrom,to\n".as_slice(), 1),
-        (b"".as_slice(), 1),
-    ] {
-        assert_eq!(rt; version_of(rt.alloc(), page), Ok(want));
+    for (page, want) in VERSIONS {
+        same(&rt, version_of(rt.alloc(), page), Ok(*want));
     }
 }
+
+/// Pages of borders without limits, with the line and the check that refuses each.
+const REFUSED_PAIRS: &[(&[u8], (u32, u8))] = &[
+    (b"from,to\nA,B,1,1\n", (2, 2)),
+    (b"from,to\nX,A\nA,\xff\n", (3, 3)),
+    (b"from,to\nA,B\nA,X\n", (3, 12)),
+    (b"from,to\nB,B\n", (2, 13)),
+    (b"from,to\nA,B\nB,C\nB,A\n", (4, 14)),
+];
 
 #[test]
 fn borders_without_limits(rt: HostRuntime) -> Result<(), Fail> {
@@ -158,15 +177,13 @@ fn borders_without_limits(rt: HostRuntime) -> Result<(), Fail> {
             back: 0,
         },
     ];
-    assert_eq!(rt; book.borders.as_slice(), want.as_slice());
-    for (page, want) in [
-        (b"from,to\nA,B,1,1\n".as_slice(), at(2, 2)),
-        (b"from,to\nX,A\nA,\xff\n".as_slice(), at(3, 3)),
-        (b"from,to\nA,B\nA,X\n".as_slice(), at(3, 12)),
-        (b"from,to\nB,B\n".as_slice(), at(2, 13)),
-        (b"from,to\nA,B\nB,C\nB,A\n".as_slice(), at(4, 14)),
-    ] {
-        assert_eq!(rt; BorderBook::read(rt.alloc(), page, &zones).err(), want);
+    same(&rt, book.borders.as_slice(), want.as_slice());
+    for (page, want) in REFUSED_PAIRS {
+        same(
+            &rt,
+            BorderBook::read(rt.alloc(), page, &zones).err(),
+            at(want.0, want.1),
+        );
     }
     Ok(())
 }
@@ -194,12 +211,13 @@ fn two_hundred_and_fifty_six_borders_and_no_more(rt: HostRuntime) -> Result<(), 
     }
     assert!(rt; page.len() < 10_000);
     let book = BorderBook::read(rt.alloc(), page.as_slice(), &zones)?;
-    assert_eq!(rt; book.borders.as_slice().len(), 256);
+    same(&rt, book.borders.as_slice().len(), 256);
     page.extend_from_slice(b"0,4,1,1\n")?;
     assert!(rt; page.len() < 10_000);
-    assert_eq!(rt;
+    same(
+        &rt,
         BorderBook::read(rt.alloc(), page.as_slice(), &zones).err(),
-        at(258, 11)
+        at(258, 11),
     );
     Ok(())
 }

@@ -5,6 +5,7 @@ ghost use Rattle.mari_market.specs.Market.{IsValid};
 ghost use Rattle.mari_remain.specs.Accepted.{IsAccepted};
 
 use crate::folder::{ONE_ZONE, Pages, books};
+use crate::same::same;
 use mari_blocks::{BlockBook, Joint, JointFault, joint_market};
 use mari_market::{Cleared, Clearing, Order, Side};
 use mari_remain::Books;
@@ -83,7 +84,7 @@ fn each_refusal_of_blocks(rt: HostRuntime) -> Result<(), Fail> {
     ];
     for (folder, page, wanted) in cases {
         let refused = refused_in(rt.alloc(), folder, page)?;
-        assert_eq!(rt; refused, *wanted);
+        same(&rt, refused, *wanted);
     }
     Ok(())
 }
@@ -183,16 +184,16 @@ fn clearing_of(alloc: Global, case: &Case) -> Result<Clearing, Fail> {
 
 #[test]
 fn a_block_at_a_loss_is_rejected_and_one_that_pays_runs(rt: HostRuntime) -> Result<(), Fail> {
-    for (case, mw) in [
+    for (case, mw) in &[
         (ONE_BLOCK, [0, 40, 0, 40, 40, 40]),
         (PAYING_BLOCK, [20, 20, 20, 20, 40, 40]),
     ] {
-        let clearing = clearing_of(rt.alloc(), &case)?;
-        assert_eq!(rt; clearing.welfare, 799_712_000);
-        assert_eq!(rt; clearing.activation.mw.as_slice(), mw.as_slice());
+        let clearing = clearing_of(rt.alloc(), case)?;
+        same(&rt, clearing.welfare, 799_712_000);
+        same(&rt, clearing.activation.mw.as_slice(), mw.as_slice());
     }
     let rejected = clearing_of(rt.alloc(), &ONE_BLOCK)?;
-    assert_eq!(rt; rejected.tree.as_slice().len(), 3);
+    same(&rt, rejected.tree.as_slice().len(), 3);
     Ok(())
 }
 
@@ -200,20 +201,21 @@ fn a_block_at_a_loss_is_rejected_and_one_that_pays_runs(rt: HostRuntime) -> Resu
 fn a_block_shares_a_gate_over_its_quarters(rt: HostRuntime) -> Result<(), Fail> {
     let joint = joint_in(rt.alloc(), &ONE_BLOCK)??;
     let orders = joint.market.orders.as_slice();
-    assert_eq!(rt; joint.market.zones, 2);
-    assert_eq!(rt; joint.market.reference, Cents(4_000));
-    assert_eq!(rt; joint.bids.as_slice(), [0, 2, 1, 3].as_slice());
-    assert_eq!(rt; joint.demands, 2);
+    same(&rt, joint.market.zones, 2);
+    same(&rt, joint.market.reference, Cents(4_000));
+    same(&rt, joint.bids.as_slice(), [0, 2, 1, 3].as_slice());
+    same(&rt, joint.demands, 2);
     assert_eq!(rt; orders.len(), 6);
-    assert_eq!(rt; orders[0], bid(0, 3_000, 20, 20, Some(0)));
-    assert_eq!(rt; orders[1], bid(0, 5_000, 0, 100, None));
-    assert_eq!(rt; orders[2], bid(1, 3_000, 20, 20, Some(0)));
-    assert_eq!(rt; orders[3], bid(1, 2_000, 0, 100, None));
-    assert_eq!(rt;
+    same(&rt, orders[0], bid(0, 3_000, 20, 20, Some(0)));
+    same(&rt, orders[1], bid(0, 5_000, 0, 100, None));
+    same(&rt, orders[2], bid(1, 3_000, 20, 20, Some(0)));
+    same(&rt, orders[3], bid(1, 2_000, 0, 100, None));
+    same(
+        &rt,
         (orders[5].zone, orders[5].side, orders[5].greatest),
-        (1, Side::Withdraw, 40)
+        (1, Side::Withdraw, 40),
     );
-    assert_eq!(rt; joint.market.gates.as_slice().len(), 1);
+    same(&rt, joint.market.gates.as_slice().len(), 1);
     Ok(())
 }
 
@@ -228,13 +230,13 @@ fn gates_keep_groups_and_parents_beside_a_block(rt: HostRuntime) -> Result<(), F
     let joint = joint_in(rt.alloc(), &case)??;
     let orders = joint.market.orders.as_slice();
     let gates = joint.market.gates.as_slice();
-    assert_eq!(rt; joint.bids.as_slice(), [0, 1, 2, 3].as_slice());
+    same(&rt, joint.bids.as_slice(), [0, 1, 2, 3].as_slice());
     assert_eq!(rt; orders.len(), 4);
-    assert_eq!(rt; orders[2], bid(0, 3_000, 1, 20, Some(2)));
-    assert_eq!(rt; orders[3], bid(0, 1_000, 1, 10, Some(2)));
+    same(&rt, orders[2], bid(0, 3_000, 1, 20, Some(2)));
+    same(&rt, orders[3], bid(0, 1_000, 1, 10, Some(2)));
     assert_eq!(rt; gates.len(), 3);
-    assert_eq!(rt; gates[1].parent, Some(0));
-    assert_eq!(rt; gates[2].parent, None);
+    same(&rt, gates[1].parent, Some(0));
+    same(&rt, gates[2].parent, None);
     Ok(())
 }
 
@@ -247,8 +249,8 @@ fn a_block_with_a_bid_that_is_not_available_is_left_out(rt: HostRuntime) -> Resu
         last: 3,
     };
     let joint = joint_in(rt.alloc(), &case)??;
-    assert_eq!(rt; joint.bids.as_slice().len(), 0);
-    assert_eq!(rt; joint.market.gates.as_slice().len(), 0);
+    same(&rt, joint.bids.as_slice().len(), 0);
+    same(&rt, joint.market.gates.as_slice().len(), 0);
     Ok(())
 }
 
@@ -264,24 +266,24 @@ pub(crate) const fn no_blocks(folder: Pages, last: u32) -> Case {
 
 #[test]
 fn each_refusal_of_a_joint_market(rt: HostRuntime) -> Result<(), Fail> {
-    for (case, file, number) in [
+    for (case, file, number) in &[
         (no_blocks(PAIR, 3), 6, 16),
         (no_blocks(FAMILY, 4), 6, 16),
         (no_blocks(FAMILY, 2), 5, 18),
         (no_blocks(NINE_QUARTERS, 9), 10, 17),
     ] {
         let refusal = Refusal {
-            file,
+            file: *file,
             line: 1,
-            number,
+            number: *number,
         };
-        match joint_in(rt.alloc(), &case)? {
+        match joint_in(rt.alloc(), case)? {
             Ok(_) => return Err("there is no joint market".into()),
-            Err(fault) => assert_eq!(rt; fault, JointFault::Refused(refusal)),
+            Err(fault) => same(&rt, fault, JointFault::Refused(refusal)),
         }
     }
     let joint = joint_in(rt.alloc(), &no_blocks(NINE_QUARTERS, 8))??;
-    assert_eq!(rt; joint.market.zones, 64);
+    same(&rt, joint.market.zones, 64);
     Ok(())
 }
 
@@ -304,17 +306,17 @@ const CROSSING: Case = Case {
 fn two_blocks_that_cross_share_a_gate_each(rt: HostRuntime) -> Result<(), Fail> {
     let joint = joint_in(rt.alloc(), &CROSSING)??;
     let orders = joint.market.orders.as_slice();
-    assert_eq!(rt; joint.bids.as_slice(), [0, 1, 2, 3, 4].as_slice());
+    same(&rt, joint.bids.as_slice(), [0, 1, 2, 3, 4].as_slice());
     assert_eq!(rt; orders.len(), 8);
-    assert_eq!(rt; orders[0], bid(0, 3_000, 5, 5, Some(0)));
-    assert_eq!(rt; orders[1], bid(0, 3_000, 6, 6, Some(1)));
-    assert_eq!(rt; orders[2], bid(1, 3_000, 7, 7, Some(1)));
-    assert_eq!(rt; orders[3], bid(1, 3_000, 0, 9, None));
-    assert_eq!(rt; orders[4], bid(2, 3_000, 1, 8, Some(0)));
-    assert_eq!(rt; (orders[5].zone, orders[5].greatest), (0, 1));
-    assert_eq!(rt; (orders[6].zone, orders[6].greatest), (2, 3));
-    assert_eq!(rt; (orders[7].zone, orders[7].greatest), (2, 2));
-    assert_eq!(rt; joint.market.gates.as_slice().len(), 2);
+    same(&rt, orders[0], bid(0, 3_000, 5, 5, Some(0)));
+    same(&rt, orders[1], bid(0, 3_000, 6, 6, Some(1)));
+    same(&rt, orders[2], bid(1, 3_000, 7, 7, Some(1)));
+    same(&rt, orders[3], bid(1, 3_000, 0, 9, None));
+    same(&rt, orders[4], bid(2, 3_000, 1, 8, Some(0)));
+    same(&rt, (orders[5].zone, orders[5].greatest), (0, 1));
+    same(&rt, (orders[6].zone, orders[6].greatest), (2, 3));
+    same(&rt, (orders[7].zone, orders[7].greatest), (2, 2));
+    same(&rt, joint.market.gates.as_slice().len(), 2);
     Ok(())
 }
 
@@ -328,14 +330,14 @@ fn a_block_of_one_bid_or_of_one_quarter_has_a_gate(rt: HostRuntime) -> Result<()
         blocks: b"block,bid\nb,p1\nb,x1\n",
         ..ONE_BLOCK
     };
-    for (case, gates) in [
+    for (case, gates) in &[
         (one, [Some(0), None, Some(1), Some(2)]),
         (quarter, [Some(0), Some(0), Some(1), None]),
     ] {
-        let joint = joint_in(rt.alloc(), &case)??;
+        let joint = joint_in(rt.alloc(), case)??;
         let orders = joint.market.orders.as_slice();
-        for (order, gate) in orders.iter().zip(gates) {
-            assert_eq!(rt; order.gate, gate);
+        for (order, gate) in orders.iter().zip(*gates) {
+            same(&rt, order.gate, gate);
         }
         let whole = orders
             .iter()

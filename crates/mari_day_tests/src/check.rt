@@ -3,6 +3,7 @@
 ghost use Rattle.mari_remain.specs.Accepted.{IsAccepted};
 
 use crate::folder::{ONE_ZONE, Pages, TWO_ZONES, books, page, plan};
+use crate::same::{same, same_in};
 use mari_check::{StreamFault, Verdict, check_day, check_run, check_stream};
 use mari_io::MemoryShelf;
 use mari_publish::{Block, FullBlock, Publication, TextFault, read_text};
@@ -136,7 +137,7 @@ fn first_block(day: &Publication) -> Option<&FullBlock> {
     }
 }
 
-/// The fault that is told of the first run's block.
+/// The fault that is reported of the first run's block.
 fn fault_of(alloc: Global, books: &Books, day: &Publication) -> Result<Option<u8>, Fail>
     requires { IsAccepted books.now }
 {
@@ -178,7 +179,7 @@ pub(crate) fn shelf_of(alloc: Global, text: &[u8], piece: u32) -> Result<MemoryS
     Ok(MemoryShelf::with_piece(pages, plan, piece))
 }
 
-/// What is told of a text that a shelf gives in pieces of `piece` bytes.
+/// What is reported of a text that a shelf gives in pieces of `piece` bytes.
 fn told_in_pieces(
     alloc: Global,
     books: &Books,
@@ -196,7 +197,7 @@ fn told_in_pieces(
 /// The fault of a block, the verdict on its day, and that on its text in pieces of one byte.
 type Told = (Option<u8>, Verdict, Result<Verdict, StreamFault>);
 
-/// What is told of a text.
+/// What is reported of a text.
 fn told_of(alloc: Global, books: &Books, text: &[u8]) -> Result<Told, Fail>
     requires { IsAccepted books.now }
 {
@@ -204,7 +205,7 @@ fn told_of(alloc: Global, books: &Books, text: &[u8]) -> Result<Told, Fail>
     Ok((fault, verdict, told_in_pieces(alloc, books, text, 1)?))
 }
 
-/// What is told of a row of a day.
+/// What is reported of a row of a day.
 fn told_in(alloc: Global, day: &Day, row: &Row) -> Result<Told, Fail> {
     let text = text_with(alloc, day, row.0, row.1.as_bytes())?;
     let books = books(alloc, &day.folder)?;
@@ -231,7 +232,7 @@ fn a_day_as_printed_is_valid_and_an_altered_line_is_a_fault(rt: HostRuntime) -> 
         for row in *rows {
             let verdict = verdict_of(row.3);
             let want = (row.2, verdict, Ok(verdict));
-            assert_eq!(rt; told_in(rt.alloc(), day, row)?, want, "{}", row.1);
+            same_in(&rt, row.1, told_in(rt.alloc(), day, row)?, want);
         }
     }
     Ok(())
@@ -245,7 +246,7 @@ fn long_text(alloc: Global) -> Result<Vec<u8>, Fail> {
     text
 }
 
-/// What is told of that day in pieces of `piece` bytes, with the end of its last line and without it.
+/// What is reported of that day in pieces of `piece` bytes, with the end of its last line and without it.
 fn told_of_long(
     alloc: Global,
     books: &Books,
@@ -276,7 +277,7 @@ fn a_line_of_40_000_digits_is_bad_and_without_its_end_truncated(
         let told = told_of_long(alloc, &books, &text, *piece);
         drop(books);
         drop(text);
-        assert_eq!(rt; told?, [bad, cut_off]);
+        same(&rt, told?, [bad, cut_off]);
     }
     Ok(())
 }

@@ -1,6 +1,7 @@
 //! Folders that give books and folders that give none, and the text of a day.
 
 use crate::folder::{ONE_ZONE, Pages, books, plan, read};
+use crate::same::{same, same_in};
 use mari_day::{BooksFault, DayEnd, File, file_name, run_day};
 use mari_io::{Fetch, MemorySink};
 use mari_market::{Cleared, Clearer, Market};
@@ -77,8 +78,8 @@ fn with(folder: &Pages, changes: &[Change]) -> Pages {
     pages
 }
 
-/// What is told of a folder: how many quarters and borders it has, and whether limits for each run; or why it gives no
-/// books.
+/// What is reported of a folder: how many quarters and borders it has, and whether limits for each run; or why it gives
+/// no books.
 type Told = Result<(u32, usize, bool), BooksFault>;
 
 fn told(read: Result<Books, BooksFault>) -> Told {
@@ -93,7 +94,7 @@ fn told(read: Result<Books, BooksFault>) -> Told {
     }
 }
 
-/// What is told of a folder with these changes, where the fetches of these numbers fail.
+/// What is reported of a folder with these changes, where the fetches of these numbers fail.
 fn told_of(
     alloc: Global,
     folder: &Pages,
@@ -207,17 +208,17 @@ fn a_folder_is_refused_at_its_first_bad_line(rt: HostRuntime) -> Result<(), Fail
     for (folder, refusals) in REFUSALS {
         for (file, page, refusal) in *refusals {
             let told = told_of(rt.alloc(), folder, &[(*file, *page)], &[])?;
-            assert_eq!(rt; told, refused(*refusal));
+            same(&rt, told, refused(*refusal));
         }
     }
     Ok(())
 }
 
-/// Pages in the place of a folder's own, the fetches that fail, and what is told.
+/// Pages in the place of a folder's own, the fetches that fail, and what is reported.
 type Reading = (&'static [Change], &'static [u32], Told);
 
-/// Folders and what is told of them: days of 96, 92 and 100 quarters, limits that are fetched where the borders state
-/// none, and a page that isn't there, which is told before any page is read.
+/// Folders and what is reported of them: days of 96, 92 and 100 quarters, limits that are fetched where the borders
+/// state none, and a page that isn't there, which is reported before any page is read.
 const READINGS: &[(Pages, &[Reading])] = &[
     (
         ONE_ZONE,
@@ -265,7 +266,7 @@ const READINGS: &[(Pages, &[Reading])] = &[
 fn a_folder_gives_books_or_the_first_fetch_that_failed(rt: HostRuntime) -> Result<(), Fail> {
     for (folder, readings) in READINGS {
         for (changes, faults, want) in *readings {
-            assert_eq!(rt; told_of(rt.alloc(), folder, changes, faults)?, *want);
+            same(&rt, told_of(rt.alloc(), folder, changes, faults)?, *want);
         }
     }
     Ok(())
@@ -283,7 +284,7 @@ const NAMES: &[(u8, &str)] = &[
 fn names_of_files_by_their_numbers(rt: HostRuntime) {
     for (number, want) in NAMES {
         assert!(rt; 1 <= *number && *number <= 9);
-        assert_eq!(rt; file_name(*number), *want);
+        same(&rt, file_name(*number), *want);
     }
 }
 
@@ -385,7 +386,7 @@ const DAYS: &[(Pages, &str, DayEnd)] = &[
 #[test]
 fn a_day_is_written_whole_or_up_to_want_of_memory(rt: HostRuntime) -> Result<(), Fail> {
     for (folder, text, end) in DAYS {
-        assert_eq!(rt; day(rt.alloc(), folder, text)?, (*end, true), "{text}");
+        same_in(&rt, text, day(rt.alloc(), folder, text)?, (*end, true));
     }
     Ok(())
 }

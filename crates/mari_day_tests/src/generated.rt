@@ -5,6 +5,7 @@ ghost use Rattle.mari_market.specs.Market.{IsValid};
 ghost use Rattle.mari_remain.specs.Accepted.{IsAccepted};
 
 use crate::folder::plan;
+use crate::same::same;
 use mari_day::read_books;
 use mari_flow::solve;
 use mari_gates::prefix_feasible;
@@ -134,6 +135,6 @@ fn both_solvers_agree_from_any_start(rt: HostRuntime) -> Result<(), Fail> {
     let told = told(rt.alloc(), &market);
     drop(market);
     let (welfare, fast) = told?;
-    assert_eq!(rt; fast, [Some(welfare); 4]);
+    same(&rt, fast, [Some(welfare); 4]);
     Ok(())
 }

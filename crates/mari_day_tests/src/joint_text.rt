@@ -2,6 +2,7 @@
 
 use crate::blocks::{Case, ONE_BLOCK, PAYING_BLOCK};
 use crate::folder::books;
+use crate::same::same;
 use mari_blocks::{BlockBook, JointText, clear_joint};
 use mari_workers::Alone;
 use std::alloc::Global;
@@ -40,11 +41,11 @@ const PAYING: &[u8] = b"blocks 1 2 published\nwelfare 799712000\n\
 
 #[test]
 fn the_text_has_a_part_for_each_quarter(rt: HostRuntime) -> Result<(), Fail> {
-    for (case, begins) in [(ONE_BLOCK, AT_A_LOSS), (PAYING_BLOCK, PAYING)] {
-        let text = text_in(rt.alloc(), &case, 3)?;
+    for (case, begins) in &[(ONE_BLOCK, AT_A_LOSS), (PAYING_BLOCK, PAYING)] {
+        let text = text_in(rt.alloc(), case, 3)?;
         assert!(rt; text.published);
         let bytes = text.text.as_slice();
-        assert!(rt; bytes.starts_with(begins));
+        assert!(rt; bytes.starts_with(*begins));
         assert!(rt; bytes.ends_with(b"\nend\n"));
     }
     Ok(())
@@ -54,9 +55,10 @@ fn the_text_has_a_part_for_each_quarter(rt: HostRuntime) -> Result<(), Fail> {
 fn a_budget_below_the_search_tree_publishes_nothing(rt: HostRuntime) -> Result<(), Fail> {
     let text = text_in(rt.alloc(), &ONE_BLOCK, 2)?;
     assert!(rt; !text.published);
-    assert_eq!(rt;
+    same(
+        &rt,
         text.text.as_slice(),
-        b"blocks 1 2 unpublished 1\n".as_slice()
+        b"blocks 1 2 unpublished 1\n".as_slice(),
     );
     Ok(())
 }

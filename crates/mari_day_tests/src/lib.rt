@@ -21,6 +21,8 @@ mod joint_text;
 #[cfg(test)]
 mod remain;
 #[cfg(test)]
+mod same;
+#[cfg(test)]
 mod scenario;
 #[cfg(test)]
 mod settle;

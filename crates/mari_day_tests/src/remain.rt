@@ -6,6 +6,7 @@ ghost use Rattle.mari_remain.specs.Blocks.{PastBlock};
 ghost use Rattle.mari_remain.specs.FirstBlocks.{StandsFor};
 
 use crate::folder::{Pages, TWO_ZONES, books};
+use crate::same::same_in;
 use mari_market::Activation;
 use mari_remain::{Books, Remaining, RunMarket};
 use mari_units::Items;
@@ -231,7 +232,7 @@ fn last(made: &RunMarket) -> Option<(Option<u32>, Option<u32>)> {
     Some((gate.group, gate.parent))
 }
 
-/// What is told of a run's market.
+/// What is reported of a run's market.
 fn told(made: &RunMarket) -> Told {
     let first = [
         offer_at(made, 0),
@@ -337,7 +338,7 @@ fn market_behind(
     Ok(remaining.market_of(alloc, books, run)?)
 }
 
-/// What is told of the market of the run after those that did so.
+/// What is reported of the market of the run after those that did so.
 fn told_behind(alloc: Global, books: &Books, done: &[Done]) -> Result<Told, Fail>
     requires { IsAccepted books.now }
 {
@@ -350,7 +351,7 @@ fn told_behind(alloc: Global, books: &Books, done: &[Done]) -> Result<Told, Fail
     Ok(told)
 }
 
-/// What is told of a case.
+/// What is reported of a case.
 fn told_in(alloc: Global, folder: &Pages, case: &Case) -> Result<Told, Fail> {
     let books = books(alloc, folder)?;
     let told = told_behind(alloc, &books, case.done);
@@ -381,7 +382,7 @@ fn a_run_has_what_those_before_it_left(rt: HostRuntime) -> Result<(), Fail> {
     for (folder, cases) in FOLDERS {
         for case in *cases {
             let told = told_in(rt.alloc(), folder, case)?;
-            assert_eq!(rt; told, wanted(case), "{}", case.name);
+            same_in(&rt, case.name, told, wanted(case));
         }
     }
     Ok(())

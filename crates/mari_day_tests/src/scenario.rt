@@ -1,5 +1,6 @@
 //! The pages of a generated day.
 
+use crate::same::{same, same_in};
 use mari_io::Page;
 use mari_scenario::scenario_pages;
 use std::alloc::Global;
@@ -9,7 +10,7 @@ use std::test::Fail;
 type Row = (&'static str, usize, &'static str, &'static str);
 
 /// The pages of number 1: 8 zones, 960 bids, 24 runs and 192 demands. The draws run on through the files, so the last
-/// line of each tells of all before it.
+/// line of each depends on all before it.
 const PAGES: &[Row] = &[
     (
         "s/day.csv",
@@ -88,9 +89,9 @@ fn told(alloc: Global) -> Result<(usize, [Option<usize>; 7]), Fail> {
 #[test]
 fn pages_of_number_1_are_as_its_draws_say(rt: HostRuntime) -> Result<(), Fail> {
     let (count, lines) = told(rt.alloc())?;
-    assert_eq!(rt; count, 7);
+    same(&rt, count, 7);
     for (place, row) in PAGES.iter().enumerate() {
-        assert_eq!(rt; lines.get(place), Some(&Some(row.1)), "{}", row.0);
+        same_in(&rt, row.0, lines.get(place), Some(&Some(row.1)));
     }
     Ok(())
 }

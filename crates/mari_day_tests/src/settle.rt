@@ -5,6 +5,7 @@ ghost use Rattle.mari_remain.specs.Accepted.{IsAccepted};
 ghost use Rattle.mari_settle.specs.Conditions.{HasSmallNumbers};
 
 use crate::folder::{ONE_ZONE, Pages, TWO_ZONES, books};
+use crate::same::{same, same_in};
 use mari_bids::Bid;
 use mari_market::{Activation, Prices};
 use mari_progress::{Progress, heading, ledger_of, providers_of, run_count};
@@ -149,7 +150,7 @@ fn first_rent(ledger: &Ledger) -> Option<i128> {
     Some(rent.0)
 }
 
-/// What is told of a ledger.
+/// What is reported of a ledger.
 fn told(ledger: &Ledger) -> Told {
     let counts = [
         ledger.operators.as_slice().len(),
@@ -255,7 +256,7 @@ fn ledger_in(alloc: Global, run: &Run) -> Result<Ledger, Fail>
     ledger
 }
 
-/// What is told of the ledger of a run.
+/// What is reported of the ledger of a run.
 fn told_in(alloc: Global, run: &Run) -> Result<Told, Fail> {
     let ledger = ledger_in(alloc, run)?;
     let told = told(&ledger);
@@ -266,7 +267,7 @@ fn told_in(alloc: Global, run: &Run) -> Result<Told, Fail> {
 #[test]
 fn a_run_pays_operators_providers_and_borders(rt: HostRuntime) -> Result<(), Fail> {
     for (name, run, lines) in RUNS {
-        assert_eq!(rt; told_in(rt.alloc(), run)?, wanted(lines), "{name}");
+        same_in(&rt, name, told_in(rt.alloc(), run)?, wanted(lines));
     }
     Ok(())
 }
@@ -284,7 +285,7 @@ fn add_up(sum: &mut Ledger, other: &Ledger)
     }
 }
 
-/// What is told of the sum of the ledgers of two runs.
+/// What is reported of the sum of the ledgers of two runs.
 fn told_of_both(alloc: Global, run: &Run, other: &Run) -> Result<Told, Fail> {
     let other = ledger_in(alloc, other)?;
     let mut sum = ledger_in(alloc, run)?;
@@ -305,7 +306,7 @@ const SUMS: Lines = Lines {
 #[test]
 fn ledgers_of_two_runs_add_up(rt: HostRuntime) -> Result<(), Fail> {
     let told = told_of_both(rt.alloc(), CONGESTED, ODD)?;
-    assert_eq!(rt; told, wanted(&SUMS));
+    same(&rt, told, wanted(&SUMS));
     Ok(())
 }
 
@@ -327,6 +328,6 @@ fn bid_of(provider: u32) -> Bid {
 fn providers_stand_by_their_first_bids(rt: HostRuntime) -> Result<(), Fail> {
     let bids = [bid_of(3), bid_of(1), bid_of(3), bid_of(2)];
     let providers = providers_of(rt.alloc(), &bids, &[2, 1, 3, 0])?;
-    assert_eq!(rt; providers.as_slice(), [3, 1, 2].as_slice());
+    same(&rt, providers.as_slice(), [3, 1, 2].as_slice());
     Ok(())
 }

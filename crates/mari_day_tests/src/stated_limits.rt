@@ -4,6 +4,7 @@ ghost use Rattle.mari_remain.specs.Accepted.{IsAccepted};
 
 use crate::folder::{Pages, books};
 use crate::remain::{STATED, THREE_RUNS};
+use crate::same::same_in;
 use mari_remain::{Books, borders_text, limits_text};
 use std::alloc::Global;
 use std::test::Fail;
@@ -50,7 +51,7 @@ const LIMITS: &[(Pages, &str)] = &[
 fn pages_of_limits_for_each_run(rt: HostRuntime) -> Result<(), Fail> {
     for (folder, limits) in LIMITS {
         let told = has_limits(rt.alloc(), folder, limits)?;
-        assert_eq!(rt; told, [true, true], "{limits}");
+        same_in(&rt, limits, told, [true, true]);
     }
     Ok(())
 }

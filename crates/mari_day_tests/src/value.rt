@@ -4,6 +4,7 @@ ghost use Rattle.mari_remain.specs.Accepted.{IsAccepted};
 
 use crate::check::{Day, FULL, shelf_of, text_with};
 use crate::folder::{TWO_ZONES, books};
+use crate::same::{same, same_in};
 use mari_capacity::{ValueEnd, Valued, value_stream};
 use mari_io::Fetch;
 use mari_publish::TextFault;
@@ -148,8 +149,8 @@ fn limits_are_valued_up_to_the_first_fault_of_the_check_or_the_text(
         for row in *rows {
             for piece in &[1, 65_536] {
                 let told = told_in(rt.alloc(), day, row, *piece)?;
-                assert_eq!(rt; told.text.as_slice(), row.3.as_bytes(), "{}", row.1);
-                assert_eq!(rt; told.end, row.4, "{}", row.1);
+                same_in(&rt, row.1, told.text.as_slice(), row.3.as_bytes());
+                same_in(&rt, row.1, told.end, row.4);
             }
         }
     }
@@ -168,6 +169,6 @@ fn a_publication_that_is_not_held_is_missing_and_nothing_is_told(
     drop(books);
     let told = told?;
     assert!(rt; told.text.as_slice().is_empty());
-    assert_eq!(rt; told.end, ValueEnd::Fetch(Fetch::Missing));
+    same(&rt, told.end, ValueEnd::Fetch(Fetch::Missing));
     Ok(())
 }

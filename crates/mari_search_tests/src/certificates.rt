@@ -1,6 +1,7 @@
 //! Certificates and trees of an indivisible bid that is larger than the demand, of a bid that its own price would
 //! reject, and of two equal bids.
 
+use crate::same::{same, same_in};
 use crate::small::{
     DOWN, MarketRow, OVERSIZED, PARADOX, UP, activation_of, market_of, prefix, prices_of,
 };
@@ -156,7 +157,7 @@ fn holds_in(alloc: Global, case: &Case) -> Result<Option<bool>, Fail> {
 fn certificates_that_hold_or_not(rt: HostRuntime) -> Result<(), Fail> {
     for case in CASES {
         let holds = holds_in(rt.alloc(), case)?;
-        assert_eq!(rt; holds, Some(case.holds), "{}", case.name);
+        same_in(&rt, case.name, holds, Some(case.holds));
     }
     Ok(())
 }
@@ -181,7 +182,7 @@ fn a_rejected_paradox_bid_leaves_its_dual_value(rt: HostRuntime) -> Result<(), F
     let value = value(&market, one_gate(false), &cap);
     drop(market);
     drop(cap);
-    assert_eq!(rt; value, Some(399_956_000));
+    same(&rt, value, Some(399_956_000));
     Ok(())
 }
 
@@ -338,7 +339,7 @@ fn verdict_in(alloc: Global, case: &TreeCase) -> Result<Option<TreeVerdict>, Fai
 fn verdicts_on_trees(rt: HostRuntime) -> Result<(), Fail> {
     for case in TREE_CASES {
         let verdict = verdict_in(rt.alloc(), case)?;
-        assert_eq!(rt; verdict, Some(case.verdict), "{}", case.name);
+        same_in(&rt, case.name, verdict, Some(case.verdict));
     }
     Ok(())
 }

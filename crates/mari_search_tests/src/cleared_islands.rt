@@ -3,6 +3,7 @@
 ghost use Rattle.mari_market.specs.Market.{IsValid};
 
 use crate::islands::{CONGESTED, NetworkRow, PLAIN_AND_OVERSIZED, TWICE_OVERSIZED, market_of};
+use crate::same::same;
 use crate::searches::alone;
 use crate::small::{DOWN, Few, UP, activation_of, few};
 use mari_islands::{IslandsCleared, Joined, check_islands, clear_islands, islands_of};
@@ -67,9 +68,10 @@ fn said(alloc: Global, row: &NetworkRow, budget: u32) -> Result<Said, Fail> {
 fn a_budget_of_one_island_does_for_two(rt: HostRuntime) -> Result<(), Fail> {
     let alloc = rt.alloc();
     let both = [Some((299_847_000, 3)), Some((299_847_000, 3))];
-    assert_eq!(rt;
+    same(
+        &rt,
         said(alloc, &TWICE_OVERSIZED, 3)?,
-        Ok((599_694_000, (6, [0, 30, 0, 30]), None, both))
+        Ok((599_694_000, (6, [0, 30, 0, 30]), None, both)),
     );
     let market = market_of(alloc, &TWICE_OVERSIZED)?;
     let whole = alone(alloc, &market, 3)?;
@@ -80,16 +82,17 @@ fn a_budget_of_one_island_does_for_two(rt: HostRuntime) -> Result<(), Fail> {
 #[test]
 fn two_zones_that_a_border_joins_are_cleared_together(rt: HostRuntime) -> Result<(), Fail> {
     let one = [Some((799_712_000, 1)), None];
-    assert_eq!(rt;
+    same(
+        &rt,
         said(rt.alloc(), &CONGESTED, 1)?,
-        Ok((799_712_000, (3, [50, 30, 80, 0]), Some(50), one))
+        Ok((799_712_000, (3, [50, 30, 80, 0]), Some(50), one)),
     );
     Ok(())
 }
 
 #[test]
 fn the_first_island_whose_budget_is_spent_is_named(rt: HostRuntime) -> Result<(), Fail> {
-    assert_eq!(rt; said(rt.alloc(), &PLAIN_AND_OVERSIZED, 1)?, Err((1, 1)));
+    same(&rt, said(rt.alloc(), &PLAIN_AND_OVERSIZED, 1)?, Err((1, 1)));
     Ok(())
 }
 
@@ -185,12 +188,12 @@ fn each_of_64_zones_is_an_island(rt: HostRuntime) -> Result<(), Fail> {
     if !market.valid() {
         return Err("the market is valid".into());
     }
-    assert_eq!(rt; islands_of(rt.alloc(), &market)?.len(), 64);
+    same(&rt, islands_of(rt.alloc(), &market)?.len(), 64);
     let IslandsCleared::Published(joined, clearings) = cleared(rt.alloc(), &market, 1)? else {
         return Err("one node for each island is enough".into());
     };
     // Each zone is worth 10 MW at 99,949.00 a MWh, for a quarter hour.
-    assert_eq!(rt; joined.welfare, 64 * 10 * 9_994_900);
-    assert_eq!(rt; clearings.as_slice().len(), 64);
+    same(&rt, joined.welfare, 64 * 10 * 9_994_900);
+    same(&rt, clearings.as_slice().len(), 64);
     Ok(())
 }

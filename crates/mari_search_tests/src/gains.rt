@@ -6,6 +6,7 @@ ghost use Rattle.mari_market.specs.Market.{IsValid};
 ghost use Rattle.mari_market.specs.Prefix.{IsFeasiblePrefix, word_of};
 ghost use Rattle.mari_market.specs.Relaxation.{IsRelaxedWelfare};
 
+use crate::same::{same, same_in};
 use crate::small::{CONGESTED, DOWN, MarketRow, UP, market_of, prefix, prices_of};
 use mari_capacity::{gain, rise};
 use mari_gates::prefix_feasible;
@@ -186,7 +187,7 @@ fn what_gate_words_gain_by_a_raised_limit(rt: HostRuntime) -> Result<(), Fail> {
         let word = prefix(case.length, case.bits);
         let gained = gained(rt.alloc(), &market, &word, case.forth, case.more);
         drop(market);
-        assert_eq!(rt; gained?, (case.before, case.after), "{}", case.name);
+        same_in(&rt, case.name, gained?, (case.before, case.after));
     }
     Ok(())
 }
@@ -212,6 +213,6 @@ fn rises_by_two_prices(rt: HostRuntime) -> Result<(), Fail> {
     let prices = prices_of(rt.alloc(), &[2000, 6000])?;
     let rises = rises_at(&prices);
     drop(prices);
-    assert_eq!(rt; rises?, (40_000, 0));
+    same(&rt, rises?, (40_000, 0));
     Ok(())
 }

@@ -1,5 +1,6 @@
 //! Groups and parents, each in one small market.
 
+use crate::same::{same, same_in};
 use crate::small::{Few, MarketRow, UP, few, market_of, prefix};
 use mari_gates::{bound_of, bounds_of, comes_before, may_branch_up, prefix_feasible};
 use mari_market::{Bounds, Market, Prefix};
@@ -143,7 +144,7 @@ fn bound_in(alloc: Global, case: &Case) -> Result<Option<(u32, u32)>, Fail> {
 #[test]
 fn bounds_at_prefixes(rt: HostRuntime) -> Result<(), Fail> {
     for case in CASES {
-        assert_eq!(rt; bound_in(rt.alloc(), case)?, case.bound, "{}", case.name);
+        same_in(&rt, case.name, bound_in(rt.alloc(), case)?, case.bound);
     }
     Ok(())
 }
@@ -181,8 +182,8 @@ fn one_open_bid_closes_its_group(rt: HostRuntime) -> Result<(), Fail> {
     ];
     let bounds = bounds(rt.alloc(), &market, prefix(1, 1));
     drop(market);
-    assert_eq!(rt; may_open, [Some(true), Some(false), Some(true)]);
-    assert_eq!(rt; bounds, Some((few(&[1, 0, 0]), few(&[10, 0, 100]))));
+    same(&rt, may_open, [Some(true), Some(false), Some(true)]);
+    same(&rt, bounds, Some((few(&[1, 0, 0]), few(&[10, 0, 100]))));
     Ok(())
 }
 
@@ -212,15 +213,16 @@ fn closed_comes_before_open_at_the_first_gate_that_differs(rt: HostRuntime) -> R
         before(&market, prefix(1, 1), first_open),
     ];
     drop(market);
-    assert_eq!(rt;
+    same(
+        &rt,
         found,
         [
             Some(true),
             Some(false),
             Some(false),
             Some(true),
-            Some(false)
-        ]
+            Some(false),
+        ],
     );
     Ok(())
 }

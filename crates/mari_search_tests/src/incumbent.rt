@@ -2,6 +2,7 @@
 
 ghost use Rattle.std.specs.Prelude.{◌≡◌, ◌<◌};
 
+use crate::same::same;
 use mari_incumbent::{Incumbent, Seat};
 use std::test::Fail;
 use std::thread::join;
@@ -10,14 +11,14 @@ use std::thread::join;
 fn two_seats_of_one_incumbent(rt: HostRuntime) -> Result<(), Fail> {
     let (incumbent, mut first) = Incumbent::start(rt.alloc(), 5, 2)?;
     let mut second = incumbent.split(&mut first);
-    assert_eq!(rt; incumbent.offer(&mut second, 9), 9);
-    assert_eq!(rt; incumbent.offer(&mut first, 7), 9);
-    assert_eq!(rt; incumbent.meet(&mut first, &mut second), 9);
+    same(&rt, incumbent.offer(&mut second, 9), 9);
+    same(&rt, incumbent.offer(&mut first, 7), 9);
+    same(&rt, incumbent.meet(&mut first, &mut second), 9);
     incumbent.join(&mut first, second);
-    assert_eq!(rt; first.seen(), 9);
-    assert_eq!(rt; first.offered(), 9);
-    assert_eq!(rt; incumbent.look(&mut first), 9);
-    assert_eq!(rt; incumbent.close(first), 9);
+    same(&rt, first.seen(), 9);
+    same(&rt, first.offered(), 9);
+    same(&rt, incumbent.look(&mut first), 9);
+    same(&rt, incumbent.close(first), 9);
     Ok(())
 }
 
@@ -51,6 +52,6 @@ fn two_threads_offer_and_the_greatest_is_kept(rt: HostRuntime) -> Result<(), Fai
         { offer_from(shared, second, 501) },
     );
     incumbent.join(&mut one, other);
-    assert_eq!(rt; incumbent.close(one), 1500);
+    same(&rt, incumbent.close(one), 1500);
     Ok(())
 }

@@ -1,5 +1,6 @@
 //! Islands: which zones are in one, and what it is as a market.
 
+use crate::same::same_in;
 use crate::small::{DOWN, Few, OrderRow, TWO_ZONES, UP, few};
 use mari_islands::{Island, islands_of};
 use mari_market::{Border, GateInfo, Market, Order};
@@ -237,7 +238,7 @@ fn islands_are_what_nothing_joins(rt: HostRuntime) -> Result<(), Fail> {
     for case in CASES {
         let expected = [0, 1, 2].map(|place| case.islands.get(place).copied());
         let rows = rows_of(rt.alloc(), &case.market)?;
-        assert_eq!(rt; rows, (case.islands.len(), expected), "{}", case.name);
+        same_in(&rt, case.name, rows, (case.islands.len(), expected));
     }
     Ok(())
 }

@@ -34,6 +34,8 @@ mod random;
 #[cfg(test)]
 mod rounding;
 #[cfg(test)]
+mod same;
+#[cfg(test)]
 mod searches;
 #[cfg(test)]
 mod small;

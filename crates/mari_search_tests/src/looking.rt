@@ -5,6 +5,7 @@ ghost use Rattle.mari_incumbent.specs.Incumbent.{IsFresh};
 ghost use Rattle.mari_market.specs.Market.{IsValid};
 ghost use Rattle.mari_market.specs.Relaxation.{IsClosedWelfare};
 
+use crate::same::same;
 use crate::searches::one_of;
 use crate::small::{OVERSIZED, market_of};
 use mari_incumbent::{Incumbent, Seat};
@@ -79,8 +80,8 @@ fn made_of_oversized<R: Wait>(rt: &R, alloc: Global, welfare: u64) -> Result<Tol
 #[test]
 fn a_worker_closes_its_node_at_what_another_offered(rt: HostRuntime) -> Result<(), Fail> {
     let at_the_bound = made_of_oversized(&rt, rt.alloc(), 299_907_000)?;
-    assert_eq!(rt; at_the_bound, (1, Some(PartItem::Closed)));
+    same(&rt, at_the_bound, (1, Some(PartItem::Closed)));
     let below_it = made_of_oversized(&rt, rt.alloc(), 299_906_999)?;
-    assert_eq!(rt; below_it, (3, None));
+    same(&rt, below_it, (3, None));
     Ok(())
 }

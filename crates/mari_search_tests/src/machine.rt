@@ -4,6 +4,7 @@
 ghost use Rattle.std.specs.Prelude.{◌≡◌, take, IfOk, [], ◌∷◌};
 ghost use Rattle.mari_search_tests.specs.Example.{oversized, first, at_root, at_closed, at_open, all_events, taken_twice};
 
+use crate::same::same;
 use crate::small::{Few, few};
 use mari_core::{Event, FinishFault, ReplayFault, Search, StepFault, replay};
 use mari_market::{
@@ -225,7 +226,7 @@ fn told(clearing: &Clearing) -> Told {
     (clearing.welfare, mw, is_tree)
 }
 
-/// What is told of the clearing after all events.
+/// What is reported of the clearing after all events.
 fn finished(alloc: Global, market: &Market) -> Result<Told, Fail>
     requires { market.now ≡ oversized }
 {
@@ -276,7 +277,7 @@ fn two_actors_close_the_tree(rt: HostRuntime) -> Result<(), Fail> {
     let finished = finished(rt.alloc(), &market);
     drop(market);
     let want = (299_847_000, few(&[0, 30, 30]), true);
-    assert_eq!(rt; finished?, want);
+    same(&rt, finished?, want);
     Ok(())
 }
 
@@ -291,7 +292,7 @@ fn a_leaf_that_is_not_closed_is_named(rt: HostRuntime) -> Result<(), Fail> {
         Some(PartItem::Pending),
         None,
     ];
-    assert_eq!(rt; unfinished?, (part, Some(FinishFault::NotClosed(2))));
+    same(&rt, unfinished?, (part, Some(FinishFault::NotClosed(2))));
     Ok(())
 }
 
@@ -301,7 +302,7 @@ fn a_node_is_not_taken_twice(rt: HostRuntime) -> Result<(), Fail> {
     let refusal = refusal(rt.alloc(), &market);
     drop(market);
     let fault = StepFault::NotUntaken;
-    assert_eq!(rt; refusal?, Some(ReplayFault { place: 4, fault }));
+    same(&rt, refusal?, Some(ReplayFault { place: 4, fault }));
     Ok(())
 }
 
@@ -322,7 +323,7 @@ fn children_that_do_not_fit_the_budget_are_not_made(rt: HostRuntime) -> Result<(
     let full = full(rt.alloc(), &market);
     drop(market);
     let part = [Some(PartItem::Pending), None, None, None];
-    assert_eq!(rt; full?, (true, Some(0), part));
+    same(&rt, full?, (true, Some(0), part));
     Ok(())
 }
 
@@ -370,7 +371,7 @@ fn steps<'m>(search: &mut Search<'m>) -> Steps {
     (takes, taken, returns, search.untaken())
 }
 
-/// What a new search tells, and what steps give then.
+/// What a new search reports, and what steps give then.
 fn begun(alloc: Global, market: &Market) -> Result<(Start, Steps), Fail>
     requires { market.now ≡ oversized }
 {
@@ -387,7 +388,11 @@ fn a_new_search_refuses_steps_in_order(rt: HostRuntime) -> Result<(), Fail> {
     let begun = begun(rt.alloc(), &market);
     drop(market);
     let (start, steps) = begun?;
-    assert_eq!(rt; start, ([Some(0), None], [Some(299_847_000), None], false));
+    same(
+        &rt,
+        start,
+        ([Some(0), None], [Some(299_847_000), None], false),
+    );
     let takes = [
         Err(StepFault::NoActor),
         Err(StepFault::NoNode),
@@ -395,6 +400,6 @@ fn a_new_search_refuses_steps_in_order(rt: HostRuntime) -> Result<(), Fail> {
         Ok(()),
     ];
     let returns = [Err(StepFault::NotTaken), Ok(())];
-    assert_eq!(rt; steps, (takes, None, returns, Some(0)));
+    same(&rt, steps, (takes, None, returns, Some(0)));
     Ok(())
 }

@@ -4,6 +4,7 @@ ghost use Rattle.std.specs.Prelude.{◌≤◌};
 ghost use Rattle.mari_market.specs.Clearing.{Clears};
 ghost use Rattle.mari_market.specs.Market.{IsValid};
 
+use crate::same::same;
 use crate::small::{MarketRow, UP, market_of};
 use mari_market::{Cleared, Clearer, Market};
 use mari_units::{Cents, Items};
@@ -63,8 +64,8 @@ fn count_valid(alloc: Global, rows: &[MarketRow]) -> Result<usize, Fail> {
 
 #[test]
 fn a_gated_order_has_a_least_and_a_plain_one_has_none(rt: HostRuntime) -> Result<(), Fail> {
-    assert_eq!(rt; count_valid(rt.alloc(), VALID)?, VALID.len());
-    assert_eq!(rt; count_valid(rt.alloc(), NOT_VALID)?, 0);
+    same(&rt, count_valid(rt.alloc(), VALID)?, VALID.len());
+    same(&rt, count_valid(rt.alloc(), NOT_VALID)?, 0);
     Ok(())
 }
 
@@ -111,5 +112,5 @@ fn one_clearer_serves_two_calls(rt: HostRuntime) {
     let mut clearer = Starved { calls: 0 };
     let answers = clear_twice(&mut clearer, alloc, &market);
     assert!(rt; matches!(answers, (Cleared::Memory, Cleared::Memory)));
-    assert_eq!(rt; clearer.calls, 2);
+    same(&rt, clearer.calls, 2);
 }

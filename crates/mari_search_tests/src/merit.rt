@@ -4,6 +4,7 @@ ghost use Rattle.std.specs.Prelude.{◌≡◌, ◌≤◌, ◌↔◌, [], IsTrue,
 ghost use Rattle.std.specs.List.{AllZip};
 ghost use Rattle.mari_merit.specs.Ladder.{AreBounds};
 
+use crate::same::{same, same_in};
 use crate::small::{CONGESTED, DOWN, DOWNWARD, ELASTIC, Few, MarketRow, UP, few, market_of};
 use mari_market::{Bounds, Clearing, Market, Side};
 use mari_merit::{Ladder, clear_plain, ladder_of};
@@ -72,7 +73,7 @@ fn told(clearing: &Clearing) -> Told {
     (mw, clearing.welfare, clearing.tree.as_slice().len())
 }
 
-/// What is told of the clearing of a market.
+/// What is reported of the clearing of a market.
 fn cleared(alloc: Global, market: &Market) -> Result<Told, Fail> {
     if !(market.valid() && is_lone(market)) {
         return Err("the market is valid, with one zone and no gate".into());
@@ -83,7 +84,7 @@ fn cleared(alloc: Global, market: &Market) -> Result<Told, Fail> {
     Ok(told)
 }
 
-/// What is told of a case.
+/// What is reported of a case.
 fn told_in(alloc: Global, case: &Case) -> Result<Told, Fail> {
     let market = market_of(alloc, &case.market)?;
     let told = cleared(alloc, &market);
@@ -95,7 +96,7 @@ fn told_in(alloc: Global, case: &Case) -> Result<Told, Fail> {
 fn plain_markets(rt: HostRuntime) -> Result<(), Fail> {
     for case in CASES {
         let want = (few(case.mw), case.welfare, 1);
-        assert_eq!(rt; told_in(rt.alloc(), case)?, want, "{}", case.name);
+        same_in(&rt, case.name, told_in(rt.alloc(), case)?, want);
     }
     Ok(())
 }
@@ -205,7 +206,7 @@ fn a_ladder_has_one_side_in_merit_order(rt: HostRuntime) -> Result<(), Fail> {
         None,
     ];
     let withdrawals = [Some((4, 9_999_900, 80)), Some((1, 2500, 25)), None, None];
-    assert_eq!(rt; ladders?, [injections, withdrawals]);
+    same(&rt, ladders?, [injections, withdrawals]);
     Ok(())
 }
 
@@ -244,6 +245,6 @@ fn a_ladder_is_of_its_zone_alone(rt: HostRuntime) -> Result<(), Fail> {
         [Some((1, 6000, 100)), None, None, None],
         [Some((2, 9_999_900, 80)), None, None, None],
     ];
-    assert_eq!(rt; ladders?, [first, none, second, demands]);
+    same(&rt, ladders?, [first, none, second, demands]);
     Ok(())
 }

@@ -1,5 +1,6 @@
 //! Findings at the nodes of small markets of one zone and one gate, with values computed by hand.
 
+use crate::same::{same, same_in};
 use crate::small::{
     DOWN, Few, MarketRow, OVERSIZED, PARADOX, UP, activation_of, few, market_of, prefix,
 };
@@ -9,11 +10,11 @@ use mari_node::{examine, examine_from};
 use std::alloc::Global;
 use std::test::Fail;
 
-/// What is told of a finding: the bound, the welfare of the best activation, if there is one, and whether there is a
-/// conflict; or the side of a cut of the one zone.
+/// What is reported of a finding: the bound, the welfare of the best activation, if there is one, and whether there is
+/// a conflict; or the side of a cut of the one zone.
 type Told = Result<(u64, Option<u64>, bool), Option<CutSide>>;
 
-/// A market, the prefix of so many gates that has this word of bits, and what is told there.
+/// A market, the prefix of so many gates that has this word of bits, and what is reported there.
 struct Case {
     name: &'static str,
     market: MarketRow,
@@ -110,7 +111,7 @@ fn told(finding: &Finding) -> Told {
     }
 }
 
-/// What is told of a prefix.
+/// What is reported of a prefix.
 fn told_at(alloc: Global, market: &Market, prefix: Prefix) -> Result<Told, Fail> {
     if !(market.valid() && prefix_feasible(market, &prefix)) {
         return Err("the market is valid, and the prefix is feasible in it".into());
@@ -121,7 +122,7 @@ fn told_at(alloc: Global, market: &Market, prefix: Prefix) -> Result<Told, Fail>
     Ok(told)
 }
 
-/// What is told of a case.
+/// What is reported of a case.
 fn told_in(alloc: Global, case: &Case) -> Result<Told, Fail> {
     let market = market_of(alloc, &case.market)?;
     let told = told_at(alloc, &market, prefix(case.length, case.bits));
@@ -132,7 +133,7 @@ fn told_in(alloc: Global, case: &Case) -> Result<Told, Fail> {
 #[test]
 fn findings_at_nodes(rt: HostRuntime) -> Result<(), Fail> {
     for case in CASES {
-        assert_eq!(rt; told_in(rt.alloc(), case)?, case.told, "{}", case.name);
+        same_in(&rt, case.name, told_in(rt.alloc(), case)?, case.told);
     }
     Ok(())
 }
@@ -148,7 +149,7 @@ fn left_in(start: Option<Activation>) -> Option<Few> {
     }
 }
 
-/// What is told of a prefix from a start, and what the start runs then.
+/// What is reported of a prefix from a start, and what the start runs then.
 fn told_from(
     alloc: Global,
     market: &Market,
@@ -167,7 +168,7 @@ fn told_from(
     Ok((told.ok_or("memory")?, left))
 }
 
-/// What is told of the root, of the node with the gate closed, and of the node with it open, from a start each.
+/// What is reported of the root, of the node with the gate closed, and of the node with it open, from a start each.
 fn three_nodes(
     alloc: Global,
     market: &Market,
@@ -193,7 +194,7 @@ fn every_start_leads_to_the_same_optimum(rt: HostRuntime) -> Result<(), Fail> {
             (closed, Some(few(&[0, 30, 30]))),
             (Err(Some(CutSide::Out)), Some(few(start))),
         ];
-        assert_eq!(rt; nodes?, want);
+        same(&rt, nodes?, want);
     }
     Ok(())
 }

@@ -1,5 +1,6 @@
 //! Prices, intervals and areas of small markets, and chains of those that have none.
 
+use crate::same::{same, same_in};
 use crate::small::{
     CONGESTED, DOWN, DOWNWARD, ELASTIC, Few, MarketRow, OrderRow, PARADOX, TWO_ZONES, UP,
     activation_of, few, market_of,
@@ -14,8 +15,8 @@ use std::test::Fail;
 /// A zone's published price, the least and the greatest of its interval, and its area.
 type Zone = (i64, i64, i64, u32);
 
-/// A market, what its orders run and what flows over its border; and what is told of that: of each zone, or the chain
-/// of a conflict.
+/// A market, what its orders run and what flows over its border; and what is reported of that: of each zone, or the
+/// chain of a conflict.
 struct Case {
     name: &'static str,
     market: MarketRow,
@@ -162,10 +163,10 @@ const CASES: &[Case] = &[
     },
 ];
 
-/// What is told of both zones, how many have an area, and the chain.
+/// What is reported of both zones, how many have an area, and the chain.
 type Told = ([Option<Zone>; 2], usize, Few);
 
-/// What is told of a zone, where it has an interval and an area.
+/// What is reported of a zone, where it has an interval and an area.
 fn zone_in(intervals: &Intervals, areas: &[u32], zone: usize) -> Option<Zone> {
     let least = intervals.least.cents.as_slice().get(zone);
     let greatest = intervals.greatest.cents.as_slice().get(zone);
@@ -178,7 +179,7 @@ fn zone_in(intervals: &Intervals, areas: &[u32], zone: usize) -> Option<Zone> {
     }
 }
 
-/// What is told of intervals or of why there are none, beside the areas.
+/// What is reported of intervals or of why there are none, beside the areas.
 fn told(tested: Result<Intervals, PriceFault>, areas: &[u32]) -> Result<Told, Fail> {
     match tested {
         Ok(intervals) => {
@@ -190,7 +191,7 @@ fn told(tested: Result<Intervals, PriceFault>, areas: &[u32]) -> Result<Told, Fa
     }
 }
 
-/// What is told of an activation.
+/// What is reported of an activation.
 fn told_of(alloc: Global, market: &Market, activation: &Activation) -> Result<Told, Fail> {
     if !(market.valid() && is_feasible(market, activation)) {
         return Err("the market is valid, and the activation is feasible".into());
@@ -201,7 +202,7 @@ fn told_of(alloc: Global, market: &Market, activation: &Activation) -> Result<To
     told
 }
 
-/// What is told of a case.
+/// What is reported of a case.
 fn told_in(alloc: Global, case: &Case) -> Result<Told, Fail> {
     let market = market_of(alloc, &case.market)?;
     let activation = activation_of(alloc, case.mw, case.flow)?;
@@ -216,7 +217,7 @@ fn prices_areas_and_chains(rt: HostRuntime) -> Result<(), Fail> {
     for case in CASES {
         let count = if case.market.limits.is_empty() { 1 } else { 2 };
         let want = (case.zones, count, few(case.chain));
-        assert_eq!(rt; told_in(rt.alloc(), case)?, want, "{}", case.name);
+        same_in(&rt, case.name, told_in(rt.alloc(), case)?, want);
     }
     Ok(())
 }
@@ -225,5 +226,5 @@ fn prices_areas_and_chains(rt: HostRuntime) -> Result<(), Fail> {
 fn nearest_price(rt: HostRuntime) {
     let within = nearest(Cents(2000), Cents(6000), Cents(4000));
     let beyond = nearest(Cents(5000), Cents(9_999_900), Cents(4000));
-    assert_eq!(rt; [within, beyond], [Cents(4000), Cents(5000)]);
+    same(&rt, [within, beyond], [Cents(4000), Cents(5000)]);
 }

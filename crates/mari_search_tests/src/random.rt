@@ -3,6 +3,7 @@
 ghost use Rattle.std.specs.Prelude.{◌<◌, ◌≤◌};
 ghost use Rattle.mari_market.specs.Clearing.{IsWorkerCount};
 
+use crate::same::same;
 use crate::searches::{alone, by_crew};
 use crate::small::opened;
 use mari_market::{
@@ -145,7 +146,7 @@ impl Turnstile for Yielding {
     }
 }
 
-/// A sum by which clearings are told apart: each number is mixed into those before it.
+/// A sum by which clearings are distinguished: each number is mixed into those before it.
 #[derive(Drop)]
 struct Sum {
     state: u64,
@@ -233,7 +234,7 @@ fn told_once(market: &Market, cleared: Cleared) -> Told {
     told
 }
 
-/// What is told of so many workers.
+/// What is reported of so many workers.
 fn told_by<R: Threads + Wait + Sync>(
     rt: &R,
     alloc: Global,
@@ -247,7 +248,7 @@ fn told_by<R: Threads + Wait + Sync>(
     Ok(told_once(market, cleared))
 }
 
-/// What is told of one thread, and of 1, 2, 4 and 16 workers.
+/// What is reported of one thread, and of 1, 2, 4 and 16 workers.
 fn told_of<R: Threads + Wait + Sync>(
     rt: &R,
     alloc: Global,
@@ -288,7 +289,7 @@ fn random_markets_come_to_the_clearing_that_one_thread_finds(rt: HostRuntime) ->
     for _ in 0..200 {
         let (by_one, by_crews) = told_of_next(&rt, rt.alloc(), &mut dice, &yielding)?;
         assert!(rt; by_one.is_some());
-        assert_eq!(rt; by_crews, [by_one; 4]);
+        same(&rt, by_crews, [by_one; 4]);
     }
     Ok(())
 }

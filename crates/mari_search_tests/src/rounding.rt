@@ -5,6 +5,7 @@ ghost use Rattle.mari_incumbent.specs.Incumbent.{IsFresh};
 ghost use Rattle.mari_market.specs.Market.{IsValid};
 ghost use Rattle.mari_market.specs.Relaxation.{IsClosedWelfare};
 
+use crate::same::same;
 use crate::small::{DOWN, MarketRow, UP, activation_of, market_of, opened};
 use mari_incumbent::{Incumbent, Seat};
 use mari_market::{Activation, Attained, Finding, Market, Prefix};
@@ -72,7 +73,7 @@ impl Turnstile for RootAlone {
 /// that was given back, if it waits.
 type Told = (Option<(u64, u64)>, Option<u32>);
 
-/// What is told of what was offered.
+/// What is reported of what was offered.
 fn offered(market: &Market, best: &Option<Attained>) -> Option<(u64, u64)> {
     match best {
         Some(best) => {
@@ -91,7 +92,7 @@ fn next<'m, N: SearchName>(mut pool: Pool<'m, N>) -> Option<u32> {
     }
 }
 
-/// What is told of a worker that settles the root alone.
+/// What is reported of a worker that settles the root alone.
 fn worked<'m, N: SearchName, R: Wait>(
     rt: &R,
     alloc: Global,
@@ -116,7 +117,7 @@ fn worked<'m, N: SearchName, R: Wait>(
     Ok((offered, next(pool.into_inner())))
 }
 
-/// What is told of that in a market.
+/// What is reported of that in a market.
 fn rounded_in<R: Wait>(rt: &R, alloc: Global, market: &Market) -> Result<Told, Fail> {
     if !market.valid() {
         return Err("the market is valid".into());
@@ -127,7 +128,7 @@ fn rounded_in<R: Wait>(rt: &R, alloc: Global, market: &Market) -> Result<Told, F
     worked::<Brand, R>(rt, alloc, market, &incumbent, pooled, seat)
 }
 
-/// What is told of the six bids.
+/// What is reported of the six bids.
 fn rounded<R: Wait>(rt: &R, alloc: Global) -> Result<Told, Fail> {
     let market = market_of(alloc, &SIX_GATES)?;
     let told = rounded_in(rt, alloc, &market);
@@ -139,7 +140,7 @@ fn rounded<R: Wait>(rt: &R, alloc: Global) -> Result<Told, Fail> {
 #[test]
 fn what_runs_its_least_is_opened_as_far_as_it_may_be(rt: HostRuntime) -> Result<(), Fail> {
     let (offered, next) = rounded(&rt, rt.alloc())?;
-    assert_eq!(rt; offered, Some((0b10_0101, 999_610_000)));
-    assert_eq!(rt; next, Some(1));
+    same(&rt, offered, Some((0b10_0101, 999_610_000)));
+    same(&rt, next, Some(1));
     Ok(())
 }

@@ -4,6 +4,7 @@ ghost use Rattle.std.specs.Prelude.{◌≡◌};
 ghost use Rattle.mari_market.specs.Clearing.{Clears, IsBudget, IsWorkerCount};
 ghost use Rattle.mari_market.specs.Market.{IsValid};
 
+use crate::same::{same, same_in};
 use crate::small::{DOWN, Few, MarketRow, OVERSIZED, PARADOX, UP, few, market_of};
 use mari_market::{
     Activation, Cleared, Clearer, Finding, Leaf, Market, PartItem, Prefix, TreeItem,
@@ -15,11 +16,11 @@ use std::sync::Wait;
 use std::test::Fail;
 use std::thread::Threads;
 
-/// What is told of a search: the welfare that is published and what the orders run, or how many items it is spent at,
-/// and the item where it is one.
+/// What is reported of a search: the welfare that is published and what the orders run, or how many items it is spent
+/// at, and the item where it is one.
 type Told = Result<(u64, Few), (usize, Option<PartItem>)>;
 
-/// A market, a budget, and what is told of a search within it.
+/// A market, a budget, and what is reported of a search within it.
 struct Case {
     name: &'static str,
     market: MarketRow,
@@ -139,14 +140,14 @@ pub(crate) fn by_crew<G: Turnstile, R: Threads + Wait + Sync>(
     cleared_by(&mut crew, alloc, market, budget)
 }
 
-/// What is told of one thread, by its function and as a clearer.
+/// What is reported of one thread, by its function and as a clearer.
 fn told_alone(alloc: Global, market: &Market, budget: u32) -> Result<[Told; 2], Fail> {
     let by_function = told_once(alone(alloc, market, budget)?);
     let by_clearer = told_once(cleared_by(&mut Alone, alloc, market, budget)?);
     Ok([by_function, by_clearer])
 }
 
-/// What is told of 1, 2, 4 and 16 workers.
+/// What is reported of 1, 2, 4 and 16 workers.
 fn told_by_crews<G: Turnstile, R: Threads + Wait + Sync>(
     rt: &R,
     alloc: Global,
@@ -162,7 +163,7 @@ fn told_by_crews<G: Turnstile, R: Threads + Wait + Sync>(
     ])
 }
 
-/// What is told of a case by workers that this turnstile serves.
+/// What is reported of a case by workers that this turnstile serves.
 fn told_with<G: Turnstile, R: Threads + Wait + Sync>(
     rt: &R,
     alloc: Global,
@@ -175,7 +176,7 @@ fn told_with<G: Turnstile, R: Threads + Wait + Sync>(
     told
 }
 
-/// What is told of a case by one thread.
+/// What is reported of a case by one thread.
 fn told_without(alloc: Global, case: &Case) -> Result<[Told; 2], Fail> {
     let market = market_of(alloc, &case.market)?;
     let told = told_alone(alloc, &market, case.budget);
@@ -186,14 +187,14 @@ fn told_without(alloc: Global, case: &Case) -> Result<[Told; 2], Fail> {
 #[test]
 fn one_thread_and_many_workers_come_to_the_same(rt: HostRuntime) -> Result<(), Fail> {
     for case in CASES {
-        assert_eq!(rt;
+        same_in(
+            &rt,
+            case.name,
             told_without(rt.alloc(), case)?,
             [case.told; 2],
-            "{}",
-            case.name
         );
         let by_crews = told_with(&rt, rt.alloc(), case, &FreeTurnstile)?;
-        assert_eq!(rt; by_crews, [case.told; 4], "{}", case.name);
+        same_in(&rt, case.name, by_crews, [case.told; 4]);
     }
     Ok(())
 }
@@ -217,8 +218,9 @@ impl Turnstile for Starved {
 
 #[test]
 fn workers_that_want_memory_leave_their_nodes(rt: HostRuntime) -> Result<(), Fail> {
-    let by_crews = told_with(&rt, rt.alloc(), &THREE_NODES, &Starved)?;
-    assert_eq!(rt; by_crews, [THREE_NODES.told; 4]);
+    let case = &THREE_NODES;
+    let by_crews = told_with(&rt, rt.alloc(), case, &Starved)?;
+    same(&rt, by_crews, [case.told; 4]);
     Ok(())
 }
 

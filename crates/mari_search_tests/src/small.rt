@@ -153,7 +153,7 @@ pub(crate) fn opened(orders: &[Order], mw: &[u32]) -> u64 {
 /// The length of a list, and its first four items, with 0 where there are fewer.
 pub(crate) type Few = (usize, [u32; 4]);
 
-/// What tells a list of at most four items from every other one.
+/// What distinguishes a list of at most four items from every other one.
 pub(crate) fn few(items: &[u32]) -> Few {
     let first = [at(items, 0), at(items, 1), at(items, 2), at(items, 3)];
     (items.len(), first)

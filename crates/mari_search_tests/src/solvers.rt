@@ -1,5 +1,6 @@
 //! Relaxed optima of small markets by both solvers, and a cut where there is none.
 
+use crate::same::{same, same_in};
 use crate::small::{
     CONGESTED, DOWN, Few, MarketRow, OVERSIZED, PARADOX, UP, few, market_of, prefix,
 };
@@ -14,10 +15,10 @@ use std::test::Fail;
 /// What a solver finds.
 type Found = Result<Solved, SolveFault>;
 
-/// What is told of it: the welfare of the optimum, or the side of a cut of zone 0 alone.
+/// What is reported of it: the welfare of the optimum, or the side of a cut of zone 0 alone.
 type Told = Result<u64, Option<CutSide>>;
 
-/// A market, the prefix of so many gates that has this word of bits, and what each solver tells there.
+/// A market, the prefix of so many gates that has this word of bits, and what each solver gives there.
 struct Case {
     name: &'static str,
     market: MarketRow,
@@ -91,7 +92,7 @@ fn told(found: Found) -> Told {
     }
 }
 
-/// What is told of what the plain and the fast solver find at a prefix.
+/// What is reported of what the plain and the fast solver find at a prefix.
 fn told_by_both(alloc: Global, market: &Market, prefix: Prefix) -> Result<[Told; 2], Fail> {
     if !(market.valid() && prefix_feasible(market, &prefix)) {
         return Err("the market is valid, and the prefix is feasible in it".into());
@@ -102,7 +103,7 @@ fn told_by_both(alloc: Global, market: &Market, prefix: Prefix) -> Result<[Told;
     ])
 }
 
-/// What is told of a case.
+/// What is reported of a case.
 fn told_in(alloc: Global, case: &Case) -> Result<[Told; 2], Fail> {
     let market = market_of(alloc, &case.market)?;
     let told = told_by_both(alloc, &market, prefix(case.length, case.bits));
@@ -113,7 +114,7 @@ fn told_in(alloc: Global, case: &Case) -> Result<[Told; 2], Fail> {
 #[test]
 fn welfare_or_a_cut(rt: HostRuntime) -> Result<(), Fail> {
     for case in CASES {
-        assert_eq!(rt; told_in(rt.alloc(), case)?, [case.told; 2], "{}", case.name);
+        same_in(&rt, case.name, told_in(rt.alloc(), case)?, [case.told; 2]);
     }
     Ok(())
 }
@@ -157,6 +158,6 @@ fn relaxed_optimum_of_two_zones(rt: HostRuntime) -> Result<(), Fail> {
     let found = optima(rt.alloc(), &market);
     drop(market);
     let want = Some((799_712_000, few(&[50, 30, 80]), 50, [2000, 6000]));
-    assert_eq!(rt; found?, [want; 2]);
+    same(&rt, found?, [want; 2]);
     Ok(())
 }

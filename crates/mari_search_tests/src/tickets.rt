@@ -6,6 +6,7 @@ ghost use Rattle.mari_market.specs.Clearing.{IsBudget, IsWorkerCount};
 ghost use Rattle.mari_market.specs.Market.{IsValid};
 ghost use Rattle.mari_market.specs.Relaxation.{IsClosedWelfare};
 
+use crate::same::same_in;
 use crate::searches::one_of;
 use crate::small::{DOWN, MarketRow, OVERSIZED, UP, market_of};
 use mari_incumbent::{Incumbent, Seat};
@@ -33,7 +34,7 @@ enum Play {
     GiveTwice,
 }
 
-/// What is told of it.
+/// What is reported of it.
 #[derive(Clone, Copy, Debug, PartialEq, Eq)]
 enum Told {
     /// The steps, and the next node.
@@ -53,7 +54,7 @@ struct Given {
     part: (usize, Option<PartItem>),
 }
 
-/// A market, its closed welfare, a budget and a number of workers; what is done with its pool, and what is told of
+/// A market, its closed welfare, a budget and a number of workers; what is done with its pool, and what is reported of
 /// that.
 struct Case {
     name: &'static str,
@@ -172,7 +173,7 @@ fn next<'m, N: SearchName>(pool: &mut Pool<'m, N>) -> Option<u32> {
     }
 }
 
-/// What is told of the first three nodes and the next one.
+/// What is reported of the first three nodes and the next one.
 fn three_settled<'m, N: SearchName>(
     alloc: Global,
     market: &Market,
@@ -229,7 +230,7 @@ fn fault_of<'m, N: SearchName>(alloc: Global, pool: &Pool<'m, N>) -> Option<Pool
     }
 }
 
-/// What is told of two tickets that are given back.
+/// What is reported of two tickets that are given back.
 fn given_twice<'m, N: SearchName>(alloc: Global, pool: &mut Pool<'m, N>) -> Result<Told, Fail>
     requires { 1 ≤ N.workers }
 {
@@ -245,7 +246,7 @@ fn given_twice<'m, N: SearchName>(alloc: Global, pool: &mut Pool<'m, N>) -> Resu
     }))
 }
 
-/// What is told of a pool.
+/// What is reported of a pool.
 fn played<'m, N: SearchName>(
     alloc: Global,
     market: &Market,
@@ -273,7 +274,7 @@ fn played<'m, N: SearchName>(
     }
 }
 
-/// What is told of a pool of this name, from a seat of its own and one for all workers.
+/// What is reported of a pool of this name, from a seat of its own and one for all workers.
 fn told_of<'m, N: SearchName>(
     alloc: Global,
     market: &'m Market,
@@ -296,7 +297,7 @@ fn told_of<'m, N: SearchName>(
     told
 }
 
-/// The closed welfare of a case's market, and what is told of its pool.
+/// The closed welfare of a case's market, and what is reported of its pool.
 fn told_at(alloc: Global, market: &Market, case: &Case) -> Result<(u64, Told), Fail> {
     let in_range = (1..=50_000).contains(&case.budget) && (1..=16).contains(&case.workers);
     if !(market.valid() && in_range) {
@@ -309,7 +310,7 @@ fn told_at(alloc: Global, market: &Market, case: &Case) -> Result<(u64, Told), F
     Ok((first.welfare, told))
 }
 
-/// What is told of a case.
+/// What is reported of a case.
 fn told_in(alloc: Global, case: &Case) -> Result<(u64, Told), Fail> {
     let market = market_of(alloc, &case.market)?;
     let told = told_at(alloc, &market, case);
@@ -320,11 +321,11 @@ fn told_in(alloc: Global, case: &Case) -> Result<(u64, Told), Fail> {
 #[test]
 fn tickets_of_a_pool(rt: HostRuntime) -> Result<(), Fail> {
     for case in CASES {
-        assert_eq!(rt;
+        same_in(
+            &rt,
+            case.name,
             told_in(rt.alloc(), case)?,
             (case.first, case.told),
-            "{}",
-            case.name
         );
     }
     Ok(())

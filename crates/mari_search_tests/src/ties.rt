@@ -2,6 +2,7 @@
 //!
 //! Each market's first gate word was found by hand, and is found again by listing all gate words.
 
+use crate::same::{same, same_in};
 use crate::searches::alone;
 use crate::small::{DOWN, Few, MarketRow, OrderRow, UP, few, market_of, opened, prefix};
 use mari_gates::{gate_word, prefix_feasible};
@@ -257,7 +258,7 @@ fn first_by_listing(alloc: Global, market: &Market, gates: u32) -> Result<(u64, 
     Ok(first)
 }
 
-/// What is told of a clearing: the bits of the gates whose orders run, those of the gate word, the welfare, and the
+/// What is reported of a clearing: the bits of the gates whose orders run, those of the gate word, the welfare, and the
 /// number of the tree's items.
 type Published = (u64, Option<u64>, u64, usize);
 
@@ -271,7 +272,7 @@ fn published(market: &Market, clearing: &Clearing) -> Published {
     )
 }
 
-/// What is told of the clearing that is published, if there is one.
+/// What is reported of the clearing that is published, if there is one.
 fn published_in(market: &Market, cleared: &Cleared) -> Option<Published> {
     match cleared {
         Cleared::Published(clearing) => Some(published(market, clearing)),
@@ -279,7 +280,7 @@ fn published_in(market: &Market, cleared: &Cleared) -> Option<Published> {
     }
 }
 
-/// What is told of the clearing within a budget, if there is one.
+/// What is reported of the clearing within a budget, if there is one.
 fn told_within(alloc: Global, market: &Market, budget: u32) -> Result<Option<Published>, Fail> {
     let cleared = alone(alloc, market, budget)?;
     let told = published_in(market, &cleared);
@@ -287,7 +288,8 @@ fn told_within(alloc: Global, market: &Market, budget: u32) -> Result<Option<Pub
     Ok(told)
 }
 
-/// What is told of the clearing of a market of so many gates, beside the first gate word by listing and its welfare.
+/// What is reported of the clearing of a market of so many gates, beside the first gate word by listing and its
+/// welfare.
 type Told = (Option<Published>, (u64, u64));
 
 fn told_of(alloc: Global, market: &Market, gates: u32, budget: u32) -> Result<Told, Fail> {
@@ -295,7 +297,7 @@ fn told_of(alloc: Global, market: &Market, gates: u32, budget: u32) -> Result<To
     Ok((told_within(alloc, market, budget)?, listed))
 }
 
-/// What is told of a case.
+/// What is reported of a case.
 fn told_in(alloc: Global, case: &Case) -> Result<Told, Fail> {
     let market = market_of(alloc, &case.market)?;
     let gates = case.market.gates.len().min(8) as u32;
@@ -308,15 +310,10 @@ fn told_in(alloc: Global, case: &Case) -> Result<Told, Fail> {
 fn the_first_optimal_gate_word_is_published(rt: HostRuntime) -> Result<(), Fail> {
     for case in CASES {
         let (published, (listed, greatest)) = told_in(rt.alloc(), case)?;
-        assert_eq!(rt; listed, case.bits, "{}", case.name);
+        same_in(&rt, case.name, listed, case.bits);
         let (opened, word, welfare, items) = published.ok_or("it is published")?;
-        assert_eq!(rt;
-            (opened, word),
-            (case.bits, Some(case.bits)),
-            "{}",
-            case.name
-        );
-        assert_eq!(rt; welfare, greatest, "{}", case.name);
+        same_in(&rt, case.name, (opened, word), (case.bits, Some(case.bits)));
+        same_in(&rt, case.name, welfare, greatest);
         assert!(rt; items <= case.budget as usize);
     }
     Ok(())
@@ -354,7 +351,7 @@ fn is_two_branches_and_three_bounds(tree: &[TreeItem]) -> bool {
     )
 }
 
-/// What is told of two equal blocks: what the orders run, the welfare, the interval of the price, the number of the
+/// What is reported of two equal blocks: what the orders run, the welfare, the interval of the price, the number of the
 /// tree's items and whether they are two branches and three bounds; or the number of items that the search is spent at.
 type Later = Result<(Few, u64, Option<(i64, i64)>, usize, bool), usize>;
 
@@ -372,7 +369,7 @@ fn later(alloc: Global, market: &Market, cleared: &Cleared) -> Later {
     }
 }
 
-/// What is told of what a search of two equal blocks comes to.
+/// What is reported of what a search of two equal blocks comes to.
 fn later_of(alloc: Global, market: &Market, budget: u32) -> Result<Later, Fail> {
     let cleared = alone(alloc, market, budget)?;
     let told = later(alloc, market, &cleared);
@@ -380,7 +377,7 @@ fn later_of(alloc: Global, market: &Market, budget: u32) -> Result<Later, Fail> 
     Ok(told)
 }
 
-/// What is told of two equal blocks within a budget.
+/// What is reported of two equal blocks within a budget.
 fn later_within(alloc: Global, budget: u32) -> Result<Later, Fail> {
     let market = market_of(alloc, &TWO_EQUAL)?;
     let told = later_of(alloc, &market, budget);
@@ -390,15 +387,15 @@ fn later_within(alloc: Global, budget: u32) -> Result<Later, Fail> {
 
 #[test]
 fn five_nodes_are_the_least_for_the_later_of_two_blocks(rt: HostRuntime) -> Result<(), Fail> {
-    for budget in [1, 2, 3, 4] {
+    for &budget in &[1, 2, 3, 4] {
         let spent = later_within(rt.alloc(), budget)?.err();
         assert!(rt; spent.is_some_and(|items| items <= budget as usize));
     }
-    for budget in [5, 7, 50_000] {
+    for &budget in &[5, 7, 50_000] {
         let later = later_within(rt.alloc(), budget)?.ok();
         let (mw, welfare, interval, items, small) = later.ok_or("it is published")?;
-        assert_eq!(rt; (mw, welfare), ((4, [0, 30, 0, 30]), 299_907_000));
-        assert_eq!(rt; interval, Some((3000, 5000)));
+        same(&rt, (mw, welfare), ((4, [0, 30, 0, 30]), 299_907_000));
+        same(&rt, interval, Some((3000, 5000)));
         assert!(rt; items == 7 || small);
         assert!(rt; budget > 5 || items == 5);
     }

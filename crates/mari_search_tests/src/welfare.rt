@@ -1,5 +1,6 @@
 //! Activations of small markets: what they are worth, whether they are feasible, and whether they bear prices.
 
+use crate::same::same_in;
 use crate::small::{
     CONGESTED, DOWN, DOWNWARD, ELASTIC, MarketRow, PARADOX, UP, activation_of, market_of, prices_of,
 };
@@ -156,7 +157,7 @@ fn activations_and_prices(rt: HostRuntime) -> Result<(), Fail> {
     for case in CASES {
         for row in case.rows {
             let verdict = judged(rt.alloc(), &case.market, row)?;
-            assert_eq!(rt; verdict, Some(row.3), "{}", case.name);
+            same_in(&rt, case.name, verdict, Some(row.3));
         }
     }
     Ok(())

@@ -2,6 +2,7 @@
 
 ghost use Rattle.mari_publish.specs.Ranges.{PartFits};
 
+use crate::same::{same, same_in};
 use crate::texts::made;
 use mari_feed::{FeedFault, part_text, read_part};
 use mari_publish::{Part, block_text, closing_text, head_text};
@@ -165,8 +166,8 @@ fn a_part_has_one_text_and_is_read_from_it(rt: HostRuntime) -> Result<(), Fail> 
         let json = part_text(alloc, &part)?;
         let lines = lines_of(alloc, &part)?;
         drop(part);
-        assert_eq!(rt; json.as_slice(), case.json.as_bytes());
-        assert_eq!(rt; lines.as_slice(), case.lines.as_bytes());
+        same(&rt, json.as_slice(), case.json.as_bytes());
+        same(&rt, lines.as_slice(), case.lines.as_bytes());
     }
     Ok(())
 }
@@ -178,7 +179,7 @@ fn spaces_escapes_and_the_order_of_keys_are_free(rt: HostRuntime) -> Result<(), 
         let part = read_part(alloc, head.as_bytes())?;
         let json = part_text(alloc, &part)?;
         drop(part);
-        assert_eq!(rt; json.as_slice(), CASES[0].json.as_bytes(), "{head}");
+        same_in(&rt, head, json.as_slice(), CASES[0].json.as_bytes());
     }
     Ok(())
 }
@@ -202,7 +203,7 @@ fn json_of_no_part_is_told_so(rt: HostRuntime) -> Result<(), Fail> {
             let (before, after) = form.split_once("*").ok_or("no field")?;
             let text = made(alloc, &[(before, 1), (field, 1), (after, 1)])?;
             let fault = fault_of(alloc, text.as_bytes());
-            assert_eq!(rt; fault, Some(FeedFault::NotAPart), "{text}");
+            same_in(&rt, text.as_str(), fault, Some(FeedFault::NotAPart));
         }
     }
     Ok(())
@@ -219,11 +220,16 @@ fn what_is_no_json_is_told_so(rt: HostRuntime) -> Result<(), Fail> {
         );
     }
     let deep = made(alloc, &[("[", 127), ("]", 127)])?;
-    assert_eq!(rt; fault_of(alloc, deep.as_bytes()), Some(FeedFault::NotAPart));
+    same(
+        &rt,
+        fault_of(alloc, deep.as_bytes()),
+        Some(FeedFault::NotAPart),
+    );
     let deeper = made(alloc, &[("[", 128), ("]", 128)])?;
-    assert_eq!(rt;
+    same(
+        &rt,
         fault_of(alloc, deeper.as_bytes()),
-        Some(FeedFault::NotJson)
+        Some(FeedFault::NotJson),
     );
     Ok(())
 }

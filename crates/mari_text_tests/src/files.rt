@@ -2,6 +2,7 @@
 
 ghost use Rattle.std.specs.Prelude.{◌≡◌, true};
 
+use crate::same::same;
 use mari_io::{DiskShelf, Fetch, Shelf, fetch_opened, read_piece};
 use std::io::{ErrorKind, Read};
 use std::test::Fail;
@@ -29,14 +30,14 @@ fn fetch_real(
 #[test]
 fn a_real_file_is_a_page(rt: HostRuntime) -> Result<(), Fail> {
     let answer = fetch_real(rt, "mari_test_page", 20_000)?;
-    assert_eq!(rt; answer, (Ok(()), 20_000, (0, 0, 0)));
+    same(&rt, answer, (Ok(()), 20_000, (0, 0, 0)));
     Ok(())
 }
 
 #[test]
 fn a_real_file_is_too_long_past_the_limit(rt: HostRuntime) -> Result<(), Fail> {
     let answer = fetch_real(rt, "mari_test_long_page", 268_435_457)?;
-    assert_eq!(rt; answer, (Err(Fetch::TooLong), 0, (0, 0, 1)));
+    same(&rt, answer, (Err(Fetch::TooLong), 0, (0, 0, 1)));
     Ok(())
 }
 
@@ -44,12 +45,12 @@ fn a_real_file_is_too_long_past_the_limit(rt: HostRuntime) -> Result<(), Fail> {
 fn no_file_counts_as_missing_and_a_folder_as_failed(rt: HostRuntime) {
     let mut into = Vec::new(rt.alloc());
     let mut shelf = DiskShelf::new(rt);
-    assert_eq!(rt; counts(&shelf), (0, 0, 0));
+    same(&rt, counts(&shelf), (0, 0, 0));
     let missing = shelf.fetch("mari_test_nothing", &mut into);
-    assert_eq!(rt; missing, Err(Fetch::Missing));
-    assert_eq!(rt; counts(&shelf), (0, 1, 0));
-    assert_eq!(rt; shelf.fetch(".", &mut into), Err(Fetch::Failed));
-    assert_eq!(rt; counts(&shelf), (1, 1, 0));
+    same(&rt, missing, Err(Fetch::Missing));
+    same(&rt, counts(&shelf), (0, 1, 0));
+    same(&rt, shelf.fetch(".", &mut into), Err(Fetch::Failed));
+    same(&rt, counts(&shelf), (1, 1, 0));
 }
 
 /// A reader of the bytes of a text, a few at a time, which fails after them where that is asked.
@@ -76,7 +77,7 @@ impl Read for Pieces<'_> {
 
 #[test]
 fn short_reads_lose_nothing_and_a_fault_is_no_end(rt: HostRuntime) -> Result<(), Fail> {
-    for (fault, want, text) in [
+    for (fault, want, text) in &[
         (None, Ok(()), "Adate,rule\n"),
         (Some(ErrorKind::Other), Err(Fetch::Failed), "A"),
         (Some(ErrorKind::OutOfMemory), Err(Fetch::Memory), "A"),
@@ -84,9 +85,10 @@ fn short_reads_lose_nothing_and_a_fault_is_no_end(rt: HostRuntime) -> Result<(),
         let rest = b"date,rule\n";
         let most = 3;
         let mut into = b"A".to_vec(rt.alloc())?;
+        let fault = *fault;
         let fetched = fetch_opened(Ok(Pieces { rest, most, fault }), &mut into);
-        assert_eq!(rt; fetched, want);
-        assert_eq!(rt; into.as_slice(), text.as_bytes());
+        same(&rt, fetched, *want);
+        same(&rt, into.as_slice(), text.as_bytes());
     }
     Ok(())
 }
@@ -118,27 +120,27 @@ fn a_real_file_is_given_in_pieces(rt: HostRuntime) -> Result<(), Fail> {
     fs::write(&rt, path, text.as_slice())?;
     let given = first_pieces(rt, path);
     fs::remove_file(&rt, path)?;
-    assert_eq!(rt; given, Ok(([8_192, 7_808, 0], text)));
+    same(&rt, given, Ok(([8_192, 7_808, 0], text)));
     Ok(())
 }
 
 #[test]
 fn a_fault_between_pieces_is_no_end_of_the_file(rt: HostRuntime) -> Result<(), Fail> {
-    for (fault, want) in [
+    for (fault, want) in &[
         (ErrorKind::Other, Err(Fetch::Failed)),
         (ErrorKind::OutOfMemory, Err(Fetch::Memory)),
     ] {
         let mut pieces = Pieces {
             rest: b"done 1 0\n",
             most: 4,
-            fault: Some(fault),
+            fault: Some(*fault),
         };
         let mut into = Vec::new(rt.alloc());
-        assert_eq!(rt; read_piece(&mut pieces, &mut into, 3), Ok(3));
-        assert_eq!(rt; read_piece(&mut pieces, &mut into, 30), Ok(4));
-        assert_eq!(rt; read_piece(&mut pieces, &mut into, 30), Ok(2));
-        assert_eq!(rt; read_piece(&mut pieces, &mut into, 30), want);
-        assert_eq!(rt; into.as_slice(), b"done 1 0\n".as_slice());
+        same(&rt, read_piece(&mut pieces, &mut into, 3), Ok(3));
+        same(&rt, read_piece(&mut pieces, &mut into, 30), Ok(4));
+        same(&rt, read_piece(&mut pieces, &mut into, 30), Ok(2));
+        same(&rt, read_piece(&mut pieces, &mut into, 30), *want);
+        same(&rt, into.as_slice(), b"done 1 0\n".as_slice());
     }
     Ok(())
 }

@@ -19,6 +19,8 @@ mod printing;
 #[cfg(test)]
 mod publications;
 #[cfg(test)]
+mod same;
+#[cfg(test)]
 mod texts;
 #[cfg(test)]
 mod words;

@@ -1,5 +1,6 @@
 //! The outside in memory by its plans, and the real standard output.
 
+use crate::same::{same, same_in};
 use mari_io::{
     Failed, FaultPlan, Fetch, MemoryShelf, MemorySink, Name64, Page, Shelf, Sink, StdSink,
 };
@@ -26,21 +27,29 @@ fn a_page_is_fetched_unless_the_plan_names_the_call(rt: HostRuntime) -> Result<(
     let pages = vec![in alloc; page(alloc, b"Z,T\n".to_vec(alloc)?)?]?;
     let mut shelf = MemoryShelf::new(pages, plan(alloc, &[2])?);
     let mut into = b"A".to_vec(alloc)?;
-    assert_eq!(rt; shelf.fetch("F/zones.csv", &mut into), Ok(()));
-    assert_eq!(rt; shelf.fetch("F/zones.csv", &mut into), Err(Fetch::Failed));
-    assert_eq!(rt; shelf.fetch("F/bids.csv", &mut into), Err(Fetch::Missing));
-    assert_eq!(rt; into.as_slice(), b"AZ,T\n".as_slice());
+    same(&rt, shelf.fetch("F/zones.csv", &mut into), Ok(()));
+    same(
+        &rt,
+        shelf.fetch("F/zones.csv", &mut into),
+        Err(Fetch::Failed),
+    );
+    same(
+        &rt,
+        shelf.fetch("F/bids.csv", &mut into),
+        Err(Fetch::Missing),
+    );
+    same(&rt, into.as_slice(), b"AZ,T\n".as_slice());
     Ok(())
 }
 
 #[test]
 fn a_page_is_too_long_from_one_byte_past_the_limit(rt: HostRuntime) -> Result<(), Fail> {
     let alloc = rt.alloc();
-    for (length, want) in [(268_435_456, Ok(())), (268_435_457, Err(Fetch::TooLong))] {
-        let pages = vec![in alloc; page(alloc, vec![in alloc; b'Z'; length]?)?]?;
+    for (length, want) in &[(268_435_456, Ok(())), (268_435_457, Err(Fetch::TooLong))] {
+        let pages = vec![in alloc; page(alloc, vec![in alloc; b'Z'; *length]?)?]?;
         let mut shelf = MemoryShelf::new(pages, plan(alloc, &[])?);
         let mut into = Vec::new(alloc);
-        assert_eq!(rt; shelf.fetch("F/zones.csv", &mut into), want, "{length}");
+        same(&rt, shelf.fetch("F/zones.csv", &mut into), *want);
     }
     Ok(())
 }
@@ -49,18 +58,18 @@ fn a_page_is_too_long_from_one_byte_past_the_limit(rt: HostRuntime) -> Result<()
 fn a_sink_takes_what_a_call_and_its_room_allow(rt: HostRuntime) -> Result<(), Fail> {
     let alloc = rt.alloc();
     let mut sink = MemorySink::new(alloc, 3, 4, plan(alloc, &[2])?)?;
-    assert_eq!(rt; sink.write(b"abcd"), Ok(3));
-    assert_eq!(rt; sink.write(b"d"), Err(Failed));
-    assert_eq!(rt; sink.write(b"de"), Ok(1));
-    assert_eq!(rt; sink.write(b"e"), Ok(0));
-    assert_eq!(rt; sink.bytes(), b"abcd".as_slice());
+    same(&rt, sink.write(b"abcd"), Ok(3));
+    same(&rt, sink.write(b"d"), Err(Failed));
+    same(&rt, sink.write(b"de"), Ok(1));
+    same(&rt, sink.write(b"e"), Ok(0));
+    same(&rt, sink.bytes(), b"abcd".as_slice());
     Ok(())
 }
 
 #[test]
 fn the_real_standard_output_takes_a_line(rt: HostRuntime) {
     let mut sink = StdSink::new(rt);
-    assert_eq!(rt; sink.write(b"taken\n"), Ok(6));
+    same(&rt, sink.write(b"taken\n"), Ok(6));
 }
 
 /// What the shelf answers to each of its calls in turn.
@@ -88,14 +97,16 @@ fn a_page_is_given_in_pieces_and_the_plan_numbers_all_calls(rt: HostRuntime) -> 
     let failed = shelf.open_page("F/zones.csv");
     let given = pieces(&mut shelf, &mut into, &mut whole);
     drop(shelf);
-    assert_eq!(rt;
+    same(
+        &rt,
         (missing, failed),
-        (Err(Fetch::Missing), Err(Fetch::Failed))
+        (Err(Fetch::Missing), Err(Fetch::Failed)),
     );
-    assert_eq!(rt; given, Ok([Ok(3), Err(Fetch::Failed), Ok(2), Ok(0)]));
-    assert_eq!(rt;
+    same(&rt, given, Ok([Ok(3), Err(Fetch::Failed), Ok(2), Ok(0)]));
+    same(
+        &rt,
         (into.as_slice(), whole.as_slice()),
-        (b"AZ,T\nA".as_slice(), b"Z,T\nA".as_slice())
+        (b"AZ,T\nA".as_slice(), b"Z,T\nA".as_slice()),
     );
     Ok(())
 }

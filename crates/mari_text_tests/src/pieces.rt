@@ -1,12 +1,14 @@
 //! Texts that come in pieces.
 
+use crate::same::{same, same_in};
 use crate::texts::{DONE_ONE, TWO_ZONES, made};
+use mari_lines::MOST_LINE;
 use mari_publish::{Block, Part, TextFault, TextReader};
 use std::alloc::Global;
 use std::test::Fail;
 
 /// The parts of a text, the most bytes of a piece of it, the marks of the parts that come of it, whether the reader
-/// waits for more at the end, and what it tells of the text.
+/// waits for more at the end, and what it reports of the text.
 struct Case {
     name: &'static str,
     parts: &'static [(&'static str, u32)],
@@ -51,7 +53,7 @@ const CASES: &[Case] = &[
     },
 ];
 
-/// A number that tells what kind of part it is, and what is in it.
+/// A number that shows what kind of part it is, and what is in it.
 fn mark_of(part: &Part) -> u64 {
     match part {
         Part::Head { quarters, .. } => u64::from(*quarters),
@@ -73,7 +75,7 @@ fn next_mark(alloc: Global, reader: &mut TextReader) -> Result<Option<u64>, Text
     }
 }
 
-/// Adds the marks of the parts that are there, up to four, and tells the fault after them, if there is one.
+/// Adds the marks of the parts that are there, up to four, and gives the fault after them, if there is one.
 fn add_marks(
     alloc: Global,
     reader: &mut TextReader,
@@ -89,8 +91,8 @@ fn add_marks(
     Ok(None)
 }
 
-/// Gives a reader a text in pieces of at most `most` bytes, adds the marks of the parts that come, and tells the fault after
-/// them.
+/// Gives a reader a text in pieces of at most `most` bytes, adds the marks of the parts that come, and gives the fault
+/// after them.
 fn feed(
     alloc: Global,
     reader: &mut TextReader,
@@ -108,8 +110,8 @@ fn feed(
     Ok(None)
 }
 
-/// Adds the marks of a text in pieces of at most `most` bytes, and tells whether the reader waits for more at its end, and
-/// what the text is then, or the fault before.
+/// Adds the marks of a text in pieces of at most `most` bytes, and reports whether the reader waits for more at its
+/// end, and what the text is then, or the fault before.
 fn outcome(
     alloc: Global,
     text: &[u8],
@@ -139,9 +141,15 @@ fn a_text_gives_the_same_parts_in_pieces_of_any_length(rt: HostRuntime) -> Resul
         let mut marks = Vec::new(alloc);
         let told = outcome(alloc, text.as_bytes(), case.most, &mut marks);
         drop(text);
-        assert_eq!(rt; told?, (case.waits, case.want), "{}", case.name);
-        assert_eq!(rt; marks.as_slice(), case.marks, "{}", case.name);
+        same_in(&rt, case.name, told?, (case.waits, case.want));
+        same_in(&rt, case.name, marks.as_slice(), case.marks);
     }
+    Ok(())
+}
+
+#[test]
+fn at_most_32_768_bytes_of_a_line_are_kept(rt: HostRuntime) -> Result<(), Fail> {
+    assert_eq!(rt; MOST_LINE, 32_768);
     Ok(())
 }
 
@@ -165,6 +173,6 @@ fn a_fault_comes_again(rt: HostRuntime) -> Result<(), Fail> {
     let answers = three_answers(alloc, &mut reader);
     drop(reader);
     let fault = Err(TextFault::BadOrder(2));
-    assert_eq!(rt; answers?, [Ok(Some(96)), fault, fault]);
+    same(&rt, answers?, [Ok(Some(96)), fault, fault]);
     Ok(())
 }

@@ -1,6 +1,7 @@
 //! The feed of a page that is read in pieces.
 
 use crate::feed::CASES;
+use crate::same::same_in;
 use mari_feed::{FeedStop, print_feed};
 use mari_io::{FaultPlan, Fetch, MemoryShelf, MemorySink, Name64, Page};
 use mari_publish::TextFault;
@@ -227,10 +228,10 @@ fn a_page_is_printed_up_to_its_end_or_the_first_fault(rt: HostRuntime) -> Result
     let alloc = rt.alloc();
     for row in ROWS {
         let (end, taken) = printed(alloc, row)?;
-        assert_eq!(rt; end, row.want, "{}", row.name);
+        same_in(&rt, row.name, end, row.want);
         let feed = feed(alloc)?;
         let want = feed.get(..row.printed).ok_or("the feed is longer")?;
-        assert_eq!(rt; taken.as_slice(), want, "{}", row.name);
+        same_in(&rt, row.name, taken.as_slice(), want);
     }
     Ok(())
 }

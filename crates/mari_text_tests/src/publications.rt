@@ -2,6 +2,7 @@
 
 ghost use Rattle.mari_publish.specs.Ranges.{HasText};
 
+use crate::same::{same, same_in};
 use crate::texts::{DONE_ONE, TWO_ZONES, made};
 use mari_publish::TextFault::{BadLine, BadOrder, Truncated};
 use mari_publish::{
@@ -161,7 +162,12 @@ fn a_text_reads_back_and_prints_the_same(rt: HostRuntime) -> Result<(), Fail> {
     ] {
         let text = made(alloc, parts)?;
         let read = read_back(alloc, &text);
-        assert_eq!(rt; read?, (96, 10_000, *operators, [true, true]), "{text}");
+        same_in(
+            &rt,
+            text.as_str(),
+            read?,
+            (96, 10_000, *operators, [true, true]),
+        );
     }
     Ok(())
 }
@@ -185,7 +191,7 @@ fn a_text_cut_at_any_byte_is_truncated_in_its_last_line(rt: HostRuntime) -> Resu
     let mut line: u32 = 1;
     for (count, byte) in bytes.iter().enumerate() {
         let fault = fault_of(alloc, &bytes[..count]);
-        assert_eq!(rt; fault, Some(Truncated(line)));
+        same(&rt, fault, Some(Truncated(line)));
         if *byte == b'\n' {
             line = line.wrapping_add(1);
         }

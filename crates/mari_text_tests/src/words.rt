@@ -1,5 +1,6 @@
 //! Words that are commands, and words that are none.
 
+use crate::same::same_in;
 use mari_words::{Command, FilePart, WordsFault, read_words};
 use std::alloc::Global;
 use std::test::Fail;
@@ -58,7 +59,7 @@ fn words_that_clear_a_folder(rt: HostRuntime) -> Result<(), Fail> {
             assert!(rt; false, "{line}");
             return Ok(());
         };
-        assert_eq!(rt; (folder.as_str(), nodes, workers), *want, "{line}");
+        same_in(&rt, line, (folder.as_str(), nodes, workers), *want);
     }
     Ok(())
 }
@@ -150,15 +151,15 @@ fn words_that_are_no_command(rt: HostRuntime) -> Result<(), Fail> {
 
 #[test]
 fn words_without_options(rt: HostRuntime) -> Result<(), Fail> {
-    for (line, want) in [("check F", "F"), ("check -- -F", "-F"), ("check F --", "F")] {
+    for (line, want) in &[("check F", "F"), ("check -- -F", "-F"), ("check F --", "F")] {
         let words = words_of(rt.alloc(), line)?;
         let read = read_words(rt.alloc(), words.as_slice());
         assert!(rt;
-            matches!(&read, Ok(Command::Check { folder }) if folder.as_str() == want),
+            matches!(&read, Ok(Command::Check { folder }) if folder.as_str() == *want),
             "{line}"
         );
     }
-    for (line, want) in [
+    for (line, want) in &[
         ("generate 007", 7),
         ("generate 0", 0),
         ("generate 2147483647", 2_147_483_647),
@@ -167,11 +168,11 @@ fn words_without_options(rt: HostRuntime) -> Result<(), Fail> {
         let words = words_of(rt.alloc(), line)?;
         let read = read_words(rt.alloc(), words.as_slice());
         assert!(rt;
-            matches!(read, Ok(Command::Generate { number }) if number == want),
+            matches!(read, Ok(Command::Generate { number }) if number == *want),
             "{line}"
         );
     }
-    for (line, want) in [
+    for (line, want) in &[
         ("migrate F borders", FilePart::Borders),
         ("migrate F -- limits", FilePart::Limits),
         ("migrate -- F limits", FilePart::Limits),
@@ -179,7 +180,7 @@ fn words_without_options(rt: HostRuntime) -> Result<(), Fail> {
         let words = words_of(rt.alloc(), line)?;
         let read = read_words(rt.alloc(), words.as_slice());
         assert!(rt;
-            matches!(read, Ok(Command::Migrate { part, .. }) if part == want),
+            matches!(read, Ok(Command::Migrate { part, .. }) if part == *want),
             "{line}"
         );
     }
@@ -188,7 +189,7 @@ fn words_without_options(rt: HostRuntime) -> Result<(), Fail> {
 
 #[test]
 fn words_that_raise_limits(rt: HostRuntime) -> Result<(), Fail> {
-    for (line, want) in [
+    for (line, want) in &[
         ("value F 1", ("F", 1)),
         ("value F 1000", ("F", 1000)),
         ("value F 0001000", ("F", 1000)),
@@ -201,7 +202,7 @@ fn words_that_raise_limits(rt: HostRuntime) -> Result<(), Fail> {
         let words = words_of(rt.alloc(), line)?;
         let read = read_words(rt.alloc(), words.as_slice());
         assert!(rt;
-            matches!(&read, Ok(Command::Value { folder, more }) if (folder.as_str(), *more) == want),
+            matches!(&read, Ok(Command::Value { folder, more }) if (folder.as_str(), *more) == *want),
             "{line}"
         );
     }
@@ -210,7 +211,7 @@ fn words_that_raise_limits(rt: HostRuntime) -> Result<(), Fail> {
 
 #[test]
 fn words_that_print_a_publication_as_json(rt: HostRuntime) -> Result<(), Fail> {
-    for (line, want) in [
+    for (line, want) in &[
         ("feed F", "F"),
         ("feed -- -F", "-F"),
         ("feed F --", "F"),
@@ -220,11 +221,11 @@ fn words_that_print_a_publication_as_json(rt: HostRuntime) -> Result<(), Fail> {
         let words = words_of(rt.alloc(), line)?;
         let read = read_words(rt.alloc(), words.as_slice());
         assert!(rt;
-            matches!(&read, Ok(Command::Feed { folder }) if folder.as_str() == want),
+            matches!(&read, Ok(Command::Feed { folder }) if folder.as_str() == *want),
             "{line}"
         );
     }
-    for line in [
+    for line in &[
         "feed",
         "feed ",
         "feed -",
@@ -267,9 +268,9 @@ fn words_that_split_a_folder(rt: HostRuntime) -> Result<(), Fail> {
             assert!(rt; false, "{line}");
             return Ok(());
         };
-        assert_eq!(rt; (folder.as_str(), nodes, workers), *want, "{line}");
+        same_in(&rt, line, (folder.as_str(), nodes, workers), *want);
     }
-    for line in [
+    for line in &[
         "split",
         "split -",
         "split -F",
@@ -327,13 +328,14 @@ fn words_that_clear_quarters_as_one_market(rt: HostRuntime) -> Result<(), Fail> 
             assert!(rt; false, "{line}");
             return Ok(());
         };
-        assert_eq!(rt;
+        same_in(
+            &rt,
+            line,
             (folder.as_str(), (first, last), nodes, workers),
             *want,
-            "{line}"
         );
     }
-    for line in [
+    for line in &[
         "blocks",
         "blocks F",
         "blocks F 1",

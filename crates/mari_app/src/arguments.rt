@@ -8,7 +8,7 @@ use std::io::ErrorKind;
 use std::rt::Env;
 
 /// The words after the first, which is the program's name.
-fn behind_name(mut words: Vec<String>) -> Vec<String>
+fn after_name(mut words: Vec<String>) -> Vec<String>
     ensures { result.items ≡ drop 1 words.items }
 {
     if !words.is_empty() {
@@ -22,7 +22,7 @@ fn behind_name(mut words: Vec<String>) -> Vec<String>
 pub fn words_of(rt: &(impl Env + AllocGlobal)) -> Result<Vec<String>, Status> {
     match env::args(rt) {
         Ok(words) => match words.collect(rt.alloc()) {
-            Ok(words) => Ok(behind_name(words)),
+            Ok(words) => Ok(after_name(words)),
             Err(_) => Err(Status::Memory),
         },
         Err(error) if error.kind() == ErrorKind::OutOfMemory => Err(Status::Memory),

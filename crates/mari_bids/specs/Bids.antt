@@ -97,7 +97,7 @@ bid_checks zones quarters earlier row =
     ∷ (nat_lt (greatest_at row) (least_at row), bid_check_number LeastAboveGreatest)
     ∷ []
 
--- and behind `MOST_BIDS` bids of its quarter
+-- and after `MOST_BIDS` bids of its quarter
 abbrev pub line_checks : ZoneBook → ℕ → List Row → Row → Checks
 line_checks zones quarters earlier row =
     bid_checks zones quarters earlier row ++ (nat_le MOST_BIDS (count_of quarters earlier (quarter_at quarters row)), bid_check_number TooMany) ∷ []

@@ -28,12 +28,12 @@ module _ (books : Books) (first quarter : ℕ) (parts after : JointParts) (made 
       → after.borders.items ≡ parts.borders.items ++ map (shifted_border zones) made.market.borders
       → after.demands.items ≡ parts.demands.items ++ map (shifted_order zones) (drop (length made.bids) made.market.orders)
       → HoldsJointParts books first (range_with_len first (quarter - first)) parts → HoldsJointParts books first (range_with_len first (quarter + 1 - first)) after
-  brought low is behind offered borders demands holds =
+  brought low is following offered borders demands holds =
       let run = run_of_quarter books.runs.runs quarter in
       let longer : quarter + 1 - first ≡ (quarter - first) + 1 = omega (arith, low) in
       let here : first + (quarter - first) ≡ quarter = omega (arith, low) in
       record {
         offered = offered ∙ rw (holds.offered, is) (sym (flat-more (bids_brought books) first (quarter - first) quarter here)) ∙ ap (λ n. flat_map (bids_brought books) (range_with_len first n)) (sym longer);
-        borders = borders ∙ rw (holds.borders, is, behind) (sym (flat-more (borders_brought books first) first (quarter - first) quarter here)) ∙ ap (λ n. flat_map (borders_brought books first) (range_with_len first n)) (sym longer);
-        demands = demands ∙ rw (holds.demands, is, behind, demands-last books run) (sym (flat-more (demands_brought books first) first (quarter - first) quarter here)) ∙ ap (λ n. flat_map (demands_brought books first) (range_with_len first n)) (sym longer);
+        borders = borders ∙ rw (holds.borders, is, following) (sym (flat-more (borders_brought books first) first (quarter - first) quarter here)) ∙ ap (λ n. flat_map (borders_brought books first) (range_with_len first n)) (sym longer);
+        demands = demands ∙ rw (holds.demands, is, following, demands-last books run) (sym (flat-more (demands_brought books first) first (quarter - first) quarter here)) ∙ ap (λ n. flat_map (demands_brought books first) (range_with_len first n)) (sym longer);
       }

@@ -14,7 +14,7 @@ use Rattle.mari_remain.specs.Accepted.{IsAccepted}
 use Rattle.mari_remain.specs.declared.books.Books.{Books}
 use Rattle.mari_rows.specs.Names.{name_at}
 use Rattle.mari_settle.specs.Conditions.{IsSmall}
-use Rattle.mari_progress.specs.Told.{NameLines}
+use Rattle.mari_progress.specs.Reported.{NameLines}
 use Rattle.mari_progress.proofs.Lists.{as-many, of-map}
 use Rattle.mari_progress.proofs.Small.{money}
 use Rattle.mari_blocks.specs.Cutting.{AreCutOut, ArePrinted, HasShapes, IsAfter, IsCutOut, IsPlaceOf, IsThere, piece}

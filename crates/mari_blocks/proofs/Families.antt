@@ -31,7 +31,7 @@ parent-below bids links is bid parent e =
     let before = ((is.links bid has.entry has.there).parent parent has.own).before in
     omega (arith, before, slice_get_within links.links bid has.entry has.there, is.one_each)
 
--- and is told as a parent
+-- and is reported as a parent
 pub parent-listed : (links : List BidLinks) (bid parent : ℕ) → parent_at links bid ≡ Some parent → is_parent links parent ≡ true
 parent-listed links bid parent e =
     let has = has-parent links bid parent e in

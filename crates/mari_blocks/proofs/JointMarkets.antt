@@ -83,11 +83,11 @@ module _ (books : Books) (ok : IsAccepted books) (blocks : BlockBook) (first las
       let below : quarter ≤ last = omega (arith, low, high) in
       let run = run_of_quarter books.runs.runs quarter in
       let own = demands_of_run books.demands.demands run in
-      let behind : Order → Order = shifted_order (zones_before books first quarter) in
+      let after : Order → Order = shifted_order (zones_before books first quarter) in
       let each = All-filter (λ (d : Demand). d.run == run) (IsDemand books.zones (length books.runs.runs)) books.demands.demands ok.demands.demands in
-      All-map (IsValidOrder zones (length gates)) behind (map demand_order own)
-      (All-map (λ o. IsValidOrder zones (length gates) (behind o)) demand_order own
-      (All-weaker (IsDemand books.zones (length books.runs.runs)) (λ d. IsValidOrder zones (length gates) (behind (demand_order d)))
+      All-map (IsValidOrder zones (length gates)) after (map demand_order own)
+      (All-map (λ o. IsValidOrder zones (length gates) (after o)) demand_order own
+      (All-weaker (IsDemand books.zones (length books.runs.runs)) (λ d. IsValidOrder zones (length gates) (after (demand_order d)))
       (λ d is. order-fits quarter (length gates) (demand_order d) low below (demand books.zones (length books.runs.runs) (length gates) d is)) own each)))
 
   -- a gate that is named is there

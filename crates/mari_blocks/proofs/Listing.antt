@@ -1,4 +1,4 @@
--- Items each once, in order of first appearance, where a test tells which are equal.
+-- Items each once, in order of first appearance, where a test states which are equal.
 use Rattle.std.proofs.Common.{◌≡◌, ◌∙◌, ◌<◌, ℕ, zero, suc, Bool, true, false, List, [], ◌∷◌, ◌++◌, Some, get_or, length, fold, refl, arith, nat_lt, if◌then◌else◌}
 use Rattle.std.specs.Prelude.{◌||◌, position}
 use Rattle.std.specs.List.{All, AllPairs, list_any, position_or_len}

@@ -48,14 +48,14 @@ module _ (own_gate : ℕ → Option JointGate) where
   gate-listed bid gate e [] there = cc there
   gate-listed bid gate e (n ∷ ns) there = by (n == bid) refl there (gate-listed bid gate e ns)
     where
-      behind : (o : Option JointGate) → list_any (is_same_gate gate) (filter_map own_gate ns) ≡ true → list_any (is_same_gate gate) (cons_option o (filter_map own_gate ns)) ≡ true
-      behind None more = more
-      behind (Some other) more = rw more (or-yes (is_same_gate gate other))
+      after : (o : Option JointGate) → list_any (is_same_gate gate) (filter_map own_gate ns) ≡ true → list_any (is_same_gate gate) (cons_option o (filter_map own_gate ns)) ≡ true
+      after None more = more
+      after (Some other) more = rw more (or-yes (is_same_gate gate other))
 
       by : (b : Bool) → (n == bid) ≡ b → (b || is_one_of ns bid) ≡ true → (is_one_of ns bid ≡ true → list_any (is_same_gate gate) (filter_map own_gate ns) ≡ true)
           → list_any (is_same_gate gate) (cons_option (own_gate n) (filter_map own_gate ns)) ≡ true
       by true same there more = rw (eqb-true n bid same, e, same-itself gate) refl
-      by false other there more = behind (own_gate n) (more there)
+      by false other there more = after (own_gate n) (more there)
 
   pub gate-there : (bid : ℕ) (gate : JointGate) → own_gate bid ≡ Some gate → (numbers : List ℕ) → is_one_of numbers bid ≡ true → list_any (is_same_gate gate) (gates_in numbers) ≡ true
   gate-there bid gate e numbers there = there-once is_same_gate same-itself same-equal gate (filter_map own_gate numbers) (gate-listed bid gate e numbers there)

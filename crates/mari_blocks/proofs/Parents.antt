@@ -28,11 +28,11 @@ module _ (parent_of : ℕ → Option ℕ) where
   follow-append before (x ∷ xs) ys first second = (first.0, follow-append (before ++ x ∷ []) xs ys first.1 (rw (sym (append_assoc before (x ∷ []) xs)) at second))
 
   -- and after more bids
-  pub follow-behind : (more before bids : List ℕ) → FollowParents before bids → FollowParents (more ++ before) bids
-  follow-behind more before [] follow = tt
-  follow-behind more before (bid ∷ bids) follow = (
+  pub follow-after : (more before bids : List ℕ) → FollowParents before bids → FollowParents (more ++ before) bids
+  follow-after more before [] follow = tt
+  follow-after more before (bid ∷ bids) follow = (
     λ parent e. list_any-append (λ other. other == parent) more before ∙ or-second (is_one_of more parent) (is_one_of before parent) (follow.0 parent e),
-    rw (append_assoc more before (bid ∷ [])) (follow-behind more (before ++ bid ∷ []) bids follow.1),
+    rw (append_assoc more before (bid ∷ [])) (follow-after more (before ++ bid ∷ []) bids follow.1),
   )
     where
       or-second : (a b : Bool) → b ≡ true → (a || b) ≡ true
@@ -78,7 +78,7 @@ module _ (parent_of : ℕ → Option ℕ) where
   follow-flat list_of before a (suc n) each =
       rw (flat_map-cons list_of a (range_with_len (a + 1) n))
       (follow-append before (list_of a) (flat_map list_of (range_with_len (a + 1) n))
-      (rw (append-nil before) at (follow-behind before [] (list_of a) (each a (omega arith) (omega arith))))
+      (rw (append-nil before) at (follow-after before [] (list_of a) (each a (omega arith) (omega arith))))
       (follow-flat list_of (before ++ list_of a) (a + 1) n (λ j low high. each j (omega (arith, low)) (omega (arith, high)))))
 
   -- what holds of no bids, and of one more after its parent, holds of all

@@ -9,7 +9,7 @@ use Rattle.mari_lines.specs.declared.line.ZoneLine.{ZoneLine}
 use Rattle.mari_remain.specs.declared.books.Books.{Books}
 use Rattle.mari_settle.specs.Conditions.{IsSmall}
 use Rattle.mari_settle.specs.Ledger.{rents_of}
-use Rattle.mari_progress.specs.Told.{NameLines}
+use Rattle.mari_progress.specs.Reported.{NameLines}
 use Rattle.mari_blocks.specs.Joint.{demands_brought, quarters_of}
 use Rattle.mari_blocks.specs.Printed.{AreJointPrices, IsQuarterBlock, activation_printed, areas_printed, bids_of, bids_printed, borders_printed, demand_count, demands_printed, greatest_printed, least_printed, prices_printed, rents_printed}
 use Rattle.mari_blocks.specs.Text.{QuarterFits}

@@ -20,7 +20,7 @@ use Rattle.mari_lines.specs.declared.line.ZoneLine.{ZoneLine}
 use Rattle.mari_remain.specs.RunMarket.{demands_of_run}
 use Rattle.mari_remain.specs.declared.books.Books.{Books}
 use Rattle.mari_settle.specs.Ledger.{rents_of}
-use Rattle.mari_progress.specs.Told.{NameLines}
+use Rattle.mari_progress.specs.Reported.{NameLines}
 use Rattle.mari_blocks.specs.Blocks.{quarter_at}
 use Rattle.mari_blocks.specs.Joint.{joint_in, quarters_of, run_of_quarter}
 use Rattle.mari_blocks.specs.Prices.{AreOwnPrices, own_reference}

@@ -30,10 +30,10 @@ moment_in y d = match_some (rule_day y d.0) (last_nanosecond y) (λ day.
 abbrev pub shift_of : ℤ → ℤ → ℤ
 shift_of std summer = nanos_of_seconds summer -ℤ nanos_of_seconds std
 
--- how many seconds a wall clock is ahead of UTC when it shows a moment, where its summer time is behind its standard
+-- how many seconds a wall clock is ahead of UTC when it shows a moment, where its summer time is after its standard
 -- time; what it skips or shows twice counts by the offset before the change
-abbrev pub offset_behind : (std summer : ℤ) → ℤ × ℤ → ℤ → ℤ
-offset_behind std summer w at =
+abbrev pub offset_after : (std summer : ℤ) → ℤ × ℤ → ℤ → ℤ
+offset_after std summer w at =
     if in_window w at then summer
     else (if in_span (saturating_add w.0 (shift_of std summer)) w.0 at then std
     else (if in_span w.1 (saturating_sub w.1 (shift_of std summer)) at then summer
@@ -49,7 +49,7 @@ offset_ahead std summer w at =
 -- the same, of any summer time, whose first and last moment are `w`
 abbrev pub offset_by : (std summer : ℤ) → ℤ × ℤ → ℤ → ℤ
 offset_by std summer w at =
-    if int_lt summer std then offset_behind std summer w at
+    if int_lt summer std then offset_after std summer w at
     else (if int_lt std summer then offset_ahead std summer w at else std)
 
 -- how many seconds a clock of this standard time and summer time is ahead of UTC when it shows a moment of this year

@@ -1,4 +1,4 @@
--- A block behind those that were checked: what its check shows, and the lines that tell of it.
+-- A block after those that were checked: what its check shows, and the lines that state of it.
 use Rattle.std.proofs.Common.{◌≡◌, ℕ, ◌≤◌, ◌^◌, ℤ, pos, ◌-ℤ◌, ◌*ℤ◌, ◌≤ℤ◌, List, [], ◌∷◌, ◌++◌, map, length, get_or, Option, Some, None, Result, Ok, Err, arith, sym, subst}
 use Rattle.std.specs.Int.{int_max}
 use Rattle.std.specs.List.{All}
@@ -23,8 +23,8 @@ use Rattle.mari_publish.specs.declared.publication.Block.TheVariants as block
 use Rattle.mari_publish.specs.declared.publication.FullBlock.{FullBlock}
 use Rattle.mari_remain.specs.declared.books.Books.{Books}
 use Rattle.mari_remain.specs.declared.market.RunMarket.{RunMarket}
-use Rattle.mari_progress.specs.Behind.{market_behind, run_behind}
-use Rattle.mari_progress.specs.Told.{activation_of, prices_of}
+use Rattle.mari_progress.specs.After.{market_after, run_after}
+use Rattle.mari_progress.specs.Reported.{activation_of, prices_of}
 use Rattle.mari_check.specs.declared.fault.Fault.{Fault}
 use Rattle.mari_check.specs.declared.fault.Fault.TheVariants as fault
 use Rattle.mari_check.specs.Day.{IsFreeIn}
@@ -78,7 +78,7 @@ as-many-lines m b a ps more ws feasible are =
     let same = length-map b.borders (λ (l : BorderLine). l.flow) in
     omega (arith, are.one_each, long, same)
 
--- a block of which no fault is told has none
+-- a block of which no fault is reported has none
 pub none-found : {E : Type 0} (free : Fault → Type 0) (r : Result (Option ℕ) E) → IfOk r (FindsNumber free) → r ≡ Ok None → (any : Fault) → free any
 none-found free (Ok None) h e = h
 none-found free (Ok (Some n)) h e = absurd (cc e)
@@ -91,23 +91,23 @@ module _ (books : Books) (budget : ℕ) (blocks : List Block) (x : Block) (b : F
   published-free : Free → (any : Fault) → IsFreeIn books budget blocks (block.Published b) any
   published-free free any = subst (λ (y : Block). IsFreeIn books budget blocks y any) is (free any)
 
-  pub run-there : Free → run_behind blocks ≤ length books.runs.runs
+  pub run-there : Free → run_after blocks ≤ length books.runs.runs
   run-there free = (published-free free fault.Heading).0
 
-  module _ (made : RunMarket) (behind : made ≡ market_behind books blocks) (free : Free) where
+  module _ (made : RunMarket) (after : made ≡ market_after books blocks) (free : Free) where
     pub block-feasible : IsFeasible made.market (activation_of b)
-    block-feasible = subst (λ (o : RunMarket). IsFeasible o.market (activation_of b)) (sym behind) (published-free free fault.Infeasible).1
+    block-feasible = subst (λ (o : RunMarket). IsFeasible o.market (activation_of b)) (sym after) (published-free free fault.Infeasible).1
 
     pub block-consistent : IsConsistent made.market (activation_of b) (prices_of b)
-    block-consistent = subst (λ (o : RunMarket). IsConsistent o.market (activation_of b) (prices_of b)) (sym behind) (published-free free fault.Inconsistent).1
+    block-consistent = subst (λ (o : RunMarket). IsConsistent o.market (activation_of b) (prices_of b)) (sym after) (published-free free fault.Inconsistent).1
 
     pub block-welfare : welfare_of made.market (activation_of b) ≡ pos b.welfare
-    block-welfare = subst (λ (o : RunMarket). welfare_of o.market (activation_of b) ≡ pos b.welfare) (sym behind) (published-free free fault.Welfare).1
+    block-welfare = subst (λ (o : RunMarket). welfare_of o.market (activation_of b) ≡ pos b.welfare) (sym after) (published-free free fault.Welfare).1
 
-  pub published-lines : (more : ℕ) (made : RunMarket) (text now : List ℕ) (ws : List BorderWorth) → made ≡ market_behind books blocks → IsValueText books more blocks text
+  pub published-lines : (more : ℕ) (made : RunMarket) (text now : List ℕ) (ws : List BorderWorth) → made ≡ market_after books blocks → IsValueText books more blocks text
       → AreWorths made.market (activation_of b) (prices_of b) more ws → now ≡ text ++ run_lines b ws → IsValueText books more (blocks ++ x ∷ []) now
-  published-lines more made text now ws behind lines worths put =
-      let own : AreWorths (market_behind books blocks).market (activation_of b) (prices_of b) more ws = subst (λ (o : RunMarket). AreWorths o.market (activation_of b) (prices_of b) more ws) behind worths in
+  published-lines more made text now ws after lines worths put =
+      let own : AreWorths (market_after books blocks).market (activation_of b) (prices_of b) more ws = subst (λ (o : RunMarket). AreWorths o.market (activation_of b) (prices_of b) more ws) after worths in
       let P : Block → Type 0 = λ y. IsValueText books more (blocks ++ y ∷ []) now in
       let Q : List ℕ → Type 0 = λ t. IsValueText books more (blocks ++ block.Published b ∷ []) t in
       subst P (sym is) (subst Q (sym put) (OfPublished blocks text b ws lines own))

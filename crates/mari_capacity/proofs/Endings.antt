@@ -6,7 +6,7 @@ use Rattle.mari_io.specs.declared.shelf.Fetch.{Fetch}
 use Rattle.mari_io.specs.declared.shelf.Fetch.TheVariants as fetch
 use Rattle.mari_io.proofs.Counting.{counts_as}
 use Rattle.mari_publish.specs.Paged.{IsLineFault}
-use Rattle.mari_publish.specs.Paged.IsToldFault.{OfPage as of-page}
+use Rattle.mari_publish.specs.Paged.IsReportedFault.{OfPage as of-page}
 use Rattle.mari_publish.specs.Pieces.{IsEnd}
 use Rattle.mari_publish.specs.declared.fault.TextFault.{TextFault}
 use Rattle.mari_publish.specs.declared.fault.TextFault.TheVariants as fault
@@ -18,10 +18,10 @@ use Rattle.mari_capacity.specs.declared.ending.ValueStop.TheVariants.{At, Memory
 use Rattle.mari_capacity.specs.declared.ending.ValueEnd.TheVariants.{Valid, Invalid, Text as OfText, Fetch as OfFetch}
 use Rattle.mari_capacity.specs.declared.stream.ValueStream.{ValueStream}
 use Rattle.mari_capacity.specs.Lines.{closing_line}
-use Rattle.mari_capacity.specs.Streams.{EndsPage, IsWrapped, LinesTell}
+use Rattle.mari_capacity.specs.Streams.{EndsPage, IsWrapped, LinesReport}
 use Rattle.mari_capacity.specs.Taking.{IsStopFetch, IsWrappedStop, StopsInText, TookAllParts, stop_of_fetch}
 use Rattle.mari_capacity.specs.Streams.EndsInvalid.{AtEnd}
-use Rattle.mari_capacity.proofs.Pages.{read-tells, settled, totals-found, whole-checked, whole-lines}
+use Rattle.mari_capacity.proofs.Pages.{read-states, settled, totals-found, whole-checked, whole-lines}
 
 -- it is cut off, and never because memory ran out
 pub ends-refused : (T : Type 0) (books : Books) (n : ℕ) (text : List ℕ) (s : ValueStream) (a : TookAllParts books n text s) (f : TextFault) → length text ≤ most_given → IsEnd {T = T} text a.parts (Err f) → EndsPage books n text s.lines.items (OfText f)
@@ -29,10 +29,10 @@ ends-refused T books n text s a (fault.BadLine k) short h = absurd h
 ends-refused T books n text s a (fault.BadOrder k) short h = absurd h
 ends-refused T books n text s a fault.Memory short h = absurd h
 ends-refused T books n text s a (fault.Truncated k) short h = record {
-  told = of-page short h;
+  reported = of-page short h;
   parts = a.parts;
   no_more = a.no_more;
-  tells = read-tells books n text a.parts s a.read;
+  states = read-states books n text a.parts s a.read;
 }
 
 pub never-wrapped : (T : Type 0) (text : List ℕ) (parts : List Part) (f : TextFault) → IsEnd {T = T} text parts (Err f) → IsWrapped (OfText f) → ⊥
@@ -63,8 +63,8 @@ module _ {T : Type 0} (done : T) (books : Books) (n : ℕ) (text : List ℕ) (s 
   }
 
   -- on any shelf
-  pub tells-valid : (published unpublished : ℕ) (all : List ℕ) → s.found ≡ Some (verdict.Valid published unpublished) → all ≡ s.lines.items ++ closing_line published unpublished → LinesTell books n all (Valid published unpublished)
-  tells-valid published unpublished all found put = record {
+  pub states-valid : (published unpublished : ℕ) (all : List ℕ) → s.found ≡ Some (verdict.Valid published unpublished) → all ≡ s.lines.items ++ closing_line published unpublished → LinesReport books n all (Valid published unpublished)
+  states-valid published unpublished all found put = record {
     publication = whole.0;
     valid = settled books n text s a whole.0 whole.2 (verdict.Valid published unpublished) found;
     front = s.lines.items;

@@ -6,9 +6,9 @@ use Rattle.mari_io.specs.declared.shelf.Fetch.TheVariants as fetch
 use Rattle.mari_publish.specs.declared.fault.TextFault.{TextFault}
 use Rattle.mari_publish.specs.declared.publication.Publication.{Publication}
 use Rattle.mari_publish.specs.Faults.{IsText}
-use Rattle.mari_publish.specs.Paged.{IsToldFault}
+use Rattle.mari_publish.specs.Paged.{IsReportedFault}
 use Rattle.mari_publish.proofs.Outcomes.{one_text}
-use Rattle.mari_publish.proofs.Paging.{long-none, no-fault-of-text, one-fault, told-first}
+use Rattle.mari_publish.proofs.Paging.{long-none, no-fault-of-text, one-fault, reported-first}
 use Rattle.mari_remain.specs.declared.books.Books.{Books}
 use Rattle.mari_check.specs.declared.verdict.Verdict.TheVariants as verdict
 use Rattle.mari_check.specs.Day.{IsFirstFault}
@@ -17,7 +17,7 @@ use Rattle.mari_capacity.specs.declared.ending.ValueEnd.{ValueEnd}
 use Rattle.mari_capacity.specs.declared.ending.ValueEnd.TheVariants.{Valid, Invalid, Text as OfText, Fetch as OfFetch}
 use Rattle.mari_capacity.specs.declared.ending.Valued.{Valued}
 use Rattle.mari_capacity.specs.Ends.{HasEndFault, HasPartFault, IsEndOf, IsValidPage}
-use Rattle.mari_capacity.specs.Streams.{EndsAs, EndsPage, EndsUnheld, ValueTells}
+use Rattle.mari_capacity.specs.Streams.{EndsAs, EndsPage, EndsUnheld, ValueStates}
 use Rattle.mari_capacity.specs.Streams.EndsInvalid.{AtPart, AtEnd}
 use Rattle.mari_capacity.proofs.FirstFaults.{given-fault, no-first-fault, one-end-fault, one-part-fault, parts-clean, text-clean}
 
@@ -25,15 +25,15 @@ use Rattle.mari_capacity.proofs.FirstFaults.{given-fault, no-first-fault, one-en
 
 pub is-end : (books : Books) (n : ℕ) (page text : List ℕ) (end : ValueEnd) → EndsPage books n page text end → IsEndOf books (Some page) end ⊎ (end ≡ OfFetch fetch.Failed)
 is-end books n page text (Valid published unpublished) e = inl e.valid
-is-end books n page text (Invalid run number) (AtPart parts x there fault tells) = inl (inl (record { parts = parts; part = x; there = there; checked = tells.checked; fault = fault }))
+is-end books n page text (Invalid run number) (AtPart parts x there fault states) = inl (inl (record { parts = parts; part = x; there = there; checked = states.checked; fault = fault }))
 is-end books n page text (Invalid run number) (AtEnd f lines) = inl (inr f)
-is-end books n page text (OfText f) e = inl (e.told, parts-clean books page e.parts e.tells.holds e.no_more e.tells.tells.checked)
+is-end books n page text (OfText f) e = inl (e.reported, parts-clean books page e.parts e.states.holds e.no_more e.states.states.checked)
 is-end books n page text (OfFetch fetch.Failed) e = inr refl
 is-end books n page text (OfFetch fetch.Missing) e = absurd e
-is-end books n page text (OfFetch fetch.TooLong) e = inl (e.too_long, parts-clean books (take most_given page) e.parts e.tells.holds e.no_more e.tells.tells.checked)
+is-end books n page text (OfFetch fetch.TooLong) e = inl (e.too_long, parts-clean books (take most_given page) e.parts e.states.holds e.no_more e.states.states.checked)
 is-end books n page text (OfFetch fetch.Memory) e = absurd e
 
-pub is-end-of : (books : Books) (n : ℕ) (page : Option (List ℕ)) (text : List ℕ) (end : ValueEnd) → ValueTells books n page text end → IsEndOf books page end ⊎ (end ≡ OfFetch fetch.Failed)
+pub is-end-of : (books : Books) (n : ℕ) (page : Option (List ℕ)) (text : List ℕ) (end : ValueEnd) → ValueStates books n page text end → IsEndOf books page end ⊎ (end ≡ OfFetch fetch.Failed)
 is-end-of books n (Some page) text end e = is-end books n page text end e
 is-end-of books n None text (OfFetch fetch.Failed) e = inr refl
 is-end-of books n None text (OfFetch fetch.Missing) e = inl tt
@@ -51,8 +51,8 @@ same-valid a b c d e f = cc
 same-invalid : (a b c d : ℕ) → (a ≡ c) × (b ≡ d) → Invalid a b ≡ Invalid c d
 same-invalid a b c d (e, f) = cc
 
-text-faultless : (page : List ℕ) (p : Publication) (f : TextFault) → IsText page p → IsToldFault page f → ⊥
-text-faultless page p f t h = no-fault-of-text page p f t (told-first page f h)
+text-faultless : (page : List ℕ) (p : Publication) (f : TextFault) → IsText page p → IsReportedFault page f → ⊥
+text-faultless page p f t h = no-fault-of-text page p f t (reported-first page f h)
 
 module _ (books : Books) (page : List ℕ) where
   valid-invalid : (published unpublished run number : ℕ) → IsValidPage books page published unpublished → HasPartFault books (take most_given page) run number ⊎ HasEndFault books page run number → ⊥
@@ -97,7 +97,7 @@ module _ (books : Books) (page : List ℕ) where
   one-end (Invalid run number) (OfFetch fetch.Memory) h e = absurd e
   one-end (OfText f) (Valid a b) e v = absurd (text-faultless page v.publication f v.is_text e.0)
   one-end (OfText f) (Invalid run number) e h = absurd (invalid-refused run number f h e)
-  one-end (OfText f) (OfText g) e h = ap (λ (t : TextFault). OfText t) (one-fault page f g (told-first page f e.0) (told-first page g h.0))
+  one-end (OfText f) (OfText g) e h = ap (λ (t : TextFault). OfText t) (one-fault page f g (reported-first page f e.0) (reported-first page g h.0))
   one-end (OfText f) (OfFetch fetch.Failed) h e = absurd e
   one-end (OfText f) (OfFetch fetch.Missing) h e = absurd e
   one-end (OfText f) (OfFetch fetch.TooLong) h e = absurd (long-none page f e.0 h.0)
@@ -116,28 +116,28 @@ module _ (books : Books) (page : List ℕ) where
 -- ---- so it ends
 
 ends-held : (books : Books) (n : ℕ) (page : List ℕ) (v : Valued) (end : ValueEnd) → EndsPage books n page v.text v.end → IsEndOf books (Some page) end → EndsAs end v
-ends-held books n page v end tells is = by (is-end books n page v.text v.end tells)
+ends-held books n page v end states is = by (is-end books n page v.text v.end states)
   where
     by : IsEndOf books (Some page) v.end ⊎ (v.end ≡ OfFetch fetch.Failed) → EndsAs end v
     by (inl own) = inl (one-end books page v.end end own is)
     by (inr failed) = inr failed
 
 ends-unheld : (books : Books) (text : List ℕ) (own end : ValueEnd) → EndsUnheld text own → IsEndOf books None end → (own ≡ end) ⊎ (own ≡ OfFetch fetch.Failed)
-ends-unheld books text (OfFetch fetch.Failed) end tells is = inr refl
-ends-unheld books text (OfFetch fetch.Missing) (OfFetch fetch.Missing) tells is = inl refl
-ends-unheld books text (OfFetch fetch.Missing) (OfFetch fetch.Failed) tells is = absurd is
-ends-unheld books text (OfFetch fetch.Missing) (OfFetch fetch.TooLong) tells is = absurd is
-ends-unheld books text (OfFetch fetch.Missing) (OfFetch fetch.Memory) tells is = absurd is
-ends-unheld books text (OfFetch fetch.Missing) (Valid a b) tells is = absurd is
-ends-unheld books text (OfFetch fetch.Missing) (Invalid run number) tells is = absurd is
-ends-unheld books text (OfFetch fetch.Missing) (OfText f) tells is = absurd is
-ends-unheld books text (OfFetch fetch.TooLong) end tells is = absurd tells
-ends-unheld books text (OfFetch fetch.Memory) end tells is = absurd tells
-ends-unheld books text (Valid a b) end tells is = absurd tells
-ends-unheld books text (Invalid run number) end tells is = absurd tells
-ends-unheld books text (OfText f) end tells is = absurd tells
+ends-unheld books text (OfFetch fetch.Failed) end states is = inr refl
+ends-unheld books text (OfFetch fetch.Missing) (OfFetch fetch.Missing) states is = inl refl
+ends-unheld books text (OfFetch fetch.Missing) (OfFetch fetch.Failed) states is = absurd is
+ends-unheld books text (OfFetch fetch.Missing) (OfFetch fetch.TooLong) states is = absurd is
+ends-unheld books text (OfFetch fetch.Missing) (OfFetch fetch.Memory) states is = absurd is
+ends-unheld books text (OfFetch fetch.Missing) (Valid a b) states is = absurd is
+ends-unheld books text (OfFetch fetch.Missing) (Invalid run number) states is = absurd is
+ends-unheld books text (OfFetch fetch.Missing) (OfText f) states is = absurd is
+ends-unheld books text (OfFetch fetch.TooLong) end states is = absurd states
+ends-unheld books text (OfFetch fetch.Memory) end states is = absurd states
+ends-unheld books text (Valid a b) end states is = absurd states
+ends-unheld books text (Invalid run number) end states is = absurd states
+ends-unheld books text (OfText f) end states is = absurd states
 
-pub ends-exactly : {E : Type 0} (books : Books) (n : ℕ) (page : Option (List ℕ)) (r : Result Valued E) (end : ValueEnd) → IfOk r (λ v. ValueTells books n page v.text v.end) → IsEndOf books page end → IfOk r (EndsAs end)
-ends-exactly books n None (Ok v) end tells is = ends-unheld books v.text v.end end tells is
-ends-exactly books n (Some page) (Ok v) end tells is = ends-held books n page v end tells is
-ends-exactly books n page (Err why) end tells is = tt
+pub ends-exactly : {E : Type 0} (books : Books) (n : ℕ) (page : Option (List ℕ)) (r : Result Valued E) (end : ValueEnd) → IfOk r (λ v. ValueStates books n page v.text v.end) → IsEndOf books page end → IfOk r (EndsAs end)
+ends-exactly books n None (Ok v) end states is = ends-unheld books v.text v.end end states is
+ends-exactly books n (Some page) (Ok v) end states is = ends-held books n page v end states is
+ends-exactly books n page (Err why) end states is = tt

@@ -50,10 +50,10 @@ checked-free books [] (part.Totals os ps) ys run number checked f = f
 checked-free books (part.Head d q n ∷ P) (part.Head date quarters budget) ys run number checked f = let none : part.Head d q n ∷ P ≡ [] = f.0 in absurd (cc none)
 checked-free books (part.Head d q n ∷ P) (part.Block b) ys run number checked f =
     let before = blocks_in P in
-    let behind = blocks_in ys in
-    let free : AreFree books n (before ++ b ∷ behind) = subst (λ (bs : List Block). AreFree books n bs) (blocks_in-append P (part.Block b ∷ ys)) checked.1 in
-    let own = free (length before) b (get_seam before behind b) f.1.0 in
-    f.1.1.there (subst (λ (bs : List Block). IsFreeIn books n bs b f.1.0) (take-append_seam before (b ∷ behind)) own)
+    let after = blocks_in ys in
+    let free : AreFree books n (before ++ b ∷ after) = subst (λ (bs : List Block). AreFree books n bs) (blocks_in-append P (part.Block b ∷ ys)) checked.1 in
+    let own = free (length before) b (get_seam before after b) f.1.0 in
+    f.1.1.there (subst (λ (bs : List Block). IsFreeIn books n bs b f.1.0) (take-append_seam before (b ∷ after)) own)
 checked-free books (part.Head d q n ∷ P) (part.Totals os ps) ys run number checked f = f
 checked-free books (part.Block c ∷ P) x ys run number checked f = checked
 checked-free books (part.Totals os ps ∷ P) x ys run number checked f = checked

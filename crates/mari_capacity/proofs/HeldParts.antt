@@ -1,4 +1,4 @@
--- The parts that a text holds: one list of them begins the other, and the longest is that behind which none comes.
+-- The parts that a text holds: one list of them begins the other, and the longest is that after which none comes.
 use Rattle.std.proofs.Common.{◌≡◌, ◌∙◌, ◌+◌, ℕ, List, [], ◌∷◌, ◌++◌, map, length, take, drop, Option, Some, None, ◌⊎◌, inl, inr, refl, sym, ap, subst, arith, append_assoc, length-append}
 use Rattle.std.specs.Prelude.{option_and_then}
 use Rattle.std.specs.List.{AllByRecursion}
@@ -98,7 +98,7 @@ front-held text Q h P A C k e g = record {
   gives = g;
 }
 
--- a text that holds these parts, and none behind them, holds no others
+-- a text that holds these parts, and none after them, holds no others
 pub all-parts : (text : List ℕ) (P Q : List Part) → HoldsParts text P → NoPart text P → HoldsParts text Q → (xs : List Part) × (P ≡ Q ++ xs)
 all-parts text P Q g none h = elim (compare h.lines g.lines h.after g.after h.in_range g.in_range (sym h.is ∙ g.is)) [
   | inl c ↦ longer_parts h.lines g.lines c.0 Q P h.kept g.kept h.gives g.gives c.1

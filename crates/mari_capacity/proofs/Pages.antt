@@ -13,7 +13,7 @@ use Rattle.mari_publish.specs.declared.publication.Block.{Block}
 use Rattle.mari_publish.specs.declared.publication.Part.{Part}
 use Rattle.mari_publish.specs.declared.publication.Publication.{Publication}
 use Rattle.mari_publish.proofs.FirstParts.{come_parts, no_more}
-use Rattle.mari_publish.proofs.Paging.{Under, all-of-it, fault-told, given-front, last-piece, one-piece, overlong-front, overlong-page, with-piece}
+use Rattle.mari_publish.proofs.Paging.{Under, all-of-it, fault-reported, given-front, last-piece, one-piece, overlong-front, overlong-page, with-piece}
 use Rattle.mari_remain.specs.declared.books.Books.{Books}
 use Rattle.mari_progress.specs.Totals.{HasHead}
 use Rattle.mari_check.specs.declared.verdict.Verdict.{Verdict}
@@ -26,8 +26,8 @@ use Rattle.mari_capacity.specs.declared.ending.ValueStop.TheVariants.{At, Memory
 use Rattle.mari_capacity.specs.declared.ending.ValueEnd.TheVariants.{Valid, Invalid, Text as OfText, Fetch as OfFetch}
 use Rattle.mari_capacity.specs.declared.stream.ValueStream.{ValueStream}
 use Rattle.mari_capacity.specs.Ends.{AreChecked, blocks_in}
-use Rattle.mari_capacity.specs.Streams.{TellsPage}
-use Rattle.mari_capacity.specs.Taking.{HasTaken, StopTells, StopsAtPart, StopsInText, StopsOnPage, TookAllParts, TookParts, stop_of_fetch, stop_of_text}
+use Rattle.mari_capacity.specs.Streams.{StatesPage}
+use Rattle.mari_capacity.specs.Taking.{HasTaken, StopStates, StopsAtPart, StopsInText, StopsOnPage, TookAllParts, TookParts, stop_of_fetch, stop_of_text}
 use Rattle.mari_capacity.specs.Values.{IsValueText}
 use Rattle.mari_capacity.specs.Streams.EndsInvalid.{AtPart}
 use Rattle.mari_capacity.specs.Streams.EndsFailed.{Midway}
@@ -36,12 +36,12 @@ use Rattle.mari_capacity.proofs.HeldParts.{no-fault-of-nothing, nothing-held, pa
 
 -- ---- a text that goes on
 
-tells-stay : (books : Books) (n : ℕ) (text more : List ℕ) (parts : List Part) (lines : List ℕ) → TellsPage books n text parts lines → TellsPage books n (text ++ more) parts lines
-tells-stay books n text more parts lines t = record { holds = parts-stay text more parts t.holds; tells = t.tells }
+states-stay : (books : Books) (n : ℕ) (text more : List ℕ) (parts : List Part) (lines : List ℕ) → StatesPage books n text parts lines → StatesPage books n (text ++ more) parts lines
+states-stay books n text more parts lines t = record { holds = parts-stay text more parts t.holds; states = t.states }
 
 -- the text that a reader stands for holds the parts that were taken
-pub read-tells : (books : Books) (n : ℕ) (text : List ℕ) (parts : List Part) (s : ValueStream) → TookParts books n text parts s → TellsPage books n text parts s.lines.items
-read-tells books n text parts s r = record { holds = come_parts s.reader.come text parts r.stands; tells = r.taken.tells }
+pub read-states : (books : Books) (n : ℕ) (text : List ℕ) (parts : List Part) (s : ValueStream) → TookParts books n text parts s → StatesPage books n text parts s.lines.items
+read-states books n text parts s r = record { holds = come_parts s.reader.come text parts r.stands; states = r.taken.states }
 
 -- ---- why it stopped
 
@@ -53,24 +53,24 @@ stops-on books n text left page lines why e few h = subst (λ (p : List ℕ). St
     own (At (Invalid run number)) s =
         let front = given-front text left few in
         let there : HasPart (take most_given (text ++ left)) s.parts s.part = subst (λ (t : List ℕ). HasPart t s.parts s.part) front.1 (parts-stay text front.0 (s.parts ++ s.part ∷ []) s.there) in
-        AtPart s.parts s.part there s.fault s.tells
+        AtPart s.parts s.part there s.fault s.states
     own (At (OfText f)) s = record {
-      told = fault-told text left f few s.here;
+      reported = fault-reported text left f few s.here;
       parts = s.parts;
       no_more = no_more text left s.parts f s.here s.no_more;
-      tells = tells-stay books n text left s.parts lines s.tells;
+      states = states-stay books n text left s.parts lines s.states;
     }
     own (At (Valid published unpublished)) s = absurd s
     own (At (OfFetch why)) s = absurd s
     own NoMemory s = tt
 
 -- and on any shelf
-pub stops-tell : (books : Books) (n : ℕ) (text lines : List ℕ) (why : ValueStop) → StopsInText books n text lines why → StopTells books n lines why
-stops-tell books n text lines (At (Invalid run number)) s = (s.parts, s.tells)
-stops-tell books n text lines (At (OfText f)) s = (s.parts, s.tells.tells)
-stops-tell books n text lines (At (Valid published unpublished)) s = absurd s
-stops-tell books n text lines (At (OfFetch why)) s = absurd s
-stops-tell books n text lines NoMemory s = tt
+pub stops-report : (books : Books) (n : ℕ) (text lines : List ℕ) (why : ValueStop) → StopsInText books n text lines why → StopStates books n lines why
+stops-report books n text lines (At (Invalid run number)) s = (s.parts, s.states)
+stops-report books n text lines (At (OfText f)) s = (s.parts, s.states.states)
+stops-report books n text lines (At (Valid published unpublished)) s = absurd s
+stops-report books n text lines (At (OfFetch why)) s = absurd s
+stops-report books n text lines NoMemory s = tt
 
 -- ---- as far as a page was read
 
@@ -82,11 +82,11 @@ pub record ReadsSome (books : Books) (n : ℕ) (s : ValueStream) (text : List �
 
 module _ (books : Books) (more : ℕ) (page rest : Option (List ℕ)) (given : ℕ) (s : ValueStream) (u : Under (ReadsSome books more s) page rest given) where
   -- what is said so far holds of the page
-  so-far : (whole : List ℕ) → page ≡ Some whole → TellsPage books more whole u.known.parts s.lines.items
+  so-far : (whole : List ℕ) → page ≡ Some whole → StatesPage books more whole u.known.parts s.lines.items
   so-far whole is =
-      let t = u.told whole is in
-      let tells = tells-stay books more u.text t.0 u.known.parts s.lines.items (read-tells books more u.text u.known.parts s u.known.read) in
-      subst (λ (p : List ℕ). TellsPage books more p u.known.parts s.lines.items) t.2 tells
+      let t = u.reported whole is in
+      let states = states-stay books more u.text t.0 u.known.parts s.lines.items (read-states books more u.text u.known.parts s u.known.read) in
+      subst (λ (p : List ℕ). StatesPage books more p u.known.parts s.lines.items) t.2 states
 
   -- the fetch of a piece failed
   pub fetch-stops : (f : Fetch) → (f ≡ fetch.Missing → ⊥) → (f ≡ fetch.TooLong → IsOverlong rest given) → (whole : List ℕ) → page ≡ Some whole → StopsOnPage books more whole s.lines.items (stop_of_fetch f)
@@ -99,19 +99,19 @@ module _ (books : Books) (more : ℕ) (page rest : Option (List ℕ)) (given : �
         too_long = overlong-page _ _ _ _ u (over refl) whole is;
         parts = u.known.parts;
         no_more = subst (λ (xs : List ℕ). NoPart xs u.known.parts) front u.known.no_more;
-        tells = subst (λ (xs : List ℕ). TellsPage books more xs u.known.parts s.lines.items) front (read-tells books more u.text u.known.parts s u.known.read);
+        states = subst (λ (xs : List ℕ). StatesPage books more xs u.known.parts s.lines.items) front (read-states books more u.text u.known.parts s u.known.read);
       }
 
-  pub fetch-tells : (f : Fetch) → StopTells books more s.lines.items (stop_of_fetch f)
-  fetch-tells fetch.Failed = inr (u.known.parts, u.known.read.taken.tells)
-  fetch-tells fetch.Missing = inr (u.known.parts, u.known.read.taken.tells)
-  fetch-tells fetch.TooLong = inr (u.known.parts, u.known.read.taken.tells)
-  fetch-tells fetch.Memory = tt
+  pub fetch-states : (f : Fetch) → StopStates books more s.lines.items (stop_of_fetch f)
+  fetch-states fetch.Failed = inr (u.known.parts, u.known.read.taken.states)
+  fetch-states fetch.Missing = inr (u.known.parts, u.known.read.taken.states)
+  fetch-states fetch.TooLong = inr (u.known.parts, u.known.read.taken.states)
+  fetch-states fetch.Memory = tt
 
   module _ (piece : List ℕ) (n : ℕ) (many : length piece ≡ n) (within : given + n ≤ most_given) (is_piece : (left : List ℕ) → rest ≡ Some left → IsPiece left [] piece n) where
     pub piece-stops : (whole : List ℕ) → page ≡ Some whole → (lines : List ℕ) (why : ValueStop) → StopsInText books more (u.text ++ piece) lines why → StopsOnPage books more whole lines why
     piece-stops whole is lines why h =
-        stops-on books more (u.text ++ piece) (drop n (u.told whole is).0) whole lines why (all-of-it _ _ _ _ u piece n many within is_piece whole is) (with-piece _ _ _ _ u piece n many within is_piece) h
+        stops-on books more (u.text ++ piece) (drop n (u.reported whole is).0) whole lines why (all-of-it _ _ _ _ u piece n many within is_piece whole is) (with-piece _ _ _ _ u piece n many within is_piece) h
 
     module _ (new : ValueStream) (read : TookAllParts books more (u.text ++ piece) new) where
       -- there is more of it
@@ -133,7 +133,7 @@ all-read books n text parts s None e h stands waits taken = record { parts = par
 
 -- a part has a fault of the check
 pub part-stops : (books : Books) (n : ℕ) (text : List ℕ) (parts : List Part) (x : Part) (lines : List ℕ) (why : ValueStop) → HasPart text parts x → StopsAtPart books n parts x lines why → StopsInText books n text lines why
-part-stops books n text parts x lines (At (Invalid run number)) there h = record { parts = parts; part = x; there = there; fault = h.0; tells = h.1 }
+part-stops books n text parts x lines (At (Invalid run number)) there h = record { parts = parts; part = x; there = there; fault = h.0; states = h.1 }
 part-stops books n text parts x lines (At (Valid published unpublished)) there h = absurd h
 part-stops books n text parts x lines (At (OfText f)) there h = absurd h
 part-stops books n text parts x lines (At (OfFetch why)) there h = absurd h
@@ -141,8 +141,8 @@ part-stops books n text parts x lines NoMemory there h = tt
 
 -- a line has a fault
 pub line-stops : (books : Books) (n : ℕ) (text : List ℕ) (parts : List Part) (s : ValueStream) (f : TextFault) → TookParts books n text parts s → IsNext text parts (Err f) → StopsInText books n text s.lines.items (stop_of_text f)
-line-stops books n text parts s (fault.BadLine k) r h = record { here = h.0; parts = parts; no_more = h.1; tells = read-tells books n text parts s r }
-line-stops books n text parts s (fault.BadOrder k) r h = record { here = h.0; parts = parts; no_more = h.1; tells = read-tells books n text parts s r }
+line-stops books n text parts s (fault.BadLine k) r h = record { here = h.0; parts = parts; no_more = h.1; states = read-states books n text parts s r }
+line-stops books n text parts s (fault.BadOrder k) r h = record { here = h.0; parts = parts; no_more = h.1; states = read-states books n text parts s r }
 line-stops books n text parts s (fault.Truncated k) r h = absurd h
 line-stops books n text parts s fault.Memory r h = tt
 
@@ -158,13 +158,13 @@ settled books n text s a p e v found =
     let own : SettlesVerdict books a.parts v = subst (λ (f : Option Verdict). IsFound books a.parts s.day f) found a.read.taken.found in
     own p [] (sym e ∙ sym (append-nil a.parts))
 
--- and the lines tell of its blocks
+-- and the lines state of its blocks
 pub whole-lines : (books : Books) (n : ℕ) (text : List ℕ) (s : ValueStream) (a : TookAllParts books n text s) (p : Publication) → a.parts ≡ parts_of p → IsValueText books n p.blocks s.lines.items
-whole-lines books n text s a p e = subst (λ (bs : List Block). IsValueText books n bs s.lines.items) (ap blocks_in e ∙ blocks_in-parts p) a.read.taken.tells.lines
+whole-lines books n text s a p e = subst (λ (bs : List Block). IsValueText books n bs s.lines.items) (ap blocks_in e ∙ blocks_in-parts p) a.read.taken.states.lines
 
 pub whole-checked : (books : Books) (n : ℕ) (text : List ℕ) (s : ValueStream) (a : TookAllParts books n text s) (p : Publication) → a.parts ≡ parts_of p → HasHead books p.date p.quarters × AreFree books p.budget p.blocks
 whole-checked books n text s a p e =
-    let own : AreChecked books (parts_of p) = subst (λ (ps : List Part). AreChecked books ps) e a.read.taken.tells.checked in
+    let own : AreChecked books (parts_of p) = subst (λ (ps : List Part). AreChecked books ps) e a.read.taken.states.checked in
     (own.0, subst (λ (bs : List Block). AreFree books p.budget bs) (blocks_in-parts p) own.1)
 
 -- ---- before the first piece
@@ -176,7 +176,7 @@ nothing-read books n rest given s none read = record {
   given_is = none;
   few = omega (arith, none);
   no_fault = no-fault-of-nothing;
-  told = λ whole is. (whole, is, refl);
+  reported = λ whole is. (whole, is, refl);
 }
 
 -- ---- by how many MW limits are raised

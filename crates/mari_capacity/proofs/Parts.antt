@@ -1,4 +1,4 @@
--- The parts of a publication that were taken, one behind the other.
+-- The parts of a publication that were taken, one after the other.
 use Rattle.std.proofs.Common.{◌≡◌, ◌∙◌, ℕ, List, [], ◌∷◌, ◌++◌, map, Option, Some, None, refl, sym, ap, subst, append_assoc}
 use Rattle.std.specs.Prelude.{IfSome, Result as Res, Ok, Err, IfOk, IfErr, OnOk, IsSome}
 use Rattle.std.proofs.lemmas.List.{append-nil}
@@ -11,7 +11,7 @@ use Rattle.mari_publish.specs.declared.publication.Part.TheVariants as part
 use Rattle.mari_publish.specs.declared.publication.Publication.{Publication}
 use Rattle.mari_units.specs.declared.faults.Memory.{Memory as NoRoom}
 use Rattle.mari_remain.specs.declared.books.Books.{Books}
-use Rattle.mari_progress.specs.Behind.{run_behind}
+use Rattle.mari_progress.specs.After.{run_after}
 use Rattle.mari_progress.specs.Totals.{HasHead}
 use Rattle.mari_check.specs.declared.day.DayCheck.{DayCheck}
 use Rattle.mari_check.specs.declared.fault.Fault.{Fault}
@@ -25,12 +25,12 @@ use Rattle.mari_check.proofs.Streaming.{IsLater, Way, block-found, first, head-f
 use Rattle.mari_capacity.specs.declared.ending.ValueStop.{ValueStop}
 use Rattle.mari_capacity.specs.declared.stream.ValueStream.{ValueStream}
 use Rattle.mari_capacity.specs.Ends.{AreChecked, HasFault, blocks_in, budget_in}
-use Rattle.mari_capacity.specs.Streams.{TellsChecked}
+use Rattle.mari_capacity.specs.Streams.{StatesChecked}
 use Rattle.mari_capacity.specs.Taking.{HasTaken, HaveEnded, IsSameButDay, IsStopAt, StopsAtPart}
 use Rattle.mari_capacity.specs.Values.{IsValueText}
 use Rattle.mari_capacity.proofs.FirstFaults.{blocks_in-append, blocks_in-blocks}
 
--- ---- behind the totals there is no part
+-- ---- after the totals there is no part
 
 last-part : (own : List Block) (os : List MoneyLine) (ps : List AmountLine) (front : List Part) (o : List MoneyLine) (a : List AmountLine) (x : Part) (more : List Part)
     → map part.Block own ++ part.Totals os ps ∷ [] ≡ front ++ part.Totals o a ∷ x ∷ more → ⊥
@@ -51,8 +51,8 @@ not-first p (q ∷ front) o a x more e =
     let rest : map part.Block p.blocks ++ part.Totals p.operators p.providers ∷ [] ≡ front ++ part.Totals o a ∷ x ∷ more = cc in
     last-part p.blocks p.operators p.providers front o a x more rest
 
-none-behind : (parts : List Part) (x : Part) → HaveEnded parts → Comes parts x → ⊥
-none-behind parts x (front, o, a, is) c =
+none-after : (parts : List Part) (x : Part) → HaveEnded parts → Comes parts x → ⊥
+none-after parts x (front, o, a, is) c =
     not-first c.whole front o a x c.more (c.are ∙ ap (λ (ps : List Part). ps ++ x ∷ c.more) is ∙ append_assoc front (part.Totals o a ∷ []) (x ∷ c.more))
 
 -- ---- parts that were checked
@@ -63,7 +63,7 @@ not-settled books more parts s x t c = by s.found t.ended
   where
     by : (found : Option Verdict) → IfSome found (λ v. HaveEnded parts) → found ≡ None
     by None e = refl
-    by (Some v) e = absurd (none-behind parts x e c)
+    by (Some v) e = absurd (none-after parts x e c)
 
 pub still-open : (books : Books) (more : ℕ) (parts : List Part) (s : ValueStream) (x : Part) → HasTaken books more parts s → Comes parts x → IsOpen books parts s.day
 still-open books more parts s x t c = subst (λ (f : Option Verdict). IsFound books parts s.day f) (not-settled books more parts s x t c) t.found
@@ -108,7 +108,7 @@ pub open-taken : (books : Books) (more : ℕ) (parts : List Part) (s : ValueStre
 open-taken books more parts s fine none lines same = record {
   found = subst (λ (f : Option Verdict). IsFound books parts s.day f) (sym none) fine;
   ended = subst (λ (f : Option Verdict). IfSome f (λ v. HaveEnded parts)) (sym none) tt;
-  tells = record { checked = open-checked books parts s.day fine; lines = lines };
+  states = record { checked = open-checked books parts s.day fine; lines = lines };
   more_is = same;
 }
 
@@ -118,13 +118,13 @@ module _ (books : Books) (more : ℕ) (parts : List Part) (old new : ValueStream
       → HasTaken books more (parts ++ x ∷ []) new
   head-taken date quarters budget is head checked stated found lines same =
       let fine = still-open books more parts old x t c in
-      let tells : (p : Publication) → p.date ≡ date → p.quarters ≡ quarters → HasHead books p.date p.quarters = λ p d q. record { date_is = d ∙ head.date_is; quarters_is = q ∙ head.quarters_is } in
-      let opens : IsOpen books (parts ++ x ∷ []) new.day = head-found books parts old.day fine x c date quarters budget is None tells new.day checked stated in
+      let states : (p : Publication) → p.date ≡ date → p.quarters ≡ quarters → HasHead books p.date p.quarters = λ p d q. record { date_is = d ∙ head.date_is; quarters_is = q ∙ head.quarters_is } in
+      let opens : IsOpen books (parts ++ x ∷ []) new.day = head-found books parts old.day fine x c date quarters budget is None states new.day checked stated in
       let blocks : blocks_in (parts ++ x ∷ []) ≡ blocks_in parts = blocks_in-append parts (x ∷ []) ∙ ap (λ (y : Part). blocks_in parts ++ blocks_in (y ∷ [])) is ∙ append-nil (blocks_in parts) in
-      let own : IsValueText books more (blocks_in (parts ++ x ∷ [])) old.lines.items = subst (λ (bs : List Block). IsValueText books more bs old.lines.items) (sym blocks) t.tells.lines in
+      let own : IsValueText books more (blocks_in (parts ++ x ∷ [])) old.lines.items = subst (λ (bs : List Block). IsValueText books more bs old.lines.items) (sym blocks) t.states.lines in
       open-taken books more (parts ++ x ∷ []) new opens (found ∙ not-settled books more parts old x t c) (rw lines own) (same ∙ t.more_is)
 
-  -- a block has no fault and is told of
+  -- a block has no fault and is reported of
   pub block-taken : (b : Block) → x ≡ part.Block b → IsLater x → ((any : Fault) → IsFreeIn books old.day.budget (blocks_in parts) b any) → IsChecked books (blocks_in parts ++ b ∷ []) new.day → new.day.budget ≡ old.day.budget
       → new.found ≡ old.found → IsValueText books more (blocks_in parts ++ b ∷ []) new.lines.items → new.more ≡ old.more → HasTaken books more (parts ++ x ∷ []) new
   block-taken b is later free checked budget found lines same =
@@ -147,23 +147,23 @@ module _ (books : Books) (more : ℕ) (parts : List Part) (old new : ValueStream
       let w = way books parts old.day x later fine c in
       let settled : IsFound books (parts ++ x ∷ []) new.day (Some v) = totals-settle books parts old.day x w os ps is v ends in
       let blocks : blocks_in (parts ++ x ∷ []) ≡ blocks_in parts = blocks_in-append parts (x ∷ []) ∙ ap (λ (y : Part). blocks_in parts ++ blocks_in (y ∷ [])) is ∙ append-nil (blocks_in parts) in
-      let own : IsValueText books more (blocks_in (parts ++ x ∷ [])) old.lines.items = subst (λ (bs : List Block). IsValueText books more bs old.lines.items) (sym blocks) t.tells.lines in
+      let own : IsValueText books more (blocks_in (parts ++ x ∷ [])) old.lines.items = subst (λ (bs : List Block). IsValueText books more bs old.lines.items) (sym blocks) t.states.lines in
       record {
         found = subst (λ (f : Option Verdict). IsFound books (parts ++ x ∷ []) new.day f) (sym found) settled;
         ended = subst (λ (f : Option Verdict). IfSome f (λ u. HaveEnded (parts ++ x ∷ []))) (sym found) (parts, os, ps, ap (λ (y : Part). parts ++ y ∷ []) is);
-        tells = record {
-          checked = subst (λ (y : Part). AreChecked books (parts ++ y ∷ [])) (sym is) (with-totals books parts old.day w os ps t.tells.checked);
+        states = record {
+          checked = subst (λ (y : Part). AreChecked books (parts ++ y ∷ [])) (sym is) (with-totals books parts old.day w os ps t.states.checked);
           lines = rw lines own;
         };
         more_is = same ∙ t.more_is;
       }
 
   -- a block has a fault
-  pub block-fault : (b : Block) → x ≡ part.Block b → IsLater x → (run number : ℕ) → run ≡ run_behind (blocks_in parts) → FindsNumber (IsFreeIn books old.day.budget (blocks_in parts) b) (Some number) → HasFault books parts x run number
-  block-fault b is later run number behind finds =
+  pub block-fault : (b : Block) → x ≡ part.Block b → IsLater x → (run number : ℕ) → run ≡ run_after (blocks_in parts) → FindsNumber (IsFreeIn books old.day.budget (blocks_in parts) b) (Some number) → HasFault books parts x run number
+  block-fault b is later run number after finds =
       let w = way books parts old.day x later (still-open books more parts old x t c) c in
       let F : ℕ → Type 0 = λ n. FindsNumber (IsFreeIn books n (blocks_in parts) b) (Some number) in
-      subst (λ (y : Part). HasFault books parts y run number) (sym is) (behind, subst F (sym (way-budget books parts old.day w)) finds)
+      subst (λ (y : Part). HasFault books parts y run number) (sym is) (after, subst F (sym (way-budget books parts old.day w)) finds)
 
 -- ---- what a part comes to
 
@@ -185,10 +185,10 @@ module _ (books : Books) (more : ℕ) (parts : List Part) (old new : ValueStream
         let none : parts ≡ [] = first books parts old.day date quarters budget (still-open books more parts old x t c) (subst (Comes parts) is c) in
         let own : HasFault books parts (part.Head date quarters budget) 0 n = (none, finds.0, refl, finds.1) in
         let fault : HasFault books parts x 0 n = subst (λ (y : Part). HasFault books parts y 0 n) (sym is) own in
-        let tells : TellsChecked books more parts new.lines.items = rw lines t.tells in
-        subst (λ (w : ValueStop). StopsAtPart books more parts x new.lines.items w) (sym stop) (fault, tells)
+        let states : StatesChecked books more parts new.lines.items = rw lines t.states in
+        subst (λ (w : ValueStop). StopsAtPart books more parts x new.lines.items w) (sym stop) (fault, states)
 
-  module _ (b : Block) (is : x ≡ part.Block b) (later : IsLater x) (run : ℕ) (behind : run ≡ run_behind (blocks_in parts)) (same : IsSameButDay old new) where
+  module _ (b : Block) (is : x ≡ part.Block b) (later : IsLater x) (run : ℕ) (after : run ≡ run_after (blocks_in parts)) (same : IsSameButDay old new) where
     pub block-goes-on : {T : Type 0} (found : Res (Option ℕ) NoRoom) (r : Res T ValueStop) → IfOk found (FindsNumber (IsFreeIn books old.day.budget (blocks_in parts) b)) → (found ≡ Ok None → IsChecked books (blocks_in parts ++ b ∷ []) new.day)
         → (found ≡ Ok None → IsValueText books more (blocks_in parts ++ b ∷ []) new.lines.items) → IsStopAt run found r → OnOk r (HasTaken books more (parts ++ x ∷ []) new)
     block-goes-on (Ok None) (Ok done) finds checked lines stop = block-taken books more parts old new x t c b is later finds (checked refl) same.budget same.found (lines refl) same.more
@@ -204,9 +204,9 @@ module _ (books : Books) (more : ℕ) (parts : List Part) (old new : ValueStream
     block-stops (Ok None) (Err why) finds kept stop = absurd stop
     block-stops (Ok (Some n)) (Ok done) finds kept stop = tt
     block-stops (Ok (Some n)) (Err why) finds kept stop =
-        let fault = block-fault books more parts old new x t c b is later run n behind finds in
+        let fault = block-fault books more parts old new x t c b is later run n after finds in
         let lines : new.lines ≡ old.lines = kept refl in
-        let tells : TellsChecked books more parts new.lines.items = rw lines t.tells in
-        subst (λ (w : ValueStop). StopsAtPart books more parts x new.lines.items w) (sym stop) (fault, tells)
+        let states : StatesChecked books more parts new.lines.items = rw lines t.states in
+        subst (λ (w : ValueStop). StopsAtPart books more parts x new.lines.items w) (sym stop) (fault, states)
     block-stops (Err e) (Ok done) finds kept stop = tt
     block-stops (Err e) (Err why) finds kept stop = subst (λ (w : ValueStop). StopsAtPart books more parts x new.lines.items w) (sym stop) tt

@@ -1,4 +1,4 @@
--- The lines of borders, one behind the other.
+-- The lines of borders, one after the other.
 use Rattle.std.proofs.Common.{◌≡◌, ◌∙◌, ℕ, zero, suc, ◌+◌, ◌<◌, ◌≤◌, List, [], ◌∷◌, ◌++◌, length, get_or, drop, arith, refl, sym, ap, append_assoc}
 use Rattle.std.specs.Prelude.{OnOk, Result as Res, Ok, Err}
 use Rattle.std.proofs.lemmas.List.{append-nil}
@@ -39,7 +39,7 @@ no-line (x ∷ ls) (y ∷ ws) (suc k) h = no-line ls ws k (omega arith)
 pub all-put : (ls : List BorderLine) (ws : List BorderWorth) (k : ℕ) (a whole : List ℕ) → length ls ≤ k → a ++ border_lines (drop k ls) (drop k ws) ≡ whole → a ≡ whole
 all-put ls ws k a whole h e = sym (append-nil a) ∙ ap (λ (t : List ℕ). a ++ t) (sym (no-line ls ws k h)) ∙ e
 
--- a text behind which four pieces were put
+-- a text after which four pieces were put
 pub four-put : {R E : Type 0} (r : Res R E) (old a b c now w x y z : List ℕ) → a ≡ old ++ w → b ≡ a ++ x → c ≡ b ++ y → OnOk r (now ≡ c ++ z) → OnOk r (now ≡ old ++ (w ++ ((x ++ y) ++ z)))
 four-put (Ok done) old a b c now w x y z d e f g = g ∙ ap (λ (t : List ℕ). t ++ z) (f ∙ ap (λ (t : List ℕ). t ++ y) (e ∙ ap (λ (t : List ℕ). t ++ x) d)) ∙ regrouped
   where

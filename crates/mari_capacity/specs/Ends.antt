@@ -3,14 +3,14 @@ use Rattle.std.specs.Prelude.{◌≡◌, ◌≤◌, ◌⊎◌, ℕ, List, [], �
 use Rattle.mari_io.specs.Outside.{most_given}
 use Rattle.mari_io.specs.declared.shelf.Fetch.TheVariants as fetch
 use Rattle.mari_publish.specs.Faults.{IsText}
-use Rattle.mari_publish.specs.Paged.{IsToldFault, IsTooLong}
+use Rattle.mari_publish.specs.Paged.{IsReportedFault, IsTooLong}
 use Rattle.mari_publish.specs.Pieces.{HasPart}
 use Rattle.mari_publish.specs.declared.publication.Block.{Block}
 use Rattle.mari_publish.specs.declared.publication.Part.{Part}
 use Rattle.mari_publish.specs.declared.publication.Part.TheVariants as part
 use Rattle.mari_publish.specs.declared.publication.Publication.{Publication}
 use Rattle.mari_remain.specs.declared.books.Books.{Books}
-use Rattle.mari_progress.specs.Behind.{run_behind}
+use Rattle.mari_progress.specs.After.{run_after}
 use Rattle.mari_progress.specs.Totals.{HasHead}
 use Rattle.mari_check.specs.declared.fault.Fault.TheVariants as of_check
 use Rattle.mari_check.specs.declared.verdict.Verdict.TheVariants as verdict
@@ -44,11 +44,11 @@ AreChecked books (part.Head date quarters budget ∷ parts) = HasHead books date
 AreChecked books (part.Block b ∷ parts) = ⊥
 AreChecked books (part.Totals operators providers ∷ parts) = ⊥
 
--- the part behind these has a fault of the check: a head that isn't that of the books has the first fault, as run 0, and
+-- the part after these has a fault of the check: a head that isn't that of the books has the first fault, as run 0, and
 -- a block the least of its own. The totals have theirs only where the text has none
 abbrev pub HasFault : Books → List Part → Part → (run number : ℕ) → Type 0
 HasFault books parts (part.Head date quarters budget) run number = (parts ≡ []) × (HasHead books date quarters → ⊥) × (run ≡ 0) × (number ≡ fault_number of_check.Heading)
-HasFault books parts (part.Block b) run number = (run ≡ run_behind (blocks_in parts)) × FindsNumber (IsFreeIn books (budget_in parts) (blocks_in parts) b) (Some number)
+HasFault books parts (part.Block b) run number = (run ≡ run_after (blocks_in parts)) × FindsNumber (IsFreeIn books (budget_in parts) (blocks_in parts) b) (Some number)
 HasFault books parts (part.Totals operators providers) run number = ⊥
 
 -- ---- the first fault
@@ -97,7 +97,7 @@ IsEndOf books None (Invalid run number) = ⊥
 IsEndOf books None (OfText f) = ⊥
 IsEndOf books (Some page) (Valid published unpublished) = IsValidPage books page published unpublished
 IsEndOf books (Some page) (Invalid run number) = HasPartFault books (take most_given page) run number ⊎ HasEndFault books page run number
-IsEndOf books (Some page) (OfText f) = IsToldFault page f × NoPartFault books page
+IsEndOf books (Some page) (OfText f) = IsReportedFault page f × NoPartFault books page
 IsEndOf books (Some page) (OfFetch fetch.Failed) = ⊥
 IsEndOf books (Some page) (OfFetch fetch.Missing) = ⊥
 IsEndOf books (Some page) (OfFetch fetch.TooLong) = IsTooLong page × NoPartFault books (take most_given page)

@@ -1,4 +1,4 @@
--- The lines that tell what limits are worth.
+-- The lines that state what limits are worth.
 use Rattle.std.specs.Prelude.{ℕ, ◌≤◌, ◌^◌, List, [], ◌∷◌, ◌++◌, unsigned_abs}
 use lib.Chars.{codes}
 use Rattle.std.specs.Fmt.{decimal}
@@ -12,7 +12,7 @@ use Rattle.mari_capacity.specs.declared.worth.Worth.{Worth}
 abbrev pub opening_line : (more : ℕ) → List ℕ
 opening_line more = codes "value 1 " ++ decimal more ++ 10 ∷ []
 
--- a gain and a rise, as money, each behind a space
+-- a gain and a rise, as money, each after a space
 abbrev pub worth_fields : Worth → List ℕ
 worth_fields w = 32 ∷ money_text w.gain ++ 32 ∷ money_text w.rise
 

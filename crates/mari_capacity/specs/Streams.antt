@@ -3,7 +3,7 @@ use Rattle.std.specs.Prelude.{◌≡◌, ◌⊎◌, ℕ, List, [], ◌∷◌, �
 use Rattle.mari_io.specs.Outside.{most_given}
 use Rattle.mari_io.specs.declared.shelf.Fetch.{Fetch}
 use Rattle.mari_io.specs.declared.shelf.Fetch.TheVariants as fetch
-use Rattle.mari_publish.specs.Paged.{IsToldFault, IsTooLong}
+use Rattle.mari_publish.specs.Paged.{IsReportedFault, IsTooLong}
 use Rattle.mari_publish.specs.Pieces.{HasPart, HoldsParts, NoPart}
 use Rattle.mari_publish.specs.declared.fault.TextFault.{TextFault}
 use Rattle.mari_publish.specs.declared.fault.TextFault.TheVariants as fault
@@ -20,18 +20,18 @@ use Rattle.mari_capacity.specs.Lines.{closing_line}
 use Rattle.mari_capacity.specs.Values.{IsValueText}
 
 -- the lines are those of the blocks among parts that were checked
-pub record TellsChecked (books : Books) (more : ℕ) (parts : List Part) (text : List ℕ) : Type 0 where
+pub record StatesChecked (books : Books) (more : ℕ) (parts : List Part) (text : List ℕ) : Type 0 where
   pub checked : AreChecked books parts
   pub lines : IsValueText books more (blocks_in parts) text
 
 -- and a page begins with these parts
-pub record TellsPage (books : Books) (more : ℕ) (page : List ℕ) (parts : List Part) (text : List ℕ) : Type 0 where
+pub record StatesPage (books : Books) (more : ℕ) (page : List ℕ) (parts : List Part) (text : List ℕ) : Type 0 where
   pub holds : HoldsParts page parts
-  pub tells : TellsChecked books more parts text
+  pub states : StatesChecked books more parts text
 
 -- ---- how it ends
 
--- the page is the text of a valid publication: there are the lines of all its blocks, and behind them their numbers
+-- the page is the text of a valid publication: there are the lines of all its blocks, and after them their numbers
 pub record EndsValid (books : Books) (more : ℕ) (page text : List ℕ) (published unpublished : ℕ) : Type 0 where
   pub valid : IsValidPage books page published unpublished
   pub front : List ℕ
@@ -41,15 +41,15 @@ pub record EndsValid (books : Books) (more : ℕ) (page text : List ℕ) (publis
 -- the first fault is one of the check: of a head or a block that is given whole, so that no line up to its last has a
 -- fault; or one that the end of a publication shows. There are the lines of the blocks before it
 pub data EndsInvalid (books : Books) (more : ℕ) (page text : List ℕ) (run number : ℕ) : Type 0 where
-  AtPart : (parts : List Part) (x : Part) → HasPart (take most_given page) parts x → HasFault books parts x run number → TellsChecked books more parts text → EndsInvalid books more page text run number
+  AtPart : (parts : List Part) (x : Part) → HasPart (take most_given page) parts x → HasFault books parts x run number → StatesChecked books more parts text → EndsInvalid books more page text run number
   AtEnd : (f : HasEndFault books page run number) → IsValueText books more f.publication.blocks text → EndsInvalid books more page text run number
 
 -- the first fault is one of the text, and there are the lines of all blocks before it, which were checked
 pub record EndsRefused (books : Books) (more : ℕ) (page text : List ℕ) (f : TextFault) : Type 0 where
-  pub told : IsToldFault page f
+  pub reported : IsReportedFault page f
   pub parts : List Part
   pub no_more : NoPart page parts
-  pub tells : TellsPage books more page parts text
+  pub states : StatesPage books more page parts text
 
 -- the page has more bytes than are given in pieces, and as far as it is given neither a line nor a part has a fault;
 -- there are the lines of all blocks so far
@@ -57,12 +57,12 @@ pub record EndsOverlong (books : Books) (more : ℕ) (page text : List ℕ) : Ty
   pub too_long : IsTooLong page
   pub parts : List Part
   pub no_more : NoPart (take most_given page) parts
-  pub tells : TellsPage books more (take most_given page) parts text
+  pub states : StatesPage books more (take most_given page) parts text
 
 -- no piece more was given: there are the lines of blocks that were checked, or nothing
 pub data EndsFailed (books : Books) (more : ℕ) (page text : List ℕ) : Type 0 where
   Unopened : text ≡ [] → EndsFailed books more page text
-  Midway : (parts : List Part) → TellsPage books more page parts text → EndsFailed books more page text
+  Midway : (parts : List Part) → StatesPage books more page parts text → EndsFailed books more page text
 
 -- how what is said of a page that is held ends
 abbrev pub EndsPage : Books → (more : ℕ) → (page text : List ℕ) → ValueEnd → Type 0
@@ -84,10 +84,10 @@ EndsUnheld text (Valid published unpublished) = ⊥
 EndsUnheld text (Invalid run number) = ⊥
 EndsUnheld text (OfText f) = ⊥
 
--- what is said of the page of a name, where pages are told
-abbrev pub ValueTells : Books → (more : ℕ) → Option (List ℕ) → (text : List ℕ) → ValueEnd → Type 0
-ValueTells books more None text end = EndsUnheld text end
-ValueTells books more (Some page) text end = EndsPage books more page text end
+-- what is said of the page of a name, where pages are reported
+abbrev pub ValueStates : Books → (more : ℕ) → Option (List ℕ) → (text : List ℕ) → ValueEnd → Type 0
+ValueStates books more None text end = EndsUnheld text end
+ValueStates books more (Some page) text end = EndsPage books more page text end
 
 -- it ends so, or since a call of the shelf failed
 abbrev pub EndsAs : ValueEnd → Valued → Type 0
@@ -96,11 +96,11 @@ EndsAs end v = (v.end ≡ end) ⊎ (v.end ≡ OfFetch fetch.Failed)
 -- ---- on any shelf
 
 -- the lines are those of some blocks that begin a publication, each of which was checked
-abbrev pub TellsSome : Books → (more : ℕ) → List ℕ → Type 0
-TellsSome books more text = (parts : List Part) × TellsChecked books more parts text
+abbrev pub StatesSome : Books → (more : ℕ) → List ℕ → Type 0
+StatesSome books more text = (parts : List Part) × StatesChecked books more parts text
 
 -- the lines are those of a valid publication with so many published blocks and so many others, and these numbers
-pub record TellsValid (books : Books) (more : ℕ) (text : List ℕ) (published unpublished : ℕ) : Type 0 where
+pub record StatesValid (books : Books) (more : ℕ) (text : List ℕ) (published unpublished : ℕ) : Type 0 where
   pub publication : Publication
   pub valid : IsVerdict books publication (verdict.Valid published unpublished)
   pub front : List ℕ
@@ -109,11 +109,11 @@ pub record TellsValid (books : Books) (more : ℕ) (text : List ℕ) (published 
 
 -- where a publication is valid there are all its lines and the last one, and else the lines of blocks that were checked,
 -- or nothing where no page was opened
-abbrev pub LinesTell : Books → (more : ℕ) → (text : List ℕ) → ValueEnd → Type 0
-LinesTell books more text (Valid published unpublished) = TellsValid books more text published unpublished
-LinesTell books more text (Invalid run number) = TellsSome books more text
-LinesTell books more text (OfText f) = TellsSome books more text
-LinesTell books more text (OfFetch why) = (text ≡ []) ⊎ TellsSome books more text
+abbrev pub LinesReport : Books → (more : ℕ) → (text : List ℕ) → ValueEnd → Type 0
+LinesReport books more text (Valid published unpublished) = StatesValid books more text published unpublished
+LinesReport books more text (Invalid run number) = StatesSome books more text
+LinesReport books more text (OfText f) = StatesSome books more text
+LinesReport books more text (OfFetch why) = (text ≡ []) ⊎ StatesSome books more text
 
 -- it ends since the shelf gave this fault
 abbrev pub IsPageEnd : Fetch → ValueEnd → Type 0

@@ -20,7 +20,7 @@ use Rattle.mari_capacity.specs.declared.ending.ValueEnd.TheVariants.{Valid, Inva
 use Rattle.mari_capacity.specs.declared.stream.ValueStream.{ValueStream}
 use Rattle.mari_capacity.specs.declared.ending.Valued.{Valued}
 use Rattle.mari_capacity.specs.Ends.{HasFault}
-use Rattle.mari_capacity.specs.Streams.{EndsPage, IsPageEnd, IsWrapped, LinesTell, TellsChecked, TellsPage}
+use Rattle.mari_capacity.specs.Streams.{EndsPage, IsPageEnd, IsWrapped, LinesReport, StatesChecked, StatesPage}
 
 -- ---- what has come
 
@@ -32,7 +32,7 @@ HaveEnded parts = (front : List Part) × (operators : List MoneyLine) × (provid
 pub record HasTaken (books : Books) (more : ℕ) (parts : List Part) (s : ValueStream) : Type 0 where
   pub found : IsFound books parts s.day s.found
   pub ended : IfSome s.found (λ v. HaveEnded parts)
-  pub tells : TellsChecked books more parts s.lines.items
+  pub states : StatesChecked books more parts s.lines.items
   pub more_is : s.more ≡ more
 
 -- a text has come, and these parts of it were taken
@@ -52,7 +52,7 @@ pub record TookAllParts (books : Books) (more : ℕ) (text : List ℕ) (s : Valu
 
 -- at a part
 abbrev pub StopsAtPart : Books → (more : ℕ) → List Part → Part → (lines : List ℕ) → ValueStop → Type 0
-StopsAtPart books more parts x lines (At (Invalid run number)) = HasFault books parts x run number × TellsChecked books more parts lines
+StopsAtPart books more parts x lines (At (Invalid run number)) = HasFault books parts x run number × StatesChecked books more parts lines
 StopsAtPart books more parts x lines (At (Valid published unpublished)) = ⊥
 StopsAtPart books more parts x lines (At (OfText f)) = ⊥
 StopsAtPart books more parts x lines (At (OfFetch why)) = ⊥
@@ -64,14 +64,14 @@ pub record FaultOfPart (books : Books) (more : ℕ) (text lines : List ℕ) (run
   pub part : Part
   pub there : HasPart text parts part
   pub fault : HasFault books parts part run number
-  pub tells : TellsChecked books more parts lines
+  pub states : StatesChecked books more parts lines
 
 -- a line of it has a fault
 pub record FaultOfLine (books : Books) (more : ℕ) (text lines : List ℕ) (f : TextFault) : Type 0 where
   pub here : IsLineFault text f
   pub parts : List Part
   pub no_more : NoPart text parts
-  pub tells : TellsPage books more text parts lines
+  pub states : StatesPage books more text parts lines
 
 -- in a text
 abbrev pub StopsInText : Books → (more : ℕ) → (text lines : List ℕ) → ValueStop → Type 0
@@ -82,23 +82,23 @@ StopsInText books more text lines (At (OfFetch why)) = ⊥
 StopsInText books more text lines NoMemory = ⊤
 
 -- what is so when a text has come as far as this
-abbrev pub PushTells : {T : Type 0} → Books → (more : ℕ) → (text : List ℕ) → ValueStream → Result T ValueStop → Type 0
-PushTells books more text s (Ok done) = TookAllParts books more text s
-PushTells books more text s (Err why) = StopsInText books more text s.lines.items why
+abbrev pub PushStates : {T : Type 0} → Books → (more : ℕ) → (text : List ℕ) → ValueStream → Result T ValueStop → Type 0
+PushStates books more text s (Ok done) = TookAllParts books more text s
+PushStates books more text s (Err why) = StopsInText books more text s.lines.items why
 
 -- on a page, and on any shelf
 abbrev pub StopsOnPage : Books → (more : ℕ) → (page lines : List ℕ) → ValueStop → Type 0
 StopsOnPage books more page lines (At end) = EndsPage books more page lines end
 StopsOnPage books more page lines NoMemory = ⊤
 
-abbrev pub StopTells : Books → (more : ℕ) → (lines : List ℕ) → ValueStop → Type 0
-StopTells books more lines (At end) = LinesTell books more lines end
-StopTells books more lines NoMemory = ⊤
+abbrev pub StopStates : Books → (more : ℕ) → (lines : List ℕ) → ValueStop → Type 0
+StopStates books more lines (At end) = LinesReport books more lines end
+StopStates books more lines NoMemory = ⊤
 
 -- what is so when a page was read to its end, or as far as could be
-abbrev pub PiecesTell : {T : Type 0} → Books → (more : ℕ) → (page : List ℕ) → ValueStream → Result T ValueStop → Type 0
-PiecesTell books more page s (Ok done) = (length page ≤ most_given) × TookAllParts books more page s
-PiecesTell books more page s (Err why) = StopsOnPage books more page s.lines.items why
+abbrev pub PiecesReport : {T : Type 0} → Books → (more : ℕ) → (page : List ℕ) → ValueStream → Result T ValueStop → Type 0
+PiecesReport books more page s (Ok done) = (length page ≤ most_given) × TookAllParts books more page s
+PiecesReport books more page s (Err why) = StopsOnPage books more page s.lines.items why
 
 -- the shelf gave this fault
 abbrev pub IsStopFetch : {T : Type 0} → Fetch → Result T ValueStop → Type 0

@@ -5,8 +5,8 @@ ghost use Rattle.mari_publish.specs.declared.publication.Block.{Block as Printed
 ghost use Rattle.mari_publish.specs.declared.publication.Block.TheVariants as printed;
 ghost use Rattle.mari_publish.specs.declared.publication.FullBlock.{FullBlock as TheFullBlock};
 ghost use Rattle.mari_remain.specs.Accepted.{IsAccepted};
-ghost use Rattle.mari_progress.specs.Behind.{market_behind};
-ghost use Rattle.mari_progress.specs.Told.{activation_of, prices_of};
+ghost use Rattle.mari_progress.specs.After.{market_after};
+ghost use Rattle.mari_progress.specs.Reported.{activation_of, prices_of};
 ghost use Rattle.mari_check.specs.Day.{AreFree};
 ghost use Rattle.mari_capacity.specs.Worth.{AreWorths, RisesBound};
 ghost use Rattle.mari_capacity.specs.declared.worth.BorderWorth.{BorderWorth as TheBorderWorth};
@@ -21,7 +21,7 @@ use mari_remain::Books;
 pub fn limits_are_worth(books: &Books)
     requires { IsAccepted books.now }
     ensures { (budget : ℕ) (blocks : List PrintedBlock) → AreFree books.now budget blocks → (k : ℕ) (b : TheFullBlock) → slice_get blocks k ≡ Some (printed.Published b) → (more : ℕ) (worths : List TheBorderWorth)
-        → AreWorths (market_behind books.now (take k blocks)).market (activation_of b) (prices_of b) more worths → RisesBound (market_behind books.now (take k blocks)).market (activation_of b) (pos b.welfare) more worths }
+        → AreWorths (market_after books.now (take k blocks)).market (activation_of b) (prices_of b) more worths → RisesBound (market_after books.now (take k blocks)).market (activation_of b) (pos b.welfare) more worths }
 {
     let _books = books;
 }

@@ -15,8 +15,8 @@ ghost use Rattle.mari_check.specs.Faults.{FindsNumber};
 ghost use Rattle.mari_check.specs.Streams.{Comes};
 ghost use Rattle.mari_capacity.specs.Ends.{IsEndOf};
 ghost use Rattle.mari_capacity.specs.Values.{IsValueText};
-ghost use Rattle.mari_capacity.specs.Streams.{EndsAs, EndsPage, IsPageEnd, IsPageFault, IsWrapped, LinesTell, ValueTells};
-ghost use Rattle.mari_capacity.specs.Taking.{HasTaken, IsSameButDay, IsStopFetch, IsWrappedStop, PiecesTell, PushTells, StopTells, StopsAtPart, TookAllParts, TookParts};
+ghost use Rattle.mari_capacity.specs.Streams.{EndsAs, EndsPage, IsPageEnd, IsPageFault, IsWrapped, LinesReport, ValueStates};
+ghost use Rattle.mari_capacity.specs.Taking.{HasTaken, IsSameButDay, IsStopFetch, IsWrappedStop, PiecesReport, PushStates, StopStates, StopsAtPart, TookAllParts, TookParts};
 ghost use Rattle.mari_capacity.specs.declared.ending.ValueEnd.{ValueEnd as TheEnd};
 
 use crate::ending::{
@@ -178,7 +178,7 @@ impl ValueStream {
         requires accepted { IsAccepted books.now }
         requires more { self.old.more ≤ MOST_RAISE }
         requires read { (text : List ℕ) × (parts : List ThePart) × TookParts books.now self.old.more text parts self.old }
-        ensures tells { (text : List ℕ) (parts : List ThePart) → TookParts books.now self.old.more text parts self.old → PushTells books.now self.old.more text self.new result }
+        ensures states { (text : List ℕ) (parts : List ThePart) → TookParts books.now self.old.more text parts self.old → PushStates books.now self.old.more text self.new result }
         ensures more { self.new.more ≡ self.old.more }
     {
         'parts: loop {
@@ -198,7 +198,7 @@ impl ValueStream {
         requires accepted { IsAccepted books.now }
         requires more { self.old.more ≤ MOST_RAISE }
         requires read { (text : List ℕ) × (parts : List ThePart) × TookParts books.now self.old.more text parts self.old }
-        ensures tells { (text : List ℕ) (parts : List ThePart) → TookParts books.now self.old.more text parts self.old → PushTells books.now self.old.more (text ++ piece.now) self.new result }
+        ensures states { (text : List ℕ) (parts : List ThePart) → TookParts books.now self.old.more text parts self.old → PushStates books.now self.old.more (text ++ piece.now) self.new result }
         ensures more { self.new.more ≡ self.old.more }
     {
         match self.reader.push(piece) {
@@ -222,8 +222,8 @@ impl ValueStream {
     /// The lines of a text that has come as far as its page goes, and how they end.
     fn end(self, alloc: Global) -> Result<Valued, Memory>
         requires read { (books : TheBooks) × (text : List ℕ) × TookAllParts books self.more text self }
-        ensures told { (books : TheBooks) (text : List ℕ) → TookAllParts books self.more text self → length text ≤ most_given → IfOk result (λ v. EndsPage books self.more text v.text v.end) }
-        ensures lines { (books : TheBooks) (text : List ℕ) → TookAllParts books self.more text self → IfOk result (λ v. LinesTell books self.more v.text v.end) }
+        ensures reported { (books : TheBooks) (text : List ℕ) → TookAllParts books self.more text self → length text ≤ most_given → IfOk result (λ v. EndsPage books self.more text v.text v.end) }
+        ensures lines { (books : TheBooks) (text : List ℕ) → TookAllParts books self.more text self → IfOk result (λ v. LinesReport books self.more v.text v.end) }
         ensures memory { IfOk result (λ v. IsWrapped v.end → ⊥) }
         ensures page { (why : TheFetch) → IfOk result (λ v. IsPageEnd why v.end → ⊥) }
     {
@@ -274,8 +274,8 @@ fn read_pieces<S: Shelf>(
     ensures same { S.pages shelf.new ≡ S.pages shelf.old }
     ensures more { stream.new.more ≡ stream.old.more }
     ensures read { OnOk result ((text : List ℕ) × TookAllParts books.now stream.old.more text stream.new) }
-    ensures told { (page : List ℕ) → S.rest shelf.old ≡ Some page → PiecesTell books.now stream.old.more page stream.new result }
-    ensures lines { IfErr result (StopTells books.now stream.old.more stream.new.lines.items) }
+    ensures reported { (page : List ℕ) → S.rest shelf.old ≡ Some page → PiecesReport books.now stream.old.more page stream.new result }
+    ensures lines { IfErr result (StopStates books.now stream.old.more stream.new.lines.items) }
 
     // Why it wasn't read to its end. Out of memory is reported as such.
     ensures memory { IfErr result (λ stop. IsWrappedStop stop → ⊥) }
@@ -322,11 +322,11 @@ pub fn value_stream<S: Shelf>(
     ensures same { S.pages shelf.new ≡ S.pages shelf.old }
 
     // What is said of the page, where pages are reported; and on any shelf, that the lines are those of checked blocks.
-    ensures told { (told : Pages) → S.pages shelf.old ≡ Some told → IfOk result (λ v. ValueTells books.now more (page_of told name.now) v.text v.end) }
-    ensures lines { IfOk result (λ v. LinesTell books.now more v.text v.end) }
+    ensures reported { (reported : Pages) → S.pages shelf.old ≡ Some reported → IfOk result (λ v. ValueStates books.now more (page_of reported name.now) v.text v.end) }
+    ensures lines { IfOk result (λ v. LinesReport books.now more v.text v.end) }
 
     // It ends as the page does and in no other way, unless a call of the shelf failed.
-    ensures exact { (told : Pages) (end : TheEnd) → S.pages shelf.old ≡ Some told → IsEndOf books.now (page_of told name.now) end → IfOk result (EndsAs end) }
+    ensures exact { (reported : Pages) (end : TheEnd) → S.pages shelf.old ≡ Some reported → IsEndOf books.now (page_of reported name.now) end → IfOk result (EndsAs end) }
 
     // Why the page wasn't had. Out of memory is reported as such.
     ensures memory { IfOk result (λ v. IsWrapped v.end → ⊥) }

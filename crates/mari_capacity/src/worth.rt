@@ -4,7 +4,7 @@ ghost use Rattle.std.specs.Prelude.{◌≡◌, ◌<◌, ◌≤◌, pos, IfOk, le
 ghost use Rattle.mari_market.specs.Activation.{welfare_of};
 ghost use Rattle.mari_market.specs.Market.{IsValid};
 ghost use Rattle.mari_market.specs.Optimal.{IsConsistent, IsFeasible};
-ghost use Rattle.mari_progress.specs.Told.{activation_of as activation_told, prices_of as prices_told};
+ghost use Rattle.mari_progress.specs.Reported.{activation_of as activation_reported, prices_of as prices_reported};
 ghost use Rattle.mari_capacity.specs.Worth.{AreWorths, IsBorderWorth, IsPublished, IsWorth};
 
 use crate::gains::gain_from;
@@ -144,11 +144,11 @@ pub(crate) fn worths_of(
 ) -> Result<Vec<BorderWorth>, Memory>
     // What the check found of the block.
     requires valid { IsValid market.now }
-    requires feasible { IsFeasible market.now (activation_told block.now) }
-    requires consistent { IsConsistent market.now (activation_told block.now) (prices_told block.now) }
-    requires welfare { welfare_of market.now (activation_told block.now) ≡ pos block.now.welfare }
+    requires feasible { IsFeasible market.now (activation_reported block.now) }
+    requires consistent { IsConsistent market.now (activation_reported block.now) (prices_reported block.now) }
+    requires welfare { welfare_of market.now (activation_reported block.now) ≡ pos block.now.welfare }
     requires more { more ≤ MOST_RAISE }
-    ensures { IfOk result (λ worths. AreWorths market.now (activation_told block.now) (prices_told block.now) more worths.items) }
+    ensures { IfOk result (λ worths. AreWorths market.now (activation_reported block.now) (prices_reported block.now) more worths.items) }
 {
     let activation = activation_of(alloc, block)?;
     let prices = prices_of(alloc, block)?;

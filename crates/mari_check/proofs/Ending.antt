@@ -16,16 +16,16 @@ use Rattle.mari_settle.specs.declared.ledger.Ledger.{Ledger}
 use Rattle.mari_check.specs.declared.day.DayCheck.{DayCheck}
 use Rattle.mari_check.specs.declared.fault.Fault.{Fault}
 use Rattle.mari_check.specs.declared.fault.Fault.TheVariants as fault
-use Rattle.mari_progress.specs.Behind.{run_behind}
+use Rattle.mari_progress.specs.After.{run_after}
 use Rattle.mari_progress.specs.Progress.{AreTotals}
 use Rattle.mari_check.specs.declared.verdict.Verdict.{Verdict}
 use Rattle.mari_check.specs.declared.verdict.Verdict.TheVariants.{Invalid, Valid}
 use Rattle.mari_check.specs.Checked.{FindsHead, IsChecked}
 use Rattle.mari_check.specs.Day.{AreFree, IsFirstFault, IsFreeIn, IsHeadFault, IsNextHeading, IsValidPublication}
 use Rattle.mari_check.specs.Faults.{FindsNumber, IsLeast}
-use Rattle.mari_check.specs.Verdicts.{BlockTells, HeadTells, IsVerdict}
+use Rattle.mari_check.specs.Verdicts.{BlockStates, HeadStates, IsVerdict}
 use Rattle.mari_progress.specs.Money.{amount_line, money_lines_of}
-use Rattle.mari_progress.specs.Told.{heading_of}
+use Rattle.mari_progress.specs.Reported.{heading_of}
 use Rattle.mari_progress.specs.Totals.{HasHead, HasTotals, operator_totals, provider_totals}
 use Rattle.mari_publish.proofs.Counts.{both_kinds}
 use Rattle.mari_progress.proofs.Sums.{provider-lines}
@@ -41,22 +41,22 @@ module _ (books : Books) (ok : IsAccepted books) (blocks : List Block) (kept : D
   few-others = omega (arith, few-runs)
 
   module _ (run : ℕ) (is : run ≡ kept.progress.published + kept.unpublished + 1) where
-    pub behind-is : run ≡ run_behind blocks
-    behind-is = omega (arith, is, checked.progress.published, checked.unpublished, both_kinds blocks)
+    pub after-is : run ≡ run_after blocks
+    after-is = omega (arith, is, checked.progress.published, checked.unpublished, both_kinds blocks)
 
-    -- there is no run behind the last
-    pub none-next : (told : Heading) → length books.runs.runs < run → (false ≡ true) ↔ IsNextHeading books blocks told
-    none-next told past = refuted (IsNextHeading books blocks told) false refl (λ h. absurd (omega (arith, h.there, past, behind-is)))
+    -- there is no run after the last
+    pub none-next : (reported : Heading) → length books.runs.runs < run → (false ≡ true) ↔ IsNextHeading books blocks reported
+    none-next reported past = refuted (IsNextHeading books blocks reported) false refl (λ h. absurd (omega (arith, h.there, past, after-is)))
 
-    pub next-is : (told : Heading) (b : Bool) → run ≤ length books.runs.runs → (b ≡ true) ↔ (told ≡ heading_of books run) → (b ≡ true) ↔ IsNextHeading books blocks told
-    next-is told b there test = (
-      λ t. record { there = omega (arith, there, behind-is); is_of = test.0 t ∙ ap (heading_of books) behind-is },
-      λ h. test.1 (h.is_of ∙ sym (ap (heading_of books) behind-is)),
+    pub next-is : (reported : Heading) (b : Bool) → run ≤ length books.runs.runs → (b ≡ true) ↔ (reported ≡ heading_of books run) → (b ≡ true) ↔ IsNextHeading books blocks reported
+    next-is reported b there test = (
+      λ t. record { there = omega (arith, there, after-is); is_of = test.0 t ∙ ap (heading_of books) after-is },
+      λ h. test.1 (h.is_of ∙ sym (ap (heading_of books) after-is)),
     )
 
-module _ (books : Books) (budget : ℕ) (blocks : List Block) (told : Heading) (count : ℕ) where
+module _ (books : Books) (budget : ℕ) (blocks : List Block) (reported : Heading) (count : ℕ) where
   abbrev free : Fault → Type 0
-  free any = IsFreeIn books budget blocks (block.Unpublished told count) any
+  free any = IsFreeIn books budget blocks (block.Unpublished reported count) any
 
 -- ---- the totals
 
@@ -80,12 +80,12 @@ pub head-fault : (books : Books) (p : Publication) (found : Option ℕ) (number 
 head-fault books p None number e f = cc e
 head-fault books p (Some n) number e f = let same : n ≡ number = cc e in record { differs = f.0; run_is = refl; number_is = sym same ∙ f.1 }
 
-pub head-told : (books : Books) (p : Publication) (found : Option Verdict) (v : Verdict) → found ≡ Some v → HeadTells books p found → IsVerdict books p v
-head-told books p None v e h = cc e
-head-told books p (Some (Valid published unpublished)) v e h = absurd h
-head-told books p (Some (Invalid run number)) v e h = let same : Invalid run number ≡ v = cc e in subst (IsVerdict books p) same (inl h)
+pub head-reported : (books : Books) (p : Publication) (found : Option Verdict) (v : Verdict) → found ≡ Some v → HeadStates books p found → IsVerdict books p v
+head-reported books p None v e h = cc e
+head-reported books p (Some (Valid published unpublished)) v e h = absurd h
+head-reported books p (Some (Invalid run number)) v e h = let same : Invalid run number ≡ v = cc e in subst (IsVerdict books p) same (inl h)
 
-pub head-clear : (books : Books) (p : Publication) (found : Option Verdict) → found ≡ None → HeadTells books p found → HasHead books p.date p.quarters
+pub head-clear : (books : Books) (p : Publication) (found : Option Verdict) → found ≡ None → HeadStates books p found → HasHead books p.date p.quarters
 head-clear books p None e h = h
 head-clear books p (Some v) e h = absurd (cc e)
 
@@ -95,7 +95,7 @@ module _ (books : Books) (p : Publication) (head : HasHead books p.date p.quarte
 
   -- a block has a fault
   pub block-fault : (blocks : List Block) → p.blocks ≡ blocks → (i : ℕ) (x : Block) → i < length blocks → x ≡ get_or blocks i x → IsChecked books (take i blocks) kept → (run number : ℕ)
-      → run ≡ run_behind (take i blocks) → FindsNumber (IsFreeIn books kept.budget (take i blocks) x) (Some number) → IsFirstFault books p run number
+      → run ≡ run_after (take i blocks) → FindsNumber (IsFreeIn books kept.budget (take i blocks) x) (Some number) → IsFirstFault books p run number
   block-fault blocks same i x l at checked run number is found =
       let there : slice_get blocks i ≡ Some x = slice_get-get_or blocks i x l ∙ ap Some (sym at) in
       let F : ℕ → Type 0 = λ n. IsLeast (IsFreeIn books n (take i blocks) x) found.0 in
@@ -113,13 +113,13 @@ module _ (books : Books) (p : Publication) (head : HasHead books p.date p.quarte
         number_is = found.2;
       }))
 
-  pub block-told : (blocks : List Block) → p.blocks ≡ blocks → (i : ℕ) (x : Block) → i < length blocks → x ≡ get_or blocks i x → IsChecked books (take i blocks) kept
-      → (found : Option Verdict) → BlockTells books kept.budget (take i blocks) x found → (v : Verdict) → found ≡ Some v → IsVerdict books p v
-  block-told blocks same i x l at checked None tells v e = cc e
-  block-told blocks same i x l at checked (Some (Valid published unpublished)) tells v e = absurd tells
-  block-told blocks same i x l at checked (Some (Invalid run number)) tells v e =
+  pub block-reported : (blocks : List Block) → p.blocks ≡ blocks → (i : ℕ) (x : Block) → i < length blocks → x ≡ get_or blocks i x → IsChecked books (take i blocks) kept
+      → (found : Option Verdict) → BlockStates books kept.budget (take i blocks) x found → (v : Verdict) → found ≡ Some v → IsVerdict books p v
+  block-reported blocks same i x l at checked None states v e = cc e
+  block-reported blocks same i x l at checked (Some (Valid published unpublished)) states v e = absurd states
+  block-reported blocks same i x l at checked (Some (Invalid run number)) states v e =
       let is : Invalid run number ≡ v = cc e in
-      subst (IsVerdict books p) is (block-fault blocks same i x l at checked run number tells.0 tells.1)
+      subst (IsVerdict books p) is (block-fault blocks same i x l at checked run number states.0 states.1)
 
   module _ (checked : IsChecked books p.blocks kept) where
     pub is-missing : (run number : ℕ) → kept.progress.published + kept.unpublished < length books.runs.runs → run ≡ kept.progress.published + kept.unpublished + 1 → number ≡ 1 → IsFirstFault books p run number

@@ -17,7 +17,7 @@ use Rattle.mari_check.specs.declared.ends.End.TheVariants.{Greatest, Least}
 use Rattle.mari_check.specs.Ends.{AreEndPrices}
 use Rattle.mari_check.specs.Faults.{HasIntervals}
 use Rattle.mari_check.specs.Lines.{IsInOrder, IsNearestLine, IsSamePrice}
-use Rattle.mari_progress.specs.Told.{activation_of, greatest_told, least_told, prices_of}
+use Rattle.mari_progress.specs.Reported.{activation_of, greatest_reported, least_reported, prices_of}
 use Rattle.mari_check.proofs.Zips.{same-by}
 
 -- lists of prices are one where they have the same price for each zone
@@ -35,11 +35,11 @@ module _ (m : Market) (a : Activation) where
   one-end Greatest ps qs h k = same-prices ps qs (h.one_each ∙ sym k.one_each) (λ z l. one_greatest m a z (price_at ps z) (price_at qs z) (h.each z (omega (arith, l, h.one_each))) (k.each z (omega (arith, l, h.one_each))))
 
   -- prices are those of an end exactly where they are these
-  pub ends-by : (end : End) (told ps : List Cents) (b : Bool) → AreEndPrices end m a ps → (b ≡ true) ↔ AllZip IsSamePrice told ps → (b ≡ true) ↔ AreEndPrices end m a told
-  ends-by end told ps b is test =
-      let same = same-by IsSamePrice (λ c d e. e) (λ c d e. e) told ps b test in (
+  pub ends-by : (end : End) (reported ps : List Cents) (b : Bool) → AreEndPrices end m a ps → (b ≡ true) ↔ AllZip IsSamePrice reported ps → (b ≡ true) ↔ AreEndPrices end m a reported
+  ends-by end reported ps b is test =
+      let same = same-by IsSamePrice (λ c d e. e) (λ c d e. e) reported ps b test in (
         λ t. subst (AreEndPrices end m a) (sym (same.0 t)) is,
-        λ h. same.1 (one-end end told ps h is),
+        λ h. same.1 (one-end end reported ps h is),
       )
 
 -- ---- the nearest price
@@ -66,10 +66,10 @@ module _ (m : Market) (b : FullBlock) (h : HasIntervals m b) where
   many : length b.zones ≡ m.zones
   many = sym (length-map b.zones (λ (l : ZoneLine). l.least)) ∙ h.least.one_each
 
-  least-at : (z : ℕ) → z < m.zones → (line z).least.0 ≡ price_at (least_told b) z
+  least-at : (z : ℕ) → z < m.zones → (line z).least.0 ≡ price_at (least_reported b) z
   least-at z l = ap (λ (c : Cents). c.0) (sym (get_or-map (λ (x : ZoneLine). x.least) b.zones z no_line (record { 0 = pos 0 }) (omega (arith, l, many))))
 
-  greatest-at : (z : ℕ) → z < m.zones → (line z).greatest.0 ≡ price_at (greatest_told b) z
+  greatest-at : (z : ℕ) → z < m.zones → (line z).greatest.0 ≡ price_at (greatest_reported b) z
   greatest-at z l = ap (λ (c : Cents). c.0) (sym (get_or-map (λ (x : ZoneLine). x.greatest) b.zones z no_line (record { 0 = pos 0 }) (omega (arith, l, many))))
 
   price-is : (z : ℕ) → z < m.zones → (line z).price.0 ≡ price_at (prices_of b) z
@@ -91,8 +91,8 @@ module _ (m : Market) (b : FullBlock) (h : HasIntervals m b) where
   nearest-published all = record {
     one_each = length-map b.zones (λ (l : ZoneLine). l.price) ∙ many;
     each = λ z l. record {
-      low = price_at (least_told b) z;
-      high = price_at (greatest_told b) z;
+      low = price_at (least_reported b) z;
+      high = price_at (greatest_reported b) z;
       least = h.least.each z l;
       greatest = h.greatest.each z l;
       nearest = read-nearest _ _ _ _ m.reference.0 _ _ (least-at z l) (greatest-at z l) (price-is z l) (all z no_line (omega (arith, l, many)));
@@ -103,7 +103,7 @@ module _ (m : Market) (b : FullBlock) (h : HasIntervals m b) where
   published-nearest p z d l =
       let there : z < m.zones = omega (arith, l, many) in
       let at = p.each z there in
-      let low : at.low ≡ price_at (least_told b) z = one_least m (activation_of b) z at.low (price_at (least_told b) z) at.least (h.least.each z there) in
-      let high : at.high ≡ price_at (greatest_told b) z = one_greatest m (activation_of b) z at.high (price_at (greatest_told b) z) at.greatest (h.greatest.each z there) in
+      let low : at.low ≡ price_at (least_reported b) z = one_least m (activation_of b) z at.low (price_at (least_reported b) z) at.least (h.least.each z there) in
+      let high : at.high ≡ price_at (greatest_reported b) z = one_greatest m (activation_of b) z at.high (price_at (greatest_reported b) z) at.greatest (h.greatest.each z there) in
       subst (IsNearestLine m.reference) (get_or_default b.zones z no_line d l)
       (read-nearest at.low (line z).least.0 at.high (line z).greatest.0 m.reference.0 (price_at (prices_of b) z) (line z).price.0 (low ∙ sym (least-at z there)) (high ∙ sym (greatest-at z there)) (sym (price-is z there)) at.nearest)

@@ -9,7 +9,7 @@ use Rattle.mari_publish.specs.declared.publication.FullBlock.{FullBlock}
 use Rattle.mari_publish.specs.declared.publication.Publication.{Publication}
 use Rattle.mari_remain.specs.declared.books.Books.{Books}
 use Rattle.mari_remain.specs.Accepted.{IsAccepted}
-use Rattle.mari_progress.specs.Behind.{also_behind, before_of, market_behind, run_behind}
+use Rattle.mari_progress.specs.After.{also_after, before_of, market_after, run_after}
 use Rattle.mari_progress.specs.Keeps.{KeepsOffers, net_sum}
 use Rattle.mari_progress.specs.Runs.{IsSoundBlock}
 use Rattle.mari_progress.proofs.Keeping as sound
@@ -29,12 +29,12 @@ module _ (books : Books) (ok : IsAccepted books) (p : Publication) (valid : IsVa
   keeps-offers = sound.keeps-offers books ok p.blocks few each
 
   -- each published block shows its run
-  pub shows : (k : ℕ) (b : FullBlock) → slice_get p.blocks k ≡ Some (block.Published b) → ShowsRun books (market_behind books (take k p.blocks)) (also_behind books (take k p.blocks)) b
+  pub shows : (k : ℕ) (b : FullBlock) → slice_get p.blocks k ≡ Some (block.Published b) → ShowsRun books (market_after books (take k p.blocks)) (also_after books (take k p.blocks)) b
   shows k b e =
       let l = slice_get_within p.blocks k (block.Published b) e in
       let before = take k p.blocks in
-      shows-run books ok (run_behind before) (market_behind books before) (also_behind books before) (Some p.budget) b
-      (record { blocks = before_of books before; first = sound.up books ok p.blocks few each k (omega (arith, l)); from_one = omega arith; there = sound.behind books ok p.blocks few each k l; made_of = refl })
+      shows-run books ok (run_after before) (market_after books before) (also_after books before) (Some p.budget) b
+      (record { blocks = before_of books before; first = sound.up books ok p.blocks few each k (omega (arith, l)); from_one = omega arith; there = sound.after books ok p.blocks few each k l; made_of = refl })
       (λ any. (valid.blocks k (block.Published b) e any).1)
 
   pub totals-balance : net_sum p.operators ≡ pos 0

@@ -75,11 +75,11 @@ pub found-none : (free_of : Fault → Type 0) (n : ℕ) (found : Option Fault) �
 found-none free_of n None e h = h
 found-none free_of n (Some g) e h = absurd (cc e)
 
--- behind the last test of a block
+-- after the last test of a block
 pub last-passes : (free_of : Fault → Type 0) → NoneBelow free_of 11 → free_of fault.Ledger → free_of fault.Totals → (any : Fault) → free_of any
 last-passes free_of none ledger totals = none-is free_of (none-more free_of fault.Totals 12 refl (none-more free_of fault.Ledger 11 refl none ledger) totals)
 
--- what is told where none is
+-- what is reported where none is
 pub finds-none : (free_of : Fault → Type 0) (found : Option Fault) → found ≡ None → Finds free_of found → (any : Fault) → free_of any
 finds-none free_of None e h = h
 finds-none free_of (Some g) e h = absurd (cc e)

@@ -13,7 +13,7 @@ use Rattle.mari_publish.specs.declared.publication.FullBlock.{FullBlock}
 use Rattle.mari_lines.specs.declared.line.ZoneLine.{ZoneLine}
 use Rattle.mari_remain.specs.declared.books.Books.{Books}
 use Rattle.mari_remain.specs.declared.market.RunMarket.{RunMarket}
-use Rattle.mari_progress.specs.Told.{NamesMarket}
+use Rattle.mari_progress.specs.Reported.{NamesMarket}
 use Rattle.mari_check.specs.Lines.{NamesBid, NamesEnds, NamesZone}
 use Rattle.mari_rows.specs.Names.{name_at}
 use Rattle.mari_check.proofs.Zips.{map-itself, zip-from, zip-to}

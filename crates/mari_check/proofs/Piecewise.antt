@@ -3,14 +3,14 @@ use Rattle.std.proofs.Common.{◌≡◌, ◌∙◌, ◌+◌, ◌<◌, ◌≤◌,
 use Rattle.std.specs.Prelude.{IfErr, IsErrOf}
 use Rattle.std.specs.Option.{option_map}
 use Rattle.std.proofs.lemmas.List.{append-nil}
-use Rattle.mari_io.specs.Outside.{Counts, IsOverlong, IsPiece, OpenTells, counted, most_given}
+use Rattle.mari_io.specs.Outside.{Counts, IsOverlong, IsPiece, OpenStates, counted, most_given}
 use Rattle.mari_io.specs.declared.shelf.Fetch.{Fetch}
 use Rattle.mari_io.specs.declared.shelf.Fetch.TheVariants as fetch
 use Rattle.mari_io.specs.declared.shelf.TheConstants.{MOST_PIECE}
 use Rattle.mari_io.proofs.Counting.{counts_as}
 use Rattle.mari_publish.specs.Faults.{IsOutcome, IsText}
 use Rattle.mari_publish.specs.Paged.{IsLineFault}
-use Rattle.mari_publish.specs.Paged.IsToldFault.{OfPage as of-page}
+use Rattle.mari_publish.specs.Paged.IsReportedFault.{OfPage as of-page}
 use Rattle.mari_publish.specs.Pieces.{IsEnd, IsNext, ComesFrom, found_none, with_part}
 use Rattle.mari_publish.specs.declared.fault.TextFault.{TextFault}
 use Rattle.mari_publish.specs.declared.fault.TextFault.TheVariants as fault
@@ -24,26 +24,26 @@ use Rattle.mari_check.specs.declared.stream.Stream.{Stream}
 use Rattle.mari_check.specs.declared.stream.StreamFault.{StreamFault}
 use Rattle.mari_check.specs.declared.stream.StreamFault.TheVariants.{Fetch as OfFetch, Text as OfText, Memory as NoMemory}
 use Rattle.mari_check.specs.declared.verdict.Verdict.{Verdict}
-use Rattle.mari_check.specs.Streams.{EndTells, FaultStops, FaultTells, IsAllRead, IsFound, HasRead, IsStreamFetch, IsWrappedMemory, LineTells, SameAsRead, StopsAtFault, StreamTells, fault_of_fetch, fault_of_text}
+use Rattle.mari_check.specs.Streams.{EndStates, FaultStops, FaultStates, IsAllRead, IsFound, HasRead, IsStreamFetch, IsWrappedMemory, LineStates, SameAsRead, StopsAtFault, StreamStates, fault_of_fetch, fault_of_text}
 use Rattle.mari_check.specs.Verdicts.{IsVerdict}
 
 -- ---- faults
 
--- a fault that the reader tells
-pub next-fault : (text : List ℕ) (parts : List Part) (f : TextFault) → IsNext text parts (Err f) → LineTells text (fault_of_text f)
+-- a fault that the reader states
+pub next-fault : (text : List ℕ) (parts : List Part) (f : TextFault) → IsNext text parts (Err f) → LineStates text (fault_of_text f)
 next-fault text parts (fault.BadLine n) h = h.0
 next-fault text parts (fault.BadOrder n) h = h.0
 next-fault text parts (fault.Truncated n) h = absurd h
 next-fault text parts fault.Memory h = tt
 
-pub end-fault : (T : Type 0) (books : Books) (text : List ℕ) (parts : List Part) (f : TextFault) → IsEnd {T = T} text parts (Err f) → EndTells books text (Err (fault_of_text f))
+pub end-fault : (T : Type 0) (books : Books) (text : List ℕ) (parts : List Part) (f : TextFault) → IsEnd {T = T} text parts (Err f) → EndStates books text (Err (fault_of_text f))
 end-fault T books text parts (fault.BadLine n) h = absurd h
 end-fault T books text parts (fault.BadOrder n) h = absurd h
 end-fault T books text parts (fault.Truncated n) h = h
 end-fault T books text parts fault.Memory h = absurd h
 
 -- no fault of the text is want of memory, nor one of the shelf
-pub line-never : (T : Type 0) (text : List ℕ) (f : StreamFault) → LineTells text f → IsWrappedMemory {T = T} (Err f) → ⊥
+pub line-never : (T : Type 0) (text : List ℕ) (f : StreamFault) → LineStates text f → IsWrappedMemory {T = T} (Err f) → ⊥
 line-never T text (OfText fault.Memory) h w = h
 line-never T text (OfText (fault.BadLine n)) h w = absurd cc
 line-never T text (OfText (fault.BadOrder n)) h w = absurd cc
@@ -51,12 +51,12 @@ line-never T text (OfText (fault.Truncated n)) h w = h
 line-never T text (OfFetch f) h w = h
 line-never T text NoMemory h w = w
 
-pub line-no-fetch : (T : Type 0) (text : List ℕ) (f : StreamFault) (g : Fetch) → LineTells text f → IsStreamFetch {T = T} g (Err f) → ⊥
+pub line-no-fetch : (T : Type 0) (text : List ℕ) (f : StreamFault) (g : Fetch) → LineStates text f → IsStreamFetch {T = T} g (Err f) → ⊥
 line-no-fetch T text (OfText f) g h w = w
 line-no-fetch T text (OfFetch f) g h w = h
 line-no-fetch T text NoMemory g h w = w
 
-pub end-never : (books : Books) (text : List ℕ) (result : Result Verdict StreamFault) → EndTells books text result → IsWrappedMemory result → ⊥
+pub end-never : (books : Books) (text : List ℕ) (result : Result Verdict StreamFault) → EndStates books text result → IsWrappedMemory result → ⊥
 end-never books text (Ok v) h w = w
 end-never books text (Err (OfText fault.Memory)) h w = h
 end-never books text (Err (OfText (fault.BadLine n))) h w = h
@@ -65,7 +65,7 @@ end-never books text (Err (OfText (fault.Truncated n))) h w = absurd cc
 end-never books text (Err (OfFetch f)) h w = h
 end-never books text (Err NoMemory) h w = w
 
-pub end-no-fetch : (books : Books) (text : List ℕ) (result : Result Verdict StreamFault) (g : Fetch) → EndTells books text result → IsStreamFetch g result → ⊥
+pub end-no-fetch : (books : Books) (text : List ℕ) (result : Result Verdict StreamFault) (g : Fetch) → EndStates books text result → IsStreamFetch g result → ⊥
 end-no-fetch books text (Ok v) g h w = w
 end-no-fetch books text (Err (OfText f)) g h w = w
 end-no-fetch books text (Err (OfFetch f)) g h w = h
@@ -114,7 +114,7 @@ ReadsSome books stream text = (parts : List Part) × HasRead books text parts st
 
 module _ (books : Books) (page rest : Option (List ℕ)) (given : ℕ) (old : Stream) (u : Under (ReadsSome books old) page rest given) where
   -- the fetch of a piece failed
-  pub piece-fault : (f : Fetch) → (f ≡ fetch.Missing → ⊥) → (f ≡ fetch.TooLong → IsOverlong rest given) → (whole : List ℕ) → page ≡ Some whole → FaultTells (Some whole) (fault_of_fetch f)
+  pub piece-fault : (f : Fetch) → (f ≡ fetch.Missing → ⊥) → (f ≡ fetch.TooLong → IsOverlong rest given) → (whole : List ℕ) → page ≡ Some whole → FaultStates (Some whole) (fault_of_fetch f)
   piece-fault fetch.Failed not over whole is = tt
   piece-fault fetch.Missing not over whole is = absurd (not refl)
   piece-fault fetch.Memory not over whole is = tt
@@ -122,7 +122,7 @@ module _ (books : Books) (page rest : Option (List ℕ)) (given : ℕ) (old : St
 
   module _ (piece : List ℕ) (n : ℕ) (many : length piece ≡ n) (within : given + n ≤ most_given) (is_piece : (left : List ℕ) → rest ≡ Some left → IsPiece left [] piece n) where
     module _ (whole : List ℕ) (is : page ≡ Some whole) where
-      pub push-fault : (f : StreamFault) → LineTells (u.text ++ piece) f → FaultTells (Some whole) f
+      pub push-fault : (f : StreamFault) → LineStates (u.text ++ piece) f → FaultStates (Some whole) f
       push-fault (OfText f) h = line-fault _ _ _ _ u piece n many within is_piece whole is f h
       push-fault (OfFetch f) h = absurd h
       push-fault NoMemory h = tt
@@ -131,7 +131,7 @@ module _ (books : Books) (page rest : Option (List ℕ)) (given : ℕ) (old : St
       module _ {S : Type 0} (rest_of : S → Option (List ℕ)) (calls : S → ℕ) (before after : S) (begun : rest_of before ≡ rest) (left_is : rest_of after ≡ option_map (λ l. drop n l) rest) (call : calls after ≡ counted (calls before)) (few : n ≤ MOST_PIECE) where
         line-stops : (f : TextFault) → IsLineFault (u.text ++ piece) f → StopsAtFault rest_of calls whole f after
         line-stops f h =
-            let left : (left : List ℕ) × (rest ≡ Some left) × (u.text ++ left ≡ whole) = u.told whole is in
+            let left : (left : List ℕ) × (rest ≡ Some left) × (u.text ++ left ≡ whole) = u.reported whole is in
             let all : piece ++ drop n left.0 ≡ left.0 = and-rest _ _ _ _ u piece n many within is_piece whole is in
             record {
               read = u.text;
@@ -147,7 +147,7 @@ module _ (books : Books) (page rest : Option (List ℕ)) (given : ℕ) (old : St
               left_is = dropped rest (rest_of after) left.0 n left.1 left_is;
             }
 
-        pub push-stops : (f : StreamFault) → LineTells (u.text ++ piece) f → FaultStops rest_of calls whole after f
+        pub push-stops : (f : StreamFault) → LineStates (u.text ++ piece) f → FaultStops rest_of calls whole after f
         push-stops (OfText (fault.BadLine n)) h = line-stops (fault.BadLine n) h
         push-stops (OfText (fault.BadOrder n)) h = line-stops (fault.BadOrder n) h
         push-stops (OfText (fault.Truncated n)) h = tt
@@ -169,7 +169,7 @@ module _ (books : Books) (page rest : Option (List ℕ)) (given : ℕ) (old : St
 -- ---- the whole
 
 -- opening a page gave none
-pub open-fault : (T : Type 0) (page rest : Option (List ℕ)) (f : Fetch) → OpenTells {T = T} page rest (Err f) → FaultTells page (fault_of_fetch f)
+pub open-fault : (T : Type 0) (page rest : Option (List ℕ)) (f : Fetch) → OpenStates {T = T} page rest (Err f) → FaultStates page (fault_of_fetch f)
 open-fault T None rest fetch.Failed h = tt
 open-fault T None rest fetch.Missing h = tt
 open-fault T None rest fetch.TooLong h = absurd h
@@ -179,10 +179,10 @@ open-fault T (Some page) rest fetch.Missing h = absurd cc
 open-fault T (Some page) rest fetch.TooLong h = absurd h
 open-fault T (Some page) rest fetch.Memory h = tt
 
-pub end-tells : (books : Books) (page : Option (List ℕ)) (bytes : List ℕ) (result : Result Verdict StreamFault) → page ≡ Some bytes → length bytes ≤ most_given → EndTells books bytes result → StreamTells books page result
-end-tells books page bytes result e short h = subst (λ p. StreamTells books p result) (sym e) (own result h)
+pub end-states : (books : Books) (page : Option (List ℕ)) (bytes : List ℕ) (result : Result Verdict StreamFault) → page ≡ Some bytes → length bytes ≤ most_given → EndStates books bytes result → StreamStates books page result
+end-states books page bytes result e short h = subst (λ p. StreamStates books p result) (sym e) (own result h)
   where
-    own : (r : Result Verdict StreamFault) → EndTells books bytes r → StreamTells books (Some bytes) r
+    own : (r : Result Verdict StreamFault) → EndStates books bytes r → StreamStates books (Some bytes) r
     own (Ok v) h = (short, h)
     own (Err (OfText (fault.BadLine n))) h = absurd h
     own (Err (OfText (fault.BadOrder n))) h = absurd h
@@ -199,7 +199,7 @@ module _ {S : Type 0} (rest_of : S → Option (List ℕ)) (calls : S → ℕ) (p
   fetch-stops fetch.TooLong = tt
   fetch-stops fetch.Memory = tt
 
-  pub end-stops : (books : Books) (text : List ℕ) (result : Result Verdict StreamFault) → EndTells books text result → IfErr result (FaultStops rest_of calls page shelf)
+  pub end-stops : (books : Books) (text : List ℕ) (result : Result Verdict StreamFault) → EndStates books text result → IfErr result (FaultStops rest_of calls page shelf)
   end-stops books text (Ok v) h = tt
   end-stops books text (Err (OfText (fault.BadLine n))) h = absurd h
   end-stops books text (Err (OfText (fault.BadOrder n))) h = absurd h
@@ -222,7 +222,7 @@ verdict-same books (Ok q) p v h (inr e) = absurd cc
 verdict-same books (Err g) p v h (inl e) = absurd cc
 verdict-same books (Err g) p v h (inr e) = cc
 
-pub same-as-read : (books : Books) (page : List ℕ) (answer : Result Publication TextFault) (result : Result Verdict StreamFault) → IsOutcome page answer → StreamTells books (Some page) result → SameAsRead books answer result
+pub same-as-read : (books : Books) (page : List ℕ) (answer : Result Publication TextFault) (result : Result Verdict StreamFault) → IsOutcome page answer → StreamStates books (Some page) result → SameAsRead books answer result
 same-as-read books page answer (Ok v) o (short, (p, read, is)) = verdict-same books answer p v is (text_answer page answer o p read)
 same-as-read books page answer (Err (OfText f)) o h = fault-same books answer f (same-fault page answer f o h)
 same-as-read books page answer (Err (OfFetch f)) o h = nothing-said answer f
@@ -236,8 +236,8 @@ same-as-read books page answer (Err NoMemory) o h = nothing-said answer
     nothing-said (Ok p) = tt
     nothing-said (Err e) = tt
 
-pub tells-whole : (books : Books) (told : Option (List ℕ)) (page : List ℕ) (answer : Result Publication TextFault) (result : Result Verdict StreamFault) → StreamTells books told result → told ≡ Some page → IsOutcome page answer → SameAsRead books answer result
-tells-whole books told page answer result tells is o = same-as-read books page answer result o (subst (λ p. StreamTells books p result) is tells)
+pub states-whole : (books : Books) (reported : Option (List ℕ)) (page : List ℕ) (answer : Result Publication TextFault) (result : Result Verdict StreamFault) → StreamStates books reported result → reported ≡ Some page → IsOutcome page answer → SameAsRead books answer result
+states-whole books reported page answer result states is o = same-as-read books page answer result o (subst (λ p. StreamStates books p result) is states)
 
-pub tells-same : (books : Books) (told : Option (List ℕ)) (page : List ℕ) (answer : Result Publication TextFault) (f : StreamFault) → FaultTells told f → told ≡ Some page → IsOutcome page answer → SameAsRead books answer (Err f)
-tells-same books told page answer f tells is o = tells-whole books told page answer (Err f) tells is o
+pub states-same : (books : Books) (reported : Option (List ℕ)) (page : List ℕ) (answer : Result Publication TextFault) (f : StreamFault) → FaultStates reported f → reported ≡ Some page → IsOutcome page answer → SameAsRead books answer (Err f)
+states-same books reported page answer f states is o = states-whole books reported page answer (Err f) states is o

@@ -6,7 +6,7 @@ use Rattle.mari_publish.specs.declared.publication.Block.TheVariants as block
 use Rattle.mari_publish.specs.declared.publication.FullBlock.{FullBlock}
 use Rattle.mari_remain.specs.declared.books.Books.{Books}
 use Rattle.mari_remain.specs.Accepted.{IsAccepted}
-use Rattle.mari_progress.specs.Behind.{run_behind}
+use Rattle.mari_progress.specs.After.{run_after}
 use Rattle.mari_progress.specs.Progress.{IsProgress}
 use Rattle.mari_progress.specs.Runs.{IsSoundBlock, IsSoundRun}
 use Rattle.mari_progress.proofs.Counts.{unpublished-more, unpublished-same}
@@ -41,7 +41,7 @@ sound-block books budget before (block.Unpublished heading count) free = (free f
 
 module _ (books : Books) (blocks : List Block) (kept : DayCheck) (checked : IsChecked books blocks kept) where
   -- an unpublished block, which is only counted
-  pub unpublished-counted : IsAccepted books → run_behind blocks ≤ length books.runs.runs → (heading : Heading) (count : ℕ) → FreeBlock books kept.budget blocks (block.Unpublished heading count)
+  pub unpublished-counted : IsAccepted books → run_after blocks ≤ length books.runs.runs → (heading : Heading) (count : ℕ) → FreeBlock books kept.budget blocks (block.Unpublished heading count)
       → (after : DayCheck) → after ≡ record kept { unpublished = kept.unpublished + 1 } → IsChecked books (blocks ++ block.Unpublished heading count ∷ []) after
   unpublished-counted ok last heading count free after made =
       let b : Block = block.Unpublished heading count in

@@ -7,7 +7,7 @@ use Rattle.mari_remain.specs.Accepted.{IsAccepted}
 use Rattle.mari_remain.specs.declared.books.Books.{Books}
 use Rattle.mari_remain.specs.declared.market.RunMarket.{RunMarket}
 use Rattle.mari_proofs.proofs.TreeLaws.{first_for}
-use Rattle.mari_progress.specs.Told.{activation_of, prices_of}
+use Rattle.mari_progress.specs.Reported.{activation_of, prices_of}
 use Rattle.mari_progress.proofs.Keeping.{balances}
 use Rattle.mari_check.specs.declared.fault.Fault.{Fault}
 use Rattle.mari_check.specs.declared.fault.Fault.TheVariants as fault

@@ -1,4 +1,4 @@
--- The parts of a publication, one behind the other, and what they settle.
+-- The parts of a publication, one after the other, and what they settle.
 use Rattle.std.proofs.Common.{◌≡◌, ◌∙◌, ◌+◌, ◌<◌, ◌≤◌, ◌-◌, ℕ, true, List, [], ◌∷◌, ◌++◌, map, length, take, get_or, Option, Some, None, refl, sym, ap, subst, arith, append_assoc, length-append}
 use Rattle.std.specs.Prelude.{is_some, Result as Res, Ok, Err, IfOk, ⊤}
 use Rattle.std.proofs.Math.Seq.{take-append_seam}
@@ -22,36 +22,36 @@ use Rattle.mari_check.specs.declared.day.DayCheck.{DayCheck}
 use Rattle.mari_check.specs.declared.verdict.Verdict.{Verdict}
 use Rattle.mari_check.specs.Checked.{IsChecked}
 use Rattle.mari_check.specs.Streams.{Comes, IsFaultlessSoFar, IsFound, IsOpen, SettlesVerdict}
-use Rattle.mari_check.specs.Verdicts.{BlockTells, HeadTells, IsVerdict}
-use Rattle.mari_check.proofs.Ending.{block-told, head-clear, head-told}
+use Rattle.mari_check.specs.Verdicts.{BlockStates, HeadStates, IsVerdict}
+use Rattle.mari_check.proofs.Ending.{block-reported, head-clear, head-reported}
 
 -- ---- which part comes
 
--- what stands behind the head and these blocks among the parts of a publication
-abbrev Behind : (own : List Block) → List MoneyLine → List AmountLine → List Block → Part → Type 0
-Behind own os ps blocks (part.Head date quarters budget) = ⊥
-Behind own os ps blocks (part.Block b) = (others : List Block) × (own ≡ blocks ++ b ∷ others)
-Behind own os ps blocks (part.Totals o p) = (own ≡ blocks) × (os ≡ o) × (ps ≡ p)
+-- what stands after the head and these blocks among the parts of a publication
+abbrev After : (own : List Block) → List MoneyLine → List AmountLine → List Block → Part → Type 0
+After own os ps blocks (part.Head date quarters budget) = ⊥
+After own os ps blocks (part.Block b) = (others : List Block) × (own ≡ blocks ++ b ∷ others)
+After own os ps blocks (part.Totals o p) = (own ≡ blocks) × (os ≡ o) × (ps ≡ p)
 
-one-more : (own : List Block) (os : List MoneyLine) (ps : List AmountLine) (bs : List Block) (a b : Block) (x : Part) → a ≡ b → Behind own os ps bs x → Behind (a ∷ own) os ps (b ∷ bs) x
+one-more : (own : List Block) (os : List MoneyLine) (ps : List AmountLine) (bs : List Block) (a b : Block) (x : Part) → a ≡ b → After own os ps bs x → After (a ∷ own) os ps (b ∷ bs) x
 one-more own os ps bs a b (part.Head date quarters budget) e h = h
 one-more own os ps bs a b (part.Block c) e h = (h.0, ap (λ z. z ∷ own) e ∙ ap (λ (zs : List Block). b ∷ zs) h.1)
 one-more own os ps bs a b (part.Totals o p) e h = (ap (λ z. z ∷ own) e ∙ ap (λ (zs : List Block). b ∷ zs) h.0, h.1, h.2)
 
-behind : (own : List Block) (os : List MoneyLine) (ps : List AmountLine) (bs : List Block) (x : Part) (more : List Part) → map part.Block own ++ part.Totals os ps ∷ [] ≡ map part.Block bs ++ x ∷ more → Behind own os ps bs x
-behind [] os ps [] (part.Head date quarters budget) more e = absurd cc
-behind [] os ps [] (part.Block b) more e = absurd cc
-behind [] os ps [] (part.Totals o p) more e = (refl, cc, cc)
-behind [] os ps (b ∷ bs) x more e = absurd cc
-behind (a ∷ own) os ps [] (part.Head date quarters budget) more e = absurd cc
-behind (a ∷ own) os ps [] (part.Block b) more e = let same : a ≡ b = cc in (own, ap (λ z. z ∷ own) same)
-behind (a ∷ own) os ps [] (part.Totals o p) more e = absurd cc
-behind (a ∷ own) os ps (b ∷ bs) x more e =
+after : (own : List Block) (os : List MoneyLine) (ps : List AmountLine) (bs : List Block) (x : Part) (more : List Part) → map part.Block own ++ part.Totals os ps ∷ [] ≡ map part.Block bs ++ x ∷ more → After own os ps bs x
+after [] os ps [] (part.Head date quarters budget) more e = absurd cc
+after [] os ps [] (part.Block b) more e = absurd cc
+after [] os ps [] (part.Totals o p) more e = (refl, cc, cc)
+after [] os ps (b ∷ bs) x more e = absurd cc
+after (a ∷ own) os ps [] (part.Head date quarters budget) more e = absurd cc
+after (a ∷ own) os ps [] (part.Block b) more e = let same : a ≡ b = cc in (own, ap (λ z. z ∷ own) same)
+after (a ∷ own) os ps [] (part.Totals o p) more e = absurd cc
+after (a ∷ own) os ps (b ∷ bs) x more e =
     let same : a ≡ b = cc in
     let rest : map part.Block own ++ part.Totals os ps ∷ [] ≡ map part.Block bs ++ x ∷ more = cc in
-    one-more own os ps bs a b x same (behind own os ps bs x more rest)
+    one-more own os ps bs a b x same (after own os ps bs x more rest)
 
--- behind the parts so far a publication has some that follow
+-- after the parts so far a publication has some that follow
 rest-of : (p : Publication) (h : Held) → (rest : List Part) × (parts_of p ≡ parts_so_far p h ++ rest)
 rest-of p held.Start = (parts_of p, refl)
 rest-of p held.Done = ([], sym (append-nil (parts_of p)))
@@ -67,7 +67,7 @@ comes text parts x h =
 
 -- ---- what a part settles
 
--- what the first line of a publication is, and what stands behind it
+-- what the first line of a publication is, and what stands after it
 record Starts (p : Publication) (date : List ℕ) (quarters budget : ℕ) (rest : List Part) : Type 0 where
   pub date_is : p.date ≡ date
   pub quarters_is : p.quarters ≡ quarters
@@ -85,7 +85,7 @@ first books [] day date quarters budget o c = refl
 first books (part.Head d q b ∷ rest) day date quarters budget o c =
     let p = c.whole in
     let s = starts p d q b (rest ++ part.Head date quarters budget ∷ c.more) c.are in
-    absurd (behind p.blocks p.operators p.providers o.blocks (part.Head date quarters budget) c.more (s.rest_is ∙ ap (λ (ps : List Part). ps ++ part.Head date quarters budget ∷ c.more) o.are))
+    absurd (after p.blocks p.operators p.providers o.blocks (part.Head date quarters budget) c.more (s.rest_is ∙ ap (λ (ps : List Part). ps ++ part.Head date quarters budget ∷ c.more) o.are))
 first books (part.Block b ∷ rest) day date quarters budget o c = absurd o
 first books (part.Totals os ps ∷ rest) day date quarters budget o c = absurd o
 
@@ -93,20 +93,20 @@ pub first-checked : (books : Books) (parts : List Part) (day : DayCheck) (x : Pa
 first-checked books parts day x date quarters budget is o c = subst (λ (ps : List Part). IsOpen books ps day) (first books parts day date quarters budget o (subst (Comes parts) is c)) o
 
 module _ (books : Books) (parts : List Part) (old : DayCheck) (fine : IsOpen books parts old) (x : Part) (c : Comes parts x) (date : List ℕ) (quarters budget : ℕ) (is : x ≡ part.Head date quarters budget)
-    (found : Option Verdict) (tells : (p : Publication) → p.date ≡ date → p.quarters ≡ quarters → HeadTells books p found) where
+    (found : Option Verdict) (states : (p : Publication) → p.date ≡ date → p.quarters ≡ quarters → HeadStates books p found) where
   alone : parts ++ x ∷ [] ≡ part.Head date quarters budget ∷ []
   alone = ap (λ (ps : List Part). ps ++ x ∷ []) (first books parts old date quarters budget fine (subst (Comes parts) is c)) ∙ ap (λ (y : Part). y ∷ []) is
 
   head-settles : (v : Verdict) → found ≡ Some v → SettlesVerdict books (parts ++ x ∷ []) v
   head-settles v e = λ p more same.
       let s = starts p date quarters budget more (same ∙ ap (λ (ps : List Part). ps ++ more) alone) in
-      head-told books p found v e (tells p s.date_is s.quarters_is)
+      head-reported books p found v e (states p s.date_is s.quarters_is)
 
   head-opens : (new : DayCheck) → found ≡ None → IsChecked books [] new → new.budget ≡ budget → IsOpen books (parts ++ x ∷ []) new
   head-opens new e checked b =
       let p = c.whole in
       let s = starts p date quarters budget c.more (c.are ∙ sym (append_assoc parts (x ∷ []) c.more) ∙ ap (λ (ps : List Part). ps ++ c.more) alone) in
-      let right = head-clear books p found e (tells p s.date_is s.quarters_is) in
+      let right = head-clear books p found e (states p s.date_is s.quarters_is) in
       let now : IsFaultlessSoFar books date quarters budget [] new = record { head = record { date_is = sym s.date_is ∙ right.date_is; quarters_is = sym s.quarters_is ∙ right.quarters_is }; budget_is = sym b; blocks = []; are = refl; checked = checked } in
       subst (λ (ps : List Part). IsOpen books ps new) (sym alone) now
 
@@ -117,7 +117,7 @@ module _ (books : Books) (parts : List Part) (old : DayCheck) (fine : IsOpen boo
       by None e = head-opens new e checked b
       by (Some v) e = head-settles v e
 
--- a block and the totals come behind a head
+-- a block and the totals come after a head
 abbrev pub IsLater : Part → Type 0
 IsLater (part.Head date quarters budget) = ⊥
 IsLater (part.Block b) = ⊤
@@ -160,7 +160,7 @@ way books (part.Totals os ps ∷ rest) day x l o c = absurd o
 record Placed (books : Books) (day : DayCheck) (blocks : List Block) (x : Part) (p : Publication) : Type 0 where
   pub head : HasHead books p.date p.quarters
   pub budget : p.budget ≡ day.budget
-  pub stands : Behind p.blocks p.operators p.providers blocks x
+  pub stands : After p.blocks p.operators p.providers blocks x
 
 module _ (books : Books) (parts : List Part) (old : DayCheck) (x : Part) (w : Way books parts old) where
   placed : (p : Publication) (more : List Part) → parts_of p ≡ (parts ++ x ∷ []) ++ more → Placed books old w.clear.blocks x p
@@ -169,20 +169,20 @@ module _ (books : Books) (parts : List Part) (old : DayCheck) (x : Part) (w : Wa
       record {
         head = record { date_is = s.date_is ∙ w.clear.head.date_is; quarters_is = s.quarters_is ∙ w.clear.head.quarters_is };
         budget = s.budget_is ∙ w.clear.budget_is;
-        stands = behind p.blocks p.operators p.providers w.clear.blocks x more (s.rest_is ∙ ap (λ (ps : List Part). ps ++ x ∷ more) w.clear.are);
+        stands = after p.blocks p.operators p.providers w.clear.blocks x more (s.rest_is ∙ ap (λ (ps : List Part). ps ++ x ∷ more) w.clear.are);
       }
 
-  block-settles : (b : Block) → x ≡ part.Block b → (v : Verdict) → BlockTells books old.budget w.clear.blocks b (Some v) → SettlesVerdict books (parts ++ x ∷ []) v
-  block-settles b is v tells = λ p more e.
+  block-settles : (b : Block) → x ≡ part.Block b → (v : Verdict) → BlockStates books old.budget w.clear.blocks b (Some v) → SettlesVerdict books (parts ++ x ∷ []) v
+  block-settles b is v states = λ p more e.
       let spot = placed p more e in
-      let own : Behind p.blocks p.operators p.providers w.clear.blocks (part.Block b) = subst (Behind p.blocks p.operators p.providers w.clear.blocks) is spot.stands in
+      let own : After p.blocks p.operators p.providers w.clear.blocks (part.Block b) = subst (After p.blocks p.operators p.providers w.clear.blocks) is spot.stands in
       let before = w.clear.blocks in
       let all = before ++ b ∷ own.0 in
       let front : take (length before) all ≡ before = take-append_seam before (b ∷ own.0) in
       let longer = length-append before (b ∷ own.0) in
       let C : List Block → Type 0 = λ bs. IsChecked books bs old in
-      let T : List Block → Type 0 = λ bs. BlockTells books old.budget bs b (Some v) in
-      block-told books p spot.head old spot.budget all own.1 (length before) b (omega (arith, longer)) (here before b own.0) (subst C (sym front) w.clear.checked) (Some v) (subst T (sym front) tells) v refl
+      let T : List Block → Type 0 = λ bs. BlockStates books old.budget bs b (Some v) in
+      block-reported books p spot.head old spot.budget all own.1 (length before) b (omega (arith, longer)) (here before b own.0) (subst C (sym front) w.clear.checked) (Some v) (subst T (sym front) states) v refl
     where
       here : (before : List Block) (b : Block) (others : List Block) → b ≡ get_or (before ++ b ∷ others) (length before) b
       here [] b others = refl
@@ -200,17 +200,17 @@ module _ (books : Books) (parts : List Part) (old : DayCheck) (x : Part) (w : Wa
       } in
       subst (λ (ps : List Part). IsOpen books ps new) (sym longer) now
 
-  pub block-found : {E : Type 0} (b : Block) → x ≡ part.Block b → (new : DayCheck) (r : Res (Option Verdict) E) → IfOk r (BlockTells books old.budget w.clear.blocks b)
+  pub block-found : {E : Type 0} (b : Block) → x ≡ part.Block b → (new : DayCheck) (r : Res (Option Verdict) E) → IfOk r (BlockStates books old.budget w.clear.blocks b)
       → (r ≡ Ok None → IsChecked books (w.clear.blocks ++ b ∷ []) new) → new.budget ≡ old.budget → IfOk r (IsFound books (parts ++ x ∷ []) new)
-  block-found b is new (Ok None) tells stands budget = block-opens b is new (stands refl) budget
-  block-found b is new (Ok (Some v)) tells stands budget = block-settles b is v tells
-  block-found b is new (Err why) tells stands budget = tt
+  block-found b is new (Ok None) states stands budget = block-opens b is new (stands refl) budget
+  block-found b is new (Ok (Some v)) states stands budget = block-settles b is v states
+  block-found b is new (Err why) states stands budget = tt
 
   pub totals-settle : (os : List MoneyLine) (ps : List AmountLine) → x ≡ part.Totals os ps → (v : Verdict)
       → ((p : Publication) → HasHead books p.date p.quarters → p.budget ≡ old.budget → IsChecked books p.blocks old → p.operators ≡ os → p.providers ≡ ps → IsVerdict books p v) → SettlesVerdict books (parts ++ x ∷ []) v
   totals-settle os ps is v ends = λ p more e.
       let spot = placed p more e in
-      let own : Behind p.blocks p.operators p.providers w.clear.blocks (part.Totals os ps) = subst (Behind p.blocks p.operators p.providers w.clear.blocks) is spot.stands in
+      let own : After p.blocks p.operators p.providers w.clear.blocks (part.Totals os ps) = subst (After p.blocks p.operators p.providers w.clear.blocks) is spot.stands in
       let C : List Block → Type 0 = λ bs. IsChecked books bs old in
       ends p spot.head spot.budget (subst C (sym own.0) w.clear.checked) own.1 own.2
 

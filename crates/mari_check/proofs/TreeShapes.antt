@@ -56,7 +56,7 @@ module _ (m : Market) (items : List TreeItem) where
         fails-at (left_at m.gates (Some x)) (let P : Option Prefix → Type 0 = λ o. LeavesWords m AnyLeaf ([] ∷ []) (take i items) (left_at m.gates o) in subst P is before)
         (full-fails x (get_or items i d) (waiting_after m.gates (word_of x)) full)
 
-  -- behind the last item
+  -- after the last item
   pub at-end : (i : ℕ) (at : Option Prefix) (none : Bool) → length items ≤ i → LeavesWords m AnyLeaf ([] ∷ []) (take i items) (left_at m.gates at) → is_some at ≡ not none → (none ≡ true) ↔ HasShape m items
   at-end i None true l before e = (λ t. walk_ends m AnyLeaf items i None l refl before, λ s. refl)
   at-end i None false l before e = absurd (cc e)

@@ -6,7 +6,7 @@ use Rattle.mari_publish.specs.declared.publication.Block.TheVariants as block
 use Rattle.mari_publish.specs.declared.publication.FullBlock.{FullBlock}
 use Rattle.mari_publish.specs.Lines.{unpublished_in}
 use Rattle.mari_remain.specs.declared.books.Books.{Books}
-use Rattle.mari_progress.specs.Behind.{also_behind, market_behind}
+use Rattle.mari_progress.specs.After.{also_after, market_after}
 use Rattle.mari_progress.specs.Progress.{IsProgress}
 use Rattle.mari_progress.specs.Runs.{IsRunOf}
 use Rattle.mari_check.specs.declared.day.DayCheck.{DayCheck}
@@ -28,12 +28,12 @@ pub record IsChecked (books : Books) (blocks : List Block) (day : DayCheck) : Ty
 abbrev pub unpublished_block : Heading → (count : ℕ) → Block
 unpublished_block heading count = block.Unpublished heading count
 
--- the test of a published block tells its least fault, or that it has none and what it adds
+-- the test of a published block states its least fault, or that it has none and what it adds
 abbrev pub IsTested : Books → (budget : ℕ) → (before : List Block) → FullBlock → Tested → Type 0
 IsTested books budget before b (Faulty least) = IsLeast (IsFreeIn books budget before (block.Published b)) least
-IsTested books budget before b (Sound settled) = ((any : Fault) → IsFreeIn books budget before (block.Published b) any) × IsRunOf books (market_behind books before) (also_behind books before) b settled
+IsTested books budget before b (Sound settled) = ((any : Fault) → IsFreeIn books budget before (block.Published b) any) × IsRunOf books (market_after books before) (also_after books before) b settled
 
--- the fault of the first line is told exactly where it is there
+-- the fault of the first line is reported exactly where it is there
 abbrev pub FindsHead : (right : Type 0) → Option ℕ → Type 0
 FindsHead right None = right
 FindsHead right (Some number) = (right → ⊥) × (number ≡ fault_number fault.Heading)

@@ -1,4 +1,4 @@
--- What is found of a published block: its least fault, or what it tells of its run.
+-- What is found of a published block: its least fault, or what it states of its run.
 use Rattle.std.specs.Prelude.{ℕ, List, Option, Some, None}
 use Rattle.mari_units.specs.declared.numbers.Cents.{Cents}
 use Rattle.mari_market.specs.declared.activation.Activation.{Activation}
@@ -14,13 +14,13 @@ use Rattle.mari_check.specs.declared.block.Examined.TheVariants.{Faulty, Sound}
 use Rattle.mari_check.specs.declared.fault.Fault.{Fault}
 use Rattle.mari_check.specs.Faults.{IsFreeOf, IsLeast}
 
--- a ledger is given exactly where the block tells its run's, and is then the one that its day adds, with this
+-- a ledger is given exactly where the block states its run's, and is then the one that its day adds, with this
 -- activation and these prices
-abbrev pub IsToldLedger : Books → RunMarket → (also : Option (List Cents)) → FullBlock → Activation → Prices → Option Ledger → Type 0
-IsToldLedger books made also b a ps None = HasLedger books made also b → ⊥
-IsToldLedger books made also b a ps (Some ledger) = HasLedger books made also b × IsRunOf books made also b (record { made = made; activation = a; prices = ps; ledger = ledger })
+abbrev pub IsReportedLedger : Books → RunMarket → (also : Option (List Cents)) → FullBlock → Activation → Prices → Option Ledger → Type 0
+IsReportedLedger books made also b a ps None = HasLedger books made also b → ⊥
+IsReportedLedger books made also b a ps (Some ledger) = HasLedger books made also b × IsRunOf books made also b (record { made = made; activation = a; prices = ps; ledger = ledger })
 
--- the least fault is told, or that there is none and what the block adds to its day, beside the market
+-- the least fault is reported, or that there is none and what the block adds to its day, beside the market
 abbrev pub IsExamined : Books → (run : ℕ) → RunMarket → (also : Option (List Cents)) → (budget : Option ℕ) → FullBlock → Examined → Type 0
 IsExamined books run made also budget b (Faulty least) = IsLeast (IsFreeOf books run made also budget b) least
 IsExamined books run made also budget b (Sound a ps ledger) =

@@ -1,4 +1,4 @@
--- The faults of a published block, and which of them is told. Read this file first.
+-- The faults of a published block, and which of them is reported. Read this file first.
 use Rattle.std.specs.Prelude.{◌≡◌, ◌<◌, ◌≤◌, ℕ, pos, List, Option, Some, None, IfSome, length, ⊤}
 use Rattle.mari_units.specs.declared.numbers.Cents.{Cents}
 use Rattle.mari_market.specs.declared.certificate.TreeItem.{TreeItem}
@@ -15,7 +15,7 @@ use Rattle.mari_check.specs.declared.fault.Fault.{Fault}
 use Rattle.mari_check.specs.declared.fault.Fault.TheVariants as fault
 use Rattle.mari_progress.specs.Money.{HasLedger}
 use Rattle.mari_check.specs.Shapes.{HasShape}
-use Rattle.mari_progress.specs.Told.{NamesMarket, activation_of, areas_of, greatest_told, heading_of, least_told, prices_of}
+use Rattle.mari_progress.specs.Reported.{NamesMarket, activation_of, areas_of, greatest_reported, heading_of, least_reported, prices_of}
 
 -- the faults in their order, from 1
 abbrev pub fault_number : Fault → ℕ
@@ -34,7 +34,7 @@ fault_number fault.Totals = 12
 
 -- each zone's least and greatest price are the least and the greatest of its consistent prices
 abbrev pub HasIntervals : Market → FullBlock → Type 0
-HasIntervals m b = AreIntervals m (activation_of b) (least_told b) (greatest_told b)
+HasIntervals m b = AreIntervals m (activation_of b) (least_reported b) (greatest_reported b)
 
 -- a tree has the shape, and no more items than the budget, where there is one
 pub record IsShaped (m : Market) (budget : Option ℕ) (items : List TreeItem) : Type 0 where
@@ -63,12 +63,12 @@ pub record IsLeast (free_of : Fault → Type 0) (least : Fault) : Type 0 where
   pub there : free_of least → ⊥
   pub none_lower : (other : Fault) → fault_number other < fault_number least → free_of other
 
--- the fault that is told is the least one, and none is told where none is there
+-- the fault that is reported is the least one, and none is reported where none is there
 abbrev pub Finds : (Fault → Type 0) → Option Fault → Type 0
 Finds free_of None = (any : Fault) → free_of any
 Finds free_of (Some least) = IsLeast free_of least
 
--- and where it is told by its number
+-- and where it is reported by its number
 abbrev pub FindsNumber : (Fault → Type 0) → Option ℕ → Type 0
 FindsNumber free_of None = (any : Fault) → free_of any
 FindsNumber free_of (Some number) = (least : Fault) × IsLeast free_of least × (number ≡ fault_number least)
@@ -77,7 +77,7 @@ FindsNumber free_of (Some number) = (least : Fault) × IsLeast free_of least × 
 abbrev pub NoneBelow : (Fault → Type 0) → ℕ → Type 0
 NoneBelow free_of number = (any : Fault) → fault_number any < number → free_of any
 
--- of the faults from one number to another, where none of a lower one is there, the least is told, or that none of them
+-- of the faults from one number to another, where none of a lower one is there, the least is reported, or that none of them
 -- is there either
 abbrev pub FindsUpTo : (Fault → Type 0) → ℕ → Option Fault → Type 0
 FindsUpTo free_of number None = NoneBelow free_of number

@@ -1,4 +1,4 @@
--- Lines of a block beside what they are to tell, one beside the other.
+-- Lines of a block beside what they are to state, one beside the other.
 use Rattle.std.specs.Prelude.{◌≡◌, ◌≤ℤ◌, ℕ, List}
 use Rattle.mari_units.specs.declared.numbers.Cents.{Cents}
 use Rattle.mari_units.specs.declared.numbers.Quarters.{Quarters}
@@ -37,8 +37,8 @@ abbrev pub IsSamePrice : Cents → Cents → Type 0
 IsSamePrice c own = c ≡ own
 
 -- the line of a border has the rent
-abbrev pub TellsRent : BorderLine → Quarters → Type 0
-TellsRent l rent = l.rent ≡ rent
+abbrev pub StatesRent : BorderLine → Quarters → Type 0
+StatesRent l rent = l.rent ≡ rent
 
 -- a line is the one that it is to be
 abbrev pub IsSameMoneyLine : MoneyLine → MoneyLine → Type 0

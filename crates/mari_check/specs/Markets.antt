@@ -6,7 +6,7 @@ use Rattle.mari_remain.specs.RunMarket.{run_market_of}
 use Rattle.mari_remain.specs.declared.books.Books.{Books}
 use Rattle.mari_remain.specs.declared.market.RunMarket.{RunMarket}
 
--- the market of a run that is there, behind some blocks of the first runs
+-- the market of a run that is there, after some blocks of the first runs
 pub record IsMadeFor (books : Books) (run : ℕ) (made : RunMarket) : Type 0 where
   pub blocks : List PastBlock
   pub first : AreFirstBlocks books blocks

@@ -10,6 +10,6 @@ abbrev pub AnyLeaf : List Bool → Leaf → Type 0
 AnyLeaf word leaf = ⊤
 
 -- the items are, in preorder, those of a whole tree of the market, whatever its leaves say: a branch stands only where
--- a gate is left to decide, its children's parts stand behind it, and nothing is missing or left over
+-- a gate is left to decide, its children's parts stand after it, and nothing is missing or left over
 abbrev pub HasShape : Market → List TreeItem → Type 0
 HasShape m items = AreParts m AnyLeaf ([] ∷ []) items

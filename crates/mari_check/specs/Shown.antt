@@ -9,7 +9,7 @@ use Rattle.mari_remain.specs.declared.market.RunMarket.{RunMarket}
 use Rattle.mari_progress.specs.Keeps.{SumsToZero}
 use Rattle.mari_progress.specs.Money.{HasLedger}
 use Rattle.mari_progress.specs.Prices.{HasPrices}
-use Rattle.mari_progress.specs.Told.{activation_of}
+use Rattle.mari_progress.specs.Reported.{activation_of}
 
 -- the first activation of the market, whoever printed it; its welfare; the prices, which are consistent with it, the
 -- intervals and areas; the ledger, whose nets sum to 0 and in which no rent is negative

@@ -5,7 +5,7 @@ use Rattle.mari_io.specs.declared.shelf.Fetch.TheVariants as fetch
 use Rattle.mari_io.specs.declared.shelf.TheConstants.{MOST_PIECE}
 use Rattle.mari_io.specs.Outside.{counted, most_given}
 use Rattle.mari_publish.specs.Faults.{IsText, TruncatedAt}
-use Rattle.mari_publish.specs.Paged.{IsLineFault, IsToldFault, IsTooLong}
+use Rattle.mari_publish.specs.Paged.{IsLineFault, IsReportedFault, IsTooLong}
 use Rattle.mari_publish.specs.Pieces.{NoFault, ComesFrom, parts_of}
 use Rattle.mari_publish.specs.declared.fault.TextFault.{TextFault}
 use Rattle.mari_publish.specs.declared.fault.TextFault.TheVariants as fault
@@ -26,33 +26,33 @@ use Rattle.mari_check.specs.Verdicts.{IsVerdict}
 -- ---- what is answered
 
 -- why there is no verdict on a page, or where it isn't held
-abbrev pub FaultTells : Option (List ℕ) → StreamFault → Type 0
-FaultTells None (OfFetch fetch.Failed) = ⊤
-FaultTells None (OfFetch fetch.Missing) = ⊤
-FaultTells None (OfFetch fetch.TooLong) = ⊥
-FaultTells None (OfFetch fetch.Memory) = ⊥
-FaultTells None (OfText f) = ⊥
-FaultTells None NoMemory = ⊤
-FaultTells (Some page) (OfFetch fetch.Failed) = ⊤
-FaultTells (Some page) (OfFetch fetch.Missing) = ⊥
-FaultTells (Some page) (OfFetch fetch.TooLong) = IsTooLong page
-FaultTells (Some page) (OfFetch fetch.Memory) = ⊥
-FaultTells (Some page) (OfText f) = IsToldFault page f
-FaultTells (Some page) NoMemory = ⊤
+abbrev pub FaultStates : Option (List ℕ) → StreamFault → Type 0
+FaultStates None (OfFetch fetch.Failed) = ⊤
+FaultStates None (OfFetch fetch.Missing) = ⊤
+FaultStates None (OfFetch fetch.TooLong) = ⊥
+FaultStates None (OfFetch fetch.Memory) = ⊥
+FaultStates None (OfText f) = ⊥
+FaultStates None NoMemory = ⊤
+FaultStates (Some page) (OfFetch fetch.Failed) = ⊤
+FaultStates (Some page) (OfFetch fetch.Missing) = ⊥
+FaultStates (Some page) (OfFetch fetch.TooLong) = IsTooLong page
+FaultStates (Some page) (OfFetch fetch.Memory) = ⊥
+FaultStates (Some page) (OfText f) = IsReportedFault page f
+FaultStates (Some page) NoMemory = ⊤
 
 -- the verdict on the publication whose text this is
 abbrev pub IsVerdictOn : Books → List ℕ → Verdict → Type 0
 IsVerdictOn books text verdict = (p : Publication) × IsText text p × IsVerdict books p verdict
 
 -- the verdict on the publication whose text the page is, which may be given whole
-abbrev pub VerdictTells : Books → Option (List ℕ) → Verdict → Type 0
-VerdictTells books None verdict = ⊥
-VerdictTells books (Some page) verdict = (length page ≤ most_given) × IsVerdictOn books page verdict
+abbrev pub VerdictStates : Books → Option (List ℕ) → Verdict → Type 0
+VerdictStates books None verdict = ⊥
+VerdictStates books (Some page) verdict = (length page ≤ most_given) × IsVerdictOn books page verdict
 
--- what the check says of the page of a name, where pages are told
-abbrev pub StreamTells : Books → Option (List ℕ) → Result Verdict StreamFault → Type 0
-StreamTells books page (Ok verdict) = VerdictTells books page verdict
-StreamTells books page (Err why) = FaultTells page why
+-- what the check says of the page of a name, where pages are reported
+abbrev pub StreamStates : Books → Option (List ℕ) → Result Verdict StreamFault → Type 0
+StreamStates books page (Ok verdict) = VerdictStates books page verdict
+StreamStates books page (Err why) = FaultStates page why
 
 -- where a text is read whole, the check says the same of it: a verdict on the publication, or the same fault
 abbrev pub SameAsRead : Books → Result Publication TextFault → Result Verdict StreamFault → Type 0
@@ -65,7 +65,7 @@ SameAsRead books answer (Err NoMemory) = ⊤
 
 -- a fault of a line was answered as soon as it had come: one call on the shelf, the last, gave the piece that brought
 -- it. No whole line of what was read before has a fault, the fault is that of what was read and the piece, and all that
--- stands behind these on the page is left. What is left and how many calls were made, the shelf tells
+-- stands after these on the page is left. What is left and how many calls were made, the shelf states
 pub record StopsAtFault {S : Type 0} (rest : S → Option (List ℕ)) (calls : S → ℕ) (page : List ℕ) (fault : TextFault) (shelf : S) : Type 0 where
   pub read : List ℕ
   pub piece : List ℕ
@@ -79,7 +79,7 @@ pub record StopsAtFault {S : Type 0} (rest : S → Option (List ℕ)) (calls : S
   pub last_call : calls shelf ≡ counted (calls before)
   pub left_is : rest shelf ≡ Some left
 
--- nothing is read behind a fault of a line; the end of the text is no fault of a line
+-- nothing is read after a fault of a line; the end of the text is no fault of a line
 abbrev pub FaultStops : {S : Type 0} → (rest : S → Option (List ℕ)) → (calls : S → ℕ) → (page : List ℕ) → S → StreamFault → Type 0
 FaultStops rest calls page shelf (OfText (fault.BadLine n)) = StopsAtFault rest calls page (fault.BadLine n) shelf
 FaultStops rest calls page shelf (OfText (fault.BadOrder n)) = StopsAtFault rest calls page (fault.BadOrder n) shelf
@@ -95,14 +95,14 @@ IsStreamFetch f (Err (OfText g)) = ⊥
 IsStreamFetch f (Err NoMemory) = ⊥
 IsStreamFetch f (Ok x) = ⊥
 
--- want of memory is told as a fault of the shelf or of the text
+-- want of memory is reported as a fault of the shelf or of the text
 abbrev pub IsWrappedMemory : {T : Type 0} → Result T StreamFault → Type 0
 IsWrappedMemory (Err (OfFetch f)) = f ≡ fetch.Memory
 IsWrappedMemory (Err (OfText f)) = f ≡ fault.Memory
 IsWrappedMemory (Err NoMemory) = ⊥
 IsWrappedMemory (Ok x) = ⊥
 
--- how a fault of the shelf is told, and one of the text
+-- how a fault of the shelf is reported, and one of the text
 abbrev pub fault_of_fetch : Fetch → StreamFault
 fault_of_fetch fetch.Failed = OfFetch fetch.Failed
 fault_of_fetch fetch.Missing = OfFetch fetch.Missing
@@ -117,13 +117,13 @@ fault_of_text fault.Memory = NoMemory
 
 -- ---- what has come
 
--- behind these parts this one may come: they begin a publication together
+-- after these parts this one may come: they begin a publication together
 pub record Comes (parts : List Part) (x : Part) : Type 0 where
   pub whole : Publication
   pub more : List Part
   pub are : parts_of whole ≡ parts ++ x ∷ more
 
--- the head that was given is that of the books, and the blocks behind it have no fault
+-- the head that was given is that of the books, and the blocks after it have no fault
 pub record IsFaultlessSoFar (books : Books) (date : List ℕ) (quarters budget : ℕ) (rest : List Part) (day : DayCheck) : Type 0 where
   pub head : HasHead books date quarters
   pub budget_is : budget ≡ day.budget
@@ -158,27 +158,27 @@ pub record IsAllRead (books : Books) (text : List ℕ) (stream : Stream) : Type 
   pub waits : stream.reader.waits ≡ true
   pub no_fault : NoFault text
 
-abbrev pub LineTells : List ℕ → StreamFault → Type 0
-LineTells text (OfText f) = IsLineFault text f
-LineTells text (OfFetch f) = ⊥
-LineTells text NoMemory = ⊤
+abbrev pub LineStates : List ℕ → StreamFault → Type 0
+LineStates text (OfText f) = IsLineFault text f
+LineStates text (OfFetch f) = ⊥
+LineStates text NoMemory = ⊤
 
--- what is told when a text has come as far as this: all of it is taken, or a line has a fault
-abbrev pub PushTells : {T : Type 0} → Books → List ℕ → Stream → Result T StreamFault → Type 0
-PushTells books text stream (Ok done) = IsAllRead books text stream
-PushTells books text stream (Err why) = LineTells text why
+-- what is reported when a text has come as far as this: all of it is taken, or a line has a fault
+abbrev pub PushStates : {T : Type 0} → Books → List ℕ → Stream → Result T StreamFault → Type 0
+PushStates books text stream (Ok done) = IsAllRead books text stream
+PushStates books text stream (Err why) = LineStates text why
 
--- what is told when the page was read to its end, or as far as could be
-abbrev pub PiecesTell : {T : Type 0} → Books → List ℕ → Stream → Result T StreamFault → Type 0
-PiecesTell books page stream (Ok done) = (length page ≤ most_given) × IsAllRead books page stream
-PiecesTell books page stream (Err why) = FaultTells (Some page) why
+-- what is reported when the page was read to its end, or as far as could be
+abbrev pub PiecesReport : {T : Type 0} → Books → List ℕ → Stream → Result T StreamFault → Type 0
+PiecesReport books page stream (Ok done) = (length page ≤ most_given) × IsAllRead books page stream
+PiecesReport books page stream (Err why) = FaultStates (Some page) why
 
--- what is told at the end of a text
-abbrev pub EndTells : Books → List ℕ → Result Verdict StreamFault → Type 0
-EndTells books text (Ok verdict) = IsVerdictOn books text verdict
-EndTells books text (Err (OfText (fault.BadLine n))) = ⊥
-EndTells books text (Err (OfText (fault.BadOrder n))) = ⊥
-EndTells books text (Err (OfText (fault.Truncated n))) = TruncatedAt text n
-EndTells books text (Err (OfText fault.Memory)) = ⊥
-EndTells books text (Err (OfFetch f)) = ⊥
-EndTells books text (Err NoMemory) = ⊥
+-- what is reported at the end of a text
+abbrev pub EndStates : Books → List ℕ → Result Verdict StreamFault → Type 0
+EndStates books text (Ok verdict) = IsVerdictOn books text verdict
+EndStates books text (Err (OfText (fault.BadLine n))) = ⊥
+EndStates books text (Err (OfText (fault.BadOrder n))) = ⊥
+EndStates books text (Err (OfText (fault.Truncated n))) = TruncatedAt text n
+EndStates books text (Err (OfText fault.Memory)) = ⊥
+EndStates books text (Err (OfFetch f)) = ⊥
+EndStates books text (Err NoMemory) = ⊥

@@ -14,14 +14,14 @@ ghost use Rattle.mari_remain.specs.declared.market.RunMarket.{RunMarket as TheRu
 ghost use Rattle.mari_market.specs.Tree.{TreeHoldsFor};
 ghost use Rattle.mari_check.specs.Markets.{IsMadeFor};
 ghost use Rattle.mari_progress.specs.Runs.{IsMarketOf};
-ghost use Rattle.mari_progress.specs.Told.{activation_of as activation_told, prices_of as prices_told};
+ghost use Rattle.mari_progress.specs.Reported.{activation_of as activation_reported, prices_of as prices_reported};
 
 use crate::areas::are_areas;
 use crate::fault::Fault;
-use crate::ledger::told_ledger;
+use crate::ledger::reported_ledger;
 use crate::names::names_market;
 use crate::pricing::{has_intervals, has_published_prices};
-use crate::told::{activation_of, areas_of, prices_of};
+use crate::reported::{activation_of, areas_of, prices_of};
 use crate::tree::has_shape;
 use mari_gates::gate_word;
 use mari_market::{Activation, Market, Prices, TreeItem};
@@ -81,8 +81,8 @@ fn trading_fault(
     prices: &Prices,
 ) -> Option<Fault>
     requires valid { IsValid market.now }
-    requires activation { activation.now ≡ activation_told block.now }
-    requires prices { prices.now.cents ≡ prices_told block.now }
+    requires activation { activation.now ≡ activation_reported block.now }
+    requires prices { prices.now.cents ≡ prices_reported block.now }
     ensures finds { (books : TheBooks) (run : ℕ) (made : TheRunMarket) (also : Option (List TheCents)) (budget : Option ℕ) → made.market ≡ market.now
         → NoneBelow (IsFreeOf books run made also budget block.now) 3 → FindsUpTo (IsFreeOf books run made also budget block.now) 6 result }
     ensures feasible { result ≡ None → IsFeasible market.now activation.now }
@@ -108,7 +108,7 @@ fn pricing_fault(
     activation: &Activation,
 ) -> Result<Option<Fault>, Memory>
     requires valid { IsValid market.now }
-    requires activation { activation.now ≡ activation_told block.now }
+    requires activation { activation.now ≡ activation_reported block.now }
     requires feasible { IsFeasible market.now activation.now }
     requires some { (ps : List TheCents) × IsConsistent market.now activation.now ps }
     ensures { (books : TheBooks) (run : ℕ) (made : TheRunMarket) (also : Option (List TheCents)) (budget : Option ℕ) → made.market ≡ market.now
@@ -142,9 +142,9 @@ fn is_shaped(market: &Market, tree: &[TreeItem], budget: Option<u32>) -> bool
 /// Whether each leaf of the tree holds at the block's welfare for the gate word of its activation.
 fn has_leaves(market: &Market, block: &FullBlock, activation: &Activation) -> bool
     requires valid { IsValid market.now }
-    requires activation { activation.now ≡ activation_told block.now }
+    requires activation { activation.now ≡ activation_reported block.now }
     requires feasible { IsFeasible market.now activation.now }
-    ensures { IsTrue result ↔ TreeHoldsFor market.now (pos block.now.welfare) (gate_word_of market.now (activation_told block.now)) block.now.tree }
+    ensures { IsTrue result ↔ TreeHoldsFor market.now (pos block.now.welfare) (gate_word_of market.now (activation_reported block.now)) block.now.tree }
 {
     let word = gate_word(market, activation);
     let cutoff = Quarters(i128::from(block.welfare));
@@ -159,7 +159,7 @@ fn tree_fault(
     budget: Option<u32>,
 ) -> Option<Fault>
     requires valid { IsValid market.now }
-    requires activation { activation.now ≡ activation_told block.now }
+    requires activation { activation.now ≡ activation_reported block.now }
     requires feasible { IsFeasible market.now activation.now }
     ensures { (books : TheBooks) (run : ℕ) (made : TheRunMarket) (also : Option (List TheCents)) → made.market ≡ market.now
         → NoneBelow (IsFreeOf books run made also budget block.now) 9 → FindsUpTo (IsFreeOf books run made also budget block.now) 11 result }
@@ -183,8 +183,8 @@ fn market_fault(
     budget: Option<u32>,
 ) -> Result<Option<Fault>, Memory>
     requires valid { IsValid market.now }
-    requires activation { activation.now ≡ activation_told block.now }
-    requires prices { prices.now.cents ≡ prices_told block.now }
+    requires activation { activation.now ≡ activation_reported block.now }
+    requires prices { prices.now.cents ≡ prices_reported block.now }
     ensures { (books : TheBooks) (run : ℕ) (made : TheRunMarket) (also : Option (List TheCents)) → made.market ≡ market.now
         → NoneBelow (IsFreeOf books run made also budget block.now) 3 → IfOk result (FindsUpTo (IsFreeOf books run made also budget block.now) 11) }
 {
@@ -223,7 +223,7 @@ pub(crate) fn examine_block(
         drop(activation);
         return Ok(Examined::Faulty(fault));
     }
-    match told_ledger(alloc, books, made, block, &prices, &activation, also)? {
+    match reported_ledger(alloc, books, made, block, &prices, &activation, also)? {
         Some(ledger) => Ok(Examined::Sound {
             activation,
             prices,

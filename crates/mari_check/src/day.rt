@@ -2,7 +2,7 @@
 
 ghost use Rattle.std.specs.Prelude.{◌≡◌, ◌≤◌, ◌+◌, ◌++◌, ◌∷◌, [], List, None, Ok, IfOk, OnErr, IsTrue, ◌↔◌, length};
 ghost use Rattle.mari_remain.specs.Accepted.{IsAccepted};
-ghost use Rattle.mari_progress.specs.Behind.{run_behind};
+ghost use Rattle.mari_progress.specs.After.{run_after};
 ghost use Rattle.mari_progress.specs.Progress.{published_block};
 ghost use Rattle.mari_progress.specs.Totals.{HasHead};
 ghost use Rattle.mari_check.specs.Checked.{FindsHead, IsChecked, IsTested, unpublished_block};
@@ -85,8 +85,8 @@ impl DayCheck {
     ) -> Result<Tested, Memory>
         requires accepted { IsAccepted books.now }
         requires last { run ≤ length books.now.runs.runs }
-        requires stands { (blocks : List PrintedBlock) × IsChecked books.now blocks self.now × (run ≡ run_behind blocks) }
-        ensures { (blocks : List PrintedBlock) → IsChecked books.now blocks self.now → run ≡ run_behind blocks → IfOk result (IsTested books.now self.now.budget blocks block.now) }
+        requires stands { (blocks : List PrintedBlock) × IsChecked books.now blocks self.now × (run ≡ run_after blocks) }
+        ensures { (blocks : List PrintedBlock) → IsChecked books.now blocks self.now → run ≡ run_after blocks → IfOk result (IsTested books.now self.now.budget blocks block.now) }
     {
         let made = self.progress.market_of(alloc, books, run)?;
         let also = self.progress.also(books, run);
@@ -134,25 +134,25 @@ impl DayCheck {
     }
 
     /// Whether a heading is that of the run after the blocks so far.
-    fn is_next(&self, books: &Books, told: Heading) -> bool
+    fn is_next(&self, books: &Books, reported: Heading) -> bool
         requires accepted { IsAccepted books.now }
         requires stands { (blocks : List PrintedBlock) × IsChecked books.now blocks self.now }
-        ensures { (blocks : List PrintedBlock) → IsChecked books.now blocks self.now → (IsTrue result ↔ IsNextHeading books.now blocks told) }
+        ensures { (blocks : List PrintedBlock) → IsChecked books.now blocks self.now → (IsTrue result ↔ IsNextHeading books.now blocks reported) }
     {
         let run = self.next_run();
         if run > run_count(books) {
             return false;
         }
-        is_same_heading(told, heading(books, run))
+        is_same_heading(reported, heading(books, run))
     }
 
     /// The least fault of an unpublished block.
-    fn test_unpublished(&self, books: &Books, told: Heading, count: u32) -> Option<Fault>
+    fn test_unpublished(&self, books: &Books, reported: Heading, count: u32) -> Option<Fault>
         requires accepted { IsAccepted books.now }
         requires stands { (blocks : List PrintedBlock) × IsChecked books.now blocks self.now }
-        ensures { (blocks : List PrintedBlock) → IsChecked books.now blocks self.now → Finds (IsFreeIn books.now self.now.budget blocks (unpublished_block told count)) result }
+        ensures { (blocks : List PrintedBlock) → IsChecked books.now blocks self.now → Finds (IsFreeIn books.now self.now.budget blocks (unpublished_block reported count)) result }
     {
-        if !self.is_next(books, told) {
+        if !self.is_next(books, reported) {
             return Some(Fault::Heading);
         }
         if !fills_budget(self.budget, count) {
@@ -162,14 +162,14 @@ impl DayCheck {
     }
 
     /// The least fault of an unpublished block, which is counted where it has none.
-    fn take_unpublished(&mut self, books: &Books, told: Heading, count: u32) -> Option<Fault>
+    fn take_unpublished(&mut self, books: &Books, reported: Heading, count: u32) -> Option<Fault>
         requires accepted { IsAccepted books.now }
         requires stands { (blocks : List PrintedBlock) × IsChecked books.now blocks self.old }
-        ensures finds { (blocks : List PrintedBlock) → IsChecked books.now blocks self.old → Finds (IsFreeIn books.now self.old.budget blocks (unpublished_block told count)) result }
-        ensures stands { (blocks : List PrintedBlock) → IsChecked books.now blocks self.old → result ≡ None → IsChecked books.now (blocks ++ unpublished_block told count ∷ []) self.new }
+        ensures finds { (blocks : List PrintedBlock) → IsChecked books.now blocks self.old → Finds (IsFreeIn books.now self.old.budget blocks (unpublished_block reported count)) result }
+        ensures stands { (blocks : List PrintedBlock) → IsChecked books.now blocks self.old → result ≡ None → IsChecked books.now (blocks ++ unpublished_block reported count ∷ []) self.new }
         ensures budget { self.new.budget ≡ self.old.budget }
     {
-        match self.test_unpublished(books, told, count) {
+        match self.test_unpublished(books, reported, count) {
             Some(fault) => Some(fault),
             None => {
                 self.unpublished += 1;
@@ -189,7 +189,9 @@ impl DayCheck {
     {
         match block {
             Block::Published(full) => self.take_published(alloc, books, full),
-            Block::Unpublished(told, count) => Ok(self.take_unpublished(books, *told, *count)),
+            Block::Unpublished(reported, count) => Ok(self.take_unpublished(
+                books, *reported, *count,
+            )),
         }
     }
 
@@ -218,10 +220,10 @@ impl DayCheck {
 }
 
 /// Whether two headings are the same.
-fn is_same_heading(told: Heading, other: Heading) -> bool
-    ensures { IsTrue result ↔ (told ≡ other) }
+fn is_same_heading(reported: Heading, other: Heading) -> bool
+    ensures { IsTrue result ↔ (reported ≡ other) }
 {
-    told == other
+    reported == other
 }
 
 /// Whether a number of nodes fills the budget, so that two more are above it.

@@ -7,7 +7,7 @@ ghost use Rattle.mari_publish.specs.declared.publication.FullBlock.{FullBlock as
 ghost use Rattle.mari_publish.specs.declared.publication.Publication.{Publication as ThePublication};
 ghost use Rattle.mari_remain.specs.Accepted.{IsAccepted};
 ghost use Rattle.mari_remain.specs.declared.market.RunMarket.{RunMarket as TheRunMarket};
-ghost use Rattle.mari_progress.specs.Behind.{also_behind, market_behind};
+ghost use Rattle.mari_progress.specs.After.{also_after, market_after};
 ghost use Rattle.mari_check.specs.Day.{IsValidPublication};
 ghost use Rattle.mari_check.specs.Faults.{IsFreeOf};
 ghost use Rattle.mari_progress.specs.Keeps.{KeepsOffers, net_sum};
@@ -39,7 +39,7 @@ pub fn valid_days_keep(books: &Books)
     requires { IsAccepted books.now }
     ensures offers { (p : ThePublication) → IsValidPublication books.now p → KeepsOffers books.now p.blocks }
     ensures blocks { (p : ThePublication) → IsValidPublication books.now p → (k : ℕ) (b : TheFullBlock) → slice_get p.blocks k ≡ Some (printed.Published b)
-        → ShowsRun books.now (market_behind books.now (take k p.blocks)) (also_behind books.now (take k p.blocks)) b }
+        → ShowsRun books.now (market_after books.now (take k p.blocks)) (also_after books.now (take k p.blocks)) b }
     ensures totals { (p : ThePublication) → IsValidPublication books.now p → net_sum p.operators ≡ pos 0 }
 {
     let _books = books;

@@ -7,11 +7,11 @@ ghost use Rattle.mari_market.specs.Optimal.{IsConsistent, IsFeasible};
 ghost use Rattle.mari_market.specs.Price.{ArePrices};
 ghost use Rattle.mari_remain.specs.Accepted.{IsAccepted};
 ghost use Rattle.mari_settle.specs.Conditions.{HasSmallNumbers, LineIsWithin};
-ghost use Rattle.mari_check.specs.Examined.{IsToldLedger};
-ghost use Rattle.mari_check.specs.Lines.{TellsRent};
-ghost use Rattle.mari_progress.specs.Money.{TellsLedger, amount_line, money_line, money_lines_of};
+ghost use Rattle.mari_check.specs.Examined.{IsReportedLedger};
+ghost use Rattle.mari_check.specs.Lines.{StatesRent};
+ghost use Rattle.mari_progress.specs.Money.{StatesLedger, amount_line, money_line, money_lines_of};
 ghost use Rattle.mari_progress.specs.Runs.{IsMarketOf};
-ghost use Rattle.mari_progress.specs.Told.{activation_of as activation_told, prices_of as prices_told};
+ghost use Rattle.mari_progress.specs.Reported.{activation_of as activation_reported, prices_of as prices_reported};
 
 use crate::names::is_named;
 use mari_market::{Activation, Prices};
@@ -25,14 +25,14 @@ use std::alloc::Global;
 
 /// Whether a border's line states this rent.
 fn is_rent(line: &BorderLine, rent: Quarters) -> bool
-    ensures { IsTrue result ↔ TellsRent line.now rent }
+    ensures { IsTrue result ↔ StatesRent line.now rent }
 {
     line.rent == rent
 }
 
 /// Whether the lines state these rents.
 fn are_rents(lines: &[BorderLine], rents: &[Quarters]) -> bool
-    ensures { IsTrue result ↔ AllZip TellsRent lines.now rents.now }
+    ensures { IsTrue result ↔ AllZip StatesRent lines.now rents.now }
 {
     if lines.len() != rents.len() {
         return false;
@@ -53,11 +53,11 @@ fn is_money_line(line: &MoneyLine, names: &NameIndex, place: u32, own: OperatorL
     if !is_named(&line.name, names, place) {
         return false;
     }
-    let told = OperatorLine {
+    let reported = OperatorLine {
         payment: line.payment,
         rent: line.rent,
     };
-    told == own && line.net == own.net()
+    reported == own && line.net == own.net()
 }
 
 /// Whether these are the lines of all operators.
@@ -126,7 +126,7 @@ pub(crate) fn are_total_lines(lines: &[AmountLine], names: &NameIndex, amounts: 
 }
 
 /// The ledger of the block's run, where the block states it.
-pub(crate) fn told_ledger(
+pub(crate) fn reported_ledger(
     alloc: Global,
     books: &Books,
     made: &RunMarket,
@@ -140,20 +140,20 @@ pub(crate) fn told_ledger(
     requires made { IsMarketOf books.now made.now }
 
     // What the block says of it was tested; the scheduled prices come with it if there are any.
-    requires activation { activation.now ≡ activation_told block.now }
-    requires prices { prices.now.cents ≡ prices_told block.now }
+    requires activation { activation.now ≡ activation_reported block.now }
+    requires prices { prices.now.cents ≡ prices_reported block.now }
     requires feasible { IsFeasible made.now.market activation.now }
     requires consistent { IsConsistent made.now.market activation.now prices.now.cents }
     requires also { IfSome also (λ scheduled. ArePrices made.now.market scheduled.now.cents) }
 
     // No other ledger passes.
-    ensures { IfOk result (IsToldLedger books.now made.now (option_map (λ scheduled. scheduled.now.cents) also.entry) block.now activation.now prices.now) }
+    ensures { IfOk result (IsReportedLedger books.now made.now (option_map (λ scheduled. scheduled.now.cents) also.entry) block.now activation.now prices.now) }
 {
     let ledger = ledger_of(alloc, books, made, prices, activation, also)?;
     let places = providers_of(alloc, books.bids.bids.as_slice(), made.bids.as_slice())?;
-    let tells = tells_ledger(books, block, &ledger, &places);
+    let states = states_ledger(books, block, &ledger, &places);
     drop(places);
-    if !tells {
+    if !states {
         drop(ledger);
         return Ok(None);
     }
@@ -161,12 +161,12 @@ pub(crate) fn told_ledger(
 }
 
 /// Whether the block states this ledger, and of the providers those at these places.
-fn tells_ledger(books: &Books, block: &FullBlock, ledger: &Ledger, places: &[u32]) -> bool
+fn states_ledger(books: &Books, block: &FullBlock, ledger: &Ledger, places: &[u32]) -> bool
     requires operators { length ledger.now.operators ≡ length books.now.zones.operators }
     requires providers { length ledger.now.providers ≡ length books.now.bids.providers }
     requires places { All (λ place. place < length books.now.bids.providers) places.now }
     requires small { HasSmallNumbers ledger.now }
-    ensures { IsTrue result ↔ TellsLedger books.now block.now ledger.now places.now }
+    ensures { IsTrue result ↔ StatesLedger books.now block.now ledger.now places.now }
 {
     let operators = ledger.operators.as_slice();
     let amounts = ledger.providers.as_slice();

@@ -15,9 +15,9 @@ mod laws;
 mod ledger;
 mod names;
 mod pricing;
+mod reported;
 mod spread;
 mod stream;
-mod told;
 mod tree;
 mod verdict;
 
@@ -25,6 +25,6 @@ pub use block::check_run;
 pub use day::DayCheck;
 pub use fault::Fault;
 pub use laws::{free_blocks_show, valid_days_keep};
+pub use reported::{activation_of, prices_of};
 pub use stream::{StreamFault, check_stream};
-pub use told::{activation_of, prices_of};
 pub use verdict::{Verdict, check_day};

@@ -2,7 +2,7 @@
 
 ghost use Rattle.std.specs.Prelude.{◌≡◌, ◌≤◌, ℕ, List, IsTrue, ◌↔◌, length};
 ghost use Rattle.std.specs.List.{AllZip};
-ghost use Rattle.mari_progress.specs.Told.{NamesMarket};
+ghost use Rattle.mari_progress.specs.Reported.{NamesMarket};
 ghost use Rattle.mari_check.specs.Lines.{NamesBid, NamesEnds, NamesZone};
 ghost use Rattle.mari_rows.specs.Names.{name_at};
 

@@ -9,10 +9,10 @@ ghost use Rattle.mari_market.specs.Optimal.{IsConsistent, IsFeasible};
 ghost use Rattle.mari_check.specs.Ends.{AreEndPrices};
 ghost use Rattle.mari_check.specs.Faults.{HasIntervals};
 ghost use Rattle.mari_check.specs.Lines.{IsInOrder, IsNearestLine, IsSamePrice};
-ghost use Rattle.mari_progress.specs.Told.{activation_of as activation_told, prices_of as prices_told};
+ghost use Rattle.mari_progress.specs.Reported.{activation_of as activation_reported, prices_of as prices_reported};
 
 use crate::ends::{End, ends_of};
-use crate::told::{greatest_of, least_of};
+use crate::reported::{greatest_of, least_of};
 use mari_market::{Activation, Market};
 use mari_publish::{FullBlock, ZoneLine};
 use mari_units::{Cents, Memory};
@@ -45,16 +45,16 @@ fn are_ends(
     alloc: Global,
     market: &Market,
     activation: &Activation,
-    told: &[Cents],
+    reported: &[Cents],
     end: End,
 ) -> Result<bool, Memory>
     requires valid { IsValid market.now }
     requires feasible { IsFeasible market.now activation.now }
     requires some { (ps : List TheCents) × IsConsistent market.now activation.now ps }
-    ensures { IfOk result (λ is. IsTrue is ↔ AreEndPrices end market.now activation.now told.now) }
+    ensures { IfOk result (λ is. IsTrue is ↔ AreEndPrices end market.now activation.now reported.now) }
 {
     let prices = ends_of(alloc, market, activation, end)?;
-    Ok(are_same(told, &prices))
+    Ok(are_same(reported, &prices))
 }
 
 /// Whether each zone's least and greatest price are those of its consistent prices.
@@ -65,7 +65,7 @@ pub(crate) fn has_intervals(
     block: &FullBlock,
 ) -> Result<bool, Memory>
     requires valid { IsValid market.now }
-    requires told { activation.now ≡ activation_told block.now }
+    requires reported { activation.now ≡ activation_reported block.now }
     requires feasible { IsFeasible market.now activation.now }
     requires some { (ps : List TheCents) × IsConsistent market.now activation.now ps }
     ensures { IfOk result (λ is. IsTrue is ↔ HasIntervals market.now block.now) }
@@ -111,7 +111,7 @@ fn are_nearest(lines: &[ZoneLine], reference: Cents) -> bool
 /// Whether each zone's price is the one of its interval that is nearest to the market's reference.
 pub(crate) fn has_published_prices(market: &Market, block: &FullBlock) -> bool
     requires intervals { HasIntervals market.now block.now }
-    ensures { IsTrue result ↔ ArePublishedPrices market.now (activation_told block.now) (prices_told block.now) }
+    ensures { IsTrue result ↔ ArePublishedPrices market.now (activation_reported block.now) (prices_reported block.now) }
 {
     are_nearest(block.zones.as_slice(), market.reference)
 }

@@ -9,7 +9,7 @@ ghost use Rattle.mari_publish.specs.declared.publication.Part.{Part as ThePart};
 ghost use Rattle.mari_publish.specs.declared.publication.Publication.{Publication as ThePublication};
 ghost use Rattle.mari_remain.specs.Accepted.{IsAccepted};
 ghost use Rattle.mari_remain.specs.declared.books.Books.{Books as TheBooks};
-ghost use Rattle.mari_check.specs.Streams.{Comes, EndTells, FaultStops, IsAllRead, IsFound, IsOpen, HasRead, IsStreamFetch, IsWrappedMemory, PiecesTell, PushTells, SameAsRead, StreamTells, fault_of_fetch, fault_of_text};
+ghost use Rattle.mari_check.specs.Streams.{Comes, EndStates, FaultStops, IsAllRead, IsFound, IsOpen, HasRead, IsStreamFetch, IsWrappedMemory, PiecesReport, PushStates, SameAsRead, StreamStates, fault_of_fetch, fault_of_text};
 
 use crate::day::DayCheck;
 use crate::verdict::Verdict;
@@ -121,7 +121,7 @@ impl Stream {
     fn take_parts(&mut self, alloc: Global, books: &Books) -> Result<(), StreamFault>
         requires accepted { IsAccepted books.now }
         requires read { (text : List ℕ) × (parts : List ThePart) × HasRead books.now text parts self.old }
-        ensures { (text : List ℕ) (parts : List ThePart) → HasRead books.now text parts self.old → PushTells books.now text self.new result }
+        ensures { (text : List ℕ) (parts : List ThePart) → HasRead books.now text parts self.old → PushStates books.now text self.new result }
     {
         'parts: loop {
             match self.reader.next(alloc) {
@@ -139,7 +139,7 @@ impl Stream {
     fn push(&mut self, alloc: Global, books: &Books, piece: &[u8]) -> Result<(), StreamFault>
         requires accepted { IsAccepted books.now }
         requires read { (text : List ℕ) × (parts : List ThePart) × HasRead books.now text parts self.old }
-        ensures { (text : List ℕ) (parts : List ThePart) → HasRead books.now text parts self.old → PushTells books.now (text ++ piece.now) self.new result }
+        ensures { (text : List ℕ) (parts : List ThePart) → HasRead books.now text parts self.old → PushStates books.now (text ++ piece.now) self.new result }
     {
         match self.reader.push(piece) {
             Ok(()) => self.take_parts(alloc, books),
@@ -150,7 +150,7 @@ impl Stream {
     /// The verdict on the text that has come, if it is whole.
     fn end(self) -> Result<Verdict, StreamFault>
         requires read { (books : TheBooks) × (text : List ℕ) × IsAllRead books text self }
-        ensures { (books : TheBooks) (text : List ℕ) → IsAllRead books text self → EndTells books text result }
+        ensures { (books : TheBooks) (text : List ℕ) → IsAllRead books text self → EndStates books text result }
     {
         let Stream { reader, found, .. } = self;
         match reader.end() {
@@ -176,7 +176,7 @@ fn read_pieces<S: Shelf>(
     // What was read, and where what was left is reported, how far.
     ensures same { S.pages shelf.new ≡ S.pages shelf.old }
     ensures read { OnOk result ((text : List ℕ) × IsAllRead books.now text stream.new) }
-    ensures told { (page : List ℕ) → S.rest shelf.old ≡ Some page → PiecesTell books.now page stream.new result }
+    ensures reported { (page : List ℕ) → S.rest shelf.old ≡ Some page → PiecesReport books.now page stream.new result }
     ensures stops { (page : List ℕ) → S.rest shelf.old ≡ Some page → IfErr result (FaultStops S.rest S.fetches page shelf.new) }
 
     // Why it wasn't read to its end. Out of memory is reported as such.
@@ -214,11 +214,11 @@ pub fn check_stream<S: Shelf>(
     ensures same { S.pages shelf.new ≡ S.pages shelf.old }
 
     // What it says of the page, where pages are reported; and that nothing else is said of that page, whole.
-    ensures told { (told : Pages) → S.pages shelf.old ≡ Some told → StreamTells books.now (page_of told name.now) result }
-    ensures whole { (told : Pages) (page : List ℕ) (answer : Res ThePublication TheTextFault) → S.pages shelf.old ≡ Some told → page_of told name.now ≡ Some page → IsOutcome page answer → SameAsRead books.now answer result }
+    ensures reported { (reported : Pages) → S.pages shelf.old ≡ Some reported → StreamStates books.now (page_of reported name.now) result }
+    ensures whole { (reported : Pages) (page : List ℕ) (answer : Res ThePublication TheTextFault) → S.pages shelf.old ≡ Some reported → page_of reported name.now ≡ Some page → IsOutcome page answer → SameAsRead books.now answer result }
 
     // After a fault of a line nothing more is read.
-    ensures stops { (told : Pages) (page : List ℕ) → S.pages shelf.old ≡ Some told → page_of told name.now ≡ Some page → IfErr result (FaultStops S.rest S.fetches page shelf.new) }
+    ensures stops { (reported : Pages) (page : List ℕ) → S.pages shelf.old ≡ Some reported → page_of reported name.now ≡ Some page → IfErr result (FaultStops S.rest S.fetches page shelf.new) }
 
     // Why there is no verdict. Out of memory is reported as such.
     ensures memory { IsWrappedMemory result → ⊥ }

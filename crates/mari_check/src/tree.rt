@@ -20,7 +20,7 @@ fn is_full_branch(market: &Market, prefix: &Prefix, item: &TreeItem) -> bool
 }
 
 /// The prefix of the next item, if there is one.
-fn behind(market: &Market, prefix: &Prefix, item: &TreeItem) -> Option<Prefix>
+fn after(market: &Market, prefix: &Prefix, item: &TreeItem) -> Option<Prefix>
     requires market { IsValid market.now }
     requires prefix { IsFeasiblePrefix market.now prefix.now }
     requires item { IsFullBranch market.now prefix.now item.now → ⊥ }
@@ -49,7 +49,7 @@ pub(crate) fn has_shape(market: &Market, tree: &[TreeItem]) -> bool
         if is_full_branch(market, &prefix, item) {
             return false;
         }
-        next = behind(market, &prefix, item);
+        next = after(market, &prefix, item);
     }
     next.is_none()
 }

@@ -6,7 +6,7 @@ ghost use Rattle.mari_publish.specs.declared.publication.Publication.{Publicatio
 ghost use Rattle.mari_remain.specs.Accepted.{IsAccepted};
 ghost use Rattle.mari_progress.specs.Totals.{HasHead, HasTotals};
 ghost use Rattle.mari_check.specs.Checked.{IsChecked};
-ghost use Rattle.mari_check.specs.Verdicts.{BlockTells, HeadTells, IsVerdict};
+ghost use Rattle.mari_check.specs.Verdicts.{BlockStates, HeadStates, IsVerdict};
 
 use crate::day::DayCheck;
 use crate::fault::Fault;
@@ -87,7 +87,7 @@ impl DayCheck {
         budget: u32,
     ) -> Option<Verdict>
         requires { IsChecked books.now [] self.old }
-        ensures tells { (p : ThePublication) → p.date ≡ date.now → p.quarters ≡ quarters → HeadTells books.now p result }
+        ensures states { (p : ThePublication) → p.date ≡ date.now → p.quarters ≡ quarters → HeadStates books.now p result }
         ensures stands { IsChecked books.now [] self.new }
         ensures budget { self.new.budget ≡ budget }
     {
@@ -106,7 +106,7 @@ impl DayCheck {
     ) -> Result<Option<Verdict>, Memory>
         requires accepted { IsAccepted books.now }
         requires stands { (blocks : List PrintedBlock) × IsChecked books.now blocks self.old }
-        ensures tells { (blocks : List PrintedBlock) → IsChecked books.now blocks self.old → IfOk result (BlockTells books.now self.old.budget blocks block.now) }
+        ensures states { (blocks : List PrintedBlock) → IsChecked books.now blocks self.old → IfOk result (BlockStates books.now self.old.budget blocks block.now) }
         ensures stands { (blocks : List PrintedBlock) → IsChecked books.now blocks self.old → result ≡ Ok None → IsChecked books.now (blocks ++ block.now ∷ []) self.new }
         ensures budget { self.new.budget ≡ self.old.budget }
     {

@@ -12,8 +12,8 @@ use Rattle.mari_day.specs.Files.{Gap}
 use Rattle.mari_day.specs.Files.Gap.{NotHeld, OverLimit}
 use Rattle.mari_day.specs.Reading.{HasBooks, HasGap, HasRefusal}
 use Rattle.mari_day.proofs.Facts.Fact.{Gives, Refuses, Lacks}
-use Rattle.mari_publish.specs.Paged.{IsToldFault, IsTooLong}
-use Rattle.mari_publish.proofs.Paging.{long-none, no-fault-of-text, one-fault, told-first}
+use Rattle.mari_publish.specs.Paged.{IsReportedFault, IsTooLong}
+use Rattle.mari_publish.proofs.Paging.{long-none, no-fault-of-text, one-fault, reported-first}
 use Rattle.mari_words.specs.Asked.{Asked}
 use Rattle.mari_capacity.specs.declared.ending.ValueEnd.TheVariants as values
 use Rattle.mari_words.specs.Asked.Asked.{Check, Migrate, Feed, Value}
@@ -25,7 +25,7 @@ use Rattle.mari_commands.specs.declared.outcome.Outcome.TheVariants.{NoCommand, 
 use Rattle.mari_commands.specs.Commands.{EndsValues, IsMigratable, IsReadable, LacksPage, ReadsFolder, RefusesFiles, RefusesText, already_two, fetch_of, publication_path, text_refusal}
 use Rattle.mari_commands.specs.Commands.LacksPage.{OfBooks as lacks-book, NoPublication as lacks-publication, LongPublication as lacks-long, NoFeed as lacks-feed, LongFeed as lacks-long-feed, OfValues as lacks-values}
 use Rattle.mari_commands.specs.Commands.RefusesFiles.{OfBooks as refuses-books, OfVersion as refuses-version}
-use Rattle.mari_commands.specs.Outcome.{CheckTells, IsMigrated, IsOfWords, IsToldValues, Says}
+use Rattle.mari_commands.specs.Outcome.{CheckStates, IsMigrated, IsOfWords, IsReportedValues, Says}
 use Rattle.mari_commands.specs.Outcome.Says.{OfUsage, OfRefusal, OfGap, OfClear, OfCheck, OfMigrate, OfGenerate, OfValues, OfFeed, OfBlocks, Fails, Starves}
 use Rattle.mari_commands.specs.Splits.{command_by}
 use Rattle.mari_commands.proofs.Folder.{folder_by, no_other, one, one_way, reads, reads_no_folder, reads_none}
@@ -83,10 +83,10 @@ module _ (asked : Option Asked) (pages : Pages) where
   of-books o refusal folder w (OfRefusal g other s k f) r h = inl (f ∙ ap (λ x. Refused x) (one asked pages g folder (Refuses other) (Refuses refusal) s r k h))
   of-books o refusal folder w (OfGap g n gap s k f) r h = absurd (one asked pages g folder (Lacks n gap) (Refuses refusal) s r k h)
   of-books o refusal folder w (OfClear g job e k f) r h = absurd (one asked pages g folder (Gives job.books) (Refuses refusal) (reads asked _ g e (folder_by job.way g job.nodes job.workers)) r k h)
-  of-books o refusal folder w (OfCheck g books e k tells) r h = absurd (one asked pages g folder (Gives books) (Refuses refusal) (reads asked _ g e refl) r k h)
-  of-books o refusal folder w (OfMigrate g part books e k tells) r h = absurd (one asked pages g folder (Gives books) (Refuses refusal) (reads asked _ g e refl) r k h)
+  of-books o refusal folder w (OfCheck g books e k states) r h = absurd (one asked pages g folder (Gives books) (Refuses refusal) (reads asked _ g e refl) r k h)
+  of-books o refusal folder w (OfMigrate g part books e k states) r h = absurd (one asked pages g folder (Gives books) (Refuses refusal) (reads asked _ g e refl) r k h)
   of-books o refusal folder w (OfGenerate n e is) r h = absurd (reads_no_folder asked _ folder e refl r)
-  of-books o refusal folder w (OfValues g more books e k tells) r h = absurd (one asked pages g folder (Gives books) (Refuses refusal) (reads asked _ g e refl) r k h)
+  of-books o refusal folder w (OfValues g more books e k states) r h = absurd (one asked pages g folder (Gives books) (Refuses refusal) (reads asked _ g e refl) r k h)
   of-books o refusal folder w (OfFeed x e f) r h = absurd (reads_no_folder asked _ folder e refl r)
   of-books o refusal folder w (OfBlocks quarters e f) r h = absurd (reads_no_folder asked _ folder e refl r)
   of-books o refusal folder w (Fails x n y e) r h = failed (IsRefusal refusal) o n e
@@ -110,13 +110,13 @@ module _ (asked : Option Asked) (pages : Pages) where
   of-version o refusal folder part books (OfRefusal g other s k f) m h again same = absurd (one asked pages g folder (Refuses other) (Gives books) s (reads asked _ folder m refl) k h)
   of-version o refusal folder part books (OfGap g n gap s k f) m h again same = absurd (one asked pages g folder (Lacks n gap) (Gives books) s (reads asked _ folder m refl) k h)
   of-version o refusal folder part books (OfClear g job e k f) m h again same = absurd (no_other asked job.way g job.nodes job.workers _ e m refl)
-  of-version o refusal folder part books (OfCheck g other e k tells) m h again same = absurd (cc)
-  of-version o refusal folder part books (OfMigrate g other b e k tells) m h again same =
+  of-version o refusal folder part books (OfCheck g other e k states) m h again same = absurd (cc)
+  of-version o refusal folder part books (OfMigrate g other b e k states) m h again same =
       let books-same : b ≡ books = one asked pages g folder (Gives b) (Gives books) (reads asked _ g e refl) (reads asked _ folder m refl) k h in
       let P : Books → Type 0 = λ x. IsMigrated x other o in
-      migrated-again o refusal other books (subst P books-same tells) again same
+      migrated-again o refusal other books (subst P books-same states) again same
   of-version o refusal folder part books (OfGenerate n e is) m h again same = absurd (cc)
-  of-version o refusal folder part books (OfValues g more b e k tells) m h again same = absurd (cc)
+  of-version o refusal folder part books (OfValues g more b e k states) m h again same = absurd (cc)
   of-version o refusal folder part books (OfFeed x e f) m h again same = absurd (cc)
   of-version o refusal folder part books (OfBlocks quarters e f) m h again same = absurd (cc)
   of-version o refusal folder part books (Fails x n y e) m h again same = failed (IsRefusal refusal) o n e
@@ -128,88 +128,88 @@ module _ (asked : Option Asked) (pages : Pages) where
 
   -- what comes of the publication of a folder that is checked, which has these books
   checked-comes : (o : Outcome) (folder : List ℕ) (books : Books) → Says asked pages o → asked ≡ Some (Check folder) → HasBooks pages folder books
-      → CheckTells books (page_of pages (publication_path folder)) o ⊎ IsExcused o
+      → CheckStates books (page_of pages (publication_path folder)) o ⊎ IsExcused o
   checked-comes o folder books (OfUsage e f) c h = absurd (cc)
   checked-comes o folder books (OfRefusal g other s k f) c h = absurd (one asked pages g folder (Refuses other) (Gives books) s (reads asked _ folder c refl) k h)
   checked-comes o folder books (OfGap g n gap s k f) c h = absurd (one asked pages g folder (Lacks n gap) (Gives books) s (reads asked _ folder c refl) k h)
   checked-comes o folder books (OfClear g job e k f) c h = absurd (no_other asked job.way g job.nodes job.workers _ e c refl)
-  checked-comes o folder books (OfCheck g other e k tells) c h =
+  checked-comes o folder books (OfCheck g other e k states) c h =
       let books-same : other ≡ books = one asked pages g folder (Gives other) (Gives books) (reads asked _ g e refl) (reads asked _ folder c refl) k h in
       let folder-same : g ≡ folder = let both : Check g ≡ Check folder = asks-one _ _ e c in cc in
-      let P : Books → Type 0 = λ x. CheckTells x (page_of pages (publication_path g)) o in
-      let Q : List ℕ → Type 0 = λ x. CheckTells books (page_of pages (publication_path x)) o in
-      inl (subst Q folder-same (subst P books-same tells))
-  checked-comes o folder books (OfMigrate g part b e k tells) c h = absurd (cc)
+      let P : Books → Type 0 = λ x. CheckStates x (page_of pages (publication_path g)) o in
+      let Q : List ℕ → Type 0 = λ x. CheckStates books (page_of pages (publication_path x)) o in
+      inl (subst Q folder-same (subst P books-same states))
+  checked-comes o folder books (OfMigrate g part b e k states) c h = absurd (cc)
   checked-comes o folder books (OfGenerate n e is) c h = absurd (cc)
-  checked-comes o folder books (OfValues g more b e k tells) c h = absurd (cc)
+  checked-comes o folder books (OfValues g more b e k states) c h = absurd (cc)
   checked-comes o folder books (OfFeed x e f) c h = absurd (cc)
   checked-comes o folder books (OfBlocks quarters e f) c h = absurd (cc)
   checked-comes o folder books (Fails x n y e) c h = inr (subst IsExcused (sym e) tt)
   checked-comes o folder books (Starves e) c h = inr (subst IsExcused (sym e) tt)
 
-  -- the fault that is told of its text
-  text-refused : (o : Outcome) (books : Books) (page : List ℕ) (f : TextFault) → CheckTells books (Some page) o → IsToldFault page f → Comes (IsRefusal (text_refusal f)) o
-  text-refused NoCommand books page f tells bad = absurd tells
-  text-refused (Day job) books page f tells bad = absurd tells
-  text-refused (Feeds folder) books page f tells bad = absurd tells
-  text-refused (Joins quarters) books page f tells bad = absurd tells
-  text-refused (Values v) books page f tells bad = absurd tells
-  text-refused (Text t) books page f (m, u, (short, (p, read, valid)), spelled) bad = absurd (no-fault-of-text page p f read (told-first page f bad))
-  text-refused (Invalid run n) books page f (short, (p, read, more)) bad = absurd (no-fault-of-text page p f read (told-first page f bad))
-  text-refused (NoPage n fetch.Failed) books page f tells bad = inr tt
+  -- the fault that is reported of its text
+  text-refused : (o : Outcome) (books : Books) (page : List ℕ) (f : TextFault) → CheckStates books (Some page) o → IsReportedFault page f → Comes (IsRefusal (text_refusal f)) o
+  text-refused NoCommand books page f states bad = absurd states
+  text-refused (Day job) books page f states bad = absurd states
+  text-refused (Feeds folder) books page f states bad = absurd states
+  text-refused (Joins quarters) books page f states bad = absurd states
+  text-refused (Values v) books page f states bad = absurd states
+  text-refused (Text t) books page f (m, u, (short, (p, read, valid)), spelled) bad = absurd (no-fault-of-text page p f read (reported-first page f bad))
+  text-refused (Invalid run n) books page f (short, (p, read, more)) bad = absurd (no-fault-of-text page p f read (reported-first page f bad))
+  text-refused (NoPage n fetch.Failed) books page f states bad = inr tt
   text-refused (NoPage n fetch.Missing) books page f (none, number) bad = absurd none
   text-refused (NoPage n fetch.TooLong) books page f (long, number) bad = absurd (long-none page f long bad)
-  text-refused (NoPage n fetch.Memory) books page f tells bad = inr tt
-  text-refused (Refused refusal) books page f (g, other, is) bad = inl (ap (λ x. Refused x) (is ∙ ap text_refusal (one-fault page g f (told-first page g other) (told-first page f bad))))
-  text-refused NoMemory books page f tells bad = inr tt
+  text-refused (NoPage n fetch.Memory) books page f states bad = inr tt
+  text-refused (Refused refusal) books page f (g, other, is) bad = inl (ap (λ x. Refused x) (is ∙ ap text_refusal (one-fault page g f (reported-first page g other) (reported-first page f bad))))
+  text-refused NoMemory books page f states bad = inr tt
 
   pub text-comes : (o : Outcome) (page : List ℕ) (f : TextFault) → Says asked pages o → RefusesText asked pages page f → Comes (IsRefusal (text_refusal f)) o
   text-comes o page f s r = elim (checked-comes o r.checked.folder r.books s r.checked.check r.checked.gives)
-      [ inl tells ↦ (let P : Option (List ℕ) → Type 0 = λ x. CheckTells r.books x o in text-refused o r.books page f (subst P r.checked.held tells) r.told) | inr e ↦ inr e ]
+      [ inl states ↦ (let P : Option (List ℕ) → Type 0 = λ x. CheckStates r.books x o in text-refused o r.books page f (subst P r.checked.held states) r.reported) | inr e ↦ inr e ]
 
   gap-of-books : (o : Outcome) (folder : List ℕ) (number : ℕ) (gap : Gap) → Says asked pages o → ReadsFolder asked folder → HasGap pages folder number gap → Comes (IsGapOf gap) o
   gap-of-books o folder number gap (OfUsage e f) r h = absurd (reads_none asked folder e r)
   gap-of-books o folder number gap (OfRefusal g other s k f) r h = absurd (one asked pages g folder (Refuses other) (Lacks number gap) s r k h)
   gap-of-books o folder number gap (OfGap g n x s k f) r h = inl (n, f ∙ ap (λ y. NoPage n (fetch_of y)) (one asked pages g folder (Lacks n x) (Lacks number gap) s r k h))
   gap-of-books o folder number gap (OfClear g job e k f) r h = absurd (one asked pages g folder (Gives job.books) (Lacks number gap) (reads asked _ g e (folder_by job.way g job.nodes job.workers)) r k h)
-  gap-of-books o folder number gap (OfCheck g books e k tells) r h = absurd (one asked pages g folder (Gives books) (Lacks number gap) (reads asked _ g e refl) r k h)
-  gap-of-books o folder number gap (OfMigrate g part books e k tells) r h = absurd (one asked pages g folder (Gives books) (Lacks number gap) (reads asked _ g e refl) r k h)
+  gap-of-books o folder number gap (OfCheck g books e k states) r h = absurd (one asked pages g folder (Gives books) (Lacks number gap) (reads asked _ g e refl) r k h)
+  gap-of-books o folder number gap (OfMigrate g part books e k states) r h = absurd (one asked pages g folder (Gives books) (Lacks number gap) (reads asked _ g e refl) r k h)
   gap-of-books o folder number gap (OfGenerate n e is) r h = absurd (reads_no_folder asked _ folder e refl r)
-  gap-of-books o folder number gap (OfValues g more books e k tells) r h = absurd (one asked pages g folder (Gives books) (Lacks number gap) (reads asked _ g e refl) r k h)
+  gap-of-books o folder number gap (OfValues g more books e k states) r h = absurd (one asked pages g folder (Gives books) (Lacks number gap) (reads asked _ g e refl) r k h)
   gap-of-books o folder number gap (OfFeed x e f) r h = absurd (reads_no_folder asked _ folder e refl r)
   gap-of-books o folder number gap (OfBlocks quarters e f) r h = absurd (reads_no_folder asked _ folder e refl r)
   gap-of-books o folder number gap (Fails x n y e) r h = failed (IsGapOf gap) o n e
   gap-of-books o folder number gap (Starves e) r h = starving (IsGapOf gap) o e
 
-  not-held : (o : Outcome) (books : Books) → CheckTells books None o → Comes (IsGapOf NotHeld) o
-  not-held NoCommand books tells = absurd tells
-  not-held (Day job) books tells = absurd tells
-  not-held (Feeds folder) books tells = absurd tells
-  not-held (Joins quarters) books tells = absurd tells
-  not-held (Values v) books tells = absurd tells
-  not-held (Text t) books (m, u, tells, spelled) = absurd tells
-  not-held (Invalid run n) books tells = absurd tells
-  not-held (NoPage n fetch.Failed) books tells = inr tt
-  not-held (NoPage n fetch.Missing) books tells = inl (n, refl)
+  not-held : (o : Outcome) (books : Books) → CheckStates books None o → Comes (IsGapOf NotHeld) o
+  not-held NoCommand books states = absurd states
+  not-held (Day job) books states = absurd states
+  not-held (Feeds folder) books states = absurd states
+  not-held (Joins quarters) books states = absurd states
+  not-held (Values v) books states = absurd states
+  not-held (Text t) books (m, u, states, spelled) = absurd states
+  not-held (Invalid run n) books states = absurd states
+  not-held (NoPage n fetch.Failed) books states = inr tt
+  not-held (NoPage n fetch.Missing) books states = inl (n, refl)
   not-held (NoPage n fetch.TooLong) books (long, number) = absurd long
-  not-held (NoPage n fetch.Memory) books tells = inr tt
+  not-held (NoPage n fetch.Memory) books states = inr tt
   not-held (Refused refusal) books (f, bad, is) = absurd bad
-  not-held NoMemory books tells = inr tt
+  not-held NoMemory books states = inr tt
 
-  too-long : (o : Outcome) (books : Books) (page : List ℕ) → CheckTells books (Some page) o → IsTooLong page → Comes (IsGapOf OverLimit) o
-  too-long NoCommand books page tells long = absurd tells
-  too-long (Day job) books page tells long = absurd tells
-  too-long (Feeds folder) books page tells long = absurd tells
-  too-long (Joins quarters) books page tells long = absurd tells
-  too-long (Values v) books page tells long = absurd tells
+  too-long : (o : Outcome) (books : Books) (page : List ℕ) → CheckStates books (Some page) o → IsTooLong page → Comes (IsGapOf OverLimit) o
+  too-long NoCommand books page states long = absurd states
+  too-long (Day job) books page states long = absurd states
+  too-long (Feeds folder) books page states long = absurd states
+  too-long (Joins quarters) books page states long = absurd states
+  too-long (Values v) books page states long = absurd states
   too-long (Text t) books page (m, u, (short, (p, read, valid)), spelled) long = absurd (omega (arith, long.longer, short))
   too-long (Invalid run n) books page (short, (p, read, more)) long = absurd (omega (arith, long.longer, short))
-  too-long (NoPage n fetch.Failed) books page tells long = inr tt
+  too-long (NoPage n fetch.Failed) books page states long = inr tt
   too-long (NoPage n fetch.Missing) books page (none, number) long = absurd none
-  too-long (NoPage n fetch.TooLong) books page tells long = inl (n, refl)
-  too-long (NoPage n fetch.Memory) books page tells long = inr tt
+  too-long (NoPage n fetch.TooLong) books page states long = inl (n, refl)
+  too-long (NoPage n fetch.Memory) books page states long = inr tt
   too-long (Refused refusal) books page (f, bad, is) long = absurd (long-none page f long bad)
-  too-long NoMemory books page tells long = inr tt
+  too-long NoMemory books page states long = inr tt
 
   -- that isn't the publication that is printed as a feed or valued
   abbrev IsOfFiles : ℕ → Gap → Outcome → Type 0
@@ -218,9 +218,9 @@ module _ (asked : Option Asked) (pages : Pages) where
   pub gap-comes : (o : Outcome) (number : ℕ) (gap : Gap) → Says asked pages o → LacksPage asked pages number gap → IsOfFiles number gap o
   gap-comes o number gap s (lacks-book folder r h) = inl (gap-of-books o folder number gap s r h)
   gap-comes o number gap s (lacks-publication folder books c h none n is) = inl (elim (checked-comes o folder books s c h)
-      [ inl tells ↦ (let P : Option (List ℕ) → Type 0 = λ x. CheckTells books x o in let Q : Gap → Type 0 = λ x. Comes (IsGapOf x) o in subst Q (sym is) (not-held o books (subst P none tells))) | inr e ↦ inr e ])
+      [ inl states ↦ (let P : Option (List ℕ) → Type 0 = λ x. CheckStates books x o in let Q : Gap → Type 0 = λ x. Comes (IsGapOf x) o in subst Q (sym is) (not-held o books (subst P none states))) | inr e ↦ inr e ])
   gap-comes o number gap s (lacks-long books page has long n is) = inl (elim (checked-comes o has.folder books s has.check has.gives)
-      [ inl tells ↦ (let P : Option (List ℕ) → Type 0 = λ x. CheckTells books x o in let Q : Gap → Type 0 = λ x. Comes (IsGapOf x) o in subst Q (sym is) (too-long o books page (subst P has.held tells) long)) | inr e ↦ inr e ])
+      [ inl states ↦ (let P : Option (List ℕ) → Type 0 = λ x. CheckStates books x o in let Q : Gap → Type 0 = λ x. Comes (IsGapOf x) o in subst Q (sym is) (too-long o books page (subst P has.held states) long)) | inr e ↦ inr e ])
   gap-comes o number gap s (lacks-feed folder feed none n is) =
       let P : Option (List ℕ) → Type 0 = λ x. IsFeedGap x NotHeld in
       let Q : Gap → Type 0 = λ x. IsFeedGap (page_of pages (publication_path folder)) x in
@@ -237,57 +237,57 @@ module _ (asked : Option Asked) (pages : Pages) where
   feed-comes o folder (OfRefusal g other s k f) c = absurd (reads_no_folder asked (Feed folder) g c refl s)
   feed-comes o folder (OfGap g n gap s k f) c = absurd (reads_no_folder asked (Feed folder) g c refl s)
   feed-comes o folder (OfClear g job e k f) c = absurd (no_other asked job.way g job.nodes job.workers _ e c refl)
-  feed-comes o folder (OfCheck g other e k tells) c = absurd (cc)
-  feed-comes o folder (OfMigrate g part b e k tells) c = absurd (cc)
+  feed-comes o folder (OfCheck g other e k states) c = absurd (cc)
+  feed-comes o folder (OfMigrate g part b e k states) c = absurd (cc)
   feed-comes o folder (OfGenerate n e is) c = absurd (cc)
-  feed-comes o folder (OfValues g more b e k tells) c = absurd (cc)
+  feed-comes o folder (OfValues g more b e k states) c = absurd (cc)
   feed-comes o folder (OfBlocks quarters e f) c = absurd (cc)
   feed-comes o folder (OfFeed x e f) c = let both : Feed (string_bytes x) ≡ Feed folder = asks-one _ _ e c in inl (x, (cc), f)
   feed-comes o folder (Fails x n y e) c = absurd (reads_no_folder asked (Feed folder) x c refl y)
   feed-comes o folder (Starves e) c = inr (subst IsExcused (sym e) tt)
 
   -- a publication that is valued
-  pub values-come : (o : Outcome) (folder : List ℕ) (more : ℕ) (books : Books) → Says asked pages o → asked ≡ Some (Value folder more) → HasBooks pages folder books → IsToldValues books more (page_of pages (publication_path folder)) o ⊎ IsExcused o
+  pub values-come : (o : Outcome) (folder : List ℕ) (more : ℕ) (books : Books) → Says asked pages o → asked ≡ Some (Value folder more) → HasBooks pages folder books → IsReportedValues books more (page_of pages (publication_path folder)) o ⊎ IsExcused o
   values-come o folder more books (OfUsage e f) c h = absurd (cc)
   values-come o folder more books (OfRefusal g other s k f) c h = absurd (one asked pages g folder (Refuses other) (Gives books) s (reads asked _ folder c refl) k h)
   values-come o folder more books (OfGap g n gap s k f) c h = absurd (one asked pages g folder (Lacks n gap) (Gives books) s (reads asked _ folder c refl) k h)
   values-come o folder more books (OfClear g job e k f) c h = absurd (no_other asked job.way g job.nodes job.workers _ e c refl)
-  values-come o folder more books (OfCheck g other e k tells) c h = absurd (cc)
-  values-come o folder more books (OfMigrate g part b e k tells) c h = absurd (cc)
+  values-come o folder more books (OfCheck g other e k states) c h = absurd (cc)
+  values-come o folder more books (OfMigrate g part b e k states) c h = absurd (cc)
   values-come o folder more books (OfGenerate n e is) c h = absurd (cc)
-  values-come o folder more books (OfValues g m other e k tells) c h =
+  values-come o folder more books (OfValues g m other e k states) c h =
       let books-same : other ≡ books = one asked pages g folder (Gives other) (Gives books) (reads asked _ g e refl) (reads asked _ folder c refl) k h in
       let both : Value g m ≡ Value folder more = asks-one _ _ e c in
       let folder-same : g ≡ folder = cc in
       let more-same : m ≡ more = cc in
-      let P : Books → Type 0 = λ x. IsToldValues x m (page_of pages (publication_path g)) o in
-      let Q : ℕ → Type 0 = λ x. IsToldValues books x (page_of pages (publication_path g)) o in
-      let R : List ℕ → Type 0 = λ x. IsToldValues books more (page_of pages (publication_path x)) o in
-      inl (subst R folder-same (subst Q more-same (subst P books-same tells)))
+      let P : Books → Type 0 = λ x. IsReportedValues x m (page_of pages (publication_path g)) o in
+      let Q : ℕ → Type 0 = λ x. IsReportedValues books x (page_of pages (publication_path g)) o in
+      let R : List ℕ → Type 0 = λ x. IsReportedValues books more (page_of pages (publication_path x)) o in
+      inl (subst R folder-same (subst Q more-same (subst P books-same states)))
   values-come o folder more books (OfFeed x e f) c h = absurd (cc)
   values-come o folder more books (OfBlocks quarters e f) c h = absurd (cc)
   values-come o folder more books (Fails x n y e) c h = inr (subst IsExcused (sym e) tt)
   values-come o folder more books (Starves e) c h = inr (subst IsExcused (sym e) tt)
 
   -- a publication that is read
-  verdict-of : (o : Outcome) (books : Books) (page : List ℕ) (p : Publication) → CheckTells books (Some page) o → IsText page p → length page ≤ most_given → Comes IsAVerdict o
-  verdict-of NoCommand books page p tells is short = absurd tells
-  verdict-of (Day job) books page p tells is short = absurd tells
-  verdict-of (Feeds folder) books page p tells is short = absurd tells
-  verdict-of (Joins quarters) books page p tells is short = absurd tells
-  verdict-of (Values v) books page p tells is short = absurd tells
-  verdict-of (Text t) books page p tells is short = inl tt
-  verdict-of (Invalid run n) books page p tells is short = inl tt
-  verdict-of (NoPage n fetch.Failed) books page p tells is short = inr tt
+  verdict-of : (o : Outcome) (books : Books) (page : List ℕ) (p : Publication) → CheckStates books (Some page) o → IsText page p → length page ≤ most_given → Comes IsAVerdict o
+  verdict-of NoCommand books page p states is short = absurd states
+  verdict-of (Day job) books page p states is short = absurd states
+  verdict-of (Feeds folder) books page p states is short = absurd states
+  verdict-of (Joins quarters) books page p states is short = absurd states
+  verdict-of (Values v) books page p states is short = absurd states
+  verdict-of (Text t) books page p states is short = inl tt
+  verdict-of (Invalid run n) books page p states is short = inl tt
+  verdict-of (NoPage n fetch.Failed) books page p states is short = inr tt
   verdict-of (NoPage n fetch.Missing) books page p (none, number) is short = absurd none
   verdict-of (NoPage n fetch.TooLong) books page p (long, number) is short = absurd (omega (arith, long.longer, short))
-  verdict-of (NoPage n fetch.Memory) books page p tells is short = inr tt
-  verdict-of (Refused refusal) books page p (f, bad, same) is short = absurd (no-fault-of-text page p f is (told-first page f bad))
-  verdict-of NoMemory books page p tells is short = inr tt
+  verdict-of (NoPage n fetch.Memory) books page p states is short = inr tt
+  verdict-of (Refused refusal) books page p (f, bad, same) is short = absurd (no-fault-of-text page p f is (reported-first page f bad))
+  verdict-of NoMemory books page p states is short = inr tt
 
   pub verdict-comes : (o : Outcome) → Says asked pages o → IsReadable asked pages → Comes IsAVerdict o
   verdict-comes o s r = elim (checked-comes o r.checked.folder r.books s r.checked.check r.checked.gives)
-      [ inl tells ↦ (let P : Option (List ℕ) → Type 0 = λ x. CheckTells r.books x o in verdict-of o r.books r.page r.publication (subst P r.checked.held tells) r.read r.short) | inr e ↦ inr e ]
+      [ inl states ↦ (let P : Option (List ℕ) → Type 0 = λ x. CheckStates r.books x o in verdict-of o r.books r.page r.publication (subst P r.checked.held states) r.read r.short) | inr e ↦ inr e ]
 
   -- a file that is migrated
   migrated-once : (o : Outcome) (part : FilePart) (books : Books) → IsMigrated books part o → books.limits ≡ None → Comes IsAText o
@@ -307,13 +307,13 @@ module _ (asked : Option Asked) (pages : Pages) where
   migrated-comes o (OfRefusal g other s k f) m = absurd (one asked pages g m.folder (Refuses other) (Gives m.books) s (reads asked _ m.folder m.migrate refl) k m.gives)
   migrated-comes o (OfGap g n gap s k f) m = absurd (one asked pages g m.folder (Lacks n gap) (Gives m.books) s (reads asked _ m.folder m.migrate refl) k m.gives)
   migrated-comes o (OfClear g job e k f) m = absurd (no_other asked job.way g job.nodes job.workers _ e m.migrate refl)
-  migrated-comes o (OfCheck g other e k tells) m = absurd (let x = m.migrate in cc)
-  migrated-comes o (OfMigrate g part b e k tells) m =
+  migrated-comes o (OfCheck g other e k states) m = absurd (let x = m.migrate in cc)
+  migrated-comes o (OfMigrate g part b e k states) m =
       let books-same : b ≡ m.books = one asked pages g m.folder (Gives b) (Gives m.books) (reads asked _ g e refl) (reads asked _ m.folder m.migrate refl) k m.gives in
       let P : Books → Type 0 = λ x. IsMigrated x part o in
-      migrated-once o part m.books (subst P books-same tells) m.first
+      migrated-once o part m.books (subst P books-same states) m.first
   migrated-comes o (OfGenerate n e is) m = absurd (let x = m.migrate in cc)
-  migrated-comes o (OfValues g more b e k tells) m = absurd (let y = m.migrate in cc)
+  migrated-comes o (OfValues g more b e k states) m = absurd (let y = m.migrate in cc)
   migrated-comes o (OfFeed x e f) m = absurd (let y = m.migrate in cc)
   migrated-comes o (OfBlocks quarters e f) m = absurd (let y = m.migrate in cc)
   migrated-comes o (Fails x n y e) m = failed IsAText o n e
@@ -326,10 +326,10 @@ module _ (asked : Option Asked) (pages : Pages) where
   day-comes o way folder nodes workers books (OfClear g job e k f) c h =
       let same = one_way job.way way g folder job.nodes nodes job.workers workers (asks-one _ _ e c) in
       inl (job, f, one asked pages g folder (Gives job.books) (Gives books) (reads asked _ g e (folder_by job.way g job.nodes job.workers)) (reads asked _ folder c (folder_by way folder nodes workers)) k h, same.nodes, same.way)
-  day-comes o way folder nodes workers books (OfCheck g other e k tells) c h = absurd (no_other asked way folder nodes workers _ c e refl)
-  day-comes o way folder nodes workers books (OfMigrate g part b e k tells) c h = absurd (no_other asked way folder nodes workers _ c e refl)
+  day-comes o way folder nodes workers books (OfCheck g other e k states) c h = absurd (no_other asked way folder nodes workers _ c e refl)
+  day-comes o way folder nodes workers books (OfMigrate g part b e k states) c h = absurd (no_other asked way folder nodes workers _ c e refl)
   day-comes o way folder nodes workers books (OfGenerate n e is) c h = absurd (no_other asked way folder nodes workers _ c e refl)
-  day-comes o way folder nodes workers books (OfValues g more b e k tells) c h = absurd (no_other asked way folder nodes workers _ c e refl)
+  day-comes o way folder nodes workers books (OfValues g more b e k states) c h = absurd (no_other asked way folder nodes workers _ c e refl)
   day-comes o way folder nodes workers books (OfFeed x e f) c h = absurd (no_other asked way folder nodes workers _ c e refl)
   day-comes o way folder nodes workers books (OfBlocks quarters e f) c h = absurd (no_other asked way folder nodes workers _ c e refl)
   day-comes o way folder nodes workers books (Fails x n y e) c h = failed (IsDayOf way books nodes) o n e

@@ -17,10 +17,10 @@ use Rattle.mari_day.specs.declared.files.TheConstants.{PUBLICATION}
 use Rattle.mari_day.specs.Files.{Gap}
 use Rattle.mari_day.specs.Files.Gap.{NotHeld, OverLimit}
 use Rattle.mari_day.proofs.Enough.{all-published}
-use Rattle.mari_publish.specs.Paged.{IsToldFault}
-use Rattle.mari_publish.proofs.Paging.{long-none, no-fault-of-text, one-fault, told-first}
+use Rattle.mari_publish.specs.Paged.{IsReportedFault}
+use Rattle.mari_publish.proofs.Paging.{long-none, no-fault-of-text, one-fault, reported-first}
 use Rattle.mari_words.specs.Asked.{Asked}
-use Rattle.mari_feed.specs.Streams.{FeedTells}
+use Rattle.mari_feed.specs.Streams.{FeedStates}
 use Rattle.mari_feed.specs.declared.stream.FeedStop.{FeedStop}
 use Rattle.mari_feed.specs.declared.stream.FeedStop.TheVariants as stop
 use Rattle.mari_capacity.specs.declared.ending.ValueEnd.{ValueEnd}
@@ -38,7 +38,7 @@ use Rattle.mari_commands.specs.declared.status.Status.{Status}
 use Rattle.mari_commands.specs.declared.status.Status.TheVariants as status
 use Rattle.mari_commands.specs.Commands.{EndsValues, IsClearable, IsFeedable, IsMigratable, IsReadable, LacksPage, RefusesFeed, RefusesFiles, RefusesText, fetch_of, publication_path, text_refusal}
 use Rattle.mari_commands.specs.Headline.{HasBudget}
-use Rattle.mari_commands.specs.Outcome.{IsOfWords, IsToldValues, Reported, Reports, ReportsFeed, ReportsParts, ReportsText, Says, day_status}
+use Rattle.mari_commands.specs.Outcome.{IsOfWords, IsReportedValues, Reported, Reports, ReportsFeed, ReportsParts, ReportsText, Says, day_status}
 use Rattle.mari_commands.specs.Outcome.Reports.{Printed, CutOff, Starved}
 use Rattle.mari_commands.specs.Printing.{file_line, invalid_line, refused_line}
 use Rattle.mari_commands.specs.Program.{IsDayStatus, IsStatus, IsVerdictStatus, OrFault, gap_status}
@@ -153,21 +153,21 @@ module _ (shown : Option Pages) (late : Type 0) (before after : Option (List ℕ
   whole-answer o way books nodes enough (inr x) r = excused (IsStatus status.Done) o x r
 
   -- how the values of limits end, by their page
-  values-report : (o : Outcome) (books : Books) (more : ℕ) (page : Option (List ℕ)) (end : ValueEnd) → IsToldValues books more page o → IsEndOf books page end → Reported shown late o before after result → OrFault (IsStatus (value_status end)) result
-  values-report NoCommand books more page end tells is r = absurd tells
-  values-report (Day job) books more page end tells is r = absurd tells
-  values-report (Feeds folder) books more page end tells is r = absurd tells
-  values-report (Joins quarters) books more page end tells is r = absurd tells
-  values-report (Values v) books more page end tells is r = by (tells.1 end is)
+  values-report : (o : Outcome) (books : Books) (more : ℕ) (page : Option (List ℕ)) (end : ValueEnd) → IsReportedValues books more page o → IsEndOf books page end → Reported shown late o before after result → OrFault (IsStatus (value_status end)) result
+  values-report NoCommand books more page end states is r = absurd states
+  values-report (Day job) books more page end states is r = absurd states
+  values-report (Feeds folder) books more page end states is r = absurd states
+  values-report (Joins quarters) books more page end states is r = absurd states
+  values-report (Values v) books more page end states is r = by (states.1 end is)
     where
       by : EndsAs end v → OrFault (IsStatus (value_status end)) result
       by (inl e) = of-line (IsStatus (value_status end)) (v.text ++ value_line v.end) (value_status v.end) r (inl (ap value_status e))
       by (inr e) = of-line (IsStatus (value_status end)) (v.text ++ value_line v.end) (value_status v.end) r (inr (inl (ap value_status e)))
-  values-report (Text t) books more page end tells is r = absurd tells
-  values-report (Invalid run n) books more page end tells is r = absurd tells
-  values-report (NoPage k why) books more page end tells is r = absurd tells
-  values-report (Refused refusal) books more page end tells is r = absurd tells
-  values-report NoMemory books more page end tells is r = inr (inr (inr r.0))
+  values-report (Text t) books more page end states is r = absurd states
+  values-report (Invalid run n) books more page end states is r = absurd states
+  values-report (NoPage k why) books more page end states is r = absurd states
+  values-report (Refused refusal) books more page end states is r = absurd states
+  values-report NoMemory books more page end states is r = inr (inr (inr r.0))
 
   -- how a feed ends, by its page
   module _ (Q : Status → Type 0) (between : Option (List ℕ)) where
@@ -187,30 +187,30 @@ module _ (shown : Option Pages) (late : Type 0) (before after : Option (List ℕ
   fault-report (text_fault.Truncated n) between r = wanted (IsStatus (status.Refused (text_refusal (text_fault.Truncated n)))) between (refused_line (text_refusal (text_fault.Truncated n))) (status.Refused (text_refusal (text_fault.Truncated n))) refl r
   fault-report text_fault.Memory between r = inr (inr (inr r.0))
 
-  fed-refused : (page : List ℕ) (f : TextFault) → IsToldFault page f → (between : Option (List ℕ)) (end : Result (Unit {0}) FeedStop) → FeedTells (Some page) before between end → ReportsFeed end between after result → OrFault (IsStatus (status.Refused (text_refusal f))) result
-  fed-refused page f bad between (Ok end) (short, took) r = absurd (no-fault-of-text page took.publication f took.is (told-first page f bad))
+  fed-refused : (page : List ℕ) (f : TextFault) → IsReportedFault page f → (between : Option (List ℕ)) (end : Result (Unit {0}) FeedStop) → FeedStates (Some page) before between end → ReportsFeed end between after result → OrFault (IsStatus (status.Refused (text_refusal f))) result
+  fed-refused page f bad between (Ok end) (short, took) r = absurd (no-fault-of-text page took.publication f took.is (reported-first page f bad))
   fed-refused page f bad between (Err (stop.Fetch fetch.Failed)) t r = fetch-failed (IsStatus (status.Refused (text_refusal f))) between r
   fed-refused page f bad between (Err (stop.Fetch fetch.Missing)) t r = absurd t
   fed-refused page f bad between (Err (stop.Fetch fetch.TooLong)) t r = absurd (long-none page f t.0 bad)
   fed-refused page f bad between (Err (stop.Fetch fetch.Memory)) t r = absurd t
   fed-refused page f bad between (Err (stop.Text g)) t r =
-      let same : g ≡ f = one-fault page g f (told-first page g t.0) (told-first page f bad) in
+      let same : g ≡ f = one-fault page g f (reported-first page g t.0) (reported-first page f bad) in
       let P : TextFault → Type 0 = λ x. OrFault (IsStatus (status.Refused (text_refusal x))) result in
       subst P same (fault-report g between r)
   fed-refused page f bad between (Err stop.Sink) t r = inr (inr (inl r.0))
   fed-refused page f bad between (Err stop.Memory) t r = inr (inr (inr r.0))
 
-  fed-whole : (page : List ℕ) (p : Publication) → IsText page p → length page ≤ most_given → (between : Option (List ℕ)) (end : Result (Unit {0}) FeedStop) → FeedTells (Some page) before between end → ReportsFeed end between after result → OrFault (IsStatus status.Done) result
+  fed-whole : (page : List ℕ) (p : Publication) → IsText page p → length page ≤ most_given → (between : Option (List ℕ)) (end : Result (Unit {0}) FeedStop) → FeedStates (Some page) before between end → ReportsFeed end between after result → OrFault (IsStatus status.Done) result
   fed-whole page p is short between (Ok end) t r = inl r.0
   fed-whole page p is short between (Err (stop.Fetch fetch.Failed)) t r = fetch-failed (IsStatus status.Done) between r
   fed-whole page p is short between (Err (stop.Fetch fetch.Missing)) t r = absurd t
   fed-whole page p is short between (Err (stop.Fetch fetch.TooLong)) t r = absurd (let long = t.0.longer in omega (arith, long, short))
   fed-whole page p is short between (Err (stop.Fetch fetch.Memory)) t r = absurd t
-  fed-whole page p is short between (Err (stop.Text g)) t r = absurd (no-fault-of-text page p g is (told-first page g t.0))
+  fed-whole page p is short between (Err (stop.Text g)) t r = absurd (no-fault-of-text page p g is (reported-first page g t.0))
   fed-whole page p is short between (Err stop.Sink) t r = inr (inr (inl r.0))
   fed-whole page p is short between (Err stop.Memory) t r = inr (inr (inr r.0))
 
-  fed-gap : (page : Option (List ℕ)) (gap : Gap) → IsFeedGap page gap → (between : Option (List ℕ)) (end : Result (Unit {0}) FeedStop) → FeedTells page before between end → ReportsFeed end between after result → OrFault (IsStatus (gap_status gap)) result
+  fed-gap : (page : Option (List ℕ)) (gap : Gap) → IsFeedGap page gap → (between : Option (List ℕ)) (end : Result (Unit {0}) FeedStop) → FeedStates page before between end → ReportsFeed end between after result → OrFault (IsStatus (gap_status gap)) result
   fed-gap None OverLimit g between end t r = absurd g
   fed-gap (Some page) NotHeld g between end t r = absurd g
   fed-gap None NotHeld g between (Ok end) t r = absurd t
@@ -233,22 +233,22 @@ module _ (shown : Option Pages) (late : Type 0) (before after : Option (List ℕ
   module _ (asked : Option Asked) (pages : Pages) (is_shown : shown ≡ Some pages) (o : Outcome) (words : IsOfWords asked o) (says : Says asked pages o) (reported : Reported shown late o before after result) where
     -- what is said of the publication that is printed as a feed
     fed-by : (Q : Status → Type 0) (folder : List ℕ) → asked ≡ Some (Feed folder)
-        → ((between : Option (List ℕ)) (end : Result (Unit {0}) FeedStop) → FeedTells (page_of pages (publication_path folder)) before between end → ReportsFeed end between after result → OrFault Q result) → OrFault Q result
+        → ((between : Option (List ℕ)) (end : Result (Unit {0}) FeedStop) → FeedStates (page_of pages (publication_path folder)) before between end → ReportsFeed end between after result → OrFault Q result) → OrFault Q result
     fed-by Q folder feed ends = elim (feed-comes asked pages o folder says feed) [
       | inl found ↦
           let parts : ReportsParts shown late (string_bytes found.0) before after result = same-report o (Feeds found.0) found.2 reported in
-          let P : List ℕ → Type 0 = λ x. FeedTells (page_of pages (publication_path x)) before parts.between parts.end in
-          ends parts.between parts.end (subst P found.1 (parts.tells pages is_shown)) parts.reports
+          let P : List ℕ → Type 0 = λ x. FeedStates (page_of pages (publication_path x)) before parts.between parts.end in
+          ends parts.between parts.end (subst P found.1 (parts.states pages is_shown)) parts.reports
       | inr e ↦ excused Q o e reported
     ]
 
     pub refuses-feed-answer : (page : List ℕ) (f : TextFault) → RefusesFeed asked pages page f → OrFault (IsStatus (status.Refused (text_refusal f))) result
     refuses-feed-answer page f h = fed-by (IsStatus (status.Refused (text_refusal f))) h.fed.folder h.fed.feed (λ between end t r.
-        let P : Option (List ℕ) → Type 0 = λ x. FeedTells x before between end in fed-refused page f h.told between end (subst P h.fed.held t) r)
+        let P : Option (List ℕ) → Type 0 = λ x. FeedStates x before between end in fed-refused page f h.reported between end (subst P h.fed.held t) r)
 
     pub fed-answer : IsFeedable asked pages → OrFault (IsStatus status.Done) result
     fed-answer h = fed-by (IsStatus status.Done) h.fed.folder h.fed.feed (λ between end t r.
-        let P : Option (List ℕ) → Type 0 = λ x. FeedTells x before between end in fed-whole h.page h.publication h.read h.short between end (subst P h.fed.held t) r)
+        let P : Option (List ℕ) → Type 0 = λ x. FeedStates x before between end in fed-whole h.page h.publication h.read h.short between end (subst P h.fed.held t) r)
 
     pub refuses-answer : (refusal : Refusal) → RefusesFiles asked pages refusal → OrFault (IsStatus (status.Refused refusal)) result
     refuses-answer refusal h = refused-answer o refusal (refusal-comes asked pages o refusal words says h) reported
@@ -258,7 +258,7 @@ module _ (shown : Option Pages) (late : Type 0) (before after : Option (List ℕ
 
     pub values-answer : (end : ValueEnd) → EndsValues asked pages end → OrFault (IsStatus (value_status end)) result
     values-answer end h = elim (values-come asked pages o h.folder h.more h.books says h.value h.gives) [
-      | inl tells ↦ values-report o h.books h.more (page_of pages (publication_path h.folder)) end tells h.ends reported
+      | inl states ↦ values-report o h.books h.more (page_of pages (publication_path h.folder)) end states h.ends reported
       | inr e ↦ excused (IsStatus (value_status end)) o e reported
     ]
 

@@ -18,7 +18,7 @@ use Rattle.mari_blocks.specs.Printed.IsTextOf.{Published, Unpublished as Spent}
 use Rattle.mari_blocks.specs.declared.blocks.BlockBook.{BlockBook}
 use Rattle.mari_blocks.specs.declared.clearing.JointText.{JointText}
 use Rattle.mari_blocks.specs.declared.joint.Joint.{Joint}
-use Rattle.mari_quarters.specs.Quarters.{HasBlocks, HasQuartersGap, HasQuartersRefusal, QuartersTell}
+use Rattle.mari_quarters.specs.Quarters.{HasBlocks, HasQuartersGap, HasQuartersRefusal, QuartersReport}
 use Rattle.mari_quarters.proofs.Facts.{made_accepted, made_held, one_gap, one_joint, one_refusal, refused_held}
 use Rattle.mari_words.specs.Asked.{Asked}
 use Rattle.mari_words.specs.Asked.Asked.{Blocks}
@@ -43,16 +43,16 @@ record IsJoined (folder : List ℕ) (first last nodes workers : ℕ) (o : Outcom
   is : o ≡ Joins quarters
   words : blocks_of quarters ≡ Blocks folder first last nodes workers
 
-module _ (asked : Option Asked) (told : Pages) where
-  joins-comes : (o : Outcome) (folder : List ℕ) (first last nodes workers : ℕ) → Says asked told o → asked ≡ Some (Blocks folder first last nodes workers) → IsJoined folder first last nodes workers o ⊎ IsExcused o
+module _ (asked : Option Asked) (pages : Pages) where
+  joins-comes : (o : Outcome) (folder : List ℕ) (first last nodes workers : ℕ) → Says asked pages o → asked ≡ Some (Blocks folder first last nodes workers) → IsJoined folder first last nodes workers o ⊎ IsExcused o
   joins-comes o folder first last nodes workers (OfUsage e f) c = absurd (cc)
   joins-comes o folder first last nodes workers (OfRefusal g other s k f) c = absurd (reads_no_folder asked _ g c refl s)
   joins-comes o folder first last nodes workers (OfGap g n gap s k f) c = absurd (reads_no_folder asked _ g c refl s)
   joins-comes o folder first last nodes workers (OfClear g job e k f) c = absurd (no_other asked job.way g job.nodes job.workers _ e c refl)
-  joins-comes o folder first last nodes workers (OfCheck g books e k tells) c = absurd (cc)
-  joins-comes o folder first last nodes workers (OfMigrate g part books e k tells) c = absurd (cc)
+  joins-comes o folder first last nodes workers (OfCheck g books e k states) c = absurd (cc)
+  joins-comes o folder first last nodes workers (OfMigrate g part books e k states) c = absurd (cc)
   joins-comes o folder first last nodes workers (OfGenerate n e is) c = absurd (cc)
-  joins-comes o folder first last nodes workers (OfValues g more books e k tells) c = absurd (cc)
+  joins-comes o folder first last nodes workers (OfValues g more books e k states) c = absurd (cc)
   joins-comes o folder first last nodes workers (OfFeed x e f) c = absurd (cc)
   joins-comes o folder first last nodes workers (OfBlocks q e f) c = inl (record { quarters = q; is = f; words = let both : Some (blocks_of q) ≡ Some (Blocks folder first last nodes workers) = sym e ∙ c in cc })
   joins-comes o folder first last nodes workers (Fails x n y e) c = absurd (reads_no_folder asked _ x c refl y)
@@ -73,75 +73,75 @@ module _ (before after : Option (List ℕ)) (result : Status) where
   of-fault : (Q : Status → Type 0) (n : ℕ) → Reports (file_line (codes "readfault") n) status.ReadFault before after result → OrFault Q result
   of-fault Q n r = of-line Q (file_line (codes "readfault") n) status.ReadFault r (inr (inl refl))
 
-  module _ (told : Pages) (folder : List ℕ) (first last nodes : ℕ) where
-    by-refusal : (refusal : Refusal) → HasQuartersRefusal told folder first last refusal → (given : Result JointText BooksFault) → QuartersTell told folder first last nodes given → ReportsQuarters given before after result
+  module _ (pages : Pages) (folder : List ℕ) (first last nodes : ℕ) where
+    by-refusal : (refusal : Refusal) → HasQuartersRefusal pages folder first last refusal → (given : Result JointText BooksFault) → QuartersReport pages folder first last nodes given → ReportsQuarters given before after result
         → OrFault (IsStatus (status.Refused refusal)) result
-    by-refusal refusal h (Ok printed) t r = absurd (made_accepted told folder first last t.books t.blocks t.is_text.joint refusal t.has t.is_text.made h)
+    by-refusal refusal h (Ok printed) t r = absurd (made_accepted pages folder first last t.books t.blocks t.is_text.joint refusal t.has t.is_text.made h)
     by-refusal refusal h (Err (why.Fetch n fetch.Failed)) t r = of-fault (IsStatus (status.Refused refusal)) n r
-    by-refusal refusal h (Err (why.Fetch n fetch.Missing)) t r = absurd (refused_held told folder first last refusal n NotHeld h t)
-    by-refusal refusal h (Err (why.Fetch n fetch.TooLong)) t r = absurd (refused_held told folder first last refusal n OverLimit h t)
+    by-refusal refusal h (Err (why.Fetch n fetch.Missing)) t r = absurd (refused_held pages folder first last refusal n NotHeld h t)
+    by-refusal refusal h (Err (why.Fetch n fetch.TooLong)) t r = absurd (refused_held pages folder first last refusal n OverLimit h t)
     by-refusal refusal h (Err (why.Fetch n fetch.Memory)) t r = absurd t
     by-refusal refusal h (Err (why.Refused other)) t r =
-        let same : other ≡ refusal = one_refusal told folder first last other refusal t h in
+        let same : other ≡ refusal = one_refusal pages folder first last other refusal t h in
         of-line (IsStatus (status.Refused refusal)) (refused_line other) (status.Refused other) r (inl (ap (λ (x : Refusal). status.Refused x) same))
     by-refusal refusal h (Err why.Memory) t r = inr (inr (inr r.0))
 
-    by-gap : (k : ℕ) (gap : Gap) → HasQuartersGap told folder k gap → (given : Result JointText BooksFault) → QuartersTell told folder first last nodes given → ReportsQuarters given before after result → OrFault (IsStatus (gap_status gap)) result
-    by-gap k gap h (Ok printed) t r = absurd (made_held told folder first last t.books t.blocks k gap t.has h)
+    by-gap : (k : ℕ) (gap : Gap) → HasQuartersGap pages folder k gap → (given : Result JointText BooksFault) → QuartersReport pages folder first last nodes given → ReportsQuarters given before after result → OrFault (IsStatus (gap_status gap)) result
+    by-gap k gap h (Ok printed) t r = absurd (made_held pages folder first last t.books t.blocks k gap t.has h)
     by-gap k gap h (Err (why.Fetch n fetch.Failed)) t r = of-fault (IsStatus (gap_status gap)) n r
     by-gap k gap h (Err (why.Fetch n fetch.Missing)) t r =
-        of-line (IsStatus (gap_status gap)) (file_line (codes "missing") n) status.Missing r (inl (ap gap_status (one_gap told folder first last n k NotHeld gap t h)))
+        of-line (IsStatus (gap_status gap)) (file_line (codes "missing") n) status.Missing r (inl (ap gap_status (one_gap pages folder first last n k NotHeld gap t h)))
     by-gap k gap h (Err (why.Fetch n fetch.TooLong)) t r =
-        of-line (IsStatus (gap_status gap)) (file_line (codes "toolong") n) status.TooLong r (inl (ap gap_status (one_gap told folder first last n k OverLimit gap t h)))
+        of-line (IsStatus (gap_status gap)) (file_line (codes "toolong") n) status.TooLong r (inl (ap gap_status (one_gap pages folder first last n k OverLimit gap t h)))
     by-gap k gap h (Err (why.Fetch n fetch.Memory)) t r = absurd t
-    by-gap k gap h (Err (why.Refused refusal)) t r = absurd (refused_held told folder first last refusal k gap t h)
+    by-gap k gap h (Err (why.Refused refusal)) t r = absurd (refused_held pages folder first last refusal k gap t h)
     by-gap k gap h (Err why.Memory) t r = inr (inr (inr r.0))
 
-    module _ (books : Books) (blocks : BlockBook) (joint : Joint) (has : HasBlocks told folder first last books blocks) (made : joint_in books blocks first last ≡ Ok joint) where
-      by-market : (Q : Status → Type 0) → ((printed : JointText) → QuartersTell told folder first last nodes (Ok printed) → OrFault Q (if printed.published then status.Done else status.Unpublished))
-          → (given : Result JointText BooksFault) → QuartersTell told folder first last nodes given → ReportsQuarters given before after result → OrFault Q result
+    module _ (books : Books) (blocks : BlockBook) (joint : Joint) (has : HasBlocks pages folder first last books blocks) (made : joint_in books blocks first last ≡ Ok joint) where
+      by-market : (Q : Status → Type 0) → ((printed : JointText) → QuartersReport pages folder first last nodes (Ok printed) → OrFault Q (if printed.published then status.Done else status.Unpublished))
+          → (given : Result JointText BooksFault) → QuartersReport pages folder first last nodes given → ReportsQuarters given before after result → OrFault Q result
       by-market Q ends (Ok printed) t r = of-line Q printed.text (if printed.published then status.Done else status.Unpublished) r (ends printed t)
       by-market Q ends (Err (why.Fetch n fetch.Failed)) t r = of-fault Q n r
-      by-market Q ends (Err (why.Fetch n fetch.Missing)) t r = absurd (made_held told folder first last books blocks n NotHeld has t)
-      by-market Q ends (Err (why.Fetch n fetch.TooLong)) t r = absurd (made_held told folder first last books blocks n OverLimit has t)
+      by-market Q ends (Err (why.Fetch n fetch.Missing)) t r = absurd (made_held pages folder first last books blocks n NotHeld has t)
+      by-market Q ends (Err (why.Fetch n fetch.TooLong)) t r = absurd (made_held pages folder first last books blocks n OverLimit has t)
       by-market Q ends (Err (why.Fetch n fetch.Memory)) t r = absurd t
-      by-market Q ends (Err (why.Refused refusal)) t r = absurd (made_accepted told folder first last books blocks joint refusal has made t)
+      by-market Q ends (Err (why.Refused refusal)) t r = absurd (made_accepted pages folder first last books blocks joint refusal has made t)
       by-market Q ends (Err why.Memory) t r = inr (inr (inr r.0))
 
-      whole : (size : ℕ) → HasSize joint.market size → size ≤ nodes → (printed : JointText) → QuartersTell told folder first last nodes (Ok printed) → OrFault (IsStatus status.Done) (if printed.published then status.Done else status.Unpublished)
+      whole : (size : ℕ) → HasSize joint.market size → size ≤ nodes → (printed : JointText) → QuartersReport pages folder first last nodes (Ok printed) → OrFault (IsStatus status.Done) (if printed.published then status.Done else status.Unpublished)
       whole size sized enough printed t =
-          let one : joint ≡ t.is_text.joint = one_joint told folder first last books t.books blocks t.blocks joint t.is_text.joint has t.has made t.is_text.made in
+          let one : joint ≡ t.is_text.joint = one_joint pages folder first last books t.books blocks t.blocks joint t.is_text.joint has t.has made t.is_text.made in
           let fits : HasSize t.is_text.joint.market size = subst (λ (j : Joint). HasSize j.market size) one sized in
           let out : printed.published ≡ true = is-published t.books first last nodes t.is_text.joint printed.published printed.text t.is_text.is_text size fits enough in
           inl (ap (λ (b : Bool). if b then status.Done else status.Unpublished) out)
 
 -- what is said of the quarters that a command clears
-abbrev TellsOf : Pages → Asked → Result JointText BooksFault → Type 0
-TellsOf told (Blocks folder first last nodes workers) given = QuartersTell told folder first last nodes given
-TellsOf told _ given = ⊤
+abbrev StatesOf : Pages → Asked → Result JointText BooksFault → Type 0
+StatesOf pages (Blocks folder first last nodes workers) given = QuartersReport pages folder first last nodes given
+StatesOf pages _ given = ⊤
 
-module _ (shown : Option Pages) (late : Type 0) (before after : Option (List ℕ)) (result : Status) (asked : Option Asked) (told : Pages) (is_shown : shown ≡ Some told) (o : Outcome) (says : Says asked told o) (reported : Reported shown late o before after result) where
+module _ (shown : Option Pages) (late : Type 0) (before after : Option (List ℕ)) (result : Status) (asked : Option Asked) (pages : Pages) (is_shown : shown ≡ Some pages) (o : Outcome) (says : Says asked pages o) (reported : Reported shown late o before after result) where
   by-quarters : (Q : Status → Type 0) (folder : List ℕ) (first last nodes workers : ℕ) → asked ≡ Some (Blocks folder first last nodes workers)
-      → ((given : Result JointText BooksFault) → QuartersTell told folder first last nodes given → ReportsQuarters given before after result → OrFault Q result) → OrFault Q result
-  by-quarters Q folder first last nodes workers words ends = elim (joins-comes asked told o folder first last nodes workers says words) [
+      → ((given : Result JointText BooksFault) → QuartersReport pages folder first last nodes given → ReportsQuarters given before after result → OrFault Q result) → OrFault Q result
+  by-quarters Q folder first last nodes workers words ends = elim (joins-comes asked pages o folder first last nodes workers says words) [
     | inl found ↦
         let r : ReportsBlocks shown late found.quarters before after result = same-report shown late before after result o (Joins found.quarters) found.is reported in
-        let tells : TellsOf told (blocks_of found.quarters) r.given = r.tells told is_shown in
-        ends r.given (subst (λ (x : Asked). TellsOf told x r.given) found.words tells) r.reports
+        let states : StatesOf pages (blocks_of found.quarters) r.given = r.states pages is_shown in
+        ends r.given (subst (λ (x : Asked). StatesOf pages x r.given) found.words states) r.reports
     | inr e ↦ excused shown late before after result Q o e reported
   ]
 
-  pub joined-answer : IsJoinable asked told → OrFault IsDayStatus result
+  pub joined-answer : IsJoinable asked pages → OrFault IsDayStatus result
   joined-answer h = by-quarters IsDayStatus h.folder h.first h.last h.nodes h.workers h.words
-      (by-market before after result told h.folder h.first h.last h.nodes h.books h.blocks h.joint h.has h.made IsDayStatus (λ printed t. day-end shown late before after result printed.published))
+      (by-market before after result pages h.folder h.first h.last h.nodes h.books h.blocks h.joint h.has h.made IsDayStatus (λ printed t. day-end shown late before after result printed.published))
 
-  pub decided-answer : (wanted : Status) → Decides asked told wanted → OrFault (IsStatus wanted) result
+  pub decided-answer : (wanted : Status) → Decides asked pages wanted → OrFault (IsStatus wanted) result
   decided-answer status.Done h = let j = h.joinable in by-quarters (IsStatus status.Done) j.folder j.first j.last j.nodes j.workers j.words
-      (by-market before after result told j.folder j.first j.last j.nodes j.books j.blocks j.joint j.has j.made (IsStatus status.Done)
-      (whole before after result told j.folder j.first j.last j.nodes j.books j.blocks j.joint j.has j.made h.size h.sized h.enough))
-  decided-answer (status.Refused refusal) h = by-quarters (IsStatus (status.Refused refusal)) h.folder h.first h.last h.nodes h.workers h.words (by-refusal before after result told h.folder h.first h.last h.nodes refusal h.is)
-  decided-answer status.Missing h = by-quarters (IsStatus status.Missing) h.folder h.first h.last h.nodes h.workers h.words (by-gap before after result told h.folder h.first h.last h.nodes h.is.0 NotHeld h.is.1)
-  decided-answer status.TooLong h = by-quarters (IsStatus status.TooLong) h.folder h.first h.last h.nodes h.workers h.words (by-gap before after result told h.folder h.first h.last h.nodes h.is.0 OverLimit h.is.1)
+      (by-market before after result pages j.folder j.first j.last j.nodes j.books j.blocks j.joint j.has j.made (IsStatus status.Done)
+      (whole before after result pages j.folder j.first j.last j.nodes j.books j.blocks j.joint j.has j.made h.size h.sized h.enough))
+  decided-answer (status.Refused refusal) h = by-quarters (IsStatus (status.Refused refusal)) h.folder h.first h.last h.nodes h.workers h.words (by-refusal before after result pages h.folder h.first h.last h.nodes refusal h.is)
+  decided-answer status.Missing h = by-quarters (IsStatus status.Missing) h.folder h.first h.last h.nodes h.workers h.words (by-gap before after result pages h.folder h.first h.last h.nodes h.is.0 NotHeld h.is.1)
+  decided-answer status.TooLong h = by-quarters (IsStatus status.TooLong) h.folder h.first h.last h.nodes h.workers h.words (by-gap before after result pages h.folder h.first h.last h.nodes h.is.0 OverLimit h.is.1)
   decided-answer status.Unpublished h = absurd h
   decided-answer status.Usage h = absurd h
   decided-answer status.ReadFault h = absurd h

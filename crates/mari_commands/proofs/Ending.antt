@@ -27,7 +27,7 @@ use Rattle.mari_commands.specs.Headline.{WroteDay}
 use Rattle.mari_commands.specs.Outcome.{IsNoPage, IsOfWords, IsReady, IsReportable, Reported, Reports, ReportsDay, Says, day_status}
 use Rattle.mari_commands.specs.Outcome.Reports.{Printed, CutOff, Starved}
 use Rattle.mari_commands.specs.Printing.{file_line, invalid_line, refused_line, usage_line}
-use Rattle.mari_commands.specs.Program.{Answers, IsFailedEnd, IsGapEnd, IsInvalidEnd, IsLine, IsRefusedEnd, TookFirstPart, WhereTold}
+use Rattle.mari_commands.specs.Program.{Answers, IsFailedEnd, IsGapEnd, IsInvalidEnd, IsLine, IsRefusedEnd, TookFirstPart, WhereReported}
 use Rattle.mari_commands.specs.Program.IsDone.{Cleared as done-cleared, Printed as done-printed, Split as done-split}
 use Rattle.mari_commands.specs.Program.IsLine.{OfUsage as line-usage, OfRefusal as line-refusal, OfFault as line-fault, OfMissing as line-missing, OfTooLong as line-too-long, OfInvalid as line-invalid, OfText as line-text}
 use Rattle.mari_commands.specs.Program.IsCutOff.{Day as cut-day, Line as cut-line, SplitDay as cut-split}
@@ -47,22 +47,22 @@ module _ (asked : Option Asked) where
     Ends = Answers asked pages failed before after
 
     starved : after ≡ before → Ends status.Memory
-    starved p = (λ told t. starved-before p, inl p)
+    starved p = (λ reported t. starved-before p, inl p)
 
     -- a line that is reported
     of-line : (AsksForFeed asked → ⊥) → (text : List ℕ) (wanted result : Status) → Reports text wanted before after result → (after ≡ then_took before text → Ends wanted) → (TookPart before after text → TookFirstPart asked before after)
-        → WhereTold pages (λ told. IsLine asked told failed text) → Ends result
+        → WhereReported pages (λ reported. IsLine asked reported failed text) → Ends result
     of-line none text wanted result (Printed e p) done part is = subst Ends (sym e) (done p)
-    of-line none text wanted result (CutOff e p) done part is = let cut : Ends status.WriteFault = (λ told t. cut-line none text (is told t) p, part p) in subst Ends (sym e) cut
+    of-line none text wanted result (CutOff e p) done part is = let cut : Ends status.WriteFault = (λ reported t. cut-line none text (is reported t) p, part p) in subst Ends (sym e) cut
     of-line none text wanted result (Starved e p) done part is = subst Ends (sym e) (starved p)
 
     of-nothing : (result : Status) → result ≡ status.Memory → after ≡ before → Ends result
     of-nothing result e p = subst Ends (sym e) (starved p)
 
     -- a day that is written whole
-    wrote : (told : Pages) (job : Job) (published unpublished : ℕ) (whole : Bool) → IsReady job → AreCleared asked told job.books job.nodes → WroteWholeDay job.books job.nodes published unpublished before after
-        → (unpublished == 0) ≡ whole → WroteDay asked told whole before after
-    wrote told job published unpublished whole ready is w e = record {
+    wrote : (reported : Pages) (job : Job) (published unpublished : ℕ) (whole : Bool) → IsReady job → AreCleared asked reported job.books job.nodes → WroteWholeDay job.books job.nodes published unpublished before after
+        → (unpublished == 0) ≡ whole → WroteDay asked reported whole before after
+    wrote reported job published unpublished whole ready is w e = record {
       text = w.text;
       day = record {
         books = job.books;
@@ -81,24 +81,24 @@ module _ (asked : Option Asked) where
       taken = w.taken;
     }
 
-    module _ (job : Job) (folder : List ℕ) (clear : asked ≡ Some (Clear folder job.nodes job.workers)) (ready : IsReady job) (is : WhereTold pages (λ told. AreCleared asked told job.books job.nodes)) where
+    module _ (job : Job) (folder : List ℕ) (clear : asked ≡ Some (Clear folder job.nodes job.workers)) (ready : IsReady job) (is : WhereReported pages (λ reported. AreCleared asked reported job.books job.nodes)) where
       clears-it : AsksToClear asked
       clears-it = (folder, job.nodes, job.workers, clear)
 
       of-done : (published unpublished : ℕ) (whole : Bool) → WroteWholeDay job.books job.nodes published unpublished before after → (unpublished == 0) ≡ whole → Ends (if whole then status.Done else status.Unpublished)
       of-done published unpublished true w e =
-          (λ told t. done-cleared (wrote told job published unpublished true ready (is told t) w e), no-summary asked before after Whole folder job.nodes job.workers clear, no-verdict asked before after Whole folder job.nodes job.workers clear)
-      of-done published unpublished false w e = inl (clears-it, λ told t. wrote told job published unpublished false ready (is told t) w e)
+          (λ reported t. done-cleared (wrote reported job published unpublished true ready (is reported t) w e), no-summary asked before after Whole folder job.nodes job.workers clear, no-verdict asked before after Whole folder job.nodes job.workers clear)
+      of-done published unpublished false w e = inl (clears-it, λ reported t. wrote reported job published unpublished false ready (is reported t) w e)
 
       of-end : (ended : DayEnd) → EndsDay job.books job.nodes before after ended → Ends (day_status ended)
       of-end (end.Done published unpublished) w = of-done published unpublished (unpublished == 0) w refl
-      of-end end.WriteFault w = (λ told t. cut-day job.books job.nodes (is told t) w, part-of-folder asked before after (files_by asked Whole folder job.nodes job.workers clear))
+      of-end end.WriteFault w = (λ reported t. cut-day job.books job.nodes (is reported t) w, part-of-folder asked before after (files_by asked Whole folder job.nodes job.workers clear))
       of-end end.Memory (inl same) = starved same
-      of-end end.Memory (inr part) = (λ told t. starved-part job.books job.nodes (is told t) part, inr (inl clears-it))
+      of-end end.Memory (inr part) = (λ reported t. starved-part job.books job.nodes (is reported t) part, inr (inl clears-it))
 
     -- the same of a day whose runs are cleared island by island
-    wrote-split : (told : Pages) (job : Job) (published unpublished : ℕ) (whole : Bool) → IsReady job → AreSplit asked told job.books job.nodes → WroteSplitDay job.books job.nodes published unpublished before after → (unpublished == 0) ≡ whole → WroteSplit asked told whole before after
-    wrote-split told job published unpublished whole ready is w e = record {
+    wrote-split : (reported : Pages) (job : Job) (published unpublished : ℕ) (whole : Bool) → IsReady job → AreSplit asked reported job.books job.nodes → WroteSplitDay job.books job.nodes published unpublished before after → (unpublished == 0) ≡ whole → WroteSplit asked reported whole before after
+    wrote-split reported job published unpublished whole ready is w e = record {
       text = w.text;
       day = record {
         books = job.books;
@@ -114,63 +114,63 @@ module _ (asked : Option Asked) where
       taken = w.taken;
     }
 
-    module _ (job : Job) (folder : List ℕ) (split : asked ≡ Some (Split folder job.nodes job.workers)) (ready : IsReady job) (is : WhereTold pages (λ told. AreSplit asked told job.books job.nodes)) where
+    module _ (job : Job) (folder : List ℕ) (split : asked ≡ Some (Split folder job.nodes job.workers)) (ready : IsReady job) (is : WhereReported pages (λ reported. AreSplit asked reported job.books job.nodes)) where
       splits-it : AsksToSplit asked
       splits-it = (folder, job.nodes, job.workers, split)
 
       of-split-done : (published unpublished : ℕ) (whole : Bool) → WroteSplitDay job.books job.nodes published unpublished before after → (unpublished == 0) ≡ whole → Ends (if whole then status.Done else status.Unpublished)
       of-split-done published unpublished true w e =
-          (λ told t. done-split (wrote-split told job published unpublished true ready (is told t) w e), no-summary asked before after Islands folder job.nodes job.workers split, no-verdict asked before after Islands folder job.nodes job.workers split)
-      of-split-done published unpublished false w e = inr (splits-it, λ told t. wrote-split told job published unpublished false ready (is told t) w e)
+          (λ reported t. done-split (wrote-split reported job published unpublished true ready (is reported t) w e), no-summary asked before after Islands folder job.nodes job.workers split, no-verdict asked before after Islands folder job.nodes job.workers split)
+      of-split-done published unpublished false w e = inr (splits-it, λ reported t. wrote-split reported job published unpublished false ready (is reported t) w e)
 
       of-split-end : (ended : DayEnd) → EndsSplit job.books job.nodes before after ended → Ends (day_status ended)
       of-split-end (end.Done published unpublished) w = of-split-done published unpublished (unpublished == 0) w refl
-      of-split-end end.WriteFault w = (λ told t. cut-split job.books job.nodes (is told t) w, part-of-folder asked before after (files_by asked Islands folder job.nodes job.workers split))
+      of-split-end end.WriteFault w = (λ reported t. cut-split job.books job.nodes (is reported t) w, part-of-folder asked before after (files_by asked Islands folder job.nodes job.workers split))
       of-split-end end.Memory (inl same) = starved same
-      of-split-end end.Memory (inr part) = (λ told t. starved-split job.books job.nodes (is told t) part, inr (inr (inr splits-it)))
+      of-split-end end.Memory (inr part) = (λ reported t. starved-split job.books job.nodes (is reported t) part, inr (inr (inr splits-it)))
 
-    of-way : (job : Job) (folder : List ℕ) (way : Way) → job.way ≡ way → asked ≡ Some (command_by way folder job.nodes job.workers) → IsReady job → WhereTold pages (λ told. IsToClear asked told job) → (ended : DayEnd) → EndsBy way job.books job.nodes before after ended → Ends (day_status ended)
-    of-way job folder Whole w words ready is ended ends = of-end job folder words ready (λ told t. cleared-is asked told job w (is told t)) ended ends
-    of-way job folder Islands w words ready is ended ends = of-split-end job folder words ready (λ told t. split-is asked told job w (is told t)) ended ends
+    of-way : (job : Job) (folder : List ℕ) (way : Way) → job.way ≡ way → asked ≡ Some (command_by way folder job.nodes job.workers) → IsReady job → WhereReported pages (λ reported. IsToClear asked reported job) → (ended : DayEnd) → EndsBy way job.books job.nodes before after ended → Ends (day_status ended)
+    of-way job folder Whole w words ready is ended ends = of-end job folder words ready (λ reported t. cleared-is asked reported job w (is reported t)) ended ends
+    of-way job folder Islands w words ready is ended ends = of-split-end job folder words ready (λ reported t. split-is asked reported job w (is reported t)) ended ends
 
-    of-day : (job : Job) (result : Status) → WhereTold pages (λ told. Says asked told (Day job)) → IsOfWords asked (Day job) → IsReady job → ReportsDay job before after result → Ends result
-    of-day job result says words ready r = subst Ends (sym r.status) (of-way job words.0 job.way refl words.1 ready (λ told t. day-is asked told job (says told t)) r.ended r.ends)
+    of-day : (job : Job) (result : Status) → WhereReported pages (λ reported. Says asked reported (Day job)) → IsOfWords asked (Day job) → IsReady job → ReportsDay job before after result → Ends result
+    of-day job result says words ready r = subst Ends (sym r.status) (of-way job words.0 job.way refl words.1 ready (λ reported t. day-is asked reported job (says reported t)) r.ended r.ends)
 
-    by-outcome : (AsksForBlocks asked → ⊥) → (late : Type 0) → (late → failed) → (o : Outcome) (result : Status) → WhereTold pages (λ told. Says asked told o) → IsOfWords asked o → IsReportable o → (IsNoPage fetch.Failed o → failed) → Reported pages late o before after result → Ends result
-    by-outcome other late later NoCommand result says words ready cause r = of-line (none-no-feed asked words) usage_line status.Usage result r (λ p. (words, p)) (part-of-usage asked before after words) (λ told t. line-usage words refl)
+    by-outcome : (AsksForBlocks asked → ⊥) → (late : Type 0) → (late → failed) → (o : Outcome) (result : Status) → WhereReported pages (λ reported. Says asked reported o) → IsOfWords asked o → IsReportable o → (IsNoPage fetch.Failed o → failed) → Reported pages late o before after result → Ends result
+    by-outcome other late later NoCommand result says words ready cause r = of-line (none-no-feed asked words) usage_line status.Usage result r (λ p. (words, p)) (part-of-usage asked before after words) (λ reported t. line-usage words refl)
     by-outcome other late later (Day job) result says words ready cause r = of-day job result says words ready r
     by-outcome other late later (Feeds folder) result says words ready cause r = feed-answers asked pages failed before after late later (string_bytes folder) words result r
     by-outcome other late later (Joins q) result says words ready cause r = absurd (other (string_bytes q.folder, q.first, q.last, q.nodes, q.workers, words))
-    by-outcome other late later (Values v) result says words ready cause r = values-answers asked pages failed before after words.0 v.text v.end words.1 (λ told t. values-is asked told v (says told t)) cause result r
+    by-outcome other late later (Values v) result says words ready cause r = values-answers asked pages failed before after words.0 v.text v.end words.1 (λ reported t. values-is asked reported v (says reported t)) cause result r
     by-outcome other late later (Text text) result says words ready cause r =
-        of-line (text-no-feed asked text.items words) text.items status.Done result r (λ p. (λ told t. done-printed text.items (text-prints asked told text (says told t)) p, summary-is asked before after text.items words p, verdict-is asked before after text.items words p)) (part-of-text asked before after text.items words)
-        (λ told t. line-text (text-prints asked told text (says told t)))
+        of-line (text-no-feed asked text.items words) text.items status.Done result r (λ p. (λ reported t. done-printed text.items (text-prints asked reported text (says reported t)) p, summary-is asked before after text.items words p, verdict-is asked before after text.items words p)) (part-of-text asked before after text.items words)
+        (λ reported t. line-text (text-prints asked reported text (says reported t)))
     by-outcome other late later (Invalid run number) result says words ready cause r =
         let alone = check-alone asked PUBLICATION words in
-        of-line (check-no-feed asked words) (invalid_line run number) (status.Invalid run number) result r (λ p. (inl words, (λ told t. invalid-is asked told run number (says told t)), plain-line asked pages PUBLICATION TookAll (IsInvalidEnd run number) (invalid_line run number) before after alone p))
-        (λ p. part-of-folder asked before after (check-reads asked words)) (λ told t. line-invalid run number (invalid-is asked told run number (says told t)) alone refl)
+        of-line (check-no-feed asked words) (invalid_line run number) (status.Invalid run number) result r (λ p. (inl words, (λ reported t. invalid-is asked reported run number (says reported t)), plain-line asked pages PUBLICATION TookAll (IsInvalidEnd run number) (invalid_line run number) before after alone p))
+        (λ p. part-of-folder asked before after (check-reads asked words)) (λ reported t. line-invalid run number (invalid-is asked reported run number (says reported t)) alone refl)
     by-outcome other late later (NoPage k fetch.Failed) result says words ready cause r =
         let none = files-no-feed asked words.0 in
         let text = file_line (codes "readfault") k in
         of-line none text status.ReadFault result r (λ p. (inl words.0, (k, words.1, plain-line asked pages k TookFirst IsFailedEnd text before after words.2 p))) (λ p. part-of-folder asked before after words.0)
-        (λ told t. let f = fails-is asked told k (says told t) in line-fault (cause refl) f.0 k f.1 words.1 words.2 refl)
+        (λ reported t. let f = fails-is asked reported k (says reported t) in line-fault (cause refl) f.0 k f.1 words.1 words.2 refl)
     by-outcome other late later (NoPage k fetch.Missing) result says words ready cause r =
         let none = files-no-feed asked words.0 in
         let text = file_line (codes "missing") k in
-        of-line none text status.Missing result r (λ p. (inl words.0, record { file = k; wanted = words.1; first = λ told t. missing-is asked told k (says told t); line = plain-line asked pages k TookFirst (IsGapEnd NotHeld) text before after words.2 p })) (λ p. part-of-folder asked before after words.0) (λ told t. line-missing k (missing-is asked told k (says told t)) words.2 refl)
+        of-line none text status.Missing result r (λ p. (inl words.0, record { file = k; wanted = words.1; first = λ reported t. missing-is asked reported k (says reported t); line = plain-line asked pages k TookFirst (IsGapEnd NotHeld) text before after words.2 p })) (λ p. part-of-folder asked before after words.0) (λ reported t. line-missing k (missing-is asked reported k (says reported t)) words.2 refl)
     by-outcome other late later (NoPage k fetch.TooLong) result says words ready cause r =
         let none = files-no-feed asked words.0 in
         let text = file_line (codes "toolong") k in
-        of-line none text status.TooLong result r (λ p. (inl words.0, record { file = k; wanted = words.1; first = λ told t. too-long-is asked told k (says told t); line = plain-line asked pages k TookFirst (IsGapEnd OverLimit) text before after words.2 p })) (λ p. part-of-folder asked before after words.0) (λ told t. line-too-long k (too-long-is asked told k (says told t)) words.2 refl)
+        of-line none text status.TooLong result r (λ p. (inl words.0, record { file = k; wanted = words.1; first = λ reported t. too-long-is asked reported k (says reported t); line = plain-line asked pages k TookFirst (IsGapEnd OverLimit) text before after words.2 p })) (λ p. part-of-folder asked before after words.0) (λ reported t. line-too-long k (too-long-is asked reported k (says reported t)) words.2 refl)
     by-outcome other late later (NoPage k fetch.Memory) result says words ready cause r = of-nothing result r.0 r.1
     by-outcome other late later (Refused refusal) result says words ready cause r =
         let none = files-no-feed asked words.0 in
         let text = refused_line refusal in
-        of-line none text (status.Refused refusal) result r (λ p. (inl words.0, (λ told t. refused-is asked told refusal (says told t)), plain-line asked pages refusal.file TookAll (IsRefusedEnd refusal) text before after words.1 p, ready.1)) (λ p. part-of-folder asked before after words.0)
-        (λ told t. line-refusal refusal (refused-is asked told refusal (says told t)) words.1 refl)
+        of-line none text (status.Refused refusal) result r (λ p. (inl words.0, (λ reported t. refused-is asked reported refusal (says reported t)), plain-line asked pages refusal.file TookAll (IsRefusedEnd refusal) text before after words.1 p, ready.1)) (λ p. part-of-folder asked before after words.0)
+        (λ reported t. line-refusal refusal (refused-is asked reported refusal (says reported t)) words.1 refl)
     by-outcome other late later NoMemory result says words ready cause r = of-nothing result r.0 r.1
 
     -- the pages are those that whoever reports the outcome has
-    pub answers : (AsksForBlocks asked → ⊥) → (shown : Option Pages) → shown ≡ pages → (late : Type 0) → (late → failed) → (o : Outcome) (result : Status) → WhereTold pages (λ told. Says asked told o) → IsOfWords asked o → IsReportable o → (IsNoPage fetch.Failed o → failed)
+    pub answers : (AsksForBlocks asked → ⊥) → (shown : Option Pages) → shown ≡ pages → (late : Type 0) → (late → failed) → (o : Outcome) (result : Status) → WhereReported pages (λ reported. Says asked reported o) → IsOfWords asked o → IsReportable o → (IsNoPage fetch.Failed o → failed)
         → Reported shown late o before after result → Ends result
     answers other shown same late later o result says words ready cause r = let P : Option Pages → Type 0 = λ ps. Reported ps late o before after result in by-outcome other late later o result says words ready cause (subst P same r)

@@ -10,7 +10,7 @@ use Rattle.mari_publish.specs.declared.fault.TextFault.TheVariants as text_fault
 use Rattle.mari_day.specs.Files.{Gap}
 use Rattle.mari_day.specs.Files.Gap.{NotHeld, OverLimit}
 use Rattle.mari_day.specs.declared.files.TheConstants.{PUBLICATION}
-use Rattle.mari_feed.specs.Streams.{FeedTells, IsFeedFetch, TookAll, TookFirst}
+use Rattle.mari_feed.specs.Streams.{FeedStates, IsFeedFetch, TookAll, TookFirst}
 use Rattle.mari_feed.specs.declared.stream.FeedStop.{FeedStop}
 use Rattle.mari_feed.specs.declared.stream.FeedStop.TheVariants as stop
 use Rattle.mari_words.specs.Asked.{Asked}
@@ -23,7 +23,7 @@ use Rattle.mari_commands.specs.Commands.LacksPage.{NoFeed as lacks-feed, LongFee
 use Rattle.mari_commands.specs.Outcome.{IsReportable, MayWant, Reports, ReportsFeed, ReportsNoPage, ReportsParts, ReportsRefusal, text_outcome}
 use Rattle.mari_commands.specs.Outcome.Reports.{Printed, CutOff, Starved}
 use Rattle.mari_commands.specs.Printing.{file_line, refused_line}
-use Rattle.mari_commands.specs.Program.{Answers, IsCutOff, IsDone, IsStarved, TookFirstPart, TookOf, TookSummary, TookVerdict, WhereTold, gap_status, gap_word}
+use Rattle.mari_commands.specs.Program.{Answers, IsCutOff, IsDone, IsStarved, TookFirstPart, TookOf, TookSummary, TookVerdict, WhereReported, gap_status, gap_word}
 use Rattle.mari_commands.specs.Program.IsDone.{Fed as done-fed}
 use Rattle.mari_commands.specs.Program.IsCutOff.{FeedPart as cut-feed, FeedRefused as cut-refused, FeedFault as cut-fault, FeedGap as cut-gap}
 use Rattle.mari_commands.specs.Program.IsStarved.{Nothing as starved-before, FeedPart as starved-feed}
@@ -39,38 +39,38 @@ module _ (asked : Option Asked) (pages : Option Pages) (failed : Type 0) (before
   abbrev Ends : Status → Type 0
   Ends = Answers asked pages failed before after
 
-  -- the folder's publication, where the pages are told
+  -- the folder's publication, where the pages are reported
   abbrev page_in : Pages → Option (List ℕ)
-  page_in told = page_of told (publication_path folder)
+  page_in reported = page_of reported (publication_path folder)
 
-  fed : (told : Pages) (page : List ℕ) → page_in told ≡ Some page → HasFeed asked told page
-  fed told page held = record { folder = folder; feed = feed; held = held }
+  fed : (reported : Pages) (page : List ℕ) → page_in reported ≡ Some page → HasFeed asked reported page
+  fed reported page held = record { folder = folder; feed = feed; held = held }
 
-  abbrev Tells : Result (Unit {0}) FeedStop → Type 0
-  Tells end = WhereTold pages (λ told. FeedTells (page_in told) before between end)
+  abbrev States : Result (Unit {0}) FeedStop → Type 0
+  States end = WhereReported pages (λ reported. FeedStates (page_in reported) before between end)
 
   -- what was taken before a line, by how the printing ended
-  ahead-failed : (page : Option (List ℕ)) → FeedTells {T = Unit {0}} page before between (Err (stop.Fetch fetch.Failed)) → TookOf TookFirst page before between
+  ahead-failed : (page : Option (List ℕ)) → FeedStates {T = Unit {0}} page before between (Err (stop.Fetch fetch.Failed)) → TookOf TookFirst page before between
   ahead-failed None t = t
   ahead-failed (Some page) t = t
 
-  ahead-missing : (page : Option (List ℕ)) → FeedTells {T = Unit {0}} page before between (Err (stop.Fetch fetch.Missing)) → TookOf TookFirst page before between
+  ahead-missing : (page : Option (List ℕ)) → FeedStates {T = Unit {0}} page before between (Err (stop.Fetch fetch.Missing)) → TookOf TookFirst page before between
   ahead-missing None t = t
   ahead-missing (Some page) t = absurd t
 
-  ahead-long : (page : Option (List ℕ)) → FeedTells {T = Unit {0}} page before between (Err (stop.Fetch fetch.TooLong)) → TookOf TookFirst page before between
+  ahead-long : (page : Option (List ℕ)) → FeedStates {T = Unit {0}} page before between (Err (stop.Fetch fetch.TooLong)) → TookOf TookFirst page before between
   ahead-long None t = absurd t
   ahead-long (Some page) t = t.1
 
-  ahead-fault : (f : TextFault) (page : Option (List ℕ)) → FeedTells {T = Unit {0}} page before between (Err (stop.Text f)) → TookOf TookAll page before between
+  ahead-fault : (f : TextFault) (page : Option (List ℕ)) → FeedStates {T = Unit {0}} page before between (Err (stop.Text f)) → TookOf TookAll page before between
   ahead-fault f None t = absurd t
   ahead-fault f (Some page) t = t.1
 
-  first-fault : (f : TextFault) (page : Option (List ℕ)) → FeedTells {T = Unit {0}} page before between (Err (stop.Text f)) → TookOf TookFirst page before between
+  first-fault : (f : TextFault) (page : Option (List ℕ)) → FeedStates {T = Unit {0}} page before between (Err (stop.Text f)) → TookOf TookFirst page before between
   first-fault f None t = absurd t
   first-fault f (Some page) t = first-of-all page before between t.1
 
-  ahead-memory : (page : Option (List ℕ)) → FeedTells {T = Unit {0}} page before between (Err stop.Memory) → TookOf TookFirst page before between
+  ahead-memory : (page : Option (List ℕ)) → FeedStates {T = Unit {0}} page before between (Err stop.Memory) → TookOf TookFirst page before between
   ahead-memory None t = t
   ahead-memory (Some page) t = t
 
@@ -82,15 +82,15 @@ module _ (asked : Option Asked) (pages : Option Pages) (failed : Type 0) (before
   wanted = inr (inr (inl (folder, feed)), refl)
 
   -- there was no memory for more
-  starves : WhereTold pages (λ told. TookOf TookFirst (page_in told) before between) → after ≡ between → Ends status.Memory
-  starves took p = (λ told t. by told (page_in told) refl (took told t), inr (inr (inl (folder, feed))))
+  starves : WhereReported pages (λ reported. TookOf TookFirst (page_in reported) before between) → after ≡ between → Ends status.Memory
+  starves took p = (λ reported t. by reported (page_in reported) refl (took reported t), inr (inr (inl (folder, feed))))
     where
-      by : (told : Pages) (page : Option (List ℕ)) → page_in told ≡ page → TookOf TookFirst page before between → IsStarved asked told before after
-      by told None is t = starved-before (p ∙ t)
-      by told (Some page) is t = let P : Option (List ℕ) → Type 0 = λ x. TookFirst page before x in starved-feed page (fed told page is) (subst P (sym p) t)
+      by : (reported : Pages) (page : Option (List ℕ)) → page_in reported ≡ page → TookOf TookFirst page before between → IsStarved asked reported before after
+      by reported None is t = starved-before (p ∙ t)
+      by reported (Some page) is t = let P : Option (List ℕ) → Type 0 = λ x. TookFirst page before x in starved-feed page (fed reported page is) (subst P (sym p) t)
 
-  never-memory : (WhereTold pages (λ told. ⊥)) → Ends status.Memory
-  never-memory none = (λ told t. absurd (none told t), inr (inr (inl (folder, feed))))
+  never-memory : (WhereReported pages (λ reported. ⊥)) → Ends status.Memory
+  never-memory none = (λ reported t. absurd (none reported t), inr (inr (inl (folder, feed))))
 
   no-summary : TookSummary asked before after
   no-summary number e = absurd (cc)
@@ -98,61 +98,61 @@ module _ (asked : Option Asked) (pages : Option Pages) (failed : Type 0) (before
   no-verdict : TookVerdict asked before after
   no-verdict other e = absurd (cc)
 
-  done : (end : Unit {0}) → Tells (Ok end) → after ≡ between → Ends status.Done
-  done end tells p = (λ told t. by told (page_in told) refl (tells told t), no-summary, no-verdict)
+  done : (end : Unit {0}) → States (Ok end) → after ≡ between → Ends status.Done
+  done end states p = (λ reported t. by reported (page_in reported) refl (states reported t), no-summary, no-verdict)
     where
-      by : (told : Pages) (page : Option (List ℕ)) → page_in told ≡ page → FeedTells page before between (Ok end) → IsDone asked told before after
-      by told None is t = absurd t
-      by told (Some page) is (short, took) =
-          let P : Option (List ℕ) → Type 0 = λ x. IsDone asked told before x in
-          subst P (sym p) (done-fed (record { page = page; publication = took.publication; fed = fed told page is; short = short; read = took.is }) took)
+      by : (reported : Pages) (page : Option (List ℕ)) → page_in reported ≡ page → FeedStates page before between (Ok end) → IsDone asked reported before after
+      by reported None is t = absurd t
+      by reported (Some page) is (short, took) =
+          let P : Option (List ℕ) → Type 0 = λ x. IsDone asked reported before x in
+          subst P (sym p) (done-fed (record { page = page; publication = took.publication; fed = fed reported page is; short = short; read = took.is }) took)
 
-  cut : Tells (Err stop.Sink) → after ≡ between → Ends status.WriteFault
-  cut tells p = (λ told t. by told (page_in told) refl (tells told t), first-part)
+  cut : States (Err stop.Sink) → after ≡ between → Ends status.WriteFault
+  cut states p = (λ reported t. by reported (page_in reported) refl (states reported t), first-part)
     where
-      by : (told : Pages) (page : Option (List ℕ)) → page_in told ≡ page → FeedTells {T = Unit {0}} page before between (Err stop.Sink) → IsCutOff asked told failed before after
-      by told None is t = absurd t
-      by told (Some page) is t = let P : Option (List ℕ) → Type 0 = λ x. IsCutOff asked told failed before x in subst P (sym p) (cut-feed page (fed told page is) t)
+      by : (reported : Pages) (page : Option (List ℕ)) → page_in reported ≡ page → FeedStates {T = Unit {0}} page before between (Err stop.Sink) → IsCutOff asked reported failed before after
+      by reported None is t = absurd t
+      by reported (Some page) is t = let P : Option (List ℕ) → Type 0 = λ x. IsCutOff asked reported failed before x in subst P (sym p) (cut-feed page (fed reported page is) t)
 
   -- a call of the shelf failed
-  of-failed : (result : Status) → failed → Tells (Err (stop.Fetch fetch.Failed)) → Reports (file_line (codes "readfault") PUBLICATION) status.ReadFault between after result → Ends result
-  of-failed result why tells (Printed e p) =
-      subst Ends (sym e) (inr (inl (folder, feed)), (PUBLICATION, wanted, record { between = between; ahead = lines-ahead folder feed refl (λ told t. ahead-failed (page_in told) (tells told t)); took = p }))
-  of-failed result why tells (CutOff e p) =
-      let cut : Ends status.WriteFault = (λ told t. cut-fault why (record { between = between; ahead = lines-ahead folder feed refl (λ other u. let P : Pages → Type 0 = λ x. TookOf TookFirst (page_in x) before between in subst P (same told other u) (ahead-failed (page_in told) (tells told t))); began = p }), first-part) in
+  of-failed : (result : Status) → failed → States (Err (stop.Fetch fetch.Failed)) → Reports (file_line (codes "readfault") PUBLICATION) status.ReadFault between after result → Ends result
+  of-failed result why states (Printed e p) =
+      subst Ends (sym e) (inr (inl (folder, feed)), (PUBLICATION, wanted, record { between = between; ahead = lines-ahead folder feed refl (λ reported t. ahead-failed (page_in reported) (states reported t)); took = p }))
+  of-failed result why states (CutOff e p) =
+      let cut : Ends status.WriteFault = (λ reported t. cut-fault why (record { between = between; ahead = lines-ahead folder feed refl (λ other u. let P : Pages → Type 0 = λ x. TookOf TookFirst (page_in x) before between in subst P (same reported other u) (ahead-failed (page_in reported) (states reported t))); began = p }), first-part) in
       subst Ends (sym e) cut
     where
-      same : (told other : Pages) → Some told ≡ Some other → told ≡ other
-      same told other u = cc
-  of-failed result why tells (Starved e p) = subst Ends (sym e) (starves (λ told t. ahead-failed (page_in told) (tells told t)) p)
+      same : (reported other : Pages) → Some reported ≡ Some other → reported ≡ other
+      same reported other u = cc
+  of-failed result why states (Starved e p) = subst Ends (sym e) (starves (λ reported t. ahead-failed (page_in reported) (states reported t)) p)
 
   -- its page can't be had
-  missing-gap : (told : Pages) (page : Option (List ℕ)) → page_in told ≡ page → FeedTells {T = Unit {0}} page before between (Err (stop.Fetch fetch.Missing)) → LacksPage asked told PUBLICATION NotHeld
-  missing-gap told None is t = lacks-feed folder feed is refl refl
-  missing-gap told (Some page) is t = absurd t
+  missing-gap : (reported : Pages) (page : Option (List ℕ)) → page_in reported ≡ page → FeedStates {T = Unit {0}} page before between (Err (stop.Fetch fetch.Missing)) → LacksPage asked reported PUBLICATION NotHeld
+  missing-gap reported None is t = lacks-feed folder feed is refl refl
+  missing-gap reported (Some page) is t = absurd t
 
-  long-gap : (told : Pages) (page : Option (List ℕ)) → page_in told ≡ page → FeedTells {T = Unit {0}} page before between (Err (stop.Fetch fetch.TooLong)) → LacksPage asked told PUBLICATION OverLimit
-  long-gap told None is t = absurd t
-  long-gap told (Some page) is t = lacks-long page (fed told page is) t.0 refl refl
+  long-gap : (reported : Pages) (page : Option (List ℕ)) → page_in reported ≡ page → FeedStates {T = Unit {0}} page before between (Err (stop.Fetch fetch.TooLong)) → LacksPage asked reported PUBLICATION OverLimit
+  long-gap reported None is t = absurd t
+  long-gap reported (Some page) is t = lacks-long page (fed reported page is) t.0 refl refl
 
-  gap-ends : (gap : Gap) (line : WhereTold pages (λ told. LacksPage asked told PUBLICATION gap)) (took : WhereTold pages (λ told. TookOf TookFirst (page_in told) before between)) → after ≡ then_took between (file_line (gap_word gap) PUBLICATION) → Ends (gap_status gap)
+  gap-ends : (gap : Gap) (line : WhereReported pages (λ reported. LacksPage asked reported PUBLICATION gap)) (took : WhereReported pages (λ reported. TookOf TookFirst (page_in reported) before between)) → after ≡ then_took between (file_line (gap_word gap) PUBLICATION) → Ends (gap_status gap)
   gap-ends NotHeld line took p = (inr (inl (folder, feed)), record { file = PUBLICATION; wanted = wanted; first = line; line = record { between = between; ahead = lines-ahead folder feed refl took; took = p } })
   gap-ends OverLimit line took p = (inr (inl (folder, feed)), record { file = PUBLICATION; wanted = wanted; first = line; line = record { between = between; ahead = lines-ahead folder feed refl took; took = p } })
 
-  of-gap : (gap : Gap) (result : Status) → WhereTold pages (λ told. LacksPage asked told PUBLICATION gap) → WhereTold pages (λ told. TookOf TookFirst (page_in told) before between) → Reports (file_line (gap_word gap) PUBLICATION) (gap_status gap) between after result → Ends result
+  of-gap : (gap : Gap) (result : Status) → WhereReported pages (λ reported. LacksPage asked reported PUBLICATION gap) → WhereReported pages (λ reported. TookOf TookFirst (page_in reported) before between) → Reports (file_line (gap_word gap) PUBLICATION) (gap_status gap) between after result → Ends result
   of-gap gap result line took (Printed e p) = subst Ends (sym e) (gap-ends gap line took p)
   of-gap gap result line took (CutOff e p) =
-      let cut : Ends status.WriteFault = (λ told t. cut-gap gap (line told t) (record { between = between; ahead = lines-ahead folder feed refl (λ other u. let P : Pages → Type 0 = λ x. TookOf TookFirst (page_in x) before between in subst P (same told other u) (took told t)); began = p }), first-part) in
+      let cut : Ends status.WriteFault = (λ reported t. cut-gap gap (line reported t) (record { between = between; ahead = lines-ahead folder feed refl (λ other u. let P : Pages → Type 0 = λ x. TookOf TookFirst (page_in x) before between in subst P (same reported other u) (took reported t)); began = p }), first-part) in
       subst Ends (sym e) cut
     where
-      same : (told other : Pages) → Some told ≡ Some other → told ≡ other
-      same told other u = cc
+      same : (reported other : Pages) → Some reported ≡ Some other → reported ≡ other
+      same reported other u = cc
   of-gap gap result line took (Starved e p) = subst Ends (sym e) (starves took p)
 
   -- its text has a fault
-  fault-refused : (f : TextFault) (told : Pages) (page : Option (List ℕ)) → page_in told ≡ page → FeedTells {T = Unit {0}} page before between (Err (stop.Text f)) → IsRefused asked told (text_refusal f)
-  fault-refused f told None is t = absurd t
-  fault-refused f told (Some page) is t = refused-feed page f (record { fed = fed told page is; told = t.0 }) refl
+  fault-refused : (f : TextFault) (reported : Pages) (page : Option (List ℕ)) → page_in reported ≡ page → FeedStates {T = Unit {0}} page before between (Err (stop.Text f)) → IsRefused asked reported (text_refusal f)
+  fault-refused f reported None is t = absurd t
+  fault-refused f reported (Some page) is t = refused-feed page f (record { fed = fed reported page is; reported = t.0 }) refl
 
   -- its refusal names the publication
   text-file : (f : TextFault) → (text_refusal f).file ≡ PUBLICATION
@@ -161,39 +161,39 @@ module _ (asked : Option Asked) (pages : Option Pages) (failed : Type 0) (before
   text-file (text_fault.Truncated n) = refl
   text-file text_fault.Memory = refl
 
-  of-fault : (f : TextFault) (result : Status) → HasName (text_refusal f) → Tells (Err (stop.Text f)) → ReportsRefusal (text_refusal f) between after result → Ends result
-  of-fault f result name tells (Printed e p) =
-      subst Ends (sym e) (inr (inl (folder, feed)), (λ told t. fault-refused f told (page_in told) refl (tells told t)), record { between = between; ahead = lines-ahead folder feed (text-file f) (λ told t. ahead-fault f (page_in told) (tells told t)); took = p }, name)
-  of-fault f result name tells (CutOff e p) =
+  of-fault : (f : TextFault) (result : Status) → HasName (text_refusal f) → States (Err (stop.Text f)) → ReportsRefusal (text_refusal f) between after result → Ends result
+  of-fault f result name states (Printed e p) =
+      subst Ends (sym e) (inr (inl (folder, feed)), (λ reported t. fault-refused f reported (page_in reported) refl (states reported t)), record { between = between; ahead = lines-ahead folder feed (text-file f) (λ reported t. ahead-fault f (page_in reported) (states reported t)); took = p }, name)
+  of-fault f result name states (CutOff e p) =
       let cut : Ends status.WriteFault = (
-        λ told t.
-            cut-refused (text_refusal f) (fault-refused f told (page_in told) refl (tells told t))
-            (record { between = between; ahead = lines-ahead folder feed refl (λ other u. let P : Pages → Type 0 = λ x. TookOf TookAll (page_in x) before between in subst P (same told other u) (ahead-fault f (page_in told) (tells told t))); began = p }),
+        λ reported t.
+            cut-refused (text_refusal f) (fault-refused f reported (page_in reported) refl (states reported t))
+            (record { between = between; ahead = lines-ahead folder feed refl (λ other u. let P : Pages → Type 0 = λ x. TookOf TookAll (page_in x) before between in subst P (same reported other u) (ahead-fault f (page_in reported) (states reported t))); began = p }),
         first-part,
       ) in
       subst Ends (sym e) cut
     where
-      same : (told other : Pages) → Some told ≡ Some other → told ≡ other
-      same told other u = cc
-  of-fault f result name tells (Starved e p) = subst Ends (sym e) (starves (λ told t. first-fault f (page_in told) (tells told t)) p)
+      same : (reported other : Pages) → Some reported ≡ Some other → reported ≡ other
+      same reported other u = cc
+  of-fault f result name states (Starved e p) = subst Ends (sym e) (starves (λ reported t. first-fault f (page_in reported) (states reported t)) p)
 
-  no-wrapped : (page : Option (List ℕ)) → FeedTells {T = Unit {0}} page before between (Err (stop.Fetch fetch.Memory)) → ⊥
+  no-wrapped : (page : Option (List ℕ)) → FeedStates {T = Unit {0}} page before between (Err (stop.Fetch fetch.Memory)) → ⊥
   no-wrapped None t = t
   no-wrapped (Some page) t = t
 
-  of-end : (end : Result (Unit {0}) FeedStop) (result : Status) → (IsFeedFetch fetch.Failed end → failed) → Tells end → ReportsFeed end between after result → Ends result
-  of-end (Ok end) result cause tells (e, p) = subst Ends (sym e) (done end tells p)
-  of-end (Err (stop.Fetch fetch.Failed)) result cause tells r = of-failed result (cause refl) tells r
-  of-end (Err (stop.Fetch fetch.Missing)) result cause tells r = of-gap NotHeld result (λ told t. missing-gap told (page_in told) refl (tells told t)) (λ told t. ahead-missing (page_in told) (tells told t)) r
-  of-end (Err (stop.Fetch fetch.TooLong)) result cause tells r = of-gap OverLimit result (λ told t. long-gap told (page_in told) refl (tells told t)) (λ told t. ahead-long (page_in told) (tells told t)) r
-  of-end (Err (stop.Fetch fetch.Memory)) result cause tells (e, p) = subst Ends (sym e) (never-memory (λ told t. no-wrapped (page_in told) (tells told t)))
-  of-end (Err (stop.Text (text_fault.BadLine n))) result cause tells r = of-fault (text_fault.BadLine n) result (text-reportable (text_fault.BadLine n)).1 tells r
-  of-end (Err (stop.Text (text_fault.BadOrder n))) result cause tells r = of-fault (text_fault.BadOrder n) result (text-reportable (text_fault.BadOrder n)).1 tells r
-  of-end (Err (stop.Text (text_fault.Truncated n))) result cause tells r = of-fault (text_fault.Truncated n) result (text-reportable (text_fault.Truncated n)).1 tells r
-  of-end (Err (stop.Text text_fault.Memory)) result cause tells (e, p) = subst Ends (sym e) (starves (λ told t. first-fault text_fault.Memory (page_in told) (tells told t)) p)
-  of-end (Err stop.Sink) result cause tells (e, p) = subst Ends (sym e) (cut tells p)
-  of-end (Err stop.Memory) result cause tells (e, p) = subst Ends (sym e) (starves (λ told t. ahead-memory (page_in told) (tells told t)) p)
+  of-end : (end : Result (Unit {0}) FeedStop) (result : Status) → (IsFeedFetch fetch.Failed end → failed) → States end → ReportsFeed end between after result → Ends result
+  of-end (Ok end) result cause states (e, p) = subst Ends (sym e) (done end states p)
+  of-end (Err (stop.Fetch fetch.Failed)) result cause states r = of-failed result (cause refl) states r
+  of-end (Err (stop.Fetch fetch.Missing)) result cause states r = of-gap NotHeld result (λ reported t. missing-gap reported (page_in reported) refl (states reported t)) (λ reported t. ahead-missing (page_in reported) (states reported t)) r
+  of-end (Err (stop.Fetch fetch.TooLong)) result cause states r = of-gap OverLimit result (λ reported t. long-gap reported (page_in reported) refl (states reported t)) (λ reported t. ahead-long (page_in reported) (states reported t)) r
+  of-end (Err (stop.Fetch fetch.Memory)) result cause states (e, p) = subst Ends (sym e) (never-memory (λ reported t. no-wrapped (page_in reported) (states reported t)))
+  of-end (Err (stop.Text (text_fault.BadLine n))) result cause states r = of-fault (text_fault.BadLine n) result (text-reportable (text_fault.BadLine n)).1 states r
+  of-end (Err (stop.Text (text_fault.BadOrder n))) result cause states r = of-fault (text_fault.BadOrder n) result (text-reportable (text_fault.BadOrder n)).1 states r
+  of-end (Err (stop.Text (text_fault.Truncated n))) result cause states r = of-fault (text_fault.Truncated n) result (text-reportable (text_fault.Truncated n)).1 states r
+  of-end (Err (stop.Text text_fault.Memory)) result cause states (e, p) = subst Ends (sym e) (starves (λ reported t. first-fault text_fault.Memory (page_in reported) (states reported t)) p)
+  of-end (Err stop.Sink) result cause states (e, p) = subst Ends (sym e) (cut states p)
+  of-end (Err stop.Memory) result cause states (e, p) = subst Ends (sym e) (starves (λ reported t. ahead-memory (page_in reported) (states reported t)) p)
 
 pub feed-answers : (asked : Option Asked) (pages : Option Pages) (failed : Type 0) (before after : Option (List ℕ)) (late : Type 0) → (late → failed) → (folder : List ℕ) → asked ≡ Some (Feed folder) → (result : Status) → ReportsParts pages late folder before after result
     → Answers asked pages failed before after result
-feed-answers asked pages failed before after late later folder feed result r = of-end asked pages failed before after folder feed r.between r.end result (λ h. later (r.cause h)) r.tells r.reports
+feed-answers asked pages failed before after late later folder feed result r = of-end asked pages failed before after folder feed r.between r.end result (λ h. later (r.cause h)) r.states r.reports

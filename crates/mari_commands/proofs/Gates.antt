@@ -23,7 +23,7 @@ use Rattle.mari_remain.specs.Blocks.{PastBlock}
 use Rattle.mari_remain.specs.Lists.{bids_of_quarter, run_numbered}
 use Rattle.mari_remain.specs.RunMarket.{gated_left, market_at, taken_before}
 use Rattle.mari_remain.proofs.Places.{places-filter}
-use Rattle.mari_progress.specs.Behind.{before_of, market_behind, run_behind}
+use Rattle.mari_progress.specs.After.{before_of, market_after, run_after}
 use Rattle.mari_day.specs.Day.{IsDay}
 use Rattle.mari_day.specs.Reading.{HasBooks}
 use Rattle.mari_scenario.specs.Accepted.{AreAccepted}
@@ -88,4 +88,4 @@ generated-published number nodes books p a h most is = none-out p.blocks out
     out : (k : ℕ) (heading : Heading) (count : ℕ) → slice_get p.blocks k ≡ Some (block.Unpublished heading count) → ⊥
     out k heading count e =
         let before = take k p.blocks in
-        not-larger (market_behind books before).market nodes (gates-few (before_of books before) (run_behind before)) most (is.part.each k (block.Unpublished heading count) e).is_spent.larger
+        not-larger (market_after books before).market nodes (gates-few (before_of books before) (run_after before)) most (is.part.each k (block.Unpublished heading count) e).is_spent.larger

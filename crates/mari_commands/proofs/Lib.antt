@@ -14,6 +14,6 @@ pub mod Naming
 pub mod Reporting
 pub mod ShortWords
 pub mod Summaries
-pub mod Telling
+pub mod Stating
 pub mod valid
 pub mod Causes

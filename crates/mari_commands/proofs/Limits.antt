@@ -21,7 +21,7 @@ IsWithin (Split folder nodes workers) = IsBudget nodes × IsWorkerCount workers
 IsWithin (Value folder more) = (1 ≤ more) × (more ≤ MOST_RAISE)
 IsWithin (Blocks folder first last nodes workers) = (first ≤ last) × (last ≤ MOST_QUARTERS) × IsBudget nodes × IsWorkerCount workers
 
--- what was there where a step behind it gave something
+-- what was there where a step after it gave something
 pub record Step (A B : Type 0) (o : Option A) (f : A → Option B) (y : B) : Type 0 where
   pub x : A
   pub is : o ≡ Some x

@@ -21,19 +21,19 @@ use Rattle.mari_commands.specs.declared.outcome.Job.{Job}
 use Rattle.mari_commands.specs.declared.outcome.Way.{Way}
 use Rattle.mari_commands.specs.declared.outcome.Way.TheVariants.{Whole, Islands}
 use Rattle.mari_commands.specs.declared.outcome.Outcome.TheVariants.{Day, Values, Text, Invalid, NoPage, Refused}
-use Rattle.mari_commands.specs.Commands.{AreCleared, AsksForFeed, AsksForFiles, AsksForLines, AsksToCheck, HasPublication, IsAlone, IsInvalid, IsReadable, IsRefused, LacksPage, Prints, ReadsFolder, TellsValues, fetch_of, publication_path}
+use Rattle.mari_commands.specs.Commands.{AreCleared, AsksForFeed, AsksForFiles, AsksForLines, AsksToCheck, HasPublication, IsAlone, IsInvalid, IsReadable, IsRefused, LacksPage, Prints, ReadsFolder, StatesValues, fetch_of, publication_path}
 use Rattle.mari_commands.specs.Commands.IsRefused.{OfFiles as refused-files, OfText as refused-text}
 use Rattle.mari_commands.specs.Commands.RefusesFiles.{OfBooks as refuses-books, OfVersion as refuses-version}
 use Rattle.mari_commands.specs.Commands.LacksPage.{OfBooks as lacks-book, NoPublication as lacks-publication, LongPublication as lacks-long}
 use Rattle.mari_commands.specs.Commands.IsInvalid.{OfCheck as invalid-checked}
 use Rattle.mari_commands.specs.Commands.Prints.{Valid as prints-valid, Migrated as prints-migrated, Generated as prints-generated}
-use Rattle.mari_commands.specs.Outcome.{AsksForText, CheckTells, Says}
+use Rattle.mari_commands.specs.Outcome.{AsksForText, CheckStates, Says}
 use Rattle.mari_commands.specs.Outcome.Says.{OfUsage, OfRefusal, OfGap, OfClear, OfCheck, OfMigrate, OfGenerate, OfValues, OfFeed, OfBlocks, Fails, Starves}
 use Rattle.mari_commands.specs.Printing.{usage_line, valid_line}
 use Rattle.mari_commands.specs.Program.{TookFirstPart, TookLine, TookSummary, TookVerdict}
 use Rattle.mari_commands.specs.Program.TookAhead.{Nothing as nothing-ahead}
 use Rattle.mari_commands.specs.Splits.{AreSplit, command_by}
-use Rattle.mari_commands.proofs.Telling.{check-no-lines}
+use Rattle.mari_commands.proofs.Stating.{check-no-lines}
 use Rattle.mari_commands.proofs.Folder.{no_other, reads, reads_no_folder, reads_none}
 
 module _ (asked : Option Asked) where
@@ -47,8 +47,8 @@ module _ (asked : Option Asked) where
 
   -- a text that is printed where all is well
   checked-text : (pages : Pages) (folder : List ℕ) (books : Books) (t : Vec ℕ) (page : Option (List ℕ)) → asked ≡ Some (Check folder) → HasBooks pages folder books → page_of pages (publication_path folder) ≡ page
-      → CheckTells books page (Text t) → Prints asked pages t.items
-  checked-text pages folder books t None c g h (n, u, tells, spelled) = absurd tells
+      → CheckStates books page (Text t) → Prints asked pages t.items
+  checked-text pages folder books t None c g h (n, u, states, spelled) = absurd states
   checked-text pages folder books t (Some page) c g h (n, u, (short, (p, read, (valid, published, unpublished))), spelled) =
       prints-valid (readable pages folder books page p c g h short read) valid (spelled ∙ ap (λ (m : ℕ). valid_line m u) published ∙ ap (λ (m : ℕ). valid_line (published_in p.blocks) m) unpublished)
 
@@ -57,7 +57,7 @@ module _ (asked : Option Asked) where
   text-prints pages t (OfRefusal folder refusal r h f) = absurd (cc)
   text-prints pages t (OfGap folder n g r h f) = absurd (cc)
   text-prints pages t (OfClear folder job e h f) = absurd (cc)
-  text-prints pages t (OfCheck folder books e h tells) = checked-text pages folder books t (page_of pages (publication_path folder)) e h refl tells
+  text-prints pages t (OfCheck folder books e h states) = checked-text pages folder books t (page_of pages (publication_path folder)) e h refl states
   text-prints pages t (OfMigrate folder part books e h (first, spelled)) =
       prints-migrated (record { folder = folder; part = part; migrate = e; books = books; gives = h; first = first }) spelled
   text-prints pages t (OfGenerate number e is) = prints-generated number e is
@@ -69,8 +69,8 @@ module _ (asked : Option Asked) where
 
   -- a fault of the publication that is checked
   checked-invalid : (pages : Pages) (folder : List ℕ) (books : Books) (run number : ℕ) (page : Option (List ℕ)) → asked ≡ Some (Check folder) → HasBooks pages folder books → page_of pages (publication_path folder) ≡ page
-      → CheckTells books page (Invalid run number) → IsInvalid asked pages run number
-  checked-invalid pages folder books run number None c g h tells = absurd tells
+      → CheckStates books page (Invalid run number) → IsInvalid asked pages run number
+  checked-invalid pages folder books run number None c g h states = absurd states
   checked-invalid pages folder books run number (Some page) c g h (short, (p, read, first)) = invalid-checked (readable pages folder books page p c g h short read) first
 
   pub invalid-is : (pages : Pages) (run number : ℕ) → Says asked pages (Invalid run number) → IsInvalid asked pages run number
@@ -78,7 +78,7 @@ module _ (asked : Option Asked) where
   invalid-is pages run number (OfRefusal folder refusal r h f) = absurd (cc)
   invalid-is pages run number (OfGap folder n g r h f) = absurd (cc)
   invalid-is pages run number (OfClear folder job e h f) = absurd (cc)
-  invalid-is pages run number (OfCheck folder books e h tells) = checked-invalid pages folder books run number (page_of pages (publication_path folder)) e h refl tells
+  invalid-is pages run number (OfCheck folder books e h states) = checked-invalid pages folder books run number (page_of pages (publication_path folder)) e h refl states
   invalid-is pages run number (OfMigrate folder part books e h bad) = absurd bad
   invalid-is pages run number (OfGenerate n e bad) = absurd bad
   invalid-is pages run number (OfValues folder more books e h bad) = absurd bad
@@ -89,9 +89,9 @@ module _ (asked : Option Asked) where
 
   -- a refusal
   checked-refused : (pages : Pages) (folder : List ℕ) (books : Books) (refusal : Refusal) (page : Option (List ℕ)) → asked ≡ Some (Check folder) → HasBooks pages folder books → page_of pages (publication_path folder) ≡ page
-      → CheckTells books page (Refused refusal) → IsRefused asked pages refusal
-  checked-refused pages folder books refusal None c g h (f, told, is) = absurd told
-  checked-refused pages folder books refusal (Some page) c g h (f, told, is) = refused-text page f (record { books = books; checked = publication pages folder books page c g h; told = told }) is
+      → CheckStates books page (Refused refusal) → IsRefused asked pages refusal
+  checked-refused pages folder books refusal None c g h (f, reported, is) = absurd reported
+  checked-refused pages folder books refusal (Some page) c g h (f, reported, is) = refused-text page f (record { books = books; checked = publication pages folder books page c g h; reported = reported }) is
 
   pub refused-is : (pages : Pages) (refusal : Refusal) → Says asked pages (Refused refusal) → IsRefused asked pages refusal
   refused-is pages refusal (OfUsage e f) = absurd (cc)
@@ -101,7 +101,7 @@ module _ (asked : Option Asked) where
       subst P same (refused-files (refuses-books folder reads h))
   refused-is pages refusal (OfGap folder n g r h f) = absurd (cc)
   refused-is pages refusal (OfClear folder job e h f) = absurd (cc)
-  refused-is pages refusal (OfCheck folder books e h tells) = checked-refused pages folder books refusal (page_of pages (publication_path folder)) e h refl tells
+  refused-is pages refusal (OfCheck folder books e h states) = checked-refused pages folder books refusal (page_of pages (publication_path folder)) e h refl states
   refused-is pages refusal (OfMigrate folder part books e h (again, is)) = refused-files (refuses-version folder part books e h again is)
   refused-is pages refusal (OfGenerate n e bad) = absurd bad
   refused-is pages refusal (OfValues folder more books e h bad) = absurd bad
@@ -124,12 +124,12 @@ module _ (asked : Option Asked) where
   gap-is pages folder n k OverLimit NotHeld r has same f = absurd (cc)
 
   checked-too-long : (pages : Pages) (folder : List ℕ) (books : Books) (k : ℕ) (page : Option (List ℕ)) → asked ≡ Some (Check folder) → HasBooks pages folder books → page_of pages (publication_path folder) ≡ page
-      → CheckTells books page (NoPage k fetch.TooLong) → LacksPage asked pages k OverLimit
+      → CheckStates books page (NoPage k fetch.TooLong) → LacksPage asked pages k OverLimit
   checked-too-long pages folder books k None c g h (long, number) = absurd long
   checked-too-long pages folder books k (Some page) c g h (long, number) = lacks-long books page (publication pages folder books page c g h) long number refl
 
   checked-missing : (pages : Pages) (folder : List ℕ) (books : Books) (k : ℕ) (page : Option (List ℕ)) → asked ≡ Some (Check folder) → HasBooks pages folder books → page_of pages (publication_path folder) ≡ page
-      → CheckTells books page (NoPage k fetch.Missing) → LacksPage asked pages k NotHeld
+      → CheckStates books page (NoPage k fetch.Missing) → LacksPage asked pages k NotHeld
   checked-missing pages folder books k None c g h (none, number) = lacks-publication folder books c g h number refl
   checked-missing pages folder books k (Some page) c g h (none, number) = absurd none
 
@@ -138,7 +138,7 @@ module _ (asked : Option Asked) where
   missing-is pages k (OfRefusal folder r reads h f) = absurd (cc)
   missing-is pages k (OfGap folder n g r h f) = gap-is pages folder n k g NotHeld r h f (cc)
   missing-is pages k (OfClear folder job e h f) = absurd (cc)
-  missing-is pages k (OfCheck folder books e h tells) = checked-missing pages folder books k (page_of pages (publication_path folder)) e h refl tells
+  missing-is pages k (OfCheck folder books e h states) = checked-missing pages folder books k (page_of pages (publication_path folder)) e h refl states
   missing-is pages k (OfMigrate folder part books e h bad) = absurd bad
   missing-is pages k (OfGenerate n e bad) = absurd bad
   missing-is pages k (OfValues folder more books e h bad) = absurd bad
@@ -152,7 +152,7 @@ module _ (asked : Option Asked) where
   too-long-is pages k (OfRefusal folder r reads h f) = absurd (cc)
   too-long-is pages k (OfGap folder n g r h f) = gap-is pages folder n k g OverLimit r h f (cc)
   too-long-is pages k (OfClear folder job e h f) = absurd (cc)
-  too-long-is pages k (OfCheck folder books e h tells) = checked-too-long pages folder books k (page_of pages (publication_path folder)) e h refl tells
+  too-long-is pages k (OfCheck folder books e h states) = checked-too-long pages folder books k (page_of pages (publication_path folder)) e h refl states
   too-long-is pages k (OfMigrate folder part books e h bad) = absurd bad
   too-long-is pages k (OfGenerate n e bad) = absurd bad
   too-long-is pages k (OfValues folder more books e h bad) = absurd bad
@@ -196,7 +196,7 @@ module _ (asked : Option Asked) where
   fails-is pages k (OfRefusal folder r reads h f) = (folder, reads)
   fails-is pages k (OfGap folder n g r h f) = (folder, r)
   fails-is pages k (OfClear folder job e h f) = absurd (cc)
-  fails-is pages k (OfCheck folder books e h tells) = (folder, reads asked (Check folder) folder e refl)
+  fails-is pages k (OfCheck folder books e h states) = (folder, reads asked (Check folder) folder e refl)
   fails-is pages k (OfMigrate folder part books e h bad) = absurd bad
   fails-is pages k (OfGenerate n e bad) = absurd bad
   fails-is pages k (OfValues folder more books e h bad) = absurd bad
@@ -259,7 +259,7 @@ module _ (asked : Option Asked) where
   plain-line pages file Took Is line before after alone p = record { between = before; ahead = nothing-ahead alone refl; took = p }
 
   -- the values of limits
-  pub values-is : (pages : Pages) (v : Valued) → Says asked pages (Values v) → TellsValues asked pages v.end v.text
+  pub values-is : (pages : Pages) (v : Valued) → Says asked pages (Values v) → StatesValues asked pages v.end v.text
   values-is pages v (OfUsage e f) = absurd (cc)
   values-is pages v (OfRefusal folder r reads h f) = absurd (cc)
   values-is pages v (OfGap folder n g r h f) = absurd (cc)
@@ -267,7 +267,7 @@ module _ (asked : Option Asked) where
   values-is pages v (OfCheck folder books e h bad) = absurd bad
   values-is pages v (OfMigrate folder part books e h bad) = absurd bad
   values-is pages v (OfGenerate n e bad) = absurd bad
-  values-is pages v (OfValues folder more books e h tells) = record { folder = folder; more = more; value = e; books = books; gives = h; tells = tells.0 }
+  values-is pages v (OfValues folder more books e h states) = record { folder = folder; more = more; value = e; books = books; gives = h; states = states.0 }
   values-is pages v (OfFeed folder e f) = absurd (cc)
   values-is pages v (OfBlocks quarters e f) = absurd (cc)
   values-is pages v (Fails x n y f) = absurd (cc)

@@ -12,7 +12,7 @@ use Rattle.mari_io.proofs.Taken.{took_both}
 use Rattle.mari_units.specs.declared.faults.Refusal.{Refusal}
 use Rattle.mari_publish.specs.declared.fault.TextFault.{TextFault}
 use Rattle.mari_publish.specs.declared.fault.TextFault.TheVariants as text_fault
-use Rattle.mari_feed.specs.Streams.{FeedTells}
+use Rattle.mari_feed.specs.Streams.{FeedStates}
 use Rattle.mari_feed.specs.declared.stream.FeedStop.TheVariants as stop
 use Rattle.mari_feed.proofs.Piecemeal.{took_none}
 use Rattle.mari_commands.specs.declared.status.Status.{Status}
@@ -48,7 +48,7 @@ same_refusal (text_fault.BadOrder n) refusal before after result e r = let same 
 same_refusal (text_fault.Truncated n) refusal before after result e r = let same : refusal ≡ text_refusal (text_fault.Truncated n) = cc in subst (λ x. ReportsRefusal x before after result) same r
 same_refusal text_fault.Memory refusal before after result e r = absurd cc
 
--- a first part of a text is one of the text with a line behind it
+-- a first part of a text is one of the text with a line after it
 pub cut_before : (before after : Option (List ℕ)) (text line : List ℕ) → TookPart before after text → TookPart before after (text ++ line)
 cut_before before after text line cut = elim (cases_lt (length text) cut.0) [
   | inl over ↦ (length text, cut.1 ∙ ap (then_took before) (take_all cut.0 text (omega (arith, over)) ∙ sym (take-append_seam text line)))
@@ -56,11 +56,11 @@ cut_before before after text line cut = elim (cases_lt (length text) cut.0) [
 ]
 
 -- and so is the text with a first part of the line
-pub cut_behind : (before between after : Option (List ℕ)) (text line : List ℕ) → between ≡ then_took before text → TookPart between after line → TookPart before after (text ++ line)
-cut_behind before between after text line whole cut =
+pub cut_after : (before between after : Option (List ℕ)) (text line : List ℕ) → between ≡ then_took before text → TookPart between after line → TookPart before after (text ++ line)
+cut_after before between after text line whole cut =
     (length text + cut.0, took_both before between after text (take cut.0 line) whole cut.1 ∙ ap (then_took before) (sym (take-append-add text line cut.0)))
 
 -- nothing is printed yet of a page
-pub nothing_fed : (page : Option (List ℕ)) (before : Option (List ℕ)) → FeedTells {T = Unit {0}} page before before (Err stop.Memory)
+pub nothing_fed : (page : Option (List ℕ)) (before : Option (List ℕ)) → FeedStates {T = Unit {0}} page before before (Err stop.Memory)
 nothing_fed None before = refl
 nothing_fed (Some page) before = took_none page before before refl

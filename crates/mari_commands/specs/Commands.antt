@@ -18,11 +18,11 @@ use Rattle.mari_day.specs.Files.{Gap, file_named, file_number, path_in}
 use Rattle.mari_day.specs.Files.Gap.{NotHeld, OverLimit}
 use Rattle.mari_day.specs.Reading.{HasBooks, HasGap, HasRefusal}
 use Rattle.mari_check.specs.Day.{IsFirstFault, IsValidPublication}
-use Rattle.mari_publish.specs.Paged.{IsToldFault, IsTooLong}
+use Rattle.mari_publish.specs.Paged.{IsReportedFault, IsTooLong}
 use Rattle.mari_capacity.specs.declared.ending.ValueEnd.{ValueEnd}
 use Rattle.mari_capacity.specs.declared.ending.ValueEnd.TheVariants as values
 use Rattle.mari_capacity.specs.Ends.{IsEndOf}
-use Rattle.mari_capacity.specs.Streams.{ValueTells}
+use Rattle.mari_capacity.specs.Streams.{ValueStates}
 use Rattle.mari_words.specs.Asked.{Asked}
 use Rattle.mari_words.specs.Asked.Asked.{Blocks, Clear, Check, Generate, Migrate, Feed, Split, Value}
 use Rattle.mari_words.specs.declared.command.FilePart.{FilePart}
@@ -126,13 +126,13 @@ pub record EndsValues (asked : Option Asked) (pages : Pages) (end : ValueEnd) : 
   pub ends : IsEndOf books (page_of pages (publication_path folder)) end
 
 -- and these are the lines that are printed where it ends so
-pub record TellsValues (asked : Option Asked) (pages : Pages) (end : ValueEnd) (lines : List ℕ) : Type 0 where
+pub record StatesValues (asked : Option Asked) (pages : Pages) (end : ValueEnd) (lines : List ℕ) : Type 0 where
   pub folder : List ℕ
   pub more : ℕ
   pub value : asked ≡ Some (Value folder more)
   pub books : Books
   pub gives : HasBooks pages folder books
-  pub tells : ValueTells books more (page_of pages (publication_path folder)) lines end
+  pub states : ValueStates books more (page_of pages (publication_path folder)) lines end
 
 -- the publication is refused at a line, by the number of a check
 abbrev pub text_refusal_at : (line number : ℕ) → Refusal
@@ -156,16 +156,16 @@ pub data RefusesFiles (asked : Option Asked) (pages : Pages) (refusal : Refusal)
   OfVersion : (folder : List ℕ) (part : FilePart) (books : Books) → asked ≡ Some (Migrate folder part) → HasBooks pages folder books
       → books.limits ≢ None → refusal ≡ already_two → RefusesFiles asked pages refusal
 
--- the text of the publication that is checked has a fault, which is told
+-- the text of the publication that is checked has a fault, which is reported
 pub record RefusesText (asked : Option Asked) (pages : Pages) (page : List ℕ) (fault : TextFault) : Type 0 where
   pub books : Books
   pub checked : HasPublication asked pages books page
-  pub told : IsToldFault page fault
+  pub reported : IsReportedFault page fault
 
--- the text of the publication that is printed as a feed has a fault, which is told
+-- the text of the publication that is printed as a feed has a fault, which is reported
 pub record RefusesFeed (asked : Option Asked) (pages : Pages) (page : List ℕ) (fault : TextFault) : Type 0 where
   pub fed : HasFeed asked pages page
-  pub told : IsToldFault page fault
+  pub reported : IsReportedFault page fault
 
 -- what is refused: the market files, or the text of the publication that is checked, printed as a feed or valued
 pub data IsRefused (asked : Option Asked) (pages : Pages) (refusal : Refusal) : Type 0 where
@@ -212,7 +212,7 @@ pub data Prints (asked : Option Asked) (pages : Pages) (text : List ℕ) : Type 
       → text ≡ valid_line (published_in is.publication.blocks) (unpublished_in is.publication.blocks) → Prints asked pages text
   Migrated : (is : IsMigratable asked pages) → text ≡ page_of_part is.part is.books → Prints asked pages text
   Generated : (number : ℕ) → asked ≡ Some (Generate number) → IsGenerated number text → Prints asked pages text
-  Valued : (published unpublished : ℕ) → TellsValues asked pages (values.Valid published unpublished) text → Prints asked pages text
+  Valued : (published unpublished : ℕ) → StatesValues asked pages (values.Valid published unpublished) text → Prints asked pages text
 
 -- the publication that is checked has a fault: the first run that has one, and its least; or the one that is valued has
 -- it, and its text has none before

@@ -18,7 +18,7 @@ use Rattle.mari_commands.specs.Commands.{AreCleared, IsClearable}
 
 -- the text of a day of the folder that the words ask to clear: its pages are held and give books, and the text is that
 -- of their day within the budget of nodes, with a block for each run, in order. Each published run has a first
--- activation of its market behind the blocks that are printed before, with its welfare, the prices of its zones, its
+-- activation of its market after the blocks that are printed before, with its welfare, the prices of its zones, its
 -- ledger, and a certificate tree that holds for its gate word; a run that isn't published has a search tree larger than
 -- the budget. Over the day no bid runs above its offer, and a gated one in at most one block; the operators' nets sum
 -- to 0 in each block and in the totals, and no rent is negative. The checker accepts the day. All of its runs are

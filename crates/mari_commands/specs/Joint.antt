@@ -19,7 +19,7 @@ use Rattle.mari_commands.specs.declared.status.Status.{Status}
 use Rattle.mari_commands.specs.declared.status.Status.TheVariants.{Done, Unpublished, Usage, Refused, ReadFault, WriteFault, Memory, Invalid, Missing, TooLong}
 use Rattle.mari_commands.specs.Printing.{file_line, refused_line}
 use Rattle.mari_commands.specs.Refusals.{HasName}
-use Rattle.mari_commands.specs.Program.{Answers, WhereTold, gap_word}
+use Rattle.mari_commands.specs.Program.{Answers, WhereReported, gap_word}
 
 -- ---- what each answer says
 
@@ -34,7 +34,7 @@ module _ (folder : List ℕ) (first last nodes : ℕ) where
   pub record TookQuartersGap (pages : Option Pages) (gap : Gap) (before after : Option (List ℕ)) : Type 0 where
     pub file : ℕ
     pub named : IsQuartersFile file
-    pub lacks : WhereTold pages (λ told. HasQuartersGap told folder file gap)
+    pub lacks : WhereReported pages (λ reported. HasQuartersGap reported folder file gap)
     pub taken : after ≡ then_took before (file_line (gap_word gap) file)
 
   -- a write failed: a first part was taken of the text, or of the line of a refusal, of a page that can't be had, or of a
@@ -47,14 +47,14 @@ module _ (folder : List ℕ) (first last nodes : ℕ) where
 
   -- what each answer says; out of memory nothing is taken
   abbrev pub BlocksAnswers : Option Pages → (failed : Type 0) → (before after : Option (List ℕ)) → Status → Type 0
-  BlocksAnswers pages failed before after Done = WhereTold pages (λ told. TookQuarters told true before after)
-  BlocksAnswers pages failed before after Unpublished = WhereTold pages (λ told. TookQuarters told false before after)
+  BlocksAnswers pages failed before after Done = WhereReported pages (λ reported. TookQuarters reported true before after)
+  BlocksAnswers pages failed before after Unpublished = WhereReported pages (λ reported. TookQuarters reported false before after)
   BlocksAnswers pages failed before after (Refused refusal) =
-      WhereTold pages (λ told. HasQuartersRefusal told folder first last refusal) × IsQuartersFile refusal.file × HasName refusal × (after ≡ then_took before (refused_line refusal))
+      WhereReported pages (λ reported. HasQuartersRefusal reported folder first last refusal) × IsQuartersFile refusal.file × HasName refusal × (after ≡ then_took before (refused_line refusal))
   BlocksAnswers pages failed before after ReadFault = (file : ℕ) × IsQuartersFile file × (after ≡ then_took before (file_line (codes "readfault") file))
   BlocksAnswers pages failed before after Missing = TookQuartersGap pages NotHeld before after
   BlocksAnswers pages failed before after TooLong = TookQuartersGap pages OverLimit before after
-  BlocksAnswers pages failed before after WriteFault = WhereTold pages (λ told. AreCutOff told failed before after)
+  BlocksAnswers pages failed before after WriteFault = WhereReported pages (λ reported. AreCutOff reported failed before after)
   BlocksAnswers pages failed before after Memory = after ≡ before
   BlocksAnswers pages failed before after Usage = ⊥
   BlocksAnswers pages failed before after (Invalid run fault) = ⊥

@@ -20,13 +20,13 @@ use Rattle.mari_day.specs.Reading.{HasBooks, HasGap, HasRefusal, IsFetchFault}
 use Rattle.mari_day.specs.declared.reading.BooksFault.{BooksFault}
 use Rattle.mari_day.specs.declared.reading.BooksFault.TheVariants as why
 use Rattle.mari_blocks.specs.declared.clearing.JointText.{JointText}
-use Rattle.mari_quarters.specs.Quarters.{NamesQuartersFile, QuartersTell}
+use Rattle.mari_quarters.specs.Quarters.{NamesQuartersFile, QuartersReport}
 use Rattle.mari_units.specs.declared.limits.TheConstants.{MOST_QUARTERS}
 use Rattle.mari_check.specs.declared.verdict.Verdict.{Verdict}
 use Rattle.mari_check.specs.declared.verdict.Verdict.TheVariants as verdict
-use Rattle.mari_check.specs.Streams.{StreamTells}
+use Rattle.mari_check.specs.Streams.{StreamStates}
 use Rattle.mari_check.specs.declared.stream.StreamFault.TheVariants as stream
-use Rattle.mari_feed.specs.Streams.{FeedTells, IsFeedFetch}
+use Rattle.mari_feed.specs.Streams.{FeedStates, IsFeedFetch}
 use Rattle.mari_feed.specs.declared.stream.FeedStop.{FeedStop}
 use Rattle.mari_feed.specs.declared.stream.FeedStop.TheVariants as stop
 use Rattle.mari_words.specs.Asked.{Asked}
@@ -34,7 +34,7 @@ use Rattle.mari_words.specs.Asked.Asked.{Blocks, Clear, Check, Generate, Migrate
 use Rattle.mari_capacity.specs.declared.ending.ValueEnd.{ValueEnd}
 use Rattle.mari_capacity.specs.declared.ending.Valued.{Valued}
 use Rattle.mari_capacity.specs.Ends.{IsEndOf}
-use Rattle.mari_capacity.specs.Streams.{EndsAs, IsPageEnd, IsWrapped, ValueTells}
+use Rattle.mari_capacity.specs.Streams.{EndsAs, IsPageEnd, IsWrapped, ValueStates}
 use Rattle.mari_market.specs.Clearing.{IsBudget, IsWorkerCount}
 use Rattle.mari_commands.specs.declared.outcome.Job.{Job}
 use Rattle.mari_commands.specs.declared.outcome.JointJob.{JointJob}
@@ -176,12 +176,12 @@ ReportsFeed (Err stop.Sink) before after result = (result ≡ status.WriteFault)
 ReportsFeed (Err stop.Memory) before after result = (result ≡ status.Memory) × (after ≡ before)
 
 -- how the feed of a folder is reported: lines of the publication's parts are printed, as its printing ended, and then
--- the line of the status; that a call of the shelf failed is told only where one did
+-- the line of the status; that a call of the shelf failed is reported only where one did
 pub record ReportsParts (pages : Option Pages) (failed : Type 0) (folder : List ℕ) (before after : Option (List ℕ)) (result : Status) : Type 0 where
   pub between : Option (List ℕ)
   pub end : Result (Unit {0}) FeedStop
   pub cause : IsFeedFetch fetch.Failed end → failed
-  pub tells : (told : Pages) → pages ≡ Some told → FeedTells (page_of told (publication_path folder)) before between end
+  pub states : (reported : Pages) → pages ≡ Some reported → FeedStates (page_of reported (publication_path folder)) before between end
   pub reports : ReportsFeed end between after result
 
 -- how the values of limits are reported by how they end: the lines are printed, and then the line of the status
@@ -206,7 +206,7 @@ ReportsQuarters (Err why.Memory) before after result = (result ≡ status.Memory
 -- only where one did
 pub record ReportsBlocks (pages : Option Pages) (failed : Type 0) (quarters : JointJob) (before after : Option (List ℕ)) (result : Status) : Type 0 where
   pub given : Result JointText BooksFault
-  pub tells : (told : Pages) → pages ≡ Some told → QuartersTell told (string_bytes quarters.folder) quarters.first quarters.last quarters.nodes given
+  pub states : (reported : Pages) → pages ≡ Some reported → QuartersReport reported (string_bytes quarters.folder) quarters.first quarters.last quarters.nodes given
   pub file : NamesQuartersFile given
   pub sayable : IsSayable given
   pub cause : IsFetchFault fetch.Failed given → failed
@@ -264,37 +264,37 @@ text_outcome (text_fault.Truncated n) = Refused (text_refusal (text_fault.Trunca
 text_outcome text_fault.Memory = NoMemory
 
 -- what comes of the verdict on a publication
-abbrev pub IsToldVerdict : Verdict → Outcome → Type 0
-IsToldVerdict (verdict.Valid published unpublished) (Text text) = text.items ≡ valid_line published unpublished
-IsToldVerdict (verdict.Valid published unpublished) NoMemory = ⊤
-IsToldVerdict (verdict.Invalid run fault) (Invalid r f) = (r ≡ run) × (f ≡ fault)
-IsToldVerdict _ _ = ⊥
+abbrev pub IsReportedVerdict : Verdict → Outcome → Type 0
+IsReportedVerdict (verdict.Valid published unpublished) (Text text) = text.items ≡ valid_line published unpublished
+IsReportedVerdict (verdict.Valid published unpublished) NoMemory = ⊤
+IsReportedVerdict (verdict.Invalid run fault) (Invalid r f) = (r ≡ run) × (f ≡ fault)
+IsReportedVerdict _ _ = ⊥
 
--- what is said of the page of a publication that is checked against these books: what its check tells of it
-abbrev pub CheckTells : Books → Option (List ℕ) → Outcome → Type 0
-CheckTells books page NoCommand = ⊥
-CheckTells books page (Day job) = ⊥
-CheckTells books page (Feeds folder) = ⊥
-CheckTells books page (Joins quarters) = ⊥
-CheckTells books page (Values v) = ⊥
-CheckTells books page (Text text) =
-    (published : ℕ) × (unpublished : ℕ) × StreamTells books page (Ok (verdict.Valid published unpublished))
+-- what is said of the page of a publication that is checked against these books: what its check states of it
+abbrev pub CheckStates : Books → Option (List ℕ) → Outcome → Type 0
+CheckStates books page NoCommand = ⊥
+CheckStates books page (Day job) = ⊥
+CheckStates books page (Feeds folder) = ⊥
+CheckStates books page (Joins quarters) = ⊥
+CheckStates books page (Values v) = ⊥
+CheckStates books page (Text text) =
+    (published : ℕ) × (unpublished : ℕ) × StreamStates books page (Ok (verdict.Valid published unpublished))
     × (text.items ≡ valid_line published unpublished)
-CheckTells books page (Invalid run fault) = StreamTells books page (Ok (verdict.Invalid run fault))
-CheckTells books page (NoPage file why) = StreamTells books page (Err (stream.Fetch why)) × (file ≡ PUBLICATION)
-CheckTells books page (Refused refusal) =
-    (fault : TextFault) × StreamTells books page (Err (stream.Text fault)) × (refusal ≡ text_refusal fault)
-CheckTells books page NoMemory = ⊤
+CheckStates books page (Invalid run fault) = StreamStates books page (Ok (verdict.Invalid run fault))
+CheckStates books page (NoPage file why) = StreamStates books page (Err (stream.Fetch why)) × (file ≡ PUBLICATION)
+CheckStates books page (Refused refusal) =
+    (fault : TextFault) × StreamStates books page (Err (stream.Text fault)) × (refusal ≡ text_refusal fault)
+CheckStates books page NoMemory = ⊤
 
 -- what is said of the page of a publication that is valued against these books, and how that ends
-abbrev pub ValuesTell : Books → (more : ℕ) → Option (List ℕ) → Valued → Type 0
-ValuesTell books more page v = ValueTells books more page v.text v.end × ((end : ValueEnd) → IsEndOf books page end → EndsAs end v)
+abbrev pub ValuesReport : Books → (more : ℕ) → Option (List ℕ) → Valued → Type 0
+ValuesReport books more page v = ValueStates books more page v.text v.end × ((end : ValueEnd) → IsEndOf books page end → EndsAs end v)
 
 -- what comes of a publication that is valued against these books
-abbrev pub IsToldValues : Books → (more : ℕ) → Option (List ℕ) → Outcome → Type 0
-IsToldValues books more page (Values v) = ValuesTell books more page v
-IsToldValues books more page NoMemory = ⊤
-IsToldValues books more page _ = ⊥
+abbrev pub IsReportedValues : Books → (more : ℕ) → Option (List ℕ) → Outcome → Type 0
+IsReportedValues books more page (Values v) = ValuesReport books more page v
+IsReportedValues books more page NoMemory = ⊤
+IsReportedValues books more page _ = ⊥
 
 -- what an outcome says of what the words ask for and of the pages: the words are no command; a folder's market files
 -- are refused, or a page of them can't be had; or they give books, which are cleared, checked, migrated or valued; a day
@@ -305,10 +305,10 @@ pub data Says (asked : Option Asked) (pages : Pages) (o : Outcome) : Type 0 wher
   OfRefusal : (folder : List ℕ) (refusal : Refusal) → ReadsFolder asked folder → HasRefusal pages folder refusal → o ≡ Refused refusal → Says asked pages o
   OfGap : (folder : List ℕ) (file : ℕ) (gap : Gap) → ReadsFolder asked folder → HasGap pages folder file gap → o ≡ NoPage file (fetch_of gap) → Says asked pages o
   OfClear : (folder : List ℕ) (job : Job) → asked ≡ Some (command_by job.way folder job.nodes job.workers) → HasBooks pages folder job.books → o ≡ Day job → Says asked pages o
-  OfCheck : (folder : List ℕ) (books : Books) → asked ≡ Some (Check folder) → HasBooks pages folder books → CheckTells books (page_of pages (publication_path folder)) o → Says asked pages o
+  OfCheck : (folder : List ℕ) (books : Books) → asked ≡ Some (Check folder) → HasBooks pages folder books → CheckStates books (page_of pages (publication_path folder)) o → Says asked pages o
   OfMigrate : (folder : List ℕ) (part : FilePart) (books : Books) → asked ≡ Some (Migrate folder part) → HasBooks pages folder books → IsMigrated books part o → Says asked pages o
   OfGenerate : (number : ℕ) → asked ≡ Some (Generate number) → IsSummarised number o → Says asked pages o
-  OfValues : (folder : List ℕ) (more : ℕ) (books : Books) → asked ≡ Some (Value folder more) → HasBooks pages folder books → IsToldValues books more (page_of pages (publication_path folder)) o → Says asked pages o
+  OfValues : (folder : List ℕ) (more : ℕ) (books : Books) → asked ≡ Some (Value folder more) → HasBooks pages folder books → IsReportedValues books more (page_of pages (publication_path folder)) o → Says asked pages o
   OfFeed : (folder : String Global) → asked ≡ Some (Feed (string_bytes folder)) → o ≡ Feeds folder → Says asked pages o
   OfBlocks : (quarters : JointJob) → asked ≡ Some (blocks_of quarters) → o ≡ Joins quarters → Says asked pages o
   Fails : (folder : List ℕ) (file : ℕ) → ReadsFolder asked folder → o ≡ NoPage file fetch.Failed → Says asked pages o

@@ -6,7 +6,7 @@ use Rattle.mari_units.specs.declared.faults.Refusal.{Refusal}
 use Rattle.mari_day.specs.Files.{file_named}
 use Rattle.mari_commands.specs.Refusals.{check_name}
 
--- the line that tells how the program is called
+-- the line that states how the program is called
 unfoldable pub usage_line : List ℕ
 usage_line = codes "usage: mari clear FOLDER [--nodes N] [--workers K] | mari check FOLDER | mari generate NUMBER | mari migrate FOLDER borders | mari migrate FOLDER limits | mari feed FOLDER | mari split FOLDER [--nodes N] [--workers K] | mari blocks FOLDER FIRST LAST [--nodes N] [--workers K] | mari value FOLDER K\n"
 

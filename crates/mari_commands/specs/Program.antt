@@ -19,7 +19,7 @@ use Rattle.mari_capacity.specs.Streams.{IsPageEnd}
 use Rattle.mari_words.specs.Asked.Asked.{Check, Generate, Feed, Value}
 use Rattle.mari_commands.specs.declared.status.Status.{Status}
 use Rattle.mari_commands.specs.declared.status.Status.TheVariants.{Done, Unpublished, Usage, Refused, ReadFault, WriteFault, Memory, Invalid, Missing, TooLong}
-use Rattle.mari_commands.specs.Commands.{AreCleared, AsksForFeed, AsksForPages, AsksForValues, AsksToCheck, AsksToClear, HasFeed, IsAlone, IsFeedable, IsInvalid, IsRefused, LacksPage, Prints, ReadsFolder, TellsValues, fetch_of, publication_path, text_refusal}
+use Rattle.mari_commands.specs.Commands.{AreCleared, AsksForFeed, AsksForPages, AsksForValues, AsksToCheck, AsksToClear, HasFeed, IsAlone, IsFeedable, IsInvalid, IsRefused, LacksPage, Prints, ReadsFolder, StatesValues, fetch_of, publication_path, text_refusal}
 use Rattle.mari_commands.specs.Headline.{WroteDay}
 use Rattle.mari_commands.specs.Outcome.{IsValidLine, MayWant}
 use Rattle.mari_commands.specs.Splits.{AreSplit, AsksToSplit, WroteSplit}
@@ -29,9 +29,9 @@ use Rattle.mari_commands.specs.Printing.{file_line, invalid_line, refused_line, 
 use Rattle.mari_commands.specs.Refusals.{HasName}
 use Rattle.mari_commands.specs.Values.{value_line}
 
--- where the pages are told, this is so of them
-abbrev pub WhereTold : Option Pages → (Pages → Type 0) → Type 0
-WhereTold pages IsSo = (told : Pages) → pages ≡ Some told → IsSo told
+-- where the pages are reported, this is so of them
+abbrev pub WhereReported : Option Pages → (Pages → Type 0) → Type 0
+WhereReported pages IsSo = (reported : Pages) → pages ≡ Some reported → IsSo reported
 
 -- the word of a page that can't be had
 abbrev pub gap_word : Gap → List ℕ
@@ -61,15 +61,15 @@ IsInvalidEnd run fault end = end ≡ values.Invalid run fault
 
 -- the lines of the blocks that were checked, where the valuing ends as is said
 abbrev pub SaysValues : Option Asked → Pages → (Ends : ValueEnd → Type 0) → List ℕ → Type 0
-SaysValues asked pages Ends lines = (end : ValueEnd) × Ends end × TellsValues asked pages end lines
+SaysValues asked pages Ends lines = (end : ValueEnd) × Ends end × StatesValues asked pages end lines
 
 -- what is printed before a line that names this file: nothing, where the words ask for no lines of a publication or the
 -- file isn't that; or lines of its parts, where they ask for a feed; or the lines of the blocks that were checked, where
 -- they ask for the values of limits
 pub data TookAhead (asked : Option Asked) (pages : Option Pages) (file : ℕ) (Took : List ℕ → Option (List ℕ) → Option (List ℕ) → Type 0) (Ends : ValueEnd → Type 0) (before after : Option (List ℕ)) : Type 0 where
   Nothing : IsAlone asked file → after ≡ before → TookAhead asked pages file Took Ends before after
-  Lines : (folder : List ℕ) → asked ≡ Some (Feed folder) → file ≡ PUBLICATION → WhereTold pages (λ told. TookOf Took (page_of told (publication_path folder)) before after) → TookAhead asked pages file Took Ends before after
-  Values : AsksForValues asked → file ≡ PUBLICATION → (lines : List ℕ) → WhereTold pages (λ told. SaysValues asked told Ends lines) → after ≡ then_took before lines → TookAhead asked pages file Took Ends before after
+  Lines : (folder : List ℕ) → asked ≡ Some (Feed folder) → file ≡ PUBLICATION → WhereReported pages (λ reported. TookOf Took (page_of reported (publication_path folder)) before after) → TookAhead asked pages file Took Ends before after
+  Values : AsksForValues asked → file ≡ PUBLICATION → (lines : List ℕ) → WhereReported pages (λ reported. SaysValues asked reported Ends lines) → after ≡ then_took before lines → TookAhead asked pages file Took Ends before after
 
 -- and then this line was taken, or a first part of it
 pub record TookLine (asked : Option Asked) (pages : Option Pages) (file : ℕ) (Took : List ℕ → Option (List ℕ) → Option (List ℕ) → Type 0) (Ends : ValueEnd → Type 0) (line : List ℕ) (before after : Option (List ℕ)) : Type 0 where
@@ -88,7 +88,7 @@ pub record BeganLine (asked : Option Asked) (pages : Pages) (Took : List ℕ →
 pub record BeganValues (asked : Option Asked) (pages : Pages) (failed : Type 0) (before after : Option (List ℕ)) : Type 0 where
   pub end : ValueEnd
   pub lines : List ℕ
-  pub tells : TellsValues asked pages end lines
+  pub states : StatesValues asked pages end lines
   pub cause : IsPageEnd fetch.Failed end → failed
   pub began : TookPart before after (lines ++ value_line end)
 
@@ -102,7 +102,7 @@ pub data IsDone (asked : Option Asked) (pages : Pages) (before after : Option (L
   Split : WroteSplit asked pages true before after → IsDone asked pages before after
   Printed : (text : List ℕ) → Prints asked pages text → after ≡ then_took before text → IsDone asked pages before after
 
--- a text that may be printed where no day or feed is and no values, by what it tells; that a fetch failed is told only
+-- a text that may be printed where no day or feed is and no values, by what it states; that a fetch failed is reported only
 -- where one did
 pub data IsLine (asked : Option Asked) (pages : Pages) (failed : Type 0) (text : List ℕ) : Type 0 where
   OfUsage : asked ≡ None → text ≡ usage_line → IsLine asked pages failed text
@@ -138,7 +138,7 @@ pub data IsStarved (asked : Option Asked) (pages : Pages) (before after : Option
 pub record TookGapLine (asked : Option Asked) (pages : Option Pages) (gap : Gap) (before after : Option (List ℕ)) : Type 0 where
   pub file : ℕ
   pub wanted : MayWant asked file
-  pub first : (told : Pages) → pages ≡ Some told → LacksPage asked told file gap
+  pub first : (reported : Pages) → pages ≡ Some reported → LacksPage asked reported file gap
   pub line : TookLine asked pages file TookFirst (IsGapEnd gap) (file_line (gap_word gap) file) before after
 
 -- where a day is generated, its summary was taken
@@ -155,21 +155,21 @@ pub record TookFirstPart (asked : Option Asked) (before after : Option (List ℕ
   pub usage : asked ≡ None → TookPart before after usage_line
   pub summary : (number : ℕ) → asked ≡ Some (Generate number) → (text : List ℕ) × IsGenerated number text × TookPart before after text
 
--- what each answer says of what the words ask for, of the pages where they are told, of a fetch that failed, and of
+-- what each answer says of what the words ask for, of the pages where they are reported, of a fetch that failed, and of
 -- what the sink has taken; a refusal is printed with the name of its check, and has one
 abbrev pub Answers : Option Asked → Option Pages → (failed : Type 0) → (before after : Option (List ℕ)) → Status → Type 0
-Answers asked pages failed before after Done = WhereTold pages (λ told. IsDone asked told before after) × TookSummary asked before after × TookVerdict asked before after
+Answers asked pages failed before after Done = WhereReported pages (λ reported. IsDone asked reported before after) × TookSummary asked before after × TookVerdict asked before after
 Answers asked pages failed before after Unpublished =
-    (AsksToClear asked × WhereTold pages (λ told. WroteDay asked told false before after))
-    ⊎ (AsksToSplit asked × WhereTold pages (λ told. WroteSplit asked told false before after))
+    (AsksToClear asked × WhereReported pages (λ reported. WroteDay asked reported false before after))
+    ⊎ (AsksToSplit asked × WhereReported pages (λ reported. WroteSplit asked reported false before after))
 Answers asked pages failed before after Usage = (asked ≡ None) × (after ≡ then_took before usage_line)
 Answers asked pages failed before after (Refused refusal) =
-    AsksForPages asked × WhereTold pages (λ told. IsRefused asked told refusal) × TookLine asked pages refusal.file TookAll (IsRefusedEnd refusal) (refused_line refusal) before after × HasName refusal
+    AsksForPages asked × WhereReported pages (λ reported. IsRefused asked reported refusal) × TookLine asked pages refusal.file TookAll (IsRefusedEnd refusal) (refused_line refusal) before after × HasName refusal
 Answers asked pages failed before after ReadFault = AsksForPages asked × ((file : ℕ) × MayWant asked file × TookLine asked pages file TookFirst IsFailedEnd (file_line (codes "readfault") file) before after)
-Answers asked pages failed before after WriteFault = WhereTold pages (λ told. IsCutOff asked told failed before after) × TookFirstPart asked before after
-Answers asked pages failed before after Memory = WhereTold pages (λ told. IsStarved asked told before after) × ((after ≡ before) ⊎ (AsksToClear asked ⊎ (AsksForFeed asked ⊎ AsksToSplit asked)))
+Answers asked pages failed before after WriteFault = WhereReported pages (λ reported. IsCutOff asked reported failed before after) × TookFirstPart asked before after
+Answers asked pages failed before after Memory = WhereReported pages (λ reported. IsStarved asked reported before after) × ((after ≡ before) ⊎ (AsksToClear asked ⊎ (AsksForFeed asked ⊎ AsksToSplit asked)))
 Answers asked pages failed before after (Invalid run fault) =
-    (AsksToCheck asked ⊎ AsksForValues asked) × WhereTold pages (λ told. IsInvalid asked told run fault) × TookLine asked pages PUBLICATION TookAll (IsInvalidEnd run fault) (invalid_line run fault) before after
+    (AsksToCheck asked ⊎ AsksForValues asked) × WhereReported pages (λ reported. IsInvalid asked reported run fault) × TookLine asked pages PUBLICATION TookAll (IsInvalidEnd run fault) (invalid_line run fault) before after
 Answers asked pages failed before after Missing = AsksForPages asked × TookGapLine asked pages NotHeld before after
 Answers asked pages failed before after TooLong = AsksForPages asked × TookGapLine asked pages OverLimit before after
 

@@ -24,7 +24,7 @@ unfoldable pub welfare_sum : List Block → ℕ
 welfare_sum [] = 0
 welfare_sum (b ∷ blocks) = welfare_in b + welfare_sum blocks
 
--- a number's line behind a word
+-- a number's line after a word
 abbrev pub number_line : List ℕ → ℕ → List ℕ
 number_line word n = word ++ decimal n ++ 10 ∷ []
 

@@ -7,7 +7,7 @@ ghost use Rattle.mari_remain.specs.Accepted.{IsAccepted};
 ghost use Rattle.mari_words.specs.Asked.Asked.{Check};
 ghost use Rattle.mari_commands.specs.Checks.{text_check_number};
 ghost use Rattle.mari_commands.specs.Commands.{publication_path as path_of, text_refusal_at};
-ghost use Rattle.mari_commands.specs.Outcome.{CheckTells, IsNoPage, IsOfWords, IsReportable, IsToldVerdict, Says, refusal_of, text_outcome as outcome_of_text};
+ghost use Rattle.mari_commands.specs.Outcome.{CheckStates, IsNoPage, IsOfWords, IsReportable, IsReportedVerdict, Says, refusal_of, text_outcome as outcome_of_text};
 
 use crate::books::books_in;
 use crate::checks::TextCheck;
@@ -57,7 +57,7 @@ fn text_outcome(fault: TextFault) -> Outcome
 
 /// What comes of the verdict on a publication.
 fn verdict_outcome(alloc: Global, verdict: Verdict) -> Outcome
-    ensures { IsToldVerdict verdict result }
+    ensures { IsReportedVerdict verdict result }
 {
     match verdict {
         Verdict::Valid {
@@ -78,7 +78,7 @@ fn checked_books<S: Shelf>(alloc: Global, shelf: &mut S, books: &Books, folder: 
 
     // What is found of the publication's page, where the shelf reports it.
     ensures same { S.pages shelf.new ≡ S.pages shelf.old }
-    ensures told { (told : Pages) → S.pages shelf.old ≡ Some told → CheckTells books.now (page_of told (path_of folder.now)) result }
+    ensures reported { (reported : Pages) → S.pages shelf.old ≡ Some reported → CheckStates books.now (page_of reported (path_of folder.now)) result }
 
     // What comes of the words on any shelf.
     ensures words { IsOfWords (Some (Check folder.now)) result }
@@ -104,7 +104,7 @@ fn checked_books<S: Shelf>(alloc: Global, shelf: &mut S, books: &Books, folder: 
 pub fn checked<S: Shelf>(alloc: Global, shelf: &mut S, folder: &str) -> Outcome
     // What is found of the folder's pages, where the shelf reports them.
     ensures same { S.pages shelf.new ≡ S.pages shelf.old }
-    ensures told { (told : Pages) → S.pages shelf.old ≡ Some told → Says (Some (Check folder.now)) told result }
+    ensures reported { (reported : Pages) → S.pages shelf.old ≡ Some reported → Says (Some (Check folder.now)) reported result }
 
     // What comes of the words on any shelf.
     ensures words { IsOfWords (Some (Check folder.now)) result }

@@ -96,7 +96,7 @@ pub fn to_clear<S: Shelf>(
 
     // What is found of the folder's pages, where the shelf reports them.
     ensures same { S.pages shelf.new ≡ S.pages shelf.old }
-    ensures told { (told : Pages) → S.pages shelf.old ≡ Some told → Says (Some (command_by way folder.now nodes workers)) told result }
+    ensures reported { (reported : Pages) → S.pages shelf.old ≡ Some reported → Says (Some (command_by way folder.now nodes workers)) reported result }
 
     // What comes of the words on any shelf.
     ensures words { IsOfWords (Some (command_by way folder.now nodes workers)) result }

@@ -60,7 +60,7 @@ fn migrated_books(alloc: Global, books: &Books, part: FilePart) -> Outcome
 pub fn migrated<S: Shelf>(alloc: Global, shelf: &mut S, folder: &str, part: FilePart) -> Outcome
     // What is found of the folder's pages, where the shelf reports them.
     ensures same { S.pages shelf.new ≡ S.pages shelf.old }
-    ensures told { (told : Pages) → S.pages shelf.old ≡ Some told → Says (Some (Migrate folder.now part)) told result }
+    ensures reported { (reported : Pages) → S.pages shelf.old ≡ Some reported → Says (Some (Migrate folder.now part)) reported result }
 
     // What comes of the words on any shelf.
     ensures words { IsOfWords (Some (Migrate folder.now part)) result }

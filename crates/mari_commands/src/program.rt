@@ -43,7 +43,7 @@ fn outcome_of<S: Shelf, G: Turnstile, R: Threads + Wait + Sync>(
 ) -> Outcome
     // What is found of the pages, where the shelf reports them.
     ensures same { S.pages shelf.new ≡ S.pages shelf.old }
-    ensures told { (told : Pages) → S.pages shelf.old ≡ Some told → Says (command_at (map string_bytes words.now)) told result }
+    ensures reported { (reported : Pages) → S.pages shelf.old ≡ Some reported → Says (command_at (map string_bytes words.now)) reported result }
 
     // Where the words read no folder, nothing is fetched.
     ensures untouched { (AsksForFiles (command_at (map string_bytes words.now)) → ⊥) → S.fetches shelf.new ≡ S.fetches shelf.old }
@@ -173,33 +173,33 @@ pub fn run_program<S: Shelf, K: Sink, G: Turnstile, R: Threads + Wait + Sync>(
     // the text of a publication that is checked or printed as a feed, and the first page that isn't held or is too
     // long.
     ensures no_command { command_at (map string_bytes words.now) ≡ None → (result ≡ Status.Usage) ⊎ ((result ≡ Status.WriteFault) ⊎ (result ≡ Status.Memory)) }
-    ensures refuses { (told : Pages) (refusal : Refusal) → S.pages shelf.old ≡ Some told → RefusesFiles (command_at (map string_bytes words.now)) told refusal
+    ensures refuses { (reported : Pages) (refusal : Refusal) → S.pages shelf.old ≡ Some reported → RefusesFiles (command_at (map string_bytes words.now)) reported refusal
         → OrFault (IsStatus (Status.Refused refusal)) result }
-    ensures refuses_text { (told : Pages) (page : List ℕ) (fault : TextFault) → S.pages shelf.old ≡ Some told → RefusesText (command_at (map string_bytes words.now)) told page fault
+    ensures refuses_text { (reported : Pages) (page : List ℕ) (fault : TextFault) → S.pages shelf.old ≡ Some reported → RefusesText (command_at (map string_bytes words.now)) reported page fault
         → OrFault (IsStatus (Status.Refused (text_refusal fault))) result }
-    ensures refuses_feed { (told : Pages) (page : List ℕ) (fault : TextFault) → S.pages shelf.old ≡ Some told → RefusesFeed (command_at (map string_bytes words.now)) told page fault
+    ensures refuses_feed { (reported : Pages) (page : List ℕ) (fault : TextFault) → S.pages shelf.old ≡ Some reported → RefusesFeed (command_at (map string_bytes words.now)) reported page fault
         → OrFault (IsStatus (Status.Refused (text_refusal fault))) result }
-    ensures gaps { (told : Pages) (file : ℕ) (gap : Gap) → S.pages shelf.old ≡ Some told → LacksPage (command_at (map string_bytes words.now)) told file gap
+    ensures gaps { (reported : Pages) (file : ℕ) (gap : Gap) → S.pages shelf.old ≡ Some reported → LacksPage (command_at (map string_bytes words.now)) reported file gap
         → OrFault (IsStatus (gap_status gap)) result }
 
     // Folders whose pages are accepted are cleared, and wholly where the budget holds each run's search tree, or that
     // of each island where they are cleared island by island; a publication that is read is checked, or printed as a
     // feed; the values of limits end as the publication does, with their last line exactly where it is valid; files
     // that state their limits for the day are migrated; and days are generated.
-    ensures cleared { (told : Pages) → S.pages shelf.old ≡ Some told → IsClearable (command_at (map string_bytes words.now)) told → OrFault IsDayStatus result }
-    ensures complete { (told : Pages) → S.pages shelf.old ≡ Some told → HasBudget (command_at (map string_bytes words.now)) told → OrFault (IsStatus Status.Done) result }
-    ensures split { (told : Pages) → S.pages shelf.old ≡ Some told → IsSplittable (command_at (map string_bytes words.now)) told → OrFault IsDayStatus result }
-    ensures islands { (told : Pages) → S.pages shelf.old ≡ Some told → HasIslandBudget (command_at (map string_bytes words.now)) told → OrFault (IsStatus Status.Done) result }
-    ensures checked { (told : Pages) → S.pages shelf.old ≡ Some told → IsReadable (command_at (map string_bytes words.now)) told → OrFault IsVerdictStatus result }
-    ensures fed { (told : Pages) → S.pages shelf.old ≡ Some told → IsFeedable (command_at (map string_bytes words.now)) told → OrFault (IsStatus Status.Done) result }
-    ensures values { (told : Pages) (end : TheValueEnd) → S.pages shelf.old ≡ Some told → EndsValues (command_at (map string_bytes words.now)) told end → OrFault (IsStatus (value_status end)) result }
-    ensures migrated { (told : Pages) → S.pages shelf.old ≡ Some told → IsMigratable (command_at (map string_bytes words.now)) told → OrFault (IsStatus Status.Done) result }
+    ensures cleared { (reported : Pages) → S.pages shelf.old ≡ Some reported → IsClearable (command_at (map string_bytes words.now)) reported → OrFault IsDayStatus result }
+    ensures complete { (reported : Pages) → S.pages shelf.old ≡ Some reported → HasBudget (command_at (map string_bytes words.now)) reported → OrFault (IsStatus Status.Done) result }
+    ensures split { (reported : Pages) → S.pages shelf.old ≡ Some reported → IsSplittable (command_at (map string_bytes words.now)) reported → OrFault IsDayStatus result }
+    ensures islands { (reported : Pages) → S.pages shelf.old ≡ Some reported → HasIslandBudget (command_at (map string_bytes words.now)) reported → OrFault (IsStatus Status.Done) result }
+    ensures checked { (reported : Pages) → S.pages shelf.old ≡ Some reported → IsReadable (command_at (map string_bytes words.now)) reported → OrFault IsVerdictStatus result }
+    ensures fed { (reported : Pages) → S.pages shelf.old ≡ Some reported → IsFeedable (command_at (map string_bytes words.now)) reported → OrFault (IsStatus Status.Done) result }
+    ensures values { (reported : Pages) (end : TheValueEnd) → S.pages shelf.old ≡ Some reported → EndsValues (command_at (map string_bytes words.now)) reported end → OrFault (IsStatus (value_status end)) result }
+    ensures migrated { (reported : Pages) → S.pages shelf.old ≡ Some reported → IsMigratable (command_at (map string_bytes words.now)) reported → OrFault (IsStatus Status.Done) result }
     ensures generated { (number : ℕ) → command_at (map string_bytes words.now) ≡ Some (Generate number) → (result ≡ Status.Done) ⊎ ((result ≡ Status.WriteFault) ⊎ (result ≡ Status.Memory)) }
 
     // Quarters that are cleared as one market are refused by their first refusal, lack their first page that can't be
     // had, and are cleared where there is one; wholly where the budget holds its search tree.
-    ensures blocks { (told : Pages) (wanted : Status) → S.pages shelf.old ≡ Some told → Decides (command_at (map string_bytes words.now)) told wanted → OrFault (IsStatus wanted) result }
-    ensures joined { (told : Pages) → S.pages shelf.old ≡ Some told → IsJoinable (command_at (map string_bytes words.now)) told → OrFault IsDayStatus result }
+    ensures blocks { (reported : Pages) (wanted : Status) → S.pages shelf.old ≡ Some reported → Decides (command_at (map string_bytes words.now)) reported wanted → OrFault (IsStatus wanted) result }
+    ensures joined { (reported : Pages) → S.pages shelf.old ≡ Some reported → IsJoinable (command_at (map string_bytes words.now)) reported → OrFault IsDayStatus result }
 {
     let outcome = outcome_of(rt, alloc, words, shelf, turnstile);
     finish(rt, alloc, &outcome, shelf, sink, turnstile)

@@ -6,7 +6,7 @@ ghost use Rattle.mari_io.specs.declared.shelf.Fetch.TheVariants as fetch;
 ghost use Rattle.mari_remain.specs.Accepted.{IsAccepted};
 ghost use Rattle.mari_words.specs.Asked.Asked.{Value};
 ghost use Rattle.mari_commands.specs.Commands.{publication_path as path_of};
-ghost use Rattle.mari_commands.specs.Outcome.{IsNoPage, IsOfWords, IsReportable, IsToldValues, Reports, Says};
+ghost use Rattle.mari_commands.specs.Outcome.{IsNoPage, IsOfWords, IsReportable, IsReportedValues, Reports, Says};
 ghost use Rattle.mari_commands.specs.Values.{IsEnding, value_line, value_status};
 
 use crate::books::books_in;
@@ -38,7 +38,7 @@ fn valued_books<S: Shelf>(
 
     // What is found of the publication's page, where the shelf reports it.
     ensures same { S.pages shelf.new ≡ S.pages shelf.old }
-    ensures told { (told : Pages) → S.pages shelf.old ≡ Some told → IsToldValues books.now more (page_of told (path_of folder.now)) result }
+    ensures reported { (reported : Pages) → S.pages shelf.old ≡ Some reported → IsReportedValues books.now more (page_of reported (path_of folder.now)) result }
 
     // What comes of the words on any shelf.
     ensures words { IsOfWords (Some (Value folder.now more)) result }
@@ -65,7 +65,7 @@ pub fn valued<S: Shelf>(alloc: Global, shelf: &mut S, folder: &str, more: u32) -
 
     // What is found of the folder's pages, where the shelf reports them.
     ensures same { S.pages shelf.new ≡ S.pages shelf.old }
-    ensures told { (told : Pages) → S.pages shelf.old ≡ Some told → Says (Some (Value folder.now more)) told result }
+    ensures reported { (reported : Pages) → S.pages shelf.old ≡ Some reported → Says (Some (Value folder.now more)) reported result }
 
     // What comes of the words on any shelf.
     ensures words { IsOfWords (Some (Value folder.now more)) result }

@@ -148,7 +148,7 @@ state_back [] ys k e = ap (state_at ys) e
 state_back (x ∷ xs) ys zero e = absurd (omega arith)
 state_back (x ∷ xs) ys (suc k) e = state_back xs ys k (omega arith)
 
--- where new nodes wait behind the others, the next is the same
+-- where new nodes wait after the others, the next is the same
 pub next_with_new : (nodes : List TreeNode) (w : List Bool) (may : Bool) (next : ℕ) → IsNext nodes next → IsNext (nodes ++ map new_node (child_words w may)) next
 next_with_new nodes w may next h = record {
   within = omega (arith, h.within, length-append nodes (map new_node (child_words w may)));

@@ -1,4 +1,4 @@
--- The journal of a tree: one entry more, and what it tells of the tree's cutoffs.
+-- The journal of a tree: one entry more, and what it states of the tree's cutoffs.
 use Rattle.std.proofs.Common.{◌≡◌, ℕ, ◌≤◌, List, [], ◌∷◌, ◌++◌, arith, refl, sym, ap, subst, ◌∙◌}
 use Rattle.std.specs.List.{All}
 use Rattle.std.proofs.lemmas.List.{map-append}

@@ -13,9 +13,9 @@ use Rattle.mari_market.proofs.Conflicts.{price_in_cap}
 use Rattle.mari_lines.specs.Ranges.{Between}
 
 module _ (m : Market) (a : Activation) where
-  -- a zone whose area isn't the first stands behind one of the area before
-  behind : (areas : List ℕ) → AreAreas m a areas → (z : ℕ) → z < m.zones → 1 < area_at areas z → (y : ℕ) × (y < z) × (area_at areas z ≡ area_at areas y + 1)
-  behind areas is z there more =
+  -- a zone whose area isn't the first stands after one of the area before
+  after : (areas : List ℕ) → AreAreas m a areas → (z : ℕ) → z < m.zones → 1 < area_at areas z → (y : ℕ) × (y < z) × (area_at areas z ≡ area_at areas y + 1)
+  after areas is z there more =
       let before = (is.numbered z there).by_first (area_at areas z - 1) (omega arith) (omega arith) in
       let other : before.0 ≢ z = λ same. let e : area_at areas before.0 ≡ area_at areas z = ap (area_at areas) same in omega (arith, before.2) in
       (before.0, omega (arith, before.1, other), omega (arith, before.2))
@@ -23,11 +23,11 @@ module _ (m : Market) (a : Activation) where
   -- so the area of a zone is at most its place, counted from 1
   area-most : (areas : List ℕ) → AreAreas m a areas → (bound z : ℕ) → z ≤ bound → z < m.zones → area_at areas z ≤ z + 1
   area-most areas is zero z within there = elim (cases_lt 1 (area_at areas z)) [
-    | inl more ↦ (let b = behind areas is z there more in absurd (omega (arith, b.1)))
+    | inl more ↦ (let b = after areas is z there more in absurd (omega (arith, b.1)))
     | inr one ↦ omega arith
   ]
   area-most areas is (suc bound) z within there = elim (cases_lt 1 (area_at areas z)) [
-    | inl more ↦ (let b = behind areas is z there more in omega (arith, b.1, b.2, area-most areas is bound b.0 (omega (arith, b.1)) (omega (arith, b.1))))
+    | inl more ↦ (let b = after areas is z there more in omega (arith, b.1, b.2, area-most areas is bound b.0 (omega (arith, b.1)) (omega (arith, b.1))))
     | inr one ↦ omega arith
   ]
 

@@ -17,8 +17,8 @@ use Rattle.mari_progress.specs.declared.progress.SettledRun.{SettledRun}
 use Rattle.mari_progress.specs.Runs.{IsRunOf}
 use Rattle.mari_day.specs.Assembled.{HasShapes, IsAssembled, IsPriced}
 use Rattle.mari_progress.specs.Money.{amount_line, amounts_of, money_lines_of, providers_among}
-use Rattle.mari_progress.specs.Told.{activation_of, prices_of}
-use Rattle.mari_day.specs.Published.{IsPublishedOf, IsToldOf}
+use Rattle.mari_progress.specs.Reported.{activation_of, prices_of}
+use Rattle.mari_day.specs.Published.{IsPublishedOf, IsReportedOf}
 use Rattle.mari_day.specs.Run.{clearing_of}
 
 along2 : {A B : Type 0} (P : A → B → Type 0) (a a' : A) (b b' : B) → a' ≡ a → b' ≡ b → P a b → P a' b'
@@ -28,7 +28,7 @@ same2 : {A B C : Type 0} (f : A → B → C) (a a' : A) (b b' : B) → a' ≡ a 
 same2 f a a' b b' e g = ap (λ x. f x b') e ∙ ap (f a) g
 
 module _ (books : Books) (budget run : ℕ) (made : RunMarket) (also : Option (List Cents)) (clearing : Clearing) (priced : Priced) (b : FullBlock) (is : IsAssembled books run made.bids clearing priced b) where
-  -- the block tells the activation that was cleared
+  -- the block states the activation that was cleared
   pub same_activation : activation_of b ≡ clearing.activation
   same_activation = rw (is.orders.mw, is.orders.demands, is.flow, take-append-drop) refl
 
@@ -39,8 +39,8 @@ module _ (books : Books) (budget run : ℕ) (made : RunMarket) (also : Option (L
   pub same_amounts : IsPriced books made also clearing priced → priced.ledger.providers ≡ amounts_of books made also b
   same_amounts p = p.providers ∙ sym (same2 (λ x ps. provider_amounts books.bids made.bids x ps (scheduled_or ps also)) clearing.activation (activation_of b) priced.pricing.published.cents (prices_of b) same_activation is.zones.prices)
 
-  pub told : IsPriced books made also clearing priced → length clearing.activation.mw ≡ length made.bids + made.demands → IsToldOf books run made also clearing b
-  told p long =
+  pub reported : IsPriced books made also clearing priced → length clearing.activation.mw ≡ length made.bids + made.demands → IsReportedOf books run made also clearing b
+  reported p long =
       let m = made.market in
       let a = clearing.activation in
       let ps = priced.pricing.published.cents in
@@ -61,7 +61,7 @@ module _ (books : Books) (budget run : ℕ) (made : RunMarket) (also : Option (L
           areas = along2 (AreAreas m) a (activation_of b) _ _ same_activation is.zones.areas p.prices.areas;
         };
         ledger = record {
-          tells = record {
+          states = record {
             rents = is.ledger.rents ∙ p.rents ∙ sym (same2 (rents_of m) a (activation_of b) ps (prices_of b) same_activation is.zones.prices);
             operators = is.ledger.operators ∙ ap (money_lines_of books.zones.operators) (p.operators ∙ sym (same2 (operator_lines books.zones m) a (activation_of b) ps (prices_of b) same_activation is.zones.prices));
             providers = is.ledger.providers ∙ ap (λ amounts. map (amount_line books.bids.providers amounts) (providers_among books.bids.bids made.bids)) (same_amounts p);
@@ -71,7 +71,7 @@ module _ (books : Books) (budget run : ℕ) (made : RunMarket) (also : Option (L
 
   pub published : IsClearing made.market budget clearing → IsPriced books made also clearing priced → length clearing.activation.mw ≡ length made.bids + made.demands → IsPublishedOf books budget run made also b
   published clears p long =
-      let t = told p long in
+      let t = reported p long in
       record { heading = t.heading; names = t.names; clearing = subst (IsClearing made.market budget) (sym same_clearing) clears; prices = t.prices; ledger = t.ledger }
 
   -- what the block adds to its day

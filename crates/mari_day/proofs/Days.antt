@@ -28,7 +28,7 @@ use Rattle.mari_progress.specs.Progress.{AreTotals}
 use Rattle.mari_day.specs.Progress.{IsDayProgress}
 use Rattle.mari_day.specs.Stepped.{IsDayOf}
 use Rattle.mari_progress.specs.declared.progress.Progress.{Progress}
-use Rattle.mari_progress.specs.Told.{heading_of}
+use Rattle.mari_progress.specs.Reported.{heading_of}
 use Rattle.mari_day.proofs.BlockFits.{lines-fit, IsHalf}
 use Rattle.mari_progress.proofs.Lists.{along-length}
 use Rattle.mari_progress.proofs.Sums.{one-each-provider, provider-lines}

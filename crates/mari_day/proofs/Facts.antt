@@ -49,7 +49,7 @@ same_gap pages folder n k g h a b =
 held_no_gap : (pages : Pages) (folder : List ℕ) (texts : List (List ℕ)) (n : ℕ) (gap : Gap) → AreHeld pages folder texts → HasGap pages folder n gap → ⊥
 held_no_gap pages folder texts n gap h g = let none = h.no_gap in let some = g.first in cc
 
--- two facts of one folder agree; of a gap only why there is one is told
+-- two facts of one folder agree; of a gap only why there is one is reported
 abbrev pub Agree : Fact → Fact → Type 0
 Agree (Gives a) (Gives b) = a ≡ b
 Agree (Refuses a) (Refuses b) = a ≡ b

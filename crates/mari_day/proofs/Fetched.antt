@@ -35,12 +35,12 @@ pub some_fetched : (n before now : ℕ) → now ≡ counted_by n before → n �
 some_fetched n before now e l = record { count = n; within = l; fetched = e }
 
 module _ (pages : Pages) (folder : List ℕ) where
-  -- a page without a gap leaves the first gap to the files behind it
-  pub gap_behind : (fs : List File) (i : ℕ) (d : File) → i < length fs → gap_of (page_in pages folder (slice_index_or fs i d)) ≡ None
+  -- a page without a gap leaves the first gap to the files after it
+  pub gap_after : (fs : List File) (i : ℕ) (d : File) → i < length fs → gap_of (page_in pages folder (slice_index_or fs i d)) ≡ None
       → first_gap pages folder (drop i fs) ≡ first_gap pages folder (drop (suc i) fs)
-  gap_behind [] i d l e = absurd (omega arith)
-  gap_behind (f ∷ fs) zero d l e = rw e refl
-  gap_behind (f ∷ fs) (suc i) d l e = gap_behind fs i d (omega arith) e
+  gap_after [] i d l e = absurd (omega arith)
+  gap_after (f ∷ fs) zero d l e = rw e refl
+  gap_after (f ∷ fs) (suc i) d l e = gap_after fs i d (omega arith) e
 
   -- one page more is held
   pub held_more : (fs : List File) (texts : List (List ℕ)) (text : List ℕ) (i : ℕ) (d : File) → i < length fs → map (page_in pages folder) (take i fs) ≡ map Some texts

@@ -1,4 +1,4 @@
--- The files of a folder by its version, and fetching limits.csv behind the seven.
+-- The files of a folder by its version, and fetching limits.csv after the seven.
 use Rattle.std.proofs.Common.{◌≡◌, ◌∙◌, ◌⊎◌, inl, inr, ℕ, ◌+◌, ◌≤◌, ◌==◌, Bool, true, false, sym, ap, List, [], ◌∷◌, ◌++◌, Option, Some, None, length, map, arith, refl, length-append, if◌then◌else◌}
 use Rattle.mari_io.specs.Outside.{Pages, counted, counted_by}
 use Rattle.mari_zones.specs.Borders.{version_in}
@@ -8,7 +8,7 @@ use Rattle.mari_io.specs.declared.shelf.Fetch.TheVariants as fetch
 use Rattle.mari_day.specs.declared.pages.PagesFault.{PagesFault}
 use Rattle.mari_day.specs.declared.pages.PagesFault.TheVariants.{Fetch as OfFetch, Memory as NoMemory}
 use Rattle.std.specs.Prelude.{IfErr, IfOk, Result, Ok, Err}
-use Rattle.mari_day.specs.Fetching.{FetchedOne, FetchedUpTo, FetchesFolder, FetchingTells, HasFiles, IsFaultOfFile, SomeFetched}
+use Rattle.mari_day.specs.Fetching.{FetchedOne, FetchedUpTo, FetchesFolder, FetchingStates, HasFiles, IsFaultOfFile, SomeFetched}
 use Rattle.mari_day.specs.Files.{files, files_in, files_of, first_gap, gap_of, gap_or, page_in, page_among, place_of, version_by, ArePages, FileGap, Gap}
 use Rattle.mari_day.proofs.Fetched.{one_more}
 
@@ -20,18 +20,18 @@ count-of version = by (version == 2) refl
     by true e = inr (rw e refl)
     by false e = inl (rw e refl)
 
--- so many files a folder has, whether its pages are told or not
+-- so many files a folder has, whether its pages are reported or not
 pub files-there : (pages : Option Pages) (folder : List ℕ) → (count : ℕ) × HasFiles pages folder count × (7 ≤ count)
-files-there None folder = (7, record { seven_or_eight = inl refl; told = λ told e. cc e }, omega arith)
-files-there (Some told) folder =
-    let count = length (files_in told folder) in
-    let either = count-of (version_by (page_in told folder Borders)) in (
+files-there None folder = (7, record { seven_or_eight = inl refl; reported = λ reported e. cc e }, omega arith)
+files-there (Some reported) folder =
+    let count = length (files_in reported folder) in
+    let either = count-of (version_by (page_in reported folder Borders)) in (
       count,
-      record { seven_or_eight = either; told = λ t e. let same : told ≡ t = cc e in rw same refl },
+      record { seven_or_eight = either; reported = λ t e. let same : reported ≡ t = cc e in rw same refl },
       by either,
     )
   where
-    by : (length (files_in told folder) ≡ 7) ⊎ (length (files_in told folder) ≡ 8) → 7 ≤ length (files_in told folder)
+    by : (length (files_in reported folder) ≡ 7) ⊎ (length (files_in reported folder) ≡ 8) → 7 ≤ length (files_in reported folder)
     by (inl e) = omega (arith, e)
     by (inr e) = omega (arith, e)
 
@@ -67,12 +67,12 @@ module _ (pages : Pages) (folder : List ℕ) where
     | false ↦ e
   ]
 
-  pub seven-lack : (fault : PagesFault) → FetchingTells pages folder files (Err fault) → FetchingTells pages folder (files_in pages folder) (Err fault)
-  seven-lack NoMemory tells = tt
-  seven-lack (OfFetch file fetch.Failed) tells = tt
-  seven-lack (OfFetch file fetch.Missing) tells = among-seven (version_by (page_in pages folder Borders)) _ tells
-  seven-lack (OfFetch file fetch.TooLong) tells = among-seven (version_by (page_in pages folder Borders)) _ tells
-  seven-lack (OfFetch file fetch.Memory) tells = tt
+  pub seven-lack : (fault : PagesFault) → FetchingStates pages folder files (Err fault) → FetchingStates pages folder (files_in pages folder) (Err fault)
+  seven-lack NoMemory states = tt
+  seven-lack (OfFetch file fetch.Failed) states = tt
+  seven-lack (OfFetch file fetch.Missing) states = among-seven (version_by (page_in pages folder Borders)) _ states
+  seven-lack (OfFetch file fetch.TooLong) states = among-seven (version_by (page_in pages folder Borders)) _ states
+  seven-lack (OfFetch file fetch.Memory) states = tt
 
   module _ (seven : List (List ℕ)) (many : length seven ≡ 7) (are : ArePages pages folder files seven) where
     version-there : (texts : List (List ℕ)) → length texts ≡ 7 → map (page_in pages folder) files ≡ map Some texts
@@ -89,10 +89,10 @@ module _ (pages : Pages) (folder : List ℕ) where
     files-are = ap files_of (version-there seven many are.held)
 
 module _ (pages : Option Pages) (folder : List ℕ) (seven : List (List ℕ)) (many : length seven ≡ 7)
-    (are : (told : Pages) → pages ≡ Some told → ArePages told folder files seven) where
+    (are : (reported : Pages) → pages ≡ Some reported → ArePages reported folder files seven) where
   -- how many files the folder of these pages has
   pub has-eight : (version_in (page_among seven Borders) == 2) ≡ true → HasFiles pages folder 8
-  has-eight e = record { seven_or_eight = inr refl; told = λ told is. rw (files-are told folder seven many (are told is), e) refl }
+  has-eight e = record { seven_or_eight = inr refl; reported = λ reported is. rw (files-are reported folder seven many (are reported is), e) refl }
 
   module _ (e : (version_in (page_among seven Borders) == 2) ≡ true) (before mid now : ℕ) (limits : List ℕ) where
     -- all eight were fetched, and there may be no memory to keep the eighth

@@ -27,9 +27,9 @@ use Rattle.mari_remain.specs.Migrated.{AreRead, with_limits}
 use Rattle.mari_remain.specs.RunMarket.{run_market_of}
 use Rattle.mari_remain.proofs.MigratedBooks.{markets-same, same-borders}
 use Rattle.mari_remain.proofs.MigratedBorders.{bare}
-use Rattle.mari_progress.specs.Behind.{also_behind, before_of, market_behind, past_of, run_behind}
+use Rattle.mari_progress.specs.After.{also_after, before_of, market_after, past_of, run_after}
 use Rattle.mari_progress.specs.Money.{HasLedger, amount_of}
-use Rattle.mari_progress.specs.Told.{NamesLines, heading_of}
+use Rattle.mari_progress.specs.Reported.{NamesLines, heading_of}
 use Rattle.mari_progress.specs.Totals.{HasHead, HasTotals, amount_in, amount_over, operator_totals, provider_total, provider_totals}
 use Rattle.mari_day.specs.Day.{IsDay, IsDayPart}
 use Rattle.mari_day.specs.Published.{IsBlock, IsPublishedOf, IsPublishedRun, IsUnpublishedRun}
@@ -38,8 +38,8 @@ use Rattle.mari_day.specs.Published.{IsBlock, IsPublishedOf, IsPublishedRun, IsU
 module _ (books other : Books) (count : length books.runs.runs ≡ length other.runs.runs) (heading : (run : ℕ) → heading_of books run ≡ heading_of other run)
     (names : (numbers : List ℕ) (b : FullBlock) → NamesLines books numbers b → NamesLines other numbers b)
     (ledger : (made : RunMarket) (also : Option (List Cents)) (b : FullBlock) → HasLedger books made also b → HasLedger other made also b)
-    (market : (before : List Block) → length before + 1 ≤ length books.runs.runs → market_behind books before ≡ market_behind other before)
-    (also : (before : List Block) → also_behind books before ≡ also_behind other before) (head : (date : List ℕ) (quarters : ℕ) → HasHead books date quarters → HasHead other date quarters)
+    (market : (before : List Block) → length before + 1 ≤ length books.runs.runs → market_after books before ≡ market_after other before)
+    (also : (before : List Block) → also_after books before ≡ also_after other before) (head : (date : List ℕ) (quarters : ℕ) → HasHead books date quarters → HasHead other date quarters)
     (totals : (p : Publication) → length p.blocks ≤ length books.runs.runs → HasTotals books p → HasTotals other p) where
   published : (budget run : ℕ) (made : RunMarket) (given : Option (List Cents)) (b : FullBlock) → IsPublishedOf books budget run made given b → IsPublishedOf other budget run made given b
   published budget run made given b h = record {
@@ -52,11 +52,11 @@ module _ (books other : Books) (count : length books.runs.runs ≡ length other.
 
   one : (budget : ℕ) (before : List Block) (b : Block) → length before + 1 ≤ length books.runs.runs → IsBlock books budget before b → IsBlock other budget before b
   one budget before (block.Published b) l h =
-      let made : (m : RunMarket) → market_behind books before ≡ m → IsPublishedOf other budget (run_behind before) m (also_behind books before) b =
-      λ m e. subst (λ n. IsPublishedOf other budget (run_behind before) n (also_behind books before) b) e (published budget (run_behind before) (market_behind books before) (also_behind books before) b h) in
-      subst (λ given. IsPublishedOf other budget (run_behind before) (market_behind other before) given b) (also before) (made (market_behind other before) (market before l))
-  one budget before (block.Unpublished told count) l h = record {
-    is_of = h.is_of ∙ heading (run_behind before);
+      let made : (m : RunMarket) → market_after books before ≡ m → IsPublishedOf other budget (run_after before) m (also_after books before) b =
+      λ m e. subst (λ n. IsPublishedOf other budget (run_after before) n (also_after books before) b) e (published budget (run_after before) (market_after books before) (also_after books before) b h) in
+      subst (λ given. IsPublishedOf other budget (run_after before) (market_after other before) given b) (also before) (made (market_after other before) (market before l))
+  one budget before (block.Unpublished reported count) l h = record {
+    is_of = h.is_of ∙ heading (run_after before);
     spent = h.spent;
     is_spent = subst (λ (m : RunMarket). IsSpent m.market budget h.spent) (market before l) h.is_spent;
     counted = h.counted;
@@ -104,13 +104,13 @@ module _ (books : Books) (ok : IsAccepted books) (own : List ℕ) (read : border
       first (block.Published b) = refl
       first (block.Unpublished heading count) = refl
 
-  market-same : (before : List Block) → length before + 1 ≤ length books.runs.runs → market_behind migrated before ≡ market_behind books before
+  market-same : (before : List Block) → length before + 1 ≤ length books.runs.runs → market_after migrated before ≡ market_after books before
   market-same before l =
-      ap (λ past. run_market_of migrated past (run_behind before)) (past-same before)
-      ∙ markets-same books ok own read borders limits is (before_of books before) (run_behind before) (omega arith) l
+      ap (λ past. run_market_of migrated past (run_after before)) (past-same before)
+      ∙ markets-same books ok own read borders limits is (before_of books before) (run_after before) (omega arith) l
 
   in-same : (before : List Block) (b : Block) (provider : ℕ) → length before + 1 ≤ length books.runs.runs → amount_in migrated before b provider ≡ amount_in books before b provider
-  in-same before (block.Published b) provider l = ap (λ m. amount_of books m (also_behind books before) b provider) (market-same before l)
+  in-same before (block.Published b) provider l = ap (λ m. amount_of books m (also_after books before) b provider) (market-same before l)
   in-same before (block.Unpublished heading count) provider l = refl
 
   over-same : (before blocks : List Block) (provider : ℕ) → length before + length blocks ≤ length books.runs.runs → amount_over migrated before blocks provider ≡ amount_over books before blocks provider
@@ -132,10 +132,10 @@ module _ (books : Books) (ok : IsAccepted books) (own : List ℕ) (read : border
   names-back numbers b h = record { zones = h.zones; from = h.from ∙ from-same; to = h.to ∙ to-same; bids = h.bids }
 
   ledger-on : (made : RunMarket) (also : Option (List Cents)) (b : FullBlock) → HasLedger books made also b → HasLedger migrated made also b
-  ledger-on made also b h = record { tells = record { rents = h.tells.rents; operators = h.tells.operators; providers = h.tells.providers } }
+  ledger-on made also b h = record { states = record { rents = h.states.rents; operators = h.states.operators; providers = h.states.providers } }
 
   ledger-back : (made : RunMarket) (also : Option (List Cents)) (b : FullBlock) → HasLedger migrated made also b → HasLedger books made also b
-  ledger-back made also b h = record { tells = record { rents = h.tells.rents; operators = h.tells.operators; providers = h.tells.providers } }
+  ledger-back made also b h = record { states = record { rents = h.states.rents; operators = h.states.operators; providers = h.states.providers } }
 
   head-on : (date : List ℕ) (quarters : ℕ) → HasHead books date quarters → HasHead migrated date quarters
   head-on date quarters h = record { date_is = h.date_is; quarters_is = h.quarters_is }

@@ -10,7 +10,7 @@ use Rattle.mari_remain.specs.declared.books.Books.{Books}
 use Rattle.mari_remain.specs.Accepted.{IsAccepted}
 use Rattle.mari_progress.specs.declared.progress.Progress.{Progress}
 use Rattle.mari_progress.specs.declared.progress.SettledRun.{SettledRun}
-use Rattle.mari_progress.specs.Behind.{run_behind}
+use Rattle.mari_progress.specs.After.{run_after}
 use Rattle.mari_progress.specs.Progress.{IsProgress}
 use Rattle.mari_progress.specs.Runs.{IsNextRun, IsSoundBlock, IsSoundRun}
 use Rattle.mari_progress.proofs.Lists.{each-more}
@@ -34,13 +34,13 @@ sound-block books budget before (block.Published b) is = sound-run books budget 
 sound-block books budget before (block.Unpublished heading count) is = is.is_of
 
 -- a day part with one block more
-pub part-more : (books : Books) (budget : ℕ) (blocks : List Block) (b : Block) → IsDayPart books budget blocks → run_behind blocks ≤ length books.runs.runs → IsBlock books budget blocks b → IsDayPart books budget (blocks ++ b ∷ [])
+pub part-more : (books : Books) (budget : ℕ) (blocks : List Block) (b : Block) → IsDayPart books budget blocks → run_after blocks ≤ length books.runs.runs → IsBlock books budget blocks b → IsDayPart books budget (blocks ++ b ∷ [])
 part-more books budget blocks b part last is = record {
   few = omega (arith, last, length-append blocks (b ∷ []));
   each = each-more (IsBlock books budget) blocks b part.each is;
 }
 
-module _ (books : Books) (budget : ℕ) (blocks : List Block) (kept : Progress) (progress : IsDayProgress books budget blocks kept) (last : run_behind blocks ≤ length books.runs.runs) where
+module _ (books : Books) (budget : ℕ) (blocks : List Block) (kept : Progress) (progress : IsDayProgress books budget blocks kept) (last : run_after blocks ≤ length books.runs.runs) where
   -- a block that adds nothing
   pub none-more : IsAccepted books → (d : Block) → IsBlock books budget blocks d → BlockFits d → IsSettledIn books blocks d None → IsDayProgress books budget (blocks ++ d ∷ []) kept
   none-more ok (block.Published b) is fits of = absurd of

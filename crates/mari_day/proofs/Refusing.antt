@@ -6,9 +6,9 @@ use Rattle.std.specs.Str.{is_utf8}
 use Rattle.std.specs.List.{list_all}
 use Rattle.mari_rows.specs.Books.{Checks, Grammar, book_in, book_of_read, first_failing, first_refusal, line_refusal, refusal_of}
 use Rattle.mari_rows.specs.Checks.{refusal_at as fault_at}
-use Rattle.mari_rows.specs.First.{first_fault_behind, unless_fault}
+use Rattle.mari_rows.specs.First.{first_fault_after, unless_fault}
 use Rattle.mari_rows.specs.Records.{records_in}
-use Rattle.mari_rows.specs.Rows.{columns_of, fault_of_row, field_of, is_header, rows_behind_header, rows_checked, rows_from, rows_in, rows_of_width}
+use Rattle.mari_rows.specs.Rows.{columns_of, fault_of_row, field_of, is_header, rows_after_header, rows_checked, rows_from, rows_in, rows_of_width}
 use Rattle.mari_rows.specs.declared.checks.RowCheck.TheVariants as row_check
 use Rattle.mari_rows.specs.declared.faults.BookFault.{BookFault}
 use Rattle.mari_rows.specs.declared.faults.BookFault.TheVariants as refused
@@ -58,10 +58,10 @@ module _ {F : Type 0} (P : F → Type 0) where
   or-either (Some f) p first second = first
 
   first-of : {X : Type 0} (fault_of : List X → X → Option F) → ((earlier : List X) (x : X) → IfSome (fault_of earlier x) P) → (earlier xs : List X)
-      → IfSome (first_fault_behind fault_of earlier xs) P
+      → IfSome (first_fault_after fault_of earlier xs) P
   first-of fault_of each earlier [] = tt
   first-of fault_of each earlier (x ∷ xs) =
-      or-either (fault_of earlier x) (first_fault_behind fault_of (earlier ++ x ∷ []) xs) (each earlier x) (first-of fault_of each (earlier ++ x ∷ []) xs)
+      or-either (fault_of earlier x) (first_fault_after fault_of (earlier ++ x ∷ []) xs) (each earlier x) (first-of fault_of each (earlier ++ x ∷ []) xs)
 
   unless-first : {A : Type 0} (fault : Option F) (value : A) → IfSome fault P → IfErr (unless_fault fault value) P
   unless-first None value h = tt
@@ -75,8 +75,8 @@ IsUnread (unread.NotUtf8 line) = Unit {0}
 IsUnread unread.Memory = ⊥
 
 -- the rows of a page never want memory
-rows-tell : (columns page : List ℕ) → IfErr (rows_in columns page) IsUnread
-rows-tell columns page = headed (records_in page)
+rows-report : (columns page : List ℕ) → IfErr (rows_in columns page) IsUnread
+rows-report columns page = headed (records_in page)
   where
     of-row : (wide utf8 : Bool) (line : ℕ) → IfSome (if wide then if utf8 then None else Some (unread.NotUtf8 line) else Some (unread.BadRow line)) IsUnread
     of-row true true line = tt
@@ -94,7 +94,7 @@ rows-tell columns page = headed (records_in page)
     by true rows = all rows
     by false rows = tt
 
-    headed : (records : List (List (List ℕ))) → IfErr (rows_checked width (rows_behind_header (columns_of columns) records)) IsUnread
+    headed : (records : List (List (List ℕ))) → IfErr (rows_checked width (rows_after_header (columns_of columns) records)) IsUnread
     headed [] = tt
     headed (header ∷ records) = by (is_header (columns_of columns) header) (rows_from 2 records)
 
@@ -128,8 +128,8 @@ module _ (file : File) where
   -- a grammar whose checks are the file's refuses a page by them
   module _ {Book : Type 0} (g : Grammar Book) (lines : (earlier : List Row) (row : Row) → AreChecks (g.line_checks earlier row))
       (whole : (rows : List Row) → AreChecks (g.file_checks rows)) where
-    book-tells : (page : List ℕ) → IfErr (book_in g page) IsFaultBy
-    book-tells page = by (rows_in g.columns page) (rows-tell g.columns page)
+    book-states : (page : List ℕ) → IfErr (book_in g page) IsFaultBy
+    book-states page = by (rows_in g.columns page) (rows-report g.columns page)
       where
         by : (read : Result (List Row) RowFault) → IfErr read IsUnread → IfErr (book_of_read g read) IsFaultBy
         by (Err fault) h = of-rows fault h
@@ -139,18 +139,18 @@ module _ (file : File) where
             (failing-at 1 (g.file_checks rows) (whole rows)))
 
 -- each file's grammar
-zones-tell : (page : List ℕ) → IfErr (book_in zone_grammar page) (IsFaultBy Zones)
-zones-tell = book-tells Zones zone_grammar
+zones-report : (page : List ℕ) → IfErr (book_in zone_grammar page) (IsFaultBy Zones)
+zones-report = book-states Zones zone_grammar
     (λ earlier row. (Own zone.TooManyZones refl, (Own zone.BadField refl, (Own zone.Repeated refl, tt))))
     (λ rows. (Own zone.NoZone refl, tt))
 
-borders-tell : (zones : ZoneBook) (page : List ℕ) → IfErr (borders_in zones page) (IsFaultBy Borders)
-borders-tell zones page = book-tells Borders (border_grammar zones (version_in page))
+borders-report : (zones : ZoneBook) (page : List ℕ) → IfErr (borders_in zones page) (IsFaultBy Borders)
+borders-report zones page = book-states Borders (border_grammar zones (version_in page))
     (λ earlier row. (Own border.TooManyBorders refl, (Own border.Unknown refl, (Own border.SelfBorder refl, (Own border.Repeated refl, (Own border.Range refl, tt))))))
     (λ rows. tt) page
 
-bids-tell : (zones : ZoneBook) (quarters : ℕ) (page : List ℕ) → IfErr (book_in (bid_grammar zones quarters) page) (IsFaultBy Bids)
-bids-tell zones quarters = book-tells Bids (bid_grammar zones quarters)
+bids-report : (zones : ZoneBook) (quarters : ℕ) (page : List ℕ) → IfErr (book_in (bid_grammar zones quarters) page) (IsFaultBy Bids)
+bids-report zones quarters = book-states Bids (bid_grammar zones quarters)
     (λ earlier row. (
       Own bid.BadField refl,
       (
@@ -169,8 +169,8 @@ bids-tell zones quarters = book-tells Bids (bid_grammar zones quarters)
     ))
     (λ rows. tt)
 
-links-tell : (bids : BidBook) (page : List ℕ) → IfErr (book_in (link_grammar bids) page) (IsFaultBy Links)
-links-tell bids = book-tells Links (link_grammar bids)
+links-report : (bids : BidBook) (page : List ℕ) → IfErr (book_in (link_grammar bids) page) (IsFaultBy Links)
+links-report bids = book-states Links (link_grammar bids)
     (λ earlier row. (
       Own link.BadKind refl,
       (
@@ -189,70 +189,70 @@ links-tell bids = book-tells Links (link_grammar bids)
     ))
     (λ rows. (Own link.TooManyGates refl, tt))
 
-runs-tell : (quarters : ℕ) (page : List ℕ) → IfErr (book_in (run_grammar quarters) page) (IsFaultBy Runs)
-runs-tell quarters = book-tells Runs (run_grammar quarters)
+runs-report : (quarters : ℕ) (page : List ℕ) → IfErr (book_in (run_grammar quarters) page) (IsFaultBy Runs)
+runs-report quarters = book-states Runs (run_grammar quarters)
     (λ earlier row. (Own run.TooMany refl, (Own run.BadField refl, (Own run.RunsOutOfOrder refl, (Own run.Quarter refl, (Own run.Range refl, tt))))))
     (λ rows. tt)
 
-demands-tell : (zones : ZoneBook) (runs : ℕ) (page : List ℕ) → IfErr (book_in (demand_grammar zones runs) page) (IsFaultBy Demands)
-demands-tell zones runs = book-tells Demands (demand_grammar zones runs)
+demands-report : (zones : ZoneBook) (runs : ℕ) (page : List ℕ) → IfErr (book_in (demand_grammar zones runs) page) (IsFaultBy Demands)
+demands-report zones runs = book-states Demands (demand_grammar zones runs)
     (λ earlier row. (Own demand.BadField refl, (Own demand.UnknownRun refl, (Own demand.UnknownZone refl, (Own demand.Range refl, (Own demand.TooMany refl, tt))))))
     (λ rows. tt)
 
-limits-tell : (zones : ZoneBook) (borders : BorderBook) (runs : ℕ) (page : List ℕ) → IfErr (book_in (limit_grammar zones borders runs) page) (IsFaultBy Limits)
-limits-tell zones borders runs = book-tells Limits (limit_grammar zones borders runs)
+limits-report : (zones : ZoneBook) (borders : BorderBook) (runs : ℕ) (page : List ℕ) → IfErr (book_in (limit_grammar zones borders runs) page) (IsFaultBy Limits)
+limits-report zones borders runs = book-states Limits (limit_grammar zones borders runs)
     (λ earlier row. (Own limit.BadField refl, (Own limit.UnknownRun refl, (Own limit.UnknownBorder refl, (Own limit.Repeated refl, (Own limit.Range refl, tt))))))
     (λ rows. tt)
 
 -- a fault of the calendar, which isn't want of memory
-abbrev IsTold : CalendarFault → Type 0
-IsTold calendar.BadDate = Unit {0}
-IsTold calendar.BadZoneText = Unit {0}
-IsTold calendar.OutOfRange = Unit {0}
-IsTold calendar.NotWholeQuarters = Unit {0}
-IsTold calendar.Memory = ⊥
+abbrev IsReported : CalendarFault → Type 0
+IsReported calendar.BadDate = Unit {0}
+IsReported calendar.BadZoneText = Unit {0}
+IsReported calendar.OutOfRange = Unit {0}
+IsReported calendar.NotWholeQuarters = Unit {0}
+IsReported calendar.Memory = ⊥
 
 -- what holds of the errors of two steps holds of those of both
 module _ {E : Type 0} (P : E → Type 0) where
-  then-tells : {A B : Type 0} (first : Result A E) (second : A → Result B E) → IfErr first P → ((x : A) → IfErr (second x) P) → IfErr (first >>> second) P
-  then-tells (Ok x) second h more = more x
-  then-tells (Err e) second h more = h
+  then-states : {A B : Type 0} (first : Result A E) (second : A → Result B E) → IfErr first P → ((x : A) → IfErr (second x) P) → IfErr (first >>> second) P
+  then-states (Ok x) second h more = more x
+  then-states (Err e) second h more = h
 
-  or-tells : {A : Type 0} (e : E) (o : Option A) → P e → IfErr (or_fault e o) P
-  or-tells e None h = h
-  or-tells e (Some x) h = tt
+  or-states : {A : Type 0} (e : E) (o : Option A) → P e → IfErr (or_fault e o) P
+  or-states e None h = h
+  or-states e (Some x) h = tt
 
-  if-tells : {A : Type 0} (b : Bool) (x : A) (e : E) → P e → IfErr (if b then Ok x else Err e) P
-  if-tells true x e h = tt
-  if-tells false x e h = h
+  if-states : {A : Type 0} (b : Bool) (x : A) (e : E) → P e → IfErr (if b then Ok x else Err e) P
+  if-states true x e h = tt
+  if-states false x e h = h
 
-quarters-tell : (date rule : List ℕ) → IfErr (quarters_at date rule) IsTold
+quarters-report : (date rule : List ℕ) → IfErr (quarters_at date rule) IsReported
 unfolding quarters_at
-quarters-tell date rule =
-    then-tells IsTold (or_fault calendar.BadDate (day_in date)) _ (or-tells IsTold _ _ tt) (λ day.
-    then-tells IsTold (or_fault calendar.BadZoneText _) _ (or-tells IsTold _ _ tt) (λ tz.
-    then-tells IsTold (day_after day) _ (if-tells IsTold _ _ _ tt) (λ next.
-    then-tells IsTold (midnight_in tz day) _ (if-tells IsTold _ _ _ tt) (λ begin.
-    then-tells IsTold (midnight_in tz next) _ (if-tells IsTold _ _ _ tt) (λ end. if-tells IsTold _ _ _ tt)))))
+quarters-report date rule =
+    then-states IsReported (or_fault calendar.BadDate (day_in date)) _ (or-states IsReported _ _ tt) (λ day.
+    then-states IsReported (or_fault calendar.BadZoneText _) _ (or-states IsReported _ _ tt) (λ tz.
+    then-states IsReported (day_after day) _ (if-states IsReported _ _ _ tt) (λ next.
+    then-states IsReported (midnight_in tz day) _ (if-states IsReported _ _ _ tt) (λ begin.
+    then-states IsReported (midnight_in tz next) _ (if-states IsReported _ _ _ tt) (λ end. if-states IsReported _ _ _ tt)))))
 
 -- the day's page
-day-tells : (page : List ℕ) → IfErr (calendar_day_in page) (IsFaultBy Day)
-day-tells page = of-read (rows_in day_columns page) (rows-tell day_columns page)
+day-states : (page : List ℕ) → IfErr (calendar_day_in page) (IsFaultBy Day)
+day-states page = of-read (rows_in day_columns page) (rows-report day_columns page)
   where
-    of-fault : (line : ℕ) (fault : CalendarFault) → IsTold fault → IsFaultBy Day (fault_at date_check_number (check_of fault) line)
+    of-fault : (line : ℕ) (fault : CalendarFault) → IsReported fault → IsFaultBy Day (fault_at date_check_number (check_of fault) line)
     of-fault line calendar.BadDate h = Own date.BadDate refl
     of-fault line calendar.BadZoneText h = Own date.BadZoneText refl
     of-fault line calendar.OutOfRange h = Own date.OutOfRange refl
     of-fault line calendar.NotWholeQuarters h = Own date.NotWholeQuarters refl
     of-fault line calendar.Memory h = absurd h
 
-    of-quarters : (row : Row) (quarters : Result ℕ CalendarFault) → IfErr quarters IsTold → IfErr (day_by row quarters) (IsFaultBy Day)
+    of-quarters : (row : Row) (quarters : Result ℕ CalendarFault) → IfErr quarters IsReported → IfErr (day_by row quarters) (IsFaultBy Day)
     of-quarters row (Ok quarters) h = tt
     of-quarters row (Err fault) h = of-fault row.line fault h
 
     of-rows-there : (rows : List Row) → IfErr (day_of_rows rows) (IsFaultBy Day)
     of-rows-there [] = Own date.NotOneRecord refl
-    of-rows-there (row ∷ []) = of-quarters row (quarters_at (field_of row 0) (field_of row 1)) (quarters-tell (field_of row 0) (field_of row 1))
+    of-rows-there (row ∷ []) = of-quarters row (quarters_at (field_of row 0) (field_of row 1)) (quarters-report (field_of row 0) (field_of row 1))
     of-rows-there (row ∷ second ∷ more) = Own date.NotOneRecord refl
 
     of-read : (read : Result (List Row) RowFault) → IfErr read IsUnread → IfErr (day_of_read read) (IsFaultBy Day)
@@ -272,25 +272,25 @@ limits-there zones borders runs pages = by (version_in (page_among pages Borders
     limits = book_in (limit_grammar zones borders runs) (page_among pages Limits)
 
     by : (b : Bool) → IfErr (if b then (of_file Limits limits >>> λ l. Ok (Some l)) else Ok None) IsByCheck
-    by true = then-tells IsByCheck (of_file Limits limits) (λ l. Ok (Some l)) (of-file Limits limits (limits-tell zones borders runs (page_among pages Limits))) (λ l. tt)
+    by true = then-states IsByCheck (of_file Limits limits) (λ l. Ok (Some l)) (of-file Limits limits (limits-report zones borders runs (page_among pages Limits))) (λ l. tt)
     by false = tt
 
-books-tell : (pages : List (List ℕ)) → IfErr (books_at pages) IsByCheck
+books-report : (pages : List (List ℕ)) → IfErr (books_at pages) IsByCheck
 unfolding books_at
-books-tell pages =
-    then-tells IsByCheck (of_file Day (calendar_day_in (page_among pages Day))) _ (of-file Day _ (day-tells (page_among pages Day))) (λ day.
-    then-tells IsByCheck (of_file Zones (book_in zone_grammar (page_among pages Zones))) _ (of-file Zones _ (zones-tell (page_among pages Zones))) (λ zones.
-    then-tells IsByCheck (of_file Borders (borders_in zones (page_among pages Borders))) _ (of-file Borders _ (borders-tell zones (page_among pages Borders))) (λ borders.
-    then-tells IsByCheck (of_file Bids (book_in (bid_grammar zones day.quarters) (page_among pages Bids))) _ (of-file Bids _ (bids-tell zones day.quarters (page_among pages Bids))) (λ bids.
-    then-tells IsByCheck (of_file Links (book_in (link_grammar bids) (page_among pages Links))) _ (of-file Links _ (links-tell bids (page_among pages Links))) (λ links.
-    then-tells IsByCheck (of_file Runs (book_in (run_grammar day.quarters) (page_among pages Runs))) _ (of-file Runs _ (runs-tell day.quarters (page_among pages Runs))) (λ runs.
-    then-tells IsByCheck (of_file Demands (book_in (demand_grammar zones (length runs.runs)) (page_among pages Demands))) _
-    (of-file Demands _ (demands-tell zones (length runs.runs) (page_among pages Demands))) (λ demands.
-    then-tells IsByCheck (limits_of_pages zones borders (length runs.runs) pages) _ (limits-there zones borders (length runs.runs) pages) (λ limits. tt))))))))
+books-report pages =
+    then-states IsByCheck (of_file Day (calendar_day_in (page_among pages Day))) _ (of-file Day _ (day-states (page_among pages Day))) (λ day.
+    then-states IsByCheck (of_file Zones (book_in zone_grammar (page_among pages Zones))) _ (of-file Zones _ (zones-report (page_among pages Zones))) (λ zones.
+    then-states IsByCheck (of_file Borders (borders_in zones (page_among pages Borders))) _ (of-file Borders _ (borders-report zones (page_among pages Borders))) (λ borders.
+    then-states IsByCheck (of_file Bids (book_in (bid_grammar zones day.quarters) (page_among pages Bids))) _ (of-file Bids _ (bids-report zones day.quarters (page_among pages Bids))) (λ bids.
+    then-states IsByCheck (of_file Links (book_in (link_grammar bids) (page_among pages Links))) _ (of-file Links _ (links-report bids (page_among pages Links))) (λ links.
+    then-states IsByCheck (of_file Runs (book_in (run_grammar day.quarters) (page_among pages Runs))) _ (of-file Runs _ (runs-report day.quarters (page_among pages Runs))) (λ runs.
+    then-states IsByCheck (of_file Demands (book_in (demand_grammar zones (length runs.runs)) (page_among pages Demands))) _
+    (of-file Demands _ (demands-report zones (length runs.runs) (page_among pages Demands))) (λ demands.
+    then-states IsByCheck (limits_of_pages zones borders (length runs.runs) pages) _ (limits-there zones borders (length runs.runs) pages) (λ limits. tt))))))))
 
 -- what was read is refused so
 pub refuses-by-check : (pages : List (List ℕ)) (result : Result Books BooksFault) → ReadsAs result (books_at pages) → RefusesByCheck result
 refuses-by-check pages (Ok books) read = tt
 refuses-by-check pages (Err (why.Fetch file fault)) read = tt
 refuses-by-check pages (Err why.Memory) read = tt
-refuses-by-check pages (Err (why.Refused refusal)) read = rw read at (books-tell pages)
+refuses-by-check pages (Err (why.Refused refusal)) read = rw read at (books-report pages)

@@ -52,9 +52,9 @@ module _ (books : Books) (budget : ℕ) where
       ∙ ap (λ (t : List ℕ). first-line p.date p.quarters p.budget ++ (t ++ totals)) (sym (text_of_blocks p.blocks))
       ∙ ap (λ (t : List ℕ). first-line p.date p.quarters p.budget ++ t) (sym (flat_map-append line_text (flat_map block_lines p.blocks) (closing_lines p)))
 
-  -- a first part of a text behind another text
-  behind : (before mid after : Option (List ℕ)) (text more : List ℕ) (count : ℕ) → mid ≡ then_took before text → after ≡ then_took mid (take count more) → after ≡ then_took before (take (length text + count) (text ++ more))
-  behind before mid after text more count e f =
+  -- a first part of a text following another text
+  following : (before mid after : Option (List ℕ)) (text more : List ℕ) (count : ℕ) → mid ≡ then_took before text → after ≡ then_took mid (take count more) → after ≡ then_took before (take (length text + count) (text ++ more))
+  following before mid after text more count e f =
       f ∙ ap (λ taken. then_took taken (take count more)) e ∙ took_more before text (take count more) ∙ ap (then_took before) (sym (take-append-add text more count))
 
   -- the head alone, or a first part of it
@@ -89,7 +89,7 @@ module _ (books : Books) (budget : ℕ) where
       is_text = inl (record { blocks = first.blocks ++ cut.block ∷ []; part = part-more books budget first.blocks cut.block first.progress.part (omega (arith, last, first.counted)) cut.is_block; spelled = refl });
       taken = (
         length (part_text books budget first.blocks) + cut.taken.0,
-        behind before mid after (part_text books budget first.blocks) (block_text_of cut.block) cut.taken.0 first.taken cut.taken.1
+        following before mid after (part_text books budget first.blocks) (block_text_of cut.block) cut.taken.0 first.taken cut.taken.1
             ∙ ap (λ t. then_took before (take (length (part_text books budget first.blocks) + cut.taken.0) t)) (sym (part-text-more first.blocks cut.block)),
       );
     }
@@ -113,7 +113,7 @@ module _ (books : Books) (budget : ℕ) where
       is_text = inr (record { publication = p; day = is.day; in_range = is.in_range; spelled = refl });
       taken = (
         length (part_text books budget first.blocks) + n,
-        behind before mid after (part_text books budget first.blocks) (total_text_of p) n first.taken e
+        following before mid after (part_text books budget first.blocks) (total_text_of p) n first.taken e
             ∙ ap (λ t. then_took before (take (length (part_text books budget first.blocks) + n) t)) (day-text first.blocks p is),
       );
     }

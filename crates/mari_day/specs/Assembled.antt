@@ -10,19 +10,19 @@ use Rattle.mari_remain.specs.declared.market.RunMarket.{RunMarket}
 use Rattle.mari_settle.specs.Ledger.{operator_lines, provider_amounts, rents_of, scheduled_or}
 use Rattle.mari_settle.specs.Conditions.{HasSmallNumbers}
 use Rattle.mari_day.specs.declared.block.Priced.{Priced}
-use Rattle.mari_progress.specs.Money.{TellsLedger, providers_among}
+use Rattle.mari_progress.specs.Money.{StatesLedger, providers_among}
 use Rattle.mari_progress.specs.Runs.{IsBalancedLedger}
-use Rattle.mari_progress.specs.Told.{NamesLines, areas_of, greatest_told, heading_of, least_told, prices_of}
+use Rattle.mari_progress.specs.Reported.{NamesLines, areas_of, greatest_reported, heading_of, least_reported, prices_of}
 use Rattle.mari_progress.specs.Prices.{AreZonePrices}
 
--- what the lines of zones tell
+-- what the lines of zones state
 pub record HasZoneLines (priced : Priced) (b : FullBlock) : Type 0 where
   pub prices : prices_of b ≡ priced.pricing.published.cents
-  pub least : least_told b ≡ priced.pricing.least.cents
-  pub greatest : greatest_told b ≡ priced.pricing.greatest.cents
+  pub least : least_reported b ≡ priced.pricing.least.cents
+  pub greatest : greatest_reported b ≡ priced.pricing.greatest.cents
   pub areas : areas_of b ≡ priced.areas.items
 
--- what the lines of bids tell, and the demands
+-- what the lines of bids state, and the demands
 pub record HasOrderLines (numbers : List ℕ) (clearing : Clearing) (b : FullBlock) : Type 0 where
   pub mw : map (λ (l : BidLine). l.mw) b.bids ≡ take (length numbers) clearing.activation.mw
   pub demands : b.demands ≡ drop (length numbers) clearing.activation.mw
@@ -36,7 +36,7 @@ pub record IsAssembled (books : Books) (run : ℕ) (numbers : List ℕ) (clearin
   pub zones : HasZoneLines priced b
   pub flow : map (λ (l : BorderLine). l.flow) b.borders ≡ clearing.activation.flow
   pub orders : HasOrderLines numbers clearing b
-  pub ledger : TellsLedger books b priced.ledger (providers_among books.bids.bids numbers)
+  pub ledger : StatesLedger books b priced.ledger (providers_among books.bids.bids numbers)
 
 -- one price of each kind and one area for each zone, a flow and a rent for each border, a quantity for each bid, an
 -- amount for each provider, and a line for each operator, all of them small

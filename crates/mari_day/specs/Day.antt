@@ -9,7 +9,7 @@ use Rattle.mari_publish.specs.Ranges.{HasText}
 use Rattle.mari_publish.specs.Texts.{block_text_of, head_text_of, text_of}
 use Rattle.mari_remain.specs.declared.books.Books.{Books}
 use Rattle.mari_market.specs.SearchTree.{HasSize}
-use Rattle.mari_progress.specs.Behind.{market_behind}
+use Rattle.mari_progress.specs.After.{market_after}
 use Rattle.mari_day.specs.Published.{IsBlock}
 use Rattle.mari_progress.specs.Totals.{HasHead, HasTotals}
 use Rattle.mari_day.specs.declared.text.PrintedDay.{PrintedDay}
@@ -18,7 +18,7 @@ use Rattle.mari_day.specs.declared.day.DayEnd.TheVariants.{Done, WriteFault, Mem
 use Rattle.mari_day.specs.declared.step.Stop.{Stop}
 use Rattle.mari_day.specs.declared.step.Stop.TheVariants.{Sink, Memory as NoMemory}
 
--- the blocks of a day part: those of the first runs in order, each behind the blocks printed before it
+-- the blocks of a day part: those of the first runs in order, each after the blocks printed before it
 pub record IsDayPart (books : Books) (budget : ℕ) (blocks : List Block) : Type 0 where
   pub few : length blocks ≤ length books.runs.runs
   pub each : (k : ℕ) (b : Block) → slice_get blocks k ≡ Some b → IsBlock books budget (take k blocks) b
@@ -87,4 +87,4 @@ EndsDay books budget before after Memory = Stopped books budget before after NoM
 
 -- whatever blocks are printed, the budget holds the search tree of the market of the next run
 abbrev pub HasEnough : Books → (budget : ℕ) → Type 0
-HasEnough books budget = (blocks : List Block) → IsDayPart books budget blocks → length blocks < length books.runs.runs → (size : ℕ) × HasSize (market_behind books blocks).market size × (size ≤ budget)
+HasEnough books budget = (blocks : List Block) → IsDayPart books budget blocks → length blocks < length books.runs.runs → (size : ℕ) × HasSize (market_after books blocks).market size × (size ≤ budget)

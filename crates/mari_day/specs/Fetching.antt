@@ -49,10 +49,10 @@ abbrev pub FetchesPages : (count before now : ℕ) → Result (List (List ℕ)) 
 FetchesPages count before now (Ok texts) = (length texts ≡ count) × (now ≡ counted_by count before)
 FetchesPages count before now (Err fault) = FetchedUpTo count before now fault
 
--- so many files a folder has: seven, or eight with limits.csv; where its pages are told, they tell which
+-- so many files a folder has: seven, or eight with limits.csv; where its pages are reported, they state which
 pub record HasFiles (pages : Option Pages) (folder : List ℕ) (count : ℕ) : Type 0 where
   pub seven_or_eight : (count ≡ 7) ⊎ (count ≡ 8)
-  pub told : (told : Pages) → pages ≡ Some told → count ≡ length (files_in told folder)
+  pub reported : (reported : Pages) → pages ≡ Some reported → count ≡ length (files_in reported folder)
 
 -- how many fetches the pages of all files of a folder take
 pub record FetchesFolder (pages : Option Pages) (folder : List ℕ) (before now : ℕ) (result : Result (List (List ℕ)) PagesFault) : Type 0 where
@@ -61,20 +61,20 @@ pub record FetchesFolder (pages : Option Pages) (folder : List ℕ) (before now 
   pub fetched : FetchesPages count before now result
 
 -- what fetching one file says of its page, where that is known
-abbrev pub PageTells : File → Option (List ℕ) → Result (List ℕ) PagesFault → Type 0
-PageTells file page (Ok bytes) = (page ≡ Some bytes) × (gap_of page ≡ None)
-PageTells file page (Err NoMemory) = ⊤
-PageTells file page (Err (OfFetch f Failed)) = f ≡ file
-PageTells file page (Err (OfFetch f Missing)) = (f ≡ file) × (gap_of page ≡ Some NotHeld)
-PageTells file page (Err (OfFetch f TooLong)) = (f ≡ file) × (gap_of page ≡ Some OverLimit)
-PageTells file page (Err (OfFetch f Memory)) = f ≡ file
+abbrev pub PageStates : File → Option (List ℕ) → Result (List ℕ) PagesFault → Type 0
+PageStates file page (Ok bytes) = (page ≡ Some bytes) × (gap_of page ≡ None)
+PageStates file page (Err NoMemory) = ⊤
+PageStates file page (Err (OfFetch f Failed)) = f ≡ file
+PageStates file page (Err (OfFetch f Missing)) = (f ≡ file) × (gap_of page ≡ Some NotHeld)
+PageStates file page (Err (OfFetch f TooLong)) = (f ≡ file) × (gap_of page ≡ Some OverLimit)
+PageStates file page (Err (OfFetch f Memory)) = f ≡ file
 
--- what fetching these files says of the pages, where they are told: all of them, or the first that isn't held or is too
+-- what fetching these files says of the pages, where they are reported: all of them, or the first that isn't held or is too
 -- long
-abbrev pub FetchingTells : Pages → List ℕ → List File → Result (List (List ℕ)) PagesFault → Type 0
-FetchingTells pages folder fs (Ok texts) = ArePages pages folder fs texts
-FetchingTells pages folder fs (Err NoMemory) = ⊤
-FetchingTells pages folder fs (Err (OfFetch file Failed)) = ⊤
-FetchingTells pages folder fs (Err (OfFetch file Missing)) = first_gap pages folder fs ≡ Some (record { file = file; gap = NotHeld })
-FetchingTells pages folder fs (Err (OfFetch file TooLong)) = first_gap pages folder fs ≡ Some (record { file = file; gap = OverLimit })
-FetchingTells pages folder fs (Err (OfFetch file Memory)) = ⊤
+abbrev pub FetchingStates : Pages → List ℕ → List File → Result (List (List ℕ)) PagesFault → Type 0
+FetchingStates pages folder fs (Ok texts) = ArePages pages folder fs texts
+FetchingStates pages folder fs (Err NoMemory) = ⊤
+FetchingStates pages folder fs (Err (OfFetch file Failed)) = ⊤
+FetchingStates pages folder fs (Err (OfFetch file Missing)) = first_gap pages folder fs ≡ Some (record { file = file; gap = NotHeld })
+FetchingStates pages folder fs (Err (OfFetch file TooLong)) = first_gap pages folder fs ≡ Some (record { file = file; gap = OverLimit })
+FetchingStates pages folder fs (Err (OfFetch file Memory)) = ⊤

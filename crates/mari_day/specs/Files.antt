@@ -68,7 +68,7 @@ file_with number =
 abbrev pub files : List File
 files = Day ∷ Zones ∷ Borders ∷ Bids ∷ Links ∷ Runs ∷ Demands ∷ []
 
--- the files of a folder whose page of borders is of this version: in version 2 limits.csv stands behind the seven
+-- the files of a folder whose page of borders is of this version: in version 2 limits.csv stands after the seven
 abbrev pub files_of : (version : ℕ) → List File
 files_of version = if version == 2 then files ++ Limits ∷ [] else files
 
@@ -97,12 +97,12 @@ path_of folder file = path_in folder (name_of file)
 abbrev pub page_in : Pages → List ℕ → File → Option (List ℕ)
 page_in pages folder file = page_of pages (path_of folder file)
 
--- the version of a folder's files, which its page of borders tells
+-- the version of a folder's files, which its page of borders states
 abbrev pub version_by : Option (List ℕ) → ℕ
 version_by None = 1
 version_by (Some borders) = version_in borders
 
--- the files of a folder whose pages are told
+-- the files of a folder whose pages are reported
 abbrev pub files_in : Pages → List ℕ → List File
 files_in pages folder = files_of (version_by (page_in pages folder Borders))
 

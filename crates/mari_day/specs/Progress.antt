@@ -7,7 +7,7 @@ use Rattle.mari_publish.specs.Ranges.{BlockFits}
 use Rattle.mari_remain.specs.declared.books.Books.{Books}
 use Rattle.mari_progress.specs.declared.progress.Progress.{Progress}
 use Rattle.mari_progress.specs.declared.progress.SettledRun.{SettledRun}
-use Rattle.mari_progress.specs.Behind.{also_behind, market_behind}
+use Rattle.mari_progress.specs.After.{also_after, market_after}
 use Rattle.mari_progress.specs.Progress.{IsProgress}
 use Rattle.mari_progress.specs.Runs.{IsRunOf}
 use Rattle.mari_day.specs.declared.step.RunDone.{RunDone}
@@ -22,12 +22,12 @@ pub record IsDayProgress (books : Books) (budget : ℕ) (blocks : List Block) (p
 
 -- what a block adds to its day, which is nothing unless it is published
 abbrev pub IsSettledIn : Books → (before : List Block) → Block → Option SettledRun → Type 0
-IsSettledIn books before (block.Published b) (Some settled) = IsRunOf books (market_behind books before) (also_behind books before) b settled
+IsSettledIn books before (block.Published b) (Some settled) = IsRunOf books (market_after books before) (also_after books before) b settled
 IsSettledIn books before (block.Published b) None = ⊥
 IsSettledIn books before (block.Unpublished heading count) (Some settled) = ⊥
 IsSettledIn books before (block.Unpublished heading count) None = ⊤
 
--- the block of the run behind these blocks, with what it adds
+-- the block of the run after these blocks, with what it adds
 pub record IsRunDone (books : Books) (budget : ℕ) (before : List Block) (done : RunDone) : Type 0 where
   pub block : IsBlock books budget before done.block
   pub settled : IsSettledIn books before done.block done.settled

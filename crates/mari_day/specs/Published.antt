@@ -10,15 +10,15 @@ use Rattle.mari_publish.specs.declared.publication.Block.TheVariants as block
 use Rattle.mari_publish.specs.declared.publication.FullBlock.{FullBlock}
 use Rattle.mari_remain.specs.declared.books.Books.{Books}
 use Rattle.mari_remain.specs.declared.market.RunMarket.{RunMarket}
-use Rattle.mari_progress.specs.Behind.{also_behind, market_behind, run_behind}
+use Rattle.mari_progress.specs.After.{also_after, market_after, run_after}
 use Rattle.mari_progress.specs.Money.{HasLedger}
-use Rattle.mari_progress.specs.Told.{NamesMarket, heading_of}
+use Rattle.mari_progress.specs.Reported.{NamesMarket, heading_of}
 use Rattle.mari_progress.specs.Prices.{HasPrices}
 use Rattle.mari_day.specs.Run.{clearing_of}
 
 -- what a block says of a run and of its clearing: its heading, the names of its market's lines, the clearing, the prices,
 -- intervals and areas, and the ledger
-pub record IsToldOf (books : Books) (run : ℕ) (made : RunMarket) (also : Option (List Cents)) (clearing : Clearing) (b : FullBlock) : Type 0 where
+pub record IsReportedOf (books : Books) (run : ℕ) (made : RunMarket) (also : Option (List Cents)) (clearing : Clearing) (b : FullBlock) : Type 0 where
   pub heading : b.heading ≡ heading_of books run
   pub names : NamesMarket books made b
   pub cleared : clearing_of b ≡ clearing
@@ -34,18 +34,18 @@ pub record IsPublishedOf (books : Books) (budget run : ℕ) (made : RunMarket) (
   pub prices : HasPrices made.market b
   pub ledger : HasLedger books made also b
 
--- a published run: that of the market behind the blocks printed before
+-- a published run: that of the market after the blocks printed before
 abbrev pub IsPublishedRun : Books → (budget : ℕ) → (before : List Block) → FullBlock → Type 0
-IsPublishedRun books budget before b = IsPublishedOf books budget (run_behind before) (market_behind books before) (also_behind books before) b
+IsPublishedRun books budget before b = IsPublishedOf books budget (run_after before) (market_after books before) (also_after books before) b
 
 -- a run that isn't published: its search tree has more nodes than the budget, and so many of them were made
 pub record IsUnpublishedRun (books : Books) (budget : ℕ) (before : List Block) (heading : Heading) (count : ℕ) : Type 0 where
-  pub is_of : heading ≡ heading_of books (run_behind before)
+  pub is_of : heading ≡ heading_of books (run_after before)
   pub spent : Spent
-  pub is_spent : IsSpent (market_behind books before).market budget spent
+  pub is_spent : IsSpent (market_after books before).market budget spent
   pub counted : count ≡ length spent.items
 
--- the block of the run behind the blocks printed before
+-- the block of the run after the blocks printed before
 abbrev pub IsBlock : Books → (budget : ℕ) → (before : List Block) → Block → Type 0
 IsBlock books budget before (block.Published b) = IsPublishedRun books budget before b
 IsBlock books budget before (block.Unpublished heading count) = IsUnpublishedRun books budget before heading count

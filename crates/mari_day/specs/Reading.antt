@@ -83,15 +83,15 @@ pub record HasGap (pages : Pages) (folder : List ℕ) (number : ℕ) (gap : Gap)
   pub numbered : number ≡ file_number file
   pub first : first_gap pages folder (files_in pages folder) ≡ Some (record { file = file; gap = gap })
 
--- what reading says of the pages, where they are told
-abbrev pub BooksTell : Pages → List ℕ → Result Books BooksFault → Type 0
-BooksTell pages folder (Ok books) = HasBooks pages folder books
-BooksTell pages folder (Err (why.Refused refusal)) = HasRefusal pages folder refusal
-BooksTell pages folder (Err why.Memory) = ⊤
-BooksTell pages folder (Err (why.Fetch number fetch.Failed)) = ⊤
-BooksTell pages folder (Err (why.Fetch number fetch.Missing)) = HasGap pages folder number NotHeld
-BooksTell pages folder (Err (why.Fetch number fetch.TooLong)) = HasGap pages folder number OverLimit
-BooksTell pages folder (Err (why.Fetch number fetch.Memory)) = ⊥
+-- what reading says of the pages, where they are reported
+abbrev pub BooksReport : Pages → List ℕ → Result Books BooksFault → Type 0
+BooksReport pages folder (Ok books) = HasBooks pages folder books
+BooksReport pages folder (Err (why.Refused refusal)) = HasRefusal pages folder refusal
+BooksReport pages folder (Err why.Memory) = ⊤
+BooksReport pages folder (Err (why.Fetch number fetch.Failed)) = ⊤
+BooksReport pages folder (Err (why.Fetch number fetch.Missing)) = HasGap pages folder number NotHeld
+BooksReport pages folder (Err (why.Fetch number fetch.TooLong)) = HasGap pages folder number OverLimit
+BooksReport pages folder (Err (why.Fetch number fetch.Memory)) = ⊥
 
 -- the fetch of some file gave this answer
 abbrev pub IsFetchFault : {T : Type 0} → Fetch → Result T BooksFault → Type 0

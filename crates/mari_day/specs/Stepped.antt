@@ -18,7 +18,7 @@ Writes text before after (Ok done) = after ≡ then_took before text
 Writes text before after (Err Sink) = TookPart before after text
 Writes text before after (Err NoMemory) = after ≡ before
 
--- the block of the run behind these blocks was written, and what is kept stands for one block more
+-- the block of the run after these blocks was written, and what is kept stands for one block more
 pub record WroteBlock (books : Books) (budget : ℕ) (blocks : List Block) (kept : Progress) (before after : Option (List ℕ)) : Type 0 where
   pub block : Block
   pub progress : IsDayProgress books budget (blocks ++ block ∷ []) kept
@@ -49,7 +49,7 @@ pub record IsDayOf (books : Books) (budget : ℕ) (blocks : List Block) (p : Pub
   pub in_range : HasText p
   pub of_blocks : p.blocks ≡ blocks
 
--- the totals of such a day were written behind its blocks, or a first part of them, or nothing
+-- the totals of such a day were written after its blocks, or a first part of them, or nothing
 abbrev pub Closes : Books → (budget : ℕ) → (blocks : List Block) → (before after : Option (List ℕ)) → Result (Unit {0}) Stop → Type 0
 Closes books budget blocks before after (Ok done) = (p : Publication) × IsDayOf books budget blocks p × (after ≡ then_took before (total_text_of p))
 Closes books budget blocks before after (Err Sink) = (p : Publication) × IsDayOf books budget blocks p × TookPart before after (total_text_of p)

@@ -12,7 +12,7 @@ ghost use Rattle.mari_progress.specs.Money.{amount_line, providers_among};
 ghost use Rattle.mari_progress.specs.Runs.{IsMarketOf, IsRunOf};
 ghost use Rattle.mari_day.specs.Assembled.{HasShapes, IsAssembled, IsPriced};
 ghost use Rattle.mari_day.specs.Dated.{IsDated};
-ghost use Rattle.mari_day.specs.Published.{IsPublishedOf, IsToldOf};
+ghost use Rattle.mari_day.specs.Published.{IsPublishedOf, IsReportedOf};
 
 use crate::lines::{amount_lines, money_lines};
 use mari_bids::BidBook;
@@ -167,7 +167,7 @@ pub fn published_run(
 
     // What the block says of the clearing, of which nothing but the activation is asked.
     ensures market_fits { IfOk result (λ p. MarketFits p.block) }
-    ensures told { IfOk result (λ p. IsToldOf books.now run made (option_map (λ scheduled. scheduled.now.cents) also.entry) clearing p.block) }
+    ensures reported { IfOk result (λ p. IsReportedOf books.now run made (option_map (λ scheduled. scheduled.now.cents) also.entry) clearing p.block) }
 
     // The block, by whatever budget the market was cleared.
     ensures published { (budget : ℕ) → IsClearing made.market budget clearing

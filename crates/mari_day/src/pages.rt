@@ -7,7 +7,7 @@ ghost use Rattle.mari_io.specs.Outside.{Counts, Pages};
 ghost use Rattle.mari_io.specs.declared.shelf.Fetch.TheVariants as fetch;
 ghost use Rattle.mari_zones.specs.Borders.{version_in};
 ghost use Rattle.mari_day.specs.Files.{files, files_in, page_in, page_among, place_of};
-ghost use Rattle.mari_day.specs.Fetching.{IsFault, IsOfFile, FetchesFolder, FetchesPage, FetchesPages, FetchingTells, PageTells};
+ghost use Rattle.mari_day.specs.Fetching.{IsFault, IsOfFile, FetchesFolder, FetchesPage, FetchesPages, FetchingStates, PageStates};
 
 use crate::files::{FILES, File, path_in};
 use mari_io::{Fetch, Shelf};
@@ -88,7 +88,7 @@ fn fetch_page<S: Shelf>(
     ensures memory { IsFault fetch.Memory result → ⊥ }
 
     // What it says of the page, where pages are reported.
-    ensures told { (told : Pages) → S.pages shelf.old ≡ Some told → PageTells file (page_in told folder.now file) result }
+    ensures reported { (reported : Pages) → S.pages shelf.old ≡ Some reported → PageStates file (page_in reported folder.now file) result }
 
     // Why the page wasn't had.
     ensures failed { Counts (IsFault fetch.Failed result) (S.faults shelf.old) (S.faults shelf.new) }
@@ -120,7 +120,7 @@ fn fetch_seven<S: Shelf>(
 
     // What it says of the pages, where they are reported. Out of memory is reported as such.
     ensures memory { IsFault fetch.Memory result → ⊥ }
-    ensures told { (told : Pages) → S.pages shelf.old ≡ Some told → FetchingTells told folder.now files result }
+    ensures reported { (reported : Pages) → S.pages shelf.old ≡ Some reported → FetchingStates reported folder.now files result }
 
     // Why a page wasn't had.
     ensures failed { Counts (IsFault fetch.Failed result) (S.faults shelf.old) (S.faults shelf.new) }
@@ -180,7 +180,7 @@ pub fn fetch_pages<S: Shelf>(
 
     // What it says of the pages, where they are reported. Out of memory is reported as such.
     ensures memory { IsFault fetch.Memory result → ⊥ }
-    ensures told { (told : Pages) → S.pages shelf.old ≡ Some told → FetchingTells told folder.now (files_in told folder.now) result }
+    ensures reported { (reported : Pages) → S.pages shelf.old ≡ Some reported → FetchingStates reported folder.now (files_in reported folder.now) result }
 
     // Why a page wasn't had.
     ensures failed { Counts (IsFault fetch.Failed result) (S.faults shelf.old) (S.faults shelf.new) }

@@ -16,7 +16,7 @@ ghost use Rattle.mari_remain.specs.Accepted.{IsAccepted};
 ghost use Rattle.mari_day.specs.CalendarPage.{calendar_day_in, IsCalendarDay};
 ghost use Rattle.mari_day.specs.Dated.{IsDated};
 ghost use Rattle.mari_day.specs.Files.{page_among, IsFileNumber};
-ghost use Rattle.mari_day.specs.Reading.{books_at, file_refusal, limits_of_pages, of_file, BooksTell, FetchesFiles, IsFetchFault, NamesAFile, ReadsAs};
+ghost use Rattle.mari_day.specs.Reading.{books_at, file_refusal, limits_of_pages, of_file, BooksReport, FetchesFiles, IsFetchFault, NamesAFile, ReadsAs};
 ghost use Rattle.mari_day.specs.Refusals.{RefusesByCheck};
 
 use crate::calendar_page::CalendarDay;
@@ -228,7 +228,7 @@ pub fn read_books<S: Shelf>(alloc: Global, shelf: &mut S, folder: &str) -> Resul
     ensures fetched { FetchesFiles (S.pages shelf.old) folder.now (S.fetches shelf.old) (S.fetches shelf.new) result }
 
     // What was read.
-    ensures told { (told : Pages) → S.pages shelf.old ≡ Some told → BooksTell told folder.now result }
+    ensures reported { (reported : Pages) → S.pages shelf.old ≡ Some reported → BooksReport reported folder.now result }
     ensures accepted { IfOk result IsAccepted }
     ensures dated { IfOk result IsDated }
 

@@ -6,7 +6,7 @@ ghost use Rattle.mari_publish.specs.Ranges.{BlockFits};
 ghost use Rattle.mari_publish.specs.Texts.{block_text_of};
 ghost use Rattle.mari_publish.specs.declared.publication.Block.{Block as PrintedBlock};
 ghost use Rattle.mari_remain.specs.Accepted.{IsAccepted};
-ghost use Rattle.mari_progress.specs.Behind.{run_behind};
+ghost use Rattle.mari_progress.specs.After.{run_after};
 ghost use Rattle.mari_day.specs.Dated.{IsDated};
 ghost use Rattle.mari_io.specs.Taken.{TookPart, then_took};
 ghost use Rattle.mari_day.specs.Progress.{IsDayProgress, IsRunDone};
@@ -64,14 +64,14 @@ fn run_done<C: Clearer>(
     requires accepted { IsAccepted books.now }
     requires dated { IsDated books.now }
     requires last { run ≤ length books.now.runs.runs }
-    requires stands { (blocks : List PrintedBlock) × IsDayProgress books.now budget blocks progress.now × (run ≡ run_behind blocks) }
+    requires stands { (blocks : List PrintedBlock) × IsDayProgress books.now budget blocks progress.now × (run ≡ run_after blocks) }
 
     // What clears it.
     requires budget { IsBudget budget }
     requires ready { C.ready clearer.old }
 
     // The block, whatever blocks these are.
-    ensures done { (blocks : List PrintedBlock) → IsDayProgress books.now budget blocks progress.now → run ≡ run_behind blocks → IfOk result (IsRunDone books.now budget blocks) }
+    ensures done { (blocks : List PrintedBlock) → IsDayProgress books.now budget blocks progress.now → run ≡ run_after blocks → IfOk result (IsRunDone books.now budget blocks) }
     ensures fits { IfOk result (λ done. BlockFits done.block) }
 
     // The clearer may clear on.
@@ -137,14 +137,14 @@ pub fn day_step<C: Clearer, K: Sink>(
     requires accepted { IsAccepted books.now }
     requires dated { IsDated books.now }
     requires last { run ≤ length books.now.runs.runs }
-    requires stands { (blocks : List PrintedBlock) × IsDayProgress books.now budget blocks progress.old × (run ≡ run_behind blocks) }
+    requires stands { (blocks : List PrintedBlock) × IsDayProgress books.now budget blocks progress.old × (run ≡ run_after blocks) }
 
     // What clears it.
     requires budget { IsBudget budget }
     requires ready { C.ready clearer.old }
 
     // What is written and kept, whatever blocks these are, and why no more.
-    ensures stepped { (blocks : List PrintedBlock) → IsDayProgress books.now budget blocks progress.old → run ≡ run_behind blocks
+    ensures stepped { (blocks : List PrintedBlock) → IsDayProgress books.now budget blocks progress.old → run ≡ run_after blocks
         → Stepped books.now budget blocks progress.new (K.taken sink.old) (K.taken sink.new) result }
     ensures cause { Counts (result ≡ Err Stop.Sink) (K.faults sink.old) (K.faults sink.new) }
 

@@ -156,7 +156,7 @@ fn fault_of(alloc: Global, books: &Books, day: &Publication) -> Result<Option<u8
 }
 
 /// The fault of the first run's block of a text, and the verdict on its day.
-fn told_whole(alloc: Global, books: &Books, text: &[u8]) -> Result<(Option<u8>, Verdict), Fail>
+fn reported_whole(alloc: Global, books: &Books, text: &[u8]) -> Result<(Option<u8>, Verdict), Fail>
     requires { IsAccepted books.now }
 {
     let Ok(day) = read_text(alloc, text) else {
@@ -180,7 +180,7 @@ pub(crate) fn shelf_of(alloc: Global, text: &[u8], piece: u32) -> Result<MemoryS
 }
 
 /// What is reported of a text that a shelf gives in pieces of `piece` bytes.
-fn told_in_pieces(
+fn reported_in_pieces(
     alloc: Global,
     books: &Books,
     text: &[u8],
@@ -189,30 +189,30 @@ fn told_in_pieces(
     requires { IsAccepted books.now }
 {
     let mut shelf = shelf_of(alloc, text, piece)?;
-    let told = check_stream(alloc, books, &mut shelf, "F/publication.txt");
+    let reported = check_stream(alloc, books, &mut shelf, "F/publication.txt");
     drop(shelf);
-    Ok(told)
+    Ok(reported)
 }
 
 /// The fault of a block, the verdict on its day, and that on its text in pieces of one byte.
-type Told = (Option<u8>, Verdict, Result<Verdict, StreamFault>);
+type Reported = (Option<u8>, Verdict, Result<Verdict, StreamFault>);
 
 /// What is reported of a text.
-fn told_of(alloc: Global, books: &Books, text: &[u8]) -> Result<Told, Fail>
+fn reported_of(alloc: Global, books: &Books, text: &[u8]) -> Result<Reported, Fail>
     requires { IsAccepted books.now }
 {
-    let (fault, verdict) = told_whole(alloc, books, text)?;
-    Ok((fault, verdict, told_in_pieces(alloc, books, text, 1)?))
+    let (fault, verdict) = reported_whole(alloc, books, text)?;
+    Ok((fault, verdict, reported_in_pieces(alloc, books, text, 1)?))
 }
 
 /// What is reported of a row of a day.
-fn told_in(alloc: Global, day: &Day, row: &Row) -> Result<Told, Fail> {
+fn reported_in(alloc: Global, day: &Day, row: &Row) -> Result<Reported, Fail> {
     let text = text_with(alloc, day, row.0, row.1.as_bytes())?;
     let books = books(alloc, &day.folder)?;
-    let told = told_of(alloc, &books, &text);
+    let reported = reported_of(alloc, &books, &text);
     drop(books);
     drop(text);
-    told
+    reported
 }
 
 /// The verdict on a day with this fault, or with none.
@@ -232,7 +232,7 @@ fn a_day_as_printed_is_valid_and_an_altered_line_is_a_fault(rt: HostRuntime) -> 
         for row in *rows {
             let verdict = verdict_of(row.3);
             let want = (row.2, verdict, Ok(verdict));
-            same_in(&rt, row.1, told_in(rt.alloc(), day, row)?, want);
+            same_in(&rt, row.1, reported_in(rt.alloc(), day, row)?, want);
         }
     }
     Ok(())
@@ -247,7 +247,7 @@ fn long_text(alloc: Global) -> Result<Vec<u8>, Fail> {
 }
 
 /// What is reported of that day in pieces of `piece` bytes, with the end of its last line and without it.
-fn told_of_long(
+fn reported_of_long(
     alloc: Global,
     books: &Books,
     text: &[u8],
@@ -259,8 +259,8 @@ fn told_of_long(
         return Err("the text is long".into());
     };
     Ok([
-        told_in_pieces(alloc, books, text, piece)?,
-        told_in_pieces(alloc, books, cut_off, piece)?,
+        reported_in_pieces(alloc, books, text, piece)?,
+        reported_in_pieces(alloc, books, cut_off, piece)?,
     ])
 }
 
@@ -274,10 +274,10 @@ fn a_line_of_40_000_digits_is_bad_and_without_its_end_truncated(
     for piece in &[1, 65_536] {
         let text = long_text(alloc)?;
         let books = books(alloc, &FULL.folder)?;
-        let told = told_of_long(alloc, &books, &text, *piece);
+        let reported = reported_of_long(alloc, &books, &text, *piece);
         drop(books);
         drop(text);
-        same(&rt, told?, [bad, cut_off]);
+        same(&rt, reported?, [bad, cut_off]);
     }
     Ok(())
 }

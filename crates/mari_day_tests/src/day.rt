@@ -80,29 +80,29 @@ fn with(folder: &Pages, changes: &[Change]) -> Pages {
 
 /// What is reported of a folder: how many quarters and borders it has, and whether limits for each run; or why it gives
 /// no books.
-type Told = Result<(u32, usize, bool), BooksFault>;
+type Reported = Result<(u32, usize, bool), BooksFault>;
 
-fn told(read: Result<Books, BooksFault>) -> Told {
+fn reported(read: Result<Books, BooksFault>) -> Reported {
     match read {
         Ok(books) => {
             let borders = books.borders.borders.as_slice().len();
-            let told = (books.quarters, borders, books.limits.is_some());
+            let reported = (books.quarters, borders, books.limits.is_some());
             drop(books);
-            Ok(told)
+            Ok(reported)
         }
         Err(fault) => Err(fault),
     }
 }
 
 /// What is reported of a folder with these changes, where the fetches of these numbers fail.
-fn told_of(
+fn reported_of(
     alloc: Global,
     folder: &Pages,
     changes: &[Change],
     faults: &[u32],
-) -> Result<Told, Fail> {
+) -> Result<Reported, Fail> {
     let pages = with(folder, changes);
-    Ok(told(read(alloc, &pages, faults)?))
+    Ok(reported(read(alloc, &pages, faults)?))
 }
 
 /// A page in the place of a folder's own, and the file, the line and the number of the refusal.
@@ -199,7 +199,7 @@ const REFUSALS: &[(Pages, &[Refused])] = &[
     ),
 ];
 
-fn refused((file, line, number): (u8, u32, u8)) -> Told {
+fn refused((file, line, number): (u8, u32, u8)) -> Reported {
     Err(BooksFault::Refused(Refusal { file, line, number }))
 }
 
@@ -207,15 +207,15 @@ fn refused((file, line, number): (u8, u32, u8)) -> Told {
 fn a_folder_is_refused_at_its_first_bad_line(rt: HostRuntime) -> Result<(), Fail> {
     for (folder, refusals) in REFUSALS {
         for (file, page, refusal) in *refusals {
-            let told = told_of(rt.alloc(), folder, &[(*file, *page)], &[])?;
-            same(&rt, told, refused(*refusal));
+            let reported = reported_of(rt.alloc(), folder, &[(*file, *page)], &[])?;
+            same(&rt, reported, refused(*refusal));
         }
     }
     Ok(())
 }
 
 /// Pages in the place of a folder's own, the fetches that fail, and what is reported.
-type Reading = (&'static [Change], &'static [u32], Told);
+type Reading = (&'static [Change], &'static [u32], Reported);
 
 /// Folders and what is reported of them: days of 96, 92 and 100 quarters, limits that are fetched where the borders
 /// state none, and a page that isn't there, which is reported before any page is read.
@@ -266,7 +266,11 @@ const READINGS: &[(Pages, &[Reading])] = &[
 fn a_folder_gives_books_or_the_first_fetch_that_failed(rt: HostRuntime) -> Result<(), Fail> {
     for (folder, readings) in READINGS {
         for (changes, faults, want) in *readings {
-            same(&rt, told_of(rt.alloc(), folder, changes, faults)?, *want);
+            same(
+                &rt,
+                reported_of(rt.alloc(), folder, changes, faults)?,
+                *want,
+            );
         }
     }
     Ok(())
@@ -320,7 +324,7 @@ fn day(alloc: Global, folder: &Pages, text: &str) -> Result<(DayEnd, bool), Fail
 }
 
 /// A second run whose quarter has a gated bid, which this clearer doesn't clear.
-const GATED_BEHIND: Pages = Pages {
+const GATED_AFTER: Pages = Pages {
     bids: b"id,provider,zone,quarter,direction,price,least,greatest,kind\n\
         u1,P,Z,1,up,50.00,0,100,both\nu2,P,Z,2,up,50.00,5,100,both\n",
     runs: b"run,quarter,kind,reference\n1,1,scheduled,40.00\n2,2,scheduled,40.00\n",
@@ -328,7 +332,7 @@ const GATED_BEHIND: Pages = Pages {
 };
 
 /// The text of a direct run after a scheduled one.
-const DIRECT_BEHIND_SCHEDULED: &str = "\
+const DIRECT_AFTER_SCHEDULED: &str = "\
 mari 1 2025-03-12 96 10000
 run 1 1 scheduled published
 welfare 699643000
@@ -374,13 +378,13 @@ end 1
 const DAYS: &[(Pages, &str, DayEnd)] = &[
     (
         ONE_ZONE,
-        DIRECT_BEHIND_SCHEDULED,
+        DIRECT_AFTER_SCHEDULED,
         DayEnd::Done {
             published: 2,
             unpublished: 0,
         },
     ),
-    (GATED_BEHIND, FIRST_BLOCK, DayEnd::Memory),
+    (GATED_AFTER, FIRST_BLOCK, DayEnd::Memory),
 ];
 
 #[test]

@@ -116,25 +116,25 @@ fn welfares(
 }
 
 /// Those welfares, where the last two starts are too short, and run too much.
-fn told(alloc: Global, market: &Market) -> Result<(u64, [Option<u64>; 4]), Fail>
+fn reported(alloc: Global, market: &Market) -> Result<(u64, [Option<u64>; 4]), Fail>
     requires { IsValid market.now }
 {
     let orders = market.orders.as_slice().len();
     let borders = market.borders.as_slice().len();
     let too_short = activation_of(alloc, (0, 0), (0, 0))?;
     let too_much = activation_of(alloc, (orders, 99_999), (borders, -99_999))?;
-    let told = welfares(alloc, market, &too_short, &too_much);
+    let reported = welfares(alloc, market, &too_short, &too_much);
     drop(too_much);
     drop(too_short);
-    told
+    reported
 }
 
 #[test]
 fn both_solvers_agree_from_any_start(rt: HostRuntime) -> Result<(), Fail> {
     let market = first_market(rt.alloc())?;
-    let told = told(rt.alloc(), &market);
+    let reported = reported(rt.alloc(), &market);
     drop(market);
-    let (welfare, fast) = told?;
+    let (welfare, fast) = reported?;
     same(&rt, fast, [Some(welfare); 4]);
     Ok(())
 }

@@ -203,7 +203,7 @@ const FOLDERS: &[(Pages, &[Case])] = &[
 
 /// How many offers there are and the first four, the limits of the only border, how many demands there are, and the
 /// last gate.
-type Told = (
+type Reported = (
     usize,
     [Option<Offer>; 4],
     Option<(u32, u32)>,
@@ -233,7 +233,7 @@ fn last(made: &RunMarket) -> Option<(Option<u32>, Option<u32>)> {
 }
 
 /// What is reported of a run's market.
-fn told(made: &RunMarket) -> Told {
+fn reported(made: &RunMarket) -> Reported {
     let first = [
         offer_at(made, 0),
         offer_at(made, 1),
@@ -314,7 +314,7 @@ fn take(
 }
 
 /// The market of the run after those that did so.
-fn market_behind(
+fn market_after(
     alloc: Global,
     books: &Books,
     remaining: &mut Remaining,
@@ -327,7 +327,7 @@ fn market_behind(
     let mut run = 1u32;
     for at_run in done {
         if run as usize >= count {
-            return Err("there is a run behind these".into());
+            return Err("there is a run after these".into());
         }
         take(alloc, books, remaining, run, *at_run)?;
         run += 1;
@@ -339,28 +339,28 @@ fn market_behind(
 }
 
 /// What is reported of the market of the run after those that did so.
-fn told_behind(alloc: Global, books: &Books, done: &[Done]) -> Result<Told, Fail>
+fn reported_after(alloc: Global, books: &Books, done: &[Done]) -> Result<Reported, Fail>
     requires { IsAccepted books.now }
 {
     let mut remaining = Remaining::start(alloc, books)?;
-    let made = market_behind(alloc, books, &mut remaining, done);
+    let made = market_after(alloc, books, &mut remaining, done);
     drop(remaining);
     let made = made?;
-    let told = told(&made);
+    let reported = reported(&made);
     drop(made);
-    Ok(told)
+    Ok(reported)
 }
 
 /// What is reported of a case.
-fn told_in(alloc: Global, folder: &Pages, case: &Case) -> Result<Told, Fail> {
+fn reported_in(alloc: Global, folder: &Pages, case: &Case) -> Result<Reported, Fail> {
     let books = books(alloc, folder)?;
-    let told = told_behind(alloc, &books, case.done);
+    let reported = reported_after(alloc, &books, case.done);
     drop(books);
-    told
+    reported
 }
 
 /// What is wanted of it.
-fn wanted(case: &Case) -> Told {
+fn wanted(case: &Case) -> Reported {
     let offers = case.offers;
     let first = [
         offers.get(0).copied(),
@@ -381,8 +381,8 @@ fn wanted(case: &Case) -> Told {
 fn a_run_has_what_those_before_it_left(rt: HostRuntime) -> Result<(), Fail> {
     for (folder, cases) in FOLDERS {
         for case in *cases {
-            let told = told_in(rt.alloc(), folder, case)?;
-            same_in(&rt, case.name, told, wanted(case));
+            let reported = reported_in(rt.alloc(), folder, case)?;
+            same_in(&rt, case.name, reported, wanted(case));
         }
     }
     Ok(())

@@ -73,7 +73,7 @@ fn lines_of(pages: &[Page], place: usize, row: &Row) -> Option<usize> {
 }
 
 /// The number of the pages, and how many lines each has, where it is that of its row.
-fn told(alloc: Global) -> Result<(usize, [Option<usize>; 7]), Fail> {
+fn reported(alloc: Global) -> Result<(usize, [Option<usize>; 7]), Fail> {
     let pages = scenario_pages(alloc, 1)?;
     let mut lines = [None; 7];
     for (place, row) in PAGES.iter().enumerate() {
@@ -88,7 +88,7 @@ fn told(alloc: Global) -> Result<(usize, [Option<usize>; 7]), Fail> {
 
 #[test]
 fn pages_of_number_1_are_as_its_draws_say(rt: HostRuntime) -> Result<(), Fail> {
-    let (count, lines) = told(rt.alloc())?;
+    let (count, lines) = reported(rt.alloc())?;
     same(&rt, count, 7);
     for (place, row) in PAGES.iter().enumerate() {
         same_in(&rt, row.0, lines.get(place), Some(&Some(row.1)));

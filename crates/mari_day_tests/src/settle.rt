@@ -125,7 +125,7 @@ const RUNS: &[(&str, &Run, Lines)] = &[
 ];
 
 /// How many lines of each kind a ledger has, and the first of them.
-type Told = (
+type Reported = (
     [usize; 3],
     [Option<Line>; 2],
     [Option<i128>; 2],
@@ -151,7 +151,7 @@ fn first_rent(ledger: &Ledger) -> Option<i128> {
 }
 
 /// What is reported of a ledger.
-fn told(ledger: &Ledger) -> Told {
+fn reported(ledger: &Ledger) -> Reported {
     let counts = [
         ledger.operators.as_slice().len(),
         ledger.providers.as_slice().len(),
@@ -163,7 +163,7 @@ fn told(ledger: &Ledger) -> Told {
 }
 
 /// What is wanted of it.
-fn wanted(lines: &Lines) -> Told {
+fn wanted(lines: &Lines) -> Reported {
     let Lines {
         operators,
         providers,
@@ -257,17 +257,17 @@ fn ledger_in(alloc: Global, run: &Run) -> Result<Ledger, Fail>
 }
 
 /// What is reported of the ledger of a run.
-fn told_in(alloc: Global, run: &Run) -> Result<Told, Fail> {
+fn reported_in(alloc: Global, run: &Run) -> Result<Reported, Fail> {
     let ledger = ledger_in(alloc, run)?;
-    let told = told(&ledger);
+    let reported = reported(&ledger);
     drop(ledger);
-    Ok(told)
+    Ok(reported)
 }
 
 #[test]
 fn a_run_pays_operators_providers_and_borders(rt: HostRuntime) -> Result<(), Fail> {
     for (name, run, lines) in RUNS {
-        same_in(&rt, name, told_in(rt.alloc(), run)?, wanted(lines));
+        same_in(&rt, name, reported_in(rt.alloc(), run)?, wanted(lines));
     }
     Ok(())
 }
@@ -286,14 +286,14 @@ fn add_up(sum: &mut Ledger, other: &Ledger)
 }
 
 /// What is reported of the sum of the ledgers of two runs.
-fn told_of_both(alloc: Global, run: &Run, other: &Run) -> Result<Told, Fail> {
+fn reported_of_both(alloc: Global, run: &Run, other: &Run) -> Result<Reported, Fail> {
     let other = ledger_in(alloc, other)?;
     let mut sum = ledger_in(alloc, run)?;
     add_up(&mut sum, &other);
     drop(other);
-    let told = told(&sum);
+    let reported = reported(&sum);
     drop(sum);
-    Ok(told)
+    Ok(reported)
 }
 
 /// The sums of the ledgers of a congested run and of one with an odd quarter-cent.
@@ -305,8 +305,8 @@ const SUMS: Lines = Lines {
 
 #[test]
 fn ledgers_of_two_runs_add_up(rt: HostRuntime) -> Result<(), Fail> {
-    let told = told_of_both(rt.alloc(), CONGESTED, ODD)?;
-    same(&rt, told, wanted(&SUMS));
+    let reported = reported_of_both(rt.alloc(), CONGESTED, ODD)?;
+    same(&rt, reported, wanted(&SUMS));
     Ok(())
 }
 

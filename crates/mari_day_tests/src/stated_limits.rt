@@ -33,9 +33,9 @@ fn are_pages(alloc: Global, books: &Books, borders: &str, limits: &str) -> Resul
 /// Whether those of a folder of one border are these limits.
 fn has_limits(alloc: Global, folder: &Pages, limits: &str) -> Result<[bool; 2], Fail> {
     let books = books(alloc, folder)?;
-    let told = are_pages(alloc, &books, "from,to\nA,B\n", limits);
+    let reported = are_pages(alloc, &books, "from,to\nA,B\n", limits);
     drop(books);
-    told
+    reported
 }
 
 /// Folders of one border, and the pages of their limits.
@@ -50,8 +50,8 @@ const LIMITS: &[(Pages, &str)] = &[
 #[test]
 fn pages_of_limits_for_each_run(rt: HostRuntime) -> Result<(), Fail> {
     for (folder, limits) in LIMITS {
-        let told = has_limits(rt.alloc(), folder, limits)?;
-        same_in(&rt, limits, told, [true, true]);
+        let reported = has_limits(rt.alloc(), folder, limits)?;
+        same_in(&rt, limits, reported, [true, true]);
     }
     Ok(())
 }

@@ -119,26 +119,32 @@ const OF_SPENT: &[Row] = &[
 ];
 
 /// The values of a text that comes in pieces of so many bytes.
-fn told_of(alloc: Global, books: &Books, text: &[u8], piece: u32, more: u32) -> Result<Valued, Fail>
+fn reported_of(
+    alloc: Global,
+    books: &Books,
+    text: &[u8],
+    piece: u32,
+    more: u32,
+) -> Result<Valued, Fail>
     requires { IsAccepted books.now }
 {
     if more == 0 || more > 1_000 {
         return Err("limits are raised by 1 to 1,000 MW".into());
     }
     let mut shelf = shelf_of(alloc, text, piece)?;
-    let told = value_stream(alloc, books, &mut shelf, "F/publication.txt", more);
+    let reported = value_stream(alloc, books, &mut shelf, "F/publication.txt", more);
     drop(shelf);
-    Ok(told?)
+    Ok(reported?)
 }
 
 /// The values of a row of a day.
-fn told_in(alloc: Global, day: &Day, row: &Row, piece: u32) -> Result<Valued, Fail> {
+fn reported_in(alloc: Global, day: &Day, row: &Row, piece: u32) -> Result<Valued, Fail> {
     let text = text_with(alloc, day, row.0, row.1.as_bytes())?;
     let books = books(alloc, &day.folder)?;
-    let told = told_of(alloc, &books, &text, piece, row.2);
+    let reported = reported_of(alloc, &books, &text, piece, row.2);
     drop(books);
     drop(text);
-    told
+    reported
 }
 
 #[test]
@@ -148,9 +154,9 @@ fn limits_are_valued_up_to_the_first_fault_of_the_check_or_the_text(
     for (day, rows) in &[(FULL, OF_FULL), (SPENT, OF_SPENT)] {
         for row in *rows {
             for piece in &[1, 65_536] {
-                let told = told_in(rt.alloc(), day, row, *piece)?;
-                same_in(&rt, row.1, told.text.as_slice(), row.3.as_bytes());
-                same_in(&rt, row.1, told.end, row.4);
+                let reported = reported_in(rt.alloc(), day, row, *piece)?;
+                same_in(&rt, row.1, reported.text.as_slice(), row.3.as_bytes());
+                same_in(&rt, row.1, reported.end, row.4);
             }
         }
     }
@@ -158,17 +164,17 @@ fn limits_are_valued_up_to_the_first_fault_of_the_check_or_the_text(
 }
 
 #[test]
-fn a_publication_that_is_not_held_is_missing_and_nothing_is_told(
+fn a_publication_that_is_not_held_is_missing_and_nothing_is_reported(
     rt: HostRuntime,
 ) -> Result<(), Fail> {
     let alloc = rt.alloc();
     let books = books(alloc, &TWO_ZONES)?;
     let mut shelf = shelf_of(alloc, b"", 1)?;
-    let told = value_stream(alloc, &books, &mut shelf, "F/other.txt", 10);
+    let reported = value_stream(alloc, &books, &mut shelf, "F/other.txt", 10);
     drop(shelf);
     drop(books);
-    let told = told?;
-    assert!(rt; told.text.as_slice().is_empty());
-    same(&rt, told.end, ValueEnd::Fetch(Fetch::Missing));
+    let reported = reported?;
+    assert!(rt; reported.text.as_slice().is_empty());
+    same(&rt, reported.end, ValueEnd::Fetch(Fetch::Missing));
     Ok(())
 }

@@ -29,7 +29,7 @@ use Rattle.mari_demands.specs.declared.runs.RunBook.{RunBook}
 use Rattle.mari_demands.specs.declared.demands.Demand.{Demand}
 use Rattle.mari_demands.specs.declared.demands.DemandBook.{DemandBook}
 
--- a quarter that a line states, behind a run of a quarter that it doesn't come too late for
+-- a quarter that a line states, after a run of a quarter that it doesn't come too late for
 in_time : (quarters last : ℕ) (row : Row) → is_some (quarter_in quarters row) ≡ true → comes_too_late (Some last) row ≡ false
     → (last ≤ quarter_at quarters row) × (unwrap_or (is_direct row) false ≡ false → last < quarter_at quarters row)
 in_time quarters last row some fits = by (whole_of (field_of row 1)) some fits
@@ -69,11 +69,11 @@ module _ (quarters : ℕ) where
     bounded : All (λ (run : Run). run.quarter ≤ unwrap_or (last_quarter quarters rows) 0) (map (run_of quarters) rows)
     in_order : AllPairs IsBefore (map (run_of quarters) rows)
 
-  -- a run behind one that is in time
-  behind : (a : Run) (line : Row) (last : Option ℕ) → a.quarter ≤ unwrap_or last 0 → is_some (quarter_in quarters line) ≡ true → 1 ≤ quarter_at quarters line → comes_too_late last line ≡ false
+  -- a run after one that is in time
+  after : (a : Run) (line : Row) (last : Option ℕ) → a.quarter ≤ unwrap_or last 0 → is_some (quarter_in quarters line) ≡ true → 1 ≤ quarter_at quarters line → comes_too_late last line ≡ false
       → IsBefore a (run_of quarters line)
-  behind a line None most some one fits = record { quarter = omega (arith, most); scheduled = λ e. omega (arith, most, one) }
-  behind a line (Some last) most some one fits =
+  after a line None most some one fits = record { quarter = omega (arith, most); scheduled = λ e. omega (arith, most, one) }
+  after a line (Some last) most some one fits =
       let later = in_time quarters last line some fits in
       record { quarter = omega (arith, most, later.0); scheduled = λ e. omega (arith, most, later.1 e) }
 
@@ -84,7 +84,7 @@ module _ (quarters : ℕ) where
       let quarter = number-bounds 1 quarters (field_of line 1) stated in
       let room : length before < 1000 = grind (arith, nat_tests, all.0) in
       let in_time = or_parts (not (is_some (number_in (length before + 1) (length before + 1) (field_of line 0)))) (comes_too_late (last_quarter quarters before) line) all.1.1.0 in
-      let next : (a : Run) → a.quarter ≤ unwrap_or (last_quarter quarters before) 0 → IsBefore a (run_of quarters line) = λ a most. behind a line (last_quarter quarters before) most stated quarter.0 in_time.1 in
+      let next : (a : Run) → a.quarter ≤ unwrap_or (last_quarter quarters before) 0 → IsBefore a (run_of quarters line) = λ a most. after a line (last_quarter quarters before) most stated quarter.0 in_time.1 in
       let last : last_quarter quarters (before ++ line ∷ []) ≡ Some (quarter_at quarters line) = fold-append (λ before row. Some (quarter_at quarters row)) None before (line ∷ []) in
       record {
         few = simp length-append (omega (arith, room));

@@ -27,7 +27,7 @@ module _ (runs borders : ℕ) (flat : List (Option Limits)) where
 pub place-within : (runs borders run border : ℕ) → run < runs → border < borders → run * borders + border < runs * borders
 place-within runs borders run border r b = let more : (run + 1) * borders ≤ runs * borders = mul-le-mul_right borders (omega (arith, r)) in omega (arith, more, b)
 
--- what is asked of a run and a border of a table is asked of the list behind it
+-- what is asked of a run and a border of a table is asked of the list after it
 pub record IsPlaced (runs borders : ℕ) (flat : List (Option Limits)) (table : List (List Limits)) (run border : ℕ) : Type 0 where
   pub within : (run - 1) * borders + border < runs * borders
   pub limits : limits_there flat ((run - 1) * borders + border) ≡ limits_in table run border

@@ -1,4 +1,4 @@
--- The keys of a value tell the kind of the part.
+-- The keys of a value state the kind of the part.
 use Rattle.std.proofs.Common.{◌≡◌, ℕ, Bool, true, false, List, codes, sym, ap, ◌∙◌}
 use Rattle.std.specs.Prelude.{is_some}
 use Rattle.serde_json.specs.Data.{Data}

@@ -13,7 +13,7 @@ use Rattle.mari_publish.specs.declared.fault.TextFault.TheVariants as fault
 use Rattle.mari_publish.specs.declared.publication.Part.{Part}
 use Rattle.mari_publish.proofs.FirstParts.{come_parts, no_more, parts_fit}
 use Rattle.mari_publish.proofs.MoreText.{parts_stay}
-use Rattle.mari_feed.specs.Streams.{AllFed, AreReadBack, HasFed, PartsTell, TookAll, TookFirst, TookSome, WroteLine, feed_of, line_of, stop_of_text}
+use Rattle.mari_feed.specs.Streams.{AllFed, AreReadBack, HasFed, PartsReport, TookAll, TookFirst, TookSome, WroteLine, feed_of, line_of, stop_of_text}
 use Rattle.mari_feed.specs.declared.stream.FeedStop.{FeedStop}
 use Rattle.mari_feed.specs.declared.stream.FeedStop.TheVariants.{Fetch as OfFetch, Text as OfText, Sink as OfSink, Memory as NoMemory}
 use Rattle.mari_feed.proofs.Plainly.{line_is}
@@ -69,18 +69,18 @@ module _ (start : Option (List ℕ)) (text : List ℕ) (parts : List Part) (come
   }
 
   -- the line wasn't written
-  pub line_unwritten : (T : Type 0) (x : Part) (after : Option (List ℕ)) (reader : ReaderState) (stop : FeedStop) → HasPart text parts x → WroteLine {T = T} x now after (Err stop) → PartsTell {T = T} start text reader after (Err stop)
+  pub line_unwritten : (T : Type 0) (x : Part) (after : Option (List ℕ)) (reader : ReaderState) (stop : FeedStop) → HasPart text parts x → WroteLine {T = T} x now after (Err stop) → PartsReport {T = T} start text reader after (Err stop)
   line_unwritten T x after reader (OfFetch f) has w = absurd w
   line_unwritten T x after reader (OfText f) has w = absurd w
   line_unwritten T x after reader OfSink has w = line_begun x after has w
   line_unwritten T x after reader NoMemory has w = record { parts = parts; first = held; back = read_back text parts held; took = w ∙ fed.took }
 
   -- the text has a fault
-  pub fault_told : (T : Type 0) (reader : ReaderState) (f : TextFault) → IsNext text parts (Err f) → PartsTell {T = T} start text reader now (Err (stop_of_text f))
-  fault_told T reader (fault.BadLine n) h = (h.0, took_all h.1)
-  fault_told T reader (fault.BadOrder n) h = (h.0, took_all h.1)
-  fault_told T reader (fault.Truncated n) h = absurd h
-  fault_told T reader fault.Memory h = took_first
+  pub fault_reported : (T : Type 0) (reader : ReaderState) (f : TextFault) → IsNext text parts (Err f) → PartsReport {T = T} start text reader now (Err (stop_of_text f))
+  fault_reported T reader (fault.BadLine n) h = (h.0, took_all h.1)
+  fault_reported T reader (fault.BadOrder n) h = (h.0, took_all h.1)
+  fault_reported T reader (fault.Truncated n) h = absurd h
+  fault_reported T reader fault.Memory h = took_first
 
 -- there is no further part
 pub all_fed : (start : Option (List ℕ)) (text : List ℕ) (parts : List Part) (reader : ReaderState) (now : Option (List ℕ)) (o : Option Part) → o ≡ None → IsNext text parts (Ok o) → ComesFrom reader.come text (with_part parts o)

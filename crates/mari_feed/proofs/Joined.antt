@@ -8,35 +8,35 @@ use Rattle.serde_json.specs.Data.{Data}
 use Rattle.serde_json.specs.View.{items_of}
 use Rattle.serde_json.specs.Written.{compact_text, items_text}
 
--- the texts of items, each behind a comma; and those of items of which the first isn't
-abbrev pub behind_commas : List Data → List ℕ
-behind_commas [] = []
-behind_commas (d ∷ ds) = 44 ∷ (compact_text d ++ behind_commas ds)
+-- the texts of items, each after a comma; and those of items of which the first isn't
+abbrev pub after_commas : List Data → List ℕ
+after_commas [] = []
+after_commas (d ∷ ds) = 44 ∷ (compact_text d ++ after_commas ds)
 
 abbrev pub joined : List Data → List ℕ
 joined [] = []
-joined (d ∷ ds) = compact_text d ++ behind_commas ds
+joined (d ∷ ds) = compact_text d ++ after_commas ds
 
-items_behind : (ds : List Data) → items_text true (items_of ds) ≡ behind_commas ds ++ 93 ∷ []
-items_behind [] = refl
-items_behind (d ∷ ds) = ap (λ (t : List ℕ). 44 ∷ (compact_text d ++ t)) (items_behind ds) ∙ ap (λ (t : List ℕ). 44 ∷ t) (sym (append_assoc (compact_text d) (behind_commas ds) (93 ∷ [])))
+items_after : (ds : List Data) → items_text true (items_of ds) ≡ after_commas ds ++ 93 ∷ []
+items_after [] = refl
+items_after (d ∷ ds) = ap (λ (t : List ℕ). 44 ∷ (compact_text d ++ t)) (items_after ds) ∙ ap (λ (t : List ℕ). 44 ∷ t) (sym (append_assoc (compact_text d) (after_commas ds) (93 ∷ [])))
 
 pub items_joined : (ds : List Data) → items_text false (items_of ds) ≡ joined ds ++ 93 ∷ []
 items_joined [] = refl
-items_joined (d ∷ ds) = ap (λ (t : List ℕ). compact_text d ++ t) (items_behind ds) ∙ sym (append_assoc (compact_text d) (behind_commas ds) (93 ∷ []))
+items_joined (d ∷ ds) = ap (λ (t : List ℕ). compact_text d ++ t) (items_after ds) ∙ sym (append_assoc (compact_text d) (after_commas ds) (93 ∷ []))
 
-behind_push : (ds : List Data) (d : Data) → behind_commas (ds ++ d ∷ []) ≡ behind_commas ds ++ 44 ∷ compact_text d
-behind_push [] d = ap (λ (t : List ℕ). 44 ∷ t) (append-nil (compact_text d))
-behind_push (e ∷ ds) d = ap (λ (t : List ℕ). 44 ∷ (compact_text e ++ t)) (behind_push ds d) ∙ ap (λ (t : List ℕ). 44 ∷ t) (sym (append_assoc (compact_text e) (behind_commas ds) (44 ∷ compact_text d)))
+after_push : (ds : List Data) (d : Data) → after_commas (ds ++ d ∷ []) ≡ after_commas ds ++ 44 ∷ compact_text d
+after_push [] d = ap (λ (t : List ℕ). 44 ∷ t) (append-nil (compact_text d))
+after_push (e ∷ ds) d = ap (λ (t : List ℕ). 44 ∷ (compact_text e ++ t)) (after_push ds d) ∙ ap (λ (t : List ℕ). 44 ∷ t) (sym (append_assoc (compact_text e) (after_commas ds) (44 ∷ compact_text d)))
 
--- one more item behind none, and behind some
+-- one more item after none, and after some
 pub joined_first : (ds : List Data) (d : Data) → ds ≡ [] → joined (ds ++ d ∷ []) ≡ joined ds ++ compact_text d
 joined_first [] d e = append-nil (compact_text d)
 joined_first (x ∷ ds) d e = absurd cc
 
 pub joined_more : (ds : List Data) (d : Data) → (ds ≡ [] → ⊥) → joined (ds ++ d ∷ []) ≡ joined ds ++ 44 ∷ compact_text d
 joined_more [] d some = absurd (some refl)
-joined_more (e ∷ ds) d some = ap (λ (t : List ℕ). compact_text e ++ t) (behind_push ds d) ∙ sym (append_assoc (compact_text e) (behind_commas ds) (44 ∷ compact_text d))
+joined_more (e ∷ ds) d some = ap (λ (t : List ℕ). compact_text e ++ t) (after_push ds d) ∙ sym (append_assoc (compact_text e) (after_commas ds) (44 ∷ compact_text d))
 
 -- ---- the loop over a list
 

@@ -11,8 +11,8 @@ use Rattle.mari_feed.specs.Reading.{Reads, ReadsMember}
 pub begins : (u : Data) (ms ns : Members) → u ≡ object ms → object ns ≡ u → ms ≡ ns
 begins u ms ns read whole = let same : object ms ≡ object ns = sym read ∙ sym whole in cc
 
-pub behind : (key : List ℕ) (d e : Data) (ms ns all : Members) → all ≡ member key d ms → all ≡ member key e ns → ms ≡ ns
-behind key d e ms ns all read whole = let same : member key d ms ≡ member key e ns = sym read ∙ whole in cc
+pub after : (key : List ℕ) (d e : Data) (ms ns all : Members) → all ≡ member key d ms → all ≡ member key e ns → ms ≡ ns
+after key d e ms ns all read whole = let same : member key d ms ≡ member key e ns = sym read ∙ whole in cc
 
 -- members that are read up to here go on
 pub going_on : (key : List ℕ) (d : Data) (ms ns all : Members) → all ≡ member key d ms → ms ≡ ns → all ≡ member key d ns

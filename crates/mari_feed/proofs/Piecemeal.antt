@@ -2,7 +2,7 @@
 use Rattle.std.proofs.Common.{◌≡◌, ◌∙◌, ◌+◌, ◌≤◌, ℕ, List, [], ◌∷◌, ◌++◌, length, drop, Option, Some, None, Result, Ok, Err, ◌⊎◌, inl, inr, refl, sym, ap, subst}
 use Rattle.std.specs.Prelude.{IsErrOf}
 use Rattle.std.specs.Option.{option_map}
-use Rattle.mari_io.specs.Outside.{Counts, IsOverlong, IsPiece, OpenTells, most_given}
+use Rattle.mari_io.specs.Outside.{Counts, IsOverlong, IsPiece, OpenStates, most_given}
 use Rattle.mari_io.specs.Taken.{then_took}
 use Rattle.mari_io.specs.declared.shelf.Fetch.{Fetch}
 use Rattle.mari_io.specs.declared.shelf.Fetch.TheVariants as fetch
@@ -10,7 +10,7 @@ use Rattle.mari_io.proofs.Counting.{counts_as}
 use Rattle.mari_io.proofs.Taken.{took_nothing}
 use Rattle.mari_publish.specs.Faults.{IsOutcome}
 use Rattle.mari_publish.specs.Order.{nothing_kept}
-use Rattle.mari_publish.specs.Paged.IsToldFault.{OfPage as of_page}
+use Rattle.mari_publish.specs.Paged.IsReportedFault.{OfPage as of_page}
 use Rattle.mari_publish.specs.Pieces.{ComeState, ComesFrom, IsEnd, ReaderState}
 use Rattle.mari_publish.specs.declared.fault.TextFault.{TextFault}
 use Rattle.mari_publish.specs.declared.fault.TextFault.TheVariants as fault
@@ -20,7 +20,7 @@ use Rattle.mari_publish.proofs.FirstParts.{come_parts}
 use Rattle.mari_publish.proofs.Outcomes.{text_answer}
 use Rattle.mari_publish.proofs.Paging.{Under, all-of-it, last-piece, line-fault, one-piece, overlong-page, same-fault}
 use Rattle.mari_publish.proofs.PartsGiven.{gives_nothing}
-use Rattle.mari_feed.specs.Streams.{AllFed, AreReadBack, FeedTells, HasFed, IsFeedFetch, IsWrapped, PartsTell, SameAsRead, StopTells, TookAll, TookFirst, TookSome, feed_of, stop_of_fetch, stop_of_text}
+use Rattle.mari_feed.specs.Streams.{AllFed, AreReadBack, FeedStates, HasFed, IsFeedFetch, IsWrapped, PartsReport, SameAsRead, StopStates, TookAll, TookFirst, TookSome, feed_of, stop_of_fetch, stop_of_text}
 use Rattle.mari_feed.specs.declared.stream.FeedStop.{FeedStop}
 use Rattle.mari_feed.specs.declared.stream.FeedStop.TheVariants.{Fetch as OfFetch, Text as OfText, Sink as OfSink, Memory as NoMemory}
 use Rattle.mari_feed.proofs.Feeding.{all_stays, read_back, some_stays, took_all, took_first, took_stays}
@@ -35,12 +35,12 @@ module _ (page rest : Option (List ℕ)) (given : ℕ) (start : Option (List ℕ
   -- what was printed is that of the first parts of the page
   pub of_page_so_far : (whole : List ℕ) → page ≡ Some whole → TookFirst whole start was
   of_page_so_far whole is =
-      let t = u.told whole is in
+      let t = u.reported whole is in
       let P : List ℕ → Type 0 = λ xs. TookFirst xs start was in
       subst P t.2 (took_stays u.text t.0 start was (took_first start u.text u.known.0 old.come was u.known.1))
 
   -- the fetch of a piece failed
-  pub piece_fault : (f : Fetch) → (f ≡ fetch.Missing → ⊥) → (f ≡ fetch.TooLong → IsOverlong rest given) → (whole : List ℕ) → page ≡ Some whole → StopTells whole start was (stop_of_fetch f)
+  pub piece_fault : (f : Fetch) → (f ≡ fetch.Missing → ⊥) → (f ≡ fetch.TooLong → IsOverlong rest given) → (whole : List ℕ) → page ≡ Some whole → StopStates whole start was (stop_of_fetch f)
   piece_fault fetch.Failed not over whole is = of_page_so_far whole is
   piece_fault fetch.Missing not over whole is = absurd (not refl)
   piece_fault fetch.Memory not over whole is = of_page_so_far whole is
@@ -48,19 +48,19 @@ module _ (page rest : Option (List ℕ)) (given : ℕ) (start : Option (List ℕ
 
   module _ (piece : List ℕ) (n : ℕ) (many : length piece ≡ n) (within : given + n ≤ most_given) (is_piece : (left : List ℕ) → rest ≡ Some left → IsPiece left [] piece n) where
     -- the printing of what has come stops
-    pub parts_stop : (whole : List ℕ) → page ≡ Some whole → (T : Type 0) (reader : ReaderState) (now : Option (List ℕ)) (stop : FeedStop) → PartsTell {T = T} start (u.text ++ piece) reader now (Err stop) → StopTells whole start now stop
+    pub parts_stop : (whole : List ℕ) → page ≡ Some whole → (T : Type 0) (reader : ReaderState) (now : Option (List ℕ)) (stop : FeedStop) → PartsReport {T = T} start (u.text ++ piece) reader now (Err stop) → StopStates whole start now stop
     parts_stop whole is T reader now stop h = own stop h
       where
         text : List ℕ
         text = u.text ++ piece
 
         more : List ℕ
-        more = drop n (u.told whole is).0
+        more = drop n (u.reported whole is).0
 
         same : text ++ more ≡ whole
         same = all-of-it _ _ _ _ u piece n many within is_piece whole is
 
-        own : (stop : FeedStop) → PartsTell {T = T} start text reader now (Err stop) → StopTells whole start now stop
+        own : (stop : FeedStop) → PartsReport {T = T} start text reader now (Err stop) → StopStates whole start now stop
         own (OfFetch f) h = absurd h
         own (OfText f) h =
             let Q : List ℕ → Type 0 = λ xs. TookAll xs start now in
@@ -81,7 +81,7 @@ module _ (page rest : Option (List ℕ)) (given : ℕ) (start : Option (List ℕ
 
 -- ---- what is no fault of the shelf, and doesn't say that memory ran out
 
-pub parts_never : (T : Type 0) (start : Option (List ℕ)) (text : List ℕ) (reader : ReaderState) (now : Option (List ℕ)) (stop : FeedStop) → PartsTell {T = T} start text reader now (Err stop) → IsWrapped {T = T} (Err stop) → ⊥
+pub parts_never : (T : Type 0) (start : Option (List ℕ)) (text : List ℕ) (reader : ReaderState) (now : Option (List ℕ)) (stop : FeedStop) → PartsReport {T = T} start text reader now (Err stop) → IsWrapped {T = T} (Err stop) → ⊥
 parts_never T start text reader now (OfFetch f) h w = h
 parts_never T start text reader now (OfText fault.Memory) h w = h.0
 parts_never T start text reader now (OfText (fault.BadLine n)) h w = absurd cc
@@ -90,7 +90,7 @@ parts_never T start text reader now (OfText (fault.Truncated n)) h w = h.0
 parts_never T start text reader now OfSink h w = w
 parts_never T start text reader now NoMemory h w = w
 
-pub parts_no_fetch : (T : Type 0) (start : Option (List ℕ)) (text : List ℕ) (reader : ReaderState) (now : Option (List ℕ)) (stop : FeedStop) (g : Fetch) → PartsTell {T = T} start text reader now (Err stop) → IsFeedFetch {T = T} g (Err stop) → ⊥
+pub parts_no_fetch : (T : Type 0) (start : Option (List ℕ)) (text : List ℕ) (reader : ReaderState) (now : Option (List ℕ)) (stop : FeedStop) (g : Fetch) → PartsReport {T = T} start text reader now (Err stop) → IsFeedFetch {T = T} g (Err stop) → ⊥
 parts_no_fetch T start text reader now (OfFetch f) g h w = h
 parts_no_fetch T start text reader now (OfText f) g h w = w
 parts_no_fetch T start text reader now OfSink g h w = w
@@ -138,13 +138,13 @@ took_none page start now e = record {
 
 -- ---- the end of the page
 
-pub end_told : (page : List ℕ) (start now : Option (List ℕ)) (reader : ReaderState) (T : Type 0) (f : TextFault) → length page ≤ most_given → (all : AllFed start page reader now) → IsEnd {T = T} page all.parts (Err f) → StopTells page start now (stop_of_text f)
-end_told page start now reader T (fault.BadLine n) short all h = absurd h
-end_told page start now reader T (fault.BadOrder n) short all h = absurd h
-end_told page start now reader T (fault.Truncated n) short all h = (of_page short h, took_all start page all.parts reader.come now all.fed all.none)
-end_told page start now reader T fault.Memory short all h = absurd h
+pub end_reported : (page : List ℕ) (start now : Option (List ℕ)) (reader : ReaderState) (T : Type 0) (f : TextFault) → length page ≤ most_given → (all : AllFed start page reader now) → IsEnd {T = T} page all.parts (Err f) → StopStates page start now (stop_of_text f)
+end_reported page start now reader T (fault.BadLine n) short all h = absurd h
+end_reported page start now reader T (fault.BadOrder n) short all h = absurd h
+end_reported page start now reader T (fault.Truncated n) short all h = (of_page short h, took_all start page all.parts reader.come now all.fed all.none)
+end_reported page start now reader T fault.Memory short all h = absurd h
 
-pub end_whole : {T : Type 0} (done : T) (page : List ℕ) (start now : Option (List ℕ)) (reader : ReaderState) → length page ≤ most_given → (all : AllFed start page reader now) → IsEnd page all.parts (Ok done) → FeedTells (Some page) start now (Ok done)
+pub end_whole : {T : Type 0} (done : T) (page : List ℕ) (start now : Option (List ℕ)) (reader : ReaderState) → length page ≤ most_given → (all : AllFed start page reader now) → IsEnd page all.parts (Ok done) → FeedStates (Some page) start now (Ok done)
 end_whole done page start now reader short all e =
     let p = e.0 in (
       short,
@@ -157,7 +157,7 @@ end_whole done page start now reader short all e =
     )
 
 -- opening a page gave none
-pub open_fault : (T : Type 0) (page rest : Option (List ℕ)) (start now : Option (List ℕ)) (f : Fetch) → now ≡ start → OpenTells {T = T} page rest (Err f) → FeedTells {T = T} page start now (Err (stop_of_fetch f))
+pub open_fault : (T : Type 0) (page rest : Option (List ℕ)) (start now : Option (List ℕ)) (f : Fetch) → now ≡ start → OpenStates {T = T} page rest (Err f) → FeedStates {T = T} page start now (Err (stop_of_fetch f))
 open_fault T None rest start now fetch.Failed e h = e
 open_fault T None rest start now fetch.Missing e h = e
 open_fault T None rest start now fetch.TooLong e h = absurd h
@@ -192,12 +192,12 @@ memory_same : (T : Type 0) (answer : Result Publication TextFault) → SameAsRea
 memory_same T (Ok p) = tt
 memory_same T (Err e) = tt
 
-same_read : (T : Type 0) (page : List ℕ) (start now : Option (List ℕ)) (answer : Result Publication TextFault) → IsOutcome page answer → (result : Result T FeedStop) → FeedTells (Some page) start now result → SameAsRead answer result
+same_read : (T : Type 0) (page : List ℕ) (start now : Option (List ℕ)) (answer : Result Publication TextFault) → IsOutcome page answer → (result : Result T FeedStop) → FeedStates (Some page) start now result → SameAsRead answer result
 same_read T page start now answer o (Ok done) (short, took) = whole_same done took.publication answer (text_answer page answer o took.publication took.is)
-same_read T page start now answer o (Err (OfText f)) (told, took) = fault_same T f answer (same-fault page answer f o told)
+same_read T page start now answer o (Err (OfText f)) (reported, took) = fault_same T f answer (same-fault page answer f o reported)
 same_read T page start now answer o (Err (OfFetch f)) h = fetch_same T f answer
 same_read T page start now answer o (Err OfSink) h = sink_same T answer
 same_read T page start now answer o (Err NoMemory) h = memory_same T answer
 
-pub same_as_read : (T : Type 0) (told : Option (List ℕ)) (start now : Option (List ℕ)) (result : Result T FeedStop) → FeedTells told start now result → (page : List ℕ) → told ≡ Some page → (answer : Result Publication TextFault) → IsOutcome page answer → SameAsRead answer result
-same_as_read T told start now result tells page is answer o = same_read T page start now answer o result (subst (λ p. FeedTells p start now result) is tells)
+pub same_as_read : (T : Type 0) (reported : Option (List ℕ)) (start now : Option (List ℕ)) (result : Result T FeedStop) → FeedStates reported start now result → (page : List ℕ) → reported ≡ Some page → (answer : Result Publication TextFault) → IsOutcome page answer → SameAsRead answer result
+same_as_read T reported start now result states page is answer o = same_read T page start now answer o result (subst (λ p. FeedStates p start now result) is states)

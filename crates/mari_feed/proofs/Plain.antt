@@ -39,10 +39,10 @@ IsWhole (negative (pos n)) = ⊥
 IsWhole (negative (negsuc n)) = n < 2 ^ 62
 IsWhole (float x) = ⊥
 
--- the key stands behind those of all these members
-abbrev pub IsBehind : List ℕ → Members → Type 0
-IsBehind k no_members = ⊤
-IsBehind k (member l d ms) = (slice_cmp nat_cmp k l ≡ Greater) × IsBehind k ms
+-- the key stands after those of all these members
+abbrev pub SortsAfter : List ℕ → Members → Type 0
+SortsAfter k no_members = ⊤
+SortsAfter k (member l d ms) = (slice_cmp nat_cmp k l ≡ Greater) × SortsAfter k ms
 
 -- the members with one more
 abbrev pub with_last : Members → List ℕ → Data → Members
@@ -56,16 +56,16 @@ abbrev mutual
   IsPlain (number n) = IsWhole n
   IsPlain (string s) = is_plain_text s ≡ true
   IsPlain (array ds) = ArePlain ds
-  IsPlain (object ms) = PlainBehind no_members ms
+  IsPlain (object ms) = PlainAfter no_members ms
 
   pub ArePlain : Items → Type 0
   ArePlain no_items = ⊤
   ArePlain (item d ds) = IsPlain d × ArePlain ds
 
-  -- further members behind some
-  pub PlainBehind : Members → Members → Type 0
-  PlainBehind before no_members = ⊤
-  PlainBehind before (member k d ms) = (is_plain_text k ≡ true) × IsBehind k before × IsPlain d × PlainBehind (with_last before k d) ms
+  -- further members after some
+  pub PlainAfter : Members → Members → Type 0
+  PlainAfter before no_members = ⊤
+  PlainAfter before (member k d ms) = (is_plain_text k ≡ true) × SortsAfter k before × IsPlain d × PlainAfter (with_last before k d) ms
 
 -- ---- the text is graphic ASCII
 
@@ -135,7 +135,7 @@ mutual
   items_line later no_items h = refl
   items_line later (item d ds) h = both (comma_if later) (compact_text d ++ items_text true ds) (comma_line later) (both (compact_text d) (items_text true ds) (text_line d h.0) (items_line true ds h.1))
 
-  members_line : (later : Bool) (before ms : Members) → PlainBehind before ms → IsLine (members_text later ms)
+  members_line : (later : Bool) (before ms : Members) → PlainAfter before ms → IsLine (members_text later ms)
   members_line later before no_members h = refl
   members_line later before (member k d ms) h =
       both (comma_if later) (quoted k ++ 58 ∷ (compact_text d ++ members_text true ms)) (comma_line later)
@@ -156,7 +156,7 @@ plain_utf8 d h = IsUtf8-from_ascii (compact_text d) (line_ascii (compact_text d)
 
 -- ---- the text is read back
 
-put_last : (k : List ℕ) (d : Data) (before : Members) → IsBehind k before → put k d before ≡ with_last before k d
+put_last : (k : List ℕ) (d : Data) (before : Members) → SortsAfter k before → put k d before ≡ with_last before k d
 put_last k d no_members h = refl
 put_last k d (member l e ms) h = rw h.0 (ap (λ rest. member l e rest) (put_last k d ms h.1))
 
@@ -191,7 +191,7 @@ mutual
   items_back no_items h = refl
   items_back (item d ds) h = ap (option_and_then (λ d. option_map (item d) (of_items (items_outline ds)))) (value_back d h.0) ∙ ap (option_map (item d)) (items_back ds h.1)
 
-  members_back : (before ms : Members) → PlainBehind before ms → of_members (members_outline ms) before ≡ Some (joined before ms)
+  members_back : (before ms : Members) → PlainAfter before ms → of_members (members_outline ms) before ≡ Some (joined before ms)
   members_back before no_members h = ap (λ ms. Some ms) (sym (joined_all before))
   members_back before (member k d ms) h =
       ap (option_and_then (λ e. of_members (members_outline ms) (put k e before))) (value_back d h.2)
@@ -218,7 +218,7 @@ mutual
   items_numbers no_items h = tt
   items_numbers (item d ds) h = (numbers d h.0, items_numbers ds h.1)
 
-  members_numbers : (before ms : Members) → PlainBehind before ms → tree.MembersHaveNumbers (members_outline ms)
+  members_numbers : (before ms : Members) → PlainAfter before ms → tree.MembersHaveNumbers (members_outline ms)
   members_numbers before no_members h = tt
   members_numbers before (member k d ms) h = (numbers d h.2, members_numbers (with_last before k d) ms h.3)
 

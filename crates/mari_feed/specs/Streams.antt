@@ -6,7 +6,7 @@ use Rattle.mari_io.specs.declared.shelf.Fetch.{Fetch}
 use Rattle.mari_io.specs.declared.shelf.Fetch.TheVariants as fetch
 use Rattle.mari_io.specs.Outside.{most_given}
 use Rattle.mari_publish.specs.Faults.{IsText}
-use Rattle.mari_publish.specs.Paged.{IsLineFault, IsToldFault, IsTooLong}
+use Rattle.mari_publish.specs.Paged.{IsLineFault, IsReportedFault, IsTooLong}
 use Rattle.mari_publish.specs.Pieces.{ComeState, ComesFrom, HoldsParts, NoFault, NoPart, ReaderState, parts_of}
 use Rattle.mari_publish.specs.declared.fault.TextFault.{TextFault}
 use Rattle.mari_publish.specs.declared.fault.TextFault.TheVariants as text_fault
@@ -60,33 +60,33 @@ pub record TookFeed (text : List ℕ) (before after : Option (List ℕ)) : Type 
   pub took : after ≡ then_took before (feed_of (parts_of publication))
 
 -- how the printing ends where the page isn't held
-abbrev pub MissTells : (before after : Option (List ℕ)) → FeedStop → Type 0
-MissTells before after (OfFetch fetch.Failed) = after ≡ before
-MissTells before after (OfFetch fetch.Missing) = after ≡ before
-MissTells before after (OfFetch fetch.TooLong) = ⊥
-MissTells before after (OfFetch fetch.Memory) = ⊥
-MissTells before after (OfText f) = ⊥
-MissTells before after OfSink = ⊥
-MissTells before after NoMemory = after ≡ before
+abbrev pub MissStates : (before after : Option (List ℕ)) → FeedStop → Type 0
+MissStates before after (OfFetch fetch.Failed) = after ≡ before
+MissStates before after (OfFetch fetch.Missing) = after ≡ before
+MissStates before after (OfFetch fetch.TooLong) = ⊥
+MissStates before after (OfFetch fetch.Memory) = ⊥
+MissStates before after (OfText f) = ⊥
+MissStates before after OfSink = ⊥
+MissStates before after NoMemory = after ≡ before
 
 -- how it stops where it is held
-abbrev pub StopTells : (page : List ℕ) → (before after : Option (List ℕ)) → FeedStop → Type 0
-StopTells page before after (OfFetch fetch.Failed) = TookFirst page before after
-StopTells page before after (OfFetch fetch.Missing) = ⊥
-StopTells page before after (OfFetch fetch.TooLong) = IsTooLong page × TookFirst page before after
-StopTells page before after (OfFetch fetch.Memory) = ⊥
-StopTells page before after (OfText f) = IsToldFault page f × TookAll page before after
-StopTells page before after OfSink = TookSome page before after
-StopTells page before after NoMemory = TookFirst page before after
+abbrev pub StopStates : (page : List ℕ) → (before after : Option (List ℕ)) → FeedStop → Type 0
+StopStates page before after (OfFetch fetch.Failed) = TookFirst page before after
+StopStates page before after (OfFetch fetch.Missing) = ⊥
+StopStates page before after (OfFetch fetch.TooLong) = IsTooLong page × TookFirst page before after
+StopStates page before after (OfFetch fetch.Memory) = ⊥
+StopStates page before after (OfText f) = IsReportedFault page f × TookAll page before after
+StopStates page before after OfSink = TookSome page before after
+StopStates page before after NoMemory = TookFirst page before after
 
 -- what is said of the page and of what was taken
-abbrev pub FeedTells : {T : Type 0} → Option (List ℕ) → (before after : Option (List ℕ)) → Result T FeedStop → Type 0
-FeedTells None before after (Ok done) = ⊥
-FeedTells None before after (Err why) = MissTells before after why
-FeedTells (Some page) before after (Ok done) = (length page ≤ most_given) × TookFeed page before after
-FeedTells (Some page) before after (Err why) = StopTells page before after why
+abbrev pub FeedStates : {T : Type 0} → Option (List ℕ) → (before after : Option (List ℕ)) → Result T FeedStop → Type 0
+FeedStates None before after (Ok done) = ⊥
+FeedStates None before after (Err why) = MissStates before after why
+FeedStates (Some page) before after (Ok done) = (length page ≤ most_given) × TookFeed page before after
+FeedStates (Some page) before after (Err why) = StopStates page before after why
 
--- where a text is read whole, the same is said of it: it is printed to its end, or the same fault is told
+-- where a text is read whole, the same is said of it: it is printed to its end, or the same fault is reported
 abbrev pub SameAsRead : {T : Type 0} → Result Publication TextFault → Result T FeedStop → Type 0
 SameAsRead (Ok p) (Ok done) = ⊤
 SameAsRead (Ok p) (Err (OfText f)) = ⊥
@@ -106,7 +106,7 @@ IsFeedFetch f (Err OfSink) = ⊥
 IsFeedFetch f (Err NoMemory) = ⊥
 IsFeedFetch f (Ok x) = ⊥
 
--- want of memory is told as a fault of the shelf or of the text
+-- want of memory is reported as a fault of the shelf or of the text
 abbrev pub IsWrapped : {T : Type 0} → Result T FeedStop → Type 0
 IsWrapped (Err (OfFetch f)) = f ≡ fetch.Memory
 IsWrapped (Err (OfText f)) = f ≡ text_fault.Memory
@@ -114,7 +114,7 @@ IsWrapped (Err OfSink) = ⊥
 IsWrapped (Err NoMemory) = ⊥
 IsWrapped (Ok x) = ⊥
 
--- how a fault of the shelf is told, and one of the text
+-- how a fault of the shelf is reported, and one of the text
 abbrev pub stop_of_fetch : Fetch → FeedStop
 stop_of_fetch fetch.Failed = OfFetch fetch.Failed
 stop_of_fetch fetch.Missing = OfFetch fetch.Missing
@@ -151,14 +151,14 @@ pub record AllFed (start : Option (List ℕ)) (text : List ℕ) (reader : Reader
   pub no_fault : NoFault text
 
 -- how far the text that has come is printed
-abbrev pub PartsTell : {T : Type 0} → Option (List ℕ) → List ℕ → ReaderState → Option (List ℕ) → Result T FeedStop → Type 0
-PartsTell start text reader now (Ok done) = AllFed start text reader now
-PartsTell start text reader now (Err (OfFetch f)) = ⊥
-PartsTell start text reader now (Err (OfText f)) = IsLineFault text f × TookAll text start now
-PartsTell start text reader now (Err OfSink) = TookSome text start now
-PartsTell start text reader now (Err NoMemory) = TookFirst text start now
+abbrev pub PartsReport : {T : Type 0} → Option (List ℕ) → List ℕ → ReaderState → Option (List ℕ) → Result T FeedStop → Type 0
+PartsReport start text reader now (Ok done) = AllFed start text reader now
+PartsReport start text reader now (Err (OfFetch f)) = ⊥
+PartsReport start text reader now (Err (OfText f)) = IsLineFault text f × TookAll text start now
+PartsReport start text reader now (Err OfSink) = TookSome text start now
+PartsReport start text reader now (Err NoMemory) = TookFirst text start now
 
 -- how far a page is printed that is read to its end, or as far as could be
-abbrev pub PiecesTell : {T : Type 0} → List ℕ → Option (List ℕ) → ReaderState → Option (List ℕ) → Result T FeedStop → Type 0
-PiecesTell page start reader now (Ok done) = (length page ≤ most_given) × AllFed start page reader now
-PiecesTell page start reader now (Err why) = StopTells page start now why
+abbrev pub PiecesReport : {T : Type 0} → List ℕ → Option (List ℕ) → ReaderState → Option (List ℕ) → Result T FeedStop → Type 0
+PiecesReport page start reader now (Ok done) = (length page ≤ most_given) × AllFed start page reader now
+PiecesReport page start reader now (Err why) = StopStates page start now why

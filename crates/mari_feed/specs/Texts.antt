@@ -18,7 +18,7 @@ pub record IsJsonOf (bytes : List ℕ) (d : Data) : Type 0 where
   pub utf8 : IsUtf8 bytes
   pub reads : read bytes ≡ Some d
 
--- a member of an object behind its brace; one behind a comma; and several of these
+-- a member of an object after its brace; one after a comma; and several of these
 abbrev pub first_text : List ℕ → Data → List ℕ
 first_text key d = 123 ∷ (quoted key ++ 58 ∷ compact_text d)
 

@@ -8,7 +8,7 @@ ghost use Rattle.mari_publish.specs.declared.fault.TextFault.{TextFault as TheTe
 ghost use Rattle.mari_publish.specs.declared.publication.Part.{Part as ThePart};
 ghost use Rattle.mari_publish.specs.declared.publication.Publication.{Publication as ThePublication};
 ghost use Rattle.mari_publish.specs.Ranges.{PartFits};
-ghost use Rattle.mari_feed.specs.Streams.{FeedTells, HasFed, IsFeedFetch, IsWrapped, PartsTell, PiecesTell, SameAsRead, WroteLine, stop_of_fetch, stop_of_text};
+ghost use Rattle.mari_feed.specs.Streams.{FeedStates, HasFed, IsFeedFetch, IsWrapped, PartsReport, PiecesReport, SameAsRead, WroteLine, stop_of_fetch, stop_of_text};
 
 use crate::part::part_text;
 use mari_io::{Fetch, Shelf, Sink, write_all};
@@ -76,7 +76,7 @@ fn print_parts<K: Sink>(
     sink: &mut K,
 ) -> Result<(), FeedStop>
     requires fed { (start : Opt (List ℕ)) × (text : List ℕ) × (parts : List ThePart) × HasFed start text parts reader.old.come (K.taken sink.old) }
-    ensures fed { (start : Opt (List ℕ)) (text : List ℕ) (parts : List ThePart) → HasFed start text parts reader.old.come (K.taken sink.old) → PartsTell start text reader.new (K.taken sink.new) result }
+    ensures fed { (start : Opt (List ℕ)) (text : List ℕ) (parts : List ThePart) → HasFed start text parts reader.old.come (K.taken sink.old) → PartsReport start text reader.new (K.taken sink.new) result }
     ensures cause { Counts (result ≡ Err FeedStop.Sink) (K.faults sink.old) (K.faults sink.new) }
 {
     'parts: loop {
@@ -106,7 +106,7 @@ fn print_pieces<S: Shelf, K: Sink>(
     // What was read and printed.
     ensures same { S.pages shelf.new ≡ S.pages shelf.old }
     ensures waits { OnOk result (reader.new.waits ≡ true) }
-    ensures told { (page : List ℕ) → S.rest shelf.old ≡ Some page → PiecesTell page (K.taken sink.old) reader.new (K.taken sink.new) result }
+    ensures reported { (page : List ℕ) → S.rest shelf.old ≡ Some page → PiecesReport page (K.taken sink.old) reader.new (K.taken sink.new) result }
 
     // Why it wasn't printed to its end.
     ensures memory { IsWrapped result → ⊥ }
@@ -150,10 +150,10 @@ pub fn print_feed<S: Shelf, K: Sink>(
     ensures same { S.pages shelf.new ≡ S.pages shelf.old }
 
     // What is said of the page and of what was printed, where pages are reported.
-    ensures told { (told : Pages) → S.pages shelf.old ≡ Some told → FeedTells (page_of told name.now) (K.taken sink.old) (K.taken sink.new) result }
+    ensures reported { (reported : Pages) → S.pages shelf.old ≡ Some reported → FeedStates (page_of reported name.now) (K.taken sink.old) (K.taken sink.new) result }
 
     // Nothing else is said of that page than of the page read whole.
-    ensures whole { (told : Pages) (page : List ℕ) (answer : Res ThePublication TheTextFault) → S.pages shelf.old ≡ Some told → page_of told name.now ≡ Some page → IsOutcome page answer → SameAsRead answer result }
+    ensures whole { (reported : Pages) (page : List ℕ) (answer : Res ThePublication TheTextFault) → S.pages shelf.old ≡ Some reported → page_of reported name.now ≡ Some page → IsOutcome page answer → SameAsRead answer result }
 
     // Why it stopped. That there is no memory is said as such.
     ensures memory { IsWrapped result → ⊥ }

@@ -19,7 +19,7 @@ waiting_front gates w v (suc n) h =
     ∙ ap (λ (u : List Bool). (if opens_in w n then [] else opened_child gates u) ++ waiting gates (w ++ v) n) (take-append-le n w v (omega arith))
     ∙ ap (λ (ws : List (List Bool)). (if opens_in w n then [] else opened_child gates (take n w)) ++ ws) (waiting_front gates w v n (omega arith))
 
--- behind one decision more waits the open child of a closed gate
+-- after one decision more waits the open child of a closed gate
 pub waiting_push : (gates : List GateInfo) (w : List Bool) (b : Bool) → waiting_after gates (w ++ b ∷ []) ≡ (if b then [] else opened_child gates w) ++ waiting_after gates w
 waiting_push gates w b =
     let long : length (w ++ b ∷ []) ≡ suc (length w) = omega (arith, length-append w (b ∷ [])) in
@@ -55,7 +55,7 @@ parent_feasible m x y b v f e cleared = record {
   rest = cleared;
 }
 
--- the words that wait behind the parent too: the child was open, or its sibling may not be
+-- the words that wait after the parent too: the child was open, or its sibling may not be
 pub waiting_up : (gates : List GateInfo) (x y : Prefix) (b : Bool) → word_of x ≡ word_of y ++ b ∷ [] → (b ≡ false → opened_child gates (word_of y) ≡ []) → waiting_after gates (word_of x) ≡ waiting_after gates (word_of y)
 waiting_up gates x y b e none = ap (waiting_after gates) e ∙ waiting_push gates (word_of y) b ∙ ap (λ (ws : List (List Bool)). ws ++ waiting_after gates (word_of y)) (by_bit b none)
   where
@@ -63,14 +63,14 @@ waiting_up gates x y b e none = ap (waiting_after gates) e ∙ waiting_push gate
     by_bit true n = refl
     by_bit false n = n refl
 
--- and behind a closed child first its open sibling
+-- and after a closed child first its open sibling
 pub waiting_sibling : (gates : List GateInfo) (x y z : Prefix) (b : Bool) → word_of x ≡ word_of y ++ b ∷ [] → b ≡ false → opened_child gates (word_of y) ≡ (word_of y ++ true ∷ []) ∷ [] → word_of z ≡ word_of y ++ true ∷ [] → left_at gates (Some z) ≡ waiting_after gates (word_of x)
 waiting_sibling gates x y z b e closed may child =
     ap (λ (w : List Bool). w ∷ waiting_after gates w) child
     ∙ ap (λ (ws : List (List Bool)). (word_of y ++ true ∷ []) ∷ ws) (waiting_push gates (word_of y) true)
     ∙ sym (ap (waiting_after gates) e ∙ waiting_push gates (word_of y) b ∙ ap (λ (c : Bool). (if c then [] else opened_child gates (word_of y)) ++ waiting_after gates (word_of y)) closed ∙ ap (λ (ws : List (List Bool)). ws ++ waiting_after gates (word_of y)) may)
 
--- the first child of a branch, and what is left behind it
+-- the first child of a branch, and what is left after it
 pub first_child : (gates : List GateInfo) (x y : Prefix) → word_of y ≡ word_of x ++ false ∷ [] → left_at gates (Some y) ≡ children gates (word_of x) ++ waiting_after gates (word_of x)
 first_child gates x y e =
     ap (λ (w : List Bool). w ∷ waiting_after gates w) e ∙ ap (λ (ws : List (List Bool)). (word_of x ++ false ∷ []) ∷ ws) (waiting_push gates (word_of x) false)

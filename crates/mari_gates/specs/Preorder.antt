@@ -8,12 +8,12 @@ use Rattle.mari_market.specs.Prefix.{word_of, opens_in, may_open}
 abbrev pub opened_child : List GateInfo → List Bool → List (List Bool)
 opened_child gates word = if may_open gates word (length word) then (word ++ true ∷ []) ∷ [] else []
 
--- the words that wait behind the first n decisions of a word, in preorder: the open children of those that it closes
+-- the words that wait after the first n decisions of a word, in preorder: the open children of those that it closes
 abbrev pub waiting : List GateInfo → List Bool → ℕ → List (List Bool)
 waiting gates word zero = []
 waiting gates word (suc n) = (if opens_in word n then [] else opened_child gates (take n word)) ++ waiting gates word n
 
--- the words that wait behind a word
+-- the words that wait after a word
 abbrev pub waiting_after : List GateInfo → List Bool → List (List Bool)
 waiting_after gates word = waiting gates word (length word)
 

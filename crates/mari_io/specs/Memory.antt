@@ -20,7 +20,7 @@ bytes_of [] place = []
 bytes_of (page ∷ pages) zero = page.bytes
 bytes_of (page ∷ pages) (suc place) = bytes_of pages place
 
--- what is left of the page at this place behind so many bytes; nothing where no page was opened
+-- what is left of the page at this place after so many bytes; nothing where no page was opened
 abbrev pub left_of : List Page → Option ℕ → ℕ → List ℕ
 left_of pages None given = []
 left_of pages (Some place) given = drop given (bytes_of pages place)

@@ -51,12 +51,12 @@ page_of [] name = None
 page_of (page ∷ pages) name = if bytes_eq page.0 name then Some page.1 else page_of pages name
 
 -- what a fetch answers where the page of that name is known
-abbrev pub FetchTells : {T : Type 0} → Option (List ℕ) → List ℕ → List ℕ → Result T Fetch → Type 0
-FetchTells page old new (Ok done) = page ≡ Some (drop (length old) new)
-FetchTells page old new (Err Missing) = page ≡ None
-FetchTells page old new (Err TooLong) = IsSomeAnd page (λ bytes. MOST_PAGE < length bytes)
-FetchTells page old new (Err Failed) = ⊤
-FetchTells page old new (Err Memory) = ⊤
+abbrev pub FetchStates : {T : Type 0} → Option (List ℕ) → List ℕ → List ℕ → Result T Fetch → Type 0
+FetchStates page old new (Ok done) = page ≡ Some (drop (length old) new)
+FetchStates page old new (Err Missing) = page ≡ None
+FetchStates page old new (Err TooLong) = IsSomeAnd page (λ bytes. MOST_PAGE < length bytes)
+FetchStates page old new (Err Failed) = ⊤
+FetchStates page old new (Err Memory) = ⊤
 
 -- new is old with at most so many bytes more
 pub record AppendsAtMost (most : ℕ) (old new : List ℕ) : Type 0 where
@@ -70,12 +70,12 @@ taken_count (Err e) = 0
 
 -- what opening a page answers where the page of that name is known: all of it is left. Out of memory it may be at any
 -- name
-abbrev pub OpenTells : {T : Type 0} → Option (List ℕ) → Option (List ℕ) → Result T Fetch → Type 0
-OpenTells page rest (Ok done) = IsSome page × (rest ≡ page)
-OpenTells page rest (Err Missing) = page ≡ None
-OpenTells page rest (Err TooLong) = ⊥
-OpenTells page rest (Err Failed) = ⊤
-OpenTells page rest (Err Memory) = ⊤
+abbrev pub OpenStates : {T : Type 0} → Option (List ℕ) → Option (List ℕ) → Result T Fetch → Type 0
+OpenStates page rest (Ok done) = IsSome page × (rest ≡ page)
+OpenStates page rest (Err Missing) = page ≡ None
+OpenStates page rest (Err TooLong) = ⊥
+OpenStates page rest (Err Failed) = ⊤
+OpenStates page rest (Err Memory) = ⊤
 
 -- new is old with exactly so many bytes more
 pub record AppendsExactly (count : ℕ) (old new : List ℕ) : Type 0 where
@@ -88,7 +88,7 @@ pub record IsPiece (left old new : List ℕ) (count : ℕ) : Type 0 where
   pub fits : count ≤ length left
   pub at_end : (count ≡ 0) ↔ (left ≡ [])
 
--- what is left of the page, where that is told, after a piece was given or not
+-- what is left of the page, where that is reported, after a piece was given or not
 abbrev pub rest_after : {E : Type 0} → Option (List ℕ) → Result ℕ E → Option (List ℕ)
 rest_after rest result = option_map (λ left. drop (taken_count result) left) rest
 
@@ -102,7 +102,7 @@ abbrev pub IsOverlong : Option (List ℕ) → ℕ → Type 0
 IsOverlong None given = given ≡ most_given
 IsOverlong (Some left) given = (given ≡ most_given) × (left ≢ [])
 
--- what was taken, where it is told
+-- what was taken, where it is reported
 abbrev pub taken_after : {E : Type 0} → Option (List ℕ) → List ℕ → Result ℕ E → Option (List ℕ)
 taken_after taken piece result = option_map (λ t. t ++ take (taken_count result) piece) taken
 

@@ -1,4 +1,4 @@
--- Real files and the real standard output: why the system's errors are told as they are, and what is counted.
+-- Real files and the real standard output: why the system's errors are reported as they are, and what is counted.
 use Rattle.std.specs.Prelude.{ℕ, ◌+◌, Bool, true, false, List, Result, Ok, Err}
 use Rattle.std.specs.declared.io.ErrorKind.{ErrorKind}
 use Rattle.mari_io.specs.Outside.{counted, counted_if, is_failed, is_missing, is_too_long, taken_count, took_none}

@@ -1,4 +1,4 @@
--- What a sink has taken of a text that is written to it, where it tells what it takes.
+-- What a sink has taken of a text that is written to it, where it states what it takes.
 use Rattle.std.specs.Prelude.{ℕ, ◌≡◌, List, ◌++◌, Option, take}
 use Rattle.std.specs.Option.{option_map}
 

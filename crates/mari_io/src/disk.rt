@@ -6,7 +6,7 @@ ghost use Rattle.std.specs.Io.KnownBytes.{Consumes, Keeps, IsAtEnd};
 ghost use Rattle.mari_units.specs.declared.limits.TheConstants.{MOST_PAGE};
 ghost use Rattle.mari_io.specs.declared.shelf.TheConstants.{MOST_PIECE};
 ghost use Rattle.mari_io.specs.declared.shelf.Fetch.TheVariants.{Failed, Missing, TooLong, Memory};
-ghost use Rattle.mari_io.specs.Outside.{Counts, Pages, counted, page_of, FetchTells, AppendsAtMost, OpenTells, AppendsExactly, IsPiece, rest_after, IsOverlong, most_given, taken_count};
+ghost use Rattle.mari_io.specs.Outside.{Counts, Pages, counted, page_of, FetchStates, AppendsAtMost, OpenStates, AppendsExactly, IsPiece, rest_after, IsOverlong, most_given, taken_count};
 ghost use Rattle.mari_io.specs.System.{fault_of_opening, fault_of_reading, after_disk_call, new_disk, opened, more_given};
 
 use crate::shelf::MOST_GIVEN;
@@ -285,7 +285,7 @@ impl<R: Files + Drop> Shelf for DiskShelf<R> {
         // What was read; no page is reported.
         ensures ok { OnOk result (AppendsAtMost MOST_PAGE into.old.items into.new.items) }
         ensures err { OnErr result (into.new.items ≡ into.old.items) }
-        ensures told { (told : Pages) → None ≡ Some told → FetchTells (page_of told name.now) into.old.items into.new.items result }
+        ensures reported { (reported : Pages) → None ≡ Some reported → FetchStates (page_of reported name.now) into.old.items into.new.items result }
 
         // Why nothing was.
         ensures failed { Counts (IsErrOf result Failed) self.old.faults self.new.faults }
@@ -310,7 +310,7 @@ impl<R: Files + Drop> Shelf for DiskShelf<R> {
         // What is open: that file, of which nothing was given; no page is reported.
         ensures open { OnOk result (self.new.is_open ≡ true) }
         ensures given { OnOk result (self.new.given ≡ 0) }
-        ensures told { (told : Pages) → None ≡ Some told → OpenTells (page_of told name.now) None result }
+        ensures reported { (reported : Pages) → None ≡ Some reported → OpenStates (page_of reported name.now) None result }
 
         // After an error, what was open.
         ensures open_stays { OnErr result (self.new.is_open ≡ self.old.is_open) }
@@ -337,7 +337,7 @@ impl<R: Files + Drop> Shelf for DiskShelf<R> {
         // What was given; what was left isn't reported.
         ensures ok { IfOk result (λ n. AppendsExactly n into.old.items into.new.items) }
         ensures few { IfOk result (λ n. n ≤ MOST_PIECE) }
-        ensures told { (left : List ℕ) → None ≡ Some left → IfOk result (λ n. IsPiece left into.old.items into.new.items n) }
+        ensures reported { (left : List ℕ) → None ≡ Some left → IfOk result (λ n. IsPiece left into.old.items into.new.items n) }
         ensures err { OnErr result (into.new.items ≡ into.old.items) }
 
         // What is left: the rest of the same file.

@@ -4,7 +4,7 @@ ghost use Rattle.std.specs.Prelude.{◌≡◌, ◌≤◌, ◌+◌, ◌↔◌, Li
 ghost use Rattle.mari_units.specs.declared.limits.TheConstants.{MOST_PAGE};
 ghost use Rattle.mari_io.specs.declared.shelf.TheConstants.{MOST_PIECE};
 ghost use Rattle.mari_io.specs.declared.shelf.Fetch.TheVariants.{Failed, Missing, TooLong, Memory};
-ghost use Rattle.mari_io.specs.Outside.{Counts, Pages, counted, page_of, FetchTells, AppendsAtMost, OpenTells, AppendsExactly, IsPiece, rest_after, IsOverlong, most_given, taken_count};
+ghost use Rattle.mari_io.specs.Outside.{Counts, Pages, counted, page_of, FetchStates, AppendsAtMost, OpenStates, AppendsExactly, IsPiece, rest_after, IsOverlong, most_given, taken_count};
 ghost use Rattle.mari_io.specs.Memory.{pages_of, fetch_fails, after_fetch, after_open, after_piece, piece_length, new_shelf};
 
 use crate::page::{bytes_at, find_page, left_at};
@@ -94,7 +94,7 @@ impl Shelf for MemoryShelf {
         // What was read.
         ensures ok { OnOk result (AppendsAtMost MOST_PAGE into.old.items into.new.items) }
         ensures err { OnErr result (into.new.items ≡ into.old.items) }
-        ensures told { (told : Pages) → Some self.old.pages ≡ Some told → FetchTells (page_of told name.now) into.old.items into.new.items result }
+        ensures reported { (reported : Pages) → Some self.old.pages ≡ Some reported → FetchStates (page_of reported name.now) into.old.items into.new.items result }
 
         // Why nothing was.
         ensures failed { Counts (IsErrOf result Failed) self.old.faults self.new.faults }
@@ -137,7 +137,7 @@ impl Shelf for MemoryShelf {
         // What is open: that page, and all of it is left.
         ensures open { OnOk result (self.new.is_open ≡ true) }
         ensures given { OnOk result (self.new.given ≡ 0) }
-        ensures told { (told : Pages) → Some self.old.pages ≡ Some told → OpenTells (page_of told name.now) (Some self.new.left) result }
+        ensures reported { (reported : Pages) → Some self.old.pages ≡ Some reported → OpenStates (page_of reported name.now) (Some self.new.left) result }
 
         // After an error, what was open.
         ensures open_stays { OnErr result (self.new.is_open ≡ self.old.is_open) }
@@ -177,7 +177,7 @@ impl Shelf for MemoryShelf {
         // What was given: the first bytes of what was left.
         ensures ok { IfOk result (λ n. AppendsExactly n into.old.items into.new.items) }
         ensures few { IfOk result (λ n. n ≤ MOST_PIECE) }
-        ensures told { (left : List ℕ) → Some self.old.left ≡ Some left → IfOk result (λ n. IsPiece left into.old.items into.new.items n) }
+        ensures reported { (left : List ℕ) → Some self.old.left ≡ Some left → IfOk result (λ n. IsPiece left into.old.items into.new.items n) }
         ensures err { OnErr result (into.new.items ≡ into.old.items) }
 
         // What is left: the rest of the same page.

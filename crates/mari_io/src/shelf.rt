@@ -3,7 +3,7 @@
 ghost use Rattle.std.specs.Prelude.{◌≡◌, ◌≤◌, ◌+◌, ◌↔◌, ℕ, List, Bool, true, Option, IsErrOf, IfOk, OnOk, OnErr, Some, None};
 ghost use Rattle.mari_units.specs.declared.limits.TheConstants.{MOST_PAGE};
 ghost use Rattle.mari_io.specs.declared.shelf.Fetch.TheVariants.{Failed, Missing, TooLong, Memory};
-ghost use Rattle.mari_io.specs.Outside.{Counts, Pages, counted, page_of, FetchTells, AppendsAtMost, OpenTells, AppendsExactly, IsPiece, rest_after, IsOverlong, most_given, taken_count};
+ghost use Rattle.mari_io.specs.Outside.{Counts, Pages, counted, page_of, FetchStates, AppendsAtMost, OpenStates, AppendsExactly, IsPiece, rest_after, IsOverlong, most_given, taken_count};
 
 /// The most bytes of a piece.
 pub const MOST_PIECE: usize = 65_536;
@@ -60,7 +60,7 @@ pub trait Shelf {
         // What was read.
         ensures ok { OnOk result (AppendsAtMost MOST_PAGE into.old.items into.new.items) }
         ensures err { OnErr result (into.new.items ≡ into.old.items) }
-        ensures told { (told : Pages) → pages self.old ≡ Some told → FetchTells (page_of told name.now) into.old.items into.new.items result }
+        ensures reported { (reported : Pages) → pages self.old ≡ Some reported → FetchStates (page_of reported name.now) into.old.items into.new.items result }
 
         // Why nothing was.
         ensures failed { Counts (IsErrOf result Failed) (faults self.old) (faults self.new) }
@@ -80,7 +80,7 @@ pub trait Shelf {
         // What is open: that page, and all of it is left.
         ensures open { OnOk result (is_open self.new ≡ true) }
         ensures given { OnOk result (given self.new ≡ 0) }
-        ensures told { (told : Pages) → pages self.old ≡ Some told → OpenTells (page_of told name.now) (rest self.new) result }
+        ensures reported { (reported : Pages) → pages self.old ≡ Some reported → OpenStates (page_of reported name.now) (rest self.new) result }
         ensures untold { OnOk result (pages self.old ≡ None → rest self.new ≡ None) }
 
         // After an error, what was open.
@@ -104,7 +104,7 @@ pub trait Shelf {
         // What was given: `n` bytes, and where what was left is reported, its first ones.
         ensures ok { IfOk result (λ n. AppendsExactly n into.old.items into.new.items) }
         ensures few { IfOk result (λ n. n ≤ MOST_PIECE) }
-        ensures told { (left : List ℕ) → rest self.old ≡ Some left → IfOk result (λ n. IsPiece left into.old.items into.new.items n) }
+        ensures reported { (left : List ℕ) → rest self.old ≡ Some left → IfOk result (λ n. IsPiece left into.old.items into.new.items n) }
         ensures err { OnErr result (into.new.items ≡ into.old.items) }
 
         // What is left: the rest of the same page.

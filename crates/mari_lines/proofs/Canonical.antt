@@ -74,7 +74,7 @@ none_off (Some f) text a b e is eb none = absurd cc
 pub hundredths_end : (whole : List ℕ) (a b : ℕ) → whole ++ 46 ∷ a ∷ b ∷ [] ≡ (whole ++ 46 ∷ []) ++ a ∷ b ∷ []
 hundredths_end whole a b = sym (append_assoc whole (46 ∷ []) (a ∷ b ∷ []))
 
--- four decimals are two behind two
+-- four decimals are two after two
 pub ten_thousandths_end : (n : ℕ)
     → printed_ten_thousandths n
     ≡ (decimal (n / 100 / 100) ++ 46 ∷ (48 + n / 100 % 100 / 10) ∷ (48 + n / 100 % 10) ∷ [])
@@ -86,7 +86,7 @@ ten_thousandths_end n =
     sym (append_assoc (decimal (n / 100 / 100)) (46 ∷ (48 + n / 100 % 100 / 10) ∷ (48 + n / 100 % 10) ∷ []) _
     ∙ (λ i. decimal (whole i) ++ 46 ∷ first i ∷ second i ∷ (48 + n % 100 / 10) ∷ (48 + n % 10) ∷ []))
 
--- a whole number is its digits behind its sign
+-- a whole number is its digits after its sign
 pub signed_parts : (z : ℤ) → signed_decimal z ≡ sign_of (int_lt z (pos 0)) ++ decimal (unsigned_abs z)
 signed_parts (pos n) = ap (λ (b : Bool). sign_of b ++ decimal n) (sym (not_below n))
 signed_parts (negsuc n) = refl

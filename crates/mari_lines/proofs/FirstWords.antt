@@ -26,7 +26,7 @@ pub done_part : (l : Line) (ws : List (List ℕ)) → InRange l → keyword_of l
 done_part (line.Done published unpublished) ws r k e = ((published, unpublished), r, e)
 done_part _ ws r k e = absurd cc
 
--- `run`: whether it is published, and what stands behind that
+-- `run`: whether it is published, and what stands after that
 pub run_part : (l : Line) → InRange l → keyword_of l ≡ first.Run → (published : Bool) × (others : List (List ℕ)) × (heading : Heading) × (fields l ≡ heading_fields heading ++ published_text published ∷ others)
 run_part (line.Run heading) r k = (true, [], heading, refl)
 run_part (line.Unpublished heading count) r k = (false, decimal count ∷ [], heading, refl)

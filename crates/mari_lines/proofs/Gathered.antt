@@ -22,7 +22,7 @@ head_of R x xs a = a 0 x (omega arith)
 pub tail_of : {X : Type 0} (R : X → Type 0) (x : X) (xs : List X) → All R (x ∷ xs) → All R xs
 tail_of R x xs a k d lt = a (suc k) d (omega arith)
 
--- the one that is written as the word behind those before it
+-- the one that is written as the word after those before it
 at_word : {X : Type 0} (R : X → Type 0) (f : X → List ℕ) (xs ys : List X) (w : List ℕ) (left : List (List ℕ)) → All R ys → map f ys ≡ map f xs ++ w ∷ left → (x : X) × R x × (f x ≡ w)
 at_word R f [] [] w left a e = absurd cc
 at_word R f [] (y ∷ ys) w left a e = (y, head_of R y ys a, cc)

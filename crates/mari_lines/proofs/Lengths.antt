@@ -50,7 +50,7 @@ keyword_short first.TotalOperator = omega arith
 keyword_short first.TotalProvider = omega arith
 keyword_short first.Done = omega arith
 
--- a field behind a space, and more of them
+-- a field after a space, and more of them
 spaced_more : (t : List ℕ) (ts : List (List ℕ)) (m n : ℕ) → length t ≤ m → length (spaced ts) ≤ n → length (spaced (t ∷ ts)) ≤ suc m + n
 spaced_more t ts m n a b = let e : length (spaced (t ∷ ts)) ≡ suc (length t + length (spaced ts)) = ap suc (length-append t (spaced ts)) in omega (arith, e, a, b)
 
@@ -155,7 +155,7 @@ money_line m r = few_words (money_fields m) (name m.name r.0, (money_short m.pay
 amount_line : (a : AmountLine) → IsAmountLine a → length (spaced (amount_fields a)) ≤ most_fields
 amount_line a r = few_words (amount_fields a) (name a.name r.0, (money_short a.amount r.1, tt)) (omega arith)
 
--- what stands behind the first word
+-- what stands after the first word
 fields_short : (l : Line) → InRange l → length (spaced (fields l)) ≤ most_fields
 fields_short (line.Head date quarters budget) r = few_words (fields (line.Head date quarters budget)) (omega arith, (name date r.0.0, (number quarters (omega (arith, r.1.1)), (number budget (omega (arith, r.2.1)), tt)))) (omega arith)
 fields_short (line.Run h) r = few_words (fields (line.Run h)) (number h.run (omega (arith, r.0.1)), (number h.quarter (omega (arith, r.1.1)), (kind h.direct, (omega arith, tt)))) (omega arith)

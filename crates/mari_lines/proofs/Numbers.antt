@@ -7,7 +7,7 @@ use Rattle.mari_units.specs.Numbers.{has_minus, with_sign, printed_cents, printe
 use Rattle.mari_lines.specs.Reading.{digits_in, value_in}
 use Rattle.mari_lines.proofs.Printed.{not_below, digits_in_signed, sign_in_signed, digits_in_cents, sign_in_cents, digits_in_euros, sign_in_euros}
 
--- a number is its size behind its sign
+-- a number is its size after its sign
 signed : (z : ℤ) → with_sign (int_lt z (pos 0)) (unsigned_abs z) ≡ z
 signed (pos n) = ap (λ (b : Bool). with_sign b n) (not_below n)
 signed (negsuc n) = refl

@@ -30,7 +30,7 @@ digits_in_decimal n small = only_digits 0 (decimal n) (digits_decimal own n smal
 next_digit : (n x : ℕ) → x < 10 → with_byte n (48 + x) ≡ 10 * n + x
 next_digit n x lt = rw (digit_byte x lt) (omega arith)
 
--- whole numbers and two digits behind a point
+-- whole numbers and two digits after a point
 pub digits_in_hundredths : (n : ℕ) → n < 2 ^ 64 → digits_in (decimal (n / 100) ++ 46 ∷ (48 + n % 100 / 10) ∷ (48 + n % 10) ∷ []) ≡ n
 digits_in_hundredths n small =
     from_append 0 (decimal (n / 100)) _
@@ -70,17 +70,17 @@ pub sign_in_signed : (z : ℤ) → unsigned_abs z < 2 ^ 64 → has_minus (signed
 sign_in_signed (pos n) small = ap has_minus (sym (append-nil (decimal n))) ∙ no_minus n [] small ∙ sym (not_below n)
 sign_in_signed (negsuc n) small = refl
 
--- behind a sign
+-- after a sign
 sign_first : (negative : Bool) (ds rest : List ℕ) → has_minus (ds ++ rest) ≡ false → has_minus (sign_of negative ++ ds ++ rest) ≡ negative
 sign_first true ds rest e = refl
 sign_first false ds rest e = e
 
-digits_behind : (negative : Bool) (ds rest : List ℕ) → digits_in (sign_of negative ++ ds ++ rest) ≡ digits_in (ds ++ rest)
-digits_behind true ds rest = refl
-digits_behind false ds rest = refl
+digits_after : (negative : Bool) (ds rest : List ℕ) → digits_in (sign_of negative ++ ds ++ rest) ≡ digits_in (ds ++ rest)
+digits_after true ds rest = refl
+digits_after false ds rest = refl
 
 pub digits_in_cents : (z : ℤ) → unsigned_abs z < 2 ^ 64 → digits_in (printed_cents z) ≡ unsigned_abs z
-digits_in_cents z small = digits_behind (int_lt z (pos 0)) (decimal (unsigned_abs z / 100)) _ ∙ digits_in_hundredths (unsigned_abs z) small
+digits_in_cents z small = digits_after (int_lt z (pos 0)) (decimal (unsigned_abs z / 100)) _ ∙ digits_in_hundredths (unsigned_abs z) small
 
 pub sign_in_cents : (z : ℤ) → unsigned_abs z < 2 ^ 64 → has_minus (printed_cents z) ≡ int_lt z (pos 0)
 sign_in_cents z small = sign_first (int_lt z (pos 0)) (decimal (unsigned_abs z / 100)) _ (no_minus (unsigned_abs z / 100) _ (omega arith))

@@ -36,6 +36,6 @@ with_byte n b = if is_ascii_digit b then 10 * n + (b - 48) else n
 abbrev pub digits_in : List ℕ → ℕ
 digits_in text = fold with_byte 0 text
 
--- the same in units, as far as the bits hold it, and behind its sign
+-- the same in units, as far as the bits hold it, and after its sign
 abbrev pub value_in : ℕ → List ℕ → ℤ
 value_in unit text = with_sign (has_minus text) (min (min (digits_in text) (2 ^ 128 - 1) / unit) (2 ^ 127 - 1))

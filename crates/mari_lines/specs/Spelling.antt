@@ -1,4 +1,4 @@
--- How a line is spelled: a keyword, and fields that each stand behind a space.
+-- How a line is spelled: a keyword, and fields that each stand after a space.
 use Rattle.std.specs.Prelude.{ℕ, ◌+◌, Bool, true, false, List, [], ◌∷◌, ◌++◌, map}
 use lib.Chars.{codes}
 use Rattle.std.specs.List.{flat_map}
@@ -103,7 +103,7 @@ heading_fields h = decimal h.run ∷ decimal h.quarter ∷ kind_text h.direct �
 abbrev pub amount_fields : AmountLine → List (List ℕ)
 amount_fields a = a.name ∷ money_text a.amount ∷ []
 
--- what stands behind the first word
+-- what stands after the first word
 abbrev pub fields : Line → List (List ℕ)
 fields (line.Head date quarters budget) = codes "1" ∷ date ∷ decimal quarters ∷ decimal budget ∷ []
 fields (line.Run heading) = heading_fields heading ++ published_text true ∷ []
@@ -128,7 +128,7 @@ fields (line.TotalOperator operator) = money_fields operator
 fields (line.TotalProvider provider) = amount_fields provider
 fields (line.Done published unpublished) = decimal published ∷ decimal unpublished ∷ []
 
--- fields, each behind a space
+-- fields, each after a space
 abbrev pub spaced : List (List ℕ) → List ℕ
 spaced texts = flat_map (λ text. 32 ∷ text) texts
 

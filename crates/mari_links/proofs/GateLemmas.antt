@@ -53,17 +53,17 @@ module _ (bids : BidBook) where
       rw parts (filter-append p (range_with_len 0 (i + 1)) (range_with_len (i + 1) (n - (i + 1))) ∙ rw (range-yes p i passes) refl) in
       rw whole (found (filter p (range_with_len 0 i)) (filter p (range_with_len (i + 1) (n - (i + 1)))) most)
     where
-      found : (before behind : List ℕ) → 512 ≤ count_of bids before (quarter_of bids i) → has_too_many bids ((before ++ i ∷ []) ++ behind) ≡ true
-      found before behind most =
-          let all = (before ++ i ∷ []) ++ behind in
+      found : (before after : List ℕ) → 512 ≤ count_of bids before (quarter_of bids i) → has_too_many bids ((before ++ i ∷ []) ++ after) ≡ true
+      found before after most =
+          let all = (before ++ i ∷ []) ++ after in
           let quarter = quarter_of bids i in
           let test = λ (bid : ℕ). nat_lt 512 (count_of bids all (quarter_of bids bid)) in
-          let count : count_of bids all quarter ≡ (count_of bids before quarter + 1) + count_of bids behind quarter =
-          count-append (before ++ i ∷ []) behind quarter
-          ∙ ap (λ n. n + count_of bids behind quarter) (count_by-push (λ bid. quarter_of bids bid == quarter) before i ∙ rw itself refl) in
+          let count : count_of bids all quarter ≡ (count_of bids before quarter + 1) + count_of bids after quarter =
+          count-append (before ++ i ∷ []) after quarter
+          ∙ ap (λ n. n + count_of bids after quarter) (count_by-push (λ bid. quarter_of bids bid == quarter) before i ∙ rw itself refl) in
           let here : test i ≡ true = rw count (grind (arith, nat_tests, most)) in
-          list_any-append test (before ++ i ∷ []) behind
-          ∙ ap (λ b. b || list_any test behind) (list_any-append test before (i ∷ []) ∙ ap (λ b. list_any test before || (b || false)) here ∙ or-yes (list_any test before))
+          list_any-append test (before ++ i ∷ []) after
+          ∙ ap (λ b. b || list_any test after) (list_any-append test before (i ∷ []) ∙ ap (λ b. list_any test before || (b || false)) here ∙ or-yes (list_any test before))
 
   -- no quarter has more than 512
   pub none-too-many : (xs : List ℕ) → ((k : ℕ) → count_of bids xs k ≤ 512) → has_too_many bids xs ≡ false

@@ -55,7 +55,7 @@ module _ (bids : BidBook) (earlier : List Row) (row : Row) where
       let more = push-some (λ r. option_and_then (timed_of bids r) (kind_of r)) earlier row (link_of bids row kind) (ap (option_and_then (timed_of bids row)) is ∙ timed) in
       λ i. record { members = members-more kind is no_member i; children = children-more kind is no_child i; timed = more i }
 
--- what is not refused behind lines that say this repeats none of them
+-- what is not refused after lines that say this repeats none of them
 pub not-repeated : (bids : BidBook) (said : Said) (row : Row) (kind : LinkKind) → kind_of row ≡ Some kind
     → first_failing (place_checks bids said row) ≡ None → is_repeated bids said row kind ≡ false
 not-repeated bids said row kind is passes = rw is at ((all-passed (place_checks bids said row) passes).1.1.0)

@@ -200,7 +200,7 @@ name_checks bids row =
     ∷ (of_kind (names_no_bid bids row) row, link_check_number UnknownBid)
     ∷ []
 
--- and, behind lines that say this, for a wrong quarter, for a parent that does not stand before its child, and for what
+-- and, after lines that say this, for a wrong quarter, for a parent that does not stand before its child, and for what
 -- an earlier line says
 abbrev pub place_checks : BidBook → Said → Row → Checks
 place_checks bids said row =

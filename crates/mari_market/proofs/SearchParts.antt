@@ -89,26 +89,26 @@ with_children_apart word words true a h =
 with_children_apart word words false a h = (each_map (IsApart word) (IsApart (word ++ false ∷ [])) (λ u. longer_apart word u false) words a, h)
 
 -- longer than the word, or apart from it
-abbrev IsBehind : List Bool → List Bool → Type 0
-IsBehind word other = (length word < length other) ⊎ IsApart word other
+abbrev IsPast : List Bool → List Bool → Type 0
+IsPast word other = (length word < length other) ⊎ IsApart word other
 
-behind_longer : (word other : List Bool) (b : Bool) → IsBehind word other → IsBehind word (other ++ b ∷ [])
-behind_longer word other b (inl l) = inl (omega (arith, l, length-append other (b ∷ [])))
-behind_longer word other b (inr h) = inr (apart_longer word other b h)
+after_longer : (word other : List Bool) (b : Bool) → IsPast word other → IsPast word (other ++ b ∷ [])
+after_longer word other b (inl l) = inl (omega (arith, l, length-append other (b ∷ [])))
+after_longer word other b (inr h) = inr (apart_longer word other b h)
 
-behind_differ : (word other : List Bool) → IsBehind word other → word ≢ other
-behind_differ word other (inl l) = λ e. absurd (omega (arith, l, ap length e))
-behind_differ word other (inr h) = apart_differ word other h
+after_differ : (word other : List Bool) → IsPast word other → word ≢ other
+after_differ word other (inl l) = λ e. absurd (omega (arith, l, ap length e))
+after_differ word other (inr h) = apart_differ word other h
 
 visited_distinct : (m : Market) (words : List (List Bool)) (items : List PartItem) → AllApart words → EachApart (visited m words items)
 visited_distinct m [] items a = tt
 visited_distinct m (word ∷ words) [] a = tt
 visited_distinct m (word ∷ words) (Branch ∷ items) a = (
-  each_map (IsBehind word) (λ u. word ≢ u) (behind_differ word) (visited m (children m.gates word ++ words) items)
-      (each_visited m (IsBehind word) (λ u b. behind_longer word u b) (children m.gates word ++ words) items
-      (each_append (IsBehind word) (children m.gates word) words
-      (each_child (IsBehind word) word (may_open m.gates word (length word)) (inl (omega (arith, length-append word (false ∷ [])))) (inl (omega (arith, length-append word (true ∷ [])))))
-      (each_map (IsApart word) (IsBehind word) (λ u h. inr h) words a.0))),
+  each_map (IsPast word) (λ u. word ≢ u) (after_differ word) (visited m (children m.gates word ++ words) items)
+      (each_visited m (IsPast word) (λ u b. after_longer word u b) (children m.gates word ++ words) items
+      (each_append (IsPast word) (children m.gates word) words
+      (each_child (IsPast word) word (may_open m.gates word (length word)) (inl (omega (arith, length-append word (false ∷ [])))) (inl (omega (arith, length-append word (true ∷ [])))))
+      (each_map (IsApart word) (IsPast word) (λ u h. inr h) words a.0))),
   visited_distinct m (children m.gates word ++ words) items (with_children_apart word words (may_open m.gates word (length word)) a.0 a.1),
 )
 visited_distinct m (word ∷ words) (Closed ∷ items) a = (

@@ -35,15 +35,15 @@ belongs m zone side s = ((order_at m.orders s.order).zone == zone && is_on side 
 abbrev pub steps_among : Market → Bounds → ℕ → Side → ℕ → List Step
 steps_among m b zone side n = filter (belongs m zone side) (map (step_of m b) (range_with_len 0 n))
 
--- a step isn't behind another: of injections the cheaper comes first, of withdrawals the dearer, and of one price the
+-- a step isn't after another: of injections the cheaper comes first, of withdrawals the dearer, and of one price the
 -- lower number
-abbrev pub IsNotBehind : Side → Step → Step → Type 0
-IsNotBehind Inject a b = (a.price.0 <ℤ b.price.0) ⊎ ((a.price.0 ≡ b.price.0) × (a.order ≤ b.order))
-IsNotBehind Withdraw a b = (b.price.0 <ℤ a.price.0) ⊎ ((a.price.0 ≡ b.price.0) × (a.order ≤ b.order))
+abbrev pub IsNotAfter : Side → Step → Step → Type 0
+IsNotAfter Inject a b = (a.price.0 <ℤ b.price.0) ⊎ ((a.price.0 ≡ b.price.0) × (a.order ≤ b.order))
+IsNotAfter Withdraw a b = (b.price.0 <ℤ a.price.0) ⊎ ((a.price.0 ≡ b.price.0) × (a.order ≤ b.order))
 
--- no step is behind a later one
+-- no step is after a later one
 abbrev pub AreInMeritOrder : Side → List Step → Type 0
-AreInMeritOrder side steps = (i j : ℕ) (d : Step) → i ≤ j → j < length steps → IsNotBehind side (slice_index_or steps i d) (slice_index_or steps j d)
+AreInMeritOrder side steps = (i j : ℕ) (d : Step) → i ≤ j → j < length steps → IsNotAfter side (slice_index_or steps i d) (slice_index_or steps j d)
 
 -- the ladder of a zone's side: all steps that belong to it, each once and in merit order
 pub record IsLadder (m : Market) (b : Bounds) (zone : ℕ) (side : Side) (steps : List Step) : Type 0 where

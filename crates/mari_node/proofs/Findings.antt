@@ -1,4 +1,4 @@
--- What the solver and the test of prices tell is a finding.
+-- What the solver and the test of prices state is a finding.
 use Rattle.std.proofs.Common.{◌≡◌, ◌≢◌, Bool, true, false, not, ℕ, ℤ, pos, ◌≤ℤ◌, List, length, Some, None, arith, refl, sym, ap, ◌∙◌, subst}
 use Rattle.std.proofs.lemmas.Int.{ints, clamps}
 use Rattle.std.proofs.lemmas.List.FromFn.{length-map-range_with_len}
@@ -29,18 +29,18 @@ greater_of_0 n v w e f = omega (arith, ints, clamps)
 greater_is : (n : ℕ) (w : ℤ) → pos n ≡ int_max (pos 0) w → pos 0 ≤ℤ w → pos n ≡ w
 greater_is n w e l = omega (arith, ints, clamps)
 
-value_told : (m : Market) (word : List Bool) (s : Solved) → IsRelaxedOptimum m word s → IsRelaxedWelfare m word (dual_value_of (bounds_of_word m word) m s.potentials.cents)
-value_told m word s h = subst (IsRelaxedWelfare m word) (sym h.dual) h.relaxed
+value_reported : (m : Market) (word : List Bool) (s : Solved) → IsRelaxedOptimum m word s → IsRelaxedWelfare m word (dual_value_of (bounds_of_word m word) m s.potentials.cents)
+value_reported m word s h = subst (IsRelaxedWelfare m word) (sym h.dual) h.relaxed
 
-bound_told : (m : Market) (word : List Bool) (s : Solved) → IsRelaxedOptimum m word s → pos s.welfare ≡ int_max (dual_value_of (bounds_of_word m word) m s.potentials.cents) (pos 0)
-bound_told m word s h = greater_of_0 s.welfare (dual_value_of (bounds_of_word m word) m s.potentials.cents) (welfare_of m s.activation) h.stated h.dual
+bound_reported : (m : Market) (word : List Bool) (s : Solved) → IsRelaxedOptimum m word s → pos s.welfare ≡ int_max (dual_value_of (bounds_of_word m word) m s.potentials.cents) (pos 0)
+bound_reported m word s h = greater_of_0 s.welfare (dual_value_of (bounds_of_word m word) m s.potentials.cents) (welfare_of m s.activation) h.stated h.dual
 
 -- an admissible optimum has the welfare that is stated
-welfare_told : (m : Market) (word : List Bool) (s : Solved) → IsValid m → IsRelaxedOptimum m word s → IsAdmissible m s.activation → pos s.welfare ≡ welfare_of m s.activation
-welfare_told m word s v h adm = greater_is s.welfare (welfare_of m s.activation) h.stated (welfare_at_least_0 m s.activation v adm)
+welfare_reported : (m : Market) (word : List Bool) (s : Solved) → IsValid m → IsRelaxedOptimum m word s → IsAdmissible m s.activation → pos s.welfare ≡ welfare_of m s.activation
+welfare_reported m word s v h adm = greater_is s.welfare (welfare_of m s.activation) h.stated (welfare_at_least_0 m s.activation v adm)
 
 attained : (m : Market) (word : List Bool) (s : Solved) → IsValid m → IsRelaxedOptimum m word s → IsAdmissible m s.activation → IsAttained m (record { activation = s.activation; welfare = s.welfare })
-attained m word s v h adm = record { admissible = adm; welfare = sym (welfare_told m word s v h adm) }
+attained m word s v h adm = record { admissible = adm; welfare = sym (welfare_reported m word s v h adm) }
 
 pub last_feasible : (m : Market) (word : List Bool) (s : Solved) → IsValid m → IsLastNode m word s → IsFeasible m s.activation
 last_feasible m word s v n = decided_feasible m s.activation word v n.feasible n.full n.optimum.within
@@ -49,12 +49,12 @@ last_feasible m word s v n = decided_feasible m s.activation word v n.feasible n
 pub last_best : (m : Market) (word : List Bool) (s : Solved) → IsValid m → IsLastNode m word s → IsAdmissible m s.activation → IsRelaxedFinding m word (best_found s)
 last_best m word s v n adm = let h = n.optimum in record {
   prices = h.potentials;
-  value = value_told m word s h;
-  bound = bound_told m word s h;
+  value = value_reported m word s h;
+  bound = bound_reported m word s h;
   attained = attained m word s v h adm;
   at_the_end = λ _. record {
     gates = has_word m s.activation word v n.full h.within;
-    value = welfare_told m word s v h adm ∙ sym h.dual;
+    value = welfare_reported m word s v h adm ∙ sym h.dual;
     conflict = refl;
   };
   before = λ l. let full = n.full in absurd (omega arith);
@@ -73,8 +73,8 @@ holds m word s chain v n bad = let h = n.optimum in record {
 pub last_conflict : (m : Market) (word : List Bool) (s : Solved) (chain : List ℕ) → IsValid m → IsLastNode m word s → IsContradictoryChain m s.activation chain → IsRelaxedFinding m word (conflict_found s chain)
 last_conflict m word s chain v n bad = let h = n.optimum in record {
   prices = h.potentials;
-  value = value_told m word s h;
-  bound = bound_told m word s h;
+  value = value_reported m word s h;
+  bound = bound_reported m word s h;
   attained = tt;
   at_the_end = λ _. record {
     conflict = holds m word s chain v n bad;
@@ -83,12 +83,12 @@ last_conflict m word s chain v n bad = let h = n.optimum in record {
   before = λ l. let full = n.full in absurd (omega arith);
 }
 
--- where a gate is undecided, the optimum is told where it is admissible
+-- where a gate is undecided, the optimum is reported where it is admissible
 pub inner_best : (m : Market) (word : List Bool) (s : Solved) → IsValid m → IsInnerNode m word s → IsAdmissible m s.activation → IsRelaxedFinding m word (best_found s)
 inner_best m word s v n adm = let h = n.optimum in record {
   prices = h.potentials;
-  value = value_told m word s h;
-  bound = bound_told m word s h;
+  value = value_reported m word s h;
+  bound = bound_reported m word s h;
   attained = attained m word s v h adm;
   at_the_end = λ full. let less = n.undecided in absurd (omega arith);
   before = λ _. record { conflict = refl; best = tt };
@@ -98,8 +98,8 @@ inner_best m word s v n adm = let h = n.optimum in record {
 pub inner_bound : (m : Market) (word : List Bool) (s : Solved) → IsInnerNode m word s → (IsAdmissible m s.activation → ⊥) → IsRelaxedFinding m word (bound_found s)
 inner_bound m word s n none = let h = n.optimum in record {
   prices = h.potentials;
-  value = value_told m word s h;
-  bound = bound_told m word s h;
+  value = value_reported m word s h;
+  bound = bound_reported m word s h;
   attained = tt;
   at_the_end = λ full. let less = n.undecided in absurd (omega arith);
   before = λ _. record {

@@ -101,14 +101,14 @@ all_rest opens P (o ∷ os) (q ∷ qs) a h = (
   all_rest opens P os qs a.1 (λ g t. h g (or_right (is_gate g o.gate && nat_lt 0 q) (runs_gate g os qs) t)),
 )
 
--- what is known of an order where the gates that are open are told
-record IsToldOf (opens : ℕ → Bool) (o : Order) (q : ℕ) : Type 0 where
+-- what is known of an order where the gates that are open are reported
+record IsReportedOf (opens : ℕ → Bool) (o : Order) (q : ℕ) : Type 0 where
   most : q ≤ o.greatest
   whole : IsNotPartial o q
   runs : RunsWhereOpen opens o q
   rests : Rests opens o q
 
-within_own : (opens : ℕ → Bool) (o : Order) (q : ℕ) → IsToldOf opens o q → IsWithin (span_in (own opens) o) q
+within_own : (opens : ℕ → Bool) (o : Order) (q : ℕ) → IsReportedOf opens o q → IsWithin (span_in (own opens) o) q
 within_own opens o q h = by_gate o.gate refl
   where
     by_state : (g : ℕ) (b : Bool) → o.gate ≡ Some g → opens g ≡ b → IsWithin (gated_span (if b then Open else Closed) o) q

@@ -40,7 +40,7 @@ pool_of tree keys journal room turns returned seat = record { tree = tree; keys 
 
 -- an entry for which there is room keeps what holds
 pub entry_keeps_by : (m : Market) (budget workers : ℕ) (incumbent : IncumbentId) (p : Pooled) (e : Entry) (keys turns : List ℕ) (returned : List Bool) → IsPool m budget workers incumbent p → IsAllowed p.tree e → length p.journal + 1 + owed (grown p.tree e) returned ≤ p.room → IsEntryCutAt p.seat.seen e → length keys ≡ length (grown p.tree e).nodes → length turns ≡ length p.turns → length returned ≡ length p.returned → AreTurns (grown p.tree e).nodes turns (p.journal ++ in_journal e ∷ []) → IsPool m budget workers incumbent (pool_of (grown p.tree e) keys (p.journal ++ in_journal e ∷ []) p.room turns returned p.seat)
-entry_keeps_by m budget workers incumbent p e keys turns returned h may room cut ks t r tell = record {
+entry_keeps_by m budget workers incumbent p e keys turns returned h may room cut ks t r report = record {
   market_is = grown_market p.tree e ∙ h.market_is;
   budget_is = grown_budget p.tree e ∙ h.budget_is;
   grows = entry_kept p.tree e h.grows may;
@@ -50,14 +50,14 @@ entry_keeps_by m budget workers incumbent p e keys turns returned h may room cut
   fresh = h.fresh;
   room_is = omega (arith, room, length-append p.journal (in_journal e ∷ []));
   turns_are = t ∙ h.turns_are;
-  turns_tell = tell;
+  turns_report = report;
   returned_are = r ∙ h.returned_are;
 }
 
 -- a paid entry keeps what holds
 pub entry_keeps : (m : Market) (budget workers : ℕ) (incumbent : IncumbentId) (p : Pooled) (e : Entry) (keys turns : List ℕ) (returned : List Bool) → IsPool m budget workers incumbent p → IsAllowed p.tree e → IsPaid p.tree e (unreturned p.returned) (unreturned returned) → IsEntryCutAt p.seat.seen e → length keys ≡ length (grown p.tree e).nodes → length turns ≡ length p.turns → length returned ≡ length p.returned → AreTurns (grown p.tree e).nodes turns (p.journal ++ in_journal e ∷ []) → IsPool m budget workers incumbent (pool_of (grown p.tree e) keys (p.journal ++ in_journal e ∷ []) p.room turns returned p.seat)
-entry_keeps m budget workers incumbent p e keys turns returned h may paid cut ks t r tell =
-    entry_keeps_by m budget workers incumbent p e keys turns returned h may (omega (arith, entry_paid p.tree e (unreturned p.returned) (unreturned returned) h.grows.within_budget may paid, h.room_is)) cut ks t r tell
+entry_keeps m budget workers incumbent p e keys turns returned h may paid cut ks t r report =
+    entry_keeps_by m budget workers incumbent p e keys turns returned h may (omega (arith, entry_paid p.tree e (unreturned p.returned) (unreturned returned) h.grows.within_budget may paid, h.room_is)) cut ks t r report
 
 -- how much is owed once a taken node is put back
 pub back_owed : (g : Grown) (k x : ℕ) (returned : List Bool) → IsGrowth g → state_at g.nodes x ≡ Some (Taken k) → owed (grown g (GiveBack k x)) returned ≤ owed g returned + 1
@@ -75,7 +75,7 @@ meeting_keeps m budget workers incumbent p seen h = record {
   fresh = h.fresh;
   room_is = h.room_is;
   turns_are = h.turns_are;
-  turns_tell = h.turns_tell;
+  turns_report = h.turns_report;
   returned_are = h.returned_are;
 }
 
@@ -130,7 +130,7 @@ settling_turns g k x cutoff turns entries None h = by_fit (nat_le (length g.node
 pub settle_keeps : (m : Market) (budget workers : ℕ) (incumbent : IncumbentId) (p : Pooled) (k x seen : ℕ) (f : Finding) → IsPool m budget workers incumbent p → IsAllowed p.tree (settling p.tree k x seen f) → IsPool m budget workers incumbent (settled_with p k x seen f)
 settle_keeps m budget workers incumbent p k x seen f h may =
     let e = settling p.tree k x seen f in
-    entry_keeps m budget workers incumbent (meeting p seen) e (keys_after p.tree e p.keys (child_key f)) p.turns p.returned (meeting_keeps m budget workers incumbent p seen h) may (settling_paid p.tree k x seen (unreturned p.returned) (closing_leaf seen f)) (settling_cut p.tree k x seen (max p.seat.seen seen) f (omega arith)) (keys_enough p.tree e p.keys (child_key f) h.keys_are) refl refl (settling_turns p.tree k x seen p.turns p.journal (closing_leaf seen f) h.turns_tell)
+    entry_keeps m budget workers incumbent (meeting p seen) e (keys_after p.tree e p.keys (child_key f)) p.turns p.returned (meeting_keeps m budget workers incumbent p seen h) may (settling_paid p.tree k x seen (unreturned p.returned) (closing_leaf seen f)) (settling_cut p.tree k x seen (max p.seat.seen seen) f (omega arith)) (keys_enough p.tree e p.keys (child_key f) h.keys_are) refl refl (settling_turns p.tree k x seen p.turns p.journal (closing_leaf seen f) h.turns_report)
 
 -- ---- what became of a node
 
@@ -169,7 +169,7 @@ start_keeps m n b budget w workers incumbent t ks j room turns returned seat em 
       fresh = fresh;
       room_is = omega (arith, unreturned_all (w + 1), er, few.0);
       turns_are = length-replicate b 0 ∙ eb;
-      turns_tell = turns_start m b (replicate b 0);
+      turns_report = turns_start m b (replicate b 0);
       returned_are = length-replicate (w + 1) false ∙ ap (λ (k : ℕ). k + 1) ew;
     }))
 

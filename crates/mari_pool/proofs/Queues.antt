@@ -256,8 +256,8 @@ queue_more nodes words q r key h f = record {
         let at : y ≡ length nodes + (y - length nodes) = omega (arith, l) in
         ap (state_at (nodes ++ kids)) at ∙ ap (λ (o : Option TreeNode). option_map (λ (n : TreeNode). n.state) o) (get_back nodes kids (y - length nodes))
 
-    behind : (y : ℕ) → length nodes ≤ y → count_by (λ z. z == y) r.waiting ≡ waits_in (state_at (nodes ++ kids) y)
-    behind y l = elim (cases_lt y (length nodes + length words)) [
+    after : (y : ℕ) → length nodes ≤ y → count_by (λ z. z == y) r.waiting ≡ waits_in (state_at (nodes ++ kids) y)
+    after y l = elim (cases_lt y (length nodes + length words)) [
       | inl u ↦
           let here : waits_in (state_at (nodes ++ kids) y) ≡ 1 = ap waits_in (back y l ∙ new_waits words (y - length nodes) (omega (arith, l, u))) in
           let was : waits_in (state_at nodes y) ≡ 0 = ap waits_in (state_past nodes y l) in
@@ -273,7 +273,7 @@ queue_more nodes words q r key h f = record {
       | inl l ↦
           let there : waits_in (state_at (nodes ++ kids) y) ≡ waits_in (state_at nodes y) = ap waits_in (front y l) in
           omega (arith, there, h.each y, numbers y, numbers_out y (length nodes) (length words) (inl l))
-      | inr l ↦ behind y l
+      | inr l ↦ after y l
     ]
 
 -- ---- entries

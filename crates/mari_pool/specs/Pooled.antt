@@ -101,7 +101,7 @@ pub record IsPool (m : Market) (budget workers : ℕ) (incumbent : IncumbentId) 
   pub fresh : IsFresh incumbent p.seat
   pub room_is : length p.journal + owed p.tree p.returned ≤ p.room
   pub turns_are : length p.turns ≡ budget
-  pub turns_tell : AreTurns p.tree.nodes p.turns p.journal
+  pub turns_report : AreTurns p.tree.nodes p.turns p.journal
   pub returned_are : length p.returned ≡ workers + 1
 
 -- ---- tickets

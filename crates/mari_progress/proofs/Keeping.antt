@@ -26,11 +26,11 @@ use Rattle.mari_settle.specs.Ledger.{net_of, operator_lines}
 use Rattle.mari_settle.specs.Lines.{map_along, no_line}
 use Rattle.mari_settle.specs.declared.ledger.OperatorLine.{OperatorLine}
 use Rattle.mari_settle.proofs.Laws.{nets_sum_to_0, no_rent_below_0}
-use Rattle.mari_progress.specs.Behind.{before_of, market_behind, past_of, run_behind}
+use Rattle.mari_progress.specs.After.{before_of, market_after, past_of, run_after}
 use Rattle.mari_progress.specs.Keeps.{KeepsOffers, SumsToZero, net_sum}
 use Rattle.mari_progress.specs.Money.{HasLedger, money_line, money_lines_of}
 use Rattle.mari_progress.specs.Runs.{IsMarketOf, IsSoundBlock, IsSoundRun}
-use Rattle.mari_progress.specs.Told.{activation_of, prices_of}
+use Rattle.mari_progress.specs.Reported.{activation_of, prices_of}
 use Rattle.mari_progress.specs.Totals.{money_together, operator_totals, with_operators}
 use Rattle.mari_progress.proofs.Lists.{along-length}
 use Rattle.mari_progress.proofs.Made.{market-of}
@@ -76,10 +76,10 @@ module _ (books : Books) (ok : IsAccepted books) where
       let lines = operator_lines books.zones made.market (activation_of b) (prices_of b) in
       let many : length lines ≡ length names = length-map-range_with_len _ 0 (length names) in
       record {
-        one_each = ap length ledger.tells.operators ∙ along-length money_line names lines many;
+        one_each = ap length ledger.states.operators ∙ along-length money_line names lines many;
         to_zero = record {
-          nets = ap net_sum ledger.tells.operators ∙ net-lines names lines many ∙ nets_sum_to_0 books.zones made.market (activation_of b) (prices_of b) ok.zones.operators_there own.zones own.valid;
-          rents = subst (All (λ (rent : Quarters). pos 0 ≤ℤ rent.0)) (sym ledger.tells.rents) (no_rent_below_0 made.market (activation_of b) (prices_of b) consistent.borders);
+          nets = ap net_sum ledger.states.operators ∙ net-lines names lines many ∙ nets_sum_to_0 books.zones made.market (activation_of b) (prices_of b) ok.zones.operators_there own.zones own.valid;
+          rents = subst (All (λ (rent : Quarters). pos 0 ≤ℤ rent.0)) (sym ledger.states.rents) (no_rent_below_0 made.market (activation_of b) (prices_of b) consistent.borders);
         };
       }
 
@@ -93,8 +93,8 @@ module _ (books : Books) (ok : IsAccepted books) where
   sums lines (block.Unpublished heading count ∷ bs) many none all = sums lines bs many none (All-tail (BalancesIn books) (block.Unpublished heading count) bs all)
 
   module _ (blocks : List Block) (few : length blocks ≤ length books.runs.runs) (sound : (k : ℕ) (b : Block) → slice_get blocks k ≡ Some b → IsSoundBlock books (take k blocks) b) where
-    pub behind : (k : ℕ) → k < length blocks → run_behind (take k blocks) ≤ length books.runs.runs
-    behind k l = omega (arith, l, few, length-take-le k blocks (omega (arith, l)))
+    pub after : (k : ℕ) → k < length blocks → run_after (take k blocks) ≤ length books.runs.runs
+    after k l = omega (arith, l, few, length-take-le k blocks (omega (arith, l)))
 
     -- the blocks before a place, as a later run reads them
     pub up : (k : ℕ) → k ≤ length blocks → AreFirstBlocks books (before_of books (take k blocks))
@@ -103,7 +103,7 @@ module _ (books : Books) (ok : IsAccepted books) where
         let here : k < length blocks = omega (arith, l) in
         let b : Block = get_or blocks k no_block in
         let first = up k (omega (arith, l)) in
-        let next = next-block books ok (take k blocks) first (behind k here) b (sound k b (slice_get-get_or blocks k no_block here)) in
+        let next = next-block books ok (take k blocks) first (after k here) b (sound k b (slice_get-get_or blocks k no_block here)) in
         subst (AreFirstBlocks books) (sym (ap (before_of books) (take-suc blocks k no_block here) ∙ map-append (past_of books) (take k blocks) (b ∷ []))) (first-more books ok (before_of books (take k blocks)) (past_of books b) next first)
 
     first-blocks : AreFirstBlocks books (before_of books blocks)
@@ -116,13 +116,13 @@ module _ (books : Books) (ok : IsAccepted books) where
       once = λ k b e bid gated.
           let l = slice_get_within blocks k b e in
           let first = up k (omega (arith, l)) in
-          once books ok (before_of books (take k blocks)) (past_of books b) first (next-block books ok (take k blocks) first (behind k l) b (sound k b e)) bid gated;
+          once books ok (before_of books (take k blocks)) (past_of books b) first (next-block books ok (take k blocks) first (after k l) b (sound k b e)) bid gated;
     }
 
     run-balances : (k : ℕ) (b : FullBlock) → k < length blocks → IsSoundRun books (take k blocks) b → Balances books b
     run-balances k b l is =
-        let own = market-of books ok (before_of books (take k blocks)) (up k (omega (arith, l))) (run_behind (take k blocks)) (omega arith) (behind k l) in
-        balances (market_behind books (take k blocks)) _ b own is.consistent is.ledger
+        let own = market-of books ok (before_of books (take k blocks)) (up k (omega (arith, l))) (run_after (take k blocks)) (omega arith) (after k l) in
+        balances (market_after books (take k blocks)) _ b own is.consistent is.ledger
 
     balances-as : (k : ℕ) (b : Block) → k < length blocks → IsSoundBlock books (take k blocks) b → BalancesIn books b
     balances-as k (block.Published b) l is = run-balances k b l is

@@ -1,4 +1,4 @@
--- Lists: lists side by side, lists that are mapped, and one item more behind others.
+-- Lists: lists side by side, lists that are mapped, and one item more after others.
 use Rattle.std.proofs.Common.{◌≡◌, ◌∙◌, ◌<◌, ℕ, suc, List, [], ◌∷◌, ◌++◌, get_or, length, map, take, Some, refl, sym, ap, arith, inl, inr, subst}
 use Rattle.std.specs.Prelude.{slice_get}
 use Rattle.std.proofs.Math.Seq.{take-length}
@@ -26,7 +26,7 @@ of-map f Q xs ys same all = λ k d l.
 pub as-many : {X Y : Type 0} (f : X → Y) (xs : List X) (ys : List Y) → map f xs ≡ ys → length xs ≡ length ys
 as-many f xs ys same = sym (length-map xs f) ∙ ap length same
 
--- what holds of each item behind those before it holds of one more, where it holds of that one behind all of them
+-- what holds of each item after those before it holds of one more, where it holds of that one after all of them
 pub each-more : {X : Type 0} (P : List X → X → Type 0) (xs : List X) (y : X) → ((k : ℕ) (x : X) → slice_get xs k ≡ Some x → P (take k xs) x) → P xs y
     → (k : ℕ) (x : X) → slice_get (xs ++ y ∷ []) k ≡ Some x → P (take k (xs ++ y ∷ [])) x
 each-more P xs y each own k x e = elim (cases_lt k (length xs)) [

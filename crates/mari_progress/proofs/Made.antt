@@ -1,4 +1,4 @@
--- The market of a run behind blocks of the first runs.
+-- The market of a run after blocks of the first runs.
 use Rattle.std.proofs.Common.{◌≡◌, ◌∙◌, ℕ, ◌<◌, ◌≤◌, List, [], ◌∷◌, ◌++◌, length, length-append, map, take, get_or, refl, sym, ap, arith, slice_get, unsigned_abs}
 use Rattle.std.specs.List.{All, AllZip}
 use Rattle.std.specs.Prelude.{IsSomeAnd}

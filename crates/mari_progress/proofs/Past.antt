@@ -15,9 +15,9 @@ use Rattle.mari_remain.specs.Accepted.{IsAccepted}
 use Rattle.mari_remain.specs.Blocks.{PastBlock, PastRun}
 use Rattle.mari_remain.specs.FirstBlocks.{AreFirstBlocks, IsNextBlock, IsPastRun, block_of}
 use Rattle.mari_remain.specs.Lists.{run_numbered}
-use Rattle.mari_progress.specs.Behind.{before_of, market_behind, past_of, run_behind}
+use Rattle.mari_progress.specs.After.{before_of, market_after, past_of, run_after}
 use Rattle.mari_progress.specs.Runs.{IsSoundBlock, IsSoundRun}
-use Rattle.mari_progress.specs.Told.{activation_of, heading_of}
+use Rattle.mari_progress.specs.Reported.{activation_of, heading_of}
 use Rattle.mari_progress.proofs.Made.{market-of}
 
 -- the places of names that are read off places
@@ -33,18 +33,18 @@ places-of-names names apart (n ∷ ns) there (l ∷ ls) e =
     let more = places-of-names names apart ns (All-tail (λ i. i < length names) n ns there) ls rest in
     ap (λ k. k ∷ map (λ (l : BidLine). place_in names l.id) ls) (ap (place_in names) name ∙ own) ∙ ap (λ ks. n ∷ ks) more
 
-module _ (books : Books) (ok : IsAccepted books) (blocks : List Block) (first : AreFirstBlocks books (before_of books blocks)) (last : run_behind blocks ≤ length books.runs.runs) where
-  there : All (λ i. i < length books.bids.ids) (market_behind books blocks).bids
-  there = rw ok.bids.named (market-of books ok (before_of books blocks) first (run_behind blocks) (omega arith) last).there
+module _ (books : Books) (ok : IsAccepted books) (blocks : List Block) (first : AreFirstBlocks books (before_of books blocks)) (last : run_after blocks ≤ length books.runs.runs) where
+  there : All (λ i. i < length books.bids.ids) (market_after books blocks).bids
+  there = rw ok.bids.named (market-of books ok (before_of books blocks) first (run_after blocks) (omega arith) last).there
 
-  bids-of : (b : FullBlock) → IsSoundRun books blocks b → map (λ (l : BidLine). place_in books.bids.ids l.id) b.bids ≡ (market_behind books blocks).bids
-  bids-of b is = places-of-names books.bids.ids ok.bids.distinct (market_behind books blocks).bids there b.bids is.names.lines.bids
+  bids-of : (b : FullBlock) → IsSoundRun books blocks b → map (λ (l : BidLine). place_in books.bids.ids l.id) b.bids ≡ (market_after books blocks).bids
+  bids-of b is = places-of-names books.bids.ids ok.bids.distinct (market_after books blocks).bids there b.bids is.names.lines.bids
 
   -- a published block, as a later run reads it
-  pub past-published : (b : FullBlock) → IsSoundRun books blocks b → past_of books (block.Published b) ≡ block_of books (run_behind blocks) (market_behind books blocks).bids (activation_of b)
+  pub past-published : (b : FullBlock) → IsSoundRun books blocks b → past_of books (block.Published b) ≡ block_of books (run_after blocks) (market_after books blocks).bids (activation_of b)
   past-published b is =
       let made : Heading → List ℕ → PastBlock = λ h ns. record { run = h.run; quarter = h.quarter; direct = h.direct; published = Some (record { bids = ns; activation = activation_of b }) } in
-      ap (λ h. made h (map (λ (l : BidLine). place_in books.bids.ids l.id) b.bids)) is.heading ∙ ap (made (heading_of books (run_behind blocks))) (bids-of b is)
+      ap (λ h. made h (map (λ (l : BidLine). place_in books.bids.ids l.id) b.bids)) is.heading ∙ ap (made (heading_of books (run_after blocks))) (bids-of b is)
 
   many : length (before_of books blocks) ≡ length blocks
   many = length-map blocks (past_of books)

@@ -24,10 +24,10 @@ use Rattle.mari_settle.specs.Lines.{lines_together, map_along, together}
 use Rattle.mari_progress.specs.declared.progress.Progress.{Progress}
 use Rattle.mari_progress.specs.declared.progress.Scheduled.{Scheduled}
 use Rattle.mari_progress.specs.declared.progress.SettledRun.{SettledRun}
-use Rattle.mari_progress.specs.Behind.{also_behind, before_of, market_behind, past_of, run_behind}
+use Rattle.mari_progress.specs.After.{also_after, before_of, market_after, past_of, run_after}
 use Rattle.mari_progress.specs.Progress.{IsProgress, KeepsPrices}
 use Rattle.mari_progress.specs.Runs.{IsMarketOf, IsNextRun, IsRunOf}
-use Rattle.mari_progress.specs.Told.{activation_of, heading_of}
+use Rattle.mari_progress.specs.Reported.{activation_of, heading_of}
 use Rattle.mari_progress.proofs.Counts.{published-more, published-same}
 use Rattle.mari_publish.proofs.Counts.{both_kinds}
 use Rattle.mari_progress.proofs.Made.{market-of}
@@ -35,32 +35,32 @@ use Rattle.mari_progress.proofs.Past.{next-block, past-published}
 use Rattle.mari_progress.proofs.Scheduling.{keeps-direct, keeps-scheduled, keeps-unpublished}
 use Rattle.mari_progress.proofs.Sums.{adds-up, totals-more, totals-same}
 
--- what is known of a market and of prices that are those behind the blocks
-module _ (books : Books) (blocks : List Block) (made : RunMarket) (e : made ≡ market_behind books blocks) where
-  pub priced-behind : {A : Type 0} (f : A → List Cents) (r : Option A) → IfSome r (λ a. ArePrices (market_behind books blocks).market (f a)) → IfSome r (λ a. ArePrices made.market (f a))
-  priced-behind f r h = let P : RunMarket → Type 0 = λ m. IfSome r (λ a. ArePrices m.market (f a)) in subst P (sym e) h
+-- what is known of a market and of prices that are those after the blocks
+module _ (books : Books) (blocks : List Block) (made : RunMarket) (e : made ≡ market_after books blocks) where
+  pub priced-after : {A : Type 0} (f : A → List Cents) (r : Option A) → IfSome r (λ a. ArePrices (market_after books blocks).market (f a)) → IfSome r (λ a. ArePrices made.market (f a))
+  priced-after f r h = let P : RunMarket → Type 0 = λ m. IfSome r (λ a. ArePrices m.market (f a)) in subst P (sym e) h
 
-  pub settled-behind : (also : Option (List Cents)) → also ≡ also_behind books blocks → (b : FullBlock) (settled : SettledRun) → IsRunOf books made also b settled → IsRunOf books (market_behind books blocks) (also_behind books blocks) b settled
-  settled-behind also f b settled h =
+  pub settled-after : (also : Option (List Cents)) → also ≡ also_after books blocks → (b : FullBlock) (settled : SettledRun) → IsRunOf books made also b settled → IsRunOf books (market_after books blocks) (also_after books blocks) b settled
+  settled-after also f b settled h =
       let M : RunMarket → Type 0 = λ m. IsRunOf books m also b settled in
-      let A : Option (List Cents) → Type 0 = λ a. IsRunOf books (market_behind books blocks) a b settled in
+      let A : Option (List Cents) → Type 0 = λ a. IsRunOf books (market_after books blocks) a b settled in
       subst A f (subst M e h)
 
 module _ (books : Books) (ok : IsAccepted books) (blocks : List Block) (kept : Progress) (progress : IsProgress books blocks kept) where
-  -- the run behind the blocks, and its market
-  module _ (run : ℕ) (is : run ≡ run_behind blocks) where
+  -- the run after the blocks, and its market
+  module _ (run : ℕ) (is : run ≡ run_after blocks) where
     pub next : run ≡ length (before_of books blocks) + 1
     next = is ∙ ap (λ n. n + 1) (sym (length-map blocks (past_of books)))
 
-    pub made-behind : (made : RunMarket) → made ≡ run_market_of books (before_of books blocks) run → made ≡ market_behind books blocks
-    made-behind made e = e ∙ ap (run_market_of books (before_of books blocks)) is
+    pub made-after : (made : RunMarket) → made ≡ run_market_of books (before_of books blocks) run → made ≡ market_after books blocks
+    made-after made e = e ∙ ap (run_market_of books (before_of books blocks)) is
 
-  module _ (last : run_behind blocks ≤ length books.runs.runs) where
-    pub of-books : IsMarketOf books (market_behind books blocks)
-    of-books = market-of books ok (before_of books blocks) progress.stands.first (run_behind blocks) (omega arith) last
+  module _ (last : run_after blocks ≤ length books.runs.runs) where
+    pub of-books : IsMarketOf books (market_after books blocks)
+    of-books = market-of books ok (before_of books blocks) progress.stands.first (run_after blocks) (omega arith) last
 
     -- a block that isn't published changes nothing
-    pub unpublished-too : (heading : Heading) (count : ℕ) → heading ≡ heading_of books (run_behind blocks) → IsProgress books (blocks ++ block.Unpublished heading count ∷ []) kept
+    pub unpublished-too : (heading : Heading) (count : ℕ) → heading ≡ heading_of books (run_after blocks) → IsProgress books (blocks ++ block.Unpublished heading count ∷ []) kept
     unpublished-too heading count is =
         let b : Block = block.Unpublished heading count in
         let own = next-block books ok blocks progress.stands.first last b is in
@@ -91,32 +91,32 @@ module _ (books : Books) (ok : IsAccepted books) (blocks : List Block) (kept : P
         few = omega (arith, progress.published, both_kinds blocks, last, ok.runs.few);
       }
 
-      pub same-market : (run : ℕ) → run ≡ run_behind blocks → settled.made ≡ run_market_of books (before_of books blocks) run
+      pub same-market : (run : ℕ) → run ≡ run_after blocks → settled.made ≡ run_market_of books (before_of books blocks) run
       same-market run e = is.adds.market ∙ ap (run_market_of books (before_of books blocks)) (sym e)
 
-      -- what is kept of the prices, behind a run with this entry
-      abbrev kept-behind : Run → Option Scheduled
-      kept-behind entry = if entry.direct then kept.scheduled else Some (record { quarter = entry.quarter; prices = settled.prices })
+      -- what is kept of the prices, after a run with this entry
+      abbrev kept-after : Run → Option Scheduled
+      kept-after entry = if entry.direct then kept.scheduled else Some (record { quarter = entry.quarter; prices = settled.prices })
 
-      keeps : (new : Option Scheduled) (direct : Bool) → (run_numbered books (run_behind blocks)).direct ≡ direct
-          → new ≡ (if direct then kept.scheduled else Some (record { quarter = (run_numbered books (run_behind blocks)).quarter; prices = settled.prices })) → KeepsPrices books (blocks ++ block.Published b ∷ []) new
+      keeps : (new : Option Scheduled) (direct : Bool) → (run_numbered books (run_after blocks)).direct ≡ direct
+          → new ≡ (if direct then kept.scheduled else Some (record { quarter = (run_numbered books (run_after blocks)).quarter; prices = settled.prices })) → KeepsPrices books (blocks ++ block.Published b ∷ []) new
       keeps new true e f = subst (KeepsPrices books (blocks ++ block.Published b ∷ [])) (sym f) (keeps-direct books ok blocks kept.scheduled progress.scheduled b last is.sound.heading e)
       keeps new false e f =
-          let own : Scheduled = record { quarter = (run_numbered books (run_behind blocks)).quarter; prices = settled.prices } in
+          let own : Scheduled = record { quarter = (run_numbered books (run_after blocks)).quarter; prices = settled.prices } in
           let consistent = is.sound.consistent in
           subst (KeepsPrices books (blocks ++ block.Published b ∷ [])) (sym f) (keeps-scheduled books ok blocks kept.scheduled progress.scheduled b last is.sound.heading e own refl is.adds.prices consistent.prices.one_each consistent.prices.capped)
 
       -- the block of a run, which is added to all that is kept
-      pub published-added : (run : ℕ) → run ≡ run_behind blocks → (after : Progress) → StandsFor books (before_of books blocks ++ block_of books run settled.made.bids settled.activation ∷ []) after.remaining
+      pub published-added : (run : ℕ) → run ≡ run_after blocks → (after : Progress) → StandsFor books (before_of books blocks ++ block_of books run settled.made.bids settled.activation ∷ []) after.remaining
           → after.totals.operators ≡ map_along lines_together kept.totals.operators settled.ledger.operators → after.totals.providers ≡ map_along together kept.totals.providers settled.ledger.providers
-          → after.totals.rents ≡ map_along together kept.totals.rents settled.ledger.rents → after.scheduled ≡ kept-behind (run_numbered books run) → after.published ≡ kept.published + 1
+          → after.totals.rents ≡ map_along together kept.totals.rents settled.ledger.rents → after.scheduled ≡ kept-after (run_numbered books run) → after.published ≡ kept.published + 1
           → IsProgress books (blocks ++ block.Published b ∷ []) after
       published-added run own after stands operators providers rents scheduled count =
           let p : Block = block.Published b in
           let past : past_of books p ≡ block_of books run settled.made.bids settled.activation =
           past-published books ok blocks progress.stands.first last b is.sound
-          ∙ sym (ap (λ (m : RunMarket). block_of books (run_behind blocks) m.bids (activation_of b)) is.adds.market)
-          ∙ sym (ap (λ (a : Activation). block_of books (run_behind blocks) settled.made.bids a) is.adds.activation)
+          ∙ sym (ap (λ (m : RunMarket). block_of books (run_after blocks) m.bids (activation_of b)) is.adds.market)
+          ∙ sym (ap (λ (a : Activation). block_of books (run_after blocks) settled.made.bids a) is.adds.activation)
           ∙ sym (ap (λ r. block_of books r settled.made.bids settled.activation) own) in
           record {
             few = omega (arith, last, length-append blocks (p ∷ []));
@@ -124,6 +124,6 @@ module _ (books : Books) (ok : IsAccepted books) (blocks : List Block) (kept : P
                 let P : List PastBlock → Type 0 = λ past. StandsFor books past after.remaining in
                 subst P (sym (map-append (past_of books) blocks (p ∷ []) ∙ ap (λ x. before_of books blocks ++ x ∷ []) past)) stands;
             totals = totals-more books blocks kept.totals progress.totals b settled is.adds after.totals operators providers rents;
-            scheduled = keeps after.scheduled (run_numbered books (run_behind blocks)).direct refl (scheduled ∙ ap (λ r. kept-behind (run_numbered books r)) own);
+            scheduled = keeps after.scheduled (run_numbered books (run_after blocks)).direct refl (scheduled ∙ ap (λ r. kept-after (run_numbered books r)) own);
             published = count ∙ ap (λ n. n + 1) progress.published ∙ sym (published-more blocks b);
           }

@@ -16,9 +16,9 @@ use Rattle.mari_remain.specs.Lists.{run_numbered}
 use Rattle.mari_remain.proofs.Standing.{quarters-rise}
 use Rattle.mari_market.specs.Price.{IsCapped}
 use Rattle.std.specs.Option.{option_map}
-use Rattle.mari_progress.specs.Behind.{also_behind, last_in, last_scheduled, run_behind, scheduled_in, scheduled_prices}
+use Rattle.mari_progress.specs.After.{also_after, last_in, last_scheduled, run_after, scheduled_in, scheduled_prices}
 use Rattle.mari_progress.specs.Progress.{kept_for, IsScheduled, KeepsPrices}
-use Rattle.mari_progress.specs.Told.{heading_of, prices_of}
+use Rattle.mari_progress.specs.Reported.{heading_of, prices_of}
 use Rattle.mari_progress.specs.declared.progress.Scheduled.{Scheduled}
 
 -- the block of a direct run is passed over
@@ -26,7 +26,7 @@ skip : (d e : Bool) (x y : Option (List Cents)) → d ≡ true → (if not d && 
 skip true e x y f = refl
 skip false e x y f = cc f
 
--- that of a scheduled run is taken for its own quarter, behind which there is none before
+-- that of a scheduled run is taken for its own quarter, after which there is none before
 pick : (d : Bool) (of own new q : ℕ) (ps ns : List Cents) (before : Option (List Cents)) → d ≡ false → of ≡ own → new ≡ own → ns ≡ ps → own ≤ q → (own < q → before ≡ None)
     → (if not d && of == q then Some ps else before) ≡ (if new == q then Some ns else None)
 pick true of own new q ps ns before e f g h l none = cc e
@@ -80,40 +80,40 @@ module _ (books : Books) (ok : IsAccepted books) (blocks : List Block) (kept : O
   earlier-of r l there None h t e = cc e
   earlier-of r l there (Some s) h t e = let same : s ≡ t = cc e in rw (sym same) (h.earlier r l there)
 
-  module _ (b : FullBlock) (last : run_behind blocks ≤ length books.runs.runs) (heading : b.heading ≡ heading_of books (run_behind blocks)) where
+  module _ (b : FullBlock) (last : run_after blocks ≤ length books.runs.runs) (heading : b.heading ≡ heading_of books (run_after blocks)) where
     -- the published block of a direct run
-    pub keeps-direct : (run_numbered books (run_behind blocks)).direct ≡ true → KeepsPrices books (blocks ++ block.Published b ∷ []) kept
+    pub keeps-direct : (run_numbered books (run_after blocks)).direct ≡ true → KeepsPrices books (blocks ++ block.Published b ∷ []) kept
     keeps-direct direct = keeps-same (block.Published b) (λ quarter. skip b.heading.direct (b.heading.quarter == quarter) (Some (prices_of b)) (scheduled_prices quarter blocks) (ap (λ (h : Heading). h.direct) heading ∙ direct))
         (ap (λ d. if d then last_scheduled blocks else Some (record { quarter = b.heading.quarter; prices = record { cents = prices_of b } })) (ap (λ (h : Heading). h.direct) heading ∙ direct))
 
     -- that of a scheduled run
-    pub keeps-scheduled : (run_numbered books (run_behind blocks)).direct ≡ false → (new : Scheduled) → new.quarter ≡ (run_numbered books (run_behind blocks)).quarter → new.prices.cents ≡ prices_of b
+    pub keeps-scheduled : (run_numbered books (run_after blocks)).direct ≡ false → (new : Scheduled) → new.quarter ≡ (run_numbered books (run_after blocks)).quarter → new.prices.cents ≡ prices_of b
         → length (prices_of b) ≡ length books.zones.zones → All IsCapped (prices_of b) → KeepsPrices books (blocks ++ block.Published b ∷ []) (Some new)
     keeps-scheduled direct new quarter prices many capped = record {
       last =
-          own-last b.heading.direct b.heading.quarter (run_numbered books (run_behind blocks)).quarter (prices_of b) new (last_scheduled blocks) (ap (λ (h : Heading). h.direct) heading ∙ direct)
+          own-last b.heading.direct b.heading.quarter (run_numbered books (run_after blocks)).quarter (prices_of b) new (last_scheduled blocks) (ap (λ (h : Heading). h.direct) heading ∙ direct)
           (ap (λ (h : Heading). h.quarter) heading) quarter prices
           ∙ sym (last-more blocks (block.Published b));
       same = λ r l there.
-          let own = (run_numbered books (run_behind blocks)).quarter in
+          let own = (run_numbered books (run_after blocks)).quarter in
           let before = later (block.Published b) r l in
-          let rises = quarters-rise books ok (run_behind blocks) r (omega arith) (omega (arith, l, length-append blocks (block.Published b ∷ []))) there in
+          let rises = quarters-rise books ok (run_after blocks) r (omega arith) (omega (arith, l, length-append blocks (block.Published b ∷ []))) there in
           prices-more (run_numbered books r).quarter blocks (block.Published b)
           ∙ pick b.heading.direct b.heading.quarter own new.quarter (run_numbered books r).quarter (prices_of b) new.prices.cents (scheduled_prices (run_numbered books r).quarter blocks)
           (ap (λ (h : Heading). h.direct) heading ∙ direct) (ap (λ (h : Heading). h.quarter) heading) quarter prices rises
-          (λ less. keeps.same r before there ∙ past-quarter own (run_numbered books r).quarter kept (earlier-of (run_behind blocks) (omega arith) last kept keeps.priced) less);
+          (λ less. keeps.same r before there ∙ past-quarter own (run_numbered books r).quarter kept (earlier-of (run_after blocks) (omega arith) last kept keeps.priced) less);
       priced = record {
         one_each = ap length prices ∙ many;
         capped = subst (All IsCapped) (sym prices) capped;
         earlier = λ r l there.
-            let rises = quarters-rise books ok (run_behind blocks) r (omega arith) (omega (arith, l, length-append blocks (block.Published b ∷ []))) there in
+            let rises = quarters-rise books ok (run_after blocks) r (omega arith) (omega (arith, l, length-append blocks (block.Published b ∷ []))) there in
             omega (arith, rises, quarter);
       };
     }
 
--- the scheduled prices that the run behind these blocks is given are its own
-pub also-is : (books : Books) (blocks : List Block) (kept : Option Scheduled) → KeepsPrices books blocks kept → (run : ℕ) → run ≡ run_behind blocks → run ≤ length books.runs.runs
-    → (if (run_numbered books run).direct then kept_for (run_numbered books run).quarter kept else None) ≡ also_behind books blocks
+-- the scheduled prices that the run after these blocks is given are its own
+pub also-is : (books : Books) (blocks : List Block) (kept : Option Scheduled) → KeepsPrices books blocks kept → (run : ℕ) → run ≡ run_after blocks → run ≤ length books.runs.runs
+    → (if (run_numbered books run).direct then kept_for (run_numbered books run).quarter kept else None) ≡ also_after books blocks
 also-is books blocks kept keeps run is last =
     let P : ℕ → Type 0 = λ r. (if (run_numbered books run).direct then kept_for (run_numbered books run).quarter kept else None) ≡ (if (run_numbered books r).direct then scheduled_prices (run_numbered books r).quarter blocks else None) in
     subst P is (by (run_numbered books run).direct)

@@ -22,7 +22,7 @@ use Rattle.mari_settle.specs.declared.ledger.OperatorLine.{OperatorLine}
 use Rattle.mari_settle.proofs.Sizes.{ledgers_add_up, lines_within, sum_within, sums_within}
 use Rattle.mari_progress.specs.declared.progress.SettledRun.{SettledRun}
 use Rattle.mari_progress.specs.Runs.{IsRunOf}
-use Rattle.mari_progress.specs.Behind.{also_behind, market_behind}
+use Rattle.mari_progress.specs.After.{also_after, market_after}
 use Rattle.mari_progress.specs.Money.{amount_line, money_line, money_lines_of}
 use Rattle.mari_progress.specs.Progress.{AreTotals}
 use Rattle.mari_progress.specs.Totals.{amount_in, amount_over, money_together, operator_totals, provider_total, provider_totals, with_operators}
@@ -104,7 +104,7 @@ module _ (books : Books) (blocks : List Block) (sums : Ledger) (so_far : AreTota
         nets = so_far.nets;
       }
 
-  module _ (b : FullBlock) (settled : SettledRun) (is : IsRunOf books (market_behind books blocks) (also_behind books blocks) b settled) where
+  module _ (b : FullBlock) (settled : SettledRun) (is : IsRunOf books (market_after books blocks) (also_after books blocks) b settled) where
     own-amounts : settled.ledger.providers ≡ map (λ provider. money-of (amount_in books blocks (block.Published b) provider)) (range_with_len 0 (length books.bids.providers))
     own-amounts = is.providers
 

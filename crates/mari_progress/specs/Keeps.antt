@@ -11,8 +11,8 @@ use Rattle.mari_publish.specs.declared.publication.Block.{Block}
 use Rattle.mari_publish.specs.declared.publication.FullBlock.{FullBlock}
 use Rattle.mari_remain.specs.Blocks.{mw_in_block, mw_of}
 use Rattle.mari_remain.specs.declared.books.Books.{Books}
-use Rattle.mari_progress.specs.Behind.{before_of, past_of}
-use Rattle.mari_progress.specs.Told.{rents_told}
+use Rattle.mari_progress.specs.After.{before_of, past_of}
+use Rattle.mari_progress.specs.Reported.{rents_reported}
 
 -- over these blocks each bid runs at most the greatest quantity of its offer, and a bid with a gate runs in at most one
 -- block: where it ran before a block, it doesn't run in it
@@ -27,4 +27,4 @@ net_sum lines = int_sum (λ (l : MoneyLine). l.net.0) lines
 -- the operators' nets of a published block sum to 0, and none of its rents is negative
 pub record SumsToZero (b : FullBlock) : Type 0 where
   pub nets : net_sum b.operators ≡ pos 0
-  pub rents : All (λ (rent : Quarters). pos 0 ≤ℤ rent.0) (rents_told b)
+  pub rents : All (λ (rent : Quarters). pos 0 ≤ℤ rent.0) (rents_reported b)

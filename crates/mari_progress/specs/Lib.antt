@@ -1,6 +1,6 @@
-pub mod Told
+pub mod Reported
 pub mod Prices
-pub mod Behind
+pub mod After
 pub mod Money
 pub mod Totals
 pub mod Keeps

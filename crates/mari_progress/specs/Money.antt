@@ -13,7 +13,7 @@ use Rattle.mari_settle.specs.declared.ledger.Ledger.{Ledger}
 use Rattle.mari_settle.specs.declared.ledger.OperatorLine.{OperatorLine}
 use Rattle.mari_settle.specs.Ledger.{net_of, operator_lines, provider_amount, provider_amounts, rents_of, scheduled_or}
 use Rattle.mari_settle.specs.Lines.{map_along, nothing}
-use Rattle.mari_progress.specs.Told.{activation_of, prices_of, rents_told}
+use Rattle.mari_progress.specs.Reported.{activation_of, prices_of, rents_reported}
 use Rattle.mari_rows.specs.Names.{listed_once, listed_with, name_at}
 
 -- an operator's line: its name, its payment, its rent, and the payment less the rent
@@ -46,9 +46,9 @@ amount_of books made also b provider = provider_amount books.bids made.bids (act
 abbrev pub amounts_of : Books → RunMarket → (also : Option (List Cents)) → FullBlock → List Quarters
 amounts_of books made also b = provider_amounts books.bids made.bids (activation_of b) (prices_of b) (scheduled_or (prices_of b) also)
 
--- a block tells this ledger, and of the providers those at these places
-pub record TellsLedger (books : Books) (b : FullBlock) (ledger : Ledger) (places : List ℕ) : Type 0 where
-  pub rents : rents_told b ≡ ledger.rents
+-- a block states this ledger, and of the providers those at these places
+pub record StatesLedger (books : Books) (b : FullBlock) (ledger : Ledger) (places : List ℕ) : Type 0 where
+  pub rents : rents_reported b ≡ ledger.rents
   pub operators : b.operators ≡ money_lines_of books.zones.operators ledger.operators
   pub providers : b.providers ≡ map (amount_line books.bids.providers ledger.providers) places
 
@@ -60,6 +60,6 @@ run_ledger books made also b = record {
   rents = rents_of made.market (activation_of b) (prices_of b);
 }
 
--- the block tells it, and of the providers those of the run's bids
+-- the block states it, and of the providers those of the run's bids
 pub record HasLedger (books : Books) (made : RunMarket) (also : Option (List Cents)) (b : FullBlock) : Type 0 where
-  pub tells : TellsLedger books b (run_ledger books made also b) (providers_among books.bids.bids made.bids)
+  pub states : StatesLedger books b (run_ledger books made also b) (providers_among books.bids.bids made.bids)

@@ -16,7 +16,7 @@ use Rattle.mari_settle.specs.Ledger.{net_of}
 use Rattle.mari_settle.specs.declared.ledger.Ledger.{Ledger}
 use Rattle.mari_progress.specs.declared.progress.Progress.{Progress}
 use Rattle.mari_progress.specs.declared.progress.Scheduled.{Scheduled}
-use Rattle.mari_progress.specs.Behind.{before_of, last_scheduled, scheduled_prices}
+use Rattle.mari_progress.specs.After.{before_of, last_scheduled, scheduled_prices}
 use Rattle.mari_progress.specs.Money.{money_lines_of}
 use Rattle.mari_progress.specs.Totals.{amount_over, operator_totals}
 

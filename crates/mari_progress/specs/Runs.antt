@@ -1,4 +1,4 @@
--- A run behind the blocks of the runs before it: its market, what its block has to tell, and what that adds to its day.
+-- A run after the blocks of the runs before it: its market, what its block has to state, and what that adds to its day.
 use Rattle.std.specs.Prelude.{◌≡◌, ◌<◌, ◌≤◌, ◌+◌, pos, List, Option, length, take}
 use Rattle.std.specs.List.{All}
 use Rattle.mari_units.specs.declared.numbers.Cents.{Cents}
@@ -15,9 +15,9 @@ use Rattle.mari_settle.specs.Conditions.{HasSmallNumbers, MoneyIsWithin, LineIsW
 use Rattle.mari_settle.specs.Ledger.{net_of}
 use Rattle.mari_settle.specs.declared.ledger.Ledger.{Ledger}
 use Rattle.mari_progress.specs.declared.progress.SettledRun.{SettledRun}
-use Rattle.mari_progress.specs.Behind.{also_behind, market_behind, run_behind}
+use Rattle.mari_progress.specs.After.{also_after, market_after, run_after}
 use Rattle.mari_progress.specs.Money.{HasLedger, amounts_of, money_lines_of}
-use Rattle.mari_progress.specs.Told.{NamesMarket, activation_of, heading_of, prices_of}
+use Rattle.mari_progress.specs.Reported.{NamesMarket, activation_of, heading_of, prices_of}
 use Rattle.mari_units.specs.declared.limits.TheConstants.{MOST_BID_MW, MOST_BIDS, MOST_DEMANDS}
 
 -- a market of these books: it is valid, over their zones and borders; its first orders are those of bids that are
@@ -33,19 +33,19 @@ pub record IsMarketOf (books : Books) (made : RunMarket) : Type 0 where
   pub named : NameOrders books.bids.bids made.bids made.market.orders
   pub small : All (λ (o : Order). o.greatest ≤ MOST_BID_MW) (take (length made.bids) made.market.orders)
 
--- what a later block rests on of a published one behind these blocks: its heading, names, activation, prices and ledger
+-- what a later block rests on of a published one after these blocks: its heading, names, activation, prices and ledger
 -- are its run's
 pub record IsSoundRun (books : Books) (before : List Block) (b : FullBlock) : Type 0 where
-  pub heading : b.heading ≡ heading_of books (run_behind before)
-  pub names : NamesMarket books (market_behind books before) b
-  pub feasible : IsFeasible (market_behind books before).market (activation_of b)
-  pub consistent : IsConsistent (market_behind books before).market (activation_of b) (prices_of b)
-  pub ledger : HasLedger books (market_behind books before) (also_behind books before) b
+  pub heading : b.heading ≡ heading_of books (run_after before)
+  pub names : NamesMarket books (market_after books before) b
+  pub feasible : IsFeasible (market_after books before).market (activation_of b)
+  pub consistent : IsConsistent (market_after books before).market (activation_of b) (prices_of b)
+  pub ledger : HasLedger books (market_after books before) (also_after books before) b
 
 -- and of an unpublished one, its heading
 abbrev pub IsSoundBlock : Books → (before : List Block) → Block → Type 0
 IsSoundBlock books before (block.Published b) = IsSoundRun books before b
-IsSoundBlock books before (block.Unpublished heading count) = heading ≡ heading_of books (run_behind before)
+IsSoundBlock books before (block.Unpublished heading count) = heading ≡ heading_of books (run_after before)
 
 -- the ledger of a run is small, so that those of a day can be added up, and what some operators pay the others get
 pub record IsBalancedLedger (ledger : Ledger) : Type 0 where
@@ -54,7 +54,7 @@ pub record IsBalancedLedger (ledger : Ledger) : Type 0 where
   pub providers_small : All (MoneyIsWithin most_of_provider) ledger.providers
   pub nets : int_sum net_of ledger.operators ≡ pos 0
 
--- what the block of a run adds to its day: the market, the activation and the prices that it tells, and its ledger,
+-- what the block of a run adds to its day: the market, the activation and the prices that it states, and its ledger,
 -- which is small
 pub record IsRunOf (books : Books) (made : RunMarket) (also : Option (List Cents)) (b : FullBlock) (settled : SettledRun) : Type 0 where
   pub market : settled.made ≡ made
@@ -66,7 +66,7 @@ pub record IsRunOf (books : Books) (made : RunMarket) (also : Option (List Cents
   pub rents : length settled.ledger.rents ≡ length books.borders.borders
   pub balanced : IsBalancedLedger settled.ledger
 
--- a published block of the run behind these blocks, and what it adds
+-- a published block of the run after these blocks, and what it adds
 pub record IsNextRun (books : Books) (before : List Block) (b : FullBlock) (settled : SettledRun) : Type 0 where
   pub sound : IsSoundRun books before b
-  pub adds : IsRunOf books (market_behind books before) (also_behind books before) b settled
+  pub adds : IsRunOf books (market_after books before) (also_after books before) b settled

@@ -8,7 +8,7 @@ use Rattle.mari_lines.specs.declared.line.MoneyLine.{MoneyLine}
 use Rattle.mari_publish.specs.declared.publication.Publication.{Publication}
 use Rattle.mari_remain.specs.declared.books.Books.{Books}
 use Rattle.mari_settle.specs.Lines.{map_along, no_line, together}
-use Rattle.mari_progress.specs.Behind.{also_behind, market_behind}
+use Rattle.mari_progress.specs.After.{also_after, market_after}
 use Rattle.mari_progress.specs.Money.{amount_of, money_lines_of}
 use Rattle.mari_rows.specs.Names.{name_at}
 
@@ -25,12 +25,12 @@ with_operators lines (block.Unpublished heading count) = lines
 abbrev pub operator_totals : Books → List Block → List MoneyLine
 operator_totals books blocks = fold with_operators (money_lines_of books.zones.operators (replicate (length books.zones.operators) no_line)) blocks
 
--- what a provider gets in the block behind these, which is nothing unless it is published
+-- what a provider gets in the block after these, which is nothing unless it is published
 abbrev pub amount_in : Books → (before : List Block) → Block → (provider : ℕ) → ℤ
-amount_in books before (block.Published b) provider = amount_of books (market_behind books before) (also_behind books before) b provider
+amount_in books before (block.Published b) provider = amount_of books (market_after books before) (also_after books before) b provider
 amount_in books before (block.Unpublished heading count) provider = pos 0
 
--- and in all blocks that stand behind these
+-- and in all blocks that stand after these
 abbrev pub amount_over : Books → (before blocks : List Block) → (provider : ℕ) → ℤ
 amount_over books before [] provider = pos 0
 amount_over books before (b ∷ bs) provider = amount_in books before b provider +ℤ amount_over books (before ++ b ∷ []) bs provider

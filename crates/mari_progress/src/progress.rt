@@ -5,7 +5,7 @@ ghost use Rattle.mari_market.specs.Price.{ArePrices};
 ghost use Rattle.mari_publish.specs.declared.publication.Block.{Block as PrintedBlock};
 ghost use Rattle.mari_publish.specs.declared.publication.FullBlock.{FullBlock as PrintedRun};
 ghost use Rattle.mari_remain.specs.Accepted.{IsAccepted};
-ghost use Rattle.mari_progress.specs.Behind.{also_behind, market_behind, run_behind};
+ghost use Rattle.mari_progress.specs.After.{also_after, market_after, run_after};
 ghost use Rattle.mari_progress.specs.Progress.{IsProgress, kept_for as kept_prices, published_block};
 ghost use Rattle.mari_progress.specs.Runs.{IsMarketOf, IsNextRun};
 
@@ -73,8 +73,8 @@ impl Progress {
     pub fn market_of(&self, alloc: Global, books: &Books, run: u32) -> Result<RunMarket, Memory>
         requires accepted { IsAccepted books.now }
         requires last { run ≤ length books.now.runs.runs }
-        requires behind { (blocks : List PrintedBlock) × IsProgress books.now blocks self.now × (run ≡ run_behind blocks) }
-        ensures market { (blocks : List PrintedBlock) → IsProgress books.now blocks self.now → run ≡ run_behind blocks → IfOk result (λ made. made ≡ market_behind books.now blocks) }
+        requires after { (blocks : List PrintedBlock) × IsProgress books.now blocks self.now × (run ≡ run_after blocks) }
+        ensures market { (blocks : List PrintedBlock) → IsProgress books.now blocks self.now → run ≡ run_after blocks → IfOk result (λ made. made ≡ market_after books.now blocks) }
         ensures of_books { IfOk result (IsMarketOf books.now) }
     {
         let made = self.remaining.market_of(alloc, books, run)?;
@@ -86,8 +86,8 @@ impl Progress {
     pub fn also(&self, books: &Books, run: u32) -> Option<&Prices>
         requires first { 1 ≤ run }
         requires last { run ≤ length books.now.runs.runs }
-        ensures behind { (blocks : List PrintedBlock) → IsProgress books.now blocks self.now → run ≡ run_behind blocks → option_map (λ scheduled. scheduled.now.cents) result ≡ also_behind books.now blocks }
-        ensures prices { (blocks : List PrintedBlock) → IsProgress books.now blocks self.now → IfSome result (λ scheduled. ArePrices (market_behind books.now blocks).market scheduled.now.cents) }
+        ensures after { (blocks : List PrintedBlock) → IsProgress books.now blocks self.now → run ≡ run_after blocks → option_map (λ scheduled. scheduled.now.cents) result ≡ also_after books.now blocks }
+        ensures prices { (blocks : List PrintedBlock) → IsProgress books.now blocks self.now → IfSome result (λ scheduled. ArePrices (market_after books.now blocks).market scheduled.now.cents) }
     {
         self.kept_for(run_entry(books, run))
     }
@@ -106,8 +106,8 @@ impl Progress {
     pub fn add(&mut self, books: &Books, run: u32, settled: SettledRun)
         requires accepted { IsAccepted books.now }
         requires last { run ≤ length books.now.runs.runs }
-        requires next { (blocks : List PrintedBlock) × (block : PrintedRun) × IsProgress books.now blocks self.old × (run ≡ run_behind blocks) × IsNextRun books.now blocks block settled }
-        ensures { (blocks : List PrintedBlock) (block : PrintedRun) → IsProgress books.now blocks self.old → run ≡ run_behind blocks → IsNextRun books.now blocks block settled
+        requires next { (blocks : List PrintedBlock) × (block : PrintedRun) × IsProgress books.now blocks self.old × (run ≡ run_after blocks) × IsNextRun books.now blocks block settled }
+        ensures { (blocks : List PrintedBlock) (block : PrintedRun) → IsProgress books.now blocks self.old → run ≡ run_after blocks → IsNextRun books.now blocks block settled
             → IsProgress books.now (blocks ++ published_block block ∷ []) self.new }
     {
         self.remaining

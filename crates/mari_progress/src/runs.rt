@@ -1,7 +1,7 @@
 //! The runs of a day: how many there are, and the heading of each.
 
 ghost use Rattle.std.specs.Prelude.{◌≡◌, ◌≤◌, length};
-ghost use Rattle.mari_progress.specs.Told.{heading_of};
+ghost use Rattle.mari_progress.specs.Reported.{heading_of};
 
 use mari_publish::Heading;
 use mari_remain::{Books, run_entry};

@@ -66,9 +66,9 @@ full_fits b a w =
     let os = map line.Operator b.operators in
     let ps = map line.Provider b.providers in
     let market = all_front InRange (market_lines b) (tree_lines b.tree ++ ending_lines b) a.1.1 in
-    let behind = all_back InRange (market_lines b) (tree_lines b.tree ++ ending_lines b) a.1.1 in
-    let tree = all_front InRange (tree_lines b.tree) (ending_lines b) behind in
-    let ending = all_back InRange (tree_lines b.tree) (ending_lines b) behind in
+    let following = all_back InRange (market_lines b) (tree_lines b.tree ++ ending_lines b) a.1.1 in
+    let tree = all_front InRange (tree_lines b.tree) (ending_lines b) following in
+    let ending = all_back InRange (tree_lines b.tree) (ending_lines b) following in
     let m1 = all_back InRange zs (bs ++ (ds ++ demand_lines 1 b.demands)) market in
     let m2 = all_back InRange bs (ds ++ demand_lines 1 b.demands) m1 in
     let m3 = all_back InRange ds (demand_lines 1 b.demands) m2 in
@@ -100,14 +100,14 @@ has_text p a w runs os ps =
     let blocks = all_front InRange (flat_map block_lines p.blocks) (closing_lines p) a.1 in
     let closing = all_back InRange (flat_map block_lines p.blocks) (closing_lines p) a.1 in
     let done = line.Done (published_in p.blocks) (unpublished_in p.blocks) ∷ [] in
-    let behind = all_back InRange (map line.TotalOperator p.operators) (map line.TotalProvider p.providers ++ done) closing in
+    let following = all_back InRange (map line.TotalOperator p.operators) (map line.TotalProvider p.providers ++ done) closing in
     record {
       head = a.0;
       blocks = from_blocks p.blocks blocks w;
       totals = record {
         runs = runs;
         operators = (os, from_map line.TotalOperator p.operators (all_front InRange (map line.TotalOperator p.operators) (map line.TotalProvider p.providers ++ done) closing));
-        providers = ((omega arith, ps), from_map line.TotalProvider p.providers (all_front InRange (map line.TotalProvider p.providers) done behind));
+        providers = ((omega arith, ps), from_map line.TotalProvider p.providers (all_front InRange (map line.TotalProvider p.providers) done following));
       };
     }
 
@@ -188,8 +188,8 @@ block_few (block.Published b) f =
     let p : length (map line.Provider b.providers) ≤ 4096 = let n = length-map b.providers line.Provider in omega (arith, n, fp) in
     let market = two _ _ 64 (256 + (4096 + 512)) z (two _ _ 256 (4096 + 512) x (two _ _ 4096 512 d m)) in
     let ending : length (ending_lines b) ≤ 64 + (4096 + 1) = two _ _ 64 (4096 + 1) o (two _ (line.End b.heading.run ∷ []) 4096 1 p (omega arith)) in
-    let behind = two (market_lines b) (tree_lines b.tree ++ ending_lines b) (64 + (256 + (4096 + 512))) ((1 + 200000) + (64 + (4096 + 1))) market (two (tree_lines b.tree) (ending_lines b) (1 + 200000) (64 + (4096 + 1)) t ending) in
-    omega (arith, behind)
+    let following = two (market_lines b) (tree_lines b.tree ++ ending_lines b) (64 + (256 + (4096 + 512))) ((1 + 200000) + (64 + (4096 + 1))) market (two (tree_lines b.tree) (ending_lines b) (1 + 200000) (64 + (4096 + 1)) t ending) in
+    omega (arith, following)
 
 blocks_few : (bs : List Block) → All BlockFits bs → length (flat_map block_lines bs) ≤ most_block * length bs
 blocks_few [] a = omega arith

@@ -47,13 +47,13 @@ lacks_both (c ∷ u) v a b =
     and_from (not (eqb c 10)) (list_all (λ b. not (eqb b 10)) (u ++ v)) h.0 (lacks_both u v h.1 b)
 
 -- a line that is too long ends
-pub long_ends : (u v piece front behind rest : List ℕ) → Lacks 10 front → piece ≡ front ++ 10 ∷ behind → IsAhead mark.TooLong u rest → IsAhead mark.Ended v (rest ++ piece)
-long_ends u v piece front behind rest whole is h =
+pub long_ends : (u v piece front following rest : List ℕ) → Lacks 10 front → piece ≡ front ++ 10 ∷ following → IsAhead mark.TooLong u rest → IsAhead mark.Ended v (rest ++ piece)
+long_ends u v piece front following rest whole is h =
     let len = length-append rest front in
     let long = h.1 in (
       rest ++ front,
-      behind,
-      ap (λ (xs : List ℕ). rest ++ xs) is ∙ sym (append_assoc rest front (10 ∷ behind)),
+      following,
+      ap (λ (xs : List ℕ). rest ++ xs) is ∙ sym (append_assoc rest front (10 ∷ following)),
       lacks_both rest front h.0 whole,
       omega (arith, len, long),
     )
@@ -63,8 +63,8 @@ pub from_place : (items d : List ℕ) (n : ℕ) (xs : List ℕ) → d ≡ items 
 from_place items d n xs e is = ap (λ (ys : List ℕ). drop n ys) (sym e) ∙ sym (ap (λ k. take k (drop n d)) (sym (length-drop n d)) ∙ take-length (drop n d)) ∙ is
 
 -- what is left after a line
-pub drop_line : (bytes here behind : List ℕ) (handled : ℕ) → drop handled bytes ≡ here ++ 10 ∷ behind → drop (handled + (length here + 1)) bytes ≡ behind
-drop_line bytes here behind handled e = sym (drop-drop (length here + 1) handled bytes) ∙ ap (λ (xs : List ℕ). drop (length here + 1) xs) e ∙ drop-append-add here (10 ∷ behind) 1
+pub drop_line : (bytes here following : List ℕ) (handled : ℕ) → drop handled bytes ≡ here ++ 10 ∷ following → drop (handled + (length here + 1)) bytes ≡ following
+drop_line bytes here following handled e = sym (drop-drop (length here + 1) handled bytes) ∙ ap (λ (xs : List ℕ). drop (length here + 1) xs) e ∙ drop-append-add here (10 ∷ following) 1
 
 -- what is there where something is
 pub there : {X : Type 0} (A : Type 0) (P : X → Type 0) (o : Option X) → is_some o ≡ true → MatchOption o A P → (x : X) × P x

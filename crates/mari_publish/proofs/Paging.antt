@@ -1,13 +1,13 @@
--- A page that is read piece by piece: its text as far as it has come, and the fault that is told of it.
+-- A page that is read piece by piece: its text as far as it has come, and the fault that is reported of it.
 use Rattle.std.proofs.Common.{◌≡◌, ◌≢◌, ◌∙◌, ◌+◌, ◌-◌, ◌<◌, ◌≤◌, ℕ, List, [], ◌∷◌, ◌++◌, length, take, drop, Option, Some, None, Result, Ok, Err, ◌⊎◌, inl, inr, refl, sym, ap, subst, arith, append_assoc, length-append}
 use Rattle.std.specs.Option.{option_map}
 use Rattle.std.proofs.Math.Seq.{take-append-add, take-append_seam}
 use Rattle.std.proofs.lemmas.Bool.{cases_lt}
 use Rattle.std.proofs.lemmas.List.{take-append-drop, nil_from_length}
-use Rattle.mari_io.specs.Outside.{AppendsExactly, IsOverlong, IsPiece, OpenTells, most_given}
+use Rattle.mari_io.specs.Outside.{AppendsExactly, IsOverlong, IsPiece, OpenStates, most_given}
 use Rattle.mari_publish.specs.Faults.{IsOutcome, IsText, IsTextFault}
-use Rattle.mari_publish.specs.Paged.{IsLineFault, IsToldFault, IsTooLong}
-use Rattle.mari_publish.specs.Paged.IsToldFault.{OfPage as of-page, OfGiven as of-given}
+use Rattle.mari_publish.specs.Paged.{IsLineFault, IsReportedFault, IsTooLong}
+use Rattle.mari_publish.specs.Paged.IsReportedFault.{OfPage as of-page, OfGiven as of-given}
 use Rattle.mari_publish.specs.Pieces.{ComeState, ComesFrom, HasPart, IsNext, NoFault, with_part}
 use Rattle.mari_publish.specs.declared.fault.TextFault.{TextFault}
 use Rattle.mari_publish.specs.declared.fault.TextFault.TheVariants as fault
@@ -37,10 +37,10 @@ no-line-fault text (fault.BadOrder n) none h = (none n).1 h
 no-line-fault text (fault.Truncated n) none h = h
 no-line-fault text fault.Memory none h = h
 
--- so what is told of a page is the first fault of its text, also where it isn't given whole
-pub told-first : (page : List ℕ) (f : TextFault) → IsToldFault page f → IsTextFault page f
-told-first page f (of-page short h) = h
-told-first page f (of-given long h) =
+-- so what is reported of a page is the first fault of its text, also where it isn't given whole
+pub reported-first : (page : List ℕ) (f : TextFault) → IsReportedFault page f → IsTextFault page f
+reported-first page f (of-page short h) = h
+reported-first page f (of-given long h) =
     let P : List ℕ → Type 0 = λ xs. IsTextFault xs f in
     subst P (take-append-drop most_given page) (fault-first (take most_given page ++ drop most_given page) f (fault-stays (take most_given page) (drop most_given page) f h))
 
@@ -51,9 +51,9 @@ given-front text more few =
     let all : length text + room ≡ most_given = omega (arith, few) in
     (take room more, sym (take-append-add text more room) ∙ ap (λ (n : ℕ). take n (text ++ more)) all)
 
--- the fault of a line is told once the line is given
-pub fault-told : (text more : List ℕ) (f : TextFault) → length text ≤ most_given → IsLineFault text f → IsToldFault (text ++ more) f
-fault-told text more f few h = elim (cases_lt most_given (length (text ++ more))) [
+-- the fault of a line is reported once the line is given
+pub fault-reported : (text more : List ℕ) (f : TextFault) → length text ≤ most_given → IsLineFault text f → IsReportedFault (text ++ more) f
+fault-reported text more f few h = elim (cases_lt most_given (length (text ++ more))) [
   | inl long ↦
       let front = given-front text more few in
       let P : List ℕ → Type 0 = λ xs. IsLineFault xs f in
@@ -62,8 +62,8 @@ fault-told text more f few h = elim (cases_lt most_given (length (text ++ more))
 ]
 
 -- the answer of whoever reads the page whole is the same
-pub same-fault : (page : List ℕ) (answer : Result Publication TextFault) (f : TextFault) → IsOutcome page answer → IsToldFault page f → (answer ≡ Err f) ⊎ (answer ≡ Err fault.Memory)
-same-fault page answer f o told = first f (told-first page f told)
+pub same-fault : (page : List ℕ) (answer : Result Publication TextFault) (f : TextFault) → IsOutcome page answer → IsReportedFault page f → (answer ≡ Err f) ⊎ (answer ≡ Err fault.Memory)
+same-fault page answer f o reported = first f (reported-first page f reported)
   where
     first : (f : TextFault) → IsTextFault page f → (answer ≡ Err f) ⊎ (answer ≡ Err fault.Memory)
     first (fault.BadLine n) h = line_answer page answer o n h
@@ -100,8 +100,8 @@ one-fault page f (fault.BadOrder n) bad other = same-error page f _ bad (order_a
 one-fault page f (fault.Truncated n) bad other = same-error page f _ bad (truncated_answer page (Err f) (outcome-of page f bad) n other)
 one-fault page f fault.Memory bad other = absurd other
 
--- of a page that is too long none is told
-pub long-none : (page : List ℕ) (f : TextFault) → IsTooLong page → IsToldFault page f → ⊥
+-- of a page that is too long none is reported
+pub long-none : (page : List ℕ) (f : TextFault) → IsTooLong page → IsReportedFault page f → ⊥
 long-none page f long (of-page short bad) = omega (arith, long.longer, short)
 long-none page f long (of-given more bad) = no-line-fault (take most_given page) f long.no_fault bad
 
@@ -118,7 +118,7 @@ next-stands come text parts (Some y) x e s = let same : y ≡ x = cc in subst (�
 -- ---- a page as far as it was read
 
 -- a page that was opened
-pub opened-page : {T : Type 0} (done : T) (page rest : Option (List ℕ)) → OpenTells page rest (Ok done) → (bytes : List ℕ) × (page ≡ Some bytes) × (rest ≡ Some bytes)
+pub opened-page : {T : Type 0} (done : T) (page rest : Option (List ℕ)) → OpenStates page rest (Ok done) → (bytes : List ℕ) × (page ≡ Some bytes) × (rest ≡ Some bytes)
 opened-page done None rest h = let e = h.0 in absurd cc
 opened-page done (Some bytes) rest h = (bytes, refl, h.1)
 
@@ -129,14 +129,14 @@ all-new old items piece n none same a = let e = ap length none in let f = ap len
 pub first-of : (left old items piece : List ℕ) (n : ℕ) → old ≡ [] → piece ≡ items → IsPiece left old items n → IsPiece left [] piece n
 first-of left old items piece n none same h = subst (λ (xs : List ℕ). IsPiece left [] xs n) (sym same) (subst (λ (o : List ℕ). IsPiece left o items n) none h)
 
--- so much of the page has come, of which this is known, and this is left of it, where that is told
+-- so much of the page has come, of which this is known, and this is left of it, where that is reported
 pub record Under (Known : List ℕ → Type 0) (page rest : Option (List ℕ)) (given : ℕ) : Type 0 where
   pub text : List ℕ
   pub known : Known text
   pub given_is : given ≡ length text
   pub few : given ≤ most_given
   pub no_fault : NoFault text
-  pub told : (whole : List ℕ) → page ≡ Some whole → (left : List ℕ) × (rest ≡ Some left) × (text ++ left ≡ whole)
+  pub reported : (whole : List ℕ) → page ≡ Some whole → (left : List ℕ) × (rest ≡ Some left) × (text ++ left ≡ whole)
 
 pub dropped : (rest now : Option (List ℕ)) (left : List ℕ) (n : ℕ) → rest ≡ Some left → now ≡ option_map (λ l. drop n l) rest → now ≡ Some (drop n left)
 dropped rest now left n e f = f ∙ ap (option_map (λ l. drop n l)) e
@@ -145,14 +145,14 @@ module _ (Known : List ℕ → Type 0) (page rest : Option (List ℕ)) (given : 
   -- as many bytes as may be were given: they are what has come
   pub overlong-front : IsOverlong rest given → (whole : List ℕ) → page ≡ Some whole → u.text ≡ take most_given whole
   overlong-front over whole is =
-      let t = u.told whole is in
+      let t = u.reported whole is in
       let o : (given ≡ most_given) × (t.0 ≢ []) = subst (λ r. IsOverlong r given) t.1 over in
       sym (take-append_seam u.text t.0) ∙ ap (λ (n : ℕ). take n (u.text ++ t.0)) (sym u.given_is ∙ o.0) ∙ ap (λ (xs : List ℕ). take most_given xs) t.2
 
   -- and some are left
   pub overlong-page : IsOverlong rest given → (whole : List ℕ) → page ≡ Some whole → IsTooLong whole
   overlong-page over whole is =
-      let t = u.told whole is in
+      let t = u.reported whole is in
       let o : (given ≡ most_given) × (t.0 ≢ []) = subst (λ r. IsOverlong r given) t.1 over in
       let many = length-append u.text t.0 in
       let some = not-empty t.0 o.1 in
@@ -171,7 +171,7 @@ module _ (Known : List ℕ → Type 0) (page rest : Option (List ℕ)) (given : 
     module _ (whole : List ℕ) (is : page ≡ Some whole) where
       -- what is left of the page begins with the piece
       abbrev pub left-of : (left : List ℕ) × (rest ≡ Some left) × (u.text ++ left ≡ whole)
-      left-of = u.told whole is
+      left-of = u.reported whole is
 
       pub and-rest : piece ++ drop n left-of.0 ≡ left-of.0
       and-rest = ap (λ (xs : List ℕ). xs ++ drop n left-of.0) (is_piece left-of.0 left-of.1).bytes ∙ take-append-drop n left-of.0
@@ -180,8 +180,8 @@ module _ (Known : List ℕ → Type 0) (page rest : Option (List ℕ)) (given : 
       all-of-it = append_assoc u.text piece (drop n left-of.0) ∙ ap (λ (xs : List ℕ). u.text ++ xs) and-rest ∙ left-of.2
 
       -- a line of what has come has a fault
-      pub line-fault : (f : TextFault) → IsLineFault (u.text ++ piece) f → IsToldFault whole f
-      line-fault f h = let P : List ℕ → Type 0 = λ xs. IsToldFault xs f in subst P all-of-it (fault-told (u.text ++ piece) (drop n left-of.0) f with-piece h)
+      pub line-fault : (f : TextFault) → IsLineFault (u.text ++ piece) f → IsReportedFault whole f
+      line-fault f h = let P : List ℕ → Type 0 = λ xs. IsReportedFault xs f in subst P all-of-it (fault-reported (u.text ++ piece) (drop n left-of.0) f with-piece h)
 
     -- there is more of it
     pub one-piece : (Now : List ℕ → Type 0) → Now (u.text ++ piece) → NoFault (u.text ++ piece) → (now : Option (List ℕ)) (more : ℕ) → now ≡ option_map (λ l. drop n l) rest → more ≡ given + n → Under Now page now more
@@ -193,7 +193,7 @@ module _ (Known : List ℕ → Type 0) (page rest : Option (List ℕ)) (given : 
           given_is = omega (arith, longer, many, given_is, u.given_is);
           few = omega (arith, within, given_is);
           no_fault = none;
-          told = λ whole is. (drop n (left-of whole is).0, dropped rest now (left-of whole is).0 n (left-of whole is).1 left_is, all-of-it whole is);
+          reported = λ whole is. (drop n (left-of whole is).0, dropped rest now (left-of whole is).0 n (left-of whole is).1 left_is, all-of-it whole is);
         }
 
     -- that was its end

@@ -144,20 +144,20 @@ ended_there a unread rest e h = subst (λ b. IsAhead b unread rest) e h
 pub too_long : (here : List ℕ) → MOST_LINE < length here → IsFormless here
 too_long here long = λ l i e. let short = line_short l i in let same = ap length e in absurd (omega (arith, short, same, long))
 
-formless_next : (r : ComeState) (text : List ℕ) (parts : List Part) (s : ComesFrom r text parts) (here behind : List ℕ) → s.rest ≡ here ++ 10 ∷ behind → Lacks 10 here → IsFormless here
+formless_next : (r : ComeState) (text : List ℕ) (parts : List Part) (s : ComesFrom r text parts) (here following : List ℕ) → s.rest ≡ here ++ 10 ∷ following → Lacks 10 here → IsFormless here
     → BadLineAt text (r.lines + 1) × NoPart text parts
-formless_next r text parts s here behind is whole none =
+formless_next r text parts s here following is whole none =
     let a : BadLineAt text (r.lines + 1) = record {
       before = s.lines;
       here = here;
-      after = behind;
+      after = following;
       parts = s.is ∙ ap (λ (xs : List ℕ). text_of_lines s.lines ++ xs) is;
       whole = whole;
       begins = begun r text parts s;
       number = ap (λ n. n + 1) s.number;
       formless = none;
     } in
-    (a, no_part text s.lines (here ++ 10 ∷ behind) parts r.kept (line_stop text (r.lines + 1) a) s.gives s.in_range)
+    (a, no_part text s.lines (here ++ 10 ∷ following) parts r.kept (line_stop text (r.lines + 1) a) s.gives s.in_range)
 
 bad_next : (r : ComeState) (text : List ℕ) (parts : List Part) → ComesFrom r text parts → HasBadLine r → BadLineAt text (r.lines + 1) × NoPart text parts
 bad_next r text parts s (inl ended) = let h = ended_there r.ahead r.unread s.rest ended s.ahead in formless_next r text parts s h.0 h.1 h.2 h.3 (too_long h.0 h.4)
@@ -170,14 +170,14 @@ misplaced_next r text parts s b =
     let a : BadOrderAt text (r.lines + 1) = record {
       before = s.lines;
       here = b.line;
-      after = b.behind;
-      parts = s.is ∙ ap (λ (xs : List ℕ). text_of_lines s.lines ++ xs) (is ∙ ap (λ (xs : List ℕ). xs ++ 10 ∷ b.behind) (sym b.spelled) ∙ sym (order_text b.line b.behind));
+      after = b.following;
+      parts = s.is ∙ ap (λ (xs : List ℕ). text_of_lines s.lines ++ xs) (is ∙ ap (λ (xs : List ℕ). xs ++ 10 ∷ b.following) (sym b.spelled) ∙ sym (order_text b.line b.following));
       begins = begun r text parts s;
       number = ap (λ n. n + 1) s.number;
       in_range = b.in_range;
       misplaced = not_begun s.lines s.gives.so_far r.kept b.line s.gives.follow b.misplaced;
     } in
-    (a, no_part text s.lines (line_text b.line ++ b.behind) parts r.kept (order_stop text (r.lines + 1) a) s.gives s.in_range)
+    (a, no_part text s.lines (line_text b.line ++ b.following) parts r.kept (order_stop text (r.lines + 1) a) s.gives s.in_range)
 
 -- a fault is the next answer, and the reader stands for what it stood for
 pub fault_next : (old new : ComeState) (e : TextFault) → Handles old new (Err e) → (text : List ℕ) (parts : List Part) → ComesFrom old text parts → IsNext text parts (Err e) × ComesFrom new text parts
@@ -188,7 +188,7 @@ fault_next old new (fault.BadOrder n) h text parts s =
 fault_next old new (fault.Truncated n) h text parts s = absurd h
 fault_next old new fault.Memory h text parts s = (tt, subst (λ r. ComesFrom r text parts) (sym h) s)
 
--- what a step tells
+-- what a step states
 pub line_step : (old new : ComeState) (a : Handled) (x : Option Part) → a ≡ step.Line x → Handles old new (Ok a) → IsTaken old new x
 line_step old new a x e h = subst (λ b. Handles old new (Ok b)) e h
 
@@ -201,12 +201,12 @@ taken old new x t text parts s =
     let is = all_there old.ahead old.unread s.rest t.begins.all s.ahead ∙ t.begins.is in
     record {
       lines = s.lines ++ t.line ∷ [];
-      rest = t.behind;
-      is = s.is ∙ ap (λ (xs : List ℕ). text_of_lines s.lines ++ xs) is ∙ more_text s.lines t.line t.here t.behind t.spelled;
+      rest = t.following;
+      is = s.is ∙ ap (λ (xs : List ℕ). text_of_lines s.lines ++ xs) is ∙ more_text s.lines t.line t.here t.following t.spelled;
       in_range = all_push InRange s.lines t.line s.in_range t.in_range;
       gives = next_gives s.lines parts old.kept new.kept t.line x s.gives t.follows;
       number = t.one_more ∙ ap (λ n. n + 1) s.number ∙ sym (length-append s.lines (t.line ∷ []));
-      ahead = subst (λ a. IsAhead a new.unread t.behind) (sym t.all) (sym t.left);
+      ahead = subst (λ a. IsAhead a new.unread t.following) (sym t.all) (sym t.left);
     }
 
 pub taken_part : (old new : ComeState) (x : Part) → IsTaken old new (Some x) → (text : List ℕ) (parts : List Part) → ComesFrom old text parts → HasPart text parts x

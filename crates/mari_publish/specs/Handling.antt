@@ -15,33 +15,33 @@ use Rattle.mari_publish.specs.Order.{after}
 use Rattle.mari_publish.specs.Pieces.{ComeState, HasNoLine}
 
 -- the bytes are all there, and begin with this line
-pub record BeginsWith (r : ComeState) (here behind : List ℕ) : Type 0 where
+pub record BeginsWith (r : ComeState) (here following : List ℕ) : Type 0 where
   pub all : r.ahead ≡ mark.Kept
-  pub is : r.unread ≡ here ++ 10 ∷ behind
+  pub is : r.unread ≡ here ++ 10 ∷ following
   pub whole : Lacks 10 here
 
 -- the line was taken, with the part that is whole with it
 pub record IsTaken (old new : ComeState) (x : Option Part) : Type 0 where
   pub here : List ℕ
-  pub behind : List ℕ
-  pub begins : BeginsWith old here behind
+  pub following : List ℕ
+  pub begins : BeginsWith old here following
   pub line : Line
   pub in_range : InRange line
   pub spelled : spelling line ≡ here
   pub follows : after old.kept old.kept.held line ≡ Some (new.kept, x)
   pub one_more : new.lines ≡ old.lines + 1
   pub all : new.ahead ≡ mark.Kept
-  pub left : new.unread ≡ behind
+  pub left : new.unread ≡ following
 
 -- the line has no form
 abbrev pub HasBadLine : ComeState → Type 0
-HasBadLine r = (r.ahead ≡ mark.Ended) ⊎ ((here : List ℕ) × (behind : List ℕ) × BeginsWith r here behind × IsFormless here)
+HasBadLine r = (r.ahead ≡ mark.Ended) ⊎ ((here : List ℕ) × (following : List ℕ) × BeginsWith r here following × IsFormless here)
 
 -- the line may not follow
 pub record HasBadOrder (r : ComeState) : Type 0 where
   pub here : List ℕ
-  pub behind : List ℕ
-  pub begins : BeginsWith r here behind
+  pub following : List ℕ
+  pub begins : BeginsWith r here following
   pub line : Line
   pub in_range : InRange line
   pub spelled : spelling line ≡ here

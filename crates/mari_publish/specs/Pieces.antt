@@ -55,7 +55,7 @@ pub record ComeState : Type 0 where
 abbrev pub come_of : Coming → ComeState
 come_of c = record { kept = c.kept; lines = c.lines; ahead = c.ahead; unread = drop c.handled c.bytes.items }
 
--- a reader: what has come, and whether it was told that no further part has
+-- a reader: what has come, and whether it was reported that no further part has
 pub record ReaderState : Type 0 where
   pub come : ComeState
   pub waits : Bool

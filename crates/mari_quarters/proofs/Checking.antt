@@ -5,7 +5,7 @@ use Rattle.std.specs.Option.{option_or}
 use Rattle.mari_units.specs.declared.faults.Refusal.{Refusal}
 use Rattle.mari_rows.specs.Books.{Checks, book_of_read, first_failing, first_refusal, line_refusal, refusal_of}
 use Rattle.mari_rows.specs.Checks.{row_check_number}
-use Rattle.mari_rows.specs.First.{first_fault_behind, unless_fault}
+use Rattle.mari_rows.specs.First.{first_fault_after, unless_fault}
 use Rattle.mari_rows.specs.Rows.{rows_in}
 use Rattle.mari_rows.specs.declared.checks.RowCheck.{RowCheck}
 use Rattle.mari_rows.specs.declared.checks.RowCheck.TheVariants as row_check
@@ -75,24 +75,24 @@ unless-first None blocks h = tt
 unless-first (Some fault) blocks h = h
 
 module _ (books : Books) (first last : ℕ) where
-  line-tells : (earlier : List Row) (row : Row) → IfSome (line_refusal (block_grammar books.bids books.links first last) earlier row) IsOfCheck
-  line-tells earlier row = failing-at row.line (line_checks books.bids books.links first last earlier row)
+  line-states : (earlier : List Row) (row : Row) → IfSome (line_refusal (block_grammar books.bids books.links first last) earlier row) IsOfCheck
+  line-states earlier row = failing-at row.line (line_checks books.bids books.links first last earlier row)
       (of-block BadField, (of-block UnknownBid, (of-block Quarter, (of-block Repeated, (of-block Linked, tt)))))
 
-  lines-tell : (earlier rows : List Row) → IfSome (first_fault_behind (line_refusal (block_grammar books.bids books.links first last)) earlier rows) IsOfCheck
-  lines-tell earlier [] = tt
-  lines-tell earlier (row ∷ rows) =
-      or-either (line_refusal (block_grammar books.bids books.links first last) earlier row) _ (line-tells earlier row) (lines-tell (earlier ++ row ∷ []) rows)
+  lines-report : (earlier rows : List Row) → IfSome (first_fault_after (line_refusal (block_grammar books.bids books.links first last)) earlier rows) IsOfCheck
+  lines-report earlier [] = tt
+  lines-report earlier (row ∷ rows) =
+      or-either (line_refusal (block_grammar books.bids books.links first last) earlier row) _ (line-states earlier row) (lines-report (earlier ++ row ∷ []) rows)
 
-  blocks-tell : (page : List ℕ) → IfErr (blocks_in books first last page) IsOfCheck
-  blocks-tell page = by (rows_in block_columns page)
+  blocks-report : (page : List ℕ) → IfErr (blocks_in books first last page) IsOfCheck
+  blocks-report page = by (rows_in block_columns page)
     where
       by : (read : Result (List Row) RowFault) → IfErr (book_of_read (block_grammar books.bids books.links first last) read) IsOfCheck
       by (Err fault) = of-unread fault
-      by (Ok rows) = unless-first (first_refusal (block_grammar books.bids books.links first last) rows) _ (or-either _ None (lines-tell [] rows) tt)
+      by (Ok rows) = unless-first (first_refusal (block_grammar books.bids books.links first last) rows) _ (or-either _ None (lines-report [] rows) tt)
 
   pub of-page : (page : List ℕ) (refusal : Refusal) → refusal.file ≡ BLOCKS → blocks_in books first last page ≡ Err (refused.At refusal.line refusal.number) → IsQuartersCheck refusal
-  of-page page refusal file read = subst (λ (r : Result BlockBook BookFault). IfErr r IsOfCheck) read (blocks-tell page) refusal file refl
+  of-page page refusal file read = subst (λ (r : Result BlockBook BookFault). IfErr r IsOfCheck) read (blocks-report page) refusal file refl
 
 -- ---- what can't be one market
 
@@ -104,14 +104,14 @@ either : (b : Bool) (check : JointCheck) (rest : Result Joint Refusal) → IfErr
 either true check rest h = (check, refl)
 either false check rest h = h
 
-joint-tells : (books : Books) (blocks : BlockBook) (first last : ℕ) → IfErr (joint_in books blocks first last) IsOfMarket
-joint-tells books blocks first last =
+joint-states : (books : Books) (blocks : BlockBook) (first last : ℕ) → IfErr (joint_in books blocks first last) IsOfMarket
+joint-states books blocks first last =
     either (lacks_run books first last) NoScheduled _
     (either (links_across books first last) AcrossQuarters _
     (either (is_too_large books blocks first last) TooLarge (Ok (joint_of books blocks first last)) tt))
 
 pub of-market : (books : Books) (blocks : BlockBook) (first last : ℕ) (refusal : Refusal) → joint_in books blocks first last ≡ Err refusal → IsOfMarket refusal
-of-market books blocks first last refusal made = subst (λ (r : Result Joint Refusal). IfErr r IsOfMarket) made (joint-tells books blocks first last)
+of-market books blocks first last refusal made = subst (λ (r : Result Joint Refusal). IfErr r IsOfMarket) made (joint-states books blocks first last)
 
 file-of : (check : JointCheck) → IsQuartersFile (file_of check)
 file-of NoScheduled = inl (record { from_one = omega arith; to_last = omega arith; other = λ e. absurd (omega (arith, e)) })

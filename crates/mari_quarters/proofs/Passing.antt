@@ -6,18 +6,18 @@ use Rattle.mari_io.specs.declared.shelf.Fetch.{Fetch}
 use Rattle.mari_io.specs.declared.shelf.Fetch.TheVariants as fetch
 use Rattle.mari_remain.specs.declared.books.Books.{Books}
 use Rattle.mari_day.specs.Files.{gap_of}
-use Rattle.mari_day.specs.Reading.{BooksTell, HasBooks, IsFetchFault, NamesAFile}
+use Rattle.mari_day.specs.Reading.{BooksReport, HasBooks, IsFetchFault, NamesAFile}
 use Rattle.mari_day.specs.Refusals.{RefusesByCheck}
 use Rattle.mari_day.specs.declared.files.TheConstants.{BLOCKS}
 use Rattle.mari_day.specs.declared.reading.BooksFault.{BooksFault}
 use Rattle.mari_day.specs.declared.reading.BooksFault.TheVariants as why
 use Rattle.mari_blocks.specs.declared.blocks.BlockBook.{BlockBook}
 use Rattle.mari_blocks.specs.declared.clearing.JointText.{JointText}
-use Rattle.mari_quarters.specs.Quarters.{HasPage, NamesQuartersFile, QuartersTell, RefusesQuartersByCheck, blocks_in, blocks_page}
+use Rattle.mari_quarters.specs.Quarters.{HasPage, NamesQuartersFile, QuartersReport, RefusesQuartersByCheck, blocks_in, blocks_page}
 use Rattle.mari_quarters.specs.Quarters.{HasQuartersGap as gaps}
 use Rattle.mari_quarters.specs.Quarters.{HasQuartersRefusal as refusals}
 use Rattle.mari_quarters.specs.Quarters.{IsQuartersCheck as checks}
-use Rattle.mari_quarters.specs.Stages.{ClearsQuarters, IsOfBlocks, PageTells, ReadsBlocks}
+use Rattle.mari_quarters.specs.Stages.{ClearsQuarters, IsOfBlocks, PageStates, ReadsBlocks}
 
 -- ---- without books
 
@@ -31,28 +31,28 @@ files-check (why.Fetch number f) by = tt
 files-check (why.Refused refusal) by = checks.OfFiles by
 files-check why.Memory by = tt
 
-pub files-tell : (told : Pages) (folder : List ℕ) (first last budget : ℕ) (fault : BooksFault) → BooksTell told folder (Err fault) → QuartersTell told folder first last budget (Err fault)
-files-tell told folder first last budget (why.Fetch number fetch.Failed) tells = tt
-files-tell told folder first last budget (why.Fetch number fetch.Missing) tells = gaps.OfFiles tells
-files-tell told folder first last budget (why.Fetch number fetch.TooLong) tells = gaps.OfFiles tells
-files-tell told folder first last budget (why.Fetch number fetch.Memory) tells = tells
-files-tell told folder first last budget (why.Refused refusal) tells = refusals.OfFiles tells
-files-tell told folder first last budget why.Memory tells = tt
+pub files-report : (reported : Pages) (folder : List ℕ) (first last budget : ℕ) (fault : BooksFault) → BooksReport reported folder (Err fault) → QuartersReport reported folder first last budget (Err fault)
+files-report reported folder first last budget (why.Fetch number fetch.Failed) states = tt
+files-report reported folder first last budget (why.Fetch number fetch.Missing) states = gaps.OfFiles states
+files-report reported folder first last budget (why.Fetch number fetch.TooLong) states = gaps.OfFiles states
+files-report reported folder first last budget (why.Fetch number fetch.Memory) states = states
+files-report reported folder first last budget (why.Refused refusal) states = refusals.OfFiles states
+files-report reported folder first last budget why.Memory states = tt
 
 -- ---- without a page
 
-pub page-tells : (told : Pages) (folder : List ℕ) (first last budget : ℕ) (books : Books) → HasBooks told folder books → (fault : BooksFault)
-    → PageTells (blocks_page told folder) (Err fault) → IsOfBlocks {T = List ℕ} (Err fault) → QuartersTell told folder first last budget (Err fault)
-page-tells told folder first last budget books has (why.Fetch number fetch.Failed) tells file = tt
-page-tells told folder first last budget books has (why.Fetch number fetch.Missing) tells file = gaps.OfBlocks books has tells file
-page-tells told folder first last budget books has (why.Fetch number fetch.TooLong) tells file = gaps.OfBlocks books has tells file
-page-tells told folder first last budget books has (why.Fetch number fetch.Memory) tells file = absurd tells
-page-tells told folder first last budget books has (why.Refused refusal) tells file = absurd tells
-page-tells told folder first last budget books has why.Memory tells file = tt
+pub page-states : (reported : Pages) (folder : List ℕ) (first last budget : ℕ) (books : Books) → HasBooks reported folder books → (fault : BooksFault)
+    → PageStates (blocks_page reported folder) (Err fault) → IsOfBlocks {T = List ℕ} (Err fault) → QuartersReport reported folder first last budget (Err fault)
+page-states reported folder first last budget books has (why.Fetch number fetch.Failed) states file = tt
+page-states reported folder first last budget books has (why.Fetch number fetch.Missing) states file = gaps.OfBlocks books has states file
+page-states reported folder first last budget books has (why.Fetch number fetch.TooLong) states file = gaps.OfBlocks books has states file
+page-states reported folder first last budget books has (why.Fetch number fetch.Memory) states file = absurd states
+page-states reported folder first last budget books has (why.Refused refusal) states file = absurd states
+page-states reported folder first last budget books has why.Memory states file = tt
 
 -- the page of blocks.csv, which was had
-pub has-page : (told : Pages) (folder : List ℕ) (books : Books) (page : List ℕ) → HasBooks told folder books → PageTells (blocks_page told folder) (Ok page) → HasPage told folder books page
-has-page told folder books page has held = record { gives = has; held = held.0; short = subst (λ (p : Option (List ℕ)). gap_of p ≡ None) held.0 held.1 }
+pub has-page : (reported : Pages) (folder : List ℕ) (books : Books) (page : List ℕ) → HasBooks reported folder books → PageStates (blocks_page reported folder) (Ok page) → HasPage reported folder books page
+has-page reported folder books page has held = record { gives = has; held = held.0; short = subst (λ (p : Option (List ℕ)). gap_of p ≡ None) held.0 held.1 }
 
 -- ---- without a book of blocks, and with one
 
@@ -72,14 +72,14 @@ module _ (books : Books) (first last budget : ℕ) (page : List ℕ) where
   unread-check (why.Refused refusal) by = by
   unread-check why.Memory by = tt
 
-  pub unread-tells : (fault : BooksFault) → ReadsBlocks (Err fault) (blocks_in books first last page) → (told : Pages) (folder : List ℕ) → HasPage told folder books page
-      → QuartersTell told folder first last budget (Err fault)
-  unread-tells (why.Fetch number fault) read told folder has = absurd read
-  unread-tells (why.Refused refusal) read told folder has = refusals.OfBlocks books page refusal.line refusal.number has read.0 (file refusal read.1)
+  pub unread-states : (fault : BooksFault) → ReadsBlocks (Err fault) (blocks_in books first last page) → (reported : Pages) (folder : List ℕ) → HasPage reported folder books page
+      → QuartersReport reported folder first last budget (Err fault)
+  unread-states (why.Fetch number fault) read reported folder has = absurd read
+  unread-states (why.Refused refusal) read reported folder has = refusals.OfBlocks books page refusal.line refusal.number has read.0 (file refusal read.1)
     where
       file : (r : Refusal) → r.file ≡ BLOCKS → r ≡ record { file = BLOCKS; line = r.line; number = r.number }
       file r e = rw (sym e) refl
-  unread-tells why.Memory read told folder has = tt
+  unread-states why.Memory read reported folder has = tt
 
   module _ (blocks : BlockBook) (read : blocks_in books first last page ≡ Ok blocks) where
     pub market-no-fetch : (result : Result JointText BooksFault) → ClearsQuarters books blocks first last budget result → (f : Fetch) → IsFetchFault f result → ⊥
@@ -88,14 +88,14 @@ module _ (books : Books) (first last budget : ℕ) (page : List ℕ) where
     market-no-fetch (Err (why.Refused refusal)) clears f e = e
     market-no-fetch (Err why.Memory) clears f e = e
 
-    pub market-tells : (result : Result JointText BooksFault) → ClearsQuarters books blocks first last budget result → (told : Pages) (folder : List ℕ) → HasPage told folder books page
-        → QuartersTell told folder first last budget result
-    market-tells (Ok printed) clears told folder has = record {
+    pub market-states : (result : Result JointText BooksFault) → ClearsQuarters books blocks first last budget result → (reported : Pages) (folder : List ℕ) → HasPage reported folder books page
+        → QuartersReport reported folder first last budget result
+    market-states (Ok printed) clears reported folder has = record {
       books = books;
       blocks = blocks;
       has = record { page = page; has = has; read = read };
       is_text = clears;
     }
-    market-tells (Err (why.Refused refusal)) clears told folder has = refusals.OfMarket books blocks (record { page = page; has = has; read = read }) clears
-    market-tells (Err why.Memory) clears told folder has = tt
-    market-tells (Err (why.Fetch number fault)) clears told folder has = absurd clears
+    market-states (Err (why.Refused refusal)) clears reported folder has = refusals.OfMarket books blocks (record { page = page; has = has; read = read }) clears
+    market-states (Err why.Memory) clears reported folder has = tt
+    market-states (Err (why.Fetch number fault)) clears reported folder has = absurd clears

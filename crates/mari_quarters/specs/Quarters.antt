@@ -68,15 +68,15 @@ pub record HasQuartersText (pages : Pages) (folder : List ℕ) (first last budge
   pub has : HasBlocks pages folder first last books blocks
   pub is_text : IsJointText books blocks first last budget published text
 
--- what clearing the quarters says of the pages, where they are told
-abbrev pub QuartersTell : Pages → (folder : List ℕ) → (first last budget : ℕ) → Result JointText BooksFault → Type 0
-QuartersTell pages folder first last budget (Ok printed) = HasQuartersText pages folder first last budget printed.published printed.text
-QuartersTell pages folder first last budget (Err (why.Refused refusal)) = HasQuartersRefusal pages folder first last refusal
-QuartersTell pages folder first last budget (Err why.Memory) = ⊤
-QuartersTell pages folder first last budget (Err (why.Fetch number fetch.Failed)) = ⊤
-QuartersTell pages folder first last budget (Err (why.Fetch number fetch.Missing)) = HasQuartersGap pages folder number NotHeld
-QuartersTell pages folder first last budget (Err (why.Fetch number fetch.TooLong)) = HasQuartersGap pages folder number OverLimit
-QuartersTell pages folder first last budget (Err (why.Fetch number fetch.Memory)) = ⊥
+-- what clearing the quarters says of the pages, where they are reported
+abbrev pub QuartersReport : Pages → (folder : List ℕ) → (first last budget : ℕ) → Result JointText BooksFault → Type 0
+QuartersReport pages folder first last budget (Ok printed) = HasQuartersText pages folder first last budget printed.published printed.text
+QuartersReport pages folder first last budget (Err (why.Refused refusal)) = HasQuartersRefusal pages folder first last refusal
+QuartersReport pages folder first last budget (Err why.Memory) = ⊤
+QuartersReport pages folder first last budget (Err (why.Fetch number fetch.Failed)) = ⊤
+QuartersReport pages folder first last budget (Err (why.Fetch number fetch.Missing)) = HasQuartersGap pages folder number NotHeld
+QuartersReport pages folder first last budget (Err (why.Fetch number fetch.TooLong)) = HasQuartersGap pages folder number OverLimit
+QuartersReport pages folder first last budget (Err (why.Fetch number fetch.Memory)) = ⊥
 
 -- the number of a file that is read where quarters are cleared: a market file, or blocks.csv
 abbrev pub IsQuartersFile : ℕ → Type 0

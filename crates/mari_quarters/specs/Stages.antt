@@ -16,18 +16,18 @@ use Rattle.mari_blocks.specs.declared.blocks.BlockBook.{BlockBook}
 use Rattle.mari_blocks.specs.declared.clearing.JointText.{JointText}
 
 -- what a page that can't be had says of blocks.csv, where that is known
-abbrev pub FaultTells : Option (List ℕ) → Fetch → Type 0
-FaultTells page fetch.Failed = ⊤
-FaultTells page fetch.Missing = gap_of page ≡ Some NotHeld
-FaultTells page fetch.TooLong = gap_of page ≡ Some OverLimit
-FaultTells page fetch.Memory = ⊥
+abbrev pub FaultStates : Option (List ℕ) → Fetch → Type 0
+FaultStates page fetch.Failed = ⊤
+FaultStates page fetch.Missing = gap_of page ≡ Some NotHeld
+FaultStates page fetch.TooLong = gap_of page ≡ Some OverLimit
+FaultStates page fetch.Memory = ⊥
 
 -- what fetching blocks.csv says of its page, where that is known
-abbrev pub PageTells : Option (List ℕ) → Result (List ℕ) BooksFault → Type 0
-PageTells page (Ok bytes) = (page ≡ Some bytes) × (gap_of page ≡ None)
-PageTells page (Err (why.Fetch number fault)) = FaultTells page fault
-PageTells page (Err (why.Refused refusal)) = ⊥
-PageTells page (Err why.Memory) = ⊤
+abbrev pub PageStates : Option (List ℕ) → Result (List ℕ) BooksFault → Type 0
+PageStates page (Ok bytes) = (page ≡ Some bytes) × (gap_of page ≡ None)
+PageStates page (Err (why.Fetch number fault)) = FaultStates page fault
+PageStates page (Err (why.Refused refusal)) = ⊥
+PageStates page (Err why.Memory) = ⊤
 
 -- a fetch that gave no page was one of blocks.csv
 abbrev pub IsOfBlocks : {T : Type 0} → Result T BooksFault → Type 0

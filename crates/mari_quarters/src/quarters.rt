@@ -9,8 +9,8 @@ ghost use Rattle.mari_market.specs.Clearing.{IsBudget};
 ghost use Rattle.mari_remain.specs.Accepted.{IsAccepted};
 ghost use Rattle.mari_day.specs.Reading.{IsFetchFault};
 ghost use Rattle.mari_blocks.specs.Blocks.{IsBlockBook};
-ghost use Rattle.mari_quarters.specs.Quarters.{HasPage, NamesQuartersFile, QuartersTell, RefusesQuartersByCheck, blocks_in, blocks_page};
-ghost use Rattle.mari_quarters.specs.Stages.{ClearsQuarters, IsOfBlocks, PageTells, ReadsBlocks};
+ghost use Rattle.mari_quarters.specs.Quarters.{HasPage, NamesQuartersFile, QuartersReport, RefusesQuartersByCheck, blocks_in, blocks_page};
+ghost use Rattle.mari_quarters.specs.Stages.{ClearsQuarters, IsOfBlocks, PageStates, ReadsBlocks};
 
 use mari_blocks::{BlockBook, JointFault, JointText, clear_joint};
 use mari_day::{BLOCKS, BooksFault, file_name, path_in, read_books};
@@ -31,7 +31,7 @@ fn fetch_blocks<S: Shelf>(
     ensures small { IfOk result (λ page. length page ≤ MOST_PAGE) }
 
     // What it says of the page, where pages are reported.
-    ensures told { (told : Pages) → S.pages shelf.old ≡ Some told → PageTells (blocks_page told folder.now) result }
+    ensures reported { (reported : Pages) → S.pages shelf.old ≡ Some reported → PageStates (blocks_page reported folder.now) result }
 
     // Why there is no page. Out of memory in a fetch is reported as out of memory.
     ensures file { IsOfBlocks result }
@@ -126,7 +126,7 @@ fn clear_books<C: Clearer>(
     ensures ready { C.ready clearer.new }
 
     // What is found where these are a folder's books, and its blocks.csv is this page.
-    ensures told { (told : Pages) (folder : List ℕ) → HasPage told folder books.now page.now → QuartersTell told folder first last budget result }
+    ensures reported { (reported : Pages) (folder : List ℕ) → HasPage reported folder books.now page.now → QuartersReport reported folder first last budget result }
 
     // Why there is no text. Nothing is fetched.
     ensures fetch { (fault : FetchFault) → IsFetchFault fault result → ⊥ }
@@ -162,7 +162,7 @@ pub fn clear_quarters<S: Shelf, C: Clearer>(
 
     // What is found of the folder's pages, where the shelf reports them.
     ensures same { S.pages shelf.new ≡ S.pages shelf.old }
-    ensures told { (told : Pages) → S.pages shelf.old ≡ Some told → QuartersTell told folder.now first last budget result }
+    ensures reported { (reported : Pages) → S.pages shelf.old ≡ Some reported → QuartersReport reported folder.now first last budget result }
 
     // Why there is no text. A refusal is by a check of its file. Out of memory in a fetch is reported as out of memory.
     ensures file { NamesQuartersFile result }

@@ -94,7 +94,7 @@ range-any a (suc n) p low high = by (a == p) refl (λ more. range-any (a + 1) n 
     by false e more = more (grind (arith, nat_tests, e, low))
 
 module _ (books : Books) (taken : Taken) (run : Run) (ok : IsAccepted books) where
-  -- how many parents up makes no difference behind the bid's own number
+  -- how many parents up makes no difference after the bid's own number
   up-same : (n m i : ℕ) → i < n → i < m → is_available_up books taken run n i ≡ is_available_up books taken run m i
   up-same zero m i l k = absurd (omega (arith, l))
   up-same (suc n) zero i l k = absurd (omega (arith, k))
@@ -154,7 +154,7 @@ module _ (books : Books) (kept : Tally) (run : Run) (ok : IsAccepted books) wher
           let above : get_or numbers k d < get_or numbers (k + suc m) d = rise k (k + suc m) d (omega arith) more in
           grind (arith, nat_tests, same, first, above, less)
 
-  -- the next bid of the quarter, behind the gated ones that were chosen before it
+  -- the next bid of the quarter, after the gated ones that were chosen before it
   pub next : (k i : ℕ) → k < length (bids_of_quarter books.bids.bids run.quarter) → get_or (bids_of_quarter books.bids.bids run.quarter) k i ≡ i → i < length books.bids.bids → (bid_numbered books.bids.bids i).quarter ≡ run.quarter
       → (chosen gated : List ℕ) → chosen ≡ filter (is_available books (taken_in books kept run.quarter) run) (take k (bids_of_quarter books.bids.bids run.quarter)) → gated ≡ filter (has_gate books.links) chosen
       → (may_run books (taken_in books kept run.quarter) run i && option_map_or (λ p. nat_lt 0 (get_or kept.mw p 0) || list_any (λ j. j == p) gated) (parent_at books.links.links i) true)
@@ -225,7 +225,7 @@ has-run books kept run index l =
 pub demands-are : (demands : List Demand) (run : ℕ) → map (demand_at demands) (numbers_of_run demands run) ≡ demands_of_run demands run
 demands-are demands run = places-items (λ (d : Demand). d.run == run) (demand_at demands) 0 demands (λ i d l. rw (zero-add i) (get_or_default demands i _ d l))
 
--- what is chosen of one number more: where it passes it is put behind, and among the gated ones where it has a gate
+-- what is chosen of one number more: where it passes it is put after, and among the gated ones where it has a gate
 pub record IsChosen (avail gate : ℕ → Bool) (all : List ℕ) (k : ℕ) (numbers gated : List ℕ) : Type 0 where
   pub all_there : numbers ≡ filter avail (take k all)
   pub all_gated : gated ≡ filter gate numbers

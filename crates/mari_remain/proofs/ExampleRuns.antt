@@ -1,4 +1,4 @@
--- Runs behind earlier ones, by hand: what is left of bids, of borders, and of links to earlier quarters.
+-- Runs after earlier ones, by hand: what is left of bids, of borders, and of links to earlier quarters.
 use Rattle.std.proofs.Common.{◌≡◌, ℕ, ℤ, pos, Bool, true, false, List, [], ◌∷◌, Some, None, refl, map}
 use Rattle.mari_units.specs.declared.Cents.{Cents}
 use Rattle.mari_zones.specs.declared.borders.BorderEnds.{BorderEnds}
@@ -93,7 +93,7 @@ what_is_left_of_a_border = refl
 pub another_quarter_has_it_all : limits_in two_zones (congested ∷ unpublished 2 1 true ∷ []) 3 ≡ (50, 20) ∷ []
 another_quarter_has_it_all = refl
 
--- limits of 30 there and 50 back that are stated for the second run alone, behind a flow of 50 MW there: nothing there,
+-- limits of 30 there and 50 back that are stated for the second run alone, after a flow of 50 MW there: nothing there,
 -- and 100 back
 abbrev limited : Books
 limited = record two_zones {

@@ -42,7 +42,7 @@ by_blocks books P none more blocks first = subst P (take-length blocks) (up (len
         let here : k < length blocks = omega (arith, l) in
         subst P (sym (take-suc blocks k no_block here)) (more (take k blocks) (get_or blocks k no_block) (first k (get_or blocks k no_block) (slice_get-get_or blocks k no_block here)) (up k (omega (arith, l))))
 
--- a sum over one list behind another
+-- a sum over one list after another
 int_sum-append : {X : Type 0} (f : X → ℤ) (xs ys : List X) → int_sum f (xs ++ ys) ≡ int_sum f xs +ℤ int_sum f ys
 int_sum-append f [] ys = omega (arith, ints)
 int_sum-append f (x ∷ xs) ys = let more = int_sum-append f xs ys in omega (arith, ints, more)
@@ -100,13 +100,13 @@ module _ (books : Books) (ok : IsAccepted books) where
   pub own-blocks : (blocks : List PastBlock) → AreFirstBlocks books blocks → All IsOwnBlock blocks
   own-blocks blocks first = by_blocks books (All IsOwnBlock) (All-nil IsOwnBlock) (λ before b next so_far. All-push IsOwnBlock before b so_far (own-block before b next)) blocks first
 
--- a flow within what is left of limits, behind a flow, keeps their sum within 99,999
-flow-within : (flow more left back : ℤ) (limit behind : ℕ) → left ≡ pos limit -ℤ flow → back ≡ pos behind +ℤ flow → limit ≤ 99999 → behind ≤ 99999 → unsigned_abs flow ≤ 99999
+-- a flow within what is left of limits, after a flow, keeps their sum within 99,999
+flow-within : (flow more left back : ℤ) (limit after : ℕ) → left ≡ pos limit -ℤ flow → back ≡ pos after +ℤ flow → limit ≤ 99999 → after ≤ 99999 → unsigned_abs flow ≤ 99999
     → neg_ℤ (pos (at_least_0 back)) ≤ℤ more → more ≤ℤ pos (at_least_0 left) → unsigned_abs (flow +ℤ more) ≤ 99999
-flow-within flow more (pos n) (pos m) limit behind e f l b small low high = omega (arith, ints, e, f, l, b, small, low, high)
-flow-within flow more (pos n) (negsuc m) limit behind e f l b small low high = omega (arith, ints, e, f, l, b, small, low, high)
-flow-within flow more (negsuc n) (pos m) limit behind e f l b small low high = omega (arith, ints, e, f, l, b, small, low, high)
-flow-within flow more (negsuc n) (negsuc m) limit behind e f l b small low high = omega (arith, ints, e, f, l, b, small, low, high)
+flow-within flow more (pos n) (pos m) limit after e f l b small low high = omega (arith, ints, e, f, l, b, small, low, high)
+flow-within flow more (pos n) (negsuc m) limit after e f l b small low high = omega (arith, ints, e, f, l, b, small, low, high)
+flow-within flow more (negsuc n) (pos m) limit after e f l b small low high = omega (arith, ints, e, f, l, b, small, low, high)
+flow-within flow more (negsuc n) (negsuc m) limit after e f l b small low high = omega (arith, ints, e, f, l, b, small, low, high)
 
 -- the flows of one block more
 pub flow-more : (k quarter : ℕ) (before : List PastBlock) (b : PastBlock) → flow_of (of_quarter quarter (before ++ b ∷ [])) k ≡ flow_of (of_quarter quarter before) k +ℤ (if b.quarter == quarter then flow_in k b else pos 0)

@@ -149,7 +149,7 @@ module _ (books : Books) (ok : IsAccepted books) (own : List ℕ) (read : border
       whole-same : run_market_left migrated taken run ≡ run_market_left books taken run
       whole-same = λ i. market-of (numbers-same i) (borders-same i)
 
-    -- so a run has the market that it had, behind any blocks
+    -- so a run has the market that it had, after any blocks
     pub markets-same : (blocks : List PastBlock) (run : ℕ) → 1 ≤ run → run ≤ runs → run_market_of migrated blocks run ≡ run_market_of books blocks run
     markets-same blocks run first last = whole-same (taken_before books blocks run) run first last
 

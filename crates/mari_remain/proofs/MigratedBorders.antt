@@ -7,7 +7,7 @@ use Rattle.std.proofs.lemmas.List.{get_or_past, length-map, map-append}
 use Rattle.std.proofs.lemmas.List.Elements.{All-head, All-tail}
 use Rattle.csv.specs.Reading.{strip_bom}
 use Rattle.mari_rows.specs.Books.{Grammar, book_in, book_of_read, first_failing, first_refusal, line_refusal}
-use Rattle.mari_rows.specs.First.{first_fault, first_fault_behind}
+use Rattle.mari_rows.specs.First.{first_fault, first_fault_after}
 use Rattle.mari_rows.specs.Names.{name_at}
 use Rattle.mari_rows.specs.Printed.{page_text}
 use Rattle.mari_rows.specs.Rows.{columns_of, rows_from, rows_in}
@@ -86,14 +86,14 @@ module _ (zones : ZoneBook) (is : IsZoneBook zones) where
 
     -- lines that were read with no refusal: their borders, printed, are read so too, and none is repeated
     record Moves (before earlier rows : List Row) (line : ℕ) : Type 0 where
-      passes : first_fault_behind (line_refusal (border_grammar zones 2)) earlier (rows_from line (map printed (map said rows))) ≡ None
+      passes : first_fault_after (line_refusal (border_grammar zones 2)) earlier (rows_from line (map printed (map said rows))) ≡ None
       none_repeated : NoneRepeated (map said before) (map said rows)
 
     moves : (before earlier rows : List Row) (line : ℕ) → All (IsBorder zones) (map said rows) → map (border_of zones 2) earlier ≡ map bare (map said before)
-        → first_fault_behind (line_refusal (border_grammar zones version)) before rows ≡ None → Moves before earlier rows line
+        → first_fault_after (line_refusal (border_grammar zones version)) before rows ≡ None → Moves before earlier rows line
     moves before earlier [] line ok same none = record { passes = refl; none_repeated = tt }
     moves before earlier (row ∷ rows) line ok same none =
-        let parts = option_or-parts (line_refusal (border_grammar zones version) before row) (first_fault_behind (line_refusal (border_grammar zones version)) (before ++ row ∷ []) rows) none in
+        let parts = option_or-parts (line_refusal (border_grammar zones version) before row) (first_fault_after (line_refusal (border_grammar zones version)) (before ++ row ∷ []) rows) none in
         let all = all-passed (border_checks zones version before row) (no-failing row.line (first_failing (border_checks zones version before row)) parts.0) in
         let few : length (map said before) < 256 = rw (length-map before said) (grind (arith, nat_tests, all.0)) in
         let new : list_any (is_between_same (said row)) (map said before) ≡ false = all.1.1.1.0 in

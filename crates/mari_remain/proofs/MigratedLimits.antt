@@ -10,13 +10,13 @@ use Rattle.std.proofs.lemmas.List.FromFn.{get_or-map-range_with_len}
 use Rattle.csv.specs.Reading.{strip_bom}
 use Rattle.mari_units.specs.Numbers.{whole_of}
 use Rattle.mari_rows.specs.Books.{book_in, first_failing, line_refusal}
-use Rattle.mari_rows.specs.First.{first_fault_behind}
+use Rattle.mari_rows.specs.First.{first_fault_after}
 use Rattle.mari_rows.specs.Printed.{page_text}
 use Rattle.mari_rows.specs.Rows.{field_of, rows_from}
 use Rattle.mari_rows.specs.declared.rows.Row.{Row}
 use Rattle.mari_rows.proofs.BookFacts.{none-fails}
 use Rattle.mari_rows.proofs.BookLemmas.{book-read, row-passes}
-use Rattle.mari_rows.proofs.NameLemmas.{list_any-map, position-behind, position-map}
+use Rattle.mari_rows.proofs.NameLemmas.{list_any-map, position-after, position-map}
 use Rattle.mari_rows.proofs.NumberLemmas.{decimal_in}
 use Rattle.mari_rows.proofs.PrintedLemmas.{AreColumns, is_plain_record, number-plain, page-rows}
 use Rattle.mari_zones.specs.Borders.{IsBorder, is_between_same}
@@ -48,7 +48,7 @@ border-found : (before borders : List BorderEnds) (k : ℕ) → NoneRepeated bef
     → position (leads (ends_at borders k).from (ends_at borders k).to) (before ++ borders) ≡ Some (length before + k)
 border-found before [] k none within = absurd (omega (arith, within))
 border-found before (x ∷ xs) zero none within =
-    position-behind (leads x.from x.to) before xs x (no-way-in x before none.0) (rw (eq-eqb x.from x.from refl, eq-eqb x.to x.to refl) refl)
+    position-after (leads x.from x.to) before xs x (no-way-in x before none.0) (rw (eq-eqb x.from x.from refl, eq-eqb x.to x.to refl) refl)
     ∙ ap Some (omega arith)
 border-found before (x ∷ xs) (suc k) none within =
     let count : length (before ++ x ∷ []) + k ≡ length before + suc k = grind (arith, length-append) in
@@ -205,7 +205,7 @@ module _ (zones : ZoneBook) (is : IsZoneBook zones) (borders : List BorderEnds) 
   key-of : (line : ℕ) (p : Pair) (there : IsThere runs (length borders) p) → key (row line p there) ≡ p
   key-of line p there = λ i. (unwrap_or (run-read line p there i) 0, unwrap_or (border-read line p there i) 0)
 
-  -- a line passes its checks behind lines of other pairs
+  -- a line passes its checks after lines of other pairs
   line-passes : (done : List Pair) (earlier : List Row) (line : ℕ) (p : Pair) (there : IsThere runs (length borders) p) → map key earlier ≡ done
       → list_any (is_pair p.0 p.1) done ≡ false → first_failing (line_checks zones book runs earlier (row line p there)) ≡ None
   line-passes done earlier line p there same new =
@@ -221,7 +221,7 @@ module _ (zones : ZoneBook) (is : IsZoneBook zones) (borders : List BorderEnds) 
       )
 
   no-refusal : (done pairs : List Pair) (earlier : List Row) (line : ℕ) → map key earlier ≡ done → AreFresh runs (length borders) done pairs
-      → first_fault_behind (line_refusal (limit_grammar zones book runs)) earlier (rows_from line (map fields pairs)) ≡ None
+      → first_fault_after (line_refusal (limit_grammar zones book runs)) earlier (rows_from line (map fields pairs)) ≡ None
   no-refusal done [] earlier line same fresh = refl
   no-refusal done (p ∷ ps) earlier line same fresh =
       let at = row line p fresh.0 in

@@ -41,7 +41,7 @@ at_least_0-most : (z : ℤ) (most : ℕ) → z ≤ℤ pos most → at_least_0 z 
 at_least_0-most (pos n) most l = omega (arith, ints, l)
 at_least_0-most (negsuc n) most l = omega arith
 
--- what is left of limits up to 99,999 behind a flow of at most as much is within the limits of a run
+-- what is left of limits up to 99,999 after a flow of at most as much is within the limits of a run
 border : (zones : ZoneBook) (b : BorderEnds) (limits : Limits) (flow : ℤ) → IsBorder zones b → limits.limit ≤ 99999 → limits.back ≤ 99999 → unsigned_abs flow ≤ 99999
     → IsValidBorder (length zones.zones) (border_left b limits flow)
 border zones b limits flow h limit back small = record {

@@ -4,13 +4,13 @@ use Rattle.std.specs.Option.{option_map_or}
 use Rattle.mari_market.specs.Sums.{int_sum}
 use Rattle.mari_market.specs.declared.activation.Activation.{Activation}
 
--- what a published block tells: the numbers of the bids that are the first orders of its run's market, and the
+-- what a published block states: the numbers of the bids that are the first orders of its run's market, and the
 -- activation
 pub record PastRun : Type 0 where
   pub bids : List ℕ
   pub activation : Activation
 
--- a block: its heading, and what it tells where it is published
+-- a block: its heading, and what it states where it is published
 pub record PastBlock : Type 0 where
   pub run : ℕ
   pub quarter : ℕ

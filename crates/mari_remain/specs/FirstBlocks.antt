@@ -11,13 +11,13 @@ use Rattle.mari_remain.specs.Available.{Taken}
 use Rattle.mari_remain.specs.Lists.{bids_of_quarter, numbers_of_run, run_numbered}
 use Rattle.mari_remain.specs.RunMarket.{market_at, numbers_of}
 
--- what a published block of a run tells: the bids of the run's market behind these blocks, and an activation that is
+-- what a published block of a run states: the bids of the run's market after these blocks, and an activation that is
 -- feasible there
 pub record IsPastRun (books : Books) (blocks : List PastBlock) (run : ℕ) (past : PastRun) : Type 0 where
   pub bids : past.bids ≡ numbers_of books blocks run
   pub feasible : IsFeasible (market_at books blocks run) past.activation
 
--- a block of the next run behind these blocks
+-- a block of the next run after these blocks
 pub record IsNextBlock (books : Books) (blocks : List PastBlock) (b : PastBlock) : Type 0 where
   pub run : b.run ≡ length blocks + 1
   pub there : b.run ≤ length books.runs.runs
@@ -34,7 +34,7 @@ block_of books run bids a = record {
   published = Some (record { bids = bids; activation = a });
 }
 
--- the blocks are those of the first runs, in order: each is the next behind those before it
+-- the blocks are those of the first runs, in order: each is the next after those before it
 abbrev pub AreFirstBlocks : Books → List PastBlock → Type 0
 AreFirstBlocks books blocks = (k : ℕ) (b : PastBlock) → slice_get blocks k ≡ Some b → IsNextBlock books (take k blocks) b
 
@@ -88,7 +88,7 @@ taken_in books kept quarter = record {
   flow = λ k. kept_flow kept quarter k;
 }
 
--- what is kept behind one more published block: its MW and marks are added, its quarter is the last, and its flows are
+-- what is kept after one more published block: its MW and marks are added, its quarter is the last, and its flows are
 -- added to those of its quarter
 pub record IsKeptAfter (b : PastBlock) (kept after : Tally) : Type 0 where
   pub mws : length after.mw ≡ length kept.mw

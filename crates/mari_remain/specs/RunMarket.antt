@@ -1,4 +1,4 @@
--- The market of a run, behind the blocks that were made before it on the same day.
+-- The market of a run, after the blocks that were made before it on the same day.
 use Rattle.std.specs.Prelude.{ℕ, ◌-◌, ◌==◌, ℤ, pos, negsuc, neg_ℤ, ◌+ℤ◌, ◌-ℤ◌, int_lt, unsigned_abs, List, ◌++◌, Option, Some, None, if◌then◌else◌, filter, length, map, position, slice_index_or, unwrap_or}
 use Rattle.std.specs.List.{range_with_len}
 use Rattle.std.specs.Option.{option_and_then}
@@ -137,7 +137,7 @@ module _ (books : Books) (blocks : List PastBlock) (run : ℕ) where
   abbrev pub taken_before : Taken
   taken_before = taken_by blocks (run_numbered books run).quarter
 
-  -- the market of the run, counted from 1, behind these blocks
+  -- the market of the run, counted from 1, after these blocks
   abbrev pub market_at : Market
   market_at = market_left books taken_before run
 

@@ -30,17 +30,17 @@ use Rattle.mari_rows.proofs.PlaceLemmas.{all-among}
 -- what one more line without a fault keeps, holds of all lines where none has a fault
 module _ {X F : Type 0} (fault_of : List X → X → Option F) (P : List X → Type 0)
     (step : (before : List X) (item : X) → fault_of before item ≡ None → P before → P (before ++ item ∷ [])) where
-  from-behind : (before xs : List X) → P before
-      → ((b behind : List X) (item : X) → xs ≡ b ++ item ∷ behind → fault_of (before ++ b) item ≡ None) → P (before ++ xs)
-  from-behind before [] holds none = rw (append-nil before) holds
-  from-behind before (x ∷ xs) holds none =
+  from-after : (before xs : List X) → P before
+      → ((b after : List X) (item : X) → xs ≡ b ++ item ∷ after → fault_of (before ++ b) item ≡ None) → P (before ++ xs)
+  from-after before [] holds none = rw (append-nil before) holds
+  from-after before (x ∷ xs) holds none =
       let here = rw (append-nil before) at (none [] xs x refl) in
-      let more = from-behind (before ++ x ∷ []) xs (step before x here holds)
-      (λ b behind item whole. rw (append_assoc before (x ∷ []) b) (none (x ∷ b) behind item (ap (λ l. x ∷ l) whole))) in
+      let more = from-after (before ++ x ∷ []) xs (step before x here holds)
+      (λ b after item whole. rw (append_assoc before (x ∷ []) b) (none (x ∷ b) after item (ap (λ l. x ∷ l) whole))) in
       rw (append_assoc before (x ∷ []) xs) at more
 
   pub along : (xs : List X) → P [] → HasNoFault fault_of xs → P xs
-  along xs start none = from-behind [] xs start none
+  along xs start none = from-after [] xs start none
 
 -- a line that is not refused has no check that fails
 pub no-failing : (line : ℕ) (failing : Option ℕ) → option_map (λ number. refused.At line number) failing ≡ None → failing ≡ None

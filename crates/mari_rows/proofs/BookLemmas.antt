@@ -3,7 +3,7 @@ use Rattle.std.proofs.Common.{◌≡◌, ◌∙◌, ℕ, Bool, true, false, if�
 use Rattle.mari_rows.specs.Books.{Checks, Grammar, book_in, book_of_read, book_of_rows, first_failing, line_refusal}
 use Rattle.std.specs.Prelude.{option_map}
 use Rattle.std.specs.Option.{option_or}
-use Rattle.mari_rows.specs.First.{HasNoFault, first_fault, first_fault_behind, unless_fault}
+use Rattle.mari_rows.specs.First.{HasNoFault, first_fault, first_fault_after, unless_fault}
 use Rattle.mari_rows.proofs.FirstMeaning.{none-means}
 use Rattle.mari_rows.specs.Rows.{rows_in}
 use Rattle.mari_rows.specs.declared.faults.BookFault.{BookFault}
@@ -15,7 +15,7 @@ use Rattle.mari_rows.proofs.FirstLemmas.{first_fault-go}
 module _ {Book : Type 0} (g : Grammar Book) where
   -- these earlier lines of all are not refused, and these are left
   pub record IsReadTo (earlier lines all : List Row) : Type 0 where
-    pub refusal : first_fault_behind (line_refusal g) earlier lines ≡ first_fault (line_refusal g) all
+    pub refusal : first_fault_after (line_refusal g) earlier lines ≡ first_fault (line_refusal g) all
     pub whole : earlier ++ lines ≡ all
 
   -- the lines of a book: none of them is refused, nor all together, and the book is what they say
@@ -53,11 +53,11 @@ module _ {Book : Type 0} (g : Grammar Book) where
 
   -- one more row that passes its checks
   pub row-passes : (earlier rows : List Row) (row : Row) → first_failing (g.line_checks earlier row) ≡ None
-      → first_fault_behind (line_refusal g) (earlier ++ row ∷ []) rows ≡ None → first_fault_behind (line_refusal g) earlier (row ∷ rows) ≡ None
+      → first_fault_after (line_refusal g) (earlier ++ row ∷ []) rows ≡ None → first_fault_after (line_refusal g) earlier (row ∷ rows) ≡ None
   row-passes earlier rows row none more =
       sym (first_fault-go (line_refusal g) earlier (row ∷ rows) rows row refl (ap (option_map (λ number. refused.At row.line number)) none)) ∙ more
 
--- checks and further ones behind them
+-- checks and further ones after them
 module _ (further : Checks) where
   pub first_failing-append : (checks : Checks) → first_failing (checks ++ further) ≡ option_or (first_failing checks) (first_failing further)
   first_failing-append [] = refl
@@ -68,7 +68,7 @@ module _ (further : Checks) where
       by true more = refl
       by false more = more
 
--- checks of which none fails: the first, and those behind it
+-- checks of which none fails: the first, and those after it
 pub passed : (check : Bool × ℕ) (checks : Checks) → first_failing (check ∷ checks) ≡ None → (check.0 ≡ false) × (first_failing checks ≡ None)
 passed check checks none = by check.0 refl none
   where

@@ -26,7 +26,7 @@ module _ {X Y : Type 0} (f : X → Y) (test : Y → Bool) where
 pub bytes_eq-same : (name : List ℕ) → bytes_eq name name ≡ true
 bytes_eq-same name = (bytes_eq-Decides name name).1 refl
 
--- where two names differ, the test tells
+-- where two names differ, the test states
 names-differ : (a b : List ℕ) → a ≢ b → bytes_eq a b ≡ false
 names-differ a b apart = by (bytes_eq a b) refl
   where
@@ -53,7 +53,7 @@ position_or_len-none test (x ∷ xs) none = by (test x) refl none (position_or_l
     by true e n more = cc (rw e at n)
     by false e n more = rw (e, more (rw e at n)) (grind arith)
 
--- the first item that passes, behind others that do not
+-- the first item that passes, after others that do not
 first-position : {X : Type 0} (test : X → Bool) (xs ys : List X) (y : X) → list_any test xs ≡ false → test y ≡ true → position_or_len test (xs ++ y ∷ ys) ≡ length xs
 first-position test [] ys y none here = rw here refl
 first-position test (x ∷ xs) ys y none here = by (test x) refl none (first-position test xs ys y)
@@ -63,8 +63,8 @@ first-position test (x ∷ xs) ys y none here = by (test x) refl none (first-pos
     by true e n more = cc n
     by false e n more = rw (e, more n here) (omega arith)
 
-pub position-behind : {X : Type 0} (test : X → Bool) (xs ys : List X) (y : X) → list_any test xs ≡ false → test y ≡ true → position test (xs ++ y ∷ ys) ≡ Some (length xs)
-position-behind test xs ys y none here =
+pub position-after : {X : Type 0} (test : X → Bool) (xs ys : List X) (y : X) → list_any test xs ≡ false → test y ≡ true → position test (xs ++ y ∷ ys) ≡ Some (length xs)
+position-after test xs ys y none here =
     let within : length xs < length (xs ++ y ∷ ys) = grind (arith, length-append) in
     rw (first-position test xs ys y none here, lt-ltb (length xs) (length (xs ++ y ∷ ys)) within) refl
 

@@ -16,7 +16,7 @@ use Rattle.csv.specs.declared.parser.State.TheVariants as st
 use Rattle.csv.proofs.RoundTrip.{read-write-many}
 use Rattle.mari_units.specs.Names.{is_name, is_name_byte}
 use Rattle.mari_units.proofs.Digits.{own}
-use Rattle.mari_rows.specs.First.{first_fault_behind}
+use Rattle.mari_rows.specs.First.{first_fault_after}
 use Rattle.mari_rows.specs.Printed.{line_of, page_text}
 use Rattle.mari_rows.specs.Records.{records_in}
 use Rattle.mari_rows.specs.Rows.{columns_of, fault_of_row, is_header, rows_from, rows_in}
@@ -107,7 +107,7 @@ module _ (width : ℕ) (wide : 2 ≤ width) where
 
   -- rows of as many fields as are wanted, each text, have no fault
   no-fault : (earlier : List Row) (line : ℕ) (records : List (List (List ℕ))) → list_all (is_plain_record width) records ≡ true
-      → first_fault_behind (λ earlier row. fault_of_row width row) earlier (rows_from line records) ≡ None
+      → first_fault_after (λ earlier row. fault_of_row width row) earlier (rows_from line records) ≡ None
   no-fault earlier line [] e = refl
   no-fault earlier line (fields ∷ records) e =
       let parts = and_parts (is_plain_record width fields) (list_all (is_plain_record width) records) e in
@@ -138,7 +138,7 @@ module _ (columns : List ℕ) (width : ℕ) (are : AreColumns columns width) (re
       (all-lines width are.wide (columns_of columns ∷ records) (length (flat_map line_of (columns_of columns ∷ records)) + 1)
       (rw (are.plain, plain) refl) (omega arith))
 
-  -- its rows are those that were printed, behind the header
+  -- its rows are those that were printed, after the header
   pub page-rows : rows_in columns (page_text columns records) ≡ Ok (rows_from 2 records)
   page-rows =
       rw (records-read, itself (columns_of columns), (same-width width (columns_of columns) are.plain).0, no-fault width are.wide [] 2 records plain) refl
@@ -177,7 +177,7 @@ name-plain name e =
 pub plain-joined : (xs ys : List ℕ) → is_plain_field xs ≡ true → is_plain_field ys ≡ true → is_plain_field (xs ++ ys) ≡ true
 plain-joined xs ys x y = list_all-append is_plain xs ys ∙ rw (x, y) refl
 
--- the bytes of a line: each field with the byte behind it
+-- the bytes of a line: each field with the byte after it
 abbrev pub bytes_of : List (List ℕ) → ℕ
 bytes_of [] = 0
 bytes_of (field ∷ fields) = length field + 1 + bytes_of fields

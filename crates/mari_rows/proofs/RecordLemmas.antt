@@ -2,7 +2,7 @@
 use Rattle.std.proofs.Common.{◌≡◌, ◌≤◌, ◌<◌, ◌-◌, ◌+◌, ◌∙◌, ℕ, zero, suc, Bool, true, false, List, [], ◌∷◌, ◌++◌, Option, Some, None, length, refl, sym, ap, arith, if◌then◌else◌, ◌==◌, ◌&&◌, add-one, inl, Bor, IsSome}
 use Rattle.csv.specs.Machine.{Read, after_end, ends_at_end, ends_with, field_after, fields_after, in_field, is_byte, is_end, next_record, start_field, start_record, step, carriage_return, line_feed}
 use Rattle.csv.specs.Reading.{NextIs, ReadRecord, ReadsNext, default_config, is_bom, pending_of, records_from, records_next, strip_bom}
-use Rattle.mari_rows.specs.Records.{IsBetweenRecords, ReadsRecord, bytes_left, records_behind, records_in}
+use Rattle.mari_rows.specs.Records.{IsBetweenRecords, ReadsRecord, bytes_left, records_after, records_in}
 use Rattle.csv.specs.declared.reader.Reader.{Reader}
 use Rattle.csv.specs.declared.parser.Action.{Action}
 use Rattle.csv.specs.declared.parser.Config.{Config}
@@ -94,41 +94,41 @@ records_from-fuel cfg (suc n) (suc m) s (c ∷ xs) closed low high = by (next_re
     by None h more = refl
     by (Some p) h more = ap (λ rest. p.0 ∷ rest) (more p.1 p.2 h.0 (omega (arith, h.1, low)) (omega (arith, h.1, high)))
 
--- one record, and those behind it
-records_behind-more : (s : State) (xs : List ℕ) (p : Read) → ends_at_end s ≡ false → next_record default_config s [] [] xs ≡ Some p
-    → (records_behind s (Some xs) ≡ p.0 ∷ records_behind p.1 (Some p.2)) × (ends_at_end p.1 ≡ false)
+-- one record, and those after it
+records_after-more : (s : State) (xs : List ℕ) (p : Read) → ends_at_end s ≡ false → next_record default_config s [] [] xs ≡ Some p
+    → (records_after s (Some xs) ≡ p.0 ∷ records_after p.1 (Some p.2)) × (ends_at_end p.1 ≡ false)
 unfolding records_from
-records_behind-more s [] p closed next = cc (sym next ∙ nothing default_config s closed)
-records_behind-more s (c ∷ xs) p closed next =
+records_after-more s [] p closed next = cc (sym next ∙ nothing default_config s closed)
+records_after-more s (c ∷ xs) p closed next =
     let left : Leaves (c ∷ xs) (Some p) = rw next at (leaves default_config s [] [] (c ∷ xs)) in
     let fuel = records_from-fuel default_config (length (c ∷ xs)) (length p.2 + 1) p.1 p.2 left.0 (omega (arith, left.1)) (omega arith) in
     (rw (add-one, next) (ap (λ rest. p.0 ∷ rest) fuel), left.0)
 
-records_behind-none : (s : State) (xs : List ℕ) → next_record default_config s [] [] xs ≡ None → records_behind s (Some xs) ≡ []
+records_after-none : (s : State) (xs : List ℕ) → next_record default_config s [] [] xs ≡ None → records_after s (Some xs) ≡ []
 unfolding records_from
-records_behind-none s xs next = rw (add-one, next) refl
+records_after-none s xs next = rw (add-one, next) refl
 
 -- what a read says of the records, where the bytes before it are known
 read-more : (s s2 : State) (xs : List ℕ) (after : Option (List ℕ)) (fields : List (List ℕ)) → ends_at_end s ≡ false
     → ReadsNext default_config s (Some xs) after true fields s2
-    → (records_behind s (Some xs) ≡ fields ∷ records_behind s2 after) × IsSome after × (ends_at_end s2 ≡ false)
+    → (records_after s (Some xs) ≡ fields ∷ records_after s2 after) × IsSome after × (ends_at_end s2 ≡ false)
 read-more s s2 xs None fields closed reads = absurd reads
 read-more s s2 xs (Some ys) fields closed reads = by (next_record default_config s [] [] xs) refl reads
   where
     by : (o : Option Read) → next_record default_config s [] [] xs ≡ o → NextIs o true fields s2 ys
-        → (records_behind s (Some xs) ≡ fields ∷ records_behind s2 (Some ys)) × IsSome (Some ys) × (ends_at_end s2 ≡ false)
+        → (records_after s (Some xs) ≡ fields ∷ records_after s2 (Some ys)) × IsSome (Some ys) × (ends_at_end s2 ≡ false)
     by None next is = cc is
     by (Some p) next is =
-        let more = records_behind-more s xs p closed next in
+        let more = records_after-more s xs p closed next in
         (rw (is.1, is.2, is.3) more.0, refl, rw is.2 more.1)
 
 read-none : (s s2 : State) (xs : List ℕ) (after : Option (List ℕ)) (fields : List (List ℕ))
-    → ReadsNext default_config s (Some xs) after false fields s2 → records_behind s (Some xs) ≡ []
+    → ReadsNext default_config s (Some xs) after false fields s2 → records_after s (Some xs) ≡ []
 read-none s s2 xs None fields reads = absurd reads
 read-none s s2 xs (Some ys) fields reads = by (next_record default_config s [] [] xs) refl reads
   where
-    by : (o : Option Read) → next_record default_config s [] [] xs ≡ o → NextIs o false fields s2 ys → records_behind s (Some xs) ≡ []
-    by None next is = records_behind-none s xs next
+    by : (o : Option Read) → next_record default_config s [] [] xs ≡ o → NextIs o false fields s2 ys → records_after s (Some xs) ≡ []
+    by None next is = records_after-none s xs next
     by (Some p) next is = cc is.0
 
 -- a reader that has looked for a mark

@@ -9,9 +9,9 @@ use Rattle.std.proofs.lemmas.List.Elements.{All-cons, All-nil}
 use Rattle.std.proofs.lemmas.List.Folds.{list_all-append}
 use Rattle.std.proofs.lemmas.Str.{IsUtf8-from_is_utf8, is_utf8-from_IsUtf8}
 use Rattle.csv.specs.Records.{field_at}
-use Rattle.mari_rows.specs.First.{first_fault_behind}
+use Rattle.mari_rows.specs.First.{first_fault_after}
 use Rattle.mari_rows.specs.Records.{records_in}
-use Rattle.mari_rows.specs.Rows.{columns_of, fault_of_row, first_row_fault, is_header, rows_behind_header, rows_checked, rows_from, rows_in, rows_of_width, IsFaultOf}
+use Rattle.mari_rows.specs.Rows.{columns_of, fault_of_row, first_row_fault, is_header, rows_after_header, rows_checked, rows_from, rows_in, rows_of_width, IsFaultOf}
 use Rattle.mari_rows.proofs.RecordLemmas.{length-records_in}
 use Rattle.mari_rows.specs.declared.faults.RowFault.{RowFault}
 use Rattle.mari_rows.specs.declared.faults.RowFault.TheVariants.{BadHeader, BadRow, NotUtf8, Memory}
@@ -47,22 +47,22 @@ pub not_text : (fields : List (List ℕ)) (i : ℕ) (x : List ℕ) → field_at 
 unfolding field_at
 not_text [] i x at bad = cc at
 not_text (f ∷ fs) zero x at bad = let same : f ≡ x = cc at in rw (same, bad) refl
-not_text (f ∷ fs) (suc i) x at bad = behind (is_utf8 f) (not_text fs i x (grind (arith, at)) bad)
+not_text (f ∷ fs) (suc i) x at bad = after (is_utf8 f) (not_text fs i x (grind (arith, at)) bad)
   where
-    behind : (b : Bool) → false ≡ list_all is_utf8 fs → false ≡ (b && list_all is_utf8 fs)
-    behind true h = h
-    behind false h = refl
+    after : (b : Bool) → false ≡ list_all is_utf8 fs → false ≡ (b && list_all is_utf8 fs)
+    after true h = h
+    after false h = refl
 
 -- where the lengths differ it is no header
 pub no_header : (columns fields : List (List ℕ)) → (length fields ≡ length columns → ⊥) → false ≡ is_header columns fields
 no_header [] [] differ = absurd (differ refl)
 no_header [] (f ∷ fs) differ = refl
 no_header (c ∷ cs) [] differ = refl
-no_header (c ∷ cs) (f ∷ fs) differ = behind (bytes_eq f c) (no_header cs fs (λ e. differ (omega (arith, e))))
+no_header (c ∷ cs) (f ∷ fs) differ = after (bytes_eq f c) (no_header cs fs (λ e. differ (omega (arith, e))))
   where
-    behind : (b : Bool) → false ≡ is_header cs fs → false ≡ (b && is_header cs fs)
-    behind true h = h
-    behind false h = refl
+    after : (b : Bool) → false ≡ is_header cs fs → false ≡ (b && is_header cs fs)
+    after true h = h
+    after false h = refl
 
 -- a fault of the header is one of the rows
 pub fault-checked : (width : ℕ) (read : Result (List Row) RowFault) (fault : RowFault) → IsFaultOf read fault → IsFaultOf (rows_checked width read) fault
@@ -86,28 +86,28 @@ width-of width row none = by (length row.fields == width) refl none
     by true e none = eqb-true (length row.fields) width e
     by false e none = cc none
 
-widths-behind : (width : ℕ) (earlier rows : List Row) → first_fault_behind (λ earlier row. fault_of_row width row) earlier rows ≡ None
+widths-after : (width : ℕ) (earlier rows : List Row) → first_fault_after (λ earlier row. fault_of_row width row) earlier rows ≡ None
     → All (λ row. length row.fields ≡ width) rows
-widths-behind width earlier [] none = All-nil (λ row. length row.fields ≡ width)
-widths-behind width earlier (row ∷ rows) none = by (fault_of_row width row) refl none (widths-behind width (earlier ++ row ∷ []) rows)
+widths-after width earlier [] none = All-nil (λ row. length row.fields ≡ width)
+widths-after width earlier (row ∷ rows) none = by (fault_of_row width row) refl none (widths-after width (earlier ++ row ∷ []) rows)
   where
     by : (o : Option RowFault) → fault_of_row width row ≡ o
-        → option_or o (first_fault_behind (λ earlier row. fault_of_row width row) (earlier ++ row ∷ []) rows) ≡ None
-        → (first_fault_behind (λ earlier row. fault_of_row width row) (earlier ++ row ∷ []) rows ≡ None → All (λ row. length row.fields ≡ width) rows)
+        → option_or o (first_fault_after (λ earlier row. fault_of_row width row) (earlier ++ row ∷ []) rows) ≡ None
+        → (first_fault_after (λ earlier row. fault_of_row width row) (earlier ++ row ∷ []) rows ≡ None → All (λ row. length row.fields ≡ width) rows)
         → All (λ row. length row.fields ≡ width) (row ∷ rows)
     by None e h more = All-cons (λ row. length row.fields ≡ width) row rows (width-of width row e) (more h)
     by (Some fault) e h more = cc h
 
 -- rows that were read have as many fields as there are columns
 pub widths : (columns page : List ℕ) (rows : List Row) → rows_in columns page ≡ Ok rows → All (λ row. length row.fields ≡ length (columns_of columns)) rows
-widths columns page rows read = by (rows_behind_header (columns_of columns) (records_in page)) read
+widths columns page rows read = by (rows_after_header (columns_of columns) (records_in page)) read
   where
     by : (r : Result (List Row) RowFault) → rows_checked (length (columns_of columns)) r ≡ Ok rows
         → All (λ row. length row.fields ≡ length (columns_of columns)) rows
     by (Err fault) e = cc e
     by (Ok all) e =
         let good = value-no-fault (first_row_fault (length (columns_of columns)) all) all rows (sym e) in
-        rw good.1 (widths-behind (length (columns_of columns)) [] all good.0)
+        rw good.1 (widths-after (length (columns_of columns)) [] all good.0)
 
 -- a row of each record
 pub length-rows_from : (line : ℕ) (records : List (List (List ℕ))) → length (rows_from line records) ≡ length records
@@ -122,7 +122,7 @@ length-rows_in columns page rows read = by (records_in page) (length-records_in 
     checked all e = (value-no-fault (first_row_fault (length (columns_of columns)) all) all rows (sym e)).1
 
     by : (records : List (List (List ℕ))) → length records ≤ length page + 1
-        → rows_checked (length (columns_of columns)) (rows_behind_header (columns_of columns) records) ≡ Ok rows → length rows ≤ length page
+        → rows_checked (length (columns_of columns)) (rows_after_header (columns_of columns) records) ≡ Ok rows → length rows ≤ length page
     by [] few e = cc e
     by (header ∷ records) few e = headed (is_header (columns_of columns) header) e
       where

@@ -47,21 +47,21 @@ step-comma st.InComment c = choose c (c == 10) _ _ (λ _ e. cc e) (λ e. cc e)
 step-comma st.AfterCr c = choose c (c == 10) _ _ (λ _ e. cc e) (record-comma c)
 
 module _ (most : ℕ) where
-  -- the line of a record that ends, where it is wide, and else what comes behind it
+  -- the line of a record that ends, where it is wide, and else what comes after it
   abbrev pub at_end : (line commas : ℕ) → Option ℕ → Option ℕ
-  at_end line commas behind = if nat_le most commas then Some line else behind
+  at_end line commas after = if nat_le most commas then Some line else after
 
-  -- the line of the first wide record, behind what a byte ends
-  abbrev pub behind_byte : Ended → (line commas : ℕ) → (ℕ → ℕ → Option ℕ) → Option ℕ
-  behind_byte ended.Nothing line commas more = more line commas
-  behind_byte ended.Field line commas more = more line (commas + 1)
-  behind_byte ended.Record line commas more = at_end line commas (more (line + 1) 0)
+  -- the line of the first wide record, after what a byte ends
+  abbrev pub after_byte : Ended → (line commas : ℕ) → (ℕ → ℕ → Option ℕ) → Option ℕ
+  after_byte ended.Nothing line commas more = more line commas
+  after_byte ended.Field line commas more = more line (commas + 1)
+  after_byte ended.Record line commas more = at_end line commas (more (line + 1) 0)
 
   -- and from a state on, where so many fields of the record at hand are ended
   abbrev pub first_from : State → (line commas : ℕ) → List ℕ → Option ℕ
   first_from s line commas [] = if ends_at_end s then at_end line commas None else None
   first_from s line commas (c ∷ rest) =
-      behind_byte (ended_by (step default_config s c).1) line commas (λ line commas. first_from (step default_config s c).0 line commas rest)
+      after_byte (ended_by (step default_config s c).1) line commas (λ line commas. first_from (step default_config s c).0 line commas rest)
 
   wider : (n : ℕ) → nat_lt most (n + 1) ≡ nat_le most n
   wider n = grind (arith, nat_tests)
@@ -95,7 +95,7 @@ module _ (most : ℕ) where
           ≡ first_wide most (rows_from line (records_next (records_from default_config (suc n)) (next_record default_config t fields field rest))))
           → ((t : State) → first_from t (line + 1) 0 rest
           ≡ first_wide most (rows_from (line + 1) (records_next (records_from default_config n) (next_record default_config t [] [] rest))))
-          → behind_byte (ended_by a) line (length fields) (λ line commas. first_from t line commas rest)
+          → after_byte (ended_by a) line (length fields) (λ line commas. first_from t line commas rest)
           ≡ first_wide most (rows_from line (records_next (records_from default_config (suc n)) (if is_end a then Some (fields_after a fields field, t, rest)
           else next_record default_config t (fields_after a fields field) (field_after a c field) rest)))
       by t act.Skip same next = same t fields field
@@ -127,7 +127,7 @@ module _ (most : ℕ) where
 
       by : (t : State) (a : Action) → (a ≡ act.EndField → (c == 44) ≡ true)
           → ((t : State) (line commas : ℕ) → commas + count_by (λ b. b == 44) rest < most → first_from t line commas rest ≡ None)
-          → behind_byte (ended_by a) line commas (λ line commas. first_from t line commas rest) ≡ None
+          → after_byte (ended_by a) line commas (λ line commas. first_from t line commas rest) ≡ None
       by t act.Skip comma fewer = fewer t line commas (omega (arith, counted, short))
       by t act.Copy comma fewer = fewer t line commas (omega (arith, counted, short))
       by t act.EndField comma fewer = fewer t line (commas + 1) (omega (arith, counted, one (comma refl), short))
@@ -144,15 +144,15 @@ module _ (most : ℕ) where
 
   pub first_from-more : (text : List ℕ) (i : ℕ) (s t : State) (e : Ended) (line commas : ℕ) → i < length text
       → t ≡ (step default_config s (get_or text i 0)).0 → e ≡ ended_by (step default_config s (get_or text i 0)).1
-      → behind_byte e line commas (λ line commas. first_from t line commas (drop (i + 1) text)) ≡ first_from s line commas (drop i text)
+      → after_byte e line commas (λ line commas. first_from t line commas (drop (i + 1) text)) ≡ first_from s line commas (drop i text)
   first_from-more text i s t e line commas there to ends = rw (to, ends) (sym (at_drop_more (first_from s line commas) text i 0 there))
 
   -- a wide record ends here, and another one
-  pub at_end-wide : (line commas : ℕ) (behind : Option ℕ) → most ≤ commas → at_end line commas behind ≡ Some line
-  at_end-wide line commas behind wide = rw (le-leb most commas (omega (arith, wide))) refl
+  pub at_end-wide : (line commas : ℕ) (after : Option ℕ) → most ≤ commas → at_end line commas after ≡ Some line
+  at_end-wide line commas after wide = rw (le-leb most commas (omega (arith, wide))) refl
 
-  pub at_end-narrow : (line commas : ℕ) (behind : Option ℕ) → commas < most → at_end line commas behind ≡ behind
-  at_end-narrow line commas behind narrow = rw (lt-leb most commas (omega (arith, narrow))) refl
+  pub at_end-narrow : (line commas : ℕ) (after : Option ℕ) → commas < most → at_end line commas after ≡ after
+  at_end-narrow line commas after narrow = rw (lt-leb most commas (omega (arith, narrow))) refl
 
   -- a record that the text's end ends
   pub at_end-last : (line commas : ℕ) → then_some (nat_le most commas) line ≡ at_end line commas None

@@ -5,16 +5,16 @@ use Rattle.std.specs.Cmp.Lexicographic.{as_long}
 use Rattle.std.specs.Option.{option_eq}
 use Rattle.std.specs.Str.{bytes_eq}
 use Rattle.std.proofs.lemmas.Bool.{eqb-true, le-ltb, ltb-true, ne_eqb}
-use Rattle.mari_rows.specs.First.{first_fault_behind}
+use Rattle.mari_rows.specs.First.{first_fault_after}
 use Rattle.mari_rows.specs.Headers.{is_headed}
-use Rattle.mari_rows.specs.Rows.{fault_of_row, is_header, rows_behind_header, rows_from}
+use Rattle.mari_rows.specs.Rows.{fault_of_row, is_header, rows_after_header, rows_from}
 use Rattle.mari_rows.specs.Widths.{first_wide}
 use Rattle.mari_rows.specs.declared.faults.RowFault.TheVariants.{BadHeader, BadRow}
 use Rattle.mari_rows.specs.declared.rows.Row.{Row}
 use Rattle.mari_rows.proofs.FirstLemmas.{first_fault-here}
 use Rattle.mari_rows.proofs.RowLemmas.{no_header, width-of}
 
--- what the test of a line tells
+-- what the test of a line states
 pub equal-some : (o : Option ℕ) (k : ℕ) → option_eq eqb o (Some k) ≡ true → o ≡ Some k
 equal-some None k e = cc e
 equal-some (Some j) k e = ap Some (eqb-true j k e)
@@ -42,7 +42,7 @@ wide-next most line (fields ∷ records) e = by (nat_lt most (length fields)) re
 
 -- a wide record is no header
 pub wide-header : (most : ℕ) (columns : List (List ℕ)) (records : List (List (List ℕ))) → length columns ≤ most → Some 1 ≡ first_wide most (rows_from 1 records)
-    → (rows_behind_header columns records ≡ Err BadHeader) × (is_headed columns records ≡ false)
+    → (rows_after_header columns records ≡ Err BadHeader) × (is_headed columns records ≡ false)
 wide-header most columns records few e =
     let next = wide-next most 1 records e in
     let other = no_header columns next.0 (λ same. absurd (omega (arith, same, few, next.3))) in
@@ -55,7 +55,7 @@ wide-fault width most line fields few wide = rw (ne_eqb (length fields) width (�
 
 -- the first wide row is the first faulty one, where none before it is
 pub wide-first : (width most line : ℕ) (earlier rows : List Row) (records : List (List (List ℕ))) → width ≤ most → rows ≡ rows_from line records
-    → Some line ≡ first_wide most rows → first_fault_behind (λ earlier row. fault_of_row width row) earlier rows ≡ Some (BadRow line)
+    → Some line ≡ first_wide most rows → first_fault_after (λ earlier row. fault_of_row width row) earlier rows ≡ Some (BadRow line)
 wide-first width most line earlier rows records few from e =
     let next = wide-next most line records (e ∙ ap (first_wide most) from) in
     first_fault-here (λ earlier row. fault_of_row width row) earlier rows (rows_from (line + 1) next.1) (record { line = line; fields = next.0 })
@@ -67,7 +67,7 @@ narrow-row width most row rows few none = rw (le-ltb most (length row.fields) (o
 
 -- and no header is
 pub narrow-header : (most : ℕ) (columns : List (List ℕ)) (records : List (List (List ℕ))) (rows : List Row) → length columns ≤ most
-    → rows_behind_header columns records ≡ Ok rows → first_wide most (rows_from 1 records) ≡ first_wide most rows
+    → rows_after_header columns records ≡ Ok rows → first_wide most (rows_from 1 records) ≡ first_wide most rows
 narrow-header most columns [] rows few read = cc read
 narrow-header most columns (header ∷ records) rows few read = by (is_header columns header) refl read
   where

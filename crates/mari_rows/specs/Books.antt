@@ -24,7 +24,7 @@ first_failing (check ∷ checks) = if check.0 then Some check.1 else first_faili
 pub record Grammar (Book : Type 0) : Type 0 where
   -- the names of its columns, with commas between
   pub columns : List ℕ
-  -- the checks of a line behind these lines
+  -- the checks of a line after these lines
   pub line_checks : List Row → Row → Checks
   -- the checks of all lines together
   pub file_checks : List Row → Checks
@@ -39,7 +39,7 @@ refusal_of (unread.NotUtf8 line) = refused.At line (row_check_number check.NotUt
 refusal_of unread.Memory = refused.Memory
 
 module _ {Book : Type 0} (g : Grammar Book) where
-  -- the refusal of a line by itself, behind these lines
+  -- the refusal of a line by itself, after these lines
   abbrev pub line_refusal : List Row → Row → Option BookFault
   line_refusal earlier row = option_map (λ number. refused.At row.line number) (first_failing (g.line_checks earlier row))
 

@@ -15,14 +15,14 @@ records_in page = records default_config (strip_bom page)
 abbrev pub bytes_left : Reader (Bor (List ℕ)) → Option (List ℕ)
 bytes_left reader = source_of (λ page. Some page.now) reader
 
--- the records of these bytes, behind others
-abbrev pub records_behind : State → Option (List ℕ) → List (List (List ℕ))
-records_behind state None = []
-records_behind state (Some bytes) = records_from default_config (length bytes + 1) state bytes
+-- the records of these bytes, after others
+abbrev pub records_after : State → Option (List ℕ) → List (List (List ℕ))
+records_after state None = []
+records_after state (Some bytes) = records_from default_config (length bytes + 1) state bytes
 
 -- the records that a reader of a page has left
 abbrev pub records_left : Reader (Bor (List ℕ)) → List (List (List ℕ))
-records_left reader = records_behind (reader_state reader) (bytes_left reader)
+records_left reader = records_after (reader_state reader) (bytes_left reader)
 
 -- a reader that takes records of any number of fields as they stand, and is between two records
 pub record IsBetweenRecords (reader : Reader (Bor (List ℕ))) : Type 0 where

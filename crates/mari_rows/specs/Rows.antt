@@ -35,28 +35,28 @@ field_of row place = unwrap_or (slice_get row.fields place) []
 abbrev pub is_header : List (List ℕ) → List (List ℕ) → Bool
 is_header columns fields = pointwise bytes_eq fields columns
 
--- what the test of a record tells, of this line and where so many fields are wanted
-abbrev pub TellsRecord : (width line : ℕ) → List (List ℕ) → TestedRecord → Type 0
-TellsRecord width line fields End = ⊥
-TellsRecord width line fields Fine = fault_of_row width (record { line = line; fields = fields }) ≡ None
-TellsRecord width line fields (Faulty fault) = fault_of_row width (record { line = line; fields = fields }) ≡ Some fault
+-- what the test of a record states, of this line and where so many fields are wanted
+abbrev pub StatesRecord : (width line : ℕ) → List (List ℕ) → TestedRecord → Type 0
+StatesRecord width line fields End = ⊥
+StatesRecord width line fields Fine = fault_of_row width (record { line = line; fields = fields }) ≡ None
+StatesRecord width line fields (Faulty fault) = fault_of_row width (record { line = line; fields = fields }) ≡ Some fault
 
--- what the test of the next record tells, of those that are left before and after it
-abbrev pub TellsNext : (width line : ℕ) → (old new : List (List (List ℕ))) → TestedRecord → Type 0
-TellsNext width line old new End = (old ≡ []) × (new ≡ [])
-TellsNext width line old new Fine = (fields : List (List ℕ)) × (old ≡ fields ∷ new) × TellsRecord width line fields Fine
-TellsNext width line old new (Faulty fault) = (fields : List (List ℕ)) × (old ≡ fields ∷ new) × TellsRecord width line fields (Faulty fault)
+-- what the test of the next record states, of those that are left before and after it
+abbrev pub StatesNext : (width line : ℕ) → (old new : List (List (List ℕ))) → TestedRecord → Type 0
+StatesNext width line old new End = (old ≡ []) × (new ≡ [])
+StatesNext width line old new Fine = (fields : List (List ℕ)) × (old ≡ fields ∷ new) × StatesRecord width line fields Fine
+StatesNext width line old new (Faulty fault) = (fields : List (List ℕ)) × (old ≡ fields ∷ new) × StatesRecord width line fields (Faulty fault)
 
 -- and of the rows that are left
-abbrev pub TellsRow : (width : ℕ) → (old new : List Row) → TestedRecord → Type 0
-TellsRow width old new End = (old ≡ []) × (new ≡ [])
-TellsRow width old new Fine = (row : Row) × (old ≡ row ∷ new) × (fault_of_row width row ≡ None)
-TellsRow width old new (Faulty fault) = (row : Row) × (old ≡ row ∷ new) × (fault_of_row width row ≡ Some fault)
+abbrev pub StatesRow : (width : ℕ) → (old new : List Row) → TestedRecord → Type 0
+StatesRow width old new End = (old ≡ []) × (new ≡ [])
+StatesRow width old new Fine = (row : Row) × (old ≡ row ∷ new) × (fault_of_row width row ≡ None)
+StatesRow width old new (Faulty fault) = (row : Row) × (old ≡ row ∷ new) × (fault_of_row width row ≡ Some fault)
 
 -- whether the next record is these columns, of the records that are left before and after it
-abbrev pub TellsHeader : (columns : List (List ℕ)) → (old new : List (List (List ℕ))) → Option Bool → Type 0
-TellsHeader columns old new None = (old ≡ []) × (new ≡ [])
-TellsHeader columns old new (Some found) = (fields : List (List ℕ)) × (old ≡ fields ∷ new) × (found ≡ is_header columns fields)
+abbrev pub StatesHeader : (columns : List (List ℕ)) → (old new : List (List (List ℕ))) → Option Bool → Type 0
+StatesHeader columns old new None = (old ≡ []) × (new ≡ [])
+StatesHeader columns old new (Some found) = (fields : List (List ℕ)) × (old ≡ fields ∷ new) × (found ≡ is_header columns fields)
 
 -- the first row with a fault by itself
 abbrev pub first_row_fault : ℕ → List Row → Option RowFault
@@ -66,10 +66,10 @@ first_row_fault width rows = first_fault (λ earlier row. fault_of_row width row
 abbrev pub rows_of_width : ℕ → List Row → Result (List Row) RowFault
 rows_of_width width rows = unless_fault (first_row_fault width rows) rows
 
--- the rows behind the header
-abbrev pub rows_behind_header : List (List ℕ) → List (List (List ℕ)) → Result (List Row) RowFault
-rows_behind_header columns [] = Err BadHeader
-rows_behind_header columns (header ∷ records) = if is_header columns header then Ok (rows_from 2 records) else Err BadHeader
+-- the rows after the header
+abbrev pub rows_after_header : List (List ℕ) → List (List (List ℕ)) → Result (List Row) RowFault
+rows_after_header columns [] = Err BadHeader
+rows_after_header columns (header ∷ records) = if is_header columns header then Ok (rows_from 2 records) else Err BadHeader
 
 abbrev pub rows_checked : ℕ → Result (List Row) RowFault → Result (List Row) RowFault
 rows_checked width (Ok rows) = rows_of_width width rows
@@ -77,7 +77,7 @@ rows_checked width (Err fault) = Err fault
 
 -- the rows of a page with these columns, or the first fault
 abbrev pub rows_in : List ℕ → List ℕ → Result (List Row) RowFault
-rows_in columns page = rows_checked (length (columns_of columns)) (rows_behind_header (columns_of columns) (records_in page))
+rows_in columns page = rows_checked (length (columns_of columns)) (rows_after_header (columns_of columns) (records_in page))
 
 -- this fault is there, or memory was wanted
 abbrev pub IsFaultOf : Result (List Row) RowFault → RowFault → Type 0

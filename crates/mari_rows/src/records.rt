@@ -5,7 +5,7 @@ ghost use Rattle.std.specs.Str.{is_utf8 as is_utf8_of};
 ghost use Rattle.csv.specs.Reading.{error_kind, NotLengths};
 ghost use Rattle.csv.specs.Records.{fields_of};
 ghost use Rattle.mari_rows.specs.Records.{records_in, IsBetweenRecords, ReadsRecord};
-ghost use Rattle.mari_rows.specs.Rows.{fault_of_row, is_header as is_header_of, TellsHeader, TellsNext, TellsRecord};
+ghost use Rattle.mari_rows.specs.Rows.{fault_of_row, is_header as is_header_of, StatesHeader, StatesNext, StatesRecord};
 
 use crate::faults::RowFault;
 use crate::field::Field;
@@ -77,7 +77,7 @@ fn all_text(row: &ByteRecord) -> bool
 
 /// What is wrong with a record of this line by itself, where `width` fields are wanted. No field is copied.
 fn test(row: &ByteRecord, line: u32, width: usize) -> TestedRecord
-    ensures { TellsRecord width line (fields_of row.now) result }
+    ensures { StatesRecord width line (fields_of row.now) result }
 {
     if row.len() != width {
         TestedRecord::Faulty(RowFault::BadRow(line))
@@ -189,7 +189,7 @@ impl<'a> Records<'a> {
         alloc: Global,
         columns: &[&[u8]],
     ) -> Result<Option<bool>, Memory>
-        ensures next { IfOk result (TellsHeader (map (λ c. c.now) columns.now) self.old self.new) }
+        ensures next { IfOk result (StatesHeader (map (λ c. c.now) columns.now) self.old self.new) }
         ensures err { OnErr result (self.new ≡ []) }
     {
         if self.has_ended {
@@ -206,7 +206,7 @@ impl<'a> Records<'a> {
 
     /// Tests the next record, of this line, where `width` fields are wanted. After `Memory` there are no more.
     pub(crate) fn test_next(&mut self, line: u32, width: usize) -> Result<TestedRecord, Memory>
-        ensures tested { IfOk result (TellsNext width line self.old self.new) }
+        ensures tested { IfOk result (StatesNext width line self.old self.new) }
         ensures err { OnErr result (self.new ≡ []) }
     {
         if self.has_ended {

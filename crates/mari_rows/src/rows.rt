@@ -2,7 +2,7 @@
 ghost use Rattle.std.specs.Prelude.{◌≡◌, ◌≤◌, ◌<◌, ◌∷◌, [], ◌^◌, ℕ, All, List, length, map, IfOk, IfErr, OnErr, MatchOption};
 ghost use Rattle.mari_rows.specs.Headers.{has_header as has_header_in};
 ghost use Rattle.mari_rows.specs.Records.{records_in};
-ghost use Rattle.mari_rows.specs.Rows.{columns_of as columns_in, field_of, first_row_fault, rows_behind_header as rows_behind_header_in, rows_from, rows_in, IsFaultOf, TellsRow};
+ghost use Rattle.mari_rows.specs.Rows.{columns_of as columns_in, field_of, first_row_fault, rows_after_header as rows_after_header_in, rows_from, rows_in, IsFaultOf, StatesRow};
 ghost use Rattle.mari_rows.specs.Widths.{first_wide};
 
 use crate::faults::RowFault;
@@ -90,7 +90,7 @@ impl<'a> RowReader<'a> {
 
     /// Tests the next row, where `width` fields are wanted.
     fn test_next(&mut self, width: usize) -> Result<TestedRecord, Memory>
-        ensures tested { IfOk result (TellsRow width self.old self.new) }
+        ensures tested { IfOk result (StatesRow width self.old self.new) }
         ensures err { OnErr result (self.new ≡ []) }
     {
         let tested = self.records.test_next(self.line, width)?;
@@ -125,14 +125,14 @@ pub fn has_header(alloc: Global, page: &[u8], columns: &str) -> Result<bool, Mem
 }
 
 /// The rows of a page whose header is these columns.
-fn rows_behind_header<'a>(
+fn rows_after_header<'a>(
     alloc: Global,
     page: &'a [u8],
     columns: &[&[u8]],
 ) -> Result<RowReader<'a>, RowFault>
     requires { length page.now ≤ MOST_PAGE }
-    ensures rows { IfOk result (λ rows. rows_behind_header_in (map (λ c. c.now) columns.now) (records_in page.now) ≡ Ok rows) }
-    ensures fault { IfErr result (IsFaultOf (rows_behind_header_in (map (λ c. c.now) columns.now) (records_in page.now))) }
+    ensures rows { IfOk result (λ rows. rows_after_header_in (map (λ c. c.now) columns.now) (records_in page.now) ≡ Ok rows) }
+    ensures fault { IfErr result (IsFaultOf (rows_after_header_in (map (λ c. c.now) columns.now) (records_in page.now))) }
 {
     let mut records = Records::of(alloc, page)?;
     match records.next_is(alloc, columns)? {
@@ -182,10 +182,10 @@ pub fn read_rows<'a>(
     if wide == Some(1) {
         return Err(RowFault::BadHeader);
     }
-    let mut rows = rows_behind_header(alloc, page, columns.as_slice())?;
+    let mut rows = rows_after_header(alloc, page, columns.as_slice())?;
     match first_fault_of(&mut rows, width, wide)? {
         Some(fault) => Err(fault),
-        None => rows_behind_header(alloc, page, columns.as_slice()),
+        None => rows_after_header(alloc, page, columns.as_slice()),
     }
 }
 

@@ -32,7 +32,7 @@ enum Ended {
 
 impl Place {
     /// The place after a byte that may end the field, and what it ends.
-    fn behind_unquoted(byte: u8) -> (Place, Ended)
+    fn after_unquoted(byte: u8) -> (Place, Ended)
         ensures place { state_of result.0 ≡ (in_field_of default_config byte).0 }
         ensures ended { result.1 ≡ ended_by (in_field_of default_config byte).1 }
     {
@@ -45,7 +45,7 @@ impl Place {
     }
 
     /// The place after a byte of this place, and what it ends.
-    fn behind(self, byte: u8) -> (Place, Ended)
+    fn after(self, byte: u8) -> (Place, Ended)
         ensures place { state_of result.0 ≡ (step_of default_config (state_of self) byte).0 }
         ensures ended { result.1 ≡ ended_by (step_of default_config (state_of self) byte).1 }
     {
@@ -59,7 +59,7 @@ impl Place {
             (Place::InQuotes, b'"') => (Place::AfterQuote, Ended::Nothing),
             (Place::InQuotes, _) => (Place::InQuotes, Ended::Nothing),
             (Place::AfterQuote, b'"') => (Place::InQuotes, Ended::Nothing),
-            _ => Place::behind_unquoted(byte),
+            _ => Place::after_unquoted(byte),
         }
     }
 
@@ -99,7 +99,7 @@ fn wide_line_in(text: &[u8], most: usize) -> Option<usize>
     let mut line = 1;
     let mut commas = 0;
     for byte in text {
-        let (next, ended) = place.behind(*byte);
+        let (next, ended) = place.after(*byte);
         place = next;
         match ended {
             Ended::Nothing => {}

@@ -5,7 +5,7 @@ use Rattle.std.specs.List.{flat_map, list_all}
 use Rattle.std.proofs.lemmas.Grind.{flat_map-append}
 use Rattle.std.proofs.lemmas.List.Folds.{list_all-append}
 use Rattle.mari_rows.specs.Books.{Grammar, book_in, first_failing, line_refusal}
-use Rattle.mari_rows.specs.First.{first_fault, first_fault_behind}
+use Rattle.mari_rows.specs.First.{first_fault, first_fault_after}
 use Rattle.mari_rows.specs.Printed.{line_of, page_text}
 use Rattle.mari_rows.specs.Rows.{rows_from}
 use Rattle.mari_rows.specs.declared.rows.Row.{Row}
@@ -20,16 +20,16 @@ rows_from-append line (x ∷ xs) ys =
     let same : line + 1 + length xs ≡ line + length (x ∷ xs) = omega arith in
     ap (λ l. record { line = line; fields = x } ∷ l) (rows_from-append (line + 1) xs ys ∙ rw same refl)
 
--- no fault in a list, nor in what stands behind it
-behind-append : {X F : Type 0} (fault_of : List X → X → Option F) (earlier xs ys : List X) → first_fault_behind fault_of earlier xs ≡ None
-    → first_fault_behind fault_of (earlier ++ xs) ys ≡ None → first_fault_behind fault_of earlier (xs ++ ys) ≡ None
-behind-append fault_of earlier [] ys a b = rw (append-nil earlier) at b
-behind-append fault_of earlier (x ∷ xs) ys a b = by (fault_of earlier x) refl a (behind-append fault_of (earlier ++ x ∷ []) xs ys)
+-- no fault in a list, nor in what stands after it
+after-append : {X F : Type 0} (fault_of : List X → X → Option F) (earlier xs ys : List X) → first_fault_after fault_of earlier xs ≡ None
+    → first_fault_after fault_of (earlier ++ xs) ys ≡ None → first_fault_after fault_of earlier (xs ++ ys) ≡ None
+after-append fault_of earlier [] ys a b = rw (append-nil earlier) at b
+after-append fault_of earlier (x ∷ xs) ys a b = by (fault_of earlier x) refl a (after-append fault_of (earlier ++ x ∷ []) xs ys)
   where
-    by : (o : Option _) → fault_of earlier x ≡ o → option_or o (first_fault_behind fault_of (earlier ++ x ∷ []) xs) ≡ None
-        → (first_fault_behind fault_of (earlier ++ x ∷ []) xs ≡ None → first_fault_behind fault_of ((earlier ++ x ∷ []) ++ xs) ys ≡ None
-        → first_fault_behind fault_of (earlier ++ x ∷ []) (xs ++ ys) ≡ None)
-        → option_or (fault_of earlier x) (first_fault_behind fault_of (earlier ++ x ∷ []) (xs ++ ys)) ≡ None
+    by : (o : Option _) → fault_of earlier x ≡ o → option_or o (first_fault_after fault_of (earlier ++ x ∷ []) xs) ≡ None
+        → (first_fault_after fault_of (earlier ++ x ∷ []) xs ≡ None → first_fault_after fault_of ((earlier ++ x ∷ []) ++ xs) ys ≡ None
+        → first_fault_after fault_of (earlier ++ x ∷ []) (xs ++ ys) ≡ None)
+        → option_or (fault_of earlier x) (first_fault_after fault_of (earlier ++ x ∷ []) (xs ++ ys)) ≡ None
     by None e h more = rw e (more h (rw (append_assoc earlier (x ∷ []) xs) b))
     by (Some fault) e h more = cc h
 
@@ -70,14 +70,14 @@ module _ (line : ℕ → ℕ → Drawn) (records : ℕ → ℕ → List (List (L
   rows-more n x = rows_from-append 2 (drawn n x) (records n (lines line n x).state)
 
   module _ {Book : Type 0} (g : Grammar Book) where
-    -- the lines of a step are not refused behind those of the steps before it
+    -- the lines of a step are not refused after those of the steps before it
     abbrev pub Passes : (n state : ℕ) → Type 0
-    Passes n x = (at : ℕ) → first_fault_behind (line_refusal g) (rows n x) (rows_from at (records n (lines line n x).state)) ≡ None
+    Passes n x = (at : ℕ) → first_fault_after (line_refusal g) (rows n x) (rows_from at (records n (lines line n x).state)) ≡ None
 
     pub none-refused : (most x : ℕ) → ((n : ℕ) → n < most → Passes n x) → (n : ℕ) → n ≤ most → first_fault (line_refusal g) (rows n x) ≡ None
     none-refused most x all zero few = refl
     none-refused most x all (suc n) few =
-        rw (rows-more n x) (behind-append (line_refusal g) [] (rows n x) _ (none-refused most x all n (omega arith)) (all n (omega arith) (2 + length (drawn n x))))
+        rw (rows-more n x) (after-append (line_refusal g) [] (rows n x) _ (none-refused most x all n (omega arith)) (all n (omega arith) (2 + length (drawn n x))))
 
     -- a step of one line
     pub one-line : (n x : ℕ) (fields : List (List ℕ)) → records n (lines line n x).state ≡ fields ∷ []

@@ -4,7 +4,7 @@ use Rattle.mari_io.specs.Outside.{Pages}
 use Rattle.mari_scenario.specs.Accepted.{AreAccepted, IsShort}
 use Rattle.mari_scenario.specs.Pages.{before_bids, before_demands, before_runs, scenario_at}
 use Rattle.mari_scenario.proofs.BidPage.{bids-accepted, the_bids}
-use Rattle.mari_scenario.proofs.BidPlaces.{bid-named, count-bids, count-ids, divisible, quarter-told}
+use Rattle.mari_scenario.proofs.BidPlaces.{bid-named, count-bids, count-ids, divisible, quarter-reported}
 use Rattle.mari_scenario.proofs.BorderPage.{borders-accepted, count-borders, the_borders, version-one}
 use Rattle.mari_scenario.proofs.DayPage.{day-read, quarters-read}
 use Rattle.mari_scenario.proofs.DemandPage.{demands-accepted, the_demands}
@@ -19,13 +19,13 @@ unfolding scenario_at
 are-accepted number =
     let bids = the_bids (before_bids number) in
     let named = bid-named (before_bids number) in
-    let told = quarter-told (before_bids number) in
+    let reported = quarter-reported (before_bids number) in
     let count = count-ids (before_bids number) in
     record {
       zones = the_zones;
       borders = the_borders number;
       bids = bids;
-      links = the_links bids named told count;
+      links = the_links bids named reported count;
       runs = the_runs (before_runs number);
       demands = the_demands (before_demands number);
       day_read = day-read;
@@ -34,7 +34,7 @@ are-accepted number =
       version = version-one number;
       borders_read = borders-accepted number;
       bids_read = bids-accepted (before_bids number);
-      links_read = links-accepted bids named told count;
+      links_read = links-accepted bids named reported count;
       runs_read = runs-accepted (before_runs number);
       demands_read = rw (count-runs (before_runs number)) (demands-accepted (before_demands number));
       sized = record {
@@ -43,7 +43,7 @@ are-accepted number =
         bids_there = count-bids (before_bids number);
         runs_there = count-runs (before_runs number);
       };
-      few_gates = few-gates bids named told count (divisible (before_bids number));
+      few_gates = few-gates bids named reported count (divisible (before_bids number));
     }
 
 pub all-accepted : (number : ℕ) (pages : Pages) → pages ≡ scenario_at number → AreAccepted pages

@@ -69,7 +69,7 @@ group-plain n small = name-plain (group n) (group-name n small)
 pub bid-plain : (t j : ℕ) → t < 100 → j < 100 → is_plain_field (bid t j) ≡ true
 bid-plain t j a b = name-plain (bid t j) (bid-name t j a b)
 
--- digits before a `b` are told by the text
+-- digits before a `b` are reported by the text
 no-b : (d : ℕ) → is_ascii_digit d ≡ true → 98 ≡ d → ⊥
 no-b d e same = let no : (d == 98) ≡ false = grind (arith, nat_tests) in true≢false (sym (rw (sym same) refl) ∙ no)
 
@@ -86,8 +86,8 @@ before-b (x ∷ xs) (u ∷ us) ys vs d c e =
 bid-parts : (t j : ℕ) → bid t j ≡ 113 ∷ (decimal t ++ 98 ∷ decimal j)
 bid-parts t j = ap (λ l. 113 ∷ l) (append_assoc (decimal t) (98 ∷ []) (decimal j))
 
-pub bid-tells : (t j u k : ℕ) → t < 100 → j < 100 → u < 100 → k < 100 → bid t j ≡ bid u k → (t ≡ u) × (j ≡ k)
-bid-tells t j u k a b c d e =
+pub bid-states : (t j u k : ℕ) → t < 100 → j < 100 → u < 100 → k < 100 → bid t j ≡ bid u k → (t ≡ u) × (j ≡ k)
+bid-states t j u k a b c d e =
     let parts : 113 ∷ (decimal t ++ 98 ∷ decimal j) ≡ 113 ∷ (decimal u ++ 98 ∷ decimal k) = sym (bid-parts t j) ∙ e ∙ bid-parts u k in
     let rest : decimal t ++ 98 ∷ decimal j ≡ decimal u ++ 98 ∷ decimal k = cc parts in
     let same = before-b (decimal t) (decimal u) (decimal j) (decimal k) (digits_decimal own t (omega arith)) (digits_decimal own u (omega arith)) rest in
@@ -102,7 +102,7 @@ ids-differ i n before few = false_from_ne_true (bytes_eq (bid_id i) (bid_id n)) 
   where
     apart : bid_id i ≡ bid_id n → ⊥
     apart e =
-        let same = bid-tells (i / 40 + 1) (i % 40 + 1) (n / 40 + 1) (n % 40 + 1) (omega arith) (omega arith) (omega arith) (omega arith) e in
+        let same = bid-states (i / 40 + 1) (i % 40 + 1) (n / 40 + 1) (n % 40 + 1) (omega arith) (omega arith) (omega arith) (omega arith) e in
         let quarter : i / 40 + 1 ≡ n / 40 + 1 = same.0 in
         let place : i % 40 + 1 ≡ n % 40 + 1 = same.1 in
         omega (arith, quarter, place)

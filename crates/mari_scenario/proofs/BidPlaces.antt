@@ -22,7 +22,7 @@ use Rattle.mari_rows.proofs.NumberLemmas.{decimal_in}
 use Rattle.mari_scenario.proofs.ZonePage.{the_zones}
 use Rattle.mari_units.proofs.Lists.{get_front, get_seam}
 
--- the row of a bid behind the first ones
+-- the row of a bid after the first ones
 abbrev row_of : (n state : ℕ) → Row
 row_of n x = record { line = 2 + length (drawn bid_line bid_records n x); fields = bid_fields n (lines bid_line n x).state }
 
@@ -99,9 +99,9 @@ abbrev said_bid : ℕ → Row → Bid
 said_bid x row = bid_at the_zones 96 (place_in (providers_of (bid_rows 960 x)) (provider_of row)) row
 
 -- its quarter
-pub quarter-told : (x k : ℕ) → k < 960 → quarter_of (the_bids x) k ≡ k / 40 + 1
+pub quarter-reported : (x k : ℕ) → k < 960 → quarter_of (the_bids x) k ≡ k / 40 + 1
 unfolding the_bids
-quarter-told x k few =
+quarter-reported x k few =
     let found = bid-there (said_bid x) 960 x k few (omega arith) in
     rw (found.2, decimal_in 1 96 (k / 40 + 1) (omega arith) (omega arith) (omega arith)) refl
 

@@ -6,7 +6,7 @@ use Rattle.mari_rows.specs.Printed.{line_of}
 use Rattle.mari_scenario.specs.Draws.{draw}
 use Rattle.mari_scenario.specs.Pages.{bid, bid_least, bid_price, bid_text, direction, greatest, is_both, is_up, kind, provider, zone}
 
--- two fields with a comma behind each, and what follows
+-- two fields with a comma after each, and what follows
 two : (old a b rest : List ℕ) → (old ++ a ++ 44 ∷ b ++ 44 ∷ []) ++ rest ≡ old ++ (a ++ 44 ∷ (b ++ 44 ∷ rest))
 two old a b rest =
     append_assoc (old ++ a ++ 44 ∷ b) (44 ∷ []) rest ∙ append_assoc (old ++ a) (44 ∷ b) (44 ∷ rest) ∙ append_assoc old a (44 ∷ (b ++ 44 ∷ rest))

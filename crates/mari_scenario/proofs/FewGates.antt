@@ -64,8 +64,8 @@ module _ (bids : BidBook) (named : (n j : ℕ) → n < 24 → j < 40 → bid_nam
       more : count_by (in_quarter q) (s ∷ rest) ≡ (if in_quarter q s then 1 else 0) + count_by (in_quarter q) rest
       more = sum_by-cons (λ k. if in_quarter q k then 1 else 0) s rest
 
-      told : quarter_of bids s ≡ s / 40 + 1
-      told = quarter s (omega arith)
+      reported : quarter_of bids s ≡ s / 40 + 1
+      reported = quarter s (omega arith)
 
       without : (count_by (in_quarter q) rest ≤ 8) × (count_by (in_quarter q) rest ≤ 8 * q - (s + 1) / 5) → AtMost q s rest
       without h = (h.0, omega (arith, h.1))
@@ -74,7 +74,7 @@ module _ (bids : BidBook) (named : (n j : ℕ) → n < 24 → j < 40 → bid_nam
           → (in_quarter q s ≡ true) × (quarter_of bids s ≡ q) ⊎ (in_quarter q s ≡ false) × (quarter_of bids s ≢ q) → AtMost q s (s ∷ rest)
       with-it fifth h (inl here) =
           let one = rw here.0 at more in
-          let same : s / 40 + 1 ≡ q = sym told ∙ here.1 in
+          let same : s / 40 + 1 ≡ q = sym reported ∙ here.1 in
           (omega (arith, h.1, one, same, fifth), omega (arith, h.1, one, same, fifth))
       with-it fifth h (inr other) = let none = rw other.0 at more in (omega (arith, h.0, none), omega (arith, h.1, none))
 

@@ -77,11 +77,11 @@ children zero = []
 children (suc n) = children n ++ child n ∷ []
 
 -- groups of different quarters have different names
-group-tells : (t u : ℕ) → t < 100 → u < 100 → group t ≡ group u → t ≡ u
-group-tells t u a b e = let same : decimal t ≡ decimal u = cc e in decimal_injective t u (omega arith) (omega arith) same
+group-states : (t u : ℕ) → t < 100 → u < 100 → group t ≡ group u → t ≡ u
+group-states t u a b e = let same : decimal t ≡ decimal u = cc e in decimal_injective t u (omega arith) (omega arith) same
 
 groups-differ : (m n : ℕ) → n < m → m < 24 → bytes_eq (group (m + 1)) (group (n + 1)) ≡ false
-groups-differ m n before few = false_from_ne_true (bytes_eq (group (m + 1)) (group (n + 1))) (λ t. apart (group-tells (m + 1) (n + 1) (omega arith) (omega arith) ((bytes_eq-Decides (group (m + 1)) (group (n + 1))).0 t)))
+groups-differ m n before few = false_from_ne_true (bytes_eq (group (m + 1)) (group (n + 1))) (λ t. apart (group-states (m + 1) (n + 1) (omega arith) (omega arith) ((bytes_eq-Decides (group (m + 1)) (group (n + 1))).0 t)))
   where
     apart : m + 1 ≡ n + 1 → ⊥
     apart e = omega (arith, e)
@@ -287,15 +287,15 @@ module _ (bids : BidBook) (named : (n j : ℕ) → n < 24 → j < 40 → bid_nam
       more : count_by (in_quarter q) (s ∷ rest) ≡ (if in_quarter q s then 1 else 0) + count_by (in_quarter q) rest
       more = sum_by-cons (λ k. if in_quarter q k then 1 else 0) s rest
 
-      told : quarter_of bids s ≡ s / 40 + 1
-      told = quarter s (omega arith)
+      reported : quarter_of bids s ≡ s / 40 + 1
+      reported = quarter s (omega arith)
 
       with-it : (count_by (in_quarter q) rest ≤ 40) × (count_by (in_quarter q) rest ≤ 40 * q - (s + 1))
           → (in_quarter q s ≡ true) × (quarter_of bids s ≡ q) ⊎ (in_quarter q s ≡ false) × (quarter_of bids s ≢ q)
           → (count_by (in_quarter q) (s ∷ rest) ≤ 40) × (count_by (in_quarter q) (s ∷ rest) ≤ 40 * q - s)
       with-it h (inl here) =
           let one = rw here.0 at more in
-          let same : s / 40 + 1 ≡ q = sym told ∙ here.1 in
+          let same : s / 40 + 1 ≡ q = sym reported ∙ here.1 in
           (omega (arith, h.1, one, same), omega (arith, h.1, one, same))
       with-it h (inr other) = let none = rw other.0 at more in (omega (arith, h.0, none), omega (arith, h.1, none))
 

@@ -1,4 +1,4 @@
--- One more line behind the first lines.
+-- One more line after the first lines.
 use Rattle.std.proofs.Common.{◌≡◌, ◌∙◌, ℕ, ◌+◌, List, ◌++◌, sym, refl, append_assoc, append-nil, add-one}
 use Rattle.mari_scenario.specs.Draws.{Drawn, lines}
 
@@ -17,7 +17,7 @@ pub more : (line : ℕ → ℕ → Drawn) (i x state : ℕ) (before now after : 
 unfolding lines
 more line i x state before now after e s a = a ∙ rw (e, s, add-one) (append_assoc before (lines line i x).text (line i (lines line i x).state).text)
 
--- and the state behind it
+-- and the state after it
 pub more_state : (line : ℕ → ℕ → Drawn) (i x state next : ℕ) → state ≡ (lines line i x).state
     → next ≡ (line i state).state → next ≡ (lines line (i + 1) x).state
 unfolding lines

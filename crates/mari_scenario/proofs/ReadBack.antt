@@ -11,7 +11,7 @@ use Rattle.std.proofs.lemmas.Fmt.{digits_decimal, decimal_nonempty}
 use Rattle.mari_units.specs.Numbers.{cents_at, hundredths_of, price_of, printed_cents, whole_of}
 use Rattle.std.proofs.lemmas.Bool.{and_parts}
 use Rattle.mari_rows.specs.Fields.{cents_in, number_in, within_cap}
-use Rattle.mari_rows.proofs.NameLemmas.{position-behind}
+use Rattle.mari_rows.proofs.NameLemmas.{position-after}
 use Rattle.mari_units.proofs.Digits.{AreDigits, own, digits_unsigned, decimal_natural, decimal_whole, digit_byte}
 
 no-point : (d : ℕ) → is_ascii_digit d ≡ true → (d == 46) ≡ false
@@ -32,7 +32,7 @@ decimal-above least greatest n small above =
     by true = refl
     by false = refl
 
--- the point behind digits
+-- the point after digits
 no-points : (ds : List ℕ) → AreDigits ds → list_any (λ b. b == 46) ds ≡ false
 no-points [] e = refl
 no-points (d ∷ ds) e =
@@ -40,15 +40,15 @@ no-points (d ∷ ds) e =
     rw (no-point d parts.0, no-points ds parts.1) refl
 
 point-at : (ds rest : List ℕ) → AreDigits ds → position (λ b. b == 46) (ds ++ 46 ∷ rest) ≡ Some (length ds)
-point-at ds rest e = position-behind (λ b. b == 46) ds rest 46 (no-points ds e) refl
+point-at ds rest e = position-after (λ b. b == 46) ds rest 46 (no-points ds e) refl
 
 -- two digits of cents
 two-digits : (a b : ℕ) → a < 10 → b < 10 → hundredths_of ((48 + a) ∷ (48 + b) ∷ []) ≡ Some (10 * a + b)
 two-digits a b x y = rw (digit_byte a x, digit_byte b y) (ap Some (omega arith))
 
 -- whole euros, a point and two digits
-cents-behind : (n : ℕ) → n < 2 ^ 64 → cents_at (position (λ b. b == 46) (decimal (n / 100) ++ 46 ∷ (48 + n % 100 / 10) ∷ (48 + n % 10) ∷ [])) (decimal (n / 100) ++ 46 ∷ (48 + n % 100 / 10) ∷ (48 + n % 10) ∷ []) ≡ Some n
-cents-behind n small =
+cents-after : (n : ℕ) → n < 2 ^ 64 → cents_at (position (λ b. b == 46) (decimal (n / 100) ++ 46 ∷ (48 + n % 100 / 10) ∷ (48 + n % 10) ∷ [])) (decimal (n / 100) ++ 46 ∷ (48 + n % 100 / 10) ∷ (48 + n % 10) ∷ []) ≡ Some n
+cents-after n small =
     let euros = decimal (n / 100) in
     let rest = (48 + n % 100 / 10) ∷ (48 + n % 10) ∷ [] in
     let digits = digits_decimal own (n / 100) (omega arith) in
@@ -61,8 +61,8 @@ cents-price (pos n) small =
     let negative : int_lt (pos n) (pos 0) ≡ false = grind (arith, nat_tests) in
     let euros = decimal (n / 100) in
     let plain = digits_unsigned euros (46 ∷ (48 + n % 100 / 10) ∷ (48 + n % 10) ∷ []) (digits_decimal own (n / 100) (omega arith)) (decimal_nonempty (n / 100) (omega arith)) in
-    rw (negative, plain.0, plain.1, cents-behind n small) refl
-cents-price (negsuc n) small = rw (cents-behind (suc n) small) refl
+    rw (negative, plain.0, plain.1, cents-after n small) refl
+cents-price (negsuc n) small = rw (cents-after (suc n) small) refl
 
 pub cents-within : (z : ℤ) → unsigned_abs z ≤ 9999900 → cents_in (printed_cents z) ≡ Some (record { 0 = z })
 cents-within z small = rw (cents-price z (omega arith)) (by z small)

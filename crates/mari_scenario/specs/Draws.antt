@@ -18,12 +18,12 @@ after (suc n) x = next (after n x)
 abbrev pub draw : (number bound state : ℕ) → ℕ
 draw n bound x = below bound (after n x)
 
--- lines, and the state behind their draws
+-- lines, and the state after their draws
 pub record Drawn : Type 0 where
   pub text : List ℕ
   pub state : ℕ
 
--- a line behind these
+-- a line after these
 abbrev pub with_line : Drawn → Drawn → Drawn
 with_line before line = record { text = before.text ++ line.text; state = line.state }
 

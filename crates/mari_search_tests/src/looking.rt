@@ -18,7 +18,7 @@ use std::sync::{Condvar, Mutex, Wait};
 use std::test::Fail;
 
 /// How many nodes a worker makes, and the item of the one where it is one.
-type Told = (usize, Option<PartItem>);
+type Reported = (usize, Option<PartItem>);
 
 /// What a worker makes of a pool.
 fn made<'m, N: SearchName, R: Wait>(
@@ -28,7 +28,7 @@ fn made<'m, N: SearchName, R: Wait>(
     incumbent: &Incumbent,
     pooled: Seat,
     seat: Seat,
-) -> Result<Told, Fail>
+) -> Result<Reported, Fail>
     requires name { (market.now ≡ N.market) × (N.budget ≡ 3) × (N.workers ≡ 1) × (incumbent.now ≡ N.incumbent) }
     requires market { IsValid market.now }
     requires closed { IsClosedWelfare market.now (pos N.incumbent.first) }
@@ -56,7 +56,12 @@ fn made<'m, N: SearchName, R: Wait>(
 }
 
 /// What a worker makes in a market, where another one has offered this welfare before.
-fn made_after<R: Wait>(rt: &R, alloc: Global, market: &Market, welfare: u64) -> Result<Told, Fail> {
+fn made_after<R: Wait>(
+    rt: &R,
+    alloc: Global,
+    market: &Market,
+    welfare: u64,
+) -> Result<Reported, Fail> {
     if !market.valid() {
         return Err("the market is valid".into());
     }
@@ -69,11 +74,11 @@ fn made_after<R: Wait>(rt: &R, alloc: Global, market: &Market, welfare: u64) -> 
 }
 
 /// The same of an indivisible bid that doesn't fit the demand.
-fn made_of_oversized<R: Wait>(rt: &R, alloc: Global, welfare: u64) -> Result<Told, Fail> {
+fn made_of_oversized<R: Wait>(rt: &R, alloc: Global, welfare: u64) -> Result<Reported, Fail> {
     let market = market_of(alloc, &OVERSIZED)?;
-    let told = made_after(rt, alloc, &market, welfare);
+    let reported = made_after(rt, alloc, &market, welfare);
     drop(market);
-    told
+    reported
 }
 
 // 30 MW of demand at 99,999.00, less as much at 30.00, bounds the root by 299,907,000 quarter-cents.

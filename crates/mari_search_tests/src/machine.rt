@@ -218,23 +218,23 @@ fn is_published_tree(tree: &[TreeItem]) -> bool {
 }
 
 /// The welfare, what each order runs, and whether the tree is the published one.
-type Told = (u64, Few, bool);
+type Reported = (u64, Few, bool);
 
-fn told(clearing: &Clearing) -> Told {
+fn reported(clearing: &Clearing) -> Reported {
     let mw = few(clearing.activation.mw.as_slice());
     let is_tree = is_published_tree(clearing.tree.as_slice());
     (clearing.welfare, mw, is_tree)
 }
 
 /// What is reported of the clearing after all events.
-fn finished(alloc: Global, market: &Market) -> Result<Told, Fail>
+fn finished(alloc: Global, market: &Market) -> Result<Reported, Fail>
     requires { market.now ≡ oversized }
 {
     let search = search_after(alloc, market, 7)?;
     let clearing = search.finish(alloc)?;
-    let told = told(&clearing);
+    let reported = reported(&clearing);
     drop(clearing);
-    Ok(told)
+    Ok(reported)
 }
 
 /// The first four items of a part of the search tree.
@@ -312,9 +312,9 @@ fn full(alloc: Global, market: &Market) -> Result<(bool, Option<u32>, Part), Fai
 {
     let search = small_search(alloc, market)?;
     let part = first_items(search.part(alloc));
-    let told = (search.is_full(), search.untaken(), part);
+    let reported = (search.is_full(), search.untaken(), part);
     drop(search);
-    Ok(told)
+    Ok(reported)
 }
 
 #[test]

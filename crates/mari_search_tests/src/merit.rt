@@ -66,37 +66,37 @@ fn is_lone(market: &Market) -> bool
 }
 
 /// What each order runs, the welfare, and how many items the tree has.
-type Told = (Few, u64, usize);
+type Reported = (Few, u64, usize);
 
-fn told(clearing: &Clearing) -> Told {
+fn reported(clearing: &Clearing) -> Reported {
     let mw = few(clearing.activation.mw.as_slice());
     (mw, clearing.welfare, clearing.tree.as_slice().len())
 }
 
 /// What is reported of the clearing of a market.
-fn cleared(alloc: Global, market: &Market) -> Result<Told, Fail> {
+fn cleared(alloc: Global, market: &Market) -> Result<Reported, Fail> {
     if !(market.valid() && is_lone(market)) {
         return Err("the market is valid, with one zone and no gate".into());
     }
     let clearing = clear_plain(alloc, market)?;
-    let told = told(&clearing);
+    let reported = reported(&clearing);
     drop(clearing);
-    Ok(told)
+    Ok(reported)
 }
 
 /// What is reported of a case.
-fn told_in(alloc: Global, case: &Case) -> Result<Told, Fail> {
+fn reported_in(alloc: Global, case: &Case) -> Result<Reported, Fail> {
     let market = market_of(alloc, &case.market)?;
-    let told = cleared(alloc, &market);
+    let reported = cleared(alloc, &market);
     drop(market);
-    told
+    reported
 }
 
 #[test]
 fn plain_markets(rt: HostRuntime) -> Result<(), Fail> {
     for case in CASES {
         let want = (few(case.mw), case.welfare, 1);
-        same_in(&rt, case.name, told_in(rt.alloc(), case)?, want);
+        same_in(&rt, case.name, reported_in(rt.alloc(), case)?, want);
     }
     Ok(())
 }

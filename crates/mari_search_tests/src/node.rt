@@ -12,7 +12,7 @@ use std::test::Fail;
 
 /// What is reported of a finding: the bound, the welfare of the best activation, if there is one, and whether there is
 /// a conflict; or the side of a cut of the one zone.
-type Told = Result<(u64, Option<u64>, bool), Option<CutSide>>;
+type Reported = Result<(u64, Option<u64>, bool), Option<CutSide>>;
 
 /// A market, the prefix of so many gates that has this word of bits, and what is reported there.
 struct Case {
@@ -20,7 +20,7 @@ struct Case {
     market: MarketRow,
     length: u32,
     bits: u64,
-    told: Told,
+    reported: Reported,
 }
 
 /// A cheap indivisible bid that fits the demand, and a dearer one.
@@ -40,60 +40,60 @@ const CASES: &[Case] = &[
         market: OVERSIZED,
         length: 0,
         bits: 0,
-        told: Ok((299_907_000, None, false)),
+        reported: Ok((299_907_000, None, false)),
     },
     Case {
         name: "an oversized bid, closed, has a best",
         market: OVERSIZED,
         length: 1,
         bits: 0,
-        told: Ok((299_847_000, Some(299_847_000), false)),
+        reported: Ok((299_847_000, Some(299_847_000), false)),
     },
     Case {
         name: "an oversized bid, open, is a cut",
         market: OVERSIZED,
         length: 1,
         bits: 1,
-        told: Err(Some(CutSide::Out)),
+        reported: Err(Some(CutSide::Out)),
     },
     Case {
         name: "a paradox bid, closed, has a best",
         market: PARADOX,
         length: 1,
         bits: 0,
-        told: Ok((399_956_000, Some(399_956_000), false)),
+        reported: Ok((399_956_000, Some(399_956_000), false)),
     },
     Case {
         name: "a paradox bid, open, is a conflict",
         market: PARADOX,
         length: 1,
         bits: 1,
-        told: Ok((499_925_000, None, true)),
+        reported: Ok((499_925_000, None, true)),
     },
     Case {
-        name: "an admissible optimum is told before its gate is decided",
+        name: "an admissible optimum is reported before its gate is decided",
         market: FITTING,
         length: 0,
         bits: 0,
-        told: Ok((499_915_000, Some(499_915_000), false)),
+        reported: Ok((499_915_000, Some(499_915_000), false)),
     },
     Case {
         name: "a fitting bid, closed",
         market: FITTING,
         length: 1,
         bits: 0,
-        told: Ok((399_916_000, Some(399_916_000), false)),
+        reported: Ok((399_916_000, Some(399_916_000), false)),
     },
     Case {
         name: "a fitting bid, open",
         market: FITTING,
         length: 1,
         bits: 1,
-        told: Ok((499_915_000, Some(499_915_000), false)),
+        reported: Ok((499_915_000, Some(499_915_000), false)),
     },
 ];
 
-fn told_of_relaxed(relaxed: &Relaxed) -> Told {
+fn reported_of_relaxed(relaxed: &Relaxed) -> Reported {
     let best = match &relaxed.best {
         Some(best) => Some(best.welfare),
         None => None,
@@ -101,39 +101,44 @@ fn told_of_relaxed(relaxed: &Relaxed) -> Told {
     Ok((relaxed.bound, best, relaxed.conflict.is_some()))
 }
 
-fn told(finding: &Finding) -> Told {
+fn reported(finding: &Finding) -> Reported {
     match finding {
         Finding::Empty(cut) => match cut.zones.as_slice() {
             [0] => Err(Some(cut.side)),
             _ => Err(None),
         },
-        Finding::Relaxed(relaxed) => told_of_relaxed(relaxed),
+        Finding::Relaxed(relaxed) => reported_of_relaxed(relaxed),
     }
 }
 
 /// What is reported of a prefix.
-fn told_at(alloc: Global, market: &Market, prefix: Prefix) -> Result<Told, Fail> {
+fn reported_at(alloc: Global, market: &Market, prefix: Prefix) -> Result<Reported, Fail> {
     if !(market.valid() && prefix_feasible(market, &prefix)) {
         return Err("the market is valid, and the prefix is feasible in it".into());
     }
     let finding = examine(alloc, market, &prefix)?;
-    let told = told(&finding);
+    let reported = reported(&finding);
     drop(finding);
-    Ok(told)
+    Ok(reported)
 }
 
 /// What is reported of a case.
-fn told_in(alloc: Global, case: &Case) -> Result<Told, Fail> {
+fn reported_in(alloc: Global, case: &Case) -> Result<Reported, Fail> {
     let market = market_of(alloc, &case.market)?;
-    let told = told_at(alloc, &market, prefix(case.length, case.bits));
+    let reported = reported_at(alloc, &market, prefix(case.length, case.bits));
     drop(market);
-    told
+    reported
 }
 
 #[test]
 fn findings_at_nodes(rt: HostRuntime) -> Result<(), Fail> {
     for case in CASES {
-        same_in(&rt, case.name, told_in(rt.alloc(), case)?, case.told);
+        same_in(
+            &rt,
+            case.name,
+            reported_in(rt.alloc(), case)?,
+            case.reported,
+        );
     }
     Ok(())
 }
@@ -150,22 +155,22 @@ fn left_in(start: Option<Activation>) -> Option<Few> {
 }
 
 /// What is reported of a prefix from a start, and what the start runs then.
-fn told_from(
+fn reported_from(
     alloc: Global,
     market: &Market,
     prefix: Prefix,
     mw: &[u32],
-) -> Result<(Told, Option<Few>), Fail> {
+) -> Result<(Reported, Option<Few>), Fail> {
     if !(market.valid() && prefix_feasible(market, &prefix)) {
         return Err("the market is valid, and the prefix is feasible in it".into());
     }
     let mut start = Some(activation_of(alloc, mw, &[])?);
-    let told = match examine_from(alloc, market, &prefix, &mut start) {
-        Ok(finding) => Some(told(&finding)),
+    let reported = match examine_from(alloc, market, &prefix, &mut start) {
+        Ok(finding) => Some(reported(&finding)),
         Err(_memory) => None,
     };
     let left = left_in(start);
-    Ok((told.ok_or("memory")?, left))
+    Ok((reported.ok_or("memory")?, left))
 }
 
 /// What is reported of the root, of the node with the gate closed, and of the node with it open, from a start each.
@@ -173,11 +178,11 @@ fn three_nodes(
     alloc: Global,
     market: &Market,
     mw: &[u32],
-) -> Result<[(Told, Option<Few>); 3], Fail> {
+) -> Result<[(Reported, Option<Few>); 3], Fail> {
     Ok([
-        told_from(alloc, market, prefix(0, 0), mw)?,
-        told_from(alloc, market, prefix(1, 0), mw)?,
-        told_from(alloc, market, prefix(1, 1), mw)?,
+        reported_from(alloc, market, prefix(0, 0), mw)?,
+        reported_from(alloc, market, prefix(1, 0), mw)?,
+        reported_from(alloc, market, prefix(1, 1), mw)?,
     ])
 }
 

@@ -164,7 +164,7 @@ const CASES: &[Case] = &[
 ];
 
 /// What is reported of both zones, how many have an area, and the chain.
-type Told = ([Option<Zone>; 2], usize, Few);
+type Reported = ([Option<Zone>; 2], usize, Few);
 
 /// What is reported of a zone, where it has an interval and an area.
 fn zone_in(intervals: &Intervals, areas: &[u32], zone: usize) -> Option<Zone> {
@@ -180,7 +180,7 @@ fn zone_in(intervals: &Intervals, areas: &[u32], zone: usize) -> Option<Zone> {
 }
 
 /// What is reported of intervals or of why there are none, beside the areas.
-fn told(tested: Result<Intervals, PriceFault>, areas: &[u32]) -> Result<Told, Fail> {
+fn reported(tested: Result<Intervals, PriceFault>, areas: &[u32]) -> Result<Reported, Fail> {
     match tested {
         Ok(intervals) => {
             let zones = [zone_in(&intervals, areas, 0), zone_in(&intervals, areas, 1)];
@@ -192,24 +192,24 @@ fn told(tested: Result<Intervals, PriceFault>, areas: &[u32]) -> Result<Told, Fa
 }
 
 /// What is reported of an activation.
-fn told_of(alloc: Global, market: &Market, activation: &Activation) -> Result<Told, Fail> {
+fn reported_of(alloc: Global, market: &Market, activation: &Activation) -> Result<Reported, Fail> {
     if !(market.valid() && is_feasible(market, activation)) {
         return Err("the market is valid, and the activation is feasible".into());
     }
     let areas = areas(alloc, market, activation)?;
-    let told = told(price_test(alloc, market, activation), &areas);
+    let reported = reported(price_test(alloc, market, activation), &areas);
     drop(areas);
-    told
+    reported
 }
 
 /// What is reported of a case.
-fn told_in(alloc: Global, case: &Case) -> Result<Told, Fail> {
+fn reported_in(alloc: Global, case: &Case) -> Result<Reported, Fail> {
     let market = market_of(alloc, &case.market)?;
     let activation = activation_of(alloc, case.mw, case.flow)?;
-    let told = told_of(alloc, &market, &activation);
+    let reported = reported_of(alloc, &market, &activation);
     drop(activation);
     drop(market);
-    told
+    reported
 }
 
 #[test]
@@ -217,7 +217,7 @@ fn prices_areas_and_chains(rt: HostRuntime) -> Result<(), Fail> {
     for case in CASES {
         let count = if case.market.limits.is_empty() { 1 } else { 2 };
         let want = (case.zones, count, few(case.chain));
-        same_in(&rt, case.name, told_in(rt.alloc(), case)?, want);
+        same_in(&rt, case.name, reported_in(rt.alloc(), case)?, want);
     }
     Ok(())
 }

@@ -216,9 +216,9 @@ fn sum_of(clearing: &Clearing) -> u64 {
 }
 
 /// The welfare that is published, the bits of the gates whose orders run, and the sum of all else.
-type Told = Option<(u64, u64, u64)>;
+type Reported = Option<(u64, u64, u64)>;
 
-fn told(market: &Market, cleared: &Cleared) -> Told {
+fn reported(market: &Market, cleared: &Cleared) -> Reported {
     match cleared {
         Cleared::Published(clearing) => {
             let opened = opened(market.orders.as_slice(), clearing.activation.mw.as_slice());
@@ -228,54 +228,54 @@ fn told(market: &Market, cleared: &Cleared) -> Told {
     }
 }
 
-fn told_once(market: &Market, cleared: Cleared) -> Told {
-    let told = told(market, &cleared);
+fn reported_once(market: &Market, cleared: Cleared) -> Reported {
+    let reported = reported(market, &cleared);
     drop(cleared);
-    told
+    reported
 }
 
 /// What is reported of so many workers.
-fn told_by<R: Threads + Wait + Sync>(
+fn reported_by<R: Threads + Wait + Sync>(
     rt: &R,
     alloc: Global,
     market: &Market,
     workers: u32,
     yielding: &Yielding,
-) -> Result<Told, Fail>
+) -> Result<Reported, Fail>
     requires { IsWorkerCount workers }
 {
     let cleared = by_crew(rt, alloc, market, workers, 10_000, yielding)?;
-    Ok(told_once(market, cleared))
+    Ok(reported_once(market, cleared))
 }
 
 /// What is reported of one thread, and of 1, 2, 4 and 16 workers.
-fn told_of<R: Threads + Wait + Sync>(
+fn reported_of<R: Threads + Wait + Sync>(
     rt: &R,
     alloc: Global,
     market: &Market,
     yielding: &Yielding,
-) -> Result<(Told, [Told; 4]), Fail> {
-    let by_one = told_once(market, alone(alloc, market, 10_000)?);
+) -> Result<(Reported, [Reported; 4]), Fail> {
+    let by_one = reported_once(market, alone(alloc, market, 10_000)?);
     let by_crews = [
-        told_by(rt, alloc, market, 1, yielding)?,
-        told_by(rt, alloc, market, 2, yielding)?,
-        told_by(rt, alloc, market, 4, yielding)?,
-        told_by(rt, alloc, market, 16, yielding)?,
+        reported_by(rt, alloc, market, 1, yielding)?,
+        reported_by(rt, alloc, market, 2, yielding)?,
+        reported_by(rt, alloc, market, 4, yielding)?,
+        reported_by(rt, alloc, market, 16, yielding)?,
     ];
     Ok((by_one, by_crews))
 }
 
 /// The same of the next market.
-fn told_of_next<R: Threads + Wait + Sync>(
+fn reported_of_next<R: Threads + Wait + Sync>(
     rt: &R,
     alloc: Global,
     dice: &mut Dice,
     yielding: &Yielding,
-) -> Result<(Told, [Told; 4]), Fail> {
+) -> Result<(Reported, [Reported; 4]), Fail> {
     let market = dice.market(alloc)?;
-    let told = told_of(rt, alloc, &market, yielding);
+    let reported = reported_of(rt, alloc, &market, yielding);
     drop(market);
-    told
+    reported
 }
 
 #[test]
@@ -287,7 +287,7 @@ fn random_markets_come_to_the_clearing_that_one_thread_finds(rt: HostRuntime) ->
         count: AtomicU64::new(0),
     };
     for _ in 0..200 {
-        let (by_one, by_crews) = told_of_next(&rt, rt.alloc(), &mut dice, &yielding)?;
+        let (by_one, by_crews) = reported_of_next(&rt, rt.alloc(), &mut dice, &yielding)?;
         assert!(rt; by_one.is_some());
         same(&rt, by_crews, [by_one; 4]);
     }

@@ -71,7 +71,7 @@ impl Turnstile for RootAlone {
 
 /// The bits of the gates whose orders run in what was offered, and its welfare, if anything was offered; and the node
 /// that was given back, if it waits.
-type Told = (Option<(u64, u64)>, Option<u32>);
+type Reported = (Option<(u64, u64)>, Option<u32>);
 
 /// What is reported of what was offered.
 fn offered(market: &Market, best: &Option<Attained>) -> Option<(u64, u64)> {
@@ -100,7 +100,7 @@ fn worked<'m, N: SearchName, R: Wait>(
     incumbent: &Incumbent,
     pooled: Seat,
     seat: Seat,
-) -> Result<Told, Fail>
+) -> Result<Reported, Fail>
     requires name { (market.now ≡ N.market) × (N.budget ≡ 3) × (N.workers ≡ 1) × (incumbent.now ≡ N.incumbent) }
     requires market { IsValid market.now }
     requires closed { IsClosedWelfare market.now (pos N.incumbent.first) }
@@ -118,7 +118,7 @@ fn worked<'m, N: SearchName, R: Wait>(
 }
 
 /// What is reported of that in a market.
-fn rounded_in<R: Wait>(rt: &R, alloc: Global, market: &Market) -> Result<Told, Fail> {
+fn rounded_in<R: Wait>(rt: &R, alloc: Global, market: &Market) -> Result<Reported, Fail> {
     if !market.valid() {
         return Err("the market is valid".into());
     }
@@ -129,11 +129,11 @@ fn rounded_in<R: Wait>(rt: &R, alloc: Global, market: &Market) -> Result<Told, F
 }
 
 /// What is reported of the six bids.
-fn rounded<R: Wait>(rt: &R, alloc: Global) -> Result<Told, Fail> {
+fn rounded<R: Wait>(rt: &R, alloc: Global) -> Result<Reported, Fail> {
     let market = market_of(alloc, &SIX_GATES)?;
-    let told = rounded_in(rt, alloc, &market);
+    let reported = rounded_in(rt, alloc, &market);
     drop(market);
-    told
+    reported
 }
 
 // 100 MW of demand at 99,999.00, less 60 MW of the three bids at 30.00 and 40 MW at 50.00, is the welfare.

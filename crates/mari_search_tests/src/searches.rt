@@ -18,14 +18,14 @@ use std::thread::Threads;
 
 /// What is reported of a search: the welfare that is published and what the orders run, or how many items it is spent
 /// at, and the item where it is one.
-type Told = Result<(u64, Few), (usize, Option<PartItem>)>;
+type Reported = Result<(u64, Few), (usize, Option<PartItem>)>;
 
 /// A market, a budget, and what is reported of a search within it.
 struct Case {
     name: &'static str,
     market: MarketRow,
     budget: u32,
-    told: Told,
+    reported: Reported,
 }
 
 /// A search tree of three nodes, within three.
@@ -33,7 +33,7 @@ const THREE_NODES: Case = Case {
     name: "a search tree of three nodes, within three",
     market: OVERSIZED,
     budget: 3,
-    told: Ok((299_847_000, (3, [0, 30, 30, 0]))),
+    reported: Ok((299_847_000, (3, [0, 30, 30, 0]))),
 };
 
 const CASES: &[Case] = &[
@@ -41,20 +41,20 @@ const CASES: &[Case] = &[
         name: "a search tree of three nodes, within one",
         market: OVERSIZED,
         budget: 1,
-        told: Err((1, Some(PartItem::Pending))),
+        reported: Err((1, Some(PartItem::Pending))),
     },
     Case {
         name: "a search tree of three nodes, within two",
         market: OVERSIZED,
         budget: 2,
-        told: Err((1, Some(PartItem::Pending))),
+        reported: Err((1, Some(PartItem::Pending))),
     },
     THREE_NODES,
     Case {
         name: "a paradox bid is rejected",
         market: PARADOX,
         budget: 10_000,
-        told: Ok((399_956_000, (3, [40, 0, 40, 0]))),
+        reported: Ok((399_956_000, (3, [40, 0, 40, 0]))),
     },
     Case {
         name: "no gate, within one node",
@@ -67,7 +67,7 @@ const CASES: &[Case] = &[
             gates: &[],
         },
         budget: 1,
-        told: Ok((599_694_000, (2, [60, 60, 0, 0]))),
+        reported: Ok((599_694_000, (2, [60, 60, 0, 0]))),
     },
 ];
 
@@ -79,7 +79,7 @@ pub(crate) fn one_of(items: &[PartItem]) -> (usize, Option<PartItem>) {
     }
 }
 
-fn told(cleared: &Cleared) -> Told {
+fn reported(cleared: &Cleared) -> Reported {
     match cleared {
         Cleared::Published(clearing) => {
             Ok((clearing.welfare, few(clearing.activation.mw.as_slice())))
@@ -89,10 +89,10 @@ fn told(cleared: &Cleared) -> Told {
     }
 }
 
-fn told_once(cleared: Cleared) -> Told {
-    let told = told(&cleared);
+fn reported_once(cleared: Cleared) -> Reported {
+    let reported = reported(&cleared);
     drop(cleared);
-    told
+    reported
 }
 
 /// What a clearer comes to.
@@ -141,47 +141,47 @@ pub(crate) fn by_crew<G: Turnstile, R: Threads + Wait + Sync>(
 }
 
 /// What is reported of one thread, by its function and as a clearer.
-fn told_alone(alloc: Global, market: &Market, budget: u32) -> Result<[Told; 2], Fail> {
-    let by_function = told_once(alone(alloc, market, budget)?);
-    let by_clearer = told_once(cleared_by(&mut Alone, alloc, market, budget)?);
+fn reported_alone(alloc: Global, market: &Market, budget: u32) -> Result<[Reported; 2], Fail> {
+    let by_function = reported_once(alone(alloc, market, budget)?);
+    let by_clearer = reported_once(cleared_by(&mut Alone, alloc, market, budget)?);
     Ok([by_function, by_clearer])
 }
 
 /// What is reported of 1, 2, 4 and 16 workers.
-fn told_by_crews<G: Turnstile, R: Threads + Wait + Sync>(
+fn reported_by_crews<G: Turnstile, R: Threads + Wait + Sync>(
     rt: &R,
     alloc: Global,
     market: &Market,
     budget: u32,
     turnstile: &G,
-) -> Result<[Told; 4], Fail> {
+) -> Result<[Reported; 4], Fail> {
     Ok([
-        told_once(by_crew(rt, alloc, market, 1, budget, turnstile)?),
-        told_once(by_crew(rt, alloc, market, 2, budget, turnstile)?),
-        told_once(by_crew(rt, alloc, market, 4, budget, turnstile)?),
-        told_once(by_crew(rt, alloc, market, 16, budget, turnstile)?),
+        reported_once(by_crew(rt, alloc, market, 1, budget, turnstile)?),
+        reported_once(by_crew(rt, alloc, market, 2, budget, turnstile)?),
+        reported_once(by_crew(rt, alloc, market, 4, budget, turnstile)?),
+        reported_once(by_crew(rt, alloc, market, 16, budget, turnstile)?),
     ])
 }
 
 /// What is reported of a case by workers that this turnstile serves.
-fn told_with<G: Turnstile, R: Threads + Wait + Sync>(
+fn reported_with<G: Turnstile, R: Threads + Wait + Sync>(
     rt: &R,
     alloc: Global,
     case: &Case,
     turnstile: &G,
-) -> Result<[Told; 4], Fail> {
+) -> Result<[Reported; 4], Fail> {
     let market = market_of(alloc, &case.market)?;
-    let told = told_by_crews(rt, alloc, &market, case.budget, turnstile);
+    let reported = reported_by_crews(rt, alloc, &market, case.budget, turnstile);
     drop(market);
-    told
+    reported
 }
 
 /// What is reported of a case by one thread.
-fn told_without(alloc: Global, case: &Case) -> Result<[Told; 2], Fail> {
+fn reported_without(alloc: Global, case: &Case) -> Result<[Reported; 2], Fail> {
     let market = market_of(alloc, &case.market)?;
-    let told = told_alone(alloc, &market, case.budget);
+    let reported = reported_alone(alloc, &market, case.budget);
     drop(market);
-    told
+    reported
 }
 
 #[test]
@@ -190,11 +190,11 @@ fn one_thread_and_many_workers_come_to_the_same(rt: HostRuntime) -> Result<(), F
         same_in(
             &rt,
             case.name,
-            told_without(rt.alloc(), case)?,
-            [case.told; 2],
+            reported_without(rt.alloc(), case)?,
+            [case.reported; 2],
         );
-        let by_crews = told_with(&rt, rt.alloc(), case, &FreeTurnstile)?;
-        same_in(&rt, case.name, by_crews, [case.told; 4]);
+        let by_crews = reported_with(&rt, rt.alloc(), case, &FreeTurnstile)?;
+        same_in(&rt, case.name, by_crews, [case.reported; 4]);
     }
     Ok(())
 }
@@ -219,8 +219,8 @@ impl Turnstile for Starved {
 #[test]
 fn workers_that_want_memory_leave_their_nodes(rt: HostRuntime) -> Result<(), Fail> {
     let case = &THREE_NODES;
-    let by_crews = told_with(&rt, rt.alloc(), case, &Starved)?;
-    same(&rt, by_crews, [case.told; 4]);
+    let by_crews = reported_with(&rt, rt.alloc(), case, &Starved)?;
+    same(&rt, by_crews, [case.reported; 4]);
     Ok(())
 }
 

@@ -16,7 +16,7 @@ use std::test::Fail;
 type Found = Result<Solved, SolveFault>;
 
 /// What is reported of it: the welfare of the optimum, or the side of a cut of zone 0 alone.
-type Told = Result<u64, Option<CutSide>>;
+type Reported = Result<u64, Option<CutSide>>;
 
 /// A market, the prefix of so many gates that has this word of bits, and what each solver gives there.
 struct Case {
@@ -24,7 +24,7 @@ struct Case {
     market: MarketRow,
     length: u32,
     bits: u64,
-    told: Told,
+    reported: Reported,
 }
 
 const CASES: &[Case] = &[
@@ -33,35 +33,35 @@ const CASES: &[Case] = &[
         market: OVERSIZED,
         length: 1,
         bits: 1,
-        told: Err(Some(CutSide::Out)),
+        reported: Err(Some(CutSide::Out)),
     },
     Case {
         name: "an oversized bid, closed",
         market: OVERSIZED,
         length: 1,
         bits: 0,
-        told: Ok(299_847_000),
+        reported: Ok(299_847_000),
     },
     Case {
         name: "an oversized bid, undecided",
         market: OVERSIZED,
         length: 0,
         bits: 0,
-        told: Ok(299_907_000),
+        reported: Ok(299_907_000),
     },
     Case {
         name: "a paradox bid, open",
         market: PARADOX,
         length: 1,
         bits: 1,
-        told: Ok(499_925_000),
+        reported: Ok(499_925_000),
     },
     Case {
         name: "a paradox bid, closed",
         market: PARADOX,
         length: 1,
         bits: 0,
-        told: Ok(399_956_000),
+        reported: Ok(399_956_000),
     },
     Case {
         name: "a relaxed value below 0 is stated as 0",
@@ -72,7 +72,7 @@ const CASES: &[Case] = &[
         },
         length: 1,
         bits: 1,
-        told: Ok(0),
+        reported: Ok(0),
     },
 ];
 
@@ -84,7 +84,7 @@ fn side_of(cut: &Cut) -> Option<CutSide> {
     }
 }
 
-fn told(found: Found) -> Told {
+fn reported(found: Found) -> Reported {
     match found {
         Ok(solved) => Ok(solved.welfare),
         Err(SolveFault::Cut(cut)) => Err(side_of(&cut)),
@@ -93,28 +93,33 @@ fn told(found: Found) -> Told {
 }
 
 /// What is reported of what the plain and the fast solver find at a prefix.
-fn told_by_both(alloc: Global, market: &Market, prefix: Prefix) -> Result<[Told; 2], Fail> {
+fn reported_by_both(alloc: Global, market: &Market, prefix: Prefix) -> Result<[Reported; 2], Fail> {
     if !(market.valid() && prefix_feasible(market, &prefix)) {
         return Err("the market is valid, and the prefix is feasible in it".into());
     }
     Ok([
-        told(solve(alloc, market, &prefix)),
-        told(solve_from(alloc, market, &prefix, None)),
+        reported(solve(alloc, market, &prefix)),
+        reported(solve_from(alloc, market, &prefix, None)),
     ])
 }
 
 /// What is reported of a case.
-fn told_in(alloc: Global, case: &Case) -> Result<[Told; 2], Fail> {
+fn reported_in(alloc: Global, case: &Case) -> Result<[Reported; 2], Fail> {
     let market = market_of(alloc, &case.market)?;
-    let told = told_by_both(alloc, &market, prefix(case.length, case.bits));
+    let reported = reported_by_both(alloc, &market, prefix(case.length, case.bits));
     drop(market);
-    told
+    reported
 }
 
 #[test]
 fn welfare_or_a_cut(rt: HostRuntime) -> Result<(), Fail> {
     for case in CASES {
-        same_in(&rt, case.name, told_in(rt.alloc(), case)?, [case.told; 2]);
+        same_in(
+            &rt,
+            case.name,
+            reported_in(rt.alloc(), case)?,
+            [case.reported; 2],
+        );
     }
     Ok(())
 }

@@ -36,7 +36,7 @@ enum Play {
 
 /// What is reported of it.
 #[derive(Clone, Copy, Debug, PartialEq, Eq)]
-enum Told {
+enum Reported {
     /// The steps, and the next node.
     Settle(Step, Step, Step, Option<u32>),
     SettleReclaimed(Step),
@@ -63,7 +63,7 @@ struct Case {
     budget: u32,
     workers: u32,
     play: Play,
-    told: Told,
+    reported: Reported,
 }
 
 const CASES: &[Case] = &[
@@ -83,7 +83,7 @@ const CASES: &[Case] = &[
         budget: 7,
         workers: 1,
         play: Play::Settle,
-        told: Told::Settle(
+        reported: Reported::Settle(
             (0, 299_877_000, Settled::Branched),
             (1, 299_857_000, Settled::Branched),
             (2, 299_877_000, Settled::Branched),
@@ -97,7 +97,7 @@ const CASES: &[Case] = &[
         budget: 3,
         workers: 2,
         play: Play::SettleReclaimed,
-        told: Told::SettleReclaimed((0, 299_907_000, Settled::Stale)),
+        reported: Reported::SettleReclaimed((0, 299_907_000, Settled::Stale)),
     },
     Case {
         name: "a reclaimed ticket is stale where it is given back",
@@ -106,7 +106,7 @@ const CASES: &[Case] = &[
         budget: 3,
         workers: 2,
         play: Play::GiveReclaimed,
-        told: Told::GiveReclaimed(false),
+        reported: Reported::GiveReclaimed(false),
     },
     Case {
         name: "a worker gives one ticket back, and the next one stays in its hands",
@@ -115,7 +115,7 @@ const CASES: &[Case] = &[
         budget: 3,
         workers: 2,
         play: Play::GiveTwice,
-        told: Told::GiveTwice(Given {
+        reported: Reported::GiveTwice(Given {
             given: [true, false],
             idle: Some(1),
             fault: Some(PoolFault::NotClosed(0)),
@@ -180,14 +180,14 @@ fn three_settled<'m, N: SearchName>(
     pool: &mut Pool<'m, N>,
     incumbent: &Incumbent,
     seat: &mut Seat,
-) -> Result<Told, Fail>
+) -> Result<Reported, Fail>
     requires market { (market.now ≡ N.market) × IsValid market.now }
     requires incumbent { (incumbent.now ≡ N.incumbent) × (seat.old.incumbent ≡ N.incumbent) }
 {
     let root = settled(alloc, market, pool, incumbent, seat)?;
     let closed = settled(alloc, market, pool, incumbent, seat)?;
     let opened = settled(alloc, market, pool, incumbent, seat)?;
-    Ok(Told::Settle(root, closed, opened, next(pool)))
+    Ok(Reported::Settle(root, closed, opened, next(pool)))
 }
 
 /// The first worker's ticket for a node that is reclaimed, while the second worker is idle.
@@ -231,14 +231,14 @@ fn fault_of<'m, N: SearchName>(alloc: Global, pool: &Pool<'m, N>) -> Option<Pool
 }
 
 /// What is reported of two tickets that are given back.
-fn given_twice<'m, N: SearchName>(alloc: Global, pool: &mut Pool<'m, N>) -> Result<Told, Fail>
+fn given_twice<'m, N: SearchName>(alloc: Global, pool: &mut Pool<'m, N>) -> Result<Reported, Fail>
     requires { 1 ≤ N.workers }
 {
     let given = [given_back(pool)?, given_back(pool)?];
     let idle = in_hands(pool);
     let fault = fault_of(alloc, pool);
     let part = one_of(&pool.part(alloc)?);
-    Ok(Told::GiveTwice(Given {
+    Ok(Reported::GiveTwice(Given {
         given,
         idle,
         fault,
@@ -254,7 +254,7 @@ fn played<'m, N: SearchName>(
     incumbent: &Incumbent,
     seat: &mut Seat,
     play: Play,
-) -> Result<Told, Fail>
+) -> Result<Reported, Fail>
     requires market { (market.now ≡ N.market) × IsValid market.now }
     requires workers { 1 ≤ N.workers }
     requires incumbent { (incumbent.now ≡ N.incumbent) × (seat.old.incumbent ≡ N.incumbent) }
@@ -264,25 +264,25 @@ fn played<'m, N: SearchName>(
         Play::SettleReclaimed => {
             let ticket = reclaimed(pool)?;
             let step = settled_by(alloc, market, pool, ticket, incumbent, seat)?;
-            Ok(Told::SettleReclaimed(step))
+            Ok(Reported::SettleReclaimed(step))
         }
         Play::GiveReclaimed => {
             let ticket = reclaimed(pool)?;
-            Ok(Told::GiveReclaimed(pool.give_back(ticket)))
+            Ok(Reported::GiveReclaimed(pool.give_back(ticket)))
         }
         Play::GiveTwice => given_twice(alloc, pool),
     }
 }
 
 /// What is reported of a pool of this name, from a seat of its own and one for all workers.
-fn told_of<'m, N: SearchName>(
+fn reported_of<'m, N: SearchName>(
     alloc: Global,
     market: &'m Market,
     incumbent: &Incumbent,
     seat: Seat,
     mut mine: Seat,
     case: &Case,
-) -> Result<Told, Fail>
+) -> Result<Reported, Fail>
     requires name { (market.now ≡ N.market) × (case.now.budget ≡ N.budget) × (case.now.workers ≡ N.workers) × (incumbent.now ≡ N.incumbent) }
     requires market { IsValid market.now }
     requires budget { IsBudget case.now.budget }
@@ -292,13 +292,13 @@ fn told_of<'m, N: SearchName>(
     requires mine { mine.incumbent ≡ N.incumbent }
 {
     let mut pool = Pool::<N>::start(alloc, market, case.budget, case.workers, seat)?;
-    let told = played(alloc, market, &mut pool, incumbent, &mut mine, case.play);
+    let reported = played(alloc, market, &mut pool, incumbent, &mut mine, case.play);
     drop(pool);
-    told
+    reported
 }
 
 /// The closed welfare of a case's market, and what is reported of its pool.
-fn told_at(alloc: Global, market: &Market, case: &Case) -> Result<(u64, Told), Fail> {
+fn reported_at(alloc: Global, market: &Market, case: &Case) -> Result<(u64, Reported), Fail> {
     let in_range = (1..=50_000).contains(&case.budget) && (1..=16).contains(&case.workers);
     if !(market.valid() && in_range) {
         return Err("the market is valid, and the numbers in range".into());
@@ -306,16 +306,16 @@ fn told_at(alloc: Global, market: &Market, case: &Case) -> Result<(u64, Told), F
     let first = first_of(alloc, market)?;
     let (incumbent, mut mine) = Incumbent::start(alloc, first.welfare, 2)?;
     let seat = incumbent.split(&mut mine);
-    let told = told_of::<Brand>(alloc, market, &incumbent, seat, mine, case)?;
-    Ok((first.welfare, told))
+    let reported = reported_of::<Brand>(alloc, market, &incumbent, seat, mine, case)?;
+    Ok((first.welfare, reported))
 }
 
 /// What is reported of a case.
-fn told_in(alloc: Global, case: &Case) -> Result<(u64, Told), Fail> {
+fn reported_in(alloc: Global, case: &Case) -> Result<(u64, Reported), Fail> {
     let market = market_of(alloc, &case.market)?;
-    let told = told_at(alloc, &market, case);
+    let reported = reported_at(alloc, &market, case);
     drop(market);
-    told
+    reported
 }
 
 #[test]
@@ -324,8 +324,8 @@ fn tickets_of_a_pool(rt: HostRuntime) -> Result<(), Fail> {
         same_in(
             &rt,
             case.name,
-            told_in(rt.alloc(), case)?,
-            (case.first, case.told),
+            reported_in(rt.alloc(), case)?,
+            (case.first, case.reported),
         );
     }
     Ok(())

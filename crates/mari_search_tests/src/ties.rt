@@ -281,35 +281,35 @@ fn published_in(market: &Market, cleared: &Cleared) -> Option<Published> {
 }
 
 /// What is reported of the clearing within a budget, if there is one.
-fn told_within(alloc: Global, market: &Market, budget: u32) -> Result<Option<Published>, Fail> {
+fn reported_within(alloc: Global, market: &Market, budget: u32) -> Result<Option<Published>, Fail> {
     let cleared = alone(alloc, market, budget)?;
-    let told = published_in(market, &cleared);
+    let reported = published_in(market, &cleared);
     drop(cleared);
-    Ok(told)
+    Ok(reported)
 }
 
 /// What is reported of the clearing of a market of so many gates, beside the first gate word by listing and its
 /// welfare.
-type Told = (Option<Published>, (u64, u64));
+type Reported = (Option<Published>, (u64, u64));
 
-fn told_of(alloc: Global, market: &Market, gates: u32, budget: u32) -> Result<Told, Fail> {
+fn reported_of(alloc: Global, market: &Market, gates: u32, budget: u32) -> Result<Reported, Fail> {
     let listed = first_by_listing(alloc, market, gates)?;
-    Ok((told_within(alloc, market, budget)?, listed))
+    Ok((reported_within(alloc, market, budget)?, listed))
 }
 
 /// What is reported of a case.
-fn told_in(alloc: Global, case: &Case) -> Result<Told, Fail> {
+fn reported_in(alloc: Global, case: &Case) -> Result<Reported, Fail> {
     let market = market_of(alloc, &case.market)?;
     let gates = case.market.gates.len().min(8) as u32;
-    let told = told_of(alloc, &market, gates, case.budget);
+    let reported = reported_of(alloc, &market, gates, case.budget);
     drop(market);
-    told
+    reported
 }
 
 #[test]
 fn the_first_optimal_gate_word_is_published(rt: HostRuntime) -> Result<(), Fail> {
     for case in CASES {
-        let (published, (listed, greatest)) = told_in(rt.alloc(), case)?;
+        let (published, (listed, greatest)) = reported_in(rt.alloc(), case)?;
         same_in(&rt, case.name, listed, case.bits);
         let (opened, word, welfare, items) = published.ok_or("it is published")?;
         same_in(&rt, case.name, (opened, word), (case.bits, Some(case.bits)));
@@ -372,17 +372,17 @@ fn later(alloc: Global, market: &Market, cleared: &Cleared) -> Later {
 /// What is reported of what a search of two equal blocks comes to.
 fn later_of(alloc: Global, market: &Market, budget: u32) -> Result<Later, Fail> {
     let cleared = alone(alloc, market, budget)?;
-    let told = later(alloc, market, &cleared);
+    let reported = later(alloc, market, &cleared);
     drop(cleared);
-    Ok(told)
+    Ok(reported)
 }
 
 /// What is reported of two equal blocks within a budget.
 fn later_within(alloc: Global, budget: u32) -> Result<Later, Fail> {
     let market = market_of(alloc, &TWO_EQUAL)?;
-    let told = later_of(alloc, &market, budget);
+    let reported = later_of(alloc, &market, budget);
     drop(market);
-    told
+    reported
 }
 
 #[test]

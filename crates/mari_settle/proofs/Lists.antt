@@ -37,14 +37,14 @@ map_along_more f (x ∷ xs) (y ∷ ys) (suc i) d e h l =
 pub written_along_more : {X Y Z : Type 0} (f : X → Y → Z) (xs : List X) (ys : List Y) (zs : List Z) (i : ℕ) (d : X) (e : Y) (z : Z) → i < length xs → i < length ys → i < length zs → take i zs ≡ map_along f (take i xs) (take i ys) → z ≡ f (get_or xs i d) (get_or ys i e) → take (i + 1) (set zs i z) ≡ map_along f (take (i + 1) xs) (take (i + 1) ys)
 written_along_more f xs ys zs i d e z h l m so_far here = take-set_at zs i (i + 1) z refl m ∙ ap (λ ws. ws ++ z ∷ []) so_far ∙ ap (λ w. map_along f (take i xs) (take i ys) ++ w ∷ []) here ∙ sym (map_along_more f xs ys i d e h l)
 
--- where two lists are the same from a place on, they are so at that place and behind it
+-- where two lists are the same from a place on, they are so at that place and after it
 same_here : {X : Type 0} (xs ys : List X) (i : ℕ) (d : X) → drop i xs ≡ drop i ys → get_or xs i d ≡ get_or ys i d
 same_here xs ys i d e =
     let k : i + 0 ≡ i = omega arith in
     sym (get_or-drop i xs 0 d ∙ ap (λ n. get_or xs n d) k) ∙ ap (λ zs. get_or zs 0 d) e ∙ get_or-drop i ys 0 d ∙ ap (λ n. get_or ys n d) k
 
-pub same_behind : {X : Type 0} (xs ys : List X) (i : ℕ) (z : X) → drop i xs ≡ drop i ys → drop (i + 1) (set xs i z) ≡ drop (i + 1) ys
-same_behind xs ys i z e = drop-set-lt (i + 1) xs i z (omega arith) ∙ sym (drop-drop 1 i xs) ∙ ap (λ zs. drop 1 zs) e ∙ drop-drop 1 i ys
+pub same_after : {X : Type 0} (xs ys : List X) (i : ℕ) (z : X) → drop i xs ≡ drop i ys → drop (i + 1) (set xs i z) ≡ drop (i + 1) ys
+same_after xs ys i z e = drop-set-lt (i + 1) xs i z (omega arith) ∙ sym (drop-drop 1 i xs) ∙ ap (λ zs. drop 1 zs) e ∙ drop-drop 1 i ys
 
 -- a list that is changed item by item, by f of what it was and another list: one more
 pub changed_more : {X : Type 0} (f : X → X → X) (P : X → X → Type 0) (xs old ys : List X) (i : ℕ) (d z : X) → i < length xs → length xs ≡ length old → AllZip P old ys → drop i xs ≡ drop i old → take i xs ≡ map_along f (take i old) (take i ys) → z ≡ f (get_or xs i d) (get_or ys i d) → take (i + 1) (set xs i z) ≡ map_along f (take (i + 1) old) (take (i + 1) ys)

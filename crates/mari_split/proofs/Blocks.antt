@@ -19,9 +19,9 @@ use Rattle.mari_publish.specs.declared.publication.FullBlock.{FullBlock}
 use Rattle.mari_publish.specs.Ranges.{MarketFits}
 use Rattle.mari_remain.specs.declared.books.Books.{Books}
 use Rattle.mari_remain.specs.declared.market.RunMarket.{RunMarket}
-use Rattle.mari_progress.specs.Behind.{also_behind, market_behind, run_behind}
-use Rattle.mari_progress.specs.Told.{heading_of}
-use Rattle.mari_day.specs.Published.{IsToldOf}
+use Rattle.mari_progress.specs.After.{also_after, market_after, run_after}
+use Rattle.mari_progress.specs.Reported.{heading_of}
+use Rattle.mari_day.specs.Published.{IsReportedOf}
 use Rattle.mari_islands.specs.declared.islands.Island.{Island}
 use Rattle.mari_islands.specs.declared.join.Joined.{Joined}
 use Rattle.mari_islands.specs.Cleared.{ArePublished, IsClearedBy, IsFirstOfWhole, IsIslandSpent}
@@ -96,31 +96,31 @@ as_joined c = record { activation = c.activation; welfare = c.welfare }
 
 module _ (books : Books) (budget run : ℕ) (made : RunMarket) (also : Option (List Cents)) (islands : List Island) (are : AreIslands made.market islands) (joined : Joined) (clearings : List Clearing)
     (published : ArePublished made.market islands budget joined clearings) (first : IsFirstOfWhole made.market joined) (tree : List TreeItem) (b : FullBlock) where
-  pub split : IsToldOf books run made also (record { activation = joined.activation; welfare = joined.welfare; tree = tree }) b
+  pub split : IsReportedOf books run made also (record { activation = joined.activation; welfare = joined.welfare; tree = tree }) b
       → IsSplitOf books budget run made also (record { block = b; islands = islands; clearings = clearings })
-  split told =
-      let same : joined_in b ≡ joined = ap as_joined told.cleared in
+  split reported =
+      let same : joined_in b ≡ joined = ap as_joined reported.cleared in
       record {
-        heading = told.heading;
-        names = told.names;
+        heading = reported.heading;
+        names = reported.names;
         first = subst (IsFirstOfWhole made.market) (sym same) first;
-        prices = told.prices;
-        ledger = told.ledger;
+        prices = reported.prices;
+        ledger = reported.ledger;
         islands = are;
         published = subst (λ (j : Joined). ArePublished made.market islands budget j clearings) (sym same) published;
       }
 
 -- what is known of the run's own market and prices, of those after the blocks
-module _ (books : Books) (budget : ℕ) (blocks : List SplitBlock) (made : RunMarket) (e : made ≡ market_behind books (blocks_of blocks)) (run : ℕ) (is : run ≡ run_behind (blocks_of blocks)) where
-  pub split_after : (also : Option (List Cents)) → also ≡ also_behind books (blocks_of blocks) → (r : SplitRun) → IsSplitOf books budget run made also r → IsSplitRun books budget blocks r
+module _ (books : Books) (budget : ℕ) (blocks : List SplitBlock) (made : RunMarket) (e : made ≡ market_after books (blocks_of blocks)) (run : ℕ) (is : run ≡ run_after (blocks_of blocks)) where
+  pub split_after : (also : Option (List Cents)) → also ≡ also_after books (blocks_of blocks) → (r : SplitRun) → IsSplitOf books budget run made also r → IsSplitRun books budget blocks r
   split_after also f r h =
       let R : ℕ → Type 0 = λ n. IsSplitOf books budget n made also r in
-      let M : RunMarket → Type 0 = λ m. IsSplitOf books budget (run_behind (blocks_of blocks)) m also r in
-      let A : Option (List Cents) → Type 0 = λ a. IsSplitOf books budget (run_behind (blocks_of blocks)) (market_behind books (blocks_of blocks)) a r in
+      let M : RunMarket → Type 0 = λ m. IsSplitOf books budget (run_after (blocks_of blocks)) m also r in
+      let A : Option (List Cents) → Type 0 = λ a. IsSplitOf books budget (run_after (blocks_of blocks)) (market_after books (blocks_of blocks)) a r in
       subst A f (subst M e (subst R is h))
 
   pub unsplit_after : (heading : Heading) (island count : ℕ) → IsUnsplitOf books budget run made heading island count → IsUnsplitRun books budget blocks heading island count
   unsplit_after heading island count h =
       let R : ℕ → Type 0 = λ n. IsUnsplitOf books budget n made heading island count in
-      let M : RunMarket → Type 0 = λ m. IsUnsplitOf books budget (run_behind (blocks_of blocks)) m heading island count in
+      let M : RunMarket → Type 0 = λ m. IsUnsplitOf books budget (run_after (blocks_of blocks)) m heading island count in
       subst M e (subst R is h)

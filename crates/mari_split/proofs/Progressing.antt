@@ -8,7 +8,7 @@ use Rattle.mari_remain.specs.declared.books.Books.{Books}
 use Rattle.mari_remain.specs.Accepted.{IsAccepted}
 use Rattle.mari_progress.specs.declared.progress.Progress.{Progress}
 use Rattle.mari_progress.specs.declared.progress.SettledRun.{SettledRun}
-use Rattle.mari_progress.specs.Behind.{run_behind}
+use Rattle.mari_progress.specs.After.{run_after}
 use Rattle.mari_progress.specs.Progress.{IsProgress}
 use Rattle.mari_progress.specs.Runs.{IsNextRun, IsSoundRun}
 use Rattle.mari_progress.proofs.Lists.{each-more}
@@ -40,7 +40,7 @@ part_more books budget blocks b part last is = record {
   each = each-more (IsSplitBlock books budget) blocks b part.each is;
 }
 
-module _ (books : Books) (budget : ℕ) (blocks : List SplitBlock) (kept : Progress) (progress : IsSplitProgress books budget blocks kept) (last : run_behind (blocks_of blocks) ≤ length books.runs.runs) where
+module _ (books : Books) (budget : ℕ) (blocks : List SplitBlock) (kept : Progress) (progress : IsSplitProgress books budget blocks kept) (last : run_after (blocks_of blocks) ≤ length books.runs.runs) where
   room : length blocks + 1 ≤ length books.runs.runs
   room = omega (arith, last, length-map blocks block_of)
 

@@ -13,10 +13,10 @@ use Rattle.mari_remain.specs.declared.market.RunMarket.{RunMarket}
 use Rattle.mari_market.specs.declared.clearing.Spent.{Spent}
 use Rattle.mari_market.specs.Clearing.{IsSpent}
 use Rattle.mari_market.specs.SearchTree.{HasSize}
-use Rattle.mari_progress.specs.Behind.{also_behind, market_behind, run_behind}
+use Rattle.mari_progress.specs.After.{also_after, market_after, run_after}
 use Rattle.mari_progress.specs.Money.{HasLedger}
 use Rattle.mari_progress.specs.Prices.{HasPrices}
-use Rattle.mari_progress.specs.Told.{NamesMarket, activation_of, heading_of}
+use Rattle.mari_progress.specs.Reported.{NamesMarket, activation_of, heading_of}
 use Rattle.mari_islands.specs.declared.islands.Island.{Island}
 use Rattle.mari_islands.specs.declared.join.Joined.{Joined}
 use Rattle.mari_islands.specs.Cleared.{ArePublished, IsClearable, IsFirstOfWhole}
@@ -52,7 +52,7 @@ blocks_of blocks = map block_of blocks
 
 -- a published run: that of the market after the blocks printed before
 abbrev pub IsSplitRun : Books → (budget : ℕ) → (before : List SplitBlock) → SplitRun → Type 0
-IsSplitRun books budget before r = IsSplitOf books budget (run_behind (blocks_of before)) (market_behind books (blocks_of before)) (also_behind books (blocks_of before)) r
+IsSplitRun books budget before r = IsSplitOf books budget (run_after (blocks_of before)) (market_after books (blocks_of before)) (also_after books (blocks_of before)) r
 
 -- the budget is spent on an island: its search tree is larger, and so many of its nodes were made
 abbrev pub IsSpentOn : (budget count : ℕ) → Island → Type 0
@@ -71,7 +71,7 @@ pub record IsUnsplitOf (books : Books) (budget run : ℕ) (made : RunMarket) (he
 
 -- one of the market after the blocks printed before
 abbrev pub IsUnsplitRun : Books → (budget : ℕ) → (before : List SplitBlock) → Heading → (island count : ℕ) → Type 0
-IsUnsplitRun books budget before heading island count = IsUnsplitOf books budget (run_behind (blocks_of before)) (market_behind books (blocks_of before)) heading island count
+IsUnsplitRun books budget before heading island count = IsUnsplitOf books budget (run_after (blocks_of before)) (market_after books (blocks_of before)) heading island count
 
 -- the block of the run after the blocks printed before
 abbrev pub IsSplitBlock : Books → (budget : ℕ) → (before : List SplitBlock) → SplitBlock → Type 0
@@ -95,4 +95,4 @@ IsWithin budget i = (size : ℕ) × HasSize i.market size × (size ≤ budget)
 -- whatever blocks are printed, the budget holds the search tree of each island of the market of the next run
 abbrev pub HoldsIslands : Books → (budget : ℕ) → Type 0
 HoldsIslands books budget = (blocks : List SplitBlock) (islands : List Island) → IsSplitPart books budget blocks → length blocks < length books.runs.runs
-    → AreIslands (market_behind books (blocks_of blocks)).market islands → All (IsWithin budget) islands
+    → AreIslands (market_after books (blocks_of blocks)).market islands → All (IsWithin budget) islands

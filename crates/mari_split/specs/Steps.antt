@@ -9,7 +9,7 @@ use Rattle.mari_publish.specs.Ranges.{MarketFits}
 use Rattle.mari_remain.specs.declared.books.Books.{Books}
 use Rattle.mari_progress.specs.declared.progress.Progress.{Progress}
 use Rattle.mari_progress.specs.declared.progress.SettledRun.{SettledRun}
-use Rattle.mari_progress.specs.Behind.{also_behind, market_behind}
+use Rattle.mari_progress.specs.After.{also_after, market_after}
 use Rattle.mari_progress.specs.Progress.{IsProgress}
 use Rattle.mari_progress.specs.Runs.{IsRunOf}
 use Rattle.mari_split.specs.declared.run.SplitDone.{SplitDone}
@@ -38,7 +38,7 @@ pub record IsSplitProgress (books : Books) (budget : ℕ) (blocks : List SplitBl
 
 -- what a block adds to its day, which is nothing unless it is published
 abbrev pub AddsToDay : Books → (before : List SplitBlock) → SplitBlock → Option SettledRun → Type 0
-AddsToDay books before (split.Published r) (Some settled) = IsRunOf books (market_behind books (blocks_of before)) (also_behind books (blocks_of before)) r.block settled
+AddsToDay books before (split.Published r) (Some settled) = IsRunOf books (market_after books (blocks_of before)) (also_after books (blocks_of before)) r.block settled
 AddsToDay books before (split.Published r) None = ⊥
 AddsToDay books before (split.Unpublished heading island count) (Some settled) = ⊥
 AddsToDay books before (split.Unpublished heading island count) None = ⊤

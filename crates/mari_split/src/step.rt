@@ -4,7 +4,7 @@ ghost use Rattle.std.specs.Prelude.{◌≡◌, ◌≤◌, List, Err, length};
 ghost use Rattle.mari_io.specs.Outside.{Counts};
 ghost use Rattle.mari_market.specs.Clearing.{IsBudget};
 ghost use Rattle.mari_remain.specs.Accepted.{IsAccepted};
-ghost use Rattle.mari_progress.specs.Behind.{run_behind};
+ghost use Rattle.mari_progress.specs.After.{run_after};
 ghost use Rattle.mari_day.specs.Dated.{IsDated};
 ghost use Rattle.mari_day.specs.Stepped.{Writes};
 ghost use Rattle.mari_split.specs.declared.split.SplitBlock.{SplitBlock as PrintedBlock};
@@ -54,14 +54,14 @@ pub fn split_step<C: Clearer, K: Sink>(
     requires accepted { IsAccepted books.now }
     requires dated { IsDated books.now }
     requires last { run ≤ length books.now.runs.runs }
-    requires stands { (blocks : List PrintedBlock) × IsSplitProgress books.now budget blocks progress.old × (run ≡ run_behind (blocks_of blocks)) }
+    requires stands { (blocks : List PrintedBlock) × IsSplitProgress books.now budget blocks progress.old × (run ≡ run_after (blocks_of blocks)) }
 
     // What clears its islands.
     requires budget { IsBudget budget }
     requires ready { C.ready clearer.old }
 
     // What is written and kept, whatever blocks these are, and why no more.
-    ensures stepped { (blocks : List PrintedBlock) → IsSplitProgress books.now budget blocks progress.old → run ≡ run_behind (blocks_of blocks)
+    ensures stepped { (blocks : List PrintedBlock) → IsSplitProgress books.now budget blocks progress.old → run ≡ run_after (blocks_of blocks)
         → SplitStepped books.now budget blocks progress.new (K.taken sink.old) (K.taken sink.new) result }
     ensures cause { Counts (result ≡ Err Stop.Sink) (K.faults sink.old) (K.faults sink.new) }
 

@@ -203,9 +203,9 @@ fn a_field_is_read_within_its_range_and_in_its_form_alone(rt: HostRuntime) -> Re
 #[test]
 fn a_list_has_as_many_fields_as_its_kind_allows(rt: HostRuntime) -> Result<(), Fail> {
     let alloc = rt.alloc();
-    for (words, field, times, behind, want) in LISTS {
-        let read = reads(alloc, &[(words, 1), (field, *times), (behind, 1)])?;
-        assert_eq!(rt; read, *want, "{words} {field} {times} {behind}");
+    for (words, field, times, tail, want) in LISTS {
+        let read = reads(alloc, &[(words, 1), (field, *times), (tail, 1)])?;
+        assert_eq!(rt; read, *want, "{words} {field} {times} {tail}");
     }
     Ok(())
 }

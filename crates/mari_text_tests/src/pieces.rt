@@ -139,9 +139,9 @@ fn a_text_gives_the_same_parts_in_pieces_of_any_length(rt: HostRuntime) -> Resul
     for case in CASES {
         let text = made(alloc, case.parts)?;
         let mut marks = Vec::new(alloc);
-        let told = outcome(alloc, text.as_bytes(), case.most, &mut marks);
+        let reported = outcome(alloc, text.as_bytes(), case.most, &mut marks);
         drop(text);
-        same_in(&rt, case.name, told?, (case.waits, case.want));
+        same_in(&rt, case.name, reported?, (case.waits, case.want));
         same_in(&rt, case.name, marks.as_slice(), case.marks);
     }
     Ok(())

@@ -113,7 +113,7 @@ const ROWS: &[Row] = &[
         printed: LINES[0],
     },
     Row {
-        name: "a line behind the last one",
+        name: "a line after the last one",
         page: ("F/publication.txt", LONGER_DAY),
         piece: 65_536,
         fails: (0, 0),

@@ -62,7 +62,7 @@ end 1
 ";
 
 /// What stands after a tree in a text of one run.
-const BEHIND_TREE: &str = "operator T 0.0000 0.0000 0.0000
+const AFTER_TREE: &str = "operator T 0.0000 0.0000 0.0000
 end 1
 total-operator T 0.0000 0.0000 0.0000
 done 1 0
@@ -247,15 +247,15 @@ const FAULTS: &[(&str, &str, u32, &str, Option<TextFault>)] = &[
         TO_TREE,
         "branch\n",
         49_999,
-        BEHIND_TREE,
+        AFTER_TREE,
         Some(BadOrder(50_005)),
     ),
-    (TO_TREE, "branch\n", 50_000, BEHIND_TREE, None),
+    (TO_TREE, "branch\n", 50_000, AFTER_TREE, None),
     (
         TO_TREE,
         "branch\n",
         50_001,
-        BEHIND_TREE,
+        AFTER_TREE,
         Some(BadOrder(50_006)),
     ),
     // as many runs as there may be, and one more
@@ -288,10 +288,10 @@ fn fault_of_parts(alloc: Global, parts: &[(&str, u32)]) -> Result<Option<TextFau
 #[test]
 fn a_text_has_the_fault_of_its_first_bad_line(rt: HostRuntime) -> Result<(), Fail> {
     let alloc = rt.alloc();
-    for (front, parts, times, behind, want) in FAULTS {
+    for (front, parts, times, tail, want) in FAULTS {
         for part in parts.split('|') {
-            let fault = fault_of_parts(alloc, &[(front, 1), (part, *times), (behind, 1)])?;
-            assert_eq!(rt; fault, *want, "{front}{part} {times} {behind}");
+            let fault = fault_of_parts(alloc, &[(front, 1), (part, *times), (tail, 1)])?;
+            assert_eq!(rt; fault, *want, "{front}{part} {times} {tail}");
         }
     }
     Ok(())
@@ -357,11 +357,11 @@ const ALTERED: &[(&str, &str, u32, &str, Option<TextFault>)] = &[
 #[test]
 fn a_day_with_another_line_has_its_fault(rt: HostRuntime) -> Result<(), Fail> {
     let alloc = rt.alloc();
-    for (line, other, times, behind, want) in ALTERED {
+    for (line, other, times, tail, want) in ALTERED {
         let Some((before, after)) = DAY.split_once(*line) else {
             return Err(Fail::from("the day has each line"));
         };
-        let parts = [(before, 1), (other, *times), (behind, 1), (after, 1)];
+        let parts = [(before, 1), (other, *times), (tail, 1), (after, 1)];
         let fault = fault_of_parts(alloc, &parts)?;
         assert_eq!(rt; fault, *want, "{times} {other}");
     }

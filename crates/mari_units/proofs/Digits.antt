@@ -23,7 +23,7 @@ own = numerals_by_fold AreDigits (search rules) value_from (search rules)
 no_minus : (d : ℕ) → is_ascii_digit d ≡ true → (d == 45) ≡ false
 no_minus d e = grind (arith, nat_tests)
 
--- digits, whatever stands behind them
+-- digits, whatever stands after them
 pub digits_unsigned : (ds rest : List ℕ) → AreDigits ds → 0 < length ds → (has_minus (ds ++ rest) ≡ false) × (without_minus (ds ++ rest) ≡ ds ++ rest)
 digits_unsigned [] rest e some = absurd (omega arith)
 digits_unsigned (d ∷ ds) rest e some = let n = no_minus d ((and_parts (is_ascii_digit d) (list_all is_ascii_digit ds) e).0) in (n, rw n refl)

@@ -22,7 +22,7 @@ names = names_of (built line)
 abbrev top : Shape
 top = (built line).top
 
--- a subcommand was met, and these words behind its name
+-- a subcommand was met, and these words after its name
 abbrev met : Text → List Text → Walk
 met name rest = record { held = nothing_held; waiting = waits.idle; position = 1; is_trailing = false; stopped = Some (name, rest) }
 

@@ -198,8 +198,8 @@ over verb words = fold (walked (rules verb) []) (at [] None nothing) words
 
 finish : (verb : Verb) (words : List Text) (o : Option Given) → walk_fault (leaf verb) [] (at [] None nothing) words ≡ [] → EndIs verb (over verb words) o → LevelIs verb words o
 finish verb words None walk end = λ h.
-    let behind = none_second (walk_fault (leaf verb) [] (at [] None nothing) words) _ h in
-    end (none_first _ _ behind) (none_second _ _ (none_second _ _ behind))
+    let after = none_second (walk_fault (leaf verb) [] (at [] None nothing) words) _ h in
+    end (none_first _ _ after) (none_second _ _ (none_second _ _ after))
 finish verb words (Some g) walk end =
     let rows = settled_rows (rules verb) (over verb words).held.pending (over verb words).held.rows in
     let checked = none_both (defaults_fault rows (rules verb)) (check_fault (leaf verb) (finished (rules verb) (over verb words).held) false) (defaults_pass (keys verb) rows) end.1 in
@@ -211,6 +211,6 @@ level verb words sp = go (seen_from (form_of verb) nothing words) (walks verb wo
   where
     go : (o : Option Seen) → Walks verb (at [] None nothing) words o → LevelIs verb words (option_map given_in (option_and_then (whole (form_of verb)) o))
     go None fails = λ h.
-        let behind = none_second (walk_fault (leaf verb) [] (at [] None nothing) words) _ h in
-        fails (none_first _ _ h) (none_first _ _ behind)
+        let after = none_second (walk_fault (leaf verb) [] (at [] None nothing) words) _ h in
+        fails (none_first _ _ h) (none_first _ _ after)
     go (Some end) p = finish verb words (option_map given_in (whole (form_of verb) end)) p.0 (ends verb (over verb words) end p.1)

@@ -18,7 +18,7 @@ module _ (verb : Verb) (rows : List Row) (pending : Pending) (words : List Text)
       → Turns verb (at rows pending (mk words nodes workers None false)) word (after (form_of verb) (mk words nodes workers None false) word)
   as_turn nodes workers o e = subst (Turns verb (at rows pending (mk words nodes workers None false)) word) (sym e)
 
-  -- behind `--`
+  -- after `--`
   pub ended : (nodes workers : Option Text) → State verb rows pending (mk words nodes workers None true) None
       → Turns verb (at rows pending (mk words nodes workers None true)) word (after (form_of verb) (mk words nodes workers None true) word)
   unfolding walked

@@ -12,7 +12,7 @@ pub data Sort (word : Text) : Type 0 where
       → is_dashed word ≡ true → Sort word
   plain : bytes_eq word (codes "--") ≡ false → long_of word ≡ None → short_of word ≡ None → is_dashed word ≡ false → Sort word
 
--- behind a dash stand characters
+-- after a dash stand characters
 spelled : (bs : List ℕ) → IsUtf8 (45 ∷ bs) → encode_utf8_all (chars bs) ≡ bs
 unfolding encode_utf8
 spelled bs u =

@@ -156,7 +156,7 @@ puts Joins rows pending (one ∷ two ∷ three ∷ four ∷ more) n w ended word
 
 -- ---- an option with its value
 
--- the rows behind `--NAME=VALUE`
+-- the rows after `--NAME=VALUE`
 pub state_now : (verb : Verb) (k : Key) (rows : List Row) (text : Text) (o : Key → Option Text) (s : Seen) → Finds rows o → o k ≡ None → ((j : Key) → values s j ≡ upd k text o j)
     → State verb (used (rule k) (text ∷ []) rows) None s None
 state_now verb k rows text o s f e v = (refl, λ j. used_finds k text rows o f e j ∙ ap (option_map (row j)) (sym (v j)))

@@ -22,7 +22,7 @@ two_words name = with_rule (one_word name) (required_word (codes "second"))
 abbrev pub three_words : Text → App
 three_words name = with_rule (two_words name) (required_word (codes "third"))
 
--- the options behind the words
+-- the options after the words
 abbrev pub with_options : App → App
 with_options app = with_rule (with_rule app (option_rule (codes "nodes"))) (option_rule (codes "workers"))
 

@@ -1,4 +1,4 @@
--- What the words behind a command's name give: words that belong to no option, and the values of options.
+-- What the words after a command's name give: words that belong to no option, and the values of options.
 use Rattle.std.specs.Prelude.{ℕ, Bool, true, false, List, [], ◌∷◌, ◌++◌, Option, Some, None, option_and_then, is_some, if◌then◌else◌, ◌==◌, nat_lt, length}
 use lib.Chars.{codes}
 use Rattle.std.specs.List.{after_first, before_first, list_any}
@@ -28,10 +28,10 @@ pub record Seen : Type 0 where
 abbrev pub nothing : Seen
 nothing = record { words = []; nodes = None; workers = None; waiting = None; ended = false }
 
--- what stands behind a first dash (45)
-abbrev pub behind_dash : Text → Option Text
-behind_dash [] = None
-behind_dash (x ∷ xs) = if x == 45 then Some xs else None
+-- what stands after a first dash (45)
+abbrev pub after_dash : Text → Option Text
+after_dash [] = None
+after_dash (x ∷ xs) = if x == 45 then Some xs else None
 
 -- a word that begins with a dash, and is longer
 abbrev pub is_dashed : Text → Bool
@@ -39,7 +39,7 @@ is_dashed [] = false
 is_dashed (x ∷ []) = false
 is_dashed (x ∷ y ∷ ys) = x == 45
 
--- the name, up to a first `=` (61), and the value behind it, if there is one
+-- the name, up to a first `=` (61), and the value after it, if there is one
 abbrev pub named_value : Text → Option (Text × Option Text)
 named_value [] = None
 named_value (x ∷ xs) = Some (
@@ -49,7 +49,7 @@ named_value (x ∷ xs) = Some (
 
 -- the same, of a word `--NAME` or `--NAME=VALUE`
 abbrev pub option_in : Text → Option (Text × Option Text)
-option_in word = option_and_then named_value (option_and_then behind_dash (behind_dash word))
+option_in word = option_and_then named_value (option_and_then after_dash (after_dash word))
 
 abbrev pub choice_named : Text → Option Choice
 choice_named name = if bytes_eq (codes "nodes") name then Some Nodes else (if bytes_eq (codes "workers") name then Some Workers else None)
@@ -85,7 +85,7 @@ abbrev pub with_next : Form → Seen → Text → Option Choice → Option Seen
 with_next form seen word (Some choice) = if is_dashed word then None else with_value seen choice word
 with_next form seen word None = with_open form seen word
 
--- one more word: behind `--` it belongs to no option; behind an option's name it is its value
+-- one more word: after `--` it belongs to no option; after an option's name it is its value
 abbrev pub after : Form → Seen → Text → Option Seen
 after form seen word = if seen.ended then with_word form seen word else with_next form seen word seen.waiting
 

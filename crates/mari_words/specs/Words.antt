@@ -55,7 +55,7 @@ verb_named name =
     else (if bytes_eq (codes "blocks") name then Some Joins
     else (if bytes_eq (codes "value") name then Some Values else None)))))))
 
--- how many words stand behind the command's name, and whether options do
+-- how many words stand after the command's name, and whether options do
 abbrev pub form_of : Verb → Form
 form_of Clears = record { words = 1; has_options = true }
 form_of Checks = record { words = 1; has_options = false }
@@ -140,7 +140,7 @@ asked_for Values given = do
   more ← natural_in 1 MOST_RAISE text
   Some (Value folder more)
 
--- what the words behind a command's name give, if they are of its form
+-- what the words after a command's name give, if they are of its form
 abbrev pub given_by : Verb → List Text → Option Given
 given_by verb words = option_map given_in (seen_from (form_of verb) nothing words >>= whole (form_of verb))
 

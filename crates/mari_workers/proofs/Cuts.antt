@@ -41,23 +41,23 @@ popped left item = reverse-append left (item ∷ [])
 pub item_taken : (m : Market) (w : ℕ) (x : Prefix) (item : TreeItem) (done left more : List TreeItem) → IsCutting m w done more (Some x) → more ≡ left ++ item ∷ [] → IsAtItem m w x item done left
 item_taken m w x item done left more h e = record {
   before = h.before;
-  behind = subst (AreParts m (IsOldLeaf m w) (left_at m.gates (Some x))) (ap reverse e ∙ popped left item) h.behind;
+  after = subst (AreParts m (IsOldLeaf m w) (left_at m.gates (Some x))) (ap reverse e ∙ popped left item) h.after;
   feasible = h.feasible;
 }
 
 -- a leaf takes the place of the item and of what stands below it
 pub leaf_done : (m : Market) (w : ℕ) (x : Prefix) (item : TreeItem) (leaf : LeafRecord) (done left new_done new_left : List TreeItem) (next : Option Prefix) → IsAtItem m w x item done left → IsOldLeaf m w (word_of x) leaf → new_done ≡ done ++ Leaf leaf ∷ [] → left_at m.gates next ≡ waiting_after m.gates (word_of x) → AreParts m (IsOldLeaf m w) (left_at m.gates next) (reverse new_left) → IfSome next (IsFeasiblePrefix m) → IsCutting m w new_done new_left next
-leaf_done m w x item leaf done left new_done new_left next h k d there behind f = record {
+leaf_done m w x item leaf done left new_done new_left next h k d there after f = record {
   before = subst (λ (ds : List TreeItem). LeavesWords m (IsOldLeaf m w) ([] ∷ []) ds (left_at m.gates next)) (sym d)
       (leaves_append m (IsOldLeaf m w) ([] ∷ []) done (Leaf leaf ∷ []) (left_at m.gates (Some x)) (left_at m.gates next) h.before (k, sym there));
-  behind = behind;
+  after = after;
   feasible = f;
 }
 
 -- a leaf that was there stays
 pub leaf_kept : (m : Market) (w : ℕ) (x : Prefix) (leaf : LeafRecord) (done left new_done : List TreeItem) (next : Option Prefix) → IsAtItem m w x (Leaf leaf) done left → new_done ≡ done ++ Leaf leaf ∷ [] → left_at m.gates next ≡ waiting_after m.gates (word_of x) → IfSome next (IsFeasiblePrefix m) → IsCutting m w new_done left next
 leaf_kept m w x leaf done left new_done next h d there f =
-    leaf_done m w x (Leaf leaf) leaf done left new_done left next h h.behind.0 d there (subst (λ (ws : List (List Bool)). AreParts m (IsOldLeaf m w) ws (reverse left)) (sym there) h.behind.1) f
+    leaf_done m w x (Leaf leaf) leaf done left new_done left next h h.after.0 d there (subst (λ (ws : List (List Bool)). AreParts m (IsOldLeaf m w) ws (reverse left)) (sym there) h.after.1) f
 
 child_feasible : (m : Market) (x y : Prefix) → IsFeasiblePrefix m x → length (word_of x) < length m.gates → word_of y ≡ word_of x ++ false ∷ [] → IsCleared y → IsFeasiblePrefix m y
 child_feasible m x y f l e cleared = record { word = subst (IsFeasibleWord m.gates) (sym e) (closed_child m.gates (word_of x) f.word l); rest = cleared }
@@ -65,7 +65,7 @@ child_feasible m x y f l e cleared = record { word = subst (IsFeasibleWord m.gat
 -- the prefix of a branch is a node, since those below it are
 pub node_here : (m : Market) (w : ℕ) (x : Prefix) (done left : List TreeItem) → IsValid m → IsAtItem m w x Branch done left → IsNode m (word_of x)
 node_here m w x done left v h =
-    let all = search_parts m (left_at m.gates (Some x)) (Branch ∷ reverse left) v (AreParts-map m (IsOldLeaf m w) (λ word leaf. IsNode m word) (λ word leaf k. k.node) (left_at m.gates (Some x)) (Branch ∷ reverse left) h.behind) in
+    let all = search_parts m (left_at m.gates (Some x)) (Branch ∷ reverse left) v (AreParts-map m (IsOldLeaf m w) (λ word leaf. IsNode m word) (λ word leaf k. k.node) (left_at m.gates (Some x)) (Branch ∷ reverse left) h.after) in
     all.1.0
 
 -- a branch stays
@@ -74,9 +74,9 @@ branch_kept m w x y done left new_done h d e cleared =
     let there : left_at m.gates (Some y) ≡ children m.gates (word_of x) ++ waiting_after m.gates (word_of x) = first_child m.gates x y e in
     record {
       before = subst (λ (ds : List TreeItem). LeavesWords m (IsOldLeaf m w) ([] ∷ []) ds (left_at m.gates (Some y))) (sym d)
-          (leaves_append m (IsOldLeaf m w) ([] ∷ []) done (Branch ∷ []) (left_at m.gates (Some x)) (left_at m.gates (Some y)) h.before (h.behind.0, sym there));
-      behind = subst (λ (ws : List (List Bool)). AreParts m (IsOldLeaf m w) ws (reverse left)) (sym there) h.behind.1;
-      feasible = child_feasible m x y h.feasible h.behind.0 e cleared;
+          (leaves_append m (IsOldLeaf m w) ([] ∷ []) done (Branch ∷ []) (left_at m.gates (Some x)) (left_at m.gates (Some y)) h.before (h.after.0, sym there));
+      after = subst (λ (ws : List (List Bool)). AreParts m (IsOldLeaf m w) ws (reverse left)) (sym there) h.after.1;
+      feasible = child_feasible m x y h.feasible h.after.0 e cleared;
     }
 
 -- ---- what stands below a prefix
@@ -90,7 +90,7 @@ within_both : (n : ℕ) (ws vs : List (List Bool)) → AreWithin n ws → AreWit
 within_both n [] vs a b = b
 within_both n (w ∷ ws) vs a b = (a.0, within_both n ws vs a.1 b)
 
--- nor is one that waits behind a word longer than that
+-- nor is one that waits after a word longer than that
 waiting_within : (gates : List GateInfo) (word : List Bool) (k n : ℕ) → k ≤ n → AreWithin n (waiting gates word k)
 waiting_within gates word zero n l = tt
 waiting_within gates word (suc k) n l = within_both n (if opens_in word k then [] else opened_child gates (take k word)) (waiting gates word k) (by_bit (opens_in word k)) (waiting_within gates word k n (omega arith))
@@ -103,13 +103,13 @@ waiting_within gates word (suc k) n l = within_both n (if opens_in word k then [
     by_bit true = tt
     by_bit false = by_may (may_open gates (take k word) (length (take k word)))
 
--- what waits behind a longer word
-record BehindLonger (gates : List GateInfo) (word : List Bool) (waits : List (List Bool)) : Type 0 where
+-- what waits after a longer word
+record AfterLonger (gates : List GateInfo) (word : List Bool) (waits : List (List Bool)) : Type 0 where
   rest : List (List Bool)
   waits_are : waits ≡ rest ++ waiting_after gates word
   longer : AreLonger word rest
 
-next_longer : (gates : List GateInfo) (word w : List Bool) (waits below : List (List Bool)) → length word < length w → (w ∷ waits) ≡ below ++ waiting_after gates word → AreLonger word below → BehindLonger gates word waits
+next_longer : (gates : List GateInfo) (word w : List Bool) (waits below : List (List Bool)) → length word < length w → (w ∷ waits) ≡ below ++ waiting_after gates word → AreLonger word below → AfterLonger gates word waits
 next_longer gates word w waits [] l e a = let within : AreWithin (length word) (w ∷ waits) = subst (AreWithin (length word)) (sym e) (waiting_within gates word (length word) (length word) (omega arith)) in absurd (omega (arith, l, within.0))
 next_longer gates word w waits (v ∷ vs) l e a = record { rest = vs; waits_are = cc; longer = a.1 }
 
@@ -134,37 +134,37 @@ below_branch m w x y done left h e cleared =
       below = children m.gates (word_of x);
       left_is = there;
       longer = subst (AreLonger (word_of x)) (append-nil (children m.gates (word_of x))) (children_longer (word_of x) (word_of x) (may_open m.gates (word_of x) (length (word_of x))) [] (omega arith) tt);
-      behind = subst (λ (ws : List (List Bool)). AreParts m (IsOldLeaf m w) ws (reverse left)) (sym there) h.behind.1;
-      feasible = child_feasible m x y h.feasible h.behind.0 e cleared;
+      after = subst (λ (ws : List (List Bool)). AreParts m (IsOldLeaf m w) ws (reverse left)) (sym there) h.after.1;
+      feasible = child_feasible m x y h.feasible h.after.0 e cleared;
     }
 
 -- the parts of the next prefix, where its item is taken out
 below_taken : (m : Market) (w : ℕ) (word : List Bool) (at : Prefix) (item : TreeItem) (left more : List TreeItem) → IsBelow m w word more (Some at) → more ≡ left ++ item ∷ [] → AreParts m (IsOldLeaf m w) (left_at m.gates (Some at)) (item ∷ reverse left)
-below_taken m w word at item left more h e = subst (AreParts m (IsOldLeaf m w) (left_at m.gates (Some at))) (ap reverse e ∙ popped left item) h.behind
+below_taken m w word at item left more h e = subst (AreParts m (IsOldLeaf m w) (left_at m.gates (Some at))) (ap reverse e ∙ popped left item) h.after
 
 -- a leaf below is dropped
 pub leaf_dropped : (m : Market) (w : ℕ) (word : List Bool) (at : Prefix) (leaf : LeafRecord) (left more : List TreeItem) (next : Option Prefix) → IsBelow m w word more (Some at) → more ≡ left ++ Leaf leaf ∷ [] → length word < length (word_of at) → left_at m.gates next ≡ waiting_after m.gates (word_of at) → IfSome next (IsFeasiblePrefix m) → IsBelow m w word left next
 leaf_dropped m w word at leaf left more next h e l there f =
-    let behind = next_longer m.gates word (word_of at) (waiting_after m.gates (word_of at)) h.below l h.left_is h.longer in
+    let after = next_longer m.gates word (word_of at) (waiting_after m.gates (word_of at)) h.below l h.left_is h.longer in
     record {
-      below = behind.rest;
-      left_is = there ∙ behind.waits_are;
-      longer = behind.longer;
-      behind = subst (λ (ws : List (List Bool)). AreParts m (IsOldLeaf m w) ws (reverse left)) (sym there) (below_taken m w word at (Leaf leaf) left more h e).1;
+      below = after.rest;
+      left_is = there ∙ after.waits_are;
+      longer = after.longer;
+      after = subst (λ (ws : List (List Bool)). AreParts m (IsOldLeaf m w) ws (reverse left)) (sym there) (below_taken m w word at (Leaf leaf) left more h e).1;
       feasible = f;
     }
 
 -- a branch below is dropped
 pub branch_dropped : (m : Market) (w : ℕ) (word : List Bool) (at y : Prefix) (left more : List TreeItem) → IsBelow m w word more (Some at) → more ≡ left ++ Branch ∷ [] → length word < length (word_of at) → word_of y ≡ word_of at ++ false ∷ [] → IsCleared y → IsBelow m w word left (Some y)
 branch_dropped m w word at y left more h e l child cleared =
-    let behind = next_longer m.gates word (word_of at) (waiting_after m.gates (word_of at)) h.below l h.left_is h.longer in
+    let after = next_longer m.gates word (word_of at) (waiting_after m.gates (word_of at)) h.below l h.left_is h.longer in
     let there : left_at m.gates (Some y) ≡ children m.gates (word_of at) ++ waiting_after m.gates (word_of at) = first_child m.gates at y child in
     let taken = below_taken m w word at Branch left more h e in
     record {
-      below = children m.gates (word_of at) ++ behind.rest;
-      left_is = there ∙ ap (λ (ws : List (List Bool)). children m.gates (word_of at) ++ ws) behind.waits_are ∙ sym (append_assoc (children m.gates (word_of at)) behind.rest (waiting_after m.gates word));
-      longer = children_longer word (word_of at) (may_open m.gates (word_of at) (length (word_of at))) behind.rest (omega (arith, l)) behind.longer;
-      behind = subst (λ (ws : List (List Bool)). AreParts m (IsOldLeaf m w) ws (reverse left)) (sym there) taken.1;
+      below = children m.gates (word_of at) ++ after.rest;
+      left_is = there ∙ ap (λ (ws : List (List Bool)). children m.gates (word_of at) ++ ws) after.waits_are ∙ sym (append_assoc (children m.gates (word_of at)) after.rest (waiting_after m.gates word));
+      longer = children_longer word (word_of at) (may_open m.gates (word_of at) (length (word_of at))) after.rest (omega (arith, l)) after.longer;
+      after = subst (λ (ws : List (List Bool)). AreParts m (IsOldLeaf m w) ws (reverse left)) (sym there) taken.1;
       feasible = child_feasible m at y h.feasible taken.0 child cleared;
     }
 
@@ -197,7 +197,7 @@ cutting_started m w tree done left (Some x) h d l n =
     let first : left_at m.gates (Some x) ≡ [] ∷ [] = ap (λ (u : List Bool). u ∷ waiting_after m.gates u) n.0 in
     record {
       before = subst (λ (ds : List TreeItem). LeavesWords m (IsOldLeaf m w) ([] ∷ []) ds (left_at m.gates (Some x))) (sym d) (sym first);
-      behind = subst (λ (ws : List (List Bool)). AreParts m (IsOldLeaf m w) ws (reverse left)) (sym first) (subst (AreParts m (IsOldLeaf m w) ([] ∷ [])) (sym l) h);
+      after = subst (λ (ws : List (List Bool)). AreParts m (IsOldLeaf m w) ws (reverse left)) (sym first) (subst (AreParts m (IsOldLeaf m w) ([] ∷ [])) (sym l) h);
       feasible = record { word = subst (IsFeasibleWord m.gates) (sym n.0) (nothing_opened m.gates); rest = n.1 };
     }
 

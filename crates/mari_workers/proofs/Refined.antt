@@ -37,7 +37,7 @@ use Rattle.mari_workers.specs.declared.refining.Turn.{Turn}
 use Rattle.mari_workers.specs.declared.refining.Turn.TheVariants.{On, Full, Yield}
 use Rattle.mari_workers.specs.declared.refining.Walk.{Walk}
 use Rattle.mari_workers.specs.Refine.{ended, ClosesAtClosed, HasNodes, IsCrowdedAt, IsFoundAt, IsLastTurn, IsNewLeaf, IsOldLeaf, IsTreeWalk, MayRefine}
-use Rattle.mari_workers.proofs.TreeWalks.{behind_is_late, leaves_map, old_leaves, parts_join, search_parts, waiting_late}
+use Rattle.mari_workers.proofs.TreeWalks.{after_is_late, leaves_map, old_leaves, parts_join, search_parts, waiting_late}
 
 -- ---- an activation is the first
 
@@ -65,7 +65,7 @@ rest_for : (m : Market) (aim : Aim) (x : Prefix) (rest : List TreeItem) → leng
 rest_for m aim x [] full a = absurd a
 rest_for m aim x (Leaf leaf ∷ rest) full a = (
   record { holds = a.0.holds; early = λ e. absurd (not_before_itself (word_of x) e) },
-  behind_is_late m aim.welfare (word_of x) (waiting_after m.gates (word_of x)) rest (waiting_late m.gates (word_of x) (length (word_of x)) (omega arith)) a.1,
+  after_is_late m aim.welfare (word_of x) (waiting_after m.gates (word_of x)) rest (waiting_late m.gates (word_of x) (length (word_of x)) (omega arith)) a.1,
 )
 rest_for m aim x (Branch ∷ rest) full a = absurd (omega (arith, full, a.0))
 
@@ -75,7 +75,7 @@ found_clears m aim x a done left items v h e =
     let P : List Bool → LeafRecord → Type 0 = LeafHoldsFor m (pos aim.welfare) (word_of x) in
     let full : length (word_of x) ≡ length m.gates = sym (ap length h.gates_are) ∙ length-gate_word_of m a in
     let front : LeavesWords m P ([] ∷ []) done (left_at m.gates (Some x)) = leaves_map m (IsNewLeaf m aim.welfare (word_of aim.word)) P (λ word leaf k. record { holds = k.holds.holds; early = λ b. k.holds.early (before_both word (word_of x) (word_of aim.word) b h.early) }) ([] ∷ []) done (left_at m.gates (Some x)) h.walk.before in
-    let whole : TreeHoldsFor m (pos aim.welfare) (word_of x) (done ++ reverse left) = parts_join m P ([] ∷ []) done (reverse left) (left_at m.gates (Some x)) front (rest_for m aim x (reverse left) full h.walk.behind) in
+    let whole : TreeHoldsFor m (pos aim.welfare) (word_of x) (done ++ reverse left) = parts_join m P ([] ∷ []) done (reverse left) (left_at m.gates (Some x)) front (rest_for m aim x (reverse left) full h.walk.after) in
     clears_by m aim.budget aim.welfare (word_of x) a items v h.admissible h.welfare h.gates_are (subst (TreeHoldsFor m (pos aim.welfare) (word_of x)) (sym e) whole)
     (omega (arith, h.walk.within, ap length e, length-append done (reverse left), length-reverse left))
 
@@ -106,10 +106,10 @@ crowded_spends m aim x done left whole items v h e f =
     let kids : List (List Bool) = children m.gates (word_of x) in
     let waits : List (List Bool) = waiting_after m.gates (word_of x) in
     let front : LeavesWords m O ([] ∷ []) done (word_of x ∷ waits) = leaves_map m (IsNewLeaf m aim.welfare (word_of aim.word)) O (λ word leaf k. record { holds = k.holds.holds; node = k.node }) ([] ∷ []) done (word_of x ∷ waits) h.walk.before in
-    let behind : AreParts m O (word_of x ∷ waits) (Leaf h.leaf ∷ h.rest) = subst (AreParts m O (word_of x ∷ waits)) h.left_is h.walk.behind in
-    let all : AreParts m O ([] ∷ []) (done ++ Leaf h.leaf ∷ h.rest) = parts_join m O ([] ∷ []) done (Leaf h.leaf ∷ h.rest) (word_of x ∷ waits) front behind in
+    let after : AreParts m O (word_of x ∷ waits) (Leaf h.leaf ∷ h.rest) = subst (AreParts m O (word_of x ∷ waits)) h.left_is h.walk.after in
+    let all : AreParts m O ([] ∷ []) (done ++ Leaf h.leaf ∷ h.rest) = parts_join m O ([] ∷ []) done (Leaf h.leaf ∷ h.rest) (word_of x ∷ waits) front after in
     let more : AreParts m O ([] ∷ []) (done ++ Branch ∷ (map (λ (w : List Bool). Leaf h.leaf) kids ++ h.rest)) =
-    parts_join m O ([] ∷ []) done (Branch ∷ (map (λ (w : List Bool). Leaf h.leaf) kids ++ h.rest)) (word_of x ∷ waits) front (h.crowded.undecided, leaves_then m O h.leaf kids waits h.rest h.below behind.1) in
+    parts_join m O ([] ∷ []) done (Branch ∷ (map (λ (w : List Bool). Leaf h.leaf) kids ++ h.rest)) (word_of x ∷ waits) front (h.crowded.undecided, leaves_then m O h.leaf kids waits h.rest h.below after.1) in
     let same : items ≡ map shape_of (done ++ Leaf h.leaf ∷ h.rest) = f ∙ ap (map shape_of) (e ∙ ap (λ (is : List TreeItem). done ++ is) h.left_is) in
     let count : length items ≡ length done + length left = ap length same ∙ length-map (done ++ Leaf h.leaf ∷ h.rest) shape_of ∙ omega (arith, length-append done (Leaf h.leaf ∷ h.rest), sym (ap length h.left_is), length-reverse left) in
     let long : length left ≡ suc (length h.rest) = omega (arith, ap length h.left_is, length-reverse left) in
@@ -133,9 +133,9 @@ last_clears m aim walk On a v adm e g h = ended_clears m aim a walk.done.items w
 last_clears m aim walk Full a v adm e g h = crowded_spends m aim h.0 walk.done.items walk.left.items (walk.done.items ++ reverse walk.left.items) (map shape_of (walk.done.items ++ reverse walk.left.items)) v h.1 refl refl
 last_clears m aim walk (Yield b) a v adm e g h = found_clears m aim h.0 b walk.done.items walk.left.items (walk.done.items ++ reverse walk.left.items) v h.1 refl
 
-pub clears_as : {X : Type 0} (m : Market) (budget : ℕ) (r : Result Cleared X) (told : Cleared) → IfOk r (λ cleared. cleared ≡ told) → Clears m budget told → IfOk r (Clears m budget)
-clears_as m budget (Ok cleared) told is h = subst (Clears m budget) (sym is) h
-clears_as m budget (Err fault) told is h = tt
+pub clears_as : {X : Type 0} (m : Market) (budget : ℕ) (r : Result Cleared X) (reported : Cleared) → IfOk r (λ cleared. cleared ≡ reported) → Clears m budget reported → IfOk r (Clears m budget)
+clears_as m budget (Ok cleared) reported is h = subst (Clears m budget) (sym is) h
+clears_as m budget (Err fault) reported is h = tt
 
 -- ---- the tree's nodes
 
@@ -144,8 +144,8 @@ walk_nodes : (m : Market) (aim : Aim) (x : Prefix) (done left : List TreeItem) �
 walk_nodes m aim x done left v h =
     let N : List Bool → LeafRecord → Type 0 = λ word leaf. IsNode m word in
     let front : LeavesWords m N ([] ∷ []) done (left_at m.gates (Some x)) = leaves_map m (IsNewLeaf m aim.welfare (word_of aim.word)) N (λ word leaf k. k.node) ([] ∷ []) done (left_at m.gates (Some x)) h.before in
-    let behind : AreParts m N (left_at m.gates (Some x)) (reverse left) = AreParts-map m (IsOldLeaf m aim.welfare) N (λ word leaf k. k.node) (left_at m.gates (Some x)) (reverse left) h.behind in
-    (search_parts m ([] ∷ []) (done ++ reverse left) v (parts_join m N ([] ∷ []) done (reverse left) (left_at m.gates (Some x)) front behind)).0
+    let after : AreParts m N (left_at m.gates (Some x)) (reverse left) = AreParts-map m (IsOldLeaf m aim.welfare) N (λ word leaf k. k.node) (left_at m.gates (Some x)) (reverse left) h.after in
+    (search_parts m ([] ∷ []) (done ++ reverse left) v (parts_join m N ([] ∷ []) done (reverse left) (left_at m.gates (Some x)) front after)).0
 
 -- whatever the last turn is, what is published has a tree of nodes
 pub last_nodes : (m : Market) (aim : Aim) (walk : Walk) (last : Turn) (a : Activation) → IsValid m → IsLastTurn m aim walk last → HasNodes m (ended walk last a aim.welfare)
@@ -156,9 +156,9 @@ last_nodes m aim walk On a v h =
 last_nodes m aim walk Full a v h = tt
 last_nodes m aim walk (Yield b) a v h = walk_nodes m aim h.0 walk.done.items walk.left.items v h.1.walk
 
-pub nodes_as : {X : Type 0} (m : Market) (r : Result Cleared X) (told : Cleared) → IfOk r (λ cleared. cleared ≡ told) → HasNodes m told → IfOk r (HasNodes m)
-nodes_as m (Ok cleared) told is h = subst (HasNodes m) (sym is) h
-nodes_as m (Err fault) told is h = tt
+pub nodes_as : {X : Type 0} (m : Market) (r : Result Cleared X) (reported : Cleared) → IfOk r (λ cleared. cleared ≡ reported) → HasNodes m reported → IfOk r (HasNodes m)
+nodes_as m (Ok cleared) reported is h = subst (HasNodes m) (sym is) h
+nodes_as m (Err fault) reported is h = tt
 
 -- ---- a clearing may be refined
 

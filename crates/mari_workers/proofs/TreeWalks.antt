@@ -62,9 +62,9 @@ node_front m word b v n = record {
   prefixes = λ k l. subst (IsPromising m) (take-append-le k word (b ∷ []) (omega arith)) (n.prefixes k (omega (arith, l, length-append word (b ∷ []))));
 }
 
-each_behind : (P : List Bool → Type 0) (word : List Bool) (words : List (List Bool)) (may : Bool) → Each P (((word ++ false ∷ []) ∷ (if may then (word ++ true ∷ []) ∷ [] else [])) ++ words) → P (word ++ false ∷ []) × Each P words
-each_behind P word words true a = (a.0, a.1.1)
-each_behind P word words false a = (a.0, a.1)
+each_after : (P : List Bool → Type 0) (word : List Bool) (words : List (List Bool)) (may : Bool) → Each P (((word ++ false ∷ []) ∷ (if may then (word ++ true ∷ []) ∷ [] else [])) ++ words) → P (word ++ false ∷ []) × Each P words
+each_after P word words true a = (a.0, a.1.1)
+each_after P word words false a = (a.0, a.1)
 
 -- where every leaf is a node, the items are parts of the search tree
 pub search_parts : (m : Market) (words : List (List Bool)) (items : List TreeItem) → IsValid m → AreParts m (λ word leaf. IsNode m word) words items → ArePartsOfSearch m words (map shape_of items) × Each (IsNode m) words
@@ -74,7 +74,7 @@ search_parts m (word ∷ words) [] v a = absurd a
 search_parts m (word ∷ words) (Leaf leaf ∷ items) v a = let r = search_parts m words items v a.1 in ((a.0, r.0), (a.0, r.1))
 search_parts m (word ∷ words) (Branch ∷ items) v a =
     let r = search_parts m (children m.gates word ++ words) items v a.1 in
-    let s = each_behind (IsNode m) word words (may_open m.gates word (length word)) r.1 in
+    let s = each_after (IsNode m) word words (may_open m.gates word (length word)) r.1 in
     let n : IsNode m word = node_front m word false v s.0 in
     ((n, a.0, r.0), (n, s.1))
 
@@ -92,15 +92,15 @@ late_longer word other b h =
     }
 
 -- no part of words that come after a gate word is early for it
-pub behind_is_late : (m : Market) (w : ℕ) (gates : List Bool) (words : List (List Bool)) (items : List TreeItem) → Each (ComesBefore gates) words → AreParts m (IsOldLeaf m w) words items → AreParts m (LeafHoldsFor m (pos w) gates) words items
-behind_is_late m w gates [] [] late a = tt
-behind_is_late m w gates [] (item ∷ items) late a = absurd a
-behind_is_late m w gates (word ∷ words) [] late a = absurd a
-behind_is_late m w gates (word ∷ words) (Leaf leaf ∷ items) late a =
-    (record { holds = a.0.holds; early = λ e. absurd (not_before_itself gates (before_both gates word gates late.0 e)) }, behind_is_late m w gates words items late.1 a.1)
-behind_is_late m w gates (word ∷ words) (Branch ∷ items) late a = (
+pub after_is_late : (m : Market) (w : ℕ) (gates : List Bool) (words : List (List Bool)) (items : List TreeItem) → Each (ComesBefore gates) words → AreParts m (IsOldLeaf m w) words items → AreParts m (LeafHoldsFor m (pos w) gates) words items
+after_is_late m w gates [] [] late a = tt
+after_is_late m w gates [] (item ∷ items) late a = absurd a
+after_is_late m w gates (word ∷ words) [] late a = absurd a
+after_is_late m w gates (word ∷ words) (Leaf leaf ∷ items) late a =
+    (record { holds = a.0.holds; early = λ e. absurd (not_before_itself gates (before_both gates word gates late.0 e)) }, after_is_late m w gates words items late.1 a.1)
+after_is_late m w gates (word ∷ words) (Branch ∷ items) late a = (
   a.0,
-  behind_is_late m w gates (children m.gates word ++ words) items
+  after_is_late m w gates (children m.gates word ++ words) items
       (each_append (ComesBefore gates) (children m.gates word) words
       (each_child (ComesBefore gates) word (may_open m.gates word (length word)) (late_longer gates word false late.0) (late_longer gates word true late.0)) late.1) a.1,
 )
@@ -111,7 +111,7 @@ sibling_late (false ∷ bs) zero l e = before_here bs []
 sibling_late (true ∷ bs) zero l e = absurd (cc)
 sibling_late (b ∷ bs) (suc n) l e = before_cons b bs (take n bs ++ true ∷ []) (sibling_late bs n (omega arith) e)
 
--- the words that wait behind a word come after it
+-- the words that wait after a word come after it
 pub waiting_late : (gates : List GateInfo) (word : List Bool) (n : ℕ) → n ≤ length word → Each (ComesBefore word) (waiting gates word n)
 waiting_late gates word zero l = tt
 waiting_late gates word (suc n) l =
@@ -137,24 +137,24 @@ popped left item = reverse-append left (item ∷ [])
 -- a branch is taken as it is
 pub branch_done : (m : Market) (aim : Aim) (x y : Prefix) (done left more : List TreeItem) → IsFeasiblePrefix m y → word_of y ≡ word_of x ++ false ∷ [] → IsTreeWalk m aim done more (Some x) → more ≡ left ++ Branch ∷ [] → IsTreeWalk m aim (done ++ Branch ∷ []) left (Some y)
 branch_done m aim x y done left more f child h e =
-    let rest : AreParts m (IsOldLeaf m aim.welfare) (left_at m.gates (Some x)) (Branch ∷ reverse left) = subst (AreParts m (IsOldLeaf m aim.welfare) (left_at m.gates (Some x))) (ap reverse e ∙ popped left Branch) h.behind in
+    let rest : AreParts m (IsOldLeaf m aim.welfare) (left_at m.gates (Some x)) (Branch ∷ reverse left) = subst (AreParts m (IsOldLeaf m aim.welfare) (left_at m.gates (Some x))) (ap reverse e ∙ popped left Branch) h.after in
     let there : left_at m.gates (Some y) ≡ children m.gates (word_of x) ++ waiting_after m.gates (word_of x) = first_child m.gates x y child in
     record {
       before = item_done m (IsNewLeaf m aim.welfare (word_of aim.word)) done Branch (left_at m.gates (Some x)) (left_at m.gates (Some y)) h.before (rest.0, sym there);
-      behind = subst (λ (ws : List (List Bool)). AreParts m (IsOldLeaf m aim.welfare) ws (reverse left)) (sym there) rest.1;
+      after = subst (λ (ws : List (List Bool)). AreParts m (IsOldLeaf m aim.welfare) ws (reverse left)) (sym there) rest.1;
       feasible = f;
       within = omega (arith, h.within, ap length e, length-append left (Branch ∷ []), length-append done (Branch ∷ []));
     }
 
 -- what a branch says of its prefix
 pub branch_room : (m : Market) (aim : Aim) (x : Prefix) (done left more : List TreeItem) → IsTreeWalk m aim done more (Some x) → more ≡ left ++ Branch ∷ [] → length (word_of x) < length m.gates
-branch_room m aim x done left more h e = let rest : AreParts m (IsOldLeaf m aim.welfare) (left_at m.gates (Some x)) (Branch ∷ reverse left) = subst (AreParts m (IsOldLeaf m aim.welfare) (left_at m.gates (Some x))) (ap reverse e ∙ popped left Branch) h.behind in rest.0
+branch_room m aim x done left more h e = let rest : AreParts m (IsOldLeaf m aim.welfare) (left_at m.gates (Some x)) (Branch ∷ reverse left) = subst (AreParts m (IsOldLeaf m aim.welfare) (left_at m.gates (Some x))) (ap reverse e ∙ popped left Branch) h.after in rest.0
 
 -- a leaf that holds for the gate word takes its place
 pub leaf_done : (m : Market) (aim : Aim) (x : Prefix) (old leaf : LeafRecord) (done left : List TreeItem) (next : Option Prefix) → IsAtLeaf m aim x old done left → LeafHoldsFor m (pos aim.welfare) (word_of aim.word) (word_of x) leaf → left_at m.gates next ≡ waiting_after m.gates (word_of x) → IfSome next (IsFeasiblePrefix m) → IsTreeWalk m aim (done ++ Leaf leaf ∷ []) left next
 leaf_done m aim x old leaf done left next h k there f = record {
-  before = item_done m (IsNewLeaf m aim.welfare (word_of aim.word)) done (Leaf leaf) (left_at m.gates (Some x)) (left_at m.gates next) h.before (record { holds = k; node = h.behind.0.node }, sym there);
-  behind = subst (λ (ws : List (List Bool)). AreParts m (IsOldLeaf m aim.welfare) ws (reverse left)) (sym there) h.behind.1;
+  before = item_done m (IsNewLeaf m aim.welfare (word_of aim.word)) done (Leaf leaf) (left_at m.gates (Some x)) (left_at m.gates next) h.before (record { holds = k; node = h.after.0.node }, sym there);
+  after = subst (λ (ws : List (List Bool)). AreParts m (IsOldLeaf m aim.welfare) ws (reverse left)) (sym there) h.after.1;
   feasible = f;
   within = omega (arith, h.within, length-append done (Leaf leaf ∷ []));
 }
@@ -163,7 +163,7 @@ leaf_done m aim x old leaf done left next h k there f = record {
 pub put_back : (m : Market) (aim : Aim) (x : Prefix) (old leaf : LeafRecord) (done left more : List TreeItem) → IsAtLeaf m aim x old done left → LeafHolds m (pos aim.welfare) (word_of x) leaf → more ≡ left ++ Leaf leaf ∷ [] → IsTreeWalk m aim done more (Some x)
 put_back m aim x old leaf done left more h k e = record {
   before = h.before;
-  behind = subst (AreParts m (IsOldLeaf m aim.welfare) (left_at m.gates (Some x))) (sym (ap reverse e ∙ popped left (Leaf leaf))) (record { holds = k; node = h.behind.0.node }, h.behind.1);
+  after = subst (AreParts m (IsOldLeaf m aim.welfare) (left_at m.gates (Some x))) (sym (ap reverse e ∙ popped left (Leaf leaf))) (record { holds = k; node = h.after.0.node }, h.after.1);
   feasible = h.feasible;
   within = omega (arith, h.within, ap length e, length-append left (Leaf leaf ∷ []));
 }
@@ -223,10 +223,10 @@ pub leaf_branched : (m : Market) (aim : Aim) (x y : Prefix) (old leaf : LeafReco
     → IsFeasiblePrefix m y → word_of y ≡ word_of x ++ false ∷ [] → more ≡ left ++ child_leaves leaf may → length done + length left + 1 + (if may then 2 else 1) ≤ aim.budget → IsTreeWalk m aim (done ++ Branch ∷ []) more (Some y)
 leaf_branched m aim x y old leaf may done left more v k h t f g kids fy child e fits =
     let there : left_at m.gates (Some y) ≡ children m.gates (word_of x) ++ waiting_after m.gates (word_of x) = first_child m.gates x y child in
-    let below = child_parts m aim (word_of x) leaf may (waiting_after m.gates (word_of x)) (reverse left) v k t h.behind.0.node f g h.behind.1 in
+    let below = child_parts m aim (word_of x) leaf may (waiting_after m.gates (word_of x)) (reverse left) v k t h.after.0.node f g h.after.1 in
     record {
       before = item_done m (IsNewLeaf m aim.welfare (word_of aim.word)) done Branch (left_at m.gates (Some x)) (left_at m.gates (Some y)) h.before (t.undecided, sym there);
-      behind =
+      after =
           subst (λ (ws : List (List Bool)). AreParts m (IsOldLeaf m aim.welfare) ws (reverse more)) (sym (there ∙ ap (λ (ws : List (List Bool)). ws ++ waiting_after m.gates (word_of x)) kids))
           (subst (AreParts m (IsOldLeaf m aim.welfare) (((word_of x ++ false ∷ []) ∷ (if may then (word_of x ++ true ∷ []) ∷ [] else [])) ++ waiting_after m.gates (word_of x))) (sym (ap reverse e ∙ turned leaf may left)) below);
       feasible = fy;
@@ -246,7 +246,7 @@ pub leaf_crowded : (m : Market) (aim : Aim) (x : Prefix) (old leaf : LeafRecord)
     → IsFeasibleWord m.gates (word_of x ++ false ∷ []) → (may ≡ true → IsFeasibleWord m.gates (word_of x ++ true ∷ [])) → children m.gates (word_of x) ≡ (word_of x ++ false ∷ []) ∷ (if may then (word_of x ++ true ∷ []) ∷ [] else [])
     → more ≡ left ++ Leaf leaf ∷ [] → aim.budget < length done + length left + 1 + (if may then 2 else 1) → IsCrowdedAt m aim x done more
 leaf_crowded m aim x old leaf may done left more v k h t f g kids e over =
-    let below = child_parts m aim (word_of x) leaf may [] [] v k t h.behind.0.node f g tt in
+    let below = child_parts m aim (word_of x) leaf may [] [] v k t h.after.0.node f g tt in
     let O : List Bool → LeafRecord → Type 0 = IsOldLeaf m aim.welfare in
     record {
       walk = put_back m aim x old leaf done left more h t.holds e;

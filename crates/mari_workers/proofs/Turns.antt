@@ -1,4 +1,4 @@
--- What each turn of a walk does, as its calls tell it.
+-- What each turn of a walk does, as its calls state it.
 use Rattle.std.proofs.Common.{◌≡◌, if◌then◌else◌, Bool, true, false, ℕ, ◌+◌, ◌<◌, ◌≤◌, pos, List, [], ◌∷◌, ◌++◌, length, reverse, Option, Some, None, arith, sym, ap, subst, ◌∙◌, length-append}
 use Rattle.std.specs.Prelude.{IfSome, IsSomeAnd}
 use Rattle.std.proofs.lemmas.List.{length-reverse}
@@ -73,7 +73,7 @@ walk_started m aim budget found done left (Some x) h w b d l n =
     let first : left_at m.gates (Some x) ≡ [] ∷ [] = ap (λ (u : List Bool). u ∷ waiting_after m.gates u) n.0 in
     record {
       before = subst (λ (ds : List TreeItem). LeavesWords m (IsNewLeaf m aim.welfare (word_of aim.word)) ([] ∷ []) ds (left_at m.gates (Some x))) (sym d) (sym first);
-      behind = subst (λ (ws : List (List Bool)). AreParts m (IsOldLeaf m aim.welfare) ws (reverse left)) (sym first) (subst (AreParts m (IsOldLeaf m aim.welfare) ([] ∷ [])) (sym l) all);
+      after = subst (λ (ws : List (List Bool)). AreParts m (IsOldLeaf m aim.welfare) ws (reverse left)) (sym first) (subst (AreParts m (IsOldLeaf m aim.welfare) ([] ∷ [])) (sym l) all);
       feasible = record { word = subst (IsFeasibleWord m.gates) (sym n.0) (nothing_opened m.gates); rest = n.1 };
       within = omega (arith, b, ap length d, ap length l, length-reverse left, h.clearing.within_budget);
     }

@@ -11,16 +11,16 @@ use Rattle.mari_workers.specs.declared.cutting.Cutting.{Cutting}
 use Rattle.mari_workers.specs.Refine.{IsOldLeaf}
 
 -- a walk through a tree: the items that are done are parts of it, those that are left, the next at the end, are the
--- parts of the next prefix and of the words that wait behind it, and the leaves of both hold
+-- parts of the next prefix and of the words that wait after it, and the leaves of both hold
 pub record IsCutting (m : Market) (w : ℕ) (done left : List TreeItem) (next : Option Prefix) : Type 0 where
   pub before : LeavesWords m (IsOldLeaf m w) ([] ∷ []) done (left_at m.gates next)
-  pub behind : AreParts m (IsOldLeaf m w) (left_at m.gates next) (reverse left)
+  pub after : AreParts m (IsOldLeaf m w) (left_at m.gates next) (reverse left)
   pub feasible : IfSome next (IsFeasiblePrefix m)
 
 -- the same walk where the item of the next prefix is taken out
 pub record IsAtItem (m : Market) (w : ℕ) (x : Prefix) (item : TreeItem) (done left : List TreeItem) : Type 0 where
   pub before : LeavesWords m (IsOldLeaf m w) ([] ∷ []) done (left_at m.gates (Some x))
-  pub behind : AreParts m (IsOldLeaf m w) (left_at m.gates (Some x)) (item ∷ reverse left)
+  pub after : AreParts m (IsOldLeaf m w) (left_at m.gates (Some x)) (item ∷ reverse left)
   pub feasible : IsFeasiblePrefix m x
 
 -- the walk one item on, with none more
@@ -35,10 +35,10 @@ AreLonger word [] = ⊤
 AreLonger word (v ∷ vs) = (length word < length v) × AreLonger word vs
 
 -- among the items that are left stand first parts of words that are longer than this one, and then those of the words
--- that wait behind it
+-- that wait after it
 pub record IsBelow (m : Market) (w : ℕ) (word : List Bool) (left : List TreeItem) (next : Option Prefix) : Type 0 where
   pub below : List (List Bool)
   pub left_is : left_at m.gates next ≡ below ++ waiting_after m.gates word
   pub longer : AreLonger word below
-  pub behind : AreParts m (IsOldLeaf m w) (left_at m.gates next) (reverse left)
+  pub after : AreParts m (IsOldLeaf m w) (left_at m.gates next) (reverse left)
   pub feasible : IfSome next (IsFeasiblePrefix m)

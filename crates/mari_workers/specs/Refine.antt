@@ -114,17 +114,17 @@ pub record IsOldLeaf (m : Market) (w : ℕ) (word : List Bool) (leaf : LeafRecor
   pub node : IsNode m word
 
 -- a walk through a tree: the items so far are parts of it that hold for the gate word, and those that are left, the
--- next at the end, are the parts of the next prefix and of the words that wait behind it, and hold at the welfare
+-- next at the end, are the parts of the next prefix and of the words that wait after it, and hold at the welfare
 pub record IsTreeWalk (m : Market) (aim : Aim) (done left : List TreeItem) (next : Option Prefix) : Type 0 where
   pub before : LeavesWords m (IsNewLeaf m aim.welfare (word_of aim.word)) ([] ∷ []) done (left_at m.gates next)
-  pub behind : AreParts m (IsOldLeaf m aim.welfare) (left_at m.gates next) (reverse left)
+  pub after : AreParts m (IsOldLeaf m aim.welfare) (left_at m.gates next) (reverse left)
   pub feasible : IfSome next (IsFeasiblePrefix m)
   pub within : length done + length left ≤ aim.budget
 
 -- the same walk where the leaf of the next prefix is taken out
 pub record IsAtLeaf (m : Market) (aim : Aim) (x : Prefix) (leaf : LeafRecord) (done left : List TreeItem) : Type 0 where
   pub before : LeavesWords m (IsNewLeaf m aim.welfare (word_of aim.word)) ([] ∷ []) done (left_at m.gates (Some x))
-  pub behind : AreParts m (IsOldLeaf m aim.welfare) (left_at m.gates (Some x)) (Leaf leaf ∷ reverse left)
+  pub after : AreParts m (IsOldLeaf m aim.welfare) (left_at m.gates (Some x)) (Leaf leaf ∷ reverse left)
   pub feasible : IsFeasiblePrefix m x
   pub within : length done + length left + 1 ≤ aim.budget
 

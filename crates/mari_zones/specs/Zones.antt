@@ -27,7 +27,7 @@ zones_of rows = map zone_of rows
 abbrev pub operators_of : List Row → List (List ℕ)
 operators_of rows = distinct (map operator_of rows)
 
--- a line is refused behind `MOST_ZONES` others, for a field that is no name, and for a zone of an earlier line
+-- a line is refused after `MOST_ZONES` others, for a field that is no name, and for a zone of an earlier line
 abbrev pub zone_checks : List Row → Row → Checks
 zone_checks earlier row =
     (nat_le MOST_ZONES (length earlier), zone_check_number TooManyZones)

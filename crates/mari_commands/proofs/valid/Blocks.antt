@@ -12,9 +12,9 @@ use Rattle.mari_publish.specs.declared.publication.FullBlock.{FullBlock}
 use Rattle.mari_lines.specs.declared.line.Heading.{Heading}
 use Rattle.mari_remain.specs.declared.books.Books.{Books}
 use Rattle.mari_remain.specs.declared.market.RunMarket.{RunMarket}
-use Rattle.mari_progress.specs.Behind.{market_behind, run_behind}
+use Rattle.mari_progress.specs.After.{market_after, run_after}
 use Rattle.mari_day.specs.Published.{IsBlock, IsPublishedOf, IsUnpublishedRun}
-use Rattle.mari_progress.specs.Told.{activation_of}
+use Rattle.mari_progress.specs.Reported.{activation_of}
 use Rattle.mari_check.specs.declared.fault.Fault.{Fault}
 use Rattle.mari_check.specs.declared.fault.Fault.TheVariants as fault
 use Rattle.mari_check.specs.Day.{FillsBudget, IsFreeIn, IsUnpublishedFree}
@@ -48,12 +48,12 @@ two-children word false = omega arith
 -- so two nodes more would be above the budget
 fills-budget : (books : Books) (budget : ℕ) (before : List Block) (heading : Heading) (count : ℕ) → IsUnpublishedRun books budget before heading count → FillsBudget budget count
 fills-budget books budget before heading count is =
-    let gates = (market_behind books before).market.gates in
+    let gates = (market_after books before).market.gates in
     let over = is.is_spent.overflows in
     let few : length (children gates over.leaf) ≤ 2 = two-children over.leaf (may_open gates over.leaf (length over.leaf)) in
     record { within = omega (arith, is.counted, is.is_spent.within_budget); full = omega (arith, is.counted, over.crowded.more, few) }
 
-unpublished-free : (books : Books) (budget : ℕ) (before : List Block) (heading : Heading) (count : ℕ) → run_behind before ≤ length books.runs.runs → IsUnpublishedRun books budget before heading count
+unpublished-free : (books : Books) (budget : ℕ) (before : List Block) (heading : Heading) (count : ℕ) → run_after before ≤ length books.runs.runs → IsUnpublishedRun books budget before heading count
     → (any : Fault) → IsUnpublishedFree books budget before heading count any
 unpublished-free books budget before heading count there is fault.Heading = record { there = there; is_of = is.is_of }
 unpublished-free books budget before heading count there is fault.Lines = tt
@@ -68,6 +68,6 @@ unpublished-free books budget before heading count there is fault.Leaf = tt
 unpublished-free books budget before heading count there is fault.Ledger = tt
 unpublished-free books budget before heading count there is fault.Totals = tt
 
-pub block-is-free : (books : Books) (budget : ℕ) (before : List Block) (b : Block) → run_behind before ≤ length books.runs.runs → IsBlock books budget before b → (any : Fault) → IsFreeIn books budget before b any
+pub block-is-free : (books : Books) (budget : ℕ) (before : List Block) (b : Block) → run_after before ≤ length books.runs.runs → IsBlock books budget before b → (any : Fault) → IsFreeIn books budget before b any
 block-is-free books budget before (block.Published b) there is any = (there, free-of books budget _ _ _ b is any)
 block-is-free books budget before (block.Unpublished heading count) there is any = unpublished-free books budget before heading count there is any

@@ -72,7 +72,7 @@ fn is_ten_thousandths(text: &[u8], number: u128) -> bool
 }
 
 /// What stands after the sign of a number, where a text begins with it.
-fn behind_sign(text: &[u8], negative: bool) -> Option<&[u8]>
+fn after_sign(text: &[u8], negative: bool) -> Option<&[u8]>
     ensures { MatchOption result ((size : List ℕ) → text.now ≢ sign_of negative ++ size)
         (λ size. text.now ≡ sign_of negative ++ size.now) }
 {
@@ -87,7 +87,7 @@ fn behind_sign(text: &[u8], negative: bool) -> Option<&[u8]>
 pub fn is_whole_text(text: &[u8], value: i128) -> bool
     ensures { IsTrue result ↔ (text.now ≡ signed_decimal value) }
 {
-    let Some(size) = behind_sign(text, value < 0) else {
+    let Some(size) = after_sign(text, value < 0) else {
         return false;
     };
     is_decimal(size, value.unsigned_abs())
@@ -98,7 +98,7 @@ pub fn is_money_text(text: &[u8], money: Quarters) -> bool
     requires { unsigned_abs money.0 ≤ 10 ^ 30 }
     ensures { IsTrue result ↔ (text.now ≡ money_text money) }
 {
-    let Some(size) = behind_sign(text, money.0 < 0) else {
+    let Some(size) = after_sign(text, money.0 < 0) else {
         return false;
     };
     is_ten_thousandths(size, 25 * money.0.unsigned_abs())

@@ -8,7 +8,7 @@ use Rattle.mari_blocks.specs.Joint.{is_left_out}
 use Rattle.mari_blocks.proofs.choice.kept_bids.Goals as goal
 use Rattle.mari_blocks.proofs.choice.kept_bids.Goals.{then-not-is_out+in_ok-push, else-not-is_out}
 
--- marks of blocks tell what they mark
+-- marks of blocks state what they mark
 same-marks : (f g : ℕ → Bool) → ((block : ℕ) → f block ≡ g block) → (o : Option ℕ) → option_map_or f o false ≡ option_map_or g o false
 same-marks f g same None = refl
 same-marks f g same (Some block) = same block

@@ -15,9 +15,9 @@ pub loop-quarter-preserved : goal.loop-quarter-preserved
 loop-quarter-preserved c =
     let books = c.args.books.now in
     let quarter = c.loop-quarter.quarter in
-    let behind : (quarter - c.args.first) * c.len-zones.result ≡ zones_before books c.args.first quarter = ap (λ n. (quarter - c.args.first) * n) c.len-zones.ensures.len in
+    let after : (quarter - c.args.first) * c.len-zones.result ≡ zones_before books c.args.first quarter = ap (λ n. (quarter - c.args.first) * n) c.len-zones.ensures.len in
     brought books c.args.first quarter c.loop-quarter.parts c.add.new.self c.in_ok-made.made ((quarter - c.args.first) * c.len-zones.result) c.loop-quarter.auto.quarter
-    (c.in_ok-made.ensures.market ∙ ap (run_market_of books []) c.run_of_quarter.ensures.run) behind
+    (c.in_ok-made.ensures.market ∙ ap (run_market_of books []) c.run_of_quarter.ensures.run) after
     c.in_ok-add.ensures.offered c.in_ok-add.ensures.borders c.in_ok-add.ensures.demands c.loop-quarter.invariant
 
 pub returns : goal.returns

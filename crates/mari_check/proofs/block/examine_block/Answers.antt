@@ -2,18 +2,18 @@ use Rattle.std.proofs.Common.{None, arith, refl, subst, sym}
 use Rattle.mari_market.specs.declared.activation.Activation.{Activation}
 use Rattle.mari_market.specs.Optimal.{IsConsistent, IsFeasible}
 use Rattle.mari_check.specs.declared.fault.Fault.TheVariants as fault
-use Rattle.mari_progress.specs.Told.{prices_of}
+use Rattle.mari_progress.specs.Reported.{prices_of}
 use Rattle.mari_check.proofs.Examining.{with-ledger, without-ledger}
 use Rattle.mari_check.proofs.Least.{found-none, found-some}
 use Rattle.mari_check.proofs.block.examine_block.Goals as goal
 
-pub told_ledger-requires-clause-feasible : goal.told_ledger-requires-clause-feasible
-told_ledger-requires-clause-feasible c =
+pub reported_ledger-requires-clause-feasible : goal.reported_ledger-requires-clause-feasible
+reported_ledger-requires-clause-feasible c =
     let none = found-none _ 11 c.in_ok-fault.field-0 c.in_default-2.is (c.in_ok-fault.ensures c.args.books.now c.args.run c.args.made.now None refl (c.in_default.ensures None c.args.budget)) in
     subst (IsFeasible c.args.made.now.market) (sym c.in_ok-activation.ensures) (none fault.Infeasible (omega arith))
 
-pub told_ledger-requires-clause-consistent : goal.told_ledger-requires-clause-consistent
-told_ledger-requires-clause-consistent c =
+pub reported_ledger-requires-clause-consistent : goal.reported_ledger-requires-clause-consistent
+reported_ledger-requires-clause-consistent c =
     let none = found-none _ 11 c.in_ok-fault.field-0 c.in_default-2.is (c.in_ok-fault.ensures c.args.books.now c.args.run c.args.made.now None refl (c.in_default.ensures None c.args.budget)) in
     let P : Activation → Type 0 = λ a. IsConsistent c.args.made.now.market a (prices_of c.args.block.now) in
     subst (IsConsistent c.args.made.now.market c.in_ok-activation.activation) (sym c.in_ok-prices.ensures) (subst P (sym c.in_ok-activation.ensures) (none fault.Inconsistent (omega arith)))

@@ -1,6 +1,6 @@
 use Rattle.std.proofs.Common.{◌∙◌, ap, arith, length, sym}
 use Rattle.std.proofs.lemmas.Bool.Decides.{nat_tests}
-use Rattle.mari_progress.specs.Told.{NamesMarket}
+use Rattle.mari_progress.specs.Reported.{NamesMarket}
 use Rattle.mari_check.proofs.Naming.{bids-of, borders-of, names-of, zones-of}
 use Rattle.mari_check.proofs.Zips.{refuted}
 use Rattle.mari_check.proofs.names.names_market.Goals as goal

@@ -9,10 +9,10 @@ use Rattle.mari_check.proofs.tree.has_shape.Goals as goal
 pub loop-item-preserved : goal.loop-item-preserved
 loop-item-preserved c =
     let m = c.args.market.now in
-    let fits = subst (λ (i : TreeItem). FitsItem m AnyLeaf c.in-Some.prefix i c.behind-next.result) c.item-item.is c.behind-next.ensures.fits in
+    let fits = subst (λ (i : TreeItem). FitsItem m AnyLeaf c.in-Some.prefix i c.after-next.result) c.item-item.is c.after-next.ensures.fits in
     record {
-      before = walk_more m AnyLeaf c.args.tree.now c.loop-item.item-index c.item-item.result c.in-Some.prefix c.loop-item.next c.behind-next.result c.loop-item-test.true c.in-Some.is c.loop-item.invariant.before fits;
-      feasible = c.behind-next.ensures.feasible;
+      before = walk_more m AnyLeaf c.args.tree.now c.loop-item.item-index c.item-item.result c.in-Some.prefix c.loop-item.next c.after-next.result c.loop-item-test.true c.in-Some.is c.loop-item.invariant.before fits;
+      feasible = c.after-next.ensures.feasible;
     }
 
 pub returns-then-is_full_branch : goal.returns-then-is_full_branch

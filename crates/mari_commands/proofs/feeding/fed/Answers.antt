@@ -1,6 +1,6 @@
 use Rattle.std.proofs.Common.{◌≡◌, ◌∙◌, List, ℕ, Ok, Err, ap, refl, subst}
 use Rattle.mari_io.specs.Outside.{page_of}
-use Rattle.mari_feed.specs.Streams.{FeedTells}
+use Rattle.mari_feed.specs.Streams.{FeedStates}
 use Rattle.mari_feed.specs.declared.stream.FeedStop.TheVariants as stop
 use Rattle.mari_day.specs.Files.{path_in}
 use Rattle.mari_commands.specs.Commands.{publication_path}
@@ -8,7 +8,7 @@ use Rattle.mari_commands.proofs.Reporting.{nothing_fed}
 use Rattle.mari_commands.proofs.feeding.fed.Goals as goal
 
 pub returns-in_default-clause-reported : goal.returns-in_default-clause-reported
-returns-in_default-clause-reported g c = record { between = g.K.Sink.taken c.args.sink.now; end = Err stop.Memory; cause = λ h. absurd h; tells = λ told t. nothing_fed _ _; reports = (refl, refl) }
+returns-in_default-clause-reported g c = record { between = g.K.Sink.taken c.args.sink.now; end = Err stop.Memory; cause = λ h. absurd h; states = λ reported t. nothing_fed _ _; reports = (refl, refl) }
 
 pub returns-in-Ok-print_feed-clause-reported : goal.returns-in-Ok-print_feed-clause-reported
 returns-in-Ok-print_feed-clause-reported g c =
@@ -17,7 +17,7 @@ returns-in-Ok-print_feed-clause-reported g c =
       between = g.K.Sink.taken c.print_feed.new.sink;
       end = Ok (tt {0});
       cause = λ h. absurd h;
-      tells = λ told t. let P : List ℕ → Type 0 = λ name. FeedTells {T = Unit {0}} (page_of told name) (g.K.Sink.taken c.args.sink.now) (g.K.Sink.taken c.print_feed.new.sink) (Ok (tt {0})) in subst P path (c.in-Ok-print_feed.ensures.told told t);
+      states = λ reported t. let P : List ℕ → Type 0 = λ name. FeedStates {T = Unit {0}} (page_of reported name) (g.K.Sink.taken c.args.sink.now) (g.K.Sink.taken c.print_feed.new.sink) (Ok (tt {0})) in subst P path (c.in-Ok-print_feed.ensures.reported reported t);
       reports = (refl, refl);
     }
 
@@ -28,7 +28,7 @@ returns-in-Err-Fetch-clause-reported g c =
       between = g.K.Sink.taken c.print_feed.new.sink;
       end = Err c.in-Err-Fetch.field-0;
       cause = c.in-Err-Fetch.ensures.failed.rose;
-      tells = λ told t. let P : List ℕ → Type 0 = λ name. FeedTells {T = Unit {0}} (page_of told name) (g.K.Sink.taken c.args.sink.now) (g.K.Sink.taken c.print_feed.new.sink) (Err c.in-Err-Fetch.field-0) in subst P path (c.in-Err-Fetch.ensures.told told t);
+      states = λ reported t. let P : List ℕ → Type 0 = λ name. FeedStates {T = Unit {0}} (page_of reported name) (g.K.Sink.taken c.args.sink.now) (g.K.Sink.taken c.print_feed.new.sink) (Err c.in-Err-Fetch.field-0) in subst P path (c.in-Err-Fetch.ensures.reported reported t);
       reports = rw c.in-Err-Fetch.field-0-is c.say_no_page.ensures.reports;
     }
 
@@ -39,7 +39,7 @@ returns-in-Err-Text-clause-reported g c =
       between = g.K.Sink.taken c.print_feed.new.sink;
       end = Err c.in-Err-Text.field-0;
       cause = c.in-Err-Text.ensures.failed.rose;
-      tells = λ told t. let P : List ℕ → Type 0 = λ name. FeedTells {T = Unit {0}} (page_of told name) (g.K.Sink.taken c.args.sink.now) (g.K.Sink.taken c.print_feed.new.sink) (Err c.in-Err-Text.field-0) in subst P path (c.in-Err-Text.ensures.told told t);
+      states = λ reported t. let P : List ℕ → Type 0 = λ name. FeedStates {T = Unit {0}} (page_of reported name) (g.K.Sink.taken c.args.sink.now) (g.K.Sink.taken c.print_feed.new.sink) (Err c.in-Err-Text.field-0) in subst P path (c.in-Err-Text.ensures.reported reported t);
       reports = rw c.in-Err-Text.field-0-is c.say_fault.ensures.reports;
     }
 
@@ -50,7 +50,7 @@ returns-in-Err-Sink-clause-reported g c =
       between = g.K.Sink.taken c.print_feed.new.sink;
       end = Err c.in-Err-Sink.field-0;
       cause = c.in-Err-Sink.ensures.failed.rose;
-      tells = λ told t. let P : List ℕ → Type 0 = λ name. FeedTells {T = Unit {0}} (page_of told name) (g.K.Sink.taken c.args.sink.now) (g.K.Sink.taken c.print_feed.new.sink) (Err c.in-Err-Sink.field-0) in subst P path (c.in-Err-Sink.ensures.told told t);
+      states = λ reported t. let P : List ℕ → Type 0 = λ name. FeedStates {T = Unit {0}} (page_of reported name) (g.K.Sink.taken c.args.sink.now) (g.K.Sink.taken c.print_feed.new.sink) (Err c.in-Err-Sink.field-0) in subst P path (c.in-Err-Sink.ensures.reported reported t);
       reports = rw c.in-Err-Sink.field-0-is (refl, refl);
     }
 
@@ -61,6 +61,6 @@ returns-clause-reported g c =
       between = g.K.Sink.taken c.print_feed.new.sink;
       end = Err c.in-Err-Memory.field-0;
       cause = c.in-Err-Memory.ensures.failed.rose;
-      tells = λ told t. let P : List ℕ → Type 0 = λ name. FeedTells {T = Unit {0}} (page_of told name) (g.K.Sink.taken c.args.sink.now) (g.K.Sink.taken c.print_feed.new.sink) (Err c.in-Err-Memory.field-0) in subst P path (c.in-Err-Memory.ensures.told told t);
+      states = λ reported t. let P : List ℕ → Type 0 = λ name. FeedStates {T = Unit {0}} (page_of reported name) (g.K.Sink.taken c.args.sink.now) (g.K.Sink.taken c.print_feed.new.sink) (Err c.in-Err-Memory.field-0) in subst P path (c.in-Err-Memory.ensures.reported reported t);
       reports = rw c.in-Err-Memory.field-0-is (refl, refl);
     }

@@ -1,5 +1,5 @@
 use Rattle.std.proofs.Common.{ℕ, List, subst}
-use Rattle.mari_quarters.specs.Quarters.{QuartersTell}
+use Rattle.mari_quarters.specs.Quarters.{QuartersReport}
 use Rattle.mari_commands.proofs.Joint.{quarters-failed, quarters-missing, quarters-too-long}
 use Rattle.mari_commands.proofs.Naming.{quarters-sayable}
 use Rattle.mari_commands.proofs.joining.join_by.Goals as goal
@@ -10,7 +10,7 @@ say_quarters-requires g c = quarters-sayable c.clear_quarters-given.result c.cle
 pub returns-clause-reported : goal.returns-clause-reported
 returns-clause-reported g c = record {
   given = c.clear_quarters-given.result;
-  tells = λ told t. let P : List ℕ → Type 0 = λ folder. QuartersTell told folder c.args.quarters.now.first c.args.quarters.now.last c.args.quarters.now.nodes c.clear_quarters-given.result in subst P c.as_str.ensures.value (c.clear_quarters-given.ensures.told told t);
+  states = λ reported t. let P : List ℕ → Type 0 = λ folder. QuartersReport reported folder c.args.quarters.now.first c.args.quarters.now.last c.args.quarters.now.nodes c.clear_quarters-given.result in subst P c.as_str.ensures.value (c.clear_quarters-given.ensures.reported reported t);
   file = c.clear_quarters-given.ensures.file;
   sayable = quarters-sayable c.clear_quarters-given.result c.clear_quarters-given.ensures.file c.clear_quarters-given.ensures.check;
   cause = c.clear_quarters-given.ensures.failed.rose;

@@ -2,15 +2,15 @@ use Rattle.std.proofs.Common.{Some, refl}
 use Rattle.mari_words.specs.Asked.Asked.{Migrate}
 use Rattle.mari_commands.specs.Outcome.Says.{OfMigrate}
 use Rattle.mari_commands.proofs.Naming.{migrated-reportable}
-use Rattle.mari_commands.proofs.Telling.{words-of-migrated}
+use Rattle.mari_commands.proofs.Stating.{words-of-migrated}
 use Rattle.mari_commands.proofs.migrating.migrated.Goals as goal
 
-pub returns-in-Ok-clause-told : goal.returns-in-Ok-clause-told
-returns-in-Ok-clause-told g c = λ told e.
-    OfMigrate c.args.folder.now c.args.part c.in-Ok.books refl (c.in-Ok.ensures.told (Some (Migrate c.args.folder.now c.args.part)) told refl e) c.migrated_books.ensures
+pub returns-in-Ok-clause-reported : goal.returns-in-Ok-clause-reported
+returns-in-Ok-clause-reported g c = λ reported e.
+    OfMigrate c.args.folder.now c.args.part c.in-Ok.books refl (c.in-Ok.ensures.reported (Some (Migrate c.args.folder.now c.args.part)) reported refl e) c.migrated_books.ensures
 
-pub returns-in-Err-clause-told : goal.returns-in-Err-clause-told
-returns-in-Err-clause-told g c = λ told e. c.in-Err.ensures.told (Some (Migrate c.args.folder.now c.args.part)) told refl e
+pub returns-in-Err-clause-reported : goal.returns-in-Err-clause-reported
+returns-in-Err-clause-reported g c = λ reported e. c.in-Err.ensures.reported (Some (Migrate c.args.folder.now c.args.part)) reported refl e
 
 pub returns-in-Err-clause-words : goal.returns-in-Err-clause-words
 returns-in-Err-clause-words g c = c.in-Err.ensures.words (Some (Migrate c.args.folder.now c.args.part)) refl

@@ -7,7 +7,7 @@ use Rattle.mari_commands.specs.declared.outcome.JointJob.{JointJob}
 use Rattle.mari_commands.proofs.Limits.{IsWithin, within}
 use Rattle.mari_commands.specs.Commands.{AsksForFiles, folder_of}
 use Rattle.mari_commands.proofs.Folder.{reads}
-use Rattle.mari_commands.proofs.Telling.{words-of-summary}
+use Rattle.mari_commands.proofs.Stating.{words-of-summary}
 use Rattle.mari_commands.proofs.program.outcome_of.Goals as goal
 
 -- words that name a folder ask for its files
@@ -23,17 +23,17 @@ to_clear-requires-clause-nodes g c = (subst is_within c.in-Ok-Clear.field-0-is (
 pub to_clear-requires-clause-workers : goal.to_clear-requires-clause-workers
 to_clear-requires-clause-workers g c = (subst is_within c.in-Ok-Clear.field-0-is (within (map (string_bytes {Z = Global}) c.args.words.now) (asked c.in-Ok-Clear.field-0) c.in-Ok-Clear.ensures)).1
 
-pub returns-in-Ok-Clear-clause-told : goal.returns-in-Ok-Clear-clause-told
-returns-in-Ok-Clear-clause-told g c = λ told e. rw (c.in-Ok-Clear.ensures, c.in-Ok-Clear.field-0-is, sym c.deref.ensures) (c.to_clear.ensures.told told e)
+pub returns-in-Ok-Clear-clause-reported : goal.returns-in-Ok-Clear-clause-reported
+returns-in-Ok-Clear-clause-reported g c = λ reported e. rw (c.in-Ok-Clear.ensures, c.in-Ok-Clear.field-0-is, sym c.deref.ensures) (c.to_clear.ensures.reported reported e)
 
-pub returns-in-Ok-Check-clause-told : goal.returns-in-Ok-Check-clause-told
-returns-in-Ok-Check-clause-told g c = λ told e. rw (c.in-Ok-Check.ensures, c.in-Ok-Check.field-0-is, sym c.deref-in-Ok-Check.ensures) (c.checked.ensures.told told e)
+pub returns-in-Ok-Check-clause-reported : goal.returns-in-Ok-Check-clause-reported
+returns-in-Ok-Check-clause-reported g c = λ reported e. rw (c.in-Ok-Check.ensures, c.in-Ok-Check.field-0-is, sym c.deref-in-Ok-Check.ensures) (c.checked.ensures.reported reported e)
 
-pub returns-in-Ok-Generate-clause-told : goal.returns-in-Ok-Generate-clause-told
-returns-in-Ok-Generate-clause-told g c = λ told e. OfGenerate c.in-Ok-Generate.number (c.in-Ok-Generate.ensures ∙ ap (λ (x : Command). Some (asked x)) c.in-Ok-Generate.field-0-is) c.generated.ensures
+pub returns-in-Ok-Generate-clause-reported : goal.returns-in-Ok-Generate-clause-reported
+returns-in-Ok-Generate-clause-reported g c = λ reported e. OfGenerate c.in-Ok-Generate.number (c.in-Ok-Generate.ensures ∙ ap (λ (x : Command). Some (asked x)) c.in-Ok-Generate.field-0-is) c.generated.ensures
 
-pub returns-in-Ok-Migrate-clause-told : goal.returns-in-Ok-Migrate-clause-told
-returns-in-Ok-Migrate-clause-told g c = λ told e. rw (c.in-Ok-Migrate.ensures, c.in-Ok-Migrate.field-0-is, sym c.deref-in-Ok-Migrate.ensures) (c.migrated.ensures.told told e)
+pub returns-in-Ok-Migrate-clause-reported : goal.returns-in-Ok-Migrate-clause-reported
+returns-in-Ok-Migrate-clause-reported g c = λ reported e. rw (c.in-Ok-Migrate.ensures, c.in-Ok-Migrate.field-0-is, sym c.deref-in-Ok-Migrate.ensures) (c.migrated.ensures.reported reported e)
 
 pub returns-in-Ok-Clear-clause-words : goal.returns-in-Ok-Clear-clause-words
 returns-in-Ok-Clear-clause-words g c = rw (c.in-Ok-Clear.ensures, c.in-Ok-Clear.field-0-is, sym c.deref.ensures) c.to_clear.ensures.words
@@ -47,8 +47,8 @@ returns-in-Ok-Generate-clause-words g c = rw (c.in-Ok-Generate.ensures, c.in-Ok-
 pub returns-in-Ok-Migrate-clause-words : goal.returns-in-Ok-Migrate-clause-words
 returns-in-Ok-Migrate-clause-words g c = rw (c.in-Ok-Migrate.ensures, c.in-Ok-Migrate.field-0-is, sym c.deref-in-Ok-Migrate.ensures) c.migrated.ensures.words
 
-pub returns-in-Ok-Feed-clause-told : goal.returns-in-Ok-Feed-clause-told
-returns-in-Ok-Feed-clause-told g c = λ told e. OfFeed c.in-Ok-Feed.folder (c.in-Ok-Feed.ensures ∙ ap (λ (x : Command). Some (asked x)) c.in-Ok-Feed.field-0-is) refl
+pub returns-in-Ok-Feed-clause-reported : goal.returns-in-Ok-Feed-clause-reported
+returns-in-Ok-Feed-clause-reported g c = λ reported e. OfFeed c.in-Ok-Feed.folder (c.in-Ok-Feed.ensures ∙ ap (λ (x : Command). Some (asked x)) c.in-Ok-Feed.field-0-is) refl
 
 pub returns-in-Ok-Feed-clause-words : goal.returns-in-Ok-Feed-clause-words
 returns-in-Ok-Feed-clause-words g c = c.in-Ok-Feed.ensures ∙ ap (λ (x : Command). Some (asked x)) c.in-Ok-Feed.field-0-is
@@ -68,8 +68,8 @@ to_clear-requires-in-Ok-Split-clause-nodes g c = (subst is_within c.in-Ok-Split.
 pub to_clear-requires-in-Ok-Split-clause-workers : goal.to_clear-requires-in-Ok-Split-clause-workers
 to_clear-requires-in-Ok-Split-clause-workers g c = (subst is_within c.in-Ok-Split.field-0-is (within (map (string_bytes {Z = Global}) c.args.words.now) (asked c.in-Ok-Split.field-0) c.in-Ok-Split.ensures)).1
 
-pub returns-in-Ok-Split-clause-told : goal.returns-in-Ok-Split-clause-told
-returns-in-Ok-Split-clause-told g c = λ told e. rw (c.in-Ok-Split.ensures, c.in-Ok-Split.field-0-is, sym c.deref-in-Ok-Split.ensures) (c.to_clear-in-Ok-Split.ensures.told told e)
+pub returns-in-Ok-Split-clause-reported : goal.returns-in-Ok-Split-clause-reported
+returns-in-Ok-Split-clause-reported g c = λ reported e. rw (c.in-Ok-Split.ensures, c.in-Ok-Split.field-0-is, sym c.deref-in-Ok-Split.ensures) (c.to_clear-in-Ok-Split.ensures.reported reported e)
 
 pub returns-in-Ok-Split-clause-words : goal.returns-in-Ok-Split-clause-words
 returns-in-Ok-Split-clause-words g c = rw (c.in-Ok-Split.ensures, c.in-Ok-Split.field-0-is, sym c.deref-in-Ok-Split.ensures) c.to_clear-in-Ok-Split.ensures.words
@@ -86,8 +86,8 @@ valued-requires-clause-some g c = (subst is_within c.in-Ok-Value.field-0-is (wit
 pub valued-requires-clause-more : goal.valued-requires-clause-more
 valued-requires-clause-more g c = (subst is_within c.in-Ok-Value.field-0-is (within (map (string_bytes {Z = Global}) c.args.words.now) (asked c.in-Ok-Value.field-0) c.in-Ok-Value.ensures)).1
 
-pub returns-in-Ok-Value-clause-told : goal.returns-in-Ok-Value-clause-told
-returns-in-Ok-Value-clause-told g c = λ told e. rw (c.in-Ok-Value.ensures, c.in-Ok-Value.field-0-is, sym c.deref-in-Ok-Value.ensures) (c.valued.ensures.told told e)
+pub returns-in-Ok-Value-clause-reported : goal.returns-in-Ok-Value-clause-reported
+returns-in-Ok-Value-clause-reported g c = λ reported e. rw (c.in-Ok-Value.ensures, c.in-Ok-Value.field-0-is, sym c.deref-in-Ok-Value.ensures) (c.valued.ensures.reported reported e)
 
 pub returns-in-Ok-Value-clause-words : goal.returns-in-Ok-Value-clause-words
 returns-in-Ok-Value-clause-words g c = rw (c.in-Ok-Value.ensures, c.in-Ok-Value.field-0-is, sym c.deref-in-Ok-Value.ensures) c.valued.ensures.words
@@ -99,8 +99,8 @@ returns-in-Ok-Value-clause-untouched g c = λ none. absurd (none (reads-files _ 
 abbrev quarters_of : (folder : String Global) (first last nodes workers : ℕ) → JointJob
 quarters_of folder first last nodes workers = record { folder = folder; first = first; last = last; nodes = nodes; workers = workers }
 
-pub returns-in-Ok-Blocks-clause-told : goal.returns-in-Ok-Blocks-clause-told
-returns-in-Ok-Blocks-clause-told g c = λ told e.
+pub returns-in-Ok-Blocks-clause-reported : goal.returns-in-Ok-Blocks-clause-reported
+returns-in-Ok-Blocks-clause-reported g c = λ reported e.
     OfBlocks (quarters_of c.in-Ok-Blocks.folder c.in-Ok-Blocks.first c.in-Ok-Blocks.last c.in-Ok-Blocks.nodes c.in-Ok-Blocks.workers) (c.in-Ok-Blocks.ensures ∙ ap (λ (x : Command). Some (asked x)) c.in-Ok-Blocks.field-0-is) refl
 
 pub returns-in-Ok-Blocks-clause-words : goal.returns-in-Ok-Blocks-clause-words

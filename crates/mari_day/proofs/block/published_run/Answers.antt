@@ -5,7 +5,7 @@ use Rattle.mari_market.specs.Market.{IsValid}
 use Rattle.mari_market.specs.declared.clearing.Clearing.{Clearing}
 use Rattle.mari_market.specs.declared.market.Market.{Market}
 use Rattle.mari_market.proofs.Sizes.{as_many, welfare_at_most}
-use Rattle.mari_day.proofs.Assembles.{published, run-of, told}
+use Rattle.mari_day.proofs.Assembles.{published, run-of, reported}
 use Rattle.mari_day.proofs.BlockFits.{block-fits, market-fits}
 use Rattle.mari_day.proofs.Shapes.{shapes}
 use Rattle.mari_day.proofs.block.published_run.Goals as goal
@@ -26,13 +26,13 @@ returns-clause-market_fits c =
     let feasible = c.requires.optimal.admissible.feasible in
     let is = rw c.as_slice.ensures at c.in_ok-done.ensures.block in
     let long = as_many c.args.made.market c.args.clearing.activation feasible ∙ c.requires.made.orders in
-    let whole = told c.args.books.now 0 c.args.run c.args.made _ c.args.clearing c.in_ok-priced.priced c.in_ok-done.done.block is c.in_ok-priced.ensures long in
+    let whole = reported c.args.books.now 0 c.args.run c.args.made _ c.args.clearing c.in_ok-priced.priced c.in_ok-done.done.block is c.in_ok-priced.ensures long in
     market-fits c.args.books.now c.requires.accepted c.requires.dated 0 c.args.run c.args.made _ c.requires.made c.args.clearing c.in_ok-priced.priced c.in_ok-done.done.block is
     (shapes c.args.books.now c.args.made c.requires.made _ c.args.clearing c.in_ok-priced.priced c.in_ok-priced.ensures feasible) c.in_ok-priced.ensures feasible whole.names.demands
 
-pub returns-clause-told : goal.returns-clause-told
-returns-clause-told c =
-    told c.args.books.now 0 c.args.run c.args.made _ c.args.clearing c.in_ok-priced.priced c.in_ok-done.done.block (rw c.as_slice.ensures at c.in_ok-done.ensures.block) c.in_ok-priced.ensures
+pub returns-clause-reported : goal.returns-clause-reported
+returns-clause-reported c =
+    reported c.args.books.now 0 c.args.run c.args.made _ c.args.clearing c.in_ok-priced.priced c.in_ok-done.done.block (rw c.as_slice.ensures at c.in_ok-done.ensures.block) c.in_ok-priced.ensures
     (as_many c.args.made.market c.args.clearing.activation c.requires.optimal.admissible.feasible ∙ c.requires.made.orders)
 
 pub returns-clause-published : goal.returns-clause-published

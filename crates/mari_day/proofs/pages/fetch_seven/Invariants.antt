@@ -13,8 +13,8 @@ invariant-loop-file g l = record {
   count : length l.pages.items ≡ l.file-index;
   small : All (λ (page : List ℕ). length page ≤ MOST_PAGE) l.pages.items;
   fetched : g.S.Shelf.fetches l.shelf ≡ counted_by l.file-index (g.S.Shelf.fetches l.fn.shelf);
-  held : (told : Pages) → g.S.Shelf.pages l.fn.shelf ≡ Some told → map (page_in told l.fn.folder) (take l.file-index files) ≡ map Some l.pages.items;
-  no_gap : (told : Pages) → g.S.Shelf.pages l.fn.shelf ≡ Some told → first_gap told l.fn.folder files ≡ first_gap told l.fn.folder (drop l.file-index files);
+  held : (reported : Pages) → g.S.Shelf.pages l.fn.shelf ≡ Some reported → map (page_in reported l.fn.folder) (take l.file-index files) ≡ map Some l.pages.items;
+  no_gap : (reported : Pages) → g.S.Shelf.pages l.fn.shelf ≡ Some reported → first_gap reported l.fn.folder files ≡ first_gap reported l.fn.folder (drop l.file-index files);
   faults : g.S.Shelf.faults l.fn.shelf ≤ g.S.Shelf.faults l.shelf;
   misses : g.S.Shelf.misses l.fn.shelf ≤ g.S.Shelf.misses l.shelf;
   overs : g.S.Shelf.overs l.fn.shelf ≤ g.S.Shelf.overs l.shelf;

@@ -8,32 +8,32 @@ use Rattle.mari_publish.specs.declared.publication.Block.{Block}
 use Rattle.mari_publish.specs.declared.publication.FullBlock.{FullBlock}
 use Rattle.mari_remain.specs.declared.books.Books.{Books}
 use Rattle.mari_remain.specs.declared.market.RunMarket.{RunMarket}
-use Rattle.mari_progress.specs.Behind.{also_behind, market_behind, run_behind}
-use Rattle.mari_progress.specs.Told.{heading_of}
-use Rattle.mari_progress.proofs.Progressing.{priced-behind, settled-behind}
+use Rattle.mari_progress.specs.After.{also_after, market_after, run_after}
+use Rattle.mari_progress.specs.Reported.{heading_of}
+use Rattle.mari_progress.proofs.Progressing.{priced-after, settled-after}
 use Rattle.mari_day.specs.Published.{IsPublishedOf, IsPublishedRun}
 use Rattle.mari_day.proofs.Days.{heading-fits, spent-fits}
 use Rattle.mari_day.proofs.step.run_done.Goals as goal
 
--- what is known of the run's own market and prices, of those behind the blocks
-module _ (books : Books) (budget : ℕ) (blocks : List Block) (made : RunMarket) (e : made ≡ market_behind books blocks) where
-  published-behind : (run : ℕ) → run ≡ run_behind blocks → (also : Option (List Cents)) → also ≡ also_behind books blocks → (b : FullBlock) → IsPublishedOf books budget run made also b → IsPublishedRun books budget blocks b
-  published-behind run is also f b h =
+-- what is known of the run's own market and prices, of those after the blocks
+module _ (books : Books) (budget : ℕ) (blocks : List Block) (made : RunMarket) (e : made ≡ market_after books blocks) where
+  published-after : (run : ℕ) → run ≡ run_after blocks → (also : Option (List Cents)) → also ≡ also_after books blocks → (b : FullBlock) → IsPublishedOf books budget run made also b → IsPublishedRun books budget blocks b
+  published-after run is also f b h =
       let R : ℕ → Type 0 = λ r. IsPublishedOf books budget r made also b in
-      let M : RunMarket → Type 0 = λ m. IsPublishedOf books budget (run_behind blocks) m also b in
-      let A : Option (List Cents) → Type 0 = λ a. IsPublishedOf books budget (run_behind blocks) (market_behind books blocks) a b in
+      let M : RunMarket → Type 0 = λ m. IsPublishedOf books budget (run_after blocks) m also b in
+      let A : Option (List Cents) → Type 0 = λ a. IsPublishedOf books budget (run_after blocks) (market_after books blocks) a b in
       subst A f (subst M e (subst R is h))
 
-  spent-behind : (spent : Spent) → IsSpent made.market budget spent → IsSpent (market_behind books blocks).market budget spent
-  spent-behind spent h = let M : RunMarket → Type 0 = λ m. IsSpent m.market budget spent in subst M e h
+  spent-after : (spent : Spent) → IsSpent made.market budget spent → IsSpent (market_after books blocks).market budget spent
+  spent-after spent h = let M : RunMarket → Type 0 = λ m. IsSpent m.market budget spent in subst M e h
 
-pub market_of-requires-clause-behind : goal.market_of-requires-clause-behind
-market_of-requires-clause-behind g c = let s = c.requires.stands in (s.0, s.1.kept, s.2)
+pub market_of-requires-clause-after : goal.market_of-requires-clause-after
+market_of-requires-clause-after g c = let s = c.requires.stands in (s.0, s.1.kept, s.2)
 
 pub published_run-requires-clause-also : goal.published_run-requires-clause-also
 published_run-requires-clause-also g c =
     let s = c.requires.stands in
-    priced-behind c.args.books.now s.0 c.in_ok-made.made (c.in_ok-made.ensures.market s.0 s.1.kept s.2) _ c.also-also.result (c.also-also.ensures.prices s.0 s.1.kept)
+    priced-after c.args.books.now s.0 c.in_ok-made.made (c.in_ok-made.ensures.market s.0 s.1.kept s.2) _ c.also-also.result (c.also-also.ensures.prices s.0 s.1.kept)
 
 pub returns-in_ok-done-in-Published-clause-fits : goal.returns-in_ok-done-in-Published-clause-fits
 returns-in_ok-done-in-Published-clause-fits g c = c.in_ok-done-in-Published.ensures.fits c.args.budget c.requires.budget.1 c.in-Published.ensures.law
@@ -49,11 +49,11 @@ pub returns-in_ok-done-in-Published-clause-done : goal.returns-in_ok-done-in-Pub
 returns-in_ok-done-in-Published-clause-done g c = λ blocks progress is.
     let books = c.args.books.now in
     let made = c.in_ok-made.ensures.market blocks progress.kept is in
-    let also = c.also-also.ensures.behind blocks progress.kept is in
+    let also = c.also-also.ensures.after blocks progress.kept is in
     let done = c.in_ok-done-in-Published.done in
     record {
-      block = published-behind books c.args.budget blocks c.in_ok-made.made made c.args.run is _ also done.block (c.in_ok-done-in-Published.ensures.published c.args.budget c.in-Published.ensures.law);
-      settled = settled-behind books blocks c.in_ok-made.made made _ also done.block done.settled c.in_ok-done-in-Published.ensures.settled;
+      block = published-after books c.args.budget blocks c.in_ok-made.made made c.args.run is _ also done.block (c.in_ok-done-in-Published.ensures.published c.args.budget c.in-Published.ensures.law);
+      settled = settled-after books blocks c.in_ok-made.made made _ also done.block done.settled c.in_ok-done-in-Published.ensures.settled;
     }
 
 pub returns-in-Spent-clause-done : goal.returns-in-Spent-clause-done
@@ -64,7 +64,7 @@ returns-in-Spent-clause-done g c = λ blocks progress is.
       block = record {
         is_of = c.heading.ensures ∙ ap (heading_of books) is;
         spent = c.in-Spent.spent;
-        is_spent = spent-behind books c.args.budget blocks c.in_ok-made.made made c.in-Spent.spent c.in-Spent.ensures.law;
+        is_spent = spent-after books c.args.budget blocks c.in_ok-made.made made c.in-Spent.spent c.in-Spent.ensures.law;
         counted = rw c.as_slice.ensures refl;
       };
       settled = tt;

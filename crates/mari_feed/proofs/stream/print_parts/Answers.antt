@@ -2,7 +2,7 @@ use Rattle.std.proofs.Common.{◌++◌, [], ◌∷◌, arith}
 use Rattle.mari_publish.proofs.FirstParts.{part_fits}
 use Rattle.mari_publish.proofs.Paging.{next-part, next-stands}
 use Rattle.mari_publish.proofs.PartCounts.{fewer-left}
-use Rattle.mari_feed.proofs.Feeding.{all_fed, fault_told, line_taken, line_unwritten}
+use Rattle.mari_feed.proofs.Feeding.{all_fed, fault_reported, line_taken, line_unwritten}
 use Rattle.mari_feed.proofs.stream.print_parts.Goals as goal
 
 pub print_part-requires : goal.print_part-requires
@@ -35,7 +35,7 @@ returns-in-Ok-None-clause-fed g c = λ start text parts fed.
 pub returns-in-Err-clause-fed : goal.returns-in-Err-clause-fed
 returns-in-Err-clause-fed g c = λ start text parts fed.
     let s = c.parts.invariant.fed start text parts fed in
-    rw c.stop_of_reader.ensures (fault_told start text s.0 _ _ s.1 (Unit {0}) c.next.new.self c.in-Err.fault (c.in-Err.ensures.next text s.0 s.1.stands))
+    rw c.stop_of_reader.ensures (fault_reported start text s.0 _ _ s.1 (Unit {0}) c.next.new.self c.in-Err.fault (c.in-Err.ensures.next text s.0 s.1.stands))
 
 pub returns-in-Err-print_part-clause-fed : goal.returns-in-Err-print_part-clause-fed
 returns-in-Err-print_part-clause-fed g c = λ start text parts fed.

@@ -3,7 +3,7 @@ use Rattle.std.specs.Prelude.{nat_lt}
 use Rattle.mari_feed.proofs.Joined.{joined}
 use Rattle.mari_feed.proofs.text.put_list.Given as goal
 
--- the items so far stand behind the bracket
+-- the items so far stand after the bracket
 abbrev pub invariant-loop-item : goal.invariant-loop-item
 invariant-loop-item g l = record {
   text : l.text.items ≡ l.fn.text.items ++ 91 ∷ joined (map g.F.Form.written (take l.item-index l.items));

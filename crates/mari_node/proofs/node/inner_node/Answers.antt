@@ -9,6 +9,6 @@ returns-in_ok-optimum-clause-finding c = λ word n.
 
 pub returns-else-branch-clause-finding : goal.returns-else-branch-clause-finding
 returns-else-branch-clause-finding c = λ word n.
-    let told = c.in_ok-is_admissible.ensures in
+    let reported = c.in_ok-is_admissible.ensures in
     let no = c.if-branch.false in
-    subst (IsRelaxedFinding c.args.market.now word) (sym c.bound_alone.ensures.bound) (inner_bound c.args.market.now word c.args.solved n (λ adm. let yes = told.1 adm in absurd (cc)))
+    subst (IsRelaxedFinding c.args.market.now word) (sym c.bound_alone.ensures.bound) (inner_bound c.args.market.now word c.args.solved n (λ adm. let yes = reported.1 adm in absurd (cc)))

@@ -23,7 +23,7 @@ returns-in-Ok-clause-handles c =
     let t = c.in-Ok.ensures in
     record {
       here = c.in-Some.here.now;
-      behind = c.in-Some._after.now;
+      following = c.in-Some._after.now;
       begins = record { all = c.in-Kept.is; is = is; whole = c.in-Some.ensures.0 };
       line = t.0;
       in_range = t.1;
@@ -38,12 +38,12 @@ same_come : (c : Coming) (r : Kept) → r ≡ c.kept → come_of (record { kept 
 same_come c r e = ap (λ (k : Kept). come_of (record { kept = k; lines = c.lines; ahead = c.ahead; bytes = c.bytes; handled = c.handled })) e
 
 -- a line that was not taken: what is wrong with it, and what is kept is as it was
-refused : (c : Coming) (r : Kept) (here behind : List ℕ) (f : TakeFault) → BeginsWith (come_of c) here behind → Took c.kept here r (Err f)
+refused : (c : Coming) (r : Kept) (here following : List ℕ) (f : TakeFault) → BeginsWith (come_of c) here following → Took c.kept here r (Err f)
     → Handles (come_of c) (come_of (record { kept = r; lines = c.lines; ahead = c.ahead; bytes = c.bytes; handled = c.handled })) (Err (text_fault (c.lines + 1) f))
-refused c r here behind take_fault.Formless begins t = (inr (here, behind, begins, t.0), refl, same_come c r t.1)
-refused c r here behind take_fault.OutOfOrder begins t =
-    (record { here = here; behind = behind; begins = begins; line = t.0; in_range = t.1; spelled = t.2; misplaced = t.3 }, refl, same_come c r t.4)
-refused c r here behind take_fault.Memory begins t = same_come c r t
+refused c r here following take_fault.Formless begins t = (inr (here, following, begins, t.0), refl, same_come c r t.1)
+refused c r here following take_fault.OutOfOrder begins t =
+    (record { here = here; following = following; begins = begins; line = t.0; in_range = t.1; spelled = t.2; misplaced = t.3 }, refl, same_come c r t.4)
+refused c r here following take_fault.Memory begins t = same_come c r t
 
 pub returns-in-Err-clause-handles : goal.returns-in-Err-clause-handles
 returns-in-Err-clause-handles c =

@@ -1,5 +1,5 @@
 use Rattle.std.proofs.Common.{◌∙◌, ◌++◌, ◌∷◌, [], refl, subst, sym}
-use Rattle.mari_rows.specs.Rows.{fault_of_row, TellsRow}
+use Rattle.mari_rows.specs.Rows.{fault_of_row, StatesRow}
 use Rattle.mari_rows.specs.declared.records.TestedRecord.{TestedRecord}
 use Rattle.mari_rows.proofs.FirstLemmas.{first_fault-go}
 use Rattle.mari_rows.proofs.WideLemmas.{equal-some, narrow-row, wide-first}
@@ -18,10 +18,10 @@ returns-then-eq c =
 pub rows-preserved : goal.rows-preserved
 rows-preserved c =
     let inv = c.rows.invariant in
-    let told = subst (λ (t : TestedRecord). TellsRow c.args.width c.rows.rows c.test_next.new.self t) c.in-Fine.is c.in_ok-test_next.ensures.tested in (
-      inv.0 ++ told.0 ∷ [],
-      first_fault-go (λ earlier row. fault_of_row c.args.width row) inv.0 c.rows.rows c.test_next.new.self told.0 told.1 told.2 ∙ inv.1,
+    let reported = subst (λ (t : TestedRecord). StatesRow c.args.width c.rows.rows c.test_next.new.self t) c.in-Fine.is c.in_ok-test_next.ensures.tested in (
+      inv.0 ++ reported.0 ∷ [],
+      first_fault-go (λ earlier row. fault_of_row c.args.width row) inv.0 c.rows.rows c.test_next.new.self reported.0 reported.1 reported.2 ∙ inv.1,
       inv.2,
       inv.3,
-      inv.4 ∙ rw told.1 (narrow-row c.args.width inv.2 told.0 c.test_next.new.self inv.3 told.2),
+      inv.4 ∙ rw reported.1 (narrow-row c.args.width inv.2 reported.0 c.test_next.new.self inv.3 reported.2),
     )

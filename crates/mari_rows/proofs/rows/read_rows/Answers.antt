@@ -1,7 +1,7 @@
 use Rattle.std.proofs.Common.{◌≡◌, ◌≤◌, ◌∙◌, Err, arith, length, max, rules, sym}
 use Rattle.std.proofs.lemmas.Grind.{common_steps}
 use Rattle.mari_rows.specs.Records.{records_in}
-use Rattle.mari_rows.specs.Rows.{columns_of, rows_behind_header}
+use Rattle.mari_rows.specs.Rows.{columns_of, rows_after_header}
 use Rattle.mari_rows.specs.declared.faults.RowFault.TheVariants.{BadHeader}
 use Rattle.mari_rows.specs.declared.widths.TheConstants.{WIDEST}
 use Rattle.mari_rows.proofs.RowLemmas.{fault-checked, faults-checked}
@@ -15,7 +15,7 @@ returns-then-eq-clause-fault c =
     let most = max c.len-width.result WIDEST in
     let few : length columns ≤ most = grind (arith, common_steps) in
     let none = (wide-header most columns (records_in c.args.page.now) few (sym wide ∙ c.wide_line-wide.ensures)).0 in
-    fault-checked (length columns) (rows_behind_header columns (records_in c.args.page.now)) BadHeader none
+    fault-checked (length columns) (rows_after_header columns (records_in c.args.page.now)) BadHeader none
 
 pub first_fault_of-requires : goal.first_fault_of-requires
 first_fault_of-requires c =
@@ -31,10 +31,10 @@ returns-in_err-rows-clause-fault c =
     let same : c.from_residual-in_err-rows.result ≡ Err fault = search rules in
     let columns = columns_of c.args.columns.now in
     let there = rw (c.as_slice.ensures.value, c.in_ok-columns.ensures) at c.in_err-rows.ensures.fault in
-    rw same (fault-checked (length columns) (rows_behind_header columns (records_in c.args.page.now)) fault there)
+    rw same (fault-checked (length columns) (rows_after_header columns (records_in c.args.page.now)) fault there)
 
 pub returns-clause-fault : goal.returns-clause-fault
 returns-clause-fault c =
     let columns = columns_of c.args.columns.now in
-    let there = rw (c.as_slice-in-None.ensures.value, c.in_ok-columns.ensures) at c.rows_behind_header-in-None.ensures.fault in
-    faults-checked (length columns) (rows_behind_header columns (records_in c.args.page.now)) c.rows_behind_header-in-None.result there
+    let there = rw (c.as_slice-in-None.ensures.value, c.in_ok-columns.ensures) at c.rows_after_header-in-None.ensures.fault in
+    faults-checked (length columns) (rows_after_header columns (records_in c.args.page.now)) c.rows_after_header-in-None.result there

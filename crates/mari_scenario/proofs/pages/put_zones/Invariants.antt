@@ -3,7 +3,7 @@ use Rattle.mari_scenario.specs.Draws.{lines}
 use Rattle.mari_scenario.specs.Pages.{zone_line}
 use Rattle.mari_scenario.proofs.pages.put_zones.Given as goal
 
--- the lines so far, and the state behind them
+-- the lines so far, and the state after them
 abbrev pub invariant-loop-i : goal.invariant-loop-i
 invariant-loop-i l = record {
   text : l.out.items ≡ l.initial.out.items ++ (lines zone_line l.i 0).text;

@@ -1,14 +1,14 @@
 use Rattle.std.proofs.Common.{◌≡◌, List, sym, subst, arith}
-use Rattle.mari_progress.specs.Told.{heading_of}
-use Rattle.mari_progress.proofs.Progressing.{settled-behind}
+use Rattle.mari_progress.specs.Reported.{heading_of}
+use Rattle.mari_progress.proofs.Progressing.{settled-after}
 use Rattle.mari_islands.specs.declared.islands.Island.{Island}
 use Rattle.mari_split.specs.Split.{IsSplitRun, blocks_of}
 use Rattle.mari_split.specs.Steps.{RunFits}
 use Rattle.mari_split.proofs.Blocks.{few_islands, run_fits, spent_below, split, split_after, unsplit, unsplit_after}
 use Rattle.mari_split.proofs.run.run_split.Goals as goal
 
-pub market_of-requires-clause-behind : goal.market_of-requires-clause-behind
-market_of-requires-clause-behind g c = let s = c.requires.stands in (blocks_of s.0, s.1.kept, s.2)
+pub market_of-requires-clause-after : goal.market_of-requires-clause-after
+market_of-requires-clause-after g c = let s = c.requires.stands in (blocks_of s.0, s.1.kept, s.2)
 
 pub overflow_add-result : goal.overflow_add-result
 overflow_add-result g c =
@@ -29,16 +29,16 @@ returns-in_ok-done-in-Published-clause-done g c = λ blocks progress is.
     let books = c.args.books.now in
     let made = c.in_ok-made.made in
     let same = c.in_ok-made.ensures.market (blocks_of blocks) progress.kept is in
-    let also = c.also-also.ensures.behind (blocks_of blocks) progress.kept is in
+    let also = c.also-also.ensures.after (blocks_of blocks) progress.kept is in
     let islands = c.in_ok-islands.islands.items in
     let clearings = c.in-Published.clearings in
     let law = rw c.deref.ensures.value at c.in-Published.ensures.law in
     let done = c.in_ok-done-in-Published.done in
-    let own = split books c.args.budget c.args.run made _ islands c.in_ok-islands.ensures.islands c.in-Published.joined clearings law c.in-Published.ensures.first c.of.result done.block c.in_ok-done-in-Published.ensures.told in
+    let own = split books c.args.budget c.args.run made _ islands c.in_ok-islands.ensures.islands c.in-Published.joined clearings law c.in-Published.ensures.first c.of.result done.block c.in_ok-done-in-Published.ensures.reported in
     record {
       block = subst (λ (xs : List Island). IsSplitRun books c.args.budget blocks (record { block = done.block; islands = xs; clearings = clearings })) (sym c.of-in-Published.ensures)
           (split_after books c.args.budget blocks made same c.args.run is _ also (record { block = done.block; islands = islands; clearings = clearings }) own);
-      settled = settled-behind books (blocks_of blocks) made same _ also done.block done.settled c.in_ok-done-in-Published.ensures.settled;
+      settled = settled-after books (blocks_of blocks) made same _ also done.block done.settled c.in_ok-done-in-Published.ensures.settled;
     }
 
 pub returns-in-Spent-clause-done : goal.returns-in-Spent-clause-done

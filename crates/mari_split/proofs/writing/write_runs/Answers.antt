@@ -1,12 +1,12 @@
 use Rattle.std.proofs.Common.{◌≡◌, ◌∙◌, ◌+◌, ℕ, List, length, ap, sym, arith}
 use Rattle.std.proofs.lemmas.List.{length-map}
-use Rattle.mari_progress.specs.Behind.{run_behind}
+use Rattle.mari_progress.specs.After.{run_after}
 use Rattle.mari_split.specs.declared.split.SplitBlock.{SplitBlock}
 use Rattle.mari_split.specs.Split.{block_of, blocks_of}
 use Rattle.mari_split.proofs.Texts.{block_more, step_stops}
 use Rattle.mari_split.proofs.writing.write_runs.Goals as goal
 
-next_run : (blocks : List SplitBlock) (run : ℕ) → length blocks ≡ run → run + 1 ≡ run_behind (blocks_of blocks)
+next_run : (blocks : List SplitBlock) (run : ℕ) → length blocks ≡ run → run + 1 ≡ run_after (blocks_of blocks)
 next_run blocks run e = ap (λ n. n + 1) (sym (length-map blocks block_of ∙ e))
 
 pub split_step-requires-clause-stands : goal.split_step-requires-clause-stands

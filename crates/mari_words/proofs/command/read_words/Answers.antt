@@ -34,9 +34,9 @@ returns-in-Ok-try_get_matches_from c =
     (c.in-Ok-try_get_matches_from.ensures.matches (ap is_simple app ∙ simple)).1 ∙ ap (λ (x : App). subcommand_of x texts) app in
     subst (Reads c.command_in.result) (ap asked_in found ∙ all.taken fault) c.command_in.ensures
 
-usage_told : (fault : WordsFault) (wanted : Option Asked) (P : Type 0) → (fault ≡ Memory) ↔ P → ((P → ⊥) → wanted ≡ None) → Reads (Err fault) wanted
-usage_told Memory wanted P iff h = tt
-usage_told Usage wanted P iff h = h (λ p. let clash : Usage ≡ Memory = iff.1 p in cc)
+usage_reported : (fault : WordsFault) (wanted : Option Asked) (P : Type 0) → (fault ≡ Memory) ↔ P → ((P → ⊥) → wanted ≡ None) → Reads (Err fault) wanted
+usage_reported Memory wanted P iff h = tt
+usage_reported Usage wanted P iff h = h (λ p. let clash : Usage ≡ Memory = iff.1 p in cc)
 
 pub returns-in-Err : goal.returns-in-Err
 returns-in-Err c =
@@ -44,6 +44,6 @@ returns-in-Err c =
     let app : app_of c.in-Ok.parser ≡ line = c.in-Ok.ensures in
     let all = agrees texts (spelled c.args.words.now) in
     let fails = c.in-Err.ensures.kinds (ap is_simple_and_free app ∙ free) in
-    usage_told c.fault_of.result (command_at texts) (kind_of c.in-Err.error ≡ OutOfMemory) c.fault_of.ensures
+    usage_reported c.fault_of.result (command_at texts) (kind_of c.in-Err.error ≡ OutOfMemory) c.fault_of.ensures
     (λ other. all.refused (λ none. ⊎_elim (λ memory. other memory)
     (λ among. subst (IsAmong (kind_of c.in-Err.error)) (ap (λ (x : App). fault_of x texts) app ∙ none) among) fails))

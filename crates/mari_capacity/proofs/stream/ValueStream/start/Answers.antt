@@ -12,7 +12,7 @@ returns c =
       taken = record {
         found = c.in_ok-day.ensures;
         ended = tt;
-        tells = record { checked = tt; lines = subst (λ (t : List ℕ). IsValueText c.args.books.now c.args.more [] t) (sym put) Opened };
+        states = record { checked = tt; lines = subst (λ (t : List ℕ). IsValueText c.args.books.now c.args.more [] t) (sym put) Opened };
         more_is = refl;
       };
     }

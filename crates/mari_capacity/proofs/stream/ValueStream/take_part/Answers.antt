@@ -1,5 +1,5 @@
 use Rattle.std.proofs.Common.{refl}
-use Rattle.mari_check.proofs.Ending.{behind-is, few-runs}
+use Rattle.mari_check.proofs.Ending.{after-is, few-runs}
 use Rattle.mari_check.proofs.Streaming.{first-checked, later-block, later-totals}
 use Rattle.mari_capacity.specs.Ends.{blocks_in}
 use Rattle.mari_capacity.proofs.Parts.{block-goes-on, block-stops, head-goes-on, head-stops, open-blocks, still-open, totals-taken}
@@ -37,17 +37,17 @@ returns-in-Head-clause-stops c = λ parts t come.
 pub returns-in-Block-clause-taken : goal.returns-in-Block-clause-taken
 returns-in-Block-clause-taken c = λ parts t come.
     let checked = open-blocks c.args.books.now parts c.args.self.now.day (still-open c.args.books.now _ parts c.args.self.now c.args.part.now t come) in
-    let behind = behind-is c.args.books.now c.requires.accepted (blocks_in parts) c.args.self.now.day checked c.next_run-run.result c.next_run-run.ensures in
+    let after = after-is c.args.books.now c.requires.accepted (blocks_in parts) c.args.self.now.day checked c.next_run-run.result c.next_run-run.ensures in
     let later = later-block c.args.part.now c.in-Block.block c.in-Block.is in
-    block-goes-on c.args.books.now c.args.self.now.more parts c.args.self.now c.add_block.new.self c.args.part.now t come c.in-Block.block c.in-Block.is later c.next_run-run.result behind c.add_block.ensures.same c.add_block.result c.stop_at-in-Block.result
-    (c.add_block.ensures.finds (blocks_in parts) checked) (c.add_block.ensures.stands (blocks_in parts) checked) (c.add_block.ensures.lines (blocks_in parts) checked t.tells.lines) c.stop_at-in-Block.ensures
+    block-goes-on c.args.books.now c.args.self.now.more parts c.args.self.now c.add_block.new.self c.args.part.now t come c.in-Block.block c.in-Block.is later c.next_run-run.result after c.add_block.ensures.same c.add_block.result c.stop_at-in-Block.result
+    (c.add_block.ensures.finds (blocks_in parts) checked) (c.add_block.ensures.stands (blocks_in parts) checked) (c.add_block.ensures.lines (blocks_in parts) checked t.states.lines) c.stop_at-in-Block.ensures
 
 pub returns-in-Block-clause-stops : goal.returns-in-Block-clause-stops
 returns-in-Block-clause-stops c = λ parts t come.
     let checked = open-blocks c.args.books.now parts c.args.self.now.day (still-open c.args.books.now _ parts c.args.self.now c.args.part.now t come) in
-    let behind = behind-is c.args.books.now c.requires.accepted (blocks_in parts) c.args.self.now.day checked c.next_run-run.result c.next_run-run.ensures in
+    let after = after-is c.args.books.now c.requires.accepted (blocks_in parts) c.args.self.now.day checked c.next_run-run.result c.next_run-run.ensures in
     let later = later-block c.args.part.now c.in-Block.block c.in-Block.is in
-    block-stops c.args.books.now c.args.self.now.more parts c.args.self.now c.add_block.new.self c.args.part.now t come c.in-Block.block c.in-Block.is later c.next_run-run.result behind c.add_block.ensures.same c.add_block.result c.stop_at-in-Block.result
+    block-stops c.args.books.now c.args.self.now.more parts c.args.self.now c.add_block.new.self c.args.part.now t come c.in-Block.block c.in-Block.is later c.next_run-run.result after c.add_block.ensures.same c.add_block.result c.stop_at-in-Block.result
     (c.add_block.ensures.finds (blocks_in parts) checked) c.add_block.ensures.kept c.stop_at-in-Block.ensures
 
 pub returns-in-Totals-clause-taken : goal.returns-in-Totals-clause-taken

@@ -12,6 +12,6 @@ of-publication : (books : Books) (p : Publication) (date : List ℕ) (quarters :
 of-publication books p date quarters result d q h =
     subst (λ (own : List ℕ). FindsHead (HasHead books own p.quarters) result) (sym d) (subst (λ (own : ℕ). FindsHead (HasHead books date own) result) (sym q) h)
 
-pub returns-in-Some-clause-tells : goal.returns-in-Some-clause-tells
-returns-in-Some-clause-tells c = λ p date quarters.
+pub returns-in-Some-clause-states : goal.returns-in-Some-clause-states
+returns-in-Some-clause-states c = λ p date quarters.
     head-fault c.args.books.now p c.head.result c.in-Some.fault c.in-Some.is (of-publication c.args.books.now p _ _ c.head.result date quarters c.head.ensures.finds)

@@ -13,14 +13,14 @@ block_verdict-requires-clause-stands c =
 pub returns-in-Head : goal.returns-in-Head
 returns-in-Head c = λ parts fine comes.
     head-found c.args.books.now parts c.args.self.now fine c.args.part.now comes c.in-Head.date c.in-Head.quarters c.in-Head.budget c.in-Head.is
-    c.head_verdict.result c.head_verdict.ensures.tells c.head_verdict.new.self c.head_verdict.ensures.stands c.head_verdict.ensures.budget
+    c.head_verdict.result c.head_verdict.ensures.states c.head_verdict.new.self c.head_verdict.ensures.stands c.head_verdict.ensures.budget
 
 pub returns-in-Block : goal.returns-in-Block
 returns-in-Block c = λ parts fine comes.
     let books = c.args.books.now in
     let w = way books parts c.args.self.now c.args.part.now (later-block c.args.part.now c.in-Block.block c.in-Block.is) fine comes in
     block-found books parts c.args.self.now c.args.part.now w c.in-Block.block c.in-Block.is c.block_verdict.new.self c.block_verdict.result
-    (c.block_verdict.ensures.tells w.clear.blocks w.clear.checked) (c.block_verdict.ensures.stands w.clear.blocks w.clear.checked) c.block_verdict.ensures.budget
+    (c.block_verdict.ensures.states w.clear.blocks w.clear.checked) (c.block_verdict.ensures.stands w.clear.blocks w.clear.checked) c.block_verdict.ensures.budget
 
 pub returns-in-Totals : goal.returns-in-Totals
 returns-in-Totals c = λ parts fine comes.

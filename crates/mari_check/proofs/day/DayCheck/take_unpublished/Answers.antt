@@ -12,4 +12,4 @@ pub returns-in-None-clause-stands : goal.returns-in-None-clause-stands
 returns-in-None-clause-stands c = λ blocks checked none.
     let free = finds-none _ c.test_unpublished.result c.in-None.is (c.test_unpublished.ensures blocks checked) in
     let next = free fault.Heading in
-    unpublished-counted c.args.books.now blocks c.args.self.now checked c.requires.accepted next.there c.args.told c.args.count free _ refl
+    unpublished-counted c.args.books.now blocks c.args.self.now checked c.requires.accepted next.there c.args.reported c.args.count free _ refl

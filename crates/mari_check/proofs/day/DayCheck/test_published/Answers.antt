@@ -1,31 +1,31 @@
 use Rattle.std.proofs.Common.{Some}
-use Rattle.mari_progress.proofs.Progressing.{priced-behind, settled-behind}
-use Rattle.mari_check.proofs.DayRuns.{all-behind, least-behind}
+use Rattle.mari_progress.proofs.Progressing.{priced-after, settled-after}
+use Rattle.mari_check.proofs.DayRuns.{all-after, least-after}
 use Rattle.mari_check.proofs.Examining.{found-faulty, found-sound}
 use Rattle.mari_check.proofs.day.DayCheck.test_published.Goals as goal
 
-pub market_of-requires-clause-behind : goal.market_of-requires-clause-behind
-market_of-requires-clause-behind c = let s = c.requires.stands in (s.0, s.1.progress, s.2)
+pub market_of-requires-clause-after : goal.market_of-requires-clause-after
+market_of-requires-clause-after c = let s = c.requires.stands in (s.0, s.1.progress, s.2)
 
 pub examine_block-requires-clause-also : goal.examine_block-requires-clause-also
 examine_block-requires-clause-also c =
     let s = c.requires.stands in
-    priced-behind c.args.books.now s.0 c.in_ok-made.made (c.in_ok-made.ensures.market s.0 s.1.progress s.2) _ c.also-also.result (c.also-also.ensures.prices s.0 s.1.progress)
+    priced-after c.args.books.now s.0 c.in_ok-made.made (c.in_ok-made.ensures.market s.0 s.1.progress s.2) _ c.also-also.result (c.also-also.ensures.prices s.0 s.1.progress)
 
 pub returns-in-Faulty : goal.returns-in-Faulty
 returns-in-Faulty c = λ blocks checked is.
     let books = c.args.books.now in
     let made = c.in_ok-made.ensures.market blocks checked.progress is in
-    let also = c.also-also.ensures.behind blocks checked.progress is in
-    least-behind books c.args.self.now.budget blocks c.args.run is c.requires.last c.in_ok-made.made made _ also c.args.block.now c.in-Faulty.fault
+    let also = c.also-also.ensures.after blocks checked.progress is in
+    least-after books c.args.self.now.budget blocks c.args.run is c.requires.last c.in_ok-made.made made _ also c.args.block.now c.in-Faulty.fault
     (found-faulty books c.args.run c.in_ok-made.made _ (Some c.args.self.now.budget) c.args.block.now c.in_ok-fault.field-0 c.in-Faulty.fault c.in-Faulty.is c.in_ok-fault.ensures)
 
 pub returns-in-Sound : goal.returns-in-Sound
 returns-in-Sound c = λ blocks checked is.
     let books = c.args.books.now in
     let made = c.in_ok-made.ensures.market blocks checked.progress is in
-    let also = c.also-also.ensures.behind blocks checked.progress is in
+    let also = c.also-also.ensures.after blocks checked.progress is in
     let found = found-sound books c.args.run c.in_ok-made.made _ (Some c.args.self.now.budget) c.args.block.now c.in_ok-fault.field-0 c.in-Sound.activation c.in-Sound.prices c.in-Sound.ledger c.in-Sound.is c.in_ok-fault.ensures in (
-      all-behind books c.args.self.now.budget blocks c.args.run is c.requires.last c.in_ok-made.made made _ also c.args.block.now found.0,
-      settled-behind books blocks c.in_ok-made.made made _ also c.args.block.now _ found.1,
+      all-after books c.args.self.now.budget blocks c.args.run is c.requires.last c.in_ok-made.made made _ also c.args.block.now found.0,
+      settled-after books blocks c.in_ok-made.made made _ also c.args.block.now _ found.1,
     )

@@ -36,7 +36,7 @@ invariant_of-self g c =
       pool_same g.N.SearchName.market g.N.SearchName.budget g.N.SearchName.workers g.N.SearchName.incumbent (grown c.self.inside.tree e) c.give_back.new.self c.self.inside.queue.keys c.put_back.new.self.keys (c.self.inside.journal.items ++ in_journal e ∷ []) c.push_reserved.new.self.items (vec_capacity c.self.inside.journal) (vec_capacity c.push_reserved.new.self) c.self.inside.turns.items c.self.inside.returned.items c.self.inside.seat c.self.inside.seat
           change c.put_back.ensures.keys c.push_reserved.ensures.items c.push_reserved.ensures.capacity refl
           (entry_keeps_by g.N.SearchName.market g.N.SearchName.budget g.N.SearchName.workers g.N.SearchName.incumbent p e c.self.inside.queue.keys c.self.inside.turns.items c.self.inside.returned.items c.self.invariant.0 may (omega (arith, back_owed c.self.inside.tree c.args.worker c.args.node c.self.inside.returned.items c.self.invariant.0.grows may, room)) tt (c.self.invariant.0.keys_are ∙ sym (length-with_state Untaken c.self.inside.tree.nodes c.args.node)) refl refl
-          (turns_back c.self.inside.tree c.args.worker c.args.node c.self.inside.turns.items c.self.inside.journal.items c.self.invariant.0.turns_tell)),
+          (turns_back c.self.inside.tree c.args.worker c.args.node c.self.inside.turns.items c.self.inside.journal.items c.self.invariant.0.turns_report)),
       omega (arith, ap (λ (t : Grown). taken_among t.nodes) change, taken_after c.self.inside.tree e may, c.self.invariant.1),
       subst (λ (t : Grown). IsQueueOf t.nodes c.put_back.new.self) (sym change) (queue_back c.self.inside.tree.nodes c.self.inside.queue c.put_back.new.self c.args.node c.args.worker c.self.invariant.2 c.put_back.ensures may),
       c.put_back.ensures.room ∙ c.self.invariant.3 ∙ sym (ap (λ (t : Grown). t.budget) change),

@@ -46,7 +46,7 @@ invariant_of-self-2 g c =
       pool_same g.N.SearchName.market g.N.SearchName.budget g.N.SearchName.workers g.N.SearchName.incumbent (grown c.self.inside.tree e) c.take.new.self c.self.inside.queue.keys c.take_first.new.self.keys (c.self.inside.journal.items ++ in_journal e ∷ []) c.push_reserved.new.self.items (vec_capacity c.self.inside.journal) (vec_capacity c.push_reserved.new.self) (set c.self.inside.turns.items c.in-Some.node c.len-turn.result) c.self.inside.returned.items c.self.inside.seat c.self.inside.seat
           change c.in-Some.ensures.keys c.push_reserved.ensures.items c.push_reserved.ensures.capacity refl
           (entry_keeps g.N.SearchName.market g.N.SearchName.budget g.N.SearchName.workers g.N.SearchName.incumbent p e c.self.inside.queue.keys (set c.self.inside.turns.items c.in-Some.node c.len-turn.result) c.self.inside.returned.items c.self.invariant.0 may (not_full, refl) tt (c.self.invariant.0.keys_are ∙ sym (length-with_state (Taken c.args.worker) c.self.inside.tree.nodes c.in-Some.node)) (length-set c.self.inside.turns.items c.in-Some.node c.len-turn.result) refl
-          (turns_take c.self.inside.tree c.args.worker c.in-Some.node c.len-turn.result c.self.inside.turns.items c.self.inside.journal.items within turn c.self.invariant.0.turns_tell)),
+          (turns_take c.self.inside.tree c.args.worker c.in-Some.node c.len-turn.result c.self.inside.turns.items c.self.inside.journal.items within turn c.self.invariant.0.turns_report)),
       omega (arith, ap (λ (t : Grown). taken_among t.nodes) change, taken_after c.self.inside.tree e may, c.self.invariant.1),
       subst (λ (t : Grown). IsQueueOf t.nodes c.take_first.new.self) (sym change) (queue_taken c.self.inside.tree.nodes c.self.inside.queue c.take_first.new.self c.in-Some.node c.args.worker c.self.invariant.2 c.in-Some.ensures),
       c.in-Some.ensures.room ∙ c.self.invariant.3 ∙ sym (ap (λ (t : Grown). t.budget) change),

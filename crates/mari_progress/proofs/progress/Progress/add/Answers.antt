@@ -1,5 +1,5 @@
 use Rattle.std.proofs.Common.{◌≤◌, length, arith}
-use Rattle.mari_progress.specs.Behind.{before_of, run_behind}
+use Rattle.mari_progress.specs.After.{before_of, run_after}
 use Rattle.mari_progress.proofs.Progressing.{can-add, next, published-added, same-market}
 use Rattle.mari_progress.proofs.progress.Progress.add.Goals as goal
 
@@ -7,7 +7,7 @@ pub after-requires-clause-stands : goal.after-requires-clause-stands
 after-requires-clause-stands c =
     let books = c.args.books.now in
     let s = c.requires.next in
-    let last : run_behind s.0 ≤ length books.runs.runs = omega (arith, s.3, c.requires.last) in (
+    let last : run_after s.0 ≤ length books.runs.runs = omega (arith, s.3, c.requires.last) in (
       before_of books s.0,
       s.2.stands,
       next books c.requires.accepted s.0 c.args.self.now s.2 c.args.run s.3,
@@ -28,7 +28,7 @@ overflow_add-self c =
 pub returns : goal.returns
 returns c = λ blocks block progress is own.
     let books = c.args.books.now in
-    let last : run_behind blocks ≤ length books.runs.runs = omega (arith, is, c.requires.last) in
+    let last : run_after blocks ≤ length books.runs.runs = omega (arith, is, c.requires.last) in
     let e = next books c.requires.accepted blocks c.args.self.now progress c.args.run is in
     let stands = c.after.ensures (before_of books blocks) progress.stands e (same-market books c.requires.accepted blocks c.args.self.now progress last block c.args.settled own c.args.run is) in
     let kept = c.keep.ensures in

@@ -13,8 +13,8 @@ priced-some : {A : Type 0} (f : A → List Cents) (m : Market) (r : Option A) �
 priced-some f m None h = tt
 priced-some f m (Some a) h = record { one_each = h.0; capped = h.1 }
 
-pub returns-clause-behind : goal.returns-clause-behind
-returns-clause-behind c = λ blocks progress is.
+pub returns-clause-after : goal.returns-clause-after
+returns-clause-after c = λ blocks progress is.
     let books = c.args.books.now in
     let kept = c.args.self.now.scheduled in
     c.kept_for.ensures ∙ ap (λ (entry : Run). if entry.direct then kept_for entry.quarter kept else None) c.run_entry.ensures ∙ also-is books blocks kept progress.scheduled c.args.run is c.requires.last

@@ -5,7 +5,7 @@ use Rattle.mari_workers.proofs.Cuts.{branch_kept, room_at}
 use Rattle.mari_workers.proofs.cutting.Cutting.descend.Goals as goal
 
 pub child_of-requires-clause-room : goal.child_of-requires-clause-room
-child_of-requires-clause-room c = room_at c.args.market.now c.args.prefix.now c.requires.market c.requires.walk.behind.0
+child_of-requires-clause-room c = room_at c.args.market.now c.args.prefix.now c.requires.market c.requires.walk.after.0
 
 pub returns : goal.returns
 returns c = record {

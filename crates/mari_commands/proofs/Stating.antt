@@ -7,7 +7,7 @@ use Rattle.mari_publish.specs.declared.fault.TextFault.{TextFault}
 use Rattle.mari_publish.specs.declared.fault.TextFault.TheVariants as text_fault
 use Rattle.mari_remain.specs.declared.books.Books.{Books}
 use Rattle.mari_day.specs.Files.Gap.{NotHeld, OverLimit}
-use Rattle.mari_day.specs.Reading.{BooksTell, NamesAFile}
+use Rattle.mari_day.specs.Reading.{BooksReport, NamesAFile}
 use Rattle.mari_day.specs.declared.reading.BooksFault.{BooksFault}
 use Rattle.mari_day.specs.declared.reading.BooksFault.TheVariants as why
 use Rattle.mari_check.specs.declared.verdict.Verdict.{Verdict}
@@ -18,16 +18,16 @@ use Rattle.mari_words.specs.declared.command.FilePart.{FilePart}
 use Rattle.mari_commands.specs.declared.outcome.Outcome.{Outcome}
 use Rattle.mari_commands.specs.declared.outcome.Outcome.TheVariants.{NoCommand, Day, Feed as Feeds, Blocks as Joins, Values, Text, Invalid, NoPage, Refused, Memory as NoMemory}
 use Rattle.mari_commands.specs.Commands.{AsksForLines, ReadsFolder}
-use Rattle.mari_commands.specs.Outcome.{IsMigrated, IsOfWords, IsSummarised, IsToldVerdict, Says, no_books, text_outcome}
+use Rattle.mari_commands.specs.Outcome.{IsMigrated, IsOfWords, IsSummarised, IsReportedVerdict, Says, no_books, text_outcome}
 use Rattle.mari_commands.specs.Outcome.Says.{OfRefusal, OfGap, Fails, Starves}
 
-pub says-fault : (asked : Option Asked) (pages : Pages) (folder : List ℕ) (fault : BooksFault) → ReadsFolder asked folder → BooksTell pages folder (Err fault) → Says asked pages (no_books fault)
-says-fault asked pages folder (why.Fetch n fetch.Failed) r tells = Fails folder n r refl
-says-fault asked pages folder (why.Fetch n fetch.Missing) r tells = OfGap folder n NotHeld r tells refl
-says-fault asked pages folder (why.Fetch n fetch.TooLong) r tells = OfGap folder n OverLimit r tells refl
-says-fault asked pages folder (why.Fetch n fetch.Memory) r tells = absurd tells
-says-fault asked pages folder (why.Refused refusal) r tells = OfRefusal folder refusal r tells refl
-says-fault asked pages folder why.Memory r tells = Starves refl
+pub says-fault : (asked : Option Asked) (pages : Pages) (folder : List ℕ) (fault : BooksFault) → ReadsFolder asked folder → BooksReport pages folder (Err fault) → Says asked pages (no_books fault)
+says-fault asked pages folder (why.Fetch n fetch.Failed) r states = Fails folder n r refl
+says-fault asked pages folder (why.Fetch n fetch.Missing) r states = OfGap folder n NotHeld r states refl
+says-fault asked pages folder (why.Fetch n fetch.TooLong) r states = OfGap folder n OverLimit r states refl
+says-fault asked pages folder (why.Fetch n fetch.Memory) r states = absurd states
+says-fault asked pages folder (why.Refused refusal) r states = OfRefusal folder refusal r states refl
+says-fault asked pages folder why.Memory r states = Starves refl
 
 -- words that ask for no lines of a publication
 pub check-no-lines : (folder : List ℕ) → AsksForLines (Some (Check folder)) → ⊥
@@ -68,7 +68,7 @@ words-of-summary number (NoPage n w) is = absurd is
 words-of-summary number (Refused refusal) is = absurd is
 words-of-summary number NoMemory is = tt
 
-pub words-of-verdict : (folder : List ℕ) (v : Verdict) (o : Outcome) → IsToldVerdict v o → IsOfWords (Some (Check folder)) o
+pub words-of-verdict : (folder : List ℕ) (v : Verdict) (o : Outcome) → IsReportedVerdict v o → IsOfWords (Some (Check folder)) o
 words-of-verdict folder (verdict.Valid published unpublished) (Text t) is = (published, unpublished, is)
 words-of-verdict folder (verdict.Valid published unpublished) NoMemory is = tt
 words-of-verdict folder (verdict.Valid published unpublished) NoCommand is = absurd is

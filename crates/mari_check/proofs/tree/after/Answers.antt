@@ -2,7 +2,7 @@ use Rattle.std.proofs.Common.{arith, refl}
 use Rattle.mari_proofs.proofs.TreeWalk.{branch_fits}
 use Rattle.mari_check.specs.Shapes.{AnyLeaf}
 use Rattle.mari_check.proofs.TreeShapes.{room-left}
-use Rattle.mari_check.proofs.tree.behind.Goals as goal
+use Rattle.mari_check.proofs.tree.after.Goals as goal
 
 pub child_of-requires-clause-room : goal.child_of-requires-clause-room
 child_of-requires-clause-room c = omega (arith, room-left c.args.market.now c.args.prefix.now c.args.item.now c.in-Branch.is c.requires.item, c.requires.market.few_gates)

@@ -4,7 +4,7 @@ ghost use Rattle.std.specs.Prelude.{◌≡◌, IfOk, map};
 ghost use Rattle.mari_lines.specs.declared.line.BidLine.{BidLine as TheBidLine};
 ghost use Rattle.mari_lines.specs.declared.line.BorderLine.{BorderLine as TheBorderLine};
 ghost use Rattle.mari_lines.specs.declared.line.ZoneLine.{ZoneLine as TheZoneLine};
-ghost use Rattle.mari_progress.specs.Told.{activation_of as activation_told, areas_of as areas_told, greatest_told, least_told, prices_of as prices_told};
+ghost use Rattle.mari_progress.specs.Reported.{activation_of as activation_reported, areas_of as areas_reported, greatest_reported, least_reported, prices_of as prices_reported};
 
 use mari_market::{Activation, Prices};
 use mari_publish::{BidLine, BorderLine, FullBlock, ZoneLine};
@@ -38,7 +38,7 @@ fn cents_of_zones(alloc: Global, lines: &[ZoneLine]) -> Result<Vec<Cents>, Memor
 /// The activation that a block states: what its bids and after them its demands run, and the flows of its borders, all
 /// in MW and in the order of its lines.
 pub fn activation_of(alloc: Global, block: &FullBlock) -> Result<Activation, Memory>
-    ensures { IfOk result (λ activation. activation ≡ activation_told block.now) }
+    ensures { IfOk result (λ activation. activation ≡ activation_reported block.now) }
 {
     let mut mw = mws_of(alloc, block.bids.as_slice())?;
     mw.extend_from_slice(block.demands.as_slice())?;
@@ -51,7 +51,7 @@ pub fn activation_of(alloc: Global, block: &FullBlock) -> Result<Activation, Mem
 
 /// The prices that a block states: one for each of its zones, in cents per MWh and in the order of its lines.
 pub fn prices_of(alloc: Global, block: &FullBlock) -> Result<Prices, Memory>
-    ensures { IfOk result (λ prices. prices.cents ≡ prices_told block.now) }
+    ensures { IfOk result (λ prices. prices.cents ≡ prices_reported block.now) }
 {
     let cents = cents_of_zones(alloc, block.zones.as_slice())?;
     Ok(Prices {
@@ -61,7 +61,7 @@ pub fn prices_of(alloc: Global, block: &FullBlock) -> Result<Prices, Memory>
 
 /// The least prices that it states.
 pub(crate) fn least_of(alloc: Global, block: &FullBlock) -> Result<Vec<Cents>, Memory>
-    ensures { IfOk result (λ cents. cents.items ≡ least_told block.now) }
+    ensures { IfOk result (λ cents. cents.items ≡ least_reported block.now) }
 {
     let zones = block.zones.as_slice();
     let cents: Vec<Cents> = zones.iter().map(|line| line.least).collect(alloc)?;
@@ -70,7 +70,7 @@ pub(crate) fn least_of(alloc: Global, block: &FullBlock) -> Result<Vec<Cents>, M
 
 /// The greatest prices that it states.
 pub(crate) fn greatest_of(alloc: Global, block: &FullBlock) -> Result<Vec<Cents>, Memory>
-    ensures { IfOk result (λ cents. cents.items ≡ greatest_told block.now) }
+    ensures { IfOk result (λ cents. cents.items ≡ greatest_reported block.now) }
 {
     let zones = block.zones.as_slice();
     let cents: Vec<Cents> = zones.iter().map(|line| line.greatest).collect(alloc)?;
@@ -79,7 +79,7 @@ pub(crate) fn greatest_of(alloc: Global, block: &FullBlock) -> Result<Vec<Cents>
 
 /// The numbers of areas that it states.
 pub(crate) fn areas_of(alloc: Global, block: &FullBlock) -> Result<Vec<u32>, Memory>
-    ensures { IfOk result (λ areas. areas.items ≡ areas_told block.now) }
+    ensures { IfOk result (λ areas. areas.items ≡ areas_reported block.now) }
 {
     let zones = block.zones.as_slice();
     let areas: Vec<u32> = zones.iter().map(|line| line.area).collect(alloc)?;

@@ -1,11 +1,11 @@
-use Rattle.mari_progress.specs.Money.{TellsLedger}
+use Rattle.mari_progress.specs.Money.{StatesLedger}
 use Rattle.mari_check.proofs.Providers.{rents-from, rents-to}
 use Rattle.mari_check.proofs.Zips.{refuted}
-use Rattle.mari_check.proofs.ledger.tells_ledger.Goals as goal
+use Rattle.mari_check.proofs.ledger.states_ledger.Goals as goal
 
 pub returns-then-not-are_rents : goal.returns-then-not-are_rents
 returns-then-not-are_rents c =
-    refuted (TellsLedger c.args.books.now c.args.block.now c.args.ledger.now c.args.places.now) c.are_rents.result c.if-not-are_rents.true
+    refuted (StatesLedger c.args.books.now c.args.block.now c.args.ledger.now c.args.places.now) c.are_rents.result c.if-not-are_rents.true
     (λ h. c.are_rents.ensures.1 (rw (c.as_slice.ensures, c.as_slice-2.ensures) (rents-from c.args.block.now.borders c.args.ledger.now.rents h.rents)))
 
 pub returns : goal.returns

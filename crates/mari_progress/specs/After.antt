@@ -10,7 +10,7 @@ use Rattle.mari_remain.specs.declared.market.RunMarket.{RunMarket}
 use Rattle.mari_remain.specs.Blocks.{PastBlock}
 use Rattle.mari_remain.specs.Lists.{run_numbered}
 use Rattle.mari_remain.specs.RunMarket.{run_market_of}
-use Rattle.mari_progress.specs.Told.{activation_of, prices_of}
+use Rattle.mari_progress.specs.Reported.{activation_of, prices_of}
 use Rattle.mari_progress.specs.declared.progress.Scheduled.{Scheduled}
 
 -- a printed block as the market of a later run reads it: its heading, and of a published one the numbers of its bids,
@@ -27,12 +27,12 @@ past_of books (block.Unpublished heading count) = record { run = heading.run; qu
 abbrev pub before_of : Books → List Block → List PastBlock
 before_of books blocks = map (past_of books) blocks
 
--- the run behind these blocks, counted from 1, and its market
-abbrev pub run_behind : List Block → ℕ
-run_behind blocks = length blocks + 1
+-- the run after these blocks, counted from 1, and its market
+abbrev pub run_after : List Block → ℕ
+run_after blocks = length blocks + 1
 
-abbrev pub market_behind : Books → List Block → RunMarket
-market_behind books blocks = run_market_of books (before_of books blocks) (run_behind blocks)
+abbrev pub market_after : Books → List Block → RunMarket
+market_after books blocks = run_market_of books (before_of books blocks) (run_after blocks)
 
 -- the prices of a published scheduled block of the quarter; with any other block those before it stay
 abbrev pub scheduled_in : (quarter : ℕ) → Option (List Cents) → Block → Option (List Cents)
@@ -52,7 +52,7 @@ last_in before (block.Unpublished heading count) = before
 abbrev pub last_scheduled : List Block → Option Scheduled
 last_scheduled blocks = fold last_in None blocks
 
--- the scheduled prices of the run behind these blocks: a direct run has those of its quarter, a scheduled run has none
-abbrev pub also_behind : Books → List Block → Option (List Cents)
-also_behind books blocks =
-    if (run_numbered books (run_behind blocks)).direct then scheduled_prices (run_numbered books (run_behind blocks)).quarter blocks else None
+-- the scheduled prices of the run after these blocks: a direct run has those of its quarter, a scheduled run has none
+abbrev pub also_after : Books → List Block → Option (List Cents)
+also_after books blocks =
+    if (run_numbered books (run_after blocks)).direct then scheduled_prices (run_numbered books (run_after blocks)).quarter blocks else None

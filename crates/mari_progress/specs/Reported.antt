@@ -1,4 +1,4 @@
--- What a printed block tells of its run.
+-- What a printed block states of its run.
 use Rattle.std.specs.Prelude.{◌≡◌, ℕ, List, ◌++◌, length, map}
 use Rattle.mari_units.specs.declared.numbers.Cents.{Cents}
 use Rattle.mari_units.specs.declared.numbers.Quarters.{Quarters}
@@ -25,18 +25,18 @@ activation_of b = record {
 abbrev pub prices_of : FullBlock → List Cents
 prices_of b = map (λ (l : ZoneLine). l.price) b.zones
 
-abbrev pub least_told : FullBlock → List Cents
-least_told b = map (λ (l : ZoneLine). l.least) b.zones
+abbrev pub least_reported : FullBlock → List Cents
+least_reported b = map (λ (l : ZoneLine). l.least) b.zones
 
-abbrev pub greatest_told : FullBlock → List Cents
-greatest_told b = map (λ (l : ZoneLine). l.greatest) b.zones
+abbrev pub greatest_reported : FullBlock → List Cents
+greatest_reported b = map (λ (l : ZoneLine). l.greatest) b.zones
 
 abbrev pub areas_of : FullBlock → List ℕ
 areas_of b = map (λ (l : ZoneLine). l.area) b.zones
 
 -- the rents of the borders
-abbrev pub rents_told : FullBlock → List Quarters
-rents_told b = map (λ (l : BorderLine). l.rent) b.borders
+abbrev pub rents_reported : FullBlock → List Quarters
+rents_reported b = map (λ (l : BorderLine). l.rent) b.borders
 
 -- the heading of a run, counted from 1
 abbrev pub heading_of : Books → ℕ → Heading

@@ -96,7 +96,7 @@ pub(crate) fn is_within(first: u32, last: u32, quarter: u32) -> bool
     first <= quarter && quarter <= last
 }
 
-/// Which of so many bids are parents.
+/// Which of `count` bids are parents.
 fn parents_of(alloc: Global, links: &[BidLinks], count: usize) -> Result<Vec<bool>, AllocError>
     requires { (child parent : ℕ) → parent_at links.now child ≡ Some parent → parent < count }
     ensures { IfOk result (λ parents. (bid : ℕ) → get_or parents.items bid false ≡ is_parent links.now bid) }

@@ -18,7 +18,7 @@ use Rattle.mari_remain.specs.declared.books.Books.{Books}
 use Rattle.mari_progress.specs.Totals.{HasHead}
 use Rattle.mari_check.specs.declared.verdict.Verdict.{Verdict}
 use Rattle.mari_check.specs.Day.{AreFree}
-use Rattle.mari_check.specs.Streams.{IsFound, SettlesVerdict}
+use Rattle.mari_check.specs.Streams.{IsVerdictSoFar, SettlesVerdict}
 use Rattle.mari_check.specs.Verdicts.{IsVerdict}
 use Rattle.mari_check.proofs.Streaming.{all-found}
 use Rattle.mari_capacity.specs.declared.ending.ValueStop.{ValueStop}
@@ -155,7 +155,7 @@ totals-found books n text s a p e = all-found books p a.parts s.day s.found e a.
 -- a verdict that the totals settled is that on the publication whose text has come
 pub settled : (books : Books) (n : ℕ) (text : List ℕ) (s : ValueStream) (a : TookAllParts books n text s) (p : Publication) → a.parts ≡ parts_of p → (v : Verdict) → s.found ≡ Some v → IsVerdict books p v
 settled books n text s a p e v found =
-    let own : SettlesVerdict books a.parts v = subst (λ (f : Option Verdict). IsFound books a.parts s.day f) found a.read.taken.found in
+    let own : SettlesVerdict books a.parts v = subst (λ (f : Option Verdict). IsVerdictSoFar books a.parts s.day f) found a.read.taken.found in
     own p [] (sym e ∙ sym (append-nil a.parts))
 
 -- and the lines state of its blocks

@@ -19,7 +19,7 @@ use Rattle.mari_check.specs.declared.verdict.Verdict.{Verdict}
 use Rattle.mari_check.specs.Checked.{FindsHead, IsChecked}
 use Rattle.mari_check.specs.Day.{AreFree, IsFreeIn}
 use Rattle.mari_check.specs.Faults.{FindsNumber}
-use Rattle.mari_check.specs.Streams.{Comes, IsFound, IsOpen}
+use Rattle.mari_check.specs.Streams.{Comes, IsVerdictSoFar, IsOpen}
 use Rattle.mari_check.specs.Verdicts.{IsVerdict}
 use Rattle.mari_check.proofs.Streaming.{IsLater, Way, block-found, first, head-found, totals-settle, way}
 use Rattle.mari_capacity.specs.declared.ending.ValueStop.{ValueStop}
@@ -66,7 +66,7 @@ not-settled books more parts s x t c = by s.found t.ended
     by (Some v) e = absurd (none-after parts x e c)
 
 pub still-open : (books : Books) (more : ℕ) (parts : List Part) (s : ValueStream) (x : Part) → HasTaken books more parts s → Comes parts x → IsOpen books parts s.day
-still-open books more parts s x t c = subst (λ (f : Option Verdict). IsFound books parts s.day f) (not-settled books more parts s x t c) t.found
+still-open books more parts s x t c = subst (λ (f : Option Verdict). IsVerdictSoFar books parts s.day f) (not-settled books more parts s x t c) t.found
 
 pub open-blocks : (books : Books) (parts : List Part) (day : DayCheck) → IsOpen books parts day → IsChecked books (blocks_in parts) day
 open-blocks books [] day o = o
@@ -106,7 +106,7 @@ with-totals books parts day w os ps checked =
 -- parts that settle nothing were taken
 pub open-taken : (books : Books) (more : ℕ) (parts : List Part) (s : ValueStream) → IsOpen books parts s.day → s.found ≡ None → IsValueText books more (blocks_in parts) s.lines.items → s.more ≡ more → HasTaken books more parts s
 open-taken books more parts s fine none lines same = record {
-  found = subst (λ (f : Option Verdict). IsFound books parts s.day f) (sym none) fine;
+  found = subst (λ (f : Option Verdict). IsVerdictSoFar books parts s.day f) (sym none) fine;
   ended = subst (λ (f : Option Verdict). IfSome f (λ v. HaveEnded parts)) (sym none) tt;
   states = record { checked = open-checked books parts s.day fine; lines = lines };
   more_is = same;
@@ -145,11 +145,11 @@ module _ (books : Books) (more : ℕ) (parts : List Part) (old new : ValueStream
   totals-taken os ps is later v ends found lines same =
       let fine = still-open books more parts old x t c in
       let w = way books parts old.day x later fine c in
-      let settled : IsFound books (parts ++ x ∷ []) new.day (Some v) = totals-settle books parts old.day x w os ps is v ends in
+      let settled : IsVerdictSoFar books (parts ++ x ∷ []) new.day (Some v) = totals-settle books parts old.day x w os ps is v ends in
       let blocks : blocks_in (parts ++ x ∷ []) ≡ blocks_in parts = blocks_in-append parts (x ∷ []) ∙ ap (λ (y : Part). blocks_in parts ++ blocks_in (y ∷ [])) is ∙ append-nil (blocks_in parts) in
       let own : IsValueText books more (blocks_in (parts ++ x ∷ [])) old.lines.items = subst (λ (bs : List Block). IsValueText books more bs old.lines.items) (sym blocks) t.states.lines in
       record {
-        found = subst (λ (f : Option Verdict). IsFound books (parts ++ x ∷ []) new.day f) (sym found) settled;
+        found = subst (λ (f : Option Verdict). IsVerdictSoFar books (parts ++ x ∷ []) new.day f) (sym found) settled;
         ended = subst (λ (f : Option Verdict). IfSome f (λ u. HaveEnded (parts ++ x ∷ []))) (sym found) (parts, os, ps, ap (λ (y : Part). parts ++ y ∷ []) is);
         states = record {
           checked = subst (λ (y : Part). AreChecked books (parts ++ y ∷ [])) (sym is) (with-totals books parts old.day w os ps t.states.checked);

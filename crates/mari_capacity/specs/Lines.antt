@@ -3,7 +3,8 @@ use Rattle.std.specs.Prelude.{ℕ, ◌≤◌, ◌^◌, List, [], ◌∷◌, ◌+
 use lib.Chars.{codes}
 use Rattle.std.specs.Fmt.{decimal}
 use Rattle.mari_lines.specs.declared.line.BorderLine.{BorderLine}
-use Rattle.mari_lines.specs.Spelling.{money_text}
+use Rattle.mari_lines.specs.Spelling.{line_text, money_text}
+use Rattle.mari_lines.specs.declared.line.Line.TheVariants as line
 use Rattle.mari_publish.specs.declared.publication.FullBlock.{FullBlock}
 use Rattle.mari_capacity.specs.declared.worth.BorderWorth.{BorderWorth}
 use Rattle.mari_capacity.specs.declared.worth.Worth.{Worth}
@@ -34,9 +35,9 @@ run_lines b ws = codes "run " ++ decimal b.heading.run ++ 10 ∷ border_lines b.
 abbrev pub unpublished_line : (run : ℕ) → List ℕ
 unpublished_line run = codes "run " ++ decimal run ++ codes " unpublished" ++ 10 ∷ []
 
--- the last line: how many runs are published, and how many aren't
+-- the last line, as a day's text has it: how many runs are published, and how many aren't
 abbrev pub closing_line : (published unpublished : ℕ) → List ℕ
-closing_line published unpublished = codes "done " ++ decimal published ++ 32 ∷ decimal unpublished ++ 10 ∷ []
+closing_line published unpublished = line_text (line.Done published unpublished)
 
 -- amounts that can be printed
 pub record IsPrintable (w : Worth) : Type 0 where

@@ -13,7 +13,7 @@ use Rattle.mari_publish.specs.declared.publication.Part.{Part}
 use Rattle.mari_publish.specs.declared.publication.Part.TheVariants as part
 use Rattle.mari_units.specs.declared.faults.Memory.{Memory as NoRoom}
 use Rattle.mari_remain.specs.declared.books.Books.{Books}
-use Rattle.mari_check.specs.Streams.{IsFound}
+use Rattle.mari_check.specs.Streams.{IsVerdictSoFar}
 use Rattle.mari_capacity.specs.declared.ending.ValueStop.{ValueStop}
 use Rattle.mari_capacity.specs.declared.ending.ValueStop.TheVariants.{At, Memory as NoMemory}
 use Rattle.mari_capacity.specs.declared.ending.ValueEnd.TheVariants.{Valid, Invalid, Text as OfText, Fetch as OfFetch}
@@ -30,7 +30,7 @@ HaveEnded parts = (front : List Part) × (operators : List MoneyLine) × (provid
 
 -- these parts were taken: they settle a verdict where the totals are among them, and no part has a fault before them
 pub record HasTaken (books : Books) (more : ℕ) (parts : List Part) (s : ValueStream) : Type 0 where
-  pub found : IsFound books parts s.day s.found
+  pub found : IsVerdictSoFar books parts s.day s.found
   pub ended : IfSome s.found (λ v. HaveEnded parts)
   pub states : StatesChecked books more parts s.lines.items
   pub more_is : s.more ≡ more

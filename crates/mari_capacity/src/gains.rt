@@ -33,7 +33,7 @@ pub struct Raised {
 /// quarter-cents. The gate word decides every gate.
 ///
 /// `forth` raises the limit of what flows from the border's first zone to its second, else the other one is raised; by
-/// so many MW, and to at most the greatest limit of a run. What is gained is the answer's welfare less the one given.
+/// `more` MW, and to at most the greatest limit of a run. What is gained is the answer's welfare less the one given.
 pub fn gain(
     alloc: Global,
     market: &Market,

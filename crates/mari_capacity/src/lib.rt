@@ -1,5 +1,5 @@
 //! What more room on a border would bring: for each published run of a day, what its gates would gain by a limit raised
-//! by so many MW, and the most that they could gain by the published prices.
+//! by a number of MW, and the most that they could gain by the published prices.
 //!
 //! It stands on the relaxed optimum of a prefix by shortest paths, on the plain check of a printed day, and on the
 //! reader of a day's text in pieces. Its promise: no activation of the published gate word in the market with that one

@@ -2,7 +2,7 @@
 
 ghost use Rattle.std.specs.Prelude.{◌≡◌, ◌++◌, OnOk, length};
 ghost use Rattle.std.specs.List.{All};
-ghost use Rattle.mari_capacity.specs.Lines.{ArePrintable, IsPrintable, border_line as line_of_border, border_lines as lines_of_borders, closing_line as line_of_close, opening_line as line_of_opening, run_lines, unpublished_line as line_of_unpublished, worth_fields as fields_of_worth};
+ghost use Rattle.mari_capacity.specs.Lines.{ArePrintable, IsPrintable, border_line as line_of_border, border_lines as lines_of_borders, opening_line as line_of_opening, run_lines, unpublished_line as line_of_unpublished, worth_fields as fields_of_worth};
 
 use crate::worth::{BorderWorth, Worth};
 use mari_lines::{put_field, put_money, put_number_field};
@@ -87,20 +87,5 @@ pub(crate) fn put_unpublished(alloc: Global, text: &mut Vec<u8>, run: u32) -> Re
     put(text, b"run")?;
     put_number_field(alloc, text, u64::from(run))?;
     put_field(text, b"unpublished")?;
-    put(text, b"\n")
-}
-
-/// Appends the last line.
-pub(crate) fn put_closing(
-    alloc: Global,
-    text: &mut Vec<u8>,
-    published: u32,
-    unpublished: u32,
-) -> Result<(), Memory>
-    ensures { OnOk result (text.new.items ≡ text.old.items ++ line_of_close published unpublished) }
-{
-    put(text, b"done")?;
-    put_number_field(alloc, text, u64::from(published))?;
-    put_number_field(alloc, text, u64::from(unpublished))?;
     put(text, b"\n")
 }

@@ -27,7 +27,7 @@ fn price_gap(prices: &[Cents], near: u32, far: u32) -> i128
     i128::from(prices[far as usize].0) - i128::from(prices[near as usize].0)
 }
 
-/// What so many MW earn at a difference of prices, and nothing where that is negative, in quarter-cents.
+/// What `more` MW earn at a difference of prices, and nothing where that is negative, in quarter-cents.
 fn earned(gap: i128, more: u32) -> i128
     requires { unsigned_abs gap ≤ 2 ^ 65 }
     ensures { result ≡ pos more *ℤ int_max (pos 0) gap }
@@ -35,8 +35,8 @@ fn earned(gap: i128, more: u32) -> i128
     i128::from(more) * gap.max(0)
 }
 
-/// The most that so many MW more on one limit of a border bring at these prices, in quarter-cents: for each MW the
-/// price at the far end less the price at the near end, and nothing where that is negative. Forth the near end is the
+/// The most that `more` MW on one limit of a border bring at these prices, in quarter-cents: for each MW the price at
+/// the far end less the price at the near end, and nothing where that is negative. Forth the near end is the
 /// border's first zone, and back its second.
 ///
 /// Where the prices are consistent with an activation of a market, nothing of its gate word is worth more in the market

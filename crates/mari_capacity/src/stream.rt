@@ -22,10 +22,11 @@ ghost use Rattle.mari_capacity.specs.declared.ending.ValueEnd.{ValueEnd as TheEn
 use crate::ending::{
     ValueEnd, ValueStop, Valued, stop_at, stop_of_reader, stop_of_shelf, unopened,
 };
-use crate::lines::{put_closing, put_opening, put_run, put_unpublished};
+use crate::lines::{put_opening, put_run, put_unpublished};
 use crate::worth::worths_of;
 use mari_check::{DayCheck, Verdict};
 use mari_io::{Fetch, Shelf};
+use mari_lines::put_done;
 use mari_progress::run_count;
 use mari_publish::{Block, FullBlock, Part, TextReader};
 use mari_remain::Books;
@@ -241,7 +242,7 @@ impl ValueStream {
                     published,
                     unpublished,
                 } => {
-                    put_closing(alloc, &mut lines, published, unpublished)?;
+                    put_done(alloc, &mut lines, published, unpublished)?;
                     ValueEnd::Valid {
                         published,
                         unpublished,
@@ -300,7 +301,7 @@ fn read_pieces<S: Shelf>(
     }
 }
 
-/// What so many MW more on each border are worth in each published run of the publication whose text is the page of
+/// What `more` MW on each border are worth in each published run of the publication whose text is the page of
 /// that name, which is read in pieces. Each block is checked before its line is made. The valuing ends at the first
 /// fault: one of the check stands where its head or its block ends, and one that the end of a publication shows stands
 /// after every fault of the text.

@@ -85,7 +85,7 @@ fn worth_of(
     })
 }
 
-/// What so many MW more on a border are worth, forth and back.
+/// What `more` MW on a border are worth, forth and back.
 fn border_worth(
     alloc: Global,
     market: &Market,
@@ -115,7 +115,7 @@ fn border_worth(
     })
 }
 
-/// What so many MW more on each border are worth.
+/// What `more` MW on each border are worth.
 fn border_worths(
     alloc: Global,
     market: &Market,
@@ -135,7 +135,7 @@ fn border_worths(
     Ok(worths)
 }
 
-/// What so many MW more on each border of a market are worth for the gates of its published block.
+/// What `more` MW on each border of a market are worth for the gates of its published block.
 pub(crate) fn worths_of(
     alloc: Global,
     market: &Market,

@@ -18,7 +18,7 @@ use Rattle.mari_check.specs.declared.block.Examined.{Examined}
 use Rattle.mari_check.specs.declared.block.Examined.TheVariants.{Faulty, Sound}
 use Rattle.mari_check.specs.declared.fault.Fault.{Fault}
 use Rattle.mari_check.specs.declared.fault.Fault.TheVariants as fault
-use Rattle.mari_check.specs.Examined.{IsExamined, IsReportedLedger}
+use Rattle.mari_check.specs.Examined.{ExaminesBlock, IsReportedLedger}
 use Rattle.mari_check.specs.Faults.{IsFreeOf, IsLeast, NoneBelow}
 use Rattle.mari_check.proofs.Least.{last-passes, least-is}
 use Rattle.mari_check.proofs.Providers.{run-of, states-is}
@@ -46,7 +46,7 @@ module _ (books : Books) (run : ℕ) (made : RunMarket) (also : Option (List Cen
   free any = IsFreeOf books run made also budget b any
 
   abbrev found : Examined → Type 0
-  found t = IsExamined books run made also budget b t
+  found t = ExaminesBlock books run made also budget b t
 
   -- after the other faults there is that of the ledger, or none
   pub with-ledger : NoneBelow free 11 → (a : Activation) (ps : Prices) (given : Option Ledger) (l : Ledger) → given ≡ Some l → IsReportedLedger books made also b a ps given → found (Sound a ps l)

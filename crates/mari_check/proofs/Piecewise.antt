@@ -24,7 +24,7 @@ use Rattle.mari_check.specs.declared.stream.Stream.{Stream}
 use Rattle.mari_check.specs.declared.stream.StreamFault.{StreamFault}
 use Rattle.mari_check.specs.declared.stream.StreamFault.TheVariants.{Fetch as OfFetch, Text as OfText, Memory as NoMemory}
 use Rattle.mari_check.specs.declared.verdict.Verdict.{Verdict}
-use Rattle.mari_check.specs.Streams.{EndStates, FaultStops, FaultStates, IsAllRead, IsFound, HasRead, IsStreamFetch, IsWrappedMemory, LineStates, SameAsRead, StopsAtFault, StreamStates, fault_of_fetch, fault_of_text}
+use Rattle.mari_check.specs.Streams.{EndStates, FaultStops, FaultStates, IsAllRead, IsVerdictSoFar, HasRead, IsStreamFetch, IsWrappedMemory, LineStates, SameAsRead, StopsAtFault, StreamStates, fault_of_fetch, fault_of_text}
 use Rattle.mari_check.specs.Verdicts.{IsVerdict}
 
 -- ---- faults
@@ -72,7 +72,7 @@ end-no-fetch books text (Err (OfFetch f)) g h w = h
 end-no-fetch books text (Err NoMemory) g h w = w
 
 -- what is settled at the end
-pub end-verdict : {T : Type 0} (done : T) (books : Books) (text : List ℕ) (parts : List Part) (day : DayCheck) (found : Option Verdict) (v : Verdict) → IsEnd text parts (Ok done) → IsFound books parts day found → found ≡ Some v
+pub end-verdict : {T : Type 0} (done : T) (books : Books) (text : List ℕ) (parts : List Part) (day : DayCheck) (found : Option Verdict) (v : Verdict) → IsEnd text parts (Ok done) → IsVerdictSoFar books parts day found → found ≡ Some v
     → (p : Publication) × IsText text p × IsVerdict books p v
 end-verdict done books text parts day None v e f is = absurd cc
 end-verdict done books text parts day (Some w) v e f is =
@@ -84,7 +84,7 @@ end-verdict done books text parts day (Some w) v e f is =
 
 -- there is no further part: all that has come is taken
 pub all-read : (books : Books) (text : List ℕ) (parts : List Part) (stream : Stream) (o : Option Part) → o ≡ None → IsNext text parts (Ok o) → ComesFrom stream.reader.come text (with_part parts o) → stream.reader.waits ≡ found_none (Ok o)
-    → IsFound books parts stream.day stream.found → IsAllRead books text stream
+    → IsVerdictSoFar books parts stream.day stream.found → IsAllRead books text stream
 all-read books text parts stream (Some x) e n s w f = absurd cc
 all-read books text parts stream None e n s w f = record { parts = parts; read = record { stands = s; found = f }; waits = w; no_fault = n.1 }
 

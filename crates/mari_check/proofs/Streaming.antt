@@ -21,7 +21,7 @@ use Rattle.mari_progress.specs.Totals.{HasHead}
 use Rattle.mari_check.specs.declared.day.DayCheck.{DayCheck}
 use Rattle.mari_check.specs.declared.verdict.Verdict.{Verdict}
 use Rattle.mari_check.specs.Checked.{IsChecked}
-use Rattle.mari_check.specs.Streams.{Comes, IsFaultlessSoFar, IsFound, IsOpen, SettlesVerdict}
+use Rattle.mari_check.specs.Streams.{Comes, IsFaultlessSoFar, IsVerdictSoFar, IsOpen, SettlesVerdict}
 use Rattle.mari_check.specs.Verdicts.{BlockStates, HeadStates, IsVerdict}
 use Rattle.mari_check.proofs.Ending.{block-reported, head-clear, head-reported}
 
@@ -110,10 +110,10 @@ module _ (books : Books) (parts : List Part) (old : DayCheck) (fine : IsOpen boo
       let now : IsFaultlessSoFar books date quarters budget [] new = record { head = record { date_is = sym s.date_is ∙ right.date_is; quarters_is = sym s.quarters_is ∙ right.quarters_is }; budget_is = sym b; blocks = []; are = refl; checked = checked } in
       subst (λ (ps : List Part). IsOpen books ps new) (sym alone) now
 
-  pub head-found : (new : DayCheck) → IsChecked books [] new → new.budget ≡ budget → IsFound books (parts ++ x ∷ []) new found
+  pub head-found : (new : DayCheck) → IsChecked books [] new → new.budget ≡ budget → IsVerdictSoFar books (parts ++ x ∷ []) new found
   head-found new checked b = by found refl
     where
-      by : (f : Option Verdict) → found ≡ f → IsFound books (parts ++ x ∷ []) new f
+      by : (f : Option Verdict) → found ≡ f → IsVerdictSoFar books (parts ++ x ∷ []) new f
       by None e = head-opens new e checked b
       by (Some v) e = head-settles v e
 
@@ -201,7 +201,7 @@ module _ (books : Books) (parts : List Part) (old : DayCheck) (x : Part) (w : Wa
       subst (λ (ps : List Part). IsOpen books ps new) (sym longer) now
 
   pub block-found : {E : Type 0} (b : Block) → x ≡ part.Block b → (new : DayCheck) (r : Res (Option Verdict) E) → IfOk r (BlockStates books old.budget w.clear.blocks b)
-      → (r ≡ Ok None → IsChecked books (w.clear.blocks ++ b ∷ []) new) → new.budget ≡ old.budget → IfOk r (IsFound books (parts ++ x ∷ []) new)
+      → (r ≡ Ok None → IsChecked books (w.clear.blocks ++ b ∷ []) new) → new.budget ≡ old.budget → IfOk r (IsVerdictSoFar books (parts ++ x ∷ []) new)
   block-found b is new (Ok None) states stands budget = block-opens b is new (stands refl) budget
   block-found b is new (Ok (Some v)) states stands budget = block-settles b is v states
   block-found b is new (Err why) states stands budget = tt
@@ -222,7 +222,7 @@ no-totals-yet [] (b ∷ bs) os ps e = absurd cc
 no-totals-yet (a ∷ own) [] os ps e = absurd cc
 no-totals-yet (a ∷ own) (b ∷ bs) os ps e = let rest : map part.Block own ++ part.Totals os ps ∷ [] ≡ map part.Block bs = cc in no-totals-yet own bs os ps rest
 
-pub all-found : (books : Books) (p : Publication) (parts : List Part) (day : DayCheck) (found : Option Verdict) → parts ≡ parts_of p → IsFound books parts day found → is_some found ≡ true
+pub all-found : (books : Books) (p : Publication) (parts : List Part) (day : DayCheck) (found : Option Verdict) → parts ≡ parts_of p → IsVerdictSoFar books parts day found → is_some found ≡ true
 all-found books p parts day (Some v) e f = refl
 all-found books p parts day None e f =
     let o : IsFaultlessSoFar books p.date p.quarters p.budget (map part.Block p.blocks ++ part.Totals p.operators p.providers ∷ []) day = subst (λ (ps : List Part). IsOpen books ps day) e f in

@@ -10,8 +10,8 @@ use Rattle.mari_progress.specs.After.{also_after, market_after}
 use Rattle.mari_progress.specs.Progress.{IsProgress}
 use Rattle.mari_progress.specs.Runs.{IsRunOf}
 use Rattle.mari_check.specs.declared.day.DayCheck.{DayCheck}
-use Rattle.mari_check.specs.declared.day.Tested.{Tested}
-use Rattle.mari_check.specs.declared.day.Tested.TheVariants.{Faulty, Sound}
+use Rattle.mari_check.specs.declared.day.TestedBlock.{TestedBlock}
+use Rattle.mari_check.specs.declared.day.TestedBlock.TheVariants.{Faulty, Sound}
 use Rattle.mari_check.specs.declared.fault.Fault.{Fault}
 use Rattle.mari_check.specs.declared.fault.Fault.TheVariants as fault
 use Rattle.mari_check.specs.Day.{AreFree, IsFreeIn}
@@ -29,9 +29,9 @@ abbrev pub unpublished_block : Heading → (count : ℕ) → Block
 unpublished_block heading count = block.Unpublished heading count
 
 -- the test of a published block states its least fault, or that it has none and what it adds
-abbrev pub IsTested : Books → (budget : ℕ) → (before : List Block) → FullBlock → Tested → Type 0
-IsTested books budget before b (Faulty least) = IsLeast (IsFreeIn books budget before (block.Published b)) least
-IsTested books budget before b (Sound settled) = ((any : Fault) → IsFreeIn books budget before (block.Published b) any) × IsRunOf books (market_after books before) (also_after books before) b settled
+abbrev pub TestsBlock : Books → (budget : ℕ) → (before : List Block) → FullBlock → TestedBlock → Type 0
+TestsBlock books budget before b (Faulty least) = IsLeast (IsFreeIn books budget before (block.Published b)) least
+TestsBlock books budget before b (Sound settled) = ((any : Fault) → IsFreeIn books budget before (block.Published b) any) × IsRunOf books (market_after books before) (also_after books before) b settled
 
 -- the fault of the first line is reported exactly where it is there
 abbrev pub FindsHead : (right : Type 0) → Option ℕ → Type 0

@@ -37,7 +37,7 @@ abbrev pub HasIntervals : Market → FullBlock → Type 0
 HasIntervals m b = AreIntervals m (activation_of b) (least_reported b) (greatest_reported b)
 
 -- a tree has the shape, and no more items than the budget, where there is one
-pub record IsShaped (m : Market) (budget : Option ℕ) (items : List TreeItem) : Type 0 where
+pub record IsWholeWithin (m : Market) (budget : Option ℕ) (items : List TreeItem) : Type 0 where
   pub shape : HasShape m items
   pub within_budget : IfSome budget (λ most. length items ≤ most)
 
@@ -53,7 +53,7 @@ IsFreeOf books run made also budget b fault.Inconsistent = IsConsistent made.mar
 IsFreeOf books run made also budget b fault.Interval = HasIntervals made.market b
 IsFreeOf books run made also budget b fault.Price = ArePublishedPrices made.market (activation_of b) (prices_of b)
 IsFreeOf books run made also budget b fault.Area = AreAreas made.market (activation_of b) (areas_of b)
-IsFreeOf books run made also budget b fault.Tree = IsShaped made.market budget b.tree
+IsFreeOf books run made also budget b fault.Tree = IsWholeWithin made.market budget b.tree
 IsFreeOf books run made also budget b fault.Leaf = TreeHoldsFor made.market (pos b.welfare) (gate_word_of made.market (activation_of b)) b.tree
 IsFreeOf books run made also budget b fault.Ledger = HasLedger books made also b
 IsFreeOf books run made also budget b fault.Totals = ⊤

@@ -95,7 +95,7 @@ IsStreamFetch f (Err (OfText g)) = ⊥
 IsStreamFetch f (Err NoMemory) = ⊥
 IsStreamFetch f (Ok x) = ⊥
 
--- want of memory is reported as a fault of the shelf or of the text
+-- out of memory is reported as a fault of the shelf or of the text
 abbrev pub IsWrappedMemory : {T : Type 0} → Result T StreamFault → Type 0
 IsWrappedMemory (Err (OfFetch f)) = f ≡ fetch.Memory
 IsWrappedMemory (Err (OfText f)) = f ≡ fault.Memory
@@ -142,14 +142,14 @@ IsOpen books (part.Totals operators providers ∷ rest) day = ⊥
 abbrev pub SettlesVerdict : Books → List Part → Verdict → Type 0
 SettlesVerdict books parts verdict = (p : Publication) (more : List Part) → parts_of p ≡ parts ++ more → IsVerdict books p verdict
 
-abbrev pub IsFound : Books → List Part → DayCheck → Option Verdict → Type 0
-IsFound books parts day None = IsOpen books parts day
-IsFound books parts day (Some verdict) = SettlesVerdict books parts verdict
+abbrev pub IsVerdictSoFar : Books → List Part → DayCheck → Option Verdict → Type 0
+IsVerdictSoFar books parts day None = IsOpen books parts day
+IsVerdictSoFar books parts day (Some verdict) = SettlesVerdict books parts verdict
 
 -- a text has come, and these parts of it were taken
 pub record HasRead (books : Books) (text : List ℕ) (parts : List Part) (stream : Stream) : Type 0 where
   pub stands : ComesFrom stream.reader.come text parts
-  pub found : IsFound books parts stream.day stream.found
+  pub found : IsVerdictSoFar books parts stream.day stream.found
 
 -- all parts that have come of a text were taken, and no whole line of it has a fault
 pub record IsAllRead (books : Books) (text : List ℕ) (stream : Stream) : Type 0 where

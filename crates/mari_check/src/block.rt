@@ -7,8 +7,8 @@ ghost use Rattle.mari_market.specs.Market.{IsValid};
 ghost use Rattle.mari_market.specs.Optimal.{IsConsistent, IsFeasible};
 ghost use Rattle.mari_market.specs.Price.{ArePrices};
 ghost use Rattle.mari_remain.specs.Accepted.{IsAccepted};
-ghost use Rattle.mari_check.specs.Examined.{IsExamined};
-ghost use Rattle.mari_check.specs.Faults.{FindsNumber, FindsUpTo, IsFreeOf, IsShaped, NoneBelow};
+ghost use Rattle.mari_check.specs.Examined.{ExaminesBlock};
+ghost use Rattle.mari_check.specs.Faults.{FindsNumber, FindsUpTo, IsFreeOf, IsWholeWithin, NoneBelow};
 ghost use Rattle.mari_remain.specs.declared.books.Books.{Books as TheBooks};
 ghost use Rattle.mari_remain.specs.declared.market.RunMarket.{RunMarket as TheRunMarket};
 ghost use Rattle.mari_market.specs.Tree.{TreeHoldsFor};
@@ -128,9 +128,9 @@ fn pricing_fault(
 }
 
 /// Whether the tree is whole, and of no more items than the budget, if there is a budget.
-fn is_shaped(market: &Market, tree: &[TreeItem], budget: Option<u32>) -> bool
+fn is_whole_within(market: &Market, tree: &[TreeItem], budget: Option<u32>) -> bool
     requires { IsValid market.now }
-    ensures { IsTrue result ↔ IsShaped market.now budget tree.now }
+    ensures { IsTrue result ↔ IsWholeWithin market.now budget tree.now }
 {
     let fits = match budget {
         Some(most) => tree.len() <= most as usize,
@@ -164,7 +164,7 @@ fn tree_fault(
     ensures { (books : TheBooks) (run : ℕ) (made : TheRunMarket) (also : Option (List TheCents)) → made.market ≡ market.now
         → NoneBelow (IsFreeOf books run made also budget block.now) 9 → FindsUpTo (IsFreeOf books run made also budget block.now) 11 result }
 {
-    if !is_shaped(market, block.tree.as_slice(), budget) {
+    if !is_whole_within(market, block.tree.as_slice(), budget) {
         return Some(Fault::Tree);
     }
     if !has_leaves(market, block, activation) {
@@ -211,7 +211,7 @@ pub(crate) fn examine_block(
     requires run { 1 ≤ run }
     requires made { IsMarketOf books.now made.now }
     requires also { IfSome also (λ scheduled. ArePrices made.now.market scheduled.now.cents) }
-    ensures { IfOk result (IsExamined books.now run made.now (option_map (λ scheduled. scheduled.now.cents) also.entry) budget block.now) }
+    ensures { IfOk result (ExaminesBlock books.now run made.now (option_map (λ scheduled. scheduled.now.cents) also.entry) budget block.now) }
 {
     if let Some(fault) = naming_fault(books, run, made, block) {
         return Ok(Examined::Faulty(fault));

@@ -5,7 +5,7 @@ ghost use Rattle.mari_remain.specs.Accepted.{IsAccepted};
 ghost use Rattle.mari_progress.specs.After.{run_after};
 ghost use Rattle.mari_progress.specs.Progress.{published_block};
 ghost use Rattle.mari_progress.specs.Totals.{HasHead};
-ghost use Rattle.mari_check.specs.Checked.{FindsHead, IsChecked, IsTested, unpublished_block};
+ghost use Rattle.mari_check.specs.Checked.{FindsHead, IsChecked, TestsBlock, unpublished_block};
 ghost use Rattle.mari_check.specs.Day.{FillsBudget, IsFreeIn, IsNextHeading};
 ghost use Rattle.mari_check.specs.Faults.{Finds, FindsNumber};
 ghost use Rattle.mari_publish.specs.declared.publication.Block.{Block as PrintedBlock};
@@ -20,7 +20,7 @@ use std::alloc::Global;
 
 /// What the test of a published block comes to.
 #[derive(Drop)]
-pub enum Tested {
+pub enum TestedBlock {
     /// It has faults: the least of them.
     Faulty(Fault),
     /// It has none: what it adds to its day.
@@ -82,22 +82,22 @@ impl DayCheck {
         books: &Books,
         run: u32,
         block: &FullBlock,
-    ) -> Result<Tested, Memory>
+    ) -> Result<TestedBlock, Memory>
         requires accepted { IsAccepted books.now }
         requires last { run ≤ length books.now.runs.runs }
         requires stands { (blocks : List PrintedBlock) × IsChecked books.now blocks self.now × (run ≡ run_after blocks) }
-        ensures { (blocks : List PrintedBlock) → IsChecked books.now blocks self.now → run ≡ run_after blocks → IfOk result (IsTested books.now self.now.budget blocks block.now) }
+        ensures { (blocks : List PrintedBlock) → IsChecked books.now blocks self.now → run ≡ run_after blocks → IfOk result (TestsBlock books.now self.now.budget blocks block.now) }
     {
         let made = self.progress.market_of(alloc, books, run)?;
         let also = self.progress.also(books, run);
         let budget = Some(self.budget);
         match examine_block(alloc, books, run, &made, block, also, budget)? {
-            Examined::Faulty(fault) => Ok(Tested::Faulty(fault)),
+            Examined::Faulty(fault) => Ok(TestedBlock::Faulty(fault)),
             Examined::Sound {
                 activation,
                 prices,
                 ledger,
-            } => Ok(Tested::Sound(SettledRun {
+            } => Ok(TestedBlock::Sound(SettledRun {
                 made,
                 activation,
                 prices,
@@ -125,8 +125,8 @@ impl DayCheck {
             return Ok(Some(Fault::Heading));
         }
         match self.test_published(alloc, books, run, block)? {
-            Tested::Faulty(fault) => Ok(Some(fault)),
-            Tested::Sound(settled) => {
+            TestedBlock::Faulty(fault) => Ok(Some(fault)),
+            TestedBlock::Sound(settled) => {
                 self.progress.add(books, run, settled);
                 Ok(None)
             }

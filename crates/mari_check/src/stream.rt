@@ -9,7 +9,7 @@ ghost use Rattle.mari_publish.specs.declared.publication.Part.{Part as ThePart};
 ghost use Rattle.mari_publish.specs.declared.publication.Publication.{Publication as ThePublication};
 ghost use Rattle.mari_remain.specs.Accepted.{IsAccepted};
 ghost use Rattle.mari_remain.specs.declared.books.Books.{Books as TheBooks};
-ghost use Rattle.mari_check.specs.Streams.{Comes, EndStates, FaultStops, IsAllRead, IsFound, IsOpen, HasRead, IsStreamFetch, IsWrappedMemory, PiecesReport, PushStates, SameAsRead, StreamStates, fault_of_fetch, fault_of_text};
+ghost use Rattle.mari_check.specs.Streams.{Comes, EndStates, FaultStops, IsAllRead, IsVerdictSoFar, IsOpen, HasRead, IsStreamFetch, IsWrappedMemory, PiecesReport, PushStates, SameAsRead, StreamStates, fault_of_fetch, fault_of_text};
 
 use crate::day::DayCheck;
 use crate::verdict::Verdict;
@@ -55,7 +55,7 @@ impl DayCheck {
     fn part(&mut self, alloc: Global, books: &Books, part: &Part) -> Result<Option<Verdict>, Memory>
         requires accepted { IsAccepted books.now }
         requires comes { (parts : List ThePart) × IsOpen books.now parts self.old × Comes parts part.now }
-        ensures { (parts : List ThePart) → IsOpen books.now parts self.old → Comes parts part.now → IfOk result (IsFound books.now (parts ++ part.now ∷ []) self.new) }
+        ensures { (parts : List ThePart) → IsOpen books.now parts self.old → Comes parts part.now → IfOk result (IsVerdictSoFar books.now (parts ++ part.now ∷ []) self.new) }
     {
         match part {
             Part::Head {
@@ -103,8 +103,8 @@ impl Stream {
     /// Takes a part. What is settled stays so.
     fn take(&mut self, alloc: Global, books: &Books, part: Part) -> Result<(), Memory>
         requires accepted { IsAccepted books.now }
-        requires comes { (parts : List ThePart) × IsFound books.now parts self.old.day self.old.found × Comes parts part }
-        ensures found { (parts : List ThePart) → IsFound books.now parts self.old.day self.old.found → Comes parts part → OnOk result (IsFound books.now (parts ++ part ∷ []) self.new.day self.new.found) }
+        requires comes { (parts : List ThePart) × IsVerdictSoFar books.now parts self.old.day self.old.found × Comes parts part }
+        ensures found { (parts : List ThePart) → IsVerdictSoFar books.now parts self.old.day self.old.found → Comes parts part → OnOk result (IsVerdictSoFar books.now (parts ++ part ∷ []) self.new.day self.new.found) }
         ensures reader { self.new.reader ≡ self.old.reader }
     {
         if self.found.is_some() {

@@ -1,9 +1,9 @@
 -- Quarters that are cleared as one market: what each answer says of them, and what their folder's pages decide.
 -- What their text, their refusals and the pages that can't be had are stands in `Quarters` of `mari_quarters`.
 use Rattle.std.specs.Prelude.{ℕ, ◌≡◌, ◌≤◌, Bool, true, false, List, Option, Some, Ok}
-use lib.Chars.{codes}
 use Rattle.mari_units.specs.declared.faults.Refusal.{Refusal}
 use Rattle.mari_io.specs.Outside.{Pages}
+use Rattle.mari_io.specs.declared.shelf.Fetch.TheVariants as fetch
 use Rattle.mari_io.specs.Taken.{TookPart, then_took}
 use Rattle.mari_market.specs.SearchTree.{HasSize}
 use Rattle.mari_remain.specs.declared.books.Books.{Books}
@@ -17,7 +17,7 @@ use Rattle.mari_words.specs.Asked.{Asked}
 use Rattle.mari_words.specs.Asked.Asked.{Blocks}
 use Rattle.mari_commands.specs.declared.status.Status.{Status}
 use Rattle.mari_commands.specs.declared.status.Status.TheVariants.{Done, Unpublished, Usage, Refused, ReadFault, WriteFault, Memory, Invalid, Missing, TooLong}
-use Rattle.mari_commands.specs.Printing.{file_line, refused_line}
+use Rattle.mari_commands.specs.Printing.{file_line, page_word, refused_line}
 use Rattle.mari_commands.specs.Refusals.{HasName}
 use Rattle.mari_commands.specs.Program.{Answers, WhereReported, gap_word}
 
@@ -43,7 +43,7 @@ module _ (folder : List ℕ) (first last nodes : ℕ) where
     Text : (published : Bool) (text : List ℕ) → HasQuartersText pages folder first last nodes published text → TookPart before after text → AreCutOff pages failed before after
     Refuses : (refusal : Refusal) → HasQuartersRefusal pages folder first last refusal → TookPart before after (refused_line refusal) → AreCutOff pages failed before after
     Lacks : (file : ℕ) (gap : Gap) → HasQuartersGap pages folder file gap → TookPart before after (file_line (gap_word gap) file) → AreCutOff pages failed before after
-    Fails : failed → (file : ℕ) → IsQuartersFile file → TookPart before after (file_line (codes "readfault") file) → AreCutOff pages failed before after
+    Fails : failed → (file : ℕ) → IsQuartersFile file → TookPart before after (file_line (page_word fetch.Failed) file) → AreCutOff pages failed before after
 
   -- what each answer says; out of memory nothing is taken
   abbrev pub BlocksAnswers : Option Pages → (failed : Type 0) → (before after : Option (List ℕ)) → Status → Type 0
@@ -51,7 +51,7 @@ module _ (folder : List ℕ) (first last nodes : ℕ) where
   BlocksAnswers pages failed before after Unpublished = WhereReported pages (λ reported. TookQuarters reported false before after)
   BlocksAnswers pages failed before after (Refused refusal) =
       WhereReported pages (λ reported. HasQuartersRefusal reported folder first last refusal) × IsQuartersFile refusal.file × HasName refusal × (after ≡ then_took before (refused_line refusal))
-  BlocksAnswers pages failed before after ReadFault = (file : ℕ) × IsQuartersFile file × (after ≡ then_took before (file_line (codes "readfault") file))
+  BlocksAnswers pages failed before after ReadFault = (file : ℕ) × IsQuartersFile file × (after ≡ then_took before (file_line (page_word fetch.Failed) file))
   BlocksAnswers pages failed before after Missing = TookQuartersGap pages NotHeld before after
   BlocksAnswers pages failed before after TooLong = TookQuartersGap pages OverLimit before after
   BlocksAnswers pages failed before after WriteFault = WhereReported pages (λ reported. AreCutOff reported failed before after)

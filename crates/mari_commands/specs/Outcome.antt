@@ -1,6 +1,5 @@
 -- What the words and the pages come to, and how it is reported.
 use Rattle.std.specs.Prelude.{ℕ, ◌≡◌, ◌≢◌, ◌⊎◌, ◌≤◌, ◌==◌, ◌++◌, if◌then◌else◌, List, Option, Some, None, Result, Ok, Err, ⊤, String, string_bytes}
-use lib.Chars.{codes}
 use Rattle.std.specs.declared.alloc.Global.{Global}
 use Rattle.mari_io.specs.declared.shelf.Fetch.{Fetch}
 use Rattle.mari_io.specs.declared.shelf.Fetch.TheVariants as fetch
@@ -46,7 +45,7 @@ use Rattle.mari_words.specs.declared.command.FilePart.{FilePart}
 use Rattle.mari_commands.specs.Commands.{AsksForFeed, AsksForFiles, AsksForLines, AsksForValues, AsksToCheck, IsAlone, ReadsFolder, already_two, fetch_of, page_of_part, publication_path, text_refusal}
 use Rattle.mari_commands.specs.Splits.{EndsBy, command_by}
 use Rattle.mari_commands.specs.Summary.{IsGenerated}
-use Rattle.mari_commands.specs.Printing.{file_line, invalid_line, refused_line, usage_line, valid_line}
+use Rattle.mari_commands.specs.Printing.{file_line, invalid_line, page_status, page_word, refused_line, usage_line, valid_line}
 use Rattle.mari_commands.specs.Refusals.{HasName}
 use Rattle.mari_commands.specs.Values.{value_line, value_status}
 
@@ -130,7 +129,7 @@ day_status end.WriteFault = status.WriteFault
 day_status end.Memory = status.Memory
 
 -- how a text is reported with a status: it is printed whole; or a write failed, and a first part of it was taken; or
--- there was no memory for it, and nothing was taken
+-- it ran out of memory, and nothing was taken
 pub data Reports (text : List ℕ) (wanted : Status) (before after : Option (List ℕ)) (result : Status) : Type 0 where
   Printed : result ≡ wanted → after ≡ then_took before text → Reports text wanted before after result
   CutOff : result ≡ status.WriteFault → TookPart before after text → Reports text wanted before after result
@@ -148,24 +147,18 @@ ReportsRefusal refusal before after result = Reports (refused_line refusal) (sta
 
 -- how a page that can't be had is reported
 abbrev pub ReportsNoPage : ℕ → Fetch → (before after : Option (List ℕ)) → Status → Type 0
-ReportsNoPage file fetch.Failed before after result = Reports (file_line (codes "readfault") file) status.ReadFault before after result
-ReportsNoPage file fetch.Missing before after result = Reports (file_line (codes "missing") file) status.Missing before after result
-ReportsNoPage file fetch.TooLong before after result = Reports (file_line (codes "toolong") file) status.TooLong before after result
 ReportsNoPage file fetch.Memory before after result = (result ≡ status.Memory) × (after ≡ before)
+ReportsNoPage file why before after result = Reports (file_line (page_word why) file) (page_status why) before after result
 
 -- the line of a file whose page can't be had, and its status; there is none where the page was given up out of memory
 abbrev pub IsPageLine : (file : ℕ) → Fetch → (line : List ℕ) → Status → Type 0
-IsPageLine file fetch.Failed line s = (line ≡ file_line (codes "readfault") file) × (s ≡ status.ReadFault)
-IsPageLine file fetch.Missing line s = (line ≡ file_line (codes "missing") file) × (s ≡ status.Missing)
-IsPageLine file fetch.TooLong line s = (line ≡ file_line (codes "toolong") file) × (s ≡ status.TooLong)
 IsPageLine file fetch.Memory line s = ⊥
+IsPageLine file why line s = (line ≡ file_line (page_word why) file) × (s ≡ page_status why)
 
 -- how a publication is reported whose text has a fault
 abbrev pub ReportsText : TextFault → (before after : Option (List ℕ)) → Status → Type 0
-ReportsText (text_fault.BadLine n) before after result = ReportsRefusal (text_refusal (text_fault.BadLine n)) before after result
-ReportsText (text_fault.BadOrder n) before after result = ReportsRefusal (text_refusal (text_fault.BadOrder n)) before after result
-ReportsText (text_fault.Truncated n) before after result = ReportsRefusal (text_refusal (text_fault.Truncated n)) before after result
 ReportsText text_fault.Memory before after result = (result ≡ status.Memory) × (after ≡ before)
+ReportsText fault before after result = ReportsRefusal (text_refusal fault) before after result
 
 -- how the printing of a feed is reported by how it ended: nothing more is printed; or the line of its status is
 abbrev pub ReportsFeed : {T : Type 0} → Result T FeedStop → (before after : Option (List ℕ)) → Status → Type 0
@@ -249,7 +242,7 @@ IsSummarised number (Text text) = IsGenerated number text.items
 IsSummarised number NoMemory = ⊤
 IsSummarised number _ = ⊥
 
--- the refusal of a publication whose text has a fault; none where there was no memory to read it
+-- the refusal of a publication whose text has a fault; none when out of memory
 abbrev pub refusal_of : TextFault → Option Refusal
 refusal_of (text_fault.BadLine n) = Some (text_refusal (text_fault.BadLine n))
 refusal_of (text_fault.BadOrder n) = Some (text_refusal (text_fault.BadOrder n))

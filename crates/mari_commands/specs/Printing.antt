@@ -3,12 +3,30 @@ use Rattle.std.specs.Prelude.{ℕ, List, [], ◌∷◌, ◌++◌, unwrap_or}
 use lib.Chars.{codes}
 use Rattle.std.specs.Fmt.{decimal}
 use Rattle.mari_units.specs.declared.faults.Refusal.{Refusal}
+use Rattle.mari_io.specs.declared.shelf.Fetch.{Fetch}
+use Rattle.mari_io.specs.declared.shelf.Fetch.TheVariants as fetch
 use Rattle.mari_day.specs.Files.{file_named}
+use Rattle.mari_commands.specs.declared.status.Status.{Status}
+use Rattle.mari_commands.specs.declared.status.Status.TheVariants as status
 use Rattle.mari_commands.specs.Refusals.{check_name}
 
 -- the line that states how the program is called
 unfoldable pub usage_line : List ℕ
 usage_line = codes "usage: mari clear FOLDER [--nodes N] [--workers K] | mari check FOLDER | mari generate NUMBER | mari migrate FOLDER borders | mari migrate FOLDER limits | mari feed FOLDER | mari split FOLDER [--nodes N] [--workers K] | mari blocks FOLDER FIRST LAST [--nodes N] [--workers K] | mari value FOLDER K\n"
+
+-- the word of a page that can't be had; there is none when out of memory
+abbrev pub page_word : Fetch → List ℕ
+page_word fetch.Failed = codes "readfault"
+page_word fetch.Missing = codes "missing"
+page_word fetch.TooLong = codes "toolong"
+page_word fetch.Memory = []
+
+-- the status of a page that can't be had
+abbrev pub page_status : Fetch → Status
+page_status fetch.Failed = status.ReadFault
+page_status fetch.Missing = status.Missing
+page_status fetch.TooLong = status.TooLong
+page_status fetch.Memory = status.Memory
 
 -- the line of a file, by its number from 1, whose page can't be had
 abbrev pub file_line : List ℕ → ℕ → List ℕ

@@ -1,6 +1,5 @@
 -- What each answer of the program says.
 use Rattle.std.specs.Prelude.{ℕ, ◌≡◌, ◌⊎◌, true, false, List, ◌++◌, Option, Some, None}
-use lib.Chars.{codes}
 use Rattle.mari_units.specs.declared.faults.Refusal.{Refusal}
 use Rattle.mari_io.specs.Outside.{Pages, page_of}
 use Rattle.mari_io.specs.Taken.{TookPart, then_took}
@@ -25,7 +24,7 @@ use Rattle.mari_commands.specs.Outcome.{IsValidLine, MayWant}
 use Rattle.mari_commands.specs.Splits.{AreSplit, AsksToSplit, WroteSplit}
 use Rattle.mari_commands.specs.Summary.{IsGenerated}
 use Rattle.mari_split.specs.Days.{WroteSplitPart, WroteSplitPrefix}
-use Rattle.mari_commands.specs.Printing.{file_line, invalid_line, refused_line, usage_line}
+use Rattle.mari_commands.specs.Printing.{file_line, invalid_line, page_status, page_word, refused_line, usage_line}
 use Rattle.mari_commands.specs.Refusals.{HasName}
 use Rattle.mari_commands.specs.Values.{value_line}
 
@@ -35,8 +34,7 @@ WhereReported pages IsSo = (reported : Pages) → pages ≡ Some reported → Is
 
 -- the word of a page that can't be had
 abbrev pub gap_word : Gap → List ℕ
-gap_word NotHeld = codes "missing"
-gap_word OverLimit = codes "toolong"
+gap_word gap = page_word (fetch_of gap)
 
 -- ---- what is printed before the line of a status
 
@@ -107,9 +105,9 @@ pub data IsDone (asked : Option Asked) (pages : Pages) (before after : Option (L
 pub data IsLine (asked : Option Asked) (pages : Pages) (failed : Type 0) (text : List ℕ) : Type 0 where
   OfUsage : asked ≡ None → text ≡ usage_line → IsLine asked pages failed text
   OfRefusal : (refusal : Refusal) → IsRefused asked pages refusal → IsAlone asked refusal.file → text ≡ refused_line refusal → IsLine asked pages failed text
-  OfFault : failed → (folder : List ℕ) (file : ℕ) → ReadsFolder asked folder → MayWant asked file → IsAlone asked file → text ≡ file_line (codes "readfault") file → IsLine asked pages failed text
-  OfMissing : (file : ℕ) → LacksPage asked pages file NotHeld → IsAlone asked file → text ≡ file_line (codes "missing") file → IsLine asked pages failed text
-  OfTooLong : (file : ℕ) → LacksPage asked pages file OverLimit → IsAlone asked file → text ≡ file_line (codes "toolong") file → IsLine asked pages failed text
+  OfFault : failed → (folder : List ℕ) (file : ℕ) → ReadsFolder asked folder → MayWant asked file → IsAlone asked file → text ≡ file_line (page_word fetch.Failed) file → IsLine asked pages failed text
+  OfMissing : (file : ℕ) → LacksPage asked pages file NotHeld → IsAlone asked file → text ≡ file_line (gap_word NotHeld) file → IsLine asked pages failed text
+  OfTooLong : (file : ℕ) → LacksPage asked pages file OverLimit → IsAlone asked file → text ≡ file_line (gap_word OverLimit) file → IsLine asked pages failed text
   OfInvalid : (run fault : ℕ) → IsInvalid asked pages run fault → IsAlone asked PUBLICATION → text ≡ invalid_line run fault → IsLine asked pages failed text
   OfText : Prints asked pages text → IsLine asked pages failed text
 
@@ -122,11 +120,11 @@ pub data IsCutOff (asked : Option Asked) (pages : Pages) (failed : Type 0) (befo
   FeedPart : (page : List ℕ) → HasFeed asked pages page → TookSome page before after → IsCutOff asked pages failed before after
   SplitDay : (books : Books) (nodes : ℕ) → AreSplit asked pages books nodes → WroteSplitPrefix books nodes before after → IsCutOff asked pages failed before after
   FeedRefused : (refusal : Refusal) → IsRefused asked pages refusal → BeganLine asked pages TookAll (refused_line refusal) before after → IsCutOff asked pages failed before after
-  FeedFault : failed → BeganLine asked pages TookFirst (file_line (codes "readfault") PUBLICATION) before after → IsCutOff asked pages failed before after
+  FeedFault : failed → BeganLine asked pages TookFirst (file_line (page_word fetch.Failed) PUBLICATION) before after → IsCutOff asked pages failed before after
   FeedGap : (gap : Gap) → LacksPage asked pages PUBLICATION gap → BeganLine asked pages TookFirst (file_line (gap_word gap) PUBLICATION) before after → IsCutOff asked pages failed before after
   ValuesPart : BeganValues asked pages failed before after → IsCutOff asked pages failed before after
 
--- there was no memory: nothing was taken, or the head and whole blocks of a day part, or the lines of the first parts of
+-- out of memory: nothing was taken, or the head and whole blocks of a day part, or the lines of the first parts of
 -- a publication
 pub data IsStarved (asked : Option Asked) (pages : Pages) (before after : Option (List ℕ)) : Type 0 where
   Nothing : after ≡ before → IsStarved asked pages before after
@@ -165,7 +163,7 @@ Answers asked pages failed before after Unpublished =
 Answers asked pages failed before after Usage = (asked ≡ None) × (after ≡ then_took before usage_line)
 Answers asked pages failed before after (Refused refusal) =
     AsksForPages asked × WhereReported pages (λ reported. IsRefused asked reported refusal) × TookLine asked pages refusal.file TookAll (IsRefusedEnd refusal) (refused_line refusal) before after × HasName refusal
-Answers asked pages failed before after ReadFault = AsksForPages asked × ((file : ℕ) × MayWant asked file × TookLine asked pages file TookFirst IsFailedEnd (file_line (codes "readfault") file) before after)
+Answers asked pages failed before after ReadFault = AsksForPages asked × ((file : ℕ) × MayWant asked file × TookLine asked pages file TookFirst IsFailedEnd (file_line (page_word fetch.Failed) file) before after)
 Answers asked pages failed before after WriteFault = WhereReported pages (λ reported. IsCutOff asked reported failed before after) × TookFirstPart asked before after
 Answers asked pages failed before after Memory = WhereReported pages (λ reported. IsStarved asked reported before after) × ((after ≡ before) ⊎ (AsksToClear asked ⊎ (AsksForFeed asked ⊎ AsksToSplit asked)))
 Answers asked pages failed before after (Invalid run fault) =
@@ -175,8 +173,7 @@ Answers asked pages failed before after TooLong = AsksForPages asked × TookGapL
 
 -- the status of a page that can't be had
 abbrev pub gap_status : Gap → Status
-gap_status NotHeld = Missing
-gap_status OverLimit = TooLong
+gap_status gap = page_status (fetch_of gap)
 
 -- this answer, or that of a failed fetch, of a failed write, or of no memory
 abbrev pub OrFault : (Status → Type 0) → Status → Type 0

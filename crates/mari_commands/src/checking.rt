@@ -33,7 +33,7 @@ fn refused_text(line: u32, check: TextCheck) -> Refusal
     }
 }
 
-/// The refusal of a publication whose text has a fault; none where there was no memory to read it.
+/// The refusal of a publication whose text has a fault; none when out of memory.
 pub fn text_refusal(fault: TextFault) -> Option<Refusal>
     ensures { result ≡ refusal_of fault }
 {

@@ -30,7 +30,7 @@ use std::alloc::Global;
 use std::sync::Wait;
 use std::thread::Threads;
 
-/// The books of a generated day. Its pages are held and accepted, so that only lack of memory stands in the way.
+/// The books of a generated day. Its pages are held and accepted, so only running out of memory stands in the way.
 fn generated_books(alloc: Global, number: u32) -> Result<Books, Memory>
     requires { number ≤ LAST_NUMBER }
     ensures pages { IfOk result (λ books. AreAccepted (scenario_at number)) }

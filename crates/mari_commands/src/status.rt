@@ -10,9 +10,9 @@ use std::process::ExitCode;
 /// How the program ended.
 #[derive(Clone, Copy, Debug, PartialEq, Eq)]
 pub enum Status {
-    /// All is printed, and of a day each run is published.
+    /// All is printed, and each run of a day, or the joint market, is published.
     Done,
-    /// The day is printed, and at least one run of it isn't published.
+    /// The day or the joint market is printed, and a run of it, or it, isn't published.
     Unpublished,
     /// The words are no command.
     Usage,
@@ -51,7 +51,7 @@ impl Status {
         }
     }
 
-    /// The same as the process ends with it.
+    /// The same, as the process ends with it.
     pub fn exit_code(&self) -> ExitCode
         ensures { exit_status result ≡ code_of self.now }
     {

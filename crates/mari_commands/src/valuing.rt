@@ -58,7 +58,7 @@ fn valued_books<S: Shelf>(
     }
 }
 
-/// What comes of a folder whose limits are valued, each raised by so many MW. It waits for nobody.
+/// What comes of a folder whose limits are valued, each raised by `more` MW. It waits for nobody.
 pub fn valued<S: Shelf>(alloc: Global, shelf: &mut S, folder: &str, more: u32) -> Outcome
     requires some { 1 ≤ more }
     requires more { more ≤ MOST_RAISE }

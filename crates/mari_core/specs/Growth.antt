@@ -280,7 +280,7 @@ abbrev pub IsRefusal : {X : Type 0} → Option StepFault → Result X StepFault 
 IsRefusal refused (Ok x) = refused ≡ None
 IsRefusal refused (Err fault) = refused ≡ Some fault
 
--- the same, where memory may be wanting too
+-- the same, where it may run out of memory too
 abbrev pub IsAnswer : {X : Type 0} → Option StepFault → Result X StepFault → Type 0
 IsAnswer refused (Ok x) = refused ≡ None
 IsAnswer refused (Err fault) = MatchOption refused (fault ≡ Memory) (λ r. fault ≡ r)

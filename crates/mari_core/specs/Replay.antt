@@ -26,12 +26,12 @@ abbrev pub AreProper : Machine → List Event → Type 0
 AreProper s [] = ⊤
 AreProper s (event ∷ events) = IsProper s event × (refusal s event ≡ None → AreProper (after s event) events)
 
--- memory was wanting before the first event
+-- it ran out of memory before the first event
 abbrev pub no_memory : ReplayFault
 no_memory = record { place = 0; fault = Memory }
 
--- the answer to a list of events is the search after them, where none is refused, or the first refusal; or memory was
--- wanting for the start, since no event takes any
+-- the answer to a list of events is the search after them, where none is refused, or the first refusal; or it ran out of
+-- memory at the start, since no event takes any
 abbrev pub IsReplayed : Machine → List Event → Result Machine ReplayFault → Type 0
 IsReplayed s events (Ok last) = (first_refusal 0 s events ≡ None) × (last ≡ after_all s events)
 IsReplayed s events (Err fault) = (first_refusal 0 s events ≡ Some fault) ⊎ (fault ≡ no_memory)

@@ -14,7 +14,7 @@ use mari_market::{Attained, Market};
 use std::alloc::Global;
 
 /// The search after a list of events, or the first of them that is refused, counted from 1. No event takes memory:
-/// where it is wanting, the search wasn't started, and the place is 0.
+/// where it runs out, the search wasn't started, and the place is 0.
 ///
 /// The conditions are those of `Search::start`, and of `Search::step` for each event up to the first that is refused.
 pub fn replay<'m>(

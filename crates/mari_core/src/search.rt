@@ -103,7 +103,7 @@ impl Actor {
 }
 
 impl<'m> Search<'m> {
-    /// A search whose one node waits, by so many actors, that knows `first`, the best activation with all gates
+    /// A search whose one node waits, by `actors` actors, that knows `first`, the best activation with all gates
     /// closed.
     pub fn start(
         alloc: Global,

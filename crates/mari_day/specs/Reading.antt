@@ -58,7 +58,7 @@ books_at pages =
     limits_of_pages zones borders (length runs.runs) pages >>> λ limits.
     Ok (record { date = day.date; quarters = day.quarters; zones = zones; borders = borders; bids = bids; links = links; runs = runs; demands = demands; limits = limits })
 
--- this is what was to be read, or its refusal, unless memory was wanted
+-- this is what was to be read, or its refusal, unless it ran out of memory
 abbrev pub ReadsAs : {X : Type 0} → Result X BooksFault → Result X Refusal → Type 0
 ReadsAs (Ok x) read = read ≡ Ok x
 ReadsAs (Err (why.Refused refusal)) read = read ≡ Err refusal

@@ -20,7 +20,6 @@ pub use calendar_page::DateCheck;
 pub use day::{DayEnd, run_day};
 pub use files::{BLOCKS, File, PUBLICATION, file_name, path_in};
 pub use laws::{days_keep, migration_keeps_days};
-pub use mari_io::write_all;
 pub use reading::{BooksFault, read_books};
 pub use step::{Stop, write_or_stop};
 pub use text::{PrintedDay, day_of};

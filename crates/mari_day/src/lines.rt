@@ -6,7 +6,7 @@ ghost use Rattle.mari_units.specs.Names.{IsName};
 ghost use Rattle.mari_settle.specs.Conditions.{LineIsWithin};
 ghost use Rattle.mari_progress.specs.Money.{amount_line, money_lines_of};
 
-use mari_progress::name_of;
+use mari_progress::copied_name;
 use mari_publish::{AmountLine, MoneyLine};
 use mari_rows::NameIndex;
 use mari_settle::OperatorLine;
@@ -27,7 +27,7 @@ pub fn money_lines(
 {
     let mut money = Vec::new(alloc);
     for (operator, line) in lines.iter().enumerate() {
-        let name = name_of(alloc, operators, operator as u32)?;
+        let name = copied_name(alloc, operators, operator as u32)?;
         money.push(MoneyLine {
             name,
             payment: line.payment,
@@ -52,7 +52,7 @@ pub fn amount_lines(
 {
     let mut lines = Vec::new(alloc);
     for place in places {
-        let name = name_of(alloc, providers, *place)?;
+        let name = copied_name(alloc, providers, *place)?;
         lines.push(AmountLine {
             name,
             amount: amounts[*place as usize],

@@ -106,7 +106,7 @@ IsFeedFetch f (Err OfSink) = ⊥
 IsFeedFetch f (Err NoMemory) = ⊥
 IsFeedFetch f (Ok x) = ⊥
 
--- want of memory is reported as a fault of the shelf or of the text
+-- out of memory is reported as a fault of the shelf or of the text
 abbrev pub IsWrapped : {T : Type 0} → Result T FeedStop → Type 0
 IsWrapped (Err (OfFetch f)) = f ≡ fetch.Memory
 IsWrapped (Err (OfText f)) = f ≡ text_fault.Memory
@@ -129,7 +129,7 @@ stop_of_text text_fault.Memory = NoMemory
 
 -- ---- what has come
 
--- a line was written, or a first part of it, or there was no memory for it
+-- a line was written, or a first part of it, or it ran out of memory
 abbrev pub WroteLine : {T : Type 0} → Part → (before after : Option (List ℕ)) → Result T FeedStop → Type 0
 WroteLine x before after (Ok done) = after ≡ then_took before (line_of x)
 WroteLine x before after (Err (OfFetch f)) = ⊥

@@ -9,7 +9,7 @@ pub enum FeedFault {
     NotJson,
     /// They are JSON, but of no part in range.
     NotAPart,
-    /// There was no memory.
+    /// Out of memory.
     Memory,
 }
 

@@ -35,7 +35,7 @@ pub trait Form {
         ensures { Reads InItsRange written (view value.now) result };
 }
 
-/// The list that has this value, of at least and at most so many items.
+/// The list that has this value, of `least` to `greatest` items.
 pub fn read_list<F: Form>(
     alloc: Global,
     value: &Value,

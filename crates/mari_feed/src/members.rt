@@ -66,7 +66,7 @@ impl<'a> Members<'a> {
         F::read(alloc, value)
     }
 
-    /// Takes a list of at least and at most so many items.
+    /// Takes a list of `least` to `greatest` items.
     pub fn list<F: Form>(
         &mut self,
         alloc: Global,

@@ -19,13 +19,13 @@ use std::alloc::Global;
 /// Why the printing stops before its end.
 #[derive(Clone, Copy, Debug, PartialEq, Eq)]
 pub enum FeedStop {
-    /// The shelf gave no page, or no further piece; never because there was no memory.
+    /// The shelf gave no page, or no further piece; never when out of memory.
     Fetch(Fetch),
-    /// The text has this fault; never because there was no memory.
+    /// The text has this fault; never when out of memory.
     Text(TextFault),
     /// A write failed.
     Sink,
-    /// There was no memory: for a piece, a part or a line.
+    /// Out of memory, for a piece, a part or a line.
     Memory,
 }
 

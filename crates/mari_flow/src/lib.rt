@@ -2,7 +2,7 @@
 //!
 //! It stands on networks of slots and borders: it starts from each order's least, and moves energy along one improving
 //! chain after another, each searched for from the beginning. `solve` carries the promise: an activation whose welfare
-//! is both the relaxed value of the prefix and the dual value of its potentials, or a cut that no activation can
+//! is both the relaxed welfare of the prefix and the dual value of its potentials, or a cut that no activation can
 //! balance. This is the plain solver, with which a faster one under the same contract is compared.
 #![tactic(auto)]
 

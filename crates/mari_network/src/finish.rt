@@ -43,7 +43,7 @@ fn cap(price: i64) -> Cents
     ensures value { result ≡ capped_cents price }
     ensures price { IsPrice result.0 }
 {
-    Cents(price.min(CAP).max(-CAP))
+    Cents(price.clamp(-CAP, CAP))
 }
 
 /// The nearest prices within the cap.

@@ -25,7 +25,7 @@ pub struct Network<'a> {
     pub meeting: Vec<Vec<usize>>,
 }
 
-/// As many empty lists, each with room for so many places.
+/// As many empty lists, each with room for `room` places.
 fn no_places(alloc: Global, zones: usize, room: usize) -> Result<Vec<Vec<usize>>, AllocError>
     ensures long { IfOk result (λ v. length v.items ≡ zones) }
     ensures none { IfOk result (λ v. (z : ℕ) (d : _) → z < zones → (slice_index_or v.items z d).items ≡ []) }

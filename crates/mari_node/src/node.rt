@@ -138,8 +138,7 @@ pub fn examine(alloc: Global, market: &Market, prefix: &Prefix) -> Result<Findin
     examine_from(alloc, market, prefix, &mut start)
 }
 
-/// Examines one node of the search from an activation to start with, and leaves the relaxed optimum there for the next
-/// one.
+/// Examines one node of the search from an activation to start with, and leaves the relaxed optimum there.
 ///
 /// What is found is what `examine` may find, whatever the start is: of any lengths, within the prefix's bounds or not.
 /// At a prefix that leaves a gate to decide there is an activation wherever the optimum that is left is admissible.

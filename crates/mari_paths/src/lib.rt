@@ -2,7 +2,7 @@
 //!
 //! It stands on networks of slots and borders: what a search finds is pushed along as long as its hops have room, and
 //! of the margins only those of the two ends are looked at again. `solve_from` carries the promise: an activation
-//! whose welfare is both the relaxed value of the prefix and the dual value of its potentials, or a cut that no
+//! whose welfare is both the relaxed welfare of the prefix and the dual value of its potentials, or a cut that no
 //! activation can balance, whatever the start is.
 #![tactic(auto)]
 

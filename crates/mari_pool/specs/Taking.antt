@@ -13,7 +13,7 @@ use Rattle.mari_pool.specs.declared.ticket.Took.TheVariants as took
 use Rattle.mari_pool.specs.Queued.{IsFirstWaiting}
 use Rattle.mari_pool.specs.Pooled.{Pooled, taking, taken_among}
 
--- why there is no tree yet; want of memory is free
+-- why there is no tree yet; out of memory is free
 -- The pool's own fault and what it says, beside `FinishFault` and `IsOpenFault` of the search machine, of which callers
 -- of the pool know nothing.
 abbrev pub IsOpenAt : List TreeNode → PoolFault → Type 0

@@ -50,7 +50,7 @@ pub fn child_key(finding: &Finding) -> u64
 }
 
 impl Queue {
-    /// The first node waits. There is room for so many nodes, 1 to `MOST_NODES`.
+    /// The first node waits. There is room for `room` nodes, 1 to `MOST_NODES`.
     pub fn start(alloc: Global, room: u32) -> Result<Queue, Memory>
         requires { IsBudget room }
         ensures { IfOk result (λ q. IsMore first_key 1 (no_nodes room) q) }

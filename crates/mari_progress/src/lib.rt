@@ -13,7 +13,7 @@ mod providers;
 mod runs;
 
 pub use ledger::ledger_of;
-pub use lines::{bid_lines, border_lines, demand_mws, name_of, zone_lines};
+pub use lines::{bid_lines, border_lines, copied_name, demand_mws, zone_lines};
 pub use progress::{Progress, Scheduled, SettledRun};
 pub use providers::providers_of;
 pub use runs::{heading, run_count};

@@ -15,8 +15,8 @@ use mari_units::{Cents, MOST_ZONES, Memory, Name, NameFault, Quarters, read_name
 use mari_zones::BorderEnds;
 use std::alloc::Global;
 
-/// The name at a place.
-pub fn name_of(alloc: Global, names: &NameIndex, place: u32) -> Result<Name, Memory>
+/// A copy of the name at a place.
+pub fn copied_name(alloc: Global, names: &NameIndex, place: u32) -> Result<Name, Memory>
     requires names { All IsName names.now }
     requires there { place < length names.now }
     ensures { IfOk result (λ name. name ≡ name_at names.now place) }
@@ -59,7 +59,7 @@ pub fn zone_lines(
 {
     let mut lines = Vec::new(alloc);
     for (zone, area) in areas.iter().enumerate() {
-        let name = name_of(alloc, zones, zone as u32)?;
+        let name = copied_name(alloc, zones, zone as u32)?;
         lines.push(ZoneLine {
             name,
             price: published[zone],
@@ -96,8 +96,8 @@ pub fn border_lines(
 {
     let mut lines = Vec::new(alloc);
     for (border, ends) in borders.iter().enumerate() {
-        let from = name_of(alloc, zones, ends.from)?;
-        let to = name_of(alloc, zones, ends.to)?;
+        let from = copied_name(alloc, zones, ends.from)?;
+        let to = copied_name(alloc, zones, ends.to)?;
         lines.push(BorderLine {
             from,
             to,
@@ -123,7 +123,7 @@ pub fn bid_lines(
 {
     let mut lines = Vec::new(alloc);
     for (order, number) in numbers.iter().enumerate() {
-        let id = name_of(alloc, ids, *number)?;
+        let id = copied_name(alloc, ids, *number)?;
         lines.push(BidLine { id, mw: mw[order] })?;
     }
     Ok(lines)

@@ -2,10 +2,10 @@
 
 ghost use Rattle.std.specs.Prelude.{◌≡◌, ◌==◌, IfOk, OnOk};
 ghost use Rattle.std.specs.List.{list_any};
-ghost use Rattle.mari_bids.specs.Bids.{bid_numbered};
 ghost use Rattle.mari_progress.specs.Money.{providers_among, with_number};
 
 use mari_bids::Bid;
+use mari_remain::bid_of;
 use mari_units::Memory;
 use std::alloc::Global;
 
@@ -16,19 +16,9 @@ pub fn providers_of(alloc: Global, bids: &[Bid], numbers: &[u32]) -> Result<Vec<
 {
     let mut places = Vec::new(alloc);
     for number in numbers {
-        list_once(&mut places, provider_of(bids, *number))?;
+        list_once(&mut places, bid_of(bids, *number).provider)?;
     }
     Ok(places)
-}
-
-/// The provider of the bid of a number.
-fn provider_of(bids: &[Bid], number: u32) -> u32
-    ensures { result ≡ (bid_numbered bids.now number).provider }
-{
-    match bids.get(number as usize) {
-        Some(bid) => bid.provider,
-        None => 0,
-    }
 }
 
 /// Lists a place after others, unless it is listed.

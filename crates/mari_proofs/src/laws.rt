@@ -53,7 +53,7 @@ pub fn closed_first(market: &Market)
 
 /// What welfare isn't negative, and that the closed welfare is one number.
 ///
-/// A relaxed optimum may be negative only where a gate is open, since nothing has to run where none is. An admissible
+/// A relaxed welfare may be negative only where a gate is open, since nothing has to run where none is. An admissible
 /// welfare never is. The call does nothing: its contract is the law.
 pub fn closed_welfare_is_one(market: &Market)
     requires { IsValid market.now }
@@ -62,7 +62,7 @@ pub fn closed_welfare_is_one(market: &Market)
     ensures one { (v w : ℤ) → IsClosedWelfare market.now v → IsClosedWelfare market.now w → v ≡ w }
     ensures closed { (w : ℤ) → IsClosedWelfare market.now w → pos 0 ≤ℤ w }
 
-    // A relaxed optimum where no gate is open, and the welfare of an admissible activation.
+    // A relaxed welfare where no gate is open, and the welfare of an admissible activation.
     ensures relaxed { (word : List Bool) (w : ℤ) → ((g : ℕ) → opens_in word g ≡ false) → IsRelaxedWelfare market.now word w → pos 0 ≤ℤ w }
     ensures admissible { (a : Activation) → IsAdmissible market.now a → pos 0 ≤ℤ welfare_of market.now a }
 {}

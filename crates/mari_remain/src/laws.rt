@@ -16,6 +16,8 @@ use crate::books::Books;
 use mari_units::MOST_PAGE;
 
 /// No bid is activated above its offer over the blocks of a day, and a gated one is activated in at most one of them.
+///
+/// The call does nothing: its contract is the law.
 pub fn offers_are_kept(books: &Books)
     requires { IsAccepted books.now }
     ensures offers { (blocks : List PastBlock) → AreFirstBlocks books.now blocks → (bid : ℕ) → mw_of blocks bid ≤ (bid_numbered books.now.bids.bids bid).greatest }
@@ -27,6 +29,8 @@ pub fn offers_are_kept(books: &Books)
 
 /// What a published block does to what is kept, and that an unpublished block changes nothing: what stands for the
 /// blocks so far then stands for one more.
+///
+/// The call does nothing: its contract is the law.
 pub fn stands_after(books: &Books)
     requires { IsAccepted books.now }
     ensures published { (blocks : List PastBlock) (next : PastBlock) (kept after : Tally) → StandsFor books.now blocks kept → IsNextBlock books.now blocks next
@@ -40,6 +44,8 @@ pub fn stands_after(books: &Books)
 /// A folder whose borders are read from a page may state their limits for each run instead: the pages that
 /// `borders_text` and `limits_text` write are read as such a folder's, and every run has the market that it had,
 /// after every list of blocks.
+///
+/// The call does nothing: its contract is the law.
 pub fn migration_keeps_markets(books: &Books)
     requires accepted { IsAccepted books.now }
     requires read { (page : List ℕ) × (borders_in books.now.zones page ≡ Ok books.now.borders) }

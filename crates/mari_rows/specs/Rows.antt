@@ -79,7 +79,7 @@ rows_checked width (Err fault) = Err fault
 abbrev pub rows_in : List ℕ → List ℕ → Result (List Row) RowFault
 rows_in columns page = rows_checked (length (columns_of columns)) (rows_after_header (columns_of columns) (records_in page))
 
--- this fault is there, or memory was wanted
+-- this fault is there, or it ran out of memory
 abbrev pub IsFaultOf : Result (List Row) RowFault → RowFault → Type 0
 IsFaultOf read BadHeader = read ≡ Err BadHeader
 IsFaultOf read (BadRow line) = read ≡ Err (BadRow line)

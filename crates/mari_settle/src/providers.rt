@@ -29,11 +29,9 @@ fn paid_price(bid: &Bid, prices: &[Cents], scheduled: &[Cents]) -> i64
     let own = price_of(prices, bid.zone);
     let other = price_of(scheduled, bid.zone);
     if bid.up {
-        if own <= other { other } else { own }
-    } else if own <= other {
-        own
+        own.max(other)
     } else {
-        other
+        own.min(other)
     }
 }
 

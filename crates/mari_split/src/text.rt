@@ -75,7 +75,7 @@ fn put_island_line(
 }
 
 /// The name at a place, or nothing where there is none.
-fn name_of(names: &NameIndex, place: u32) -> &[u8]
+fn name_or_nothing(names: &NameIndex, place: u32) -> &[u8]
     ensures { result.now ≡ name_at names.now place }
 {
     match names.name_at(place) {
@@ -89,7 +89,7 @@ fn put_names(out: &mut Vec<u8>, names: &NameIndex, zones: &[u32]) -> Result<(), 
     ensures { OnOk result (out.new.items ≡ out.old.items ++ spaced (map (name_at names.now) zones.now)) }
 {
     for zone in zones {
-        put_field(out, name_of(names, *zone))?;
+        put_field(out, name_or_nothing(names, *zone))?;
     }
     Ok(())
 }

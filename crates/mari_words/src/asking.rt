@@ -15,29 +15,36 @@ use mari_units::{LAST_NUMBER, MOST_NODES, MOST_QUARTERS, MOST_RAISE, MOST_WORKER
 /// What words ask for.
 #[derive(Clone, Copy, Debug)]
 pub enum Asked<'a> {
+    /// `clear`: the folder, the most nodes of a run's search, and the workers.
     Clear {
         folder: &'a str,
         nodes: u32,
         workers: u32,
     },
+    /// `check`: the folder.
     Check {
         folder: &'a str,
     },
+    /// `generate`: the number that the day is drawn by.
     Generate {
         number: u32,
     },
+    /// `migrate`: the folder, and which page is written.
     Migrate {
         folder: &'a str,
         part: FilePart,
     },
+    /// `feed`: the folder.
     Feed {
         folder: &'a str,
     },
+    /// `split`: the folder, the most nodes of an island's search, and the workers.
     Split {
         folder: &'a str,
         nodes: u32,
         workers: u32,
     },
+    /// `blocks`: the folder, the first and the last quarter, the most nodes and the workers.
     Blocks {
         folder: &'a str,
         first: u32,
@@ -45,6 +52,7 @@ pub enum Asked<'a> {
         nodes: u32,
         workers: u32,
     },
+    /// `value`: the folder, and by how many MW limits are raised.
     Value {
         folder: &'a str,
         more: u32,

@@ -155,7 +155,7 @@ fn command_in(alloc: Global, found: &ArgMatches<'_>) -> Result<Command, WordsFau
     }
 }
 
-/// Why no words were taken: memory was wanted, or they are of no command's form.
+/// Why no words were taken: out of memory, or they are of no command's form.
 fn fault_of(error: &Error) -> WordsFault
     ensures { (result ≡ WordsFault.Memory) ↔ (kind_of error.now ≡ ErrorKind.OutOfMemory) }
 {

@@ -9,4 +9,3 @@ mod command;
 mod parser;
 
 pub use command::{Command, FilePart, USUAL_NODES, USUAL_WORKERS, WordsFault, read_words};
-pub use mari_units::LAST_NUMBER;

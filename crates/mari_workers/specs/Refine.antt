@@ -92,16 +92,16 @@ IsFate m w gates word (Yields leaf a) = IsEarlier m w gates word leaf a
 abbrev pub unbounded : Option Attained → LeafRecord → Bool → Fate
 unbounded (Some best) leaf true = Yields leaf best.activation
 unbounded (Some best) leaf false = Branches leaf
-unbounded None leaf full = Branches leaf
+unbounded None leaf decided = Branches leaf
 
 -- what becomes of a leaf where there is another certificate, or none
 abbrev pub replaced : Option LeafRecord → Option Attained → LeafRecord → Bool → Fate
-replaced (Some other) best leaf full = Stays other
-replaced None best leaf full = unbounded best leaf full
+replaced (Some other) best leaf decided = Stays other
+replaced None best leaf decided = unbounded best leaf decided
 
 -- what becomes of a leaf by what is found at its word, where a certificate is to hold at this number
 abbrev pub fate_by : Finding → LeafRecord → ℕ → Bool → Fate
-fate_by finding leaf most full = replaced (closing_leaf most finding) (best_in finding) leaf full
+fate_by finding leaf most decided = replaced (closing_leaf most finding) (best_in finding) leaf decided
 
 -- a leaf of a node that holds for the gate word
 pub record IsNewLeaf (m : Market) (w : ℕ) (gates word : List Bool) (leaf : LeafRecord) : Type 0 where

@@ -62,7 +62,7 @@ pub(crate) fn copy_of(attained: &Attained) -> Result<Attained, AllocError>
 }
 
 /// Offers the activation of a finding, if it has one.
-fn offer_best(search: &mut Search<'_>, finding: &Finding) -> Result<(), Memory>
+fn offer_found(search: &mut Search<'_>, finding: &Finding) -> Result<(), Memory>
     requires facts { KeepsFacts search.old }
     requires attained { IfSome (best_in finding.now) (IsAttained search.old.tree.market) }
     ensures offered { OnOk result (search.new ≡ after_offer search.old (best_in finding.now)) }
@@ -125,7 +125,7 @@ fn visit(
     step(search, Event::Take { actor: ACTOR, node });
     *start = root.start()?;
     let finding = examine_from(alloc, market, prefix, start)?;
-    offer_best(search, &finding)?;
+    offer_found(search, &finding)?;
     let key = child_key(&finding);
     step(
         search,

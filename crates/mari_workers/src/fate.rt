@@ -38,11 +38,11 @@ pub(crate) enum Fate {
 }
 
 /// What becomes of a leaf without a certificate.
-fn unbounded(best: Option<Attained>, leaf: Leaf, full: bool) -> Fate
-    ensures { result ≡ unbounded best leaf full }
+fn unbounded(best: Option<Attained>, leaf: Leaf, decided: bool) -> Fate
+    ensures { result ≡ unbounded best leaf decided }
 {
     match best {
-        Some(best) if full => Fate::Yields(leaf, best.activation),
+        Some(best) if decided => Fate::Yields(leaf, best.activation),
         _ => Fate::Branches(leaf),
     }
 }
@@ -59,13 +59,13 @@ fn take_best(finding: &mut Finding) -> Option<Attained>
 }
 
 /// What becomes of a leaf by what is found at its prefix, where a certificate is to hold at this number.
-fn fate_by(mut finding: Finding, leaf: Leaf, most: u64, full: bool) -> Fate
-    ensures { result ≡ fate_by finding leaf most full }
+fn fate_by(mut finding: Finding, leaf: Leaf, most: u64, decided: bool) -> Fate
+    ensures { result ≡ fate_by finding leaf most decided }
 {
     let best = take_best(&mut finding);
     match closing_leaf(finding, most) {
         Some(other) => Fate::Stays(other),
-        None => unbounded(best, leaf, full),
+        None => unbounded(best, leaf, decided),
     }
 }
 
@@ -100,6 +100,6 @@ pub(crate) fn fate_of(
         return Ok(Fate::Stays(leaf));
     }
     let finding = root.examine(alloc, market, prefix)?;
-    let full = prefix.length as usize == market.gates.as_slice().len();
-    Ok(fate_by(finding, leaf, most, full))
+    let decided = prefix.length as usize == market.gates.as_slice().len();
+    Ok(fate_by(finding, leaf, most, decided))
 }

@@ -94,7 +94,7 @@ fn cut_and_refined(
 ///
 /// So the tree rests on the market alone: its branches are those whose own certificate doesn't close them, at the
 /// welfare or, where they are early for the first gate word, at that less 1.
-fn settled(
+fn cut_and_refined_to_end(
     alloc: Global,
     market: &Market,
     found: Clearing,
@@ -135,9 +135,9 @@ pub(crate) fn published_from(
     requires found { MayRefine market.now budget found }
     ensures { IfOk result (Clears market.now budget) }
 {
-    let settled = settled(alloc, market, found, budget, &mut bounds, root);
+    let cleared = cut_and_refined_to_end(alloc, market, found, budget, &mut bounds, root);
     drop(bounds);
-    match settled? {
+    match cleared? {
         Cleared::Published(clearing) => {
             let Clearing {
                 activation,

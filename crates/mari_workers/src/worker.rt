@@ -119,7 +119,7 @@ pub(crate) fn visit<G: Turnstile>(
 }
 
 /// One worker's loop: it takes nodes, finds out about them and settles them, until none is left or one could not
-/// branch within the budget. Where memory is wanting it ends, and gives its node back unless it has settled it.
+/// branch within the budget. When out of memory it ends, and gives its node back unless it has settled it.
 ///
 /// Pool, seat and incumbent are of one search of this market. The lock is held for one take, one settle or one
 /// give-back. The bell rings where somebody who waits may get on: after a branch, and when a worker ends. Who branches

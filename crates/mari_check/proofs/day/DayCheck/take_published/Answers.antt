@@ -4,18 +4,18 @@ use Rattle.mari_publish.specs.declared.publication.FullBlock.{FullBlock}
 use Rattle.mari_remain.specs.declared.books.Books.{Books}
 use Rattle.mari_progress.specs.declared.progress.SettledRun.{SettledRun}
 use Rattle.mari_progress.specs.Runs.{IsNextRun}
-use Rattle.mari_check.specs.Checked.{IsTested}
-use Rattle.mari_check.specs.declared.day.Tested.{Tested}
-use Rattle.mari_check.specs.declared.day.Tested.TheVariants.{Faulty, Sound}
+use Rattle.mari_check.specs.Checked.{TestsBlock}
+use Rattle.mari_check.specs.declared.day.TestedBlock.{TestedBlock}
+use Rattle.mari_check.specs.declared.day.TestedBlock.TheVariants.{Faulty, Sound}
 use Rattle.mari_check.proofs.DayRuns.{past-last}
 use Rattle.mari_check.proofs.Ending.{after-is, few-runs}
 use Rattle.mari_check.proofs.Progressing.{published-added, sound-run}
 use Rattle.mari_check.proofs.day.DayCheck.take_published.Goals as goal
 
-tested-as : (books : Books) (budget : ℕ) (blocks : List Block) (b : FullBlock) (t u : Tested) → t ≡ u → IsTested books budget blocks b t → IsTested books budget blocks b u
-tested-as books budget blocks b t u e h = subst (IsTested books budget blocks b) e h
+tested-as : (books : Books) (budget : ℕ) (blocks : List Block) (b : FullBlock) (t u : TestedBlock) → t ≡ u → TestsBlock books budget blocks b t → TestsBlock books budget blocks b u
+tested-as books budget blocks b t u e h = subst (TestsBlock books budget blocks b) e h
 
-next-run : (books : Books) (budget : ℕ) (blocks : List Block) (b : FullBlock) (settled : SettledRun) → IsTested books budget blocks b (Sound settled) → IsNextRun books blocks b settled
+next-run : (books : Books) (budget : ℕ) (blocks : List Block) (b : FullBlock) (settled : SettledRun) → TestsBlock books budget blocks b (Sound settled) → IsNextRun books blocks b settled
 next-run books budget blocks b settled sound = record { sound = sound-run books budget blocks b sound.0; adds = sound.1 }
 
 pub next_run-run-requires : goal.next_run-run-requires

@@ -2,7 +2,7 @@ use Rattle.std.proofs.Common.{subst}
 use Rattle.mari_market.specs.Clearing.{Clears}
 use Rattle.mari_workers.specs.Refine.{HasNodes}
 use Rattle.mari_workers.proofs.Refined.{may_again}
-use Rattle.mari_workers.proofs.publishing.settled.Goals as goal
+use Rattle.mari_workers.proofs.publishing.cut_and_refined_to_end.Goals as goal
 
 pub cut_and_refined-requires-else-eq-clause-found : goal.cut_and_refined-requires-else-eq-clause-found
 cut_and_refined-requires-else-eq-clause-found c =

@@ -1,7 +1,7 @@
 use Rattle.std.proofs.Common.{◌≡◌, ◌∙◌, [], ℕ, List, Option, None, sym, ap}
 use Rattle.std.specs.Prelude.{slice_get, unwrap_or}
 use Rattle.std.proofs.lemmas.Option.{unwrap_or-slice_get}
-use Rattle.mari_split.proofs.text.name_of.Goals as goal
+use Rattle.mari_split.proofs.text.name_or_nothing.Goals as goal
 
 -- where there is no name, the one at the place is nothing
 nothing_there : (names : List (List ℕ)) (place : ℕ) → slice_get names place ≡ None → [] ≡ unwrap_or (slice_get names place) []

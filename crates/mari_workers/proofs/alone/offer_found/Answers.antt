@@ -1,6 +1,6 @@
 use Rattle.mari_workers.specs.Alone.{best_in}
 use Rattle.mari_workers.proofs.Visits.{copy_attained, offer_accepted, offered_as}
-use Rattle.mari_workers.proofs.alone.offer_best.Goals as goal
+use Rattle.mari_workers.proofs.alone.offer_found.Goals as goal
 
 pub step-requires-clause-proper : goal.step-requires-clause-proper
 step-requires-clause-proper c = copy_attained c.args.search.now.tree.market c.in_ok-attained-in-Some.attained c.in-Some.best.now (best_in c.args.finding.now) c.in_ok-attained-in-Some.ensures c.in-Some.ensures c.requires.attained

@@ -109,7 +109,7 @@ pub record IsJointBlock (books : Books) (first last budget : ℕ) (joint : Joint
   pub prices : AreJointPrices books first joint.market (activation_printed b.quarters) (prices_printed b.quarters) (least_printed b.quarters) (greatest_printed b.quarters) (areas_printed b.quarters)
   pub rents : rents_printed b.quarters ≡ rents_of joint.market (activation_printed b.quarters) (prices_printed b.quarters)
 
--- a joint market that isn't published: its search tree has more nodes than the budget, and so many of them were made
+-- a joint market that isn't published: its search tree has more nodes than the budget, and `count` of them were made
 pub record IsJointSpent (budget : ℕ) (joint : Joint) (count : ℕ) : Type 0 where
   pub spent : Spent
   pub is_spent : IsSpent joint.market budget spent

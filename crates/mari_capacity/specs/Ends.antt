@@ -75,7 +75,7 @@ pub record HasEndFault (books : Books) (page : List ℕ) (run number : ℕ) : Ty
   pub free : AreFree books publication.budget publication.blocks
   pub first : IsFirstFault books publication run number
 
--- a page is the text of a valid publication, with so many published blocks and so many others
+-- a page is the text of a valid publication, with these numbers of published blocks and of others
 pub record IsValidPage (books : Books) (page : List ℕ) (published unpublished : ℕ) : Type 0 where
   pub publication : Publication
   pub short : length page ≤ most_given

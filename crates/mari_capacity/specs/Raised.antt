@@ -6,7 +6,7 @@ use Rattle.mari_market.specs.declared.market.Market.{Market}
 use Rattle.mari_network.specs.Network.{border_at}
 use Rattle.mari_capacity.specs.declared.raising.Raise.{Raise}
 
--- a limit with so many MW more, and at most the greatest that a run may have
+-- a limit that is raised by `more` MW, to at most the greatest that a run may have
 abbrev pub raised_limit : (limit more : ℕ) → ℕ
 raised_limit limit more = min (limit + more) MOST_FLOW
 

@@ -99,7 +99,7 @@ EndsAs end v = (v.end ≡ end) ⊎ (v.end ≡ OfFetch fetch.Failed)
 abbrev pub StatesSome : Books → (more : ℕ) → List ℕ → Type 0
 StatesSome books more text = (parts : List Part) × StatesChecked books more parts text
 
--- the lines are those of a valid publication with so many published blocks and so many others, and these numbers
+-- the lines are those of a valid publication with these numbers of published blocks and of others, which stand last
 pub record StatesValid (books : Books) (more : ℕ) (text : List ℕ) (published unpublished : ℕ) : Type 0 where
   pub publication : Publication
   pub valid : IsVerdict books publication (verdict.Valid published unpublished)

@@ -11,8 +11,8 @@ use Rattle.mari_capacity.specs.declared.worth.BorderWorth.{BorderWorth}
 use Rattle.mari_capacity.specs.Lines.{opening_line, run_lines, unpublished_line}
 use Rattle.mari_capacity.specs.Worth.{AreWorths}
 
--- the lines state what so many MW more are worth in each of these blocks, in the market after those before it: the first
--- line, and after it the lines of one block after the other
+-- the lines state what `more` MW on each limit are worth in each of these blocks, in the market after those before it:
+-- the first line, and after it the lines of one block after the other
 pub data IsValueText (books : Books) (more : ℕ) : List Block → List ℕ → Type 0 where
   Opened : IsValueText books more [] (opening_line more)
   OfPublished : (blocks : List Block) (text : List ℕ) (b : FullBlock) (worths : List BorderWorth) → IsValueText books more blocks text

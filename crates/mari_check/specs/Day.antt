@@ -18,7 +18,7 @@ pub record IsNextHeading (books : Books) (before : List Block) (heading : Headin
   pub there : run_after before ≤ length books.runs.runs
   pub is_of : heading ≡ heading_of books (run_after before)
 
--- so many nodes are no more than the budget, and two more would be
+-- a number of nodes is no more than the budget, and two more would be
 pub record FillsBudget (budget count : ℕ) : Type 0 where
   pub within : count ≤ budget
   pub full : budget < count + 2

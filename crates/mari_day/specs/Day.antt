@@ -56,7 +56,7 @@ pub record IsPrintedDay (books : Books) (nodes : ℕ) (day : PrintedDay) : Type 
   pub published : day.published ≡ published_in publication.blocks
   pub unpublished : day.unpublished ≡ unpublished_in publication.blocks
 
--- a day was written whole, with so many published blocks and so many others
+-- a day was written whole, with these numbers of published blocks and of others
 pub record WroteWholeDay (books : Books) (budget published unpublished : ℕ) (before after : Option (List ℕ)) : Type 0 where
   pub text : List ℕ
   pub printed : IsPrintedDay books budget (record { text = text; published = published; unpublished = unpublished })

@@ -38,7 +38,7 @@ pub record IsPublishedOf (books : Books) (budget run : ℕ) (made : RunMarket) (
 abbrev pub IsPublishedRun : Books → (budget : ℕ) → (before : List Block) → FullBlock → Type 0
 IsPublishedRun books budget before b = IsPublishedOf books budget (run_after before) (market_after books before) (also_after books before) b
 
--- a run that isn't published: its search tree has more nodes than the budget, and so many of them were made
+-- a run that isn't published: its search tree has more nodes than the budget, and `count` of them were made
 pub record IsUnpublishedRun (books : Books) (budget : ℕ) (before : List Block) (heading : Heading) (count : ℕ) : Type 0 where
   pub is_of : heading ≡ heading_of books (run_after before)
   pub spent : Spent

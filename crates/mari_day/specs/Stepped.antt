@@ -36,7 +36,7 @@ Stepped books budget blocks kept before after (Ok done) = WroteBlock books budge
 Stepped books budget blocks kept before after (Err Sink) = BrokeOff books budget blocks before after
 Stepped books budget blocks kept before after (Err NoMemory) = after ≡ before
 
--- the head and the blocks of the first so many runs were written, and what is kept stands for them
+-- the head and the blocks of the first `count` runs were written, and what is kept stands for them
 pub record WroteFirst (books : Books) (budget count : ℕ) (kept : Progress) (before after : Option (List ℕ)) : Type 0 where
   pub blocks : List Block
   pub progress : IsDayProgress books budget blocks kept

@@ -17,7 +17,7 @@ pub record IsSplitPartText (books : Books) (budget : ℕ) (text : List ℕ) : Ty
   pub part : IsSplitPart books budget blocks
   pub spelled : text ≡ split_part_text books budget blocks
 
--- the text is that of a day, with so many published runs and so many others
+-- the text is that of a day, with these numbers of published runs and of others
 pub record IsSplitDayText (books : Books) (budget published unpublished : ℕ) (text : List ℕ) : Type 0 where
   pub blocks : List SplitBlock
   pub day : IsSplitDay books budget blocks

@@ -45,12 +45,12 @@ split_run_text names r =
     ++ (islands_text names 1 r.islands r.clearings ++ text_of_lines (line.End r.block.heading.run ∷ [])))
 
 -- one that isn't: its heading, the island for which the budget is spent, and how many nodes were made
-abbrev pub unsplit_text : Heading → (island count : ℕ) → List ℕ
-unsplit_text heading island count = codes "run" ++ spaced (heading_fields heading) ++ spaced (published_text false ∷ decimal island ∷ decimal count ∷ []) ++ 10 ∷ []
+abbrev pub unpublished_text : Heading → (island count : ℕ) → List ℕ
+unpublished_text heading island count = codes "run" ++ spaced (heading_fields heading) ++ spaced (published_text false ∷ decimal island ∷ decimal count ∷ []) ++ 10 ∷ []
 
 abbrev pub split_block_text : (names : List (List ℕ)) → SplitBlock → List ℕ
 split_block_text names (split.Published r) = split_run_text names r
-split_block_text names (split.Unpublished heading island count) = unsplit_text heading island count
+split_block_text names (split.Unpublished heading island count) = unpublished_text heading island count
 
 -- the text of a day part: the first line and the blocks
 abbrev pub split_part_text : Books → (budget : ℕ) → List SplitBlock → List ℕ

@@ -66,7 +66,7 @@ SplitStepped books budget blocks kept before after (Ok done) = WroteSplitBlock b
 SplitStepped books budget blocks kept before after (Err Sink) = BrokeOffSplit books budget blocks before after
 SplitStepped books budget blocks kept before after (Err NoMemory) = after ≡ before
 
--- the first line and the blocks of the first so many runs were written, and what is kept stands for them
+-- the first line and the blocks of the first `count` runs were written, and what is kept stands for them
 pub record WroteFirstBlocks (books : Books) (budget count : ℕ) (kept : Progress) (before after : Option (List ℕ)) : Type 0 where
   pub blocks : List SplitBlock
   pub progress : IsSplitProgress books budget blocks kept

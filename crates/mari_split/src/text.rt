@@ -8,7 +8,7 @@ ghost use Rattle.mari_rows.specs.Names.{name_at};
 ghost use Rattle.mari_lines.specs.Spelling.{published_text, spaced};
 ghost use Rattle.mari_lines.specs.declared.line.Line.TheVariants as line;
 ghost use Rattle.mari_publish.specs.Texts.{text_of_lines};
-ghost use Rattle.mari_split.specs.Lines.{island_text, islands_text, split_block_text, split_head, split_run_text, unsplit_text, words_line};
+ghost use Rattle.mari_split.specs.Lines.{island_text, islands_text, split_block_text, split_head, split_run_text, unpublished_text, words_line};
 ghost use Rattle.mari_split.specs.Steps.{RunFits, SplitFits};
 
 use crate::split::{SplitBlock, SplitRun};
@@ -45,14 +45,14 @@ fn put_spent(alloc: Global, out: &mut Vec<u8>, island: u32, count: u32) -> Resul
 
 /// Appends the line of a run that isn't published: its heading, the number from 1 of the island for which the budget is
 /// spent, and how many nodes were made for it.
-fn put_unsplit(
+fn put_unpublished(
     alloc: Global,
     out: &mut Vec<u8>,
     heading: Heading,
     island: u32,
     count: u32,
 ) -> Result<(), Memory>
-    ensures { OnOk result (out.new.items ≡ out.old.items ++ unsplit_text heading island count) }
+    ensures { OnOk result (out.new.items ≡ out.old.items ++ unpublished_text heading island count) }
 {
     put_heading(alloc, out, heading)?;
     put_spent(alloc, out, island, count)?;
@@ -182,7 +182,7 @@ fn put_block(
     match block {
         SplitBlock::Published(run) => put_split_run(alloc, out, names, run),
         SplitBlock::Unpublished(heading, island, count) => {
-            put_unsplit(alloc, out, *heading, *island, *count)
+            put_unpublished(alloc, out, *heading, *island, *count)
         }
     }
 }

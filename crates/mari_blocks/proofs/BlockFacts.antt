@@ -44,7 +44,9 @@ module _ (bids : BidBook) (links : LinkBook) (first last : ℕ) where
       (record { from_first = leb-true _ _ within.0; to_last = leb-true _ _ within.1; unlinked = all.1.1.1.1.0 })
 
   module _ (rows : List Row) (free : AreFree rows) where
-    of-line : (bid block : ℕ) (o : Option Row) → find (λ row. bid_at bids row == bid) rows ≡ o → option_map (block_place rows) o ≡ Some block → IsOfBlock bids links first last (length (names_of rows)) bid block
+    of-line : (bid block : ℕ) (o : Option Row) → find (λ row. bid_at bids row == bid) rows ≡ o
+        → option_map (block_place rows) o ≡ Some block
+        → IsOfBlock bids links first last (length (names_of rows)) bid block
     of-line bid block None e f = cc f
     of-line bid block (Some row) e f =
         let is = found (λ row. bid_at bids row == bid) (λ row. IsFree (bid_at bids row)) rows row e free in

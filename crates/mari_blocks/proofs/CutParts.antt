@@ -152,7 +152,8 @@ module _ (books : Books) (ok : IsAccepted books) (blocks : BlockBook) (first las
       }
 
   -- all quarters
-  pub whole : (quarter : ℕ) (at : Place) (quarters : List QuarterBlock) → quarter ≡ last + 1 → Places quarter at → AreCutOut books joint a priced first quarter quarters at → ArePrinted books joint a priced first last quarters
+  pub whole : (quarter : ℕ) (at : Place) (quarters : List QuarterBlock) → quarter ≡ last + 1 → Places quarter at
+      → AreCutOut books joint a priced first quarter quarters at → ArePrinted books joint a priced first last quarters
   whole quarter at quarters end is cut =
       let all : quarter - first ≡ last + 1 - first = ap (λ n. n - first) end in
       let zones : at.zones ≡ (last + 1 - first) * length books.zones.zones = is.zones ∙ ap (λ n. n * length books.zones.zones) all in

@@ -23,7 +23,8 @@ module _ (books : Books) (first last : ℕ) (joint : Joint) (clearing : Clearing
       let N : List ℕ → Type 0 = λ x. AreJointPrices books first joint.market clearing.activation priced.pricing.published.cents priced.pricing.least.cents priced.pricing.greatest.cents x in
       subst A (sym printed.activation) (subst P (sym printed.prices) (subst L (sym printed.least) (subst G (sym printed.greatest) (subst N (sym printed.areas) is.prices))))
 
-  pub joint-block : (budget : ℕ) → IsClearing joint.market budget clearing → b.first ≡ first → b.last ≡ last → b.welfare ≡ clearing.welfare → b.tree ≡ clearing.tree → IsJointBlock books first last budget joint b
+  pub joint-block : (budget : ℕ) → IsClearing joint.market budget clearing → b.first ≡ first → b.last ≡ last
+      → b.welfare ≡ clearing.welfare → b.tree ≡ clearing.tree → IsJointBlock books first last budget joint b
   joint-block budget clears begins ends welfare tree =
       let same : clearing_printed b ≡ clearing = λ i. record { activation = printed.activation i; welfare = welfare i; tree = tree i } in
       record {

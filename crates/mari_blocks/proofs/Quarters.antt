@@ -34,7 +34,9 @@ pub record IsRunOf (books : Books) (quarter run : ℕ) : Type 0 where
 pub run-of : (books : Books) (quarter : ℕ) → is_some (scheduled_run_of books.runs.runs quarter) ≡ true → IsRunOf books quarter (run_of_quarter books.runs.runs quarter)
 run-of books quarter some = by (position (is_scheduled quarter) books.runs.runs) refl some
   where
-    by : (o : Option ℕ) → position (is_scheduled quarter) books.runs.runs ≡ o → is_some (option_map (λ place. place + 1) o) ≡ true → IsRunOf books quarter (unwrap_or (option_map (λ place. place + 1) o) 0)
+    by : (o : Option ℕ) → position (is_scheduled quarter) books.runs.runs ≡ o
+        → is_some (option_map (λ place. place + 1) o) ≡ true
+        → IsRunOf books quarter (unwrap_or (option_map (λ place. place + 1) o) 0)
     by None e s = cc s
     by (Some place) e s =
         let found = position-Some (is_scheduled quarter) books.runs.runs place no_run e in
@@ -100,12 +102,16 @@ module _ (books : Books) (ok : IsAccepted books) (first last : ℕ) (all : lacks
       (follow-filter (parent_at books.links.links) own (keeps-quarter entry.quarter) [] (range_with_len 0 (length bids))
       (follow-range (parent_at books.links.links) (λ bid parent up. (parents books ok bid parent up).before) 0 (length bids))))
     where
-      keeps-quarter : (q bid parent : ℕ) → ((bid_numbered books.bids.bids bid).quarter == q) ≡ true → parent_at books.links.links bid ≡ Some parent → ((bid_numbered books.bids.bids parent).quarter == q) ≡ true
+      keeps-quarter : (q bid parent : ℕ) → ((bid_numbered books.bids.bids bid).quarter == q) ≡ true
+          → parent_at books.links.links bid ≡ Some parent
+          → ((bid_numbered books.bids.bids parent).quarter == q) ≡ true
       keeps-quarter q bid parent own up =
           let same = (parents books ok bid parent up).same_quarter in
           eq-eqb (bid_numbered books.bids.bids parent).quarter q (sym (quarter-at books.bids parent) ∙ same ∙ quarter-at books.bids bid ∙ eqb-true (bid_numbered books.bids.bids bid).quarter q own)
 
-      keeps-available : (run : Run) (bid parent : ℕ) → is_available books (taken_by [] run.quarter) run bid ≡ true → parent_at books.links.links bid ≡ Some parent → is_available books (taken_by [] run.quarter) run parent ≡ true
+      keeps-available : (run : Run) (bid parent : ℕ) → is_available books (taken_by [] run.quarter) run bid ≡ true
+          → parent_at books.links.links bid ≡ Some parent
+          → is_available books (taken_by [] run.quarter) run parent ≡ true
       keeps-available run bid parent here up =
           let taken = taken_by [] run.quarter in
           let both = and_parts (may_run books taken run bid) (parent_allows (is_available books taken run) taken (parent_at books.links.links bid)) (sym (available books taken run ok bid) ∙ here) in

@@ -72,7 +72,8 @@ worths-printable m a ps more ws prices few are = λ k d l.
 -- ---- a published block
 
 -- its market has a line for each border
-pub as-many-lines : (m : Market) (b : FullBlock) (a : Activation) (ps : List Cents) (more : ℕ) (ws : List BorderWorth) → IsFeasible m (activation_of b) → AreWorths m a ps more ws → length ws ≡ length b.borders
+pub as-many-lines : (m : Market) (b : FullBlock) (a : Activation) (ps : List Cents) (more : ℕ) (ws : List BorderWorth)
+    → IsFeasible m (activation_of b) → AreWorths m a ps more ws → length ws ≡ length b.borders
 as-many-lines m b a ps more ws feasible are =
     let long = AllZip-long IsWithinLimits m.borders (map (λ (l : BorderLine). l.flow) b.borders) feasible.borders in
     let same = length-map b.borders (λ (l : BorderLine). l.flow) in
@@ -114,7 +115,9 @@ module _ (books : Books) (budget : ℕ) (blocks : List Block) (x : Block) (b : F
 
 -- ---- an unpublished block
 
-pub unpublished-lines : (books : Books) (blocks : List Block) (x : Block) (heading : Heading) (count : ℕ) → x ≡ block.Unpublished heading count → (more : ℕ) (text now : List ℕ) → IsValueText books more blocks text → now ≡ text ++ unpublished_line heading.run
+pub unpublished-lines : (books : Books) (blocks : List Block) (x : Block) (heading : Heading) (count : ℕ)
+    → x ≡ block.Unpublished heading count → (more : ℕ) (text now : List ℕ) → IsValueText books more blocks text
+    → now ≡ text ++ unpublished_line heading.run
     → IsValueText books more (blocks ++ x ∷ []) now
 unpublished-lines books blocks x heading count is more text now lines put =
     let P : Block → Type 0 = λ y. IsValueText books more (blocks ++ y ∷ []) now in

@@ -130,7 +130,8 @@ module _ (m : Market) (v : IsValid m) (r : Raise) (there : r.border < length m.b
     pub gained-least : welfare ≤ n
     gained-least = let least = no-less m v r there w (pos welfare) (pos n) before gained-relaxed in omega (arith, ints, least)
 
-    pub gained-most : (a : Activation) (ps : List Cents) → IsFeasible m a → gate_word_of m a ≡ w → IsConsistent m a ps → pos n ≤ℤ (pos welfare +ℤ rise_of ps (border_at m.borders r.border) r.forth r.more)
+    pub gained-most : (a : Activation) (ps : List Cents) → IsFeasible m a → gate_word_of m a ≡ w → IsConsistent m a ps
+        → pos n ≤ℤ (pos welfare +ℤ rise_of ps (border_at m.borders r.border) r.forth r.more)
     gained-most a ps feasible e consistent = no-more m v r there w (pos welfare) (pos n) before gained-relaxed a ps feasible e consistent
 
   -- something lies within the word's bounds

@@ -24,7 +24,8 @@ use Rattle.mari_capacity.specs.Streams.EndsInvalid.{AtEnd}
 use Rattle.mari_capacity.proofs.Pages.{read-states, settled, totals-found, whole-checked, whole-lines}
 
 -- it is cut off, and never because memory ran out
-pub ends-refused : (T : Type 0) (books : Books) (n : ℕ) (text : List ℕ) (s : ValueStream) (a : TookAllParts books n text s) (f : TextFault) → length text ≤ most_given → IsEnd {T = T} text a.parts (Err f) → EndsPage books n text s.lines.items (OfText f)
+pub ends-refused : (T : Type 0) (books : Books) (n : ℕ) (text : List ℕ) (s : ValueStream) (a : TookAllParts books n text s) (f : TextFault)
+    → length text ≤ most_given → IsEnd {T = T} text a.parts (Err f) → EndsPage books n text s.lines.items (OfText f)
 ends-refused T books n text s a (fault.BadLine k) short h = absurd h
 ends-refused T books n text s a (fault.BadOrder k) short h = absurd h
 ends-refused T books n text s a fault.Memory short h = absurd h
@@ -54,7 +55,10 @@ module _ {T : Type 0} (done : T) (books : Books) (n : ℕ) (text : List ℕ) (s 
       AtEnd (record { publication = whole.0; short = short; is_text = whole.1; head = checked.0; free = checked.1; first = first }) (whole-lines books n text s a whole.0 whole.2)
 
   -- or none
-  pub ends-valid : (published unpublished : ℕ) (all : List ℕ) → length text ≤ most_given → s.found ≡ Some (verdict.Valid published unpublished) → all ≡ s.lines.items ++ closing_line published unpublished → EndsPage books n text all (Valid published unpublished)
+  pub ends-valid : (published unpublished : ℕ) (all : List ℕ) → length text ≤ most_given
+      → s.found ≡ Some (verdict.Valid published unpublished)
+      → all ≡ s.lines.items ++ closing_line published unpublished
+      → EndsPage books n text all (Valid published unpublished)
   ends-valid published unpublished all short found put = record {
     valid = record { publication = whole.0; short = short; is_text = whole.1; valid = settled books n text s a whole.0 whole.2 (verdict.Valid published unpublished) found };
     front = s.lines.items;
@@ -63,7 +67,9 @@ module _ {T : Type 0} (done : T) (books : Books) (n : ℕ) (text : List ℕ) (s 
   }
 
   -- on any shelf
-  pub states-valid : (published unpublished : ℕ) (all : List ℕ) → s.found ≡ Some (verdict.Valid published unpublished) → all ≡ s.lines.items ++ closing_line published unpublished → LinesReport books n all (Valid published unpublished)
+  pub states-valid : (published unpublished : ℕ) (all : List ℕ) → s.found ≡ Some (verdict.Valid published unpublished)
+      → all ≡ s.lines.items ++ closing_line published unpublished
+      → LinesReport books n all (Valid published unpublished)
   states-valid published unpublished all found put = record {
     publication = whole.0;
     valid = settled books n text s a whole.0 whole.2 (verdict.Valid published unpublished) found;

@@ -61,7 +61,10 @@ module _ (books : Books) (page : List ℕ) where
       let first : IsFirstFault books v.publication run number = subst (λ (o : Publication). IsFirstFault books o run number) (one_text page f.publication v.publication f.is_text v.is_text) f.first in
       no-first-fault books v.publication v.valid.0 run number first
 
-  both-invalid : (run number other least : ℕ) → HasPartFault books (take most_given page) run number ⊎ HasEndFault books page run number → HasPartFault books (take most_given page) other least ⊎ HasEndFault books page other least → (run ≡ other) × (number ≡ least)
+  both-invalid : (run number other least : ℕ)
+      → HasPartFault books (take most_given page) run number ⊎ HasEndFault books page run number
+      → HasPartFault books (take most_given page) other least ⊎ HasEndFault books page other least
+      → (run ≡ other) × (number ≡ least)
   both-invalid run number other least (inl f) (inl g) = one-part-fault books (take most_given page) run number other least f g
   both-invalid run number other least (inr f) (inr g) = one-end-fault books page run number other least f g
   both-invalid run number other least (inl f) (inr g) = absurd (text-clean books page g.publication g.is_text g.head g.free run number (given-fault books page run number f))
@@ -137,7 +140,8 @@ ends-unheld books text (Valid a b) end states is = absurd states
 ends-unheld books text (Invalid run number) end states is = absurd states
 ends-unheld books text (OfText f) end states is = absurd states
 
-pub ends-exactly : {E : Type 0} (books : Books) (n : ℕ) (page : Option (List ℕ)) (r : Result Valued E) (end : ValueEnd) → IfOk r (λ v. ValueStates books n page v.text v.end) → IsEndOf books page end → IfOk r (EndsAs end)
+pub ends-exactly : {E : Type 0} (books : Books) (n : ℕ) (page : Option (List ℕ)) (r : Result Valued E) (end : ValueEnd)
+    → IfOk r (λ v. ValueStates books n page v.text v.end) → IsEndOf books page end → IfOk r (EndsAs end)
 ends-exactly books n None (Ok v) end states is = ends-unheld books v.text v.end end states is
 ends-exactly books n (Some page) (Ok v) end states is = ends-held books n page v end states is
 ends-exactly books n page (Err why) end states is = tt

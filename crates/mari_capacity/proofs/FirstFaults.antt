@@ -117,7 +117,9 @@ same-ends (p ∷ P) (q ∷ Q) x y e =
     let own = same-ends P Q x y rest in
     (ap (λ (z : Part). z ∷ Q) same ∙ ap (λ (zs : List Part). p ∷ zs) own.0, own.1)
 
-in-order : (books : Books) (P Q xs : List Part) (x y : Part) (run number other least : ℕ) → Q ++ y ∷ [] ≡ (P ++ x ∷ []) ++ xs → AreChecked books Q → HasFault books P x run number → HasFault books Q y other least → (run ≡ other) × (number ≡ least)
+in-order : (books : Books) (P Q xs : List Part) (x y : Part) (run number other least : ℕ)
+    → Q ++ y ∷ [] ≡ (P ++ x ∷ []) ++ xs → AreChecked books Q → HasFault books P x run number
+    → HasFault books Q y other least → (run ≡ other) × (number ≡ least)
 in-order books P Q [] x y run number other least e checked f g =
     let same = same-ends P Q x y (e ∙ append-nil (P ++ x ∷ [])) in
     let F : List Part → Type 0 = λ ps. HasFault books ps y other least in
@@ -135,12 +137,16 @@ one-part-fault books text run number other least f g = elim (one-longer text (f.
 
 -- ---- the end of a publication shows one fault
 
-end-kinds : (books : Books) (p : Publication) (run number : ℕ) → HasHead books p.date p.quarters → AreFree books p.budget p.blocks → IsFirstFault books p run number → IsMissing books p run number ⊎ IsTotalsFault books p run number
+end-kinds : (books : Books) (p : Publication) (run number : ℕ) → HasHead books p.date p.quarters
+    → AreFree books p.budget p.blocks → IsFirstFault books p run number
+    → IsMissing books p run number ⊎ IsTotalsFault books p run number
 end-kinds books p run number head free (inl h) = absurd (h.differs head)
 end-kinds books p run number head free (inr (inl b)) = absurd (b.is_least.there (free b.place b.block b.there b.least))
 end-kinds books p run number head free (inr (inr other)) = other
 
-both-ends : (books : Books) (p : Publication) (run number other least : ℕ) → IsMissing books p run number ⊎ IsTotalsFault books p run number → IsMissing books p other least ⊎ IsTotalsFault books p other least → (run ≡ other) × (number ≡ least)
+both-ends : (books : Books) (p : Publication) (run number other least : ℕ)
+    → IsMissing books p run number ⊎ IsTotalsFault books p run number
+    → IsMissing books p other least ⊎ IsTotalsFault books p other least → (run ≡ other) × (number ≡ least)
 both-ends books p run number other least (inl f) (inl g) = (f.run_is ∙ sym g.run_is, f.number_is ∙ sym g.number_is)
 both-ends books p run number other least (inr f) (inr g) = (f.run_is ∙ sym g.run_is, f.number_is ∙ sym g.number_is)
 both-ends books p run number other least (inl f) (inr g) = absurd (omega (arith, f.missing, g.every))

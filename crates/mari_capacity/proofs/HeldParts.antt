@@ -74,7 +74,10 @@ next-of (l ∷ C) A P Q k r g h =
     apart : option_and_then (λ (x : Kept × Option Part). after_all (grown g.so_far x.1) x.0 C) (after k k.held l) ≡ Some (h.so_far, r)
     apart = sym (in_parts nothing_read nothing_kept A (l ∷ C) ∙ ap (option_and_then (λ (s : Publication × Kept). after_all s.0 s.1 (l ∷ C))) g.follow) ∙ h.follow
 
-    by : ((m : Kept) → Gives (A ++ l ∷ []) P m → (Q ≡ P) ⊎ NextPart (A ++ l ∷ []) C P Q) → (o : Option (Kept × Option Part)) → after k k.held l ≡ o → option_and_then (λ (x : Kept × Option Part). after_all (grown g.so_far x.1) x.0 C) o ≡ Some (h.so_far, r) → (Q ≡ P) ⊎ NextPart A (l ∷ C) P Q
+    by : ((m : Kept) → Gives (A ++ l ∷ []) P m → (Q ≡ P) ⊎ NextPart (A ++ l ∷ []) C P Q)
+        → (o : Option (Kept × Option Part)) → after k k.held l ≡ o
+        → option_and_then (λ (x : Kept × Option Part). after_all (grown g.so_far x.1) x.0 C) o ≡ Some (h.so_far, r)
+        → (Q ≡ P) ⊎ NextPart A (l ∷ C) P Q
     by rest None e f = absurd cc
     by rest (Some (m, None)) e f =
         let own : Gives (A ++ l ∷ []) P m = next_gives A P k m l None g e in

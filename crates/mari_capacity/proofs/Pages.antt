@@ -46,7 +46,8 @@ read-states books n text parts s r = record { holds = come_parts s.reader.come t
 -- ---- why it stopped
 
 -- in a text that is the front of a page
-pub stops-on : (books : Books) (n : ℕ) (text left page lines : List ℕ) (why : ValueStop) → text ++ left ≡ page → length text ≤ most_given → StopsInText books n text lines why → StopsOnPage books n page lines why
+pub stops-on : (books : Books) (n : ℕ) (text left page lines : List ℕ) (why : ValueStop) → text ++ left ≡ page
+    → length text ≤ most_given → StopsInText books n text lines why → StopsOnPage books n page lines why
 stops-on books n text left page lines why e few h = subst (λ (p : List ℕ). StopsOnPage books n p lines why) e (own why h)
   where
     own : (w : ValueStop) → StopsInText books n text lines w → StopsOnPage books n (text ++ left) lines w
@@ -89,7 +90,8 @@ module _ (books : Books) (more : ℕ) (page rest : Option (List ℕ)) (given : �
       subst (λ (p : List ℕ). StatesPage books more p u.known.parts s.lines.items) t.2 states
 
   -- the fetch of a piece failed
-  pub fetch-stops : (f : Fetch) → (f ≡ fetch.Missing → ⊥) → (f ≡ fetch.TooLong → IsOverlong rest given) → (whole : List ℕ) → page ≡ Some whole → StopsOnPage books more whole s.lines.items (stop_of_fetch f)
+  pub fetch-stops : (f : Fetch) → (f ≡ fetch.Missing → ⊥) → (f ≡ fetch.TooLong → IsOverlong rest given)
+      → (whole : List ℕ) → page ≡ Some whole → StopsOnPage books more whole s.lines.items (stop_of_fetch f)
   fetch-stops fetch.Failed not over whole is = Midway u.known.parts (so-far whole is)
   fetch-stops fetch.Missing not over whole is = absurd (not refl)
   fetch-stops fetch.Memory not over whole is = tt
@@ -127,12 +129,15 @@ module _ (books : Books) (more : ℕ) (page rest : Option (List ℕ)) (given : �
 -- ---- the parts of a text
 
 -- no further part has come
-pub all-read : (books : Books) (n : ℕ) (text : List ℕ) (parts : List Part) (s : ValueStream) (o : Option Part) → o ≡ None → IsNext text parts (Ok o) → ComesFrom s.reader.come text (with_part parts o) → s.reader.waits ≡ found_none (Ok o) → HasTaken books n parts s → TookAllParts books n text s
+pub all-read : (books : Books) (n : ℕ) (text : List ℕ) (parts : List Part) (s : ValueStream) (o : Option Part)
+    → o ≡ None → IsNext text parts (Ok o) → ComesFrom s.reader.come text (with_part parts o)
+    → s.reader.waits ≡ found_none (Ok o) → HasTaken books n parts s → TookAllParts books n text s
 all-read books n text parts s (Some x) e h stands waits taken = absurd (cc e)
 all-read books n text parts s None e h stands waits taken = record { parts = parts; read = record { stands = stands; taken = taken }; waits = waits; no_fault = h.1; no_more = h.0 }
 
 -- a part has a fault of the check
-pub part-stops : (books : Books) (n : ℕ) (text : List ℕ) (parts : List Part) (x : Part) (lines : List ℕ) (why : ValueStop) → HasPart text parts x → StopsAtPart books n parts x lines why → StopsInText books n text lines why
+pub part-stops : (books : Books) (n : ℕ) (text : List ℕ) (parts : List Part) (x : Part) (lines : List ℕ) (why : ValueStop)
+    → HasPart text parts x → StopsAtPart books n parts x lines why → StopsInText books n text lines why
 part-stops books n text parts x lines (At (Invalid run number)) there h = record { parts = parts; part = x; there = there; fault = h.0; states = h.1 }
 part-stops books n text parts x lines (At (Valid published unpublished)) there h = absurd h
 part-stops books n text parts x lines (At (OfText f)) there h = absurd h
@@ -140,7 +145,9 @@ part-stops books n text parts x lines (At (OfFetch why)) there h = absurd h
 part-stops books n text parts x lines NoMemory there h = tt
 
 -- a line has a fault
-pub line-stops : (books : Books) (n : ℕ) (text : List ℕ) (parts : List Part) (s : ValueStream) (f : TextFault) → TookParts books n text parts s → IsNext text parts (Err f) → StopsInText books n text s.lines.items (stop_of_text f)
+pub line-stops : (books : Books) (n : ℕ) (text : List ℕ) (parts : List Part) (s : ValueStream) (f : TextFault)
+    → TookParts books n text parts s → IsNext text parts (Err f)
+    → StopsInText books n text s.lines.items (stop_of_text f)
 line-stops books n text parts s (fault.BadLine k) r h = record { here = h.0; parts = parts; no_more = h.1; states = read-states books n text parts s r }
 line-stops books n text parts s (fault.BadOrder k) r h = record { here = h.0; parts = parts; no_more = h.1; states = read-states books n text parts s r }
 line-stops books n text parts s (fault.Truncated k) r h = absurd h
@@ -153,7 +160,8 @@ pub totals-found : (books : Books) (n : ℕ) (text : List ℕ) (s : ValueStream)
 totals-found books n text s a p e = all-found books p a.parts s.day s.found e a.read.taken.found
 
 -- a verdict that the totals settled is that on the publication whose text has come
-pub settled : (books : Books) (n : ℕ) (text : List ℕ) (s : ValueStream) (a : TookAllParts books n text s) (p : Publication) → a.parts ≡ parts_of p → (v : Verdict) → s.found ≡ Some v → IsVerdict books p v
+pub settled : (books : Books) (n : ℕ) (text : List ℕ) (s : ValueStream) (a : TookAllParts books n text s) (p : Publication)
+    → a.parts ≡ parts_of p → (v : Verdict) → s.found ≡ Some v → IsVerdict books p v
 settled books n text s a p e v found =
     let own : SettlesVerdict books a.parts v = subst (λ (f : Option Verdict). IsVerdictSoFar books a.parts s.day f) found a.read.taken.found in
     own p [] (sym e ∙ sym (append-nil a.parts))
@@ -162,7 +170,8 @@ settled books n text s a p e v found =
 pub whole-lines : (books : Books) (n : ℕ) (text : List ℕ) (s : ValueStream) (a : TookAllParts books n text s) (p : Publication) → a.parts ≡ parts_of p → IsValueText books n p.blocks s.lines.items
 whole-lines books n text s a p e = subst (λ (bs : List Block). IsValueText books n bs s.lines.items) (ap blocks_in e ∙ blocks_in-parts p) a.read.taken.states.lines
 
-pub whole-checked : (books : Books) (n : ℕ) (text : List ℕ) (s : ValueStream) (a : TookAllParts books n text s) (p : Publication) → a.parts ≡ parts_of p → HasHead books p.date p.quarters × AreFree books p.budget p.blocks
+pub whole-checked : (books : Books) (n : ℕ) (text : List ℕ) (s : ValueStream) (a : TookAllParts books n text s) (p : Publication)
+    → a.parts ≡ parts_of p → HasHead books p.date p.quarters × AreFree books p.budget p.blocks
 whole-checked books n text s a p e =
     let own : AreChecked books (parts_of p) = subst (λ (ps : List Part). AreChecked books ps) e a.read.taken.states.checked in
     (own.0, subst (λ (bs : List Block). AreFree books p.budget bs) (blocks_in-parts p) own.1)

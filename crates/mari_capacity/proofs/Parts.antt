@@ -91,7 +91,8 @@ way-blocks books parts day w = ap blocks_in w.is ∙ ap blocks_in w.clear.are �
 way-budget : (books : Books) (parts : List Part) (day : DayCheck) (w : Way books parts day) → budget_in parts ≡ day.budget
 way-budget books parts day w = ap budget_in w.is ∙ w.clear.budget_is
 
-with-totals : (books : Books) (parts : List Part) (day : DayCheck) (w : Way books parts day) (os : List MoneyLine) (ps : List AmountLine) → AreChecked books parts → AreChecked books (parts ++ part.Totals os ps ∷ [])
+with-totals : (books : Books) (parts : List Part) (day : DayCheck) (w : Way books parts day) (os : List MoneyLine) (ps : List AmountLine)
+    → AreChecked books parts → AreChecked books (parts ++ part.Totals os ps ∷ [])
 with-totals books parts day w os ps checked =
     let x : Part = part.Totals os ps in
     let C : List Part → Type 0 = λ ps. AreChecked books ps in
@@ -104,7 +105,9 @@ with-totals books parts day w os ps checked =
 -- ---- one part more
 
 -- parts that settle nothing were taken
-pub open-taken : (books : Books) (more : ℕ) (parts : List Part) (s : ValueStream) → IsOpen books parts s.day → s.found ≡ None → IsValueText books more (blocks_in parts) s.lines.items → s.more ≡ more → HasTaken books more parts s
+pub open-taken : (books : Books) (more : ℕ) (parts : List Part) (s : ValueStream) → IsOpen books parts s.day
+    → s.found ≡ None → IsValueText books more (blocks_in parts) s.lines.items → s.more ≡ more
+    → HasTaken books more parts s
 open-taken books more parts s fine none lines same = record {
   found = subst (λ (f : Option Verdict). IsVerdictSoFar books parts s.day f) (sym none) fine;
   ended = subst (λ (f : Option Verdict). IfSome f (λ v. HaveEnded parts)) (sym none) tt;
@@ -114,7 +117,9 @@ open-taken books more parts s fine none lines same = record {
 
 module _ (books : Books) (more : ℕ) (parts : List Part) (old new : ValueStream) (x : Part) (t : HasTaken books more parts old) (c : Comes parts x) where
   -- the head is that of the books
-  pub head-taken : (date : List ℕ) (quarters budget : ℕ) → x ≡ part.Head date quarters budget → HasHead books date quarters → IsChecked books [] new.day → new.day.budget ≡ budget → new.found ≡ old.found → new.lines ≡ old.lines → new.more ≡ old.more
+  pub head-taken : (date : List ℕ) (quarters budget : ℕ) → x ≡ part.Head date quarters budget
+      → HasHead books date quarters → IsChecked books [] new.day → new.day.budget ≡ budget → new.found ≡ old.found
+      → new.lines ≡ old.lines → new.more ≡ old.more
       → HasTaken books more (parts ++ x ∷ []) new
   head-taken date quarters budget is head checked stated found lines same =
       let fine = still-open books more parts old x t c in
@@ -125,7 +130,9 @@ module _ (books : Books) (more : ℕ) (parts : List Part) (old new : ValueStream
       open-taken books more (parts ++ x ∷ []) new opens (found ∙ not-settled books more parts old x t c) (rw lines own) (same ∙ t.more_is)
 
   -- a block has no fault and is reported of
-  pub block-taken : (b : Block) → x ≡ part.Block b → IsLater x → ((any : Fault) → IsFreeIn books old.day.budget (blocks_in parts) b any) → IsChecked books (blocks_in parts ++ b ∷ []) new.day → new.day.budget ≡ old.day.budget
+  pub block-taken : (b : Block) → x ≡ part.Block b → IsLater x
+      → ((any : Fault) → IsFreeIn books old.day.budget (blocks_in parts) b any)
+      → IsChecked books (blocks_in parts ++ b ∷ []) new.day → new.day.budget ≡ old.day.budget
       → new.found ≡ old.found → IsValueText books more (blocks_in parts ++ b ∷ []) new.lines.items → new.more ≡ old.more → HasTaken books more (parts ++ x ∷ []) new
   block-taken b is later free checked budget found lines same =
       let fine = still-open books more parts old x t c in
@@ -159,7 +166,9 @@ module _ (books : Books) (more : ℕ) (parts : List Part) (old new : ValueStream
       }
 
   -- a block has a fault
-  pub block-fault : (b : Block) → x ≡ part.Block b → IsLater x → (run number : ℕ) → run ≡ run_after (blocks_in parts) → FindsNumber (IsFreeIn books old.day.budget (blocks_in parts) b) (Some number) → HasFault books parts x run number
+  pub block-fault : (b : Block) → x ≡ part.Block b → IsLater x → (run number : ℕ) → run ≡ run_after (blocks_in parts)
+      → FindsNumber (IsFreeIn books old.day.budget (blocks_in parts) b) (Some number)
+      → HasFault books parts x run number
   block-fault b is later run number after finds =
       let w = way books parts old.day x later (still-open books more parts old x t c) c in
       let F : ℕ → Type 0 = λ n. FindsNumber (IsFreeIn books n (blocks_in parts) b) (Some number) in
@@ -189,7 +198,9 @@ module _ (books : Books) (more : ℕ) (parts : List Part) (old new : ValueStream
         subst (λ (w : ValueStop). StopsAtPart books more parts x new.lines.items w) (sym stop) (fault, states)
 
   module _ (b : Block) (is : x ≡ part.Block b) (later : IsLater x) (run : ℕ) (after : run ≡ run_after (blocks_in parts)) (same : IsSameButDay old new) where
-    pub block-goes-on : {T : Type 0} (found : Res (Option ℕ) NoRoom) (r : Res T ValueStop) → IfOk found (FindsNumber (IsFreeIn books old.day.budget (blocks_in parts) b)) → (found ≡ Ok None → IsChecked books (blocks_in parts ++ b ∷ []) new.day)
+    pub block-goes-on : {T : Type 0} (found : Res (Option ℕ) NoRoom) (r : Res T ValueStop)
+        → IfOk found (FindsNumber (IsFreeIn books old.day.budget (blocks_in parts) b))
+        → (found ≡ Ok None → IsChecked books (blocks_in parts ++ b ∷ []) new.day)
         → (found ≡ Ok None → IsValueText books more (blocks_in parts ++ b ∷ []) new.lines.items) → IsStopAt run found r → OnOk r (HasTaken books more (parts ++ x ∷ []) new)
     block-goes-on (Ok None) (Ok done) finds checked lines stop = block-taken books more parts old new x t c b is later finds (checked refl) same.budget same.found (lines refl) same.more
     block-goes-on (Ok None) (Err why) finds checked lines stop = tt
@@ -198,7 +209,9 @@ module _ (books : Books) (more : ℕ) (parts : List Part) (old new : ValueStream
     block-goes-on (Err e) (Ok done) finds checked lines stop = absurd stop
     block-goes-on (Err e) (Err why) finds checked lines stop = tt
 
-    pub block-stops : {T : Type 0} (found : Res (Option ℕ) NoRoom) (r : Res T ValueStop) → IfOk found (FindsNumber (IsFreeIn books old.day.budget (blocks_in parts) b)) → IfOk found (λ number. IsSome number → new.lines ≡ old.lines) → IsStopAt run found r
+    pub block-stops : {T : Type 0} (found : Res (Option ℕ) NoRoom) (r : Res T ValueStop)
+        → IfOk found (FindsNumber (IsFreeIn books old.day.budget (blocks_in parts) b))
+        → IfOk found (λ number. IsSome number → new.lines ≡ old.lines) → IsStopAt run found r
         → IfErr r (StopsAtPart books more parts x new.lines.items)
     block-stops (Ok None) (Ok done) finds kept stop = tt
     block-stops (Ok None) (Err why) finds kept stop = absurd stop

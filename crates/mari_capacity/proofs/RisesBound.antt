@@ -51,11 +51,15 @@ few-blocks books budget (b ∷ bs) free =
     let front = length-take (length bs) (b ∷ bs) in
     omega (arith, run, front)
 
-rise-on : (m : Market) (a : Activation) (ps : List Cents) (more border : ℕ) (w : BorderWorth) (forth : Bool) → IsBorderWorth m a ps more border w → (worth_on forth w).rise.0 ≡ rise_of ps (border_at m.borders border) forth more
+rise-on : (m : Market) (a : Activation) (ps : List Cents) (more border : ℕ) (w : BorderWorth) (forth : Bool)
+    → IsBorderWorth m a ps more border w
+    → (worth_on forth w).rise.0 ≡ rise_of ps (border_at m.borders border) forth more
 rise-on m a ps more border w true is = is.forth.rise
 rise-on m a ps more border w false is = is.back.rise
 
-pub rises-bound : (books : Books) → IsAccepted books → (budget : ℕ) (blocks : List Block) → AreFree books budget blocks → (k : ℕ) (b : FullBlock) → slice_get blocks k ≡ Some (block.Published b) → (more : ℕ) (ws : List BorderWorth)
+pub rises-bound : (books : Books) → IsAccepted books → (budget : ℕ) (blocks : List Block)
+    → AreFree books budget blocks → (k : ℕ) (b : FullBlock) → slice_get blocks k ≡ Some (block.Published b)
+    → (more : ℕ) (ws : List BorderWorth)
     → AreWorths (market_after books (take k blocks)).market (activation_of b) (prices_of b) more ws → RisesBound (market_after books (take k blocks)).market (activation_of b) (pos b.welfare) more ws
 rises-bound books ok budget blocks free k b there more ws are = λ border forth other inside within.
     let before = take k blocks in

@@ -17,7 +17,8 @@ first-line (x ∷ ls) (y ∷ ws) (suc k) l w h i =
     rw e (first-line ls ws k l w (omega arith) (omega arith))
 
 -- a line is put, so that those still to come are one less
-pub one-put : (ls : List BorderLine) (ws : List BorderWorth) (k : ℕ) (l : BorderLine) (w : BorderWorth) (a b whole : List ℕ) → k < length ls → k < length ws → b ≡ a ++ border_line (get_or ls k l) (get_or ws k w)
+pub one-put : (ls : List BorderLine) (ws : List BorderWorth) (k : ℕ) (l : BorderLine) (w : BorderWorth) (a b whole : List ℕ)
+    → k < length ls → k < length ws → b ≡ a ++ border_line (get_or ls k l) (get_or ws k w)
     → a ++ border_lines (drop k ls) (drop k ws) ≡ whole → b ++ border_lines (drop (k + 1) ls) (drop (k + 1) ws) ≡ whole
 one-put ls ws k l w a b whole h i put e =
     let rest = border_lines (drop (k + 1) ls) (drop (k + 1) ws) in

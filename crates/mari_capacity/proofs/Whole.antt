@@ -66,7 +66,9 @@ module _ {E : Type 0} (f : Fetch) (r : Result Valued E) (is : IsUnopened f r) wh
 pub page-states : (books : Books) (n : ℕ) (page : Option (List ℕ)) (bytes : List ℕ) (v : Valued) → page ≡ Some bytes → EndsPage books n bytes v.text v.end → ValueStates books n page v.text v.end
 page-states books n page bytes v e h = subst (λ (p : Option (List ℕ)). ValueStates books n p v.text v.end) (sym e) h
 
-pub end-states : {E : Type 0} (books : Books) (m n : ℕ) (page : Option (List ℕ)) (bytes : List ℕ) (r : Result Valued E) → m ≡ n → page ≡ Some bytes → IfOk r (λ v. EndsPage books m bytes v.text v.end) → IfOk r (λ v. ValueStates books n page v.text v.end)
+pub end-states : {E : Type 0} (books : Books) (m n : ℕ) (page : Option (List ℕ)) (bytes : List ℕ) (r : Result Valued E)
+    → m ≡ n → page ≡ Some bytes → IfOk r (λ v. EndsPage books m bytes v.text v.end)
+    → IfOk r (λ v. ValueStates books n page v.text v.end)
 end-states books m n page bytes (Ok v) e is h = page-states books n page bytes v is (subst (λ (k : ℕ). EndsPage books k bytes v.text v.end) e h)
 end-states books m n page bytes (Err why) e is h = tt
 
@@ -79,7 +81,9 @@ no-page-fault g (Ok v) h w = h w
 no-page-fault g (Err why) h w = w
 
 -- it was stopped
-pub stopped-states : (books : Books) (m n : ℕ) (page : Option (List ℕ)) (bytes lines : List ℕ) (why : ValueStop) (end : ValueEnd) (v : Valued) → m ≡ n → page ≡ Some bytes → why ≡ At end → StopsOnPage books m bytes lines why → v.text ≡ lines → v.end ≡ end → ValueStates books n page v.text v.end
+pub stopped-states : (books : Books) (m n : ℕ) (page : Option (List ℕ)) (bytes lines : List ℕ) (why : ValueStop) (end : ValueEnd) (v : Valued)
+    → m ≡ n → page ≡ Some bytes → why ≡ At end → StopsOnPage books m bytes lines why → v.text ≡ lines → v.end ≡ end
+    → ValueStates books n page v.text v.end
 stopped-states books m n page bytes lines why end v e is at h text ends =
     let own : EndsPage books m bytes lines end = subst (λ (w : ValueStop). StopsOnPage books m bytes lines w) at h in
     let reported : EndsPage books m bytes v.text v.end = rw (text, ends) own in

@@ -50,7 +50,8 @@ module _ (m : Market) (v : IsValid m) (p : Published) (is : IsPublished m p) whe
         }
 
 -- what holds of each item at its place holds of one more after them
-pub each-push : {X : Type 0} (P : ℕ → X → Type 0) (xs : List X) (y d : X) (n : ℕ) → length xs ≡ n → ((k : ℕ) → k < n → P k (get_or xs k d)) → P n y → (k : ℕ) → k < n + 1 → P k (get_or (xs ++ y ∷ []) k d)
+pub each-push : {X : Type 0} (P : ℕ → X → Type 0) (xs : List X) (y d : X) (n : ℕ) → length xs ≡ n
+    → ((k : ℕ) → k < n → P k (get_or xs k d)) → P n y → (k : ℕ) → k < n + 1 → P k (get_or (xs ++ y ∷ []) k d)
 each-push P xs y d n long each here k l = elim (cases_lt k n) [
   | inl less ↦ rw (get_or-append xs (y ∷ []) d k (omega (arith, less, long))) (each k less)
   | inr past ↦ (

@@ -41,7 +41,8 @@ pub record EndsValid (books : Books) (more : ℕ) (page text : List ℕ) (publis
 -- the first fault is one of the check: of a head or a block that is given whole, so that no line up to its last has a
 -- fault; or one that the end of a publication shows. There are the lines of the blocks before it
 pub data EndsInvalid (books : Books) (more : ℕ) (page text : List ℕ) (run number : ℕ) : Type 0 where
-  AtPart : (parts : List Part) (x : Part) → HasPart (take most_given page) parts x → HasFault books parts x run number → StatesChecked books more parts text → EndsInvalid books more page text run number
+  AtPart : (parts : List Part) (x : Part) → HasPart (take most_given page) parts x → HasFault books parts x run number
+      → StatesChecked books more parts text → EndsInvalid books more page text run number
   AtEnd : (f : HasEndFault books page run number) → IsValueText books more f.publication.blocks text → EndsInvalid books more page text run number
 
 -- the first fault is one of the text, and there are the lines of all blocks before it, which were checked

@@ -20,7 +20,10 @@ height_most Least c n p h = omega (arith, ints, p.low, p.high, h)
 height_most Greatest c n p h = omega (arith, ints, p.low, p.high, h)
 
 -- one more order
-pub tightest_more : (end : End) (os : List Order) (qs : List ℕ) (i z : ℕ) (d : Order) (old new : ℕ) → i < length os → i < length qs → IsTightestOf end (take i os) (take i qs) z old → IsRaised end (get_or os i d) (get_or qs i 0) z old new → IsTightestOf end (take (i + 1) os) (take (i + 1) qs) z new
+pub tightest_more : (end : End) (os : List Order) (qs : List ℕ) (i z : ℕ) (d : Order) (old new : ℕ) → i < length os
+    → i < length qs → IsTightestOf end (take i os) (take i qs) z old
+    → IsRaised end (get_or os i d) (get_or qs i 0) z old new
+    → IsTightestOf end (take (i + 1) os) (take (i + 1) qs) z new
 tightest_more end os qs i z d old new h l t r = record { bound = bound r.from; tightest = λ k b. tightest k b }
   where
     lifted : (k : ℕ) → IsBoundBy end (take i os) (take i qs) z k → IsBoundBy end (take (i + 1) os) (take (i + 1) qs) z k
@@ -40,7 +43,9 @@ tightest_more end os qs i z d old new h l t r = record { bound = bound r.from; t
     tightest k (inr a) = by k (AnyZip_cases (SetsAt end z k) os qs i d 0 h l a)
 
 -- an order raises its own zone's bound, and sets nothing in other zones
-pub raised_at : (end : End) (o : Order) (q : ℕ) (values : List ℕ) (new : ℕ) → o.zone < length values → IsRaised end o q o.zone (get_or values o.zone 0) new → (z : ℕ) → IsRaised end o q z (get_or values z 0) (get_or (set values o.zone new) z 0)
+pub raised_at : (end : End) (o : Order) (q : ℕ) (values : List ℕ) (new : ℕ) → o.zone < length values
+    → IsRaised end o q o.zone (get_or values o.zone 0) new → (z : ℕ)
+    → IsRaised end o q z (get_or values z 0) (get_or (set values o.zone new) z 0)
 raised_at end o q values new h r z = elim (cases_eq z o.zone) [
   | inl same ↦
       let at : get_or (set values o.zone new) o.zone 0 ≡ new = get_or-set_same values o.zone new 0 h in

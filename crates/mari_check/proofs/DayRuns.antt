@@ -13,7 +13,9 @@ use Rattle.mari_check.specs.Day.{IsFreeIn}
 use Rattle.mari_check.specs.Faults.{IsFreeOf, IsLeast, fault_number}
 
 -- a published block whose run isn't there
-pub past-last : (books : Books) (budget : ℕ) (blocks : List Block) (b : FullBlock) → length books.runs.runs < run_after blocks → IsLeast (IsFreeIn books budget blocks (block.Published b)) fault.Heading
+pub past-last : (books : Books) (budget : ℕ) (blocks : List Block) (b : FullBlock)
+    → length books.runs.runs < run_after blocks
+    → IsLeast (IsFreeIn books budget blocks (block.Published b)) fault.Heading
 past-last books budget blocks b past = record { there = λ h. omega (arith, h.0, past); none_lower = λ other less. absurd (below other less) }
   where
     below : (other : Fault) → fault_number other < 1 → ⊥

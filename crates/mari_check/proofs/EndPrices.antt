@@ -83,12 +83,15 @@ module _ (m : Market) (a : Activation) (v : IsValid m) (f : IsFeasible m a) wher
     fall-along y _ (further x z r l) = omega (arith, ints, fall-along y x r, leads_sound m a qs z x agrees.borders (falling_from m a z x l))
 
     -- no consistent price is lower than that of the least height, nor higher than that of the greatest
-    no-lower : (bounds vs : List ℕ) (z : ℕ) → ((y : ℕ) → y < length bounds → IsTightest Least m.orders a.mw y bounds) → HasSource (LeadsTo Rising m.borders a.flow) bounds vs z → (pos (slice_index vs z) -ℤ CAP) ≤ℤ price_at qs z
+    no-lower : (bounds vs : List ℕ) (z : ℕ) → ((y : ℕ) → y < length bounds → IsTightest Least m.orders a.mw y bounds)
+        → HasSource (LeadsTo Rising m.borders a.flow) bounds vs z → (pos (slice_index vs z) -ℤ CAP) ≤ℤ price_at qs z
     no-lower bounds vs z t s =
         let own = lower-from s.from (slice_index bounds s.from) (t s.from s.there).bound in
         omega (arith, ints, s.value, lower_kept m a qs s.from (pos (slice_index bounds s.from) -ℤ CAP) (price_in_cap m qs agrees.prices s.from) agrees.orders own, rise-along s.from z s.reaches)
 
-    no-higher : (bounds vs : List ℕ) (z : ℕ) → ((y : ℕ) → y < length bounds → IsTightest Greatest m.orders a.mw y bounds) → HasSource (LeadsTo Falling m.borders a.flow) bounds vs z → price_at qs z ≤ℤ (CAP -ℤ pos (slice_index vs z))
+    no-higher : (bounds vs : List ℕ) (z : ℕ)
+        → ((y : ℕ) → y < length bounds → IsTightest Greatest m.orders a.mw y bounds)
+        → HasSource (LeadsTo Falling m.borders a.flow) bounds vs z → price_at qs z ≤ℤ (CAP -ℤ pos (slice_index vs z))
     no-higher bounds vs z t s =
         let own = upper-from s.from (slice_index bounds s.from) (t s.from s.there).bound in
         omega (arith, ints, s.value, upper_kept m a qs s.from (CAP -ℤ pos (slice_index bounds s.from)) (price_in_cap m qs agrees.prices s.from) agrees.orders own, fall-along s.from z s.reaches)
@@ -124,7 +127,9 @@ module _ (m : Market) (a : Activation) (v : IsValid m) (f : IsFeasible m a) wher
 
   module _ (bounds vs : List ℕ) (ps : List Cents) (some : (qs : List Cents) × IsConsistent m a qs) (long : length bounds ≡ m.zones) where
     -- the prices at an end
-    pub end-prices : (end : End) → ((y : ℕ) → y < m.zones → IsTightest end m.orders a.mw y bounds) → IsSpread (LeadsTo (along_of end) m.borders a.flow) bounds vs → ArePricesOf end vs ps → AreEndPrices end m a ps
+    pub end-prices : (end : End) → ((y : ℕ) → y < m.zones → IsTightest end m.orders a.mw y bounds)
+        → IsSpread (LeadsTo (along_of end) m.borders a.flow) bounds vs → ArePricesOf end vs ps
+        → AreEndPrices end m a ps
     end-prices Least t s p =
         let each : (y : ℕ) → y < length bounds → IsTightest Least m.orders a.mw y bounds = λ y l. t y (omega (arith, l, long)) in
         let agree = keeps_consistent m a ps v f (least-keeps bounds vs ps some.0 some.1 long each s p) in

@@ -122,7 +122,8 @@ module _ (books : Books) (p : Publication) (head : HasHead books p.date p.quarte
       subst (IsVerdict books p) is (block-fault blocks same i x l at checked run number states.0 states.1)
 
   module _ (checked : IsChecked books p.blocks kept) where
-    pub is-missing : (run number : ℕ) → kept.progress.published + kept.unpublished < length books.runs.runs → run ≡ kept.progress.published + kept.unpublished + 1 → number ≡ 1 → IsFirstFault books p run number
+    pub is-missing : (run number : ℕ) → kept.progress.published + kept.unpublished < length books.runs.runs
+        → run ≡ kept.progress.published + kept.unpublished + 1 → number ≡ 1 → IsFirstFault books p run number
     is-missing run number less is e =
         inr (inr (inl (record {
           head = head;

@@ -28,7 +28,8 @@ at-none [] place e = refl
 at-none (n ∷ ns) zero e = absurd (cc e)
 at-none (n ∷ ns) (suc place) e = at-none ns place e
 
-pub named-some : (name bytes own : List ℕ) (names : List (List ℕ)) (place : ℕ) (b : Bool) → bytes ≡ name → Some own ≡ slice_get names place → b ≡ bytes_eq bytes own → (b ≡ true) ↔ (name ≡ name_at names place)
+pub named-some : (name bytes own : List ℕ) (names : List (List ℕ)) (place : ℕ) (b : Bool) → bytes ≡ name
+    → Some own ≡ slice_get names place → b ≡ bytes_eq bytes own → (b ≡ true) ↔ (name ≡ name_at names place)
 named-some name bytes own names place b e f test = (
   λ t. sym e ∙ (bytes_eq-Decides bytes own).0 (sym test ∙ t) ∙ at-some names place own f,
   λ h. test ∙ (bytes_eq-Decides bytes own).1 (e ∙ h ∙ sym (at-some names place own f)),
@@ -54,7 +55,9 @@ module _ (books : Books) (made : RunMarket) (b : FullBlock) where
   pub bids-of : NamesMarket books made b → AllZip (NamesBid books.bids.ids) b.bids made.bids
   bids-of h = zip-from (NamesBid books.bids.ids) (λ (l : BidLine). l.id) (λ (l : BidLine). l.id) (name_at books.bids.ids) (name_at books.bids.ids) (λ l n e f. e) b.bids made.bids h.lines.bids h.lines.bids
 
-  pub names-of : AllZip NamesZone b.zones books.zones.zones → AllZip (NamesEnds books.zones.zones) b.borders books.borders.borders → AllZip (NamesBid books.bids.ids) b.bids made.bids → length b.demands ≡ made.demands → NamesMarket books made b
+  pub names-of : AllZip NamesZone b.zones books.zones.zones
+      → AllZip (NamesEnds books.zones.zones) b.borders books.borders.borders
+      → AllZip (NamesBid books.bids.ids) b.bids made.bids → length b.demands ≡ made.demands → NamesMarket books made b
   names-of zones borders bids demands = record {
     lines = record {
       zones = zip-to NamesZone (λ (l : ZoneLine). l.name) (λ (n : List ℕ). n) (λ l n e. e) b.zones books.zones.zones zones ∙ map-itself books.zones.zones;

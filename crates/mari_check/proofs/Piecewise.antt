@@ -72,7 +72,8 @@ end-no-fetch books text (Err (OfFetch f)) g h w = h
 end-no-fetch books text (Err NoMemory) g h w = w
 
 -- what is settled at the end
-pub end-verdict : {T : Type 0} (done : T) (books : Books) (text : List ℕ) (parts : List Part) (day : DayCheck) (found : Option Verdict) (v : Verdict) → IsEnd text parts (Ok done) → IsVerdictSoFar books parts day found → found ≡ Some v
+pub end-verdict : {T : Type 0} (done : T) (books : Books) (text : List ℕ) (parts : List Part) (day : DayCheck) (found : Option Verdict) (v : Verdict)
+    → IsEnd text parts (Ok done) → IsVerdictSoFar books parts day found → found ≡ Some v
     → (p : Publication) × IsText text p × IsVerdict books p v
 end-verdict done books text parts day None v e f is = absurd cc
 end-verdict done books text parts day (Some w) v e f is =
@@ -83,7 +84,9 @@ end-verdict done books text parts day (Some w) v e f is =
 -- ---- what the reader gives
 
 -- there is no further part: all that has come is taken
-pub all-read : (books : Books) (text : List ℕ) (parts : List Part) (stream : Stream) (o : Option Part) → o ≡ None → IsNext text parts (Ok o) → ComesFrom stream.reader.come text (with_part parts o) → stream.reader.waits ≡ found_none (Ok o)
+pub all-read : (books : Books) (text : List ℕ) (parts : List Part) (stream : Stream) (o : Option Part) → o ≡ None
+    → IsNext text parts (Ok o) → ComesFrom stream.reader.come text (with_part parts o)
+    → stream.reader.waits ≡ found_none (Ok o)
     → IsVerdictSoFar books parts stream.day stream.found → IsAllRead books text stream
 all-read books text parts stream (Some x) e n s w f = absurd cc
 all-read books text parts stream None e n s w f = record { parts = parts; read = record { stands = s; found = f }; waits = w; no_fault = n.1 }
@@ -179,7 +182,8 @@ open-fault T (Some page) rest fetch.Missing h = absurd cc
 open-fault T (Some page) rest fetch.TooLong h = absurd h
 open-fault T (Some page) rest fetch.Memory h = tt
 
-pub end-states : (books : Books) (page : Option (List ℕ)) (bytes : List ℕ) (result : Result Verdict StreamFault) → page ≡ Some bytes → length bytes ≤ most_given → EndStates books bytes result → StreamStates books page result
+pub end-states : (books : Books) (page : Option (List ℕ)) (bytes : List ℕ) (result : Result Verdict StreamFault)
+    → page ≡ Some bytes → length bytes ≤ most_given → EndStates books bytes result → StreamStates books page result
 end-states books page bytes result e short h = subst (λ p. StreamStates books p result) (sym e) (own result h)
   where
     own : (r : Result Verdict StreamFault) → EndStates books bytes r → StreamStates books (Some bytes) r
@@ -216,13 +220,15 @@ fault-same books (Ok p) f (inr e) = absurd cc
 fault-same books (Err g) f (inl e) = inl cc
 fault-same books (Err g) f (inr e) = inr cc
 
-verdict-same : (books : Books) (answer : Result Publication TextFault) (p : Publication) (v : Verdict) → IsVerdict books p v → (answer ≡ Ok p) ⊎ (answer ≡ Err fault.Memory) → SameAsRead books answer (Ok v)
+verdict-same : (books : Books) (answer : Result Publication TextFault) (p : Publication) (v : Verdict)
+    → IsVerdict books p v → (answer ≡ Ok p) ⊎ (answer ≡ Err fault.Memory) → SameAsRead books answer (Ok v)
 verdict-same books (Ok q) p v h (inl e) = let same : p ≡ q = cc in subst (λ x. IsVerdict books x v) same h
 verdict-same books (Ok q) p v h (inr e) = absurd cc
 verdict-same books (Err g) p v h (inl e) = absurd cc
 verdict-same books (Err g) p v h (inr e) = cc
 
-pub same-as-read : (books : Books) (page : List ℕ) (answer : Result Publication TextFault) (result : Result Verdict StreamFault) → IsOutcome page answer → StreamStates books (Some page) result → SameAsRead books answer result
+pub same-as-read : (books : Books) (page : List ℕ) (answer : Result Publication TextFault) (result : Result Verdict StreamFault)
+    → IsOutcome page answer → StreamStates books (Some page) result → SameAsRead books answer result
 same-as-read books page answer (Ok v) o (short, (p, read, is)) = verdict-same books answer p v is (text_answer page answer o p read)
 same-as-read books page answer (Err (OfText f)) o h = fault-same books answer f (same-fault page answer f o h)
 same-as-read books page answer (Err (OfFetch f)) o h = nothing-said answer f
@@ -236,8 +242,11 @@ same-as-read books page answer (Err NoMemory) o h = nothing-said answer
     nothing-said (Ok p) = tt
     nothing-said (Err e) = tt
 
-pub states-whole : (books : Books) (reported : Option (List ℕ)) (page : List ℕ) (answer : Result Publication TextFault) (result : Result Verdict StreamFault) → StreamStates books reported result → reported ≡ Some page → IsOutcome page answer → SameAsRead books answer result
+pub states-whole : (books : Books) (reported : Option (List ℕ)) (page : List ℕ) (answer : Result Publication TextFault) (result : Result Verdict StreamFault)
+    → StreamStates books reported result → reported ≡ Some page → IsOutcome page answer
+    → SameAsRead books answer result
 states-whole books reported page answer result states is o = same-as-read books page answer result o (subst (λ p. StreamStates books p result) is states)
 
-pub states-same : (books : Books) (reported : Option (List ℕ)) (page : List ℕ) (answer : Result Publication TextFault) (f : StreamFault) → FaultStates reported f → reported ≡ Some page → IsOutcome page answer → SameAsRead books answer (Err f)
+pub states-same : (books : Books) (reported : Option (List ℕ)) (page : List ℕ) (answer : Result Publication TextFault) (f : StreamFault)
+    → FaultStates reported f → reported ≡ Some page → IsOutcome page answer → SameAsRead books answer (Err f)
 states-same books reported page answer f states is o = states-whole books reported page answer (Err f) states is o

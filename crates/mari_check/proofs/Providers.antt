@@ -37,7 +37,9 @@ module _ (books : Books) (made : RunMarket) (also : Option (List Cents)) (b : Fu
   same2 : {Z : Type 0} (f : Activation → List Cents → Z) → f a ps ≡ f (activation_of b) (prices_of b)
   same2 f = ap (λ x. f x ps) reported ∙ ap (f (activation_of b)) priced
 
-  pub states-is : ledger.rents ≡ rents_of made.market a ps → ledger.operators ≡ operator_lines books.zones made.market a ps → ledger.providers ≡ provider_amounts books.bids made.bids a ps (scheduled_or ps also)
+  pub states-is : ledger.rents ≡ rents_of made.market a ps
+      → ledger.operators ≡ operator_lines books.zones made.market a ps
+      → ledger.providers ≡ provider_amounts books.bids made.bids a ps (scheduled_or ps also)
       → places ≡ providers_among books.bids.bids made.bids → (t : Bool) → (t ≡ true) ↔ StatesLedger books b ledger places → (t ≡ true) ↔ HasLedger books made also b
   states-is rents operators providers listed t test =
       let own_rents : ledger.rents ≡ rents_of made.market (activation_of b) (prices_of b) = rents ∙ same2 (rents_of made.market) in
@@ -50,7 +52,9 @@ module _ (books : Books) (made : RunMarket) (also : Option (List Cents)) (b : Fu
       )
 
 -- what the block adds to its day
-pub run-of : (books : Books) (made : RunMarket) (also : Option (List Cents)) (b : FullBlock) (ledger : Ledger) (a : Activation) (ps : Prices) → a ≡ activation_of b → ps.cents ≡ prices_of b → IsMarketOf books made → IsConsistent made.market (activation_of b) (prices_of b)
+pub run-of : (books : Books) (made : RunMarket) (also : Option (List Cents)) (b : FullBlock) (ledger : Ledger) (a : Activation) (ps : Prices)
+    → a ≡ activation_of b → ps.cents ≡ prices_of b → IsMarketOf books made
+    → IsConsistent made.market (activation_of b) (prices_of b)
     → HasLedger books made also b → ledger.rents ≡ rents_of made.market a ps.cents → ledger.operators ≡ operator_lines books.zones made.market a ps.cents → ledger.providers ≡ provider_amounts books.bids made.bids a ps.cents (scheduled_or ps.cents also)
     → IsBalancedLedger ledger → IsRunOf books made also b (record { made = made; activation = a; prices = ps; ledger = ledger })
 run-of books made also b ledger a ps reported priced of agrees h rents operators providers balanced = record {

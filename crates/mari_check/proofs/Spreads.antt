@@ -80,7 +80,9 @@ pub record Over (along : Along) (b : Border) (f : ℤ) (old new : List ℕ) (cha
   pub settled : changed ≡ false → (new ≡ old) × IsClosedOver along new b f
   pub less : changed ≡ true → room_of new < room_of old
 
-closed-over : (along : Along) (b : Border) (f : ℤ) (vs : List ℕ) → (LeadsOn along b f → get_or vs b.from 0 ≤ get_or vs b.to 0) → (LeadsBack along b f → get_or vs b.to 0 ≤ get_or vs b.from 0) → IsClosedOver along vs b f
+closed-over : (along : Along) (b : Border) (f : ℤ) (vs : List ℕ)
+    → (LeadsOn along b f → get_or vs b.from 0 ≤ get_or vs b.to 0)
+    → (LeadsBack along b f → get_or vs b.to 0 ≤ get_or vs b.from 0) → IsClosedOver along vs b f
 closed-over along b f vs on back y z (inl l) = omega (arith, on l.2, ap (λ k. get_or vs k 0) l.0, ap (λ k. get_or vs k 0) l.1)
 closed-over along b f vs on back y z (inr l) = omega (arith, back l.2, ap (λ k. get_or vs k 0) l.0, ap (λ k. get_or vs k 0) l.1)
 
@@ -105,7 +107,9 @@ both-ways-over along b f g read on back old mid new first second lf lt small on_
       less = λ e. by first second e s.less t.less (room-spreads lead old mid small s.spreads) (room-spreads lead mid new small_mid t.spreads);
     }
   where
-    by : (p q : Bool) → (p || q) ≡ true → (p ≡ true → room_of mid < room_of old) → (q ≡ true → room_of new < room_of mid) → room_of mid ≤ room_of old → room_of new ≤ room_of mid → room_of new < room_of old
+    by : (p q : Bool) → (p || q) ≡ true → (p ≡ true → room_of mid < room_of old)
+        → (q ≡ true → room_of new < room_of mid) → room_of mid ≤ room_of old → room_of new ≤ room_of mid
+        → room_of new < room_of old
     by true q e f g l m = omega (arith, f refl, m)
     by false q e f g l m = omega (arith, g e, l)
 
@@ -161,7 +165,8 @@ pub record Going (along : Along) (bs : List Border) (fs : List ℤ) (initial vs 
   pub less : changed ≡ true → room_of vs < room_of initial
 
 -- one border more
-pub going-more : (along : Along) (bs : List Border) (fs : List ℤ) (d : Border) (f : ℤ) (i : ℕ) (initial old new : List ℕ) (was now changed : Bool) → AreSmall initial → i < length bs → i < length fs → f ≡ get_or fs i (pos 0)
+pub going-more : (along : Along) (bs : List Border) (fs : List ℤ) (d : Border) (f : ℤ) (i : ℕ) (initial old new : List ℕ) (was now changed : Bool)
+    → AreSmall initial → i < length bs → i < length fs → f ≡ get_or fs i (pos 0)
     → Going along bs fs initial old i was → Over along (get_or bs i d) f old new changed → (changed ≡ true → now ≡ true) → (changed ≡ false → now ≡ was) → Going along bs fs initial new (i + 1) now
 going-more along bs fs d f i initial old new was now true small l k e g o up kept =
     let lead = LeadsTo along bs fs in

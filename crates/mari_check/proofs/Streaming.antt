@@ -38,7 +38,8 @@ one-more own os ps bs a b (part.Head date quarters budget) e h = h
 one-more own os ps bs a b (part.Block c) e h = (h.0, ap (λ z. z ∷ own) e ∙ ap (λ (zs : List Block). b ∷ zs) h.1)
 one-more own os ps bs a b (part.Totals o p) e h = (ap (λ z. z ∷ own) e ∙ ap (λ (zs : List Block). b ∷ zs) h.0, h.1, h.2)
 
-after : (own : List Block) (os : List MoneyLine) (ps : List AmountLine) (bs : List Block) (x : Part) (more : List Part) → map part.Block own ++ part.Totals os ps ∷ [] ≡ map part.Block bs ++ x ∷ more → After own os ps bs x
+after : (own : List Block) (os : List MoneyLine) (ps : List AmountLine) (bs : List Block) (x : Part) (more : List Part)
+    → map part.Block own ++ part.Totals os ps ∷ [] ≡ map part.Block bs ++ x ∷ more → After own os ps bs x
 after [] os ps [] (part.Head date quarters budget) more e = absurd cc
 after [] os ps [] (part.Block b) more e = absurd cc
 after [] os ps [] (part.Totals o p) more e = (refl, cc, cc)
@@ -89,7 +90,8 @@ first books (part.Head d q b ∷ rest) day date quarters budget o c =
 first books (part.Block b ∷ rest) day date quarters budget o c = absurd o
 first books (part.Totals os ps ∷ rest) day date quarters budget o c = absurd o
 
-pub first-checked : (books : Books) (parts : List Part) (day : DayCheck) (x : Part) (date : List ℕ) (quarters budget : ℕ) → x ≡ part.Head date quarters budget → IsOpen books parts day → Comes parts x → IsChecked books [] day
+pub first-checked : (books : Books) (parts : List Part) (day : DayCheck) (x : Part) (date : List ℕ) (quarters budget : ℕ)
+    → x ≡ part.Head date quarters budget → IsOpen books parts day → Comes parts x → IsChecked books [] day
 first-checked books parts day x date quarters budget is o c = subst (λ (ps : List Part). IsOpen books ps day) (first books parts day date quarters budget o (subst (Comes parts) is c)) o
 
 module _ (books : Books) (parts : List Part) (old : DayCheck) (fine : IsOpen books parts old) (x : Part) (c : Comes parts x) (date : List ℕ) (quarters budget : ℕ) (is : x ≡ part.Head date quarters budget)

@@ -51,13 +51,17 @@ module _ (m : Market) (items : List TreeItem) where
     full-fails x Branch ws h = h
 
     -- a branch where every gate is decided
-    pub branch-fails : (x : Prefix) (at : Option Prefix) → at ≡ Some x → LeavesWords m AnyLeaf ([] ∷ []) (take i items) (left_at m.gates at) → IsFullBranch m x (get_or items i d) → (false ≡ true) ↔ HasShape m items
+    pub branch-fails : (x : Prefix) (at : Option Prefix) → at ≡ Some x
+        → LeavesWords m AnyLeaf ([] ∷ []) (take i items) (left_at m.gates at) → IsFullBranch m x (get_or items i d)
+        → (false ≡ true) ↔ HasShape m items
     branch-fails x at is before full =
         fails-at (left_at m.gates (Some x)) (let P : Option Prefix → Type 0 = λ o. LeavesWords m AnyLeaf ([] ∷ []) (take i items) (left_at m.gates o) in subst P is before)
         (full-fails x (get_or items i d) (waiting_after m.gates (word_of x)) full)
 
   -- after the last item
-  pub at-end : (i : ℕ) (at : Option Prefix) (none : Bool) → length items ≤ i → LeavesWords m AnyLeaf ([] ∷ []) (take i items) (left_at m.gates at) → is_some at ≡ not none → (none ≡ true) ↔ HasShape m items
+  pub at-end : (i : ℕ) (at : Option Prefix) (none : Bool) → length items ≤ i
+      → LeavesWords m AnyLeaf ([] ∷ []) (take i items) (left_at m.gates at) → is_some at ≡ not none
+      → (none ≡ true) ↔ HasShape m items
   at-end i None true l before e = (λ t. walk_ends m AnyLeaf items i None l refl before, λ s. refl)
   at-end i None false l before e = absurd (cc e)
   at-end i (Some x) true l before e = absurd (cc e)

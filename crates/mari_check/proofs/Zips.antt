@@ -10,10 +10,14 @@ use Rattle.mari_settle.specs.Lines.{map_along}
 use Rattle.mari_market.proofs.Lists.{fails_at, passes_more}
 
 -- a loop that tests each pair, whose first item is read as x
-pub pass : {X Y : Type 0} (P : X → Y → Type 0) (xs : List X) (ys : List Y) (i : ℕ) (x : X) (e y : Y) (b : Bool) → i < length xs → i < length ys → x ≡ get_or xs i x → y ≡ get_or ys i e → ((b ≡ true) ↔ P x y) → b ≡ true → AllZip P (take i xs) (take i ys) → AllZip P (take (i + 1) xs) (take (i + 1) ys)
+pub pass : {X Y : Type 0} (P : X → Y → Type 0) (xs : List X) (ys : List Y) (i : ℕ) (x : X) (e y : Y) (b : Bool)
+    → i < length xs → i < length ys → x ≡ get_or xs i x → y ≡ get_or ys i e → ((b ≡ true) ↔ P x y) → b ≡ true
+    → AllZip P (take i xs) (take i ys) → AllZip P (take (i + 1) xs) (take (i + 1) ys)
 pass {X} P xs ys i x e y b h l at read test is all = passes_more P xs ys i x e y b h l read (subst (λ (w : X). (b ≡ true) ↔ P w y) at test) is all
 
-pub fail : {X Y : Type 0} (P : X → Y → Type 0) (xs : List X) (ys : List Y) (i : ℕ) (x : X) (e y : Y) (b : Bool) → i < length xs → x ≡ get_or xs i x → y ≡ get_or ys i e → ((b ≡ true) ↔ P x y) → b ≡ false → (false ≡ true) ↔ AllZip P xs ys
+pub fail : {X Y : Type 0} (P : X → Y → Type 0) (xs : List X) (ys : List Y) (i : ℕ) (x : X) (e y : Y) (b : Bool)
+    → i < length xs → x ≡ get_or xs i x → y ≡ get_or ys i e → ((b ≡ true) ↔ P x y) → b ≡ false
+    → (false ≡ true) ↔ AllZip P xs ys
 fail {X} P xs ys i x e y b h at read test is = fails_at P xs ys i x e y b h read (subst (λ (w : X). (b ≡ true) ↔ P w y) at test) is
 
 pub uneven : {X Y : Type 0} (P : X → Y → Type 0) (xs : List X) (ys : List Y) → (length ys ≡ length xs → ⊥) → (false ≡ true) ↔ AllZip P xs ys
@@ -31,7 +35,9 @@ zip-to R f g h [] (y ∷ ys) a = absurd a
 zip-to R f g h (x ∷ xs) [] a = absurd a
 zip-to R f g h (x ∷ xs) (y ∷ ys) a = ap (λ z. z ∷ map f xs) (h x y a.0) ∙ ap (λ zs. g y ∷ zs) (zip-to R f g h xs ys a.1)
 
-pub zip-from : {X Y Z : Type 0} (R : X → Y → Type 0) (f1 f2 : X → Z) (g1 g2 : Y → Z) → ((x : X) (y : Y) → f1 x ≡ g1 y → f2 x ≡ g2 y → R x y) → (xs : List X) (ys : List Y) → map f1 xs ≡ map g1 ys → map f2 xs ≡ map g2 ys → AllZip R xs ys
+pub zip-from : {X Y Z : Type 0} (R : X → Y → Type 0) (f1 f2 : X → Z) (g1 g2 : Y → Z)
+    → ((x : X) (y : Y) → f1 x ≡ g1 y → f2 x ≡ g2 y → R x y) → (xs : List X) (ys : List Y) → map f1 xs ≡ map g1 ys
+    → map f2 xs ≡ map g2 ys → AllZip R xs ys
 zip-from R f1 f2 g1 g2 h [] [] d e = tt
 zip-from R f1 f2 g1 g2 h [] (y ∷ ys) d e = absurd (cc d)
 zip-from R f1 f2 g1 g2 h (x ∷ xs) [] d e = absurd (cc d)
@@ -56,7 +62,8 @@ same-zip {X} R h xs ys e = let all = map-itself xs ∙ e ∙ sym (map-itself ys)
 pub same-by : {X : Type 0} (R : X → X → Type 0) → ((x y : X) → R x y → x ≡ y) → ((x y : X) → x ≡ y → R x y) → (xs ys : List X) (b : Bool) → (b ≡ true) ↔ AllZip R xs ys → (b ≡ true) ↔ (xs ≡ ys)
 same-by R to from xs ys b test = (λ t. zip-same R to xs ys (test.0 t), λ e. test.1 (same-zip R from xs ys e))
 
-pub along-at : {X Y Z : Type 0} (f : X → Y → Z) (xs : List X) (ys : List Y) (i : ℕ) (c : X) (d : Y) (e : Z) → i < length xs → i < length ys → f (get_or xs i c) (get_or ys i d) ≡ get_or (map_along f xs ys) i e
+pub along-at : {X Y Z : Type 0} (f : X → Y → Z) (xs : List X) (ys : List Y) (i : ℕ) (c : X) (d : Y) (e : Z)
+    → i < length xs → i < length ys → f (get_or xs i c) (get_or ys i d) ≡ get_or (map_along f xs ys) i e
 along-at f [] ys i c d e l m = absurd (omega arith)
 along-at f (x ∷ xs) [] i c d e l m = absurd (omega arith)
 along-at f (x ∷ xs) (y ∷ ys) zero c d e l m = refl

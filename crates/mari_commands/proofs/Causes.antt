@@ -32,7 +32,8 @@ module _ (wanted : Status) (no_write : status.WriteFault ≡ wanted → ⊥) (no
   of-day end.Memory done other f = no_memory f
 
 -- the values of limits end so since the shelf gave this answer
-values-failed : (lines : List ℕ) (end : ValueEnd) (before after : Option (List ℕ)) (result : Status) → ReportsValues lines end before after result → result ≡ status.ReadFault → IsPageEnd fetch.Failed end
+values-failed : (lines : List ℕ) (end : ValueEnd) (before after : Option (List ℕ)) (result : Status)
+    → ReportsValues lines end before after result → result ≡ status.ReadFault → IsPageEnd fetch.Failed end
 values-failed lines (values.Fetch fetch.Failed) before after result r e = refl
 values-failed lines (values.Fetch fetch.Missing) before after result r e = absurd (other-text status.ReadFault (λ f. absurd (cc f)) (λ f. absurd (cc f)) _ _ before after result (λ f. absurd (cc f)) r e)
 values-failed lines (values.Fetch fetch.TooLong) before after result r e = absurd (other-text status.ReadFault (λ f. absurd (cc f)) (λ f. absurd (cc f)) _ _ before after result (λ f. absurd (cc f)) r e)
@@ -44,7 +45,8 @@ values-failed lines (values.Text (text_fault.BadOrder n)) before after result r 
 values-failed lines (values.Text (text_fault.Truncated n)) before after result r e = absurd (other-text status.ReadFault (λ f. absurd (cc f)) (λ f. absurd (cc f)) _ _ before after result (λ f. absurd (cc f)) r e)
 values-failed lines (values.Text text_fault.Memory) before after result r e = absurd (other-text status.ReadFault (λ f. absurd (cc f)) (λ f. absurd (cc f)) _ _ before after result (λ f. absurd (cc f)) r e)
 
-failed : (pages : Option Pages) (late : Type 0) (o : Outcome) (before after : Option (List ℕ)) (result : Status) → Reported pages late o before after result → result ≡ status.ReadFault → IsNoPage fetch.Failed o ⊎ IsOwn o
+failed : (pages : Option Pages) (late : Type 0) (o : Outcome) (before after : Option (List ℕ)) (result : Status)
+    → Reported pages late o before after result → result ≡ status.ReadFault → IsNoPage fetch.Failed o ⊎ IsOwn o
 failed pages late NoCommand before after result r e = absurd (other-text status.ReadFault (λ f. absurd (cc f)) (λ f. absurd (cc f)) _ _ before after result (λ f. absurd (cc f)) r e)
 failed pages late (Feeds folder) before after result r e = inr tt
 failed pages late (Joins quarters) before after result r e = inr tt
@@ -59,7 +61,8 @@ failed pages late (NoPage k fetch.Memory) before after result r e = let f = sym 
 failed pages late (Refused refusal) before after result r e = absurd (other-text status.ReadFault (λ f. absurd (cc f)) (λ f. absurd (cc f)) _ _ before after result (λ f. absurd (cc f)) r e)
 failed pages late NoMemory before after result r e = let f = sym r.0 ∙ e in absurd (cc f)
 
-values-missing : (lines : List ℕ) (end : ValueEnd) (before after : Option (List ℕ)) (result : Status) → ReportsValues lines end before after result → result ≡ status.Missing → IsPageEnd fetch.Missing end
+values-missing : (lines : List ℕ) (end : ValueEnd) (before after : Option (List ℕ)) (result : Status)
+    → ReportsValues lines end before after result → result ≡ status.Missing → IsPageEnd fetch.Missing end
 values-missing lines (values.Fetch fetch.Failed) before after result r e = absurd (other-text status.Missing (λ f. absurd (cc f)) (λ f. absurd (cc f)) _ _ before after result (λ f. absurd (cc f)) r e)
 values-missing lines (values.Fetch fetch.Missing) before after result r e = refl
 values-missing lines (values.Fetch fetch.TooLong) before after result r e = absurd (other-text status.Missing (λ f. absurd (cc f)) (λ f. absurd (cc f)) _ _ before after result (λ f. absurd (cc f)) r e)
@@ -71,7 +74,8 @@ values-missing lines (values.Text (text_fault.BadOrder n)) before after result r
 values-missing lines (values.Text (text_fault.Truncated n)) before after result r e = absurd (other-text status.Missing (λ f. absurd (cc f)) (λ f. absurd (cc f)) _ _ before after result (λ f. absurd (cc f)) r e)
 values-missing lines (values.Text text_fault.Memory) before after result r e = absurd (other-text status.Missing (λ f. absurd (cc f)) (λ f. absurd (cc f)) _ _ before after result (λ f. absurd (cc f)) r e)
 
-missing : (pages : Option Pages) (late : Type 0) (o : Outcome) (before after : Option (List ℕ)) (result : Status) → Reported pages late o before after result → result ≡ status.Missing → IsNoPage fetch.Missing o ⊎ IsOwn o
+missing : (pages : Option Pages) (late : Type 0) (o : Outcome) (before after : Option (List ℕ)) (result : Status)
+    → Reported pages late o before after result → result ≡ status.Missing → IsNoPage fetch.Missing o ⊎ IsOwn o
 missing pages late NoCommand before after result r e = absurd (other-text status.Missing (λ f. absurd (cc f)) (λ f. absurd (cc f)) _ _ before after result (λ f. absurd (cc f)) r e)
 missing pages late (Feeds folder) before after result r e = inr tt
 missing pages late (Joins quarters) before after result r e = inr tt
@@ -86,7 +90,8 @@ missing pages late (NoPage k fetch.Memory) before after result r e = let f = sym
 missing pages late (Refused refusal) before after result r e = absurd (other-text status.Missing (λ f. absurd (cc f)) (λ f. absurd (cc f)) _ _ before after result (λ f. absurd (cc f)) r e)
 missing pages late NoMemory before after result r e = let f = sym r.0 ∙ e in absurd (cc f)
 
-values-too-long : (lines : List ℕ) (end : ValueEnd) (before after : Option (List ℕ)) (result : Status) → ReportsValues lines end before after result → result ≡ status.TooLong → IsPageEnd fetch.TooLong end
+values-too-long : (lines : List ℕ) (end : ValueEnd) (before after : Option (List ℕ)) (result : Status)
+    → ReportsValues lines end before after result → result ≡ status.TooLong → IsPageEnd fetch.TooLong end
 values-too-long lines (values.Fetch fetch.Failed) before after result r e = absurd (other-text status.TooLong (λ f. absurd (cc f)) (λ f. absurd (cc f)) _ _ before after result (λ f. absurd (cc f)) r e)
 values-too-long lines (values.Fetch fetch.Missing) before after result r e = absurd (other-text status.TooLong (λ f. absurd (cc f)) (λ f. absurd (cc f)) _ _ before after result (λ f. absurd (cc f)) r e)
 values-too-long lines (values.Fetch fetch.TooLong) before after result r e = refl
@@ -98,7 +103,8 @@ values-too-long lines (values.Text (text_fault.BadOrder n)) before after result 
 values-too-long lines (values.Text (text_fault.Truncated n)) before after result r e = absurd (other-text status.TooLong (λ f. absurd (cc f)) (λ f. absurd (cc f)) _ _ before after result (λ f. absurd (cc f)) r e)
 values-too-long lines (values.Text text_fault.Memory) before after result r e = absurd (other-text status.TooLong (λ f. absurd (cc f)) (λ f. absurd (cc f)) _ _ before after result (λ f. absurd (cc f)) r e)
 
-too-long : (pages : Option Pages) (late : Type 0) (o : Outcome) (before after : Option (List ℕ)) (result : Status) → Reported pages late o before after result → result ≡ status.TooLong → IsNoPage fetch.TooLong o ⊎ IsOwn o
+too-long : (pages : Option Pages) (late : Type 0) (o : Outcome) (before after : Option (List ℕ)) (result : Status)
+    → Reported pages late o before after result → result ≡ status.TooLong → IsNoPage fetch.TooLong o ⊎ IsOwn o
 too-long pages late NoCommand before after result r e = absurd (other-text status.TooLong (λ f. absurd (cc f)) (λ f. absurd (cc f)) _ _ before after result (λ f. absurd (cc f)) r e)
 too-long pages late (Feeds folder) before after result r e = inr tt
 too-long pages late (Joins quarters) before after result r e = inr tt

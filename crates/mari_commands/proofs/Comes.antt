@@ -104,7 +104,9 @@ module _ (asked : Option Asked) (pages : Pages) where
   migrated-again (Refused r) refusal part books (second, same) again e = inl (ap (λ x. Refused x) (same ∙ sym e))
   migrated-again NoMemory refusal part books is again e = inr tt
 
-  of-version : (o : Outcome) (refusal : Refusal) (folder : List ℕ) (part : FilePart) (books : Books) → Says asked pages o → asked ≡ Some (Migrate folder part) → HasBooks pages folder books → books.limits ≢ None → refusal ≡ already_two
+  of-version : (o : Outcome) (refusal : Refusal) (folder : List ℕ) (part : FilePart) (books : Books)
+      → Says asked pages o → asked ≡ Some (Migrate folder part) → HasBooks pages folder books → books.limits ≢ None
+      → refusal ≡ already_two
       → Comes (IsRefusal refusal) o
   of-version o refusal folder part books (OfUsage e f) m h again same = absurd (cc)
   of-version o refusal folder part books (OfRefusal g other s k f) m h again same = absurd (one asked pages g folder (Refuses other) (Gives books) s (reads asked _ folder m refl) k h)
@@ -247,7 +249,9 @@ module _ (asked : Option Asked) (pages : Pages) where
   feed-comes o folder (Starves e) c = inr (subst IsExcused (sym e) tt)
 
   -- a publication that is valued
-  pub values-come : (o : Outcome) (folder : List ℕ) (more : ℕ) (books : Books) → Says asked pages o → asked ≡ Some (Value folder more) → HasBooks pages folder books → IsReportedValues books more (page_of pages (publication_path folder)) o ⊎ IsExcused o
+  pub values-come : (o : Outcome) (folder : List ℕ) (more : ℕ) (books : Books) → Says asked pages o
+      → asked ≡ Some (Value folder more) → HasBooks pages folder books
+      → IsReportedValues books more (page_of pages (publication_path folder)) o ⊎ IsExcused o
   values-come o folder more books (OfUsage e f) c h = absurd (cc)
   values-come o folder more books (OfRefusal g other s k f) c h = absurd (one asked pages g folder (Refuses other) (Gives books) s (reads asked _ folder c refl) k h)
   values-come o folder more books (OfGap g n gap s k f) c h = absurd (one asked pages g folder (Lacks n gap) (Gives books) s (reads asked _ folder c refl) k h)
@@ -319,7 +323,9 @@ module _ (asked : Option Asked) (pages : Pages) where
   migrated-comes o (Fails x n y e) m = failed IsAText o n e
   migrated-comes o (Starves e) m = starving IsAText o e
 
-  pub day-comes : (o : Outcome) (way : Way) (folder : List ℕ) (nodes workers : ℕ) (books : Books) → Says asked pages o → asked ≡ Some (command_by way folder nodes workers) → HasBooks pages folder books → Comes (IsDayOf way books nodes) o
+  pub day-comes : (o : Outcome) (way : Way) (folder : List ℕ) (nodes workers : ℕ) (books : Books) → Says asked pages o
+      → asked ≡ Some (command_by way folder nodes workers) → HasBooks pages folder books
+      → Comes (IsDayOf way books nodes) o
   day-comes o way folder nodes workers books (OfUsage e f) c h = absurd (cc)
   day-comes o way folder nodes workers books (OfRefusal g other s k f) c h = absurd (one asked pages g folder (Refuses other) (Gives books) s (reads asked _ folder c (folder_by way folder nodes workers)) k h)
   day-comes o way folder nodes workers books (OfGap g n gap s k f) c h = absurd (one asked pages g folder (Lacks n gap) (Gives books) s (reads asked _ folder c (folder_by way folder nodes workers)) k h)

@@ -142,7 +142,9 @@ module _ (shown : Option Pages) (late : Type 0) (before after : Option (List ℕ
   whole-end way end.WriteFault books nodes w enough = inr (inr (inl refl))
   whole-end way end.Memory books nodes w enough = inr (inr (inr refl))
 
-  whole-answer : (o : Outcome) (way : Way) (books : Books) (nodes : ℕ) → IsEnoughBy way books nodes → Comes (IsDayOf way books nodes) o → Reported shown late o before after result → OrFault (IsStatus status.Done) result
+  whole-answer : (o : Outcome) (way : Way) (books : Books) (nodes : ℕ) → IsEnoughBy way books nodes
+      → Comes (IsDayOf way books nodes) o → Reported shown late o before after result
+      → OrFault (IsStatus status.Done) result
   whole-answer o way books nodes enough (inl (job, e, b, n, w)) r =
       let d = same-report o (Day job) e r in
       let B : Books → Type 0 = λ x. IsEnoughBy job.way x job.nodes in
@@ -153,7 +155,9 @@ module _ (shown : Option Pages) (late : Type 0) (before after : Option (List ℕ
   whole-answer o way books nodes enough (inr x) r = excused (IsStatus status.Done) o x r
 
   -- how the values of limits end, by their page
-  values-report : (o : Outcome) (books : Books) (more : ℕ) (page : Option (List ℕ)) (end : ValueEnd) → IsReportedValues books more page o → IsEndOf books page end → Reported shown late o before after result → OrFault (IsStatus (value_status end)) result
+  values-report : (o : Outcome) (books : Books) (more : ℕ) (page : Option (List ℕ)) (end : ValueEnd)
+      → IsReportedValues books more page o → IsEndOf books page end → Reported shown late o before after result
+      → OrFault (IsStatus (value_status end)) result
   values-report NoCommand books more page end states is r = absurd states
   values-report (Day job) books more page end states is r = absurd states
   values-report (Feeds folder) books more page end states is r = absurd states
@@ -187,7 +191,9 @@ module _ (shown : Option Pages) (late : Type 0) (before after : Option (List ℕ
   fault-report (text_fault.Truncated n) between r = wanted (IsStatus (status.Refused (text_refusal (text_fault.Truncated n)))) between (refused_line (text_refusal (text_fault.Truncated n))) (status.Refused (text_refusal (text_fault.Truncated n))) refl r
   fault-report text_fault.Memory between r = inr (inr (inr r.0))
 
-  fed-refused : (page : List ℕ) (f : TextFault) → IsReportedFault page f → (between : Option (List ℕ)) (end : Result (Unit {0}) FeedStop) → FeedStates (Some page) before between end → ReportsFeed end between after result → OrFault (IsStatus (status.Refused (text_refusal f))) result
+  fed-refused : (page : List ℕ) (f : TextFault) → IsReportedFault page f
+      → (between : Option (List ℕ)) (end : Result (Unit {0}) FeedStop) → FeedStates (Some page) before between end
+      → ReportsFeed end between after result → OrFault (IsStatus (status.Refused (text_refusal f))) result
   fed-refused page f bad between (Ok end) (short, took) r = absurd (no-fault-of-text page took.publication f took.is (reported-first page f bad))
   fed-refused page f bad between (Err (stop.Fetch fetch.Failed)) t r = fetch-failed (IsStatus (status.Refused (text_refusal f))) between r
   fed-refused page f bad between (Err (stop.Fetch fetch.Missing)) t r = absurd t
@@ -200,7 +206,9 @@ module _ (shown : Option Pages) (late : Type 0) (before after : Option (List ℕ
   fed-refused page f bad between (Err stop.Sink) t r = inr (inr (inl r.0))
   fed-refused page f bad between (Err stop.Memory) t r = inr (inr (inr r.0))
 
-  fed-whole : (page : List ℕ) (p : Publication) → IsText page p → length page ≤ most_given → (between : Option (List ℕ)) (end : Result (Unit {0}) FeedStop) → FeedStates (Some page) before between end → ReportsFeed end between after result → OrFault (IsStatus status.Done) result
+  fed-whole : (page : List ℕ) (p : Publication) → IsText page p → length page ≤ most_given
+      → (between : Option (List ℕ)) (end : Result (Unit {0}) FeedStop) → FeedStates (Some page) before between end
+      → ReportsFeed end between after result → OrFault (IsStatus status.Done) result
   fed-whole page p is short between (Ok end) t r = inl r.0
   fed-whole page p is short between (Err (stop.Fetch fetch.Failed)) t r = fetch-failed (IsStatus status.Done) between r
   fed-whole page p is short between (Err (stop.Fetch fetch.Missing)) t r = absurd t
@@ -210,7 +218,9 @@ module _ (shown : Option Pages) (late : Type 0) (before after : Option (List ℕ
   fed-whole page p is short between (Err stop.Sink) t r = inr (inr (inl r.0))
   fed-whole page p is short between (Err stop.Memory) t r = inr (inr (inr r.0))
 
-  fed-gap : (page : Option (List ℕ)) (gap : Gap) → IsFeedGap page gap → (between : Option (List ℕ)) (end : Result (Unit {0}) FeedStop) → FeedStates page before between end → ReportsFeed end between after result → OrFault (IsStatus (gap_status gap)) result
+  fed-gap : (page : Option (List ℕ)) (gap : Gap) → IsFeedGap page gap
+      → (between : Option (List ℕ)) (end : Result (Unit {0}) FeedStop) → FeedStates page before between end
+      → ReportsFeed end between after result → OrFault (IsStatus (gap_status gap)) result
   fed-gap None OverLimit g between end t r = absurd g
   fed-gap (Some page) NotHeld g between end t r = absurd g
   fed-gap None NotHeld g between (Ok end) t r = absurd t

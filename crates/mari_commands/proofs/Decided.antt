@@ -44,7 +44,9 @@ record IsJoined (folder : List ℕ) (first last nodes workers : ℕ) (o : Outcom
   words : blocks_of quarters ≡ Blocks folder first last nodes workers
 
 module _ (asked : Option Asked) (pages : Pages) where
-  joins-comes : (o : Outcome) (folder : List ℕ) (first last nodes workers : ℕ) → Says asked pages o → asked ≡ Some (Blocks folder first last nodes workers) → IsJoined folder first last nodes workers o ⊎ IsExcused o
+  joins-comes : (o : Outcome) (folder : List ℕ) (first last nodes workers : ℕ) → Says asked pages o
+      → asked ≡ Some (Blocks folder first last nodes workers)
+      → IsJoined folder first last nodes workers o ⊎ IsExcused o
   joins-comes o folder first last nodes workers (OfUsage e f) c = absurd (cc)
   joins-comes o folder first last nodes workers (OfRefusal g other s k f) c = absurd (reads_no_folder asked _ g c refl s)
   joins-comes o folder first last nodes workers (OfGap g n gap s k f) c = absurd (reads_no_folder asked _ g c refl s)
@@ -59,7 +61,9 @@ module _ (asked : Option Asked) (pages : Pages) where
   joins-comes o folder first last nodes workers (Starves e) c = inr (subst IsExcused (sym e) tt)
 
 -- within a budget that holds its search tree the joint market is published
-is-published : (books : Books) (first last budget : ℕ) (joint : Joint) (published : Bool) (text : List ℕ) → IsTextOf books first last budget joint published text → (size : ℕ) → HasSize joint.market size → size ≤ budget → published ≡ true
+is-published : (books : Books) (first last budget : ℕ) (joint : Joint) (published : Bool) (text : List ℕ)
+    → IsTextOf books first last budget joint published text → (size : ℕ) → HasSize joint.market size → size ≤ budget
+    → published ≡ true
 is-published books first last budget joint _ _ (Published b is) size sized enough = refl
 is-published books first last budget joint _ _ (Spent count is) size sized enough = absurd (omega (arith, enough, larger_than_budget joint.market size budget sized is.is_spent.larger))
 
@@ -74,7 +78,9 @@ module _ (before after : Option (List ℕ)) (result : Status) where
   of-fault Q n r = of-line Q (file_line (codes "readfault") n) status.ReadFault r (inr (inl refl))
 
   module _ (pages : Pages) (folder : List ℕ) (first last nodes : ℕ) where
-    by-refusal : (refusal : Refusal) → HasQuartersRefusal pages folder first last refusal → (given : Result JointText BooksFault) → QuartersReport pages folder first last nodes given → ReportsQuarters given before after result
+    by-refusal : (refusal : Refusal) → HasQuartersRefusal pages folder first last refusal
+        → (given : Result JointText BooksFault) → QuartersReport pages folder first last nodes given
+        → ReportsQuarters given before after result
         → OrFault (IsStatus (status.Refused refusal)) result
     by-refusal refusal h (Ok printed) t r = absurd (made_accepted pages folder first last t.books t.blocks t.is_text.joint refusal t.has t.is_text.made h)
     by-refusal refusal h (Err (why.Fetch n fetch.Failed)) t r = of-fault (IsStatus (status.Refused refusal)) n r
@@ -86,7 +92,9 @@ module _ (before after : Option (List ℕ)) (result : Status) where
         of-line (IsStatus (status.Refused refusal)) (refused_line other) (status.Refused other) r (inl (ap (λ (x : Refusal). status.Refused x) same))
     by-refusal refusal h (Err why.Memory) t r = inr (inr (inr r.0))
 
-    by-gap : (k : ℕ) (gap : Gap) → HasQuartersGap pages folder k gap → (given : Result JointText BooksFault) → QuartersReport pages folder first last nodes given → ReportsQuarters given before after result → OrFault (IsStatus (gap_status gap)) result
+    by-gap : (k : ℕ) (gap : Gap) → HasQuartersGap pages folder k gap → (given : Result JointText BooksFault)
+        → QuartersReport pages folder first last nodes given → ReportsQuarters given before after result
+        → OrFault (IsStatus (gap_status gap)) result
     by-gap k gap h (Ok printed) t r = absurd (made_held pages folder first last t.books t.blocks k gap t.has h)
     by-gap k gap h (Err (why.Fetch n fetch.Failed)) t r = of-fault (IsStatus (gap_status gap)) n r
     by-gap k gap h (Err (why.Fetch n fetch.Missing)) t r =
@@ -98,7 +106,8 @@ module _ (before after : Option (List ℕ)) (result : Status) where
     by-gap k gap h (Err why.Memory) t r = inr (inr (inr r.0))
 
     module _ (books : Books) (blocks : BlockBook) (joint : Joint) (has : HasBlocks pages folder first last books blocks) (made : joint_in books blocks first last ≡ Ok joint) where
-      by-market : (Q : Status → Type 0) → ((printed : JointText) → QuartersReport pages folder first last nodes (Ok printed) → OrFault Q (if printed.published then status.Done else status.Unpublished))
+      by-market : (Q : Status → Type 0)
+          → ((printed : JointText) → QuartersReport pages folder first last nodes (Ok printed) → OrFault Q (if printed.published then status.Done else status.Unpublished))
           → (given : Result JointText BooksFault) → QuartersReport pages folder first last nodes given → ReportsQuarters given before after result → OrFault Q result
       by-market Q ends (Ok printed) t r = of-line Q printed.text (if printed.published then status.Done else status.Unpublished) r (ends printed t)
       by-market Q ends (Err (why.Fetch n fetch.Failed)) t r = of-fault Q n r
@@ -108,7 +117,9 @@ module _ (before after : Option (List ℕ)) (result : Status) where
       by-market Q ends (Err (why.Refused refusal)) t r = absurd (made_accepted pages folder first last books blocks joint refusal has made t)
       by-market Q ends (Err why.Memory) t r = inr (inr (inr r.0))
 
-      whole : (size : ℕ) → HasSize joint.market size → size ≤ nodes → (printed : JointText) → QuartersReport pages folder first last nodes (Ok printed) → OrFault (IsStatus status.Done) (if printed.published then status.Done else status.Unpublished)
+      whole : (size : ℕ) → HasSize joint.market size → size ≤ nodes → (printed : JointText)
+          → QuartersReport pages folder first last nodes (Ok printed)
+          → OrFault (IsStatus status.Done) (if printed.published then status.Done else status.Unpublished)
       whole size sized enough printed t =
           let one : joint ≡ t.is_text.joint = one_joint pages folder first last books t.books blocks t.blocks joint t.is_text.joint has t.has made t.is_text.made in
           let fits : HasSize t.is_text.joint.market size = subst (λ (j : Joint). HasSize j.market size) one sized in

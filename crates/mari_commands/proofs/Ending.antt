@@ -50,7 +50,9 @@ module _ (asked : Option Asked) where
     starved p = (λ reported t. starved-before p, inl p)
 
     -- a line that is reported
-    of-line : (AsksForFeed asked → ⊥) → (text : List ℕ) (wanted result : Status) → Reports text wanted before after result → (after ≡ then_took before text → Ends wanted) → (TookPart before after text → TookFirstPart asked before after)
+    of-line : (AsksForFeed asked → ⊥) → (text : List ℕ) (wanted result : Status)
+        → Reports text wanted before after result → (after ≡ then_took before text → Ends wanted)
+        → (TookPart before after text → TookFirstPart asked before after)
         → WhereReported pages (λ reported. IsLine asked reported failed text) → Ends result
     of-line none text wanted result (Printed e p) done part is = subst Ends (sym e) (done p)
     of-line none text wanted result (CutOff e p) done part is = let cut : Ends status.WriteFault = (λ reported t. cut-line none text (is reported t) p, part p) in subst Ends (sym e) cut
@@ -60,7 +62,9 @@ module _ (asked : Option Asked) where
     of-nothing result e p = subst Ends (sym e) (starved p)
 
     -- a day that is written whole
-    wrote : (reported : Pages) (job : Job) (published unpublished : ℕ) (whole : Bool) → IsReady job → AreCleared asked reported job.books job.nodes → WroteWholeDay job.books job.nodes published unpublished before after
+    wrote : (reported : Pages) (job : Job) (published unpublished : ℕ) (whole : Bool) → IsReady job
+        → AreCleared asked reported job.books job.nodes
+        → WroteWholeDay job.books job.nodes published unpublished before after
         → (unpublished == 0) ≡ whole → WroteDay asked reported whole before after
     wrote reported job published unpublished whole ready is w e = record {
       text = w.text;
@@ -85,7 +89,9 @@ module _ (asked : Option Asked) where
       clears-it : AsksToClear asked
       clears-it = (folder, job.nodes, job.workers, clear)
 
-      of-done : (published unpublished : ℕ) (whole : Bool) → WroteWholeDay job.books job.nodes published unpublished before after → (unpublished == 0) ≡ whole → Ends (if whole then status.Done else status.Unpublished)
+      of-done : (published unpublished : ℕ) (whole : Bool)
+          → WroteWholeDay job.books job.nodes published unpublished before after → (unpublished == 0) ≡ whole
+          → Ends (if whole then status.Done else status.Unpublished)
       of-done published unpublished true w e =
           (λ reported t. done-cleared (wrote reported job published unpublished true ready (is reported t) w e), no-summary asked before after Whole folder job.nodes job.workers clear, no-verdict asked before after Whole folder job.nodes job.workers clear)
       of-done published unpublished false w e = inl (clears-it, λ reported t. wrote reported job published unpublished false ready (is reported t) w e)
@@ -97,7 +103,10 @@ module _ (asked : Option Asked) where
       of-end end.Memory (inr part) = (λ reported t. starved-part job.books job.nodes (is reported t) part, inr (inl clears-it))
 
     -- the same of a day whose runs are cleared island by island
-    wrote-split : (reported : Pages) (job : Job) (published unpublished : ℕ) (whole : Bool) → IsReady job → AreSplit asked reported job.books job.nodes → WroteSplitDay job.books job.nodes published unpublished before after → (unpublished == 0) ≡ whole → WroteSplit asked reported whole before after
+    wrote-split : (reported : Pages) (job : Job) (published unpublished : ℕ) (whole : Bool) → IsReady job
+        → AreSplit asked reported job.books job.nodes
+        → WroteSplitDay job.books job.nodes published unpublished before after → (unpublished == 0) ≡ whole
+        → WroteSplit asked reported whole before after
     wrote-split reported job published unpublished whole ready is w e = record {
       text = w.text;
       day = record {
@@ -118,7 +127,9 @@ module _ (asked : Option Asked) where
       splits-it : AsksToSplit asked
       splits-it = (folder, job.nodes, job.workers, split)
 
-      of-split-done : (published unpublished : ℕ) (whole : Bool) → WroteSplitDay job.books job.nodes published unpublished before after → (unpublished == 0) ≡ whole → Ends (if whole then status.Done else status.Unpublished)
+      of-split-done : (published unpublished : ℕ) (whole : Bool)
+          → WroteSplitDay job.books job.nodes published unpublished before after → (unpublished == 0) ≡ whole
+          → Ends (if whole then status.Done else status.Unpublished)
       of-split-done published unpublished true w e =
           (λ reported t. done-split (wrote-split reported job published unpublished true ready (is reported t) w e), no-summary asked before after Islands folder job.nodes job.workers split, no-verdict asked before after Islands folder job.nodes job.workers split)
       of-split-done published unpublished false w e = inr (splits-it, λ reported t. wrote-split reported job published unpublished false ready (is reported t) w e)
@@ -129,14 +140,20 @@ module _ (asked : Option Asked) where
       of-split-end end.Memory (inl same) = starved same
       of-split-end end.Memory (inr part) = (λ reported t. starved-split job.books job.nodes (is reported t) part, inr (inr (inr splits-it)))
 
-    of-way : (job : Job) (folder : List ℕ) (way : Way) → job.way ≡ way → asked ≡ Some (command_by way folder job.nodes job.workers) → IsReady job → WhereReported pages (λ reported. IsToClear asked reported job) → (ended : DayEnd) → EndsBy way job.books job.nodes before after ended → Ends (day_status ended)
+    of-way : (job : Job) (folder : List ℕ) (way : Way) → job.way ≡ way
+        → asked ≡ Some (command_by way folder job.nodes job.workers) → IsReady job
+        → WhereReported pages (λ reported. IsToClear asked reported job) → (ended : DayEnd)
+        → EndsBy way job.books job.nodes before after ended → Ends (day_status ended)
     of-way job folder Whole w words ready is ended ends = of-end job folder words ready (λ reported t. cleared-is asked reported job w (is reported t)) ended ends
     of-way job folder Islands w words ready is ended ends = of-split-end job folder words ready (λ reported t. split-is asked reported job w (is reported t)) ended ends
 
-    of-day : (job : Job) (result : Status) → WhereReported pages (λ reported. Says asked reported (Day job)) → IsOfWords asked (Day job) → IsReady job → ReportsDay job before after result → Ends result
+    of-day : (job : Job) (result : Status) → WhereReported pages (λ reported. Says asked reported (Day job))
+        → IsOfWords asked (Day job) → IsReady job → ReportsDay job before after result → Ends result
     of-day job result says words ready r = subst Ends (sym r.status) (of-way job words.0 job.way refl words.1 ready (λ reported t. day-is asked reported job (says reported t)) r.ended r.ends)
 
-    by-outcome : (AsksForBlocks asked → ⊥) → (late : Type 0) → (late → failed) → (o : Outcome) (result : Status) → WhereReported pages (λ reported. Says asked reported o) → IsOfWords asked o → IsReportable o → (IsNoPage fetch.Failed o → failed) → Reported pages late o before after result → Ends result
+    by-outcome : (AsksForBlocks asked → ⊥) → (late : Type 0) → (late → failed) → (o : Outcome) (result : Status)
+        → WhereReported pages (λ reported. Says asked reported o) → IsOfWords asked o → IsReportable o
+        → (IsNoPage fetch.Failed o → failed) → Reported pages late o before after result → Ends result
     by-outcome other late later NoCommand result says words ready cause r = of-line (none-no-feed asked words) usage_line status.Usage result r (λ p. (words, p)) (part-of-usage asked before after words) (λ reported t. line-usage words refl)
     by-outcome other late later (Day job) result says words ready cause r = of-day job result says words ready r
     by-outcome other late later (Feeds folder) result says words ready cause r = feed-answers asked pages failed before after late later (string_bytes folder) words result r
@@ -171,6 +188,8 @@ module _ (asked : Option Asked) where
     by-outcome other late later NoMemory result says words ready cause r = of-nothing result r.0 r.1
 
     -- the pages are those that whoever reports the outcome has
-    pub answers : (AsksForBlocks asked → ⊥) → (shown : Option Pages) → shown ≡ pages → (late : Type 0) → (late → failed) → (o : Outcome) (result : Status) → WhereReported pages (λ reported. Says asked reported o) → IsOfWords asked o → IsReportable o → (IsNoPage fetch.Failed o → failed)
+    pub answers : (AsksForBlocks asked → ⊥) → (shown : Option Pages) → shown ≡ pages → (late : Type 0)
+        → (late → failed) → (o : Outcome) (result : Status) → WhereReported pages (λ reported. Says asked reported o)
+        → IsOfWords asked o → IsReportable o → (IsNoPage fetch.Failed o → failed)
         → Reported shown late o before after result → Ends result
     answers other shown same late later o result says words ready cause r = let P : Option Pages → Type 0 = λ ps. Reported ps late o before after result in by-outcome other late later o result says words ready cause (subst P same r)

@@ -127,19 +127,26 @@ module _ (asked : Option Asked) (pages : Option Pages) (failed : Type 0) (before
   of-failed result why states (Starved e p) = subst Ends (sym e) (starves (λ reported t. ahead-failed (page_in reported) (states reported t)) p)
 
   -- its page can't be had
-  missing-gap : (reported : Pages) (page : Option (List ℕ)) → page_in reported ≡ page → FeedStates {T = Unit {0}} page before between (Err (stop.Fetch fetch.Missing)) → LacksPage asked reported PUBLICATION NotHeld
+  missing-gap : (reported : Pages) (page : Option (List ℕ)) → page_in reported ≡ page
+      → FeedStates {T = Unit {0}} page before between (Err (stop.Fetch fetch.Missing))
+      → LacksPage asked reported PUBLICATION NotHeld
   missing-gap reported None is t = lacks-feed folder feed is refl refl
   missing-gap reported (Some page) is t = absurd t
 
-  long-gap : (reported : Pages) (page : Option (List ℕ)) → page_in reported ≡ page → FeedStates {T = Unit {0}} page before between (Err (stop.Fetch fetch.TooLong)) → LacksPage asked reported PUBLICATION OverLimit
+  long-gap : (reported : Pages) (page : Option (List ℕ)) → page_in reported ≡ page
+      → FeedStates {T = Unit {0}} page before between (Err (stop.Fetch fetch.TooLong))
+      → LacksPage asked reported PUBLICATION OverLimit
   long-gap reported None is t = absurd t
   long-gap reported (Some page) is t = lacks-long page (fed reported page is) t.0 refl refl
 
-  gap-ends : (gap : Gap) (line : WhereReported pages (λ reported. LacksPage asked reported PUBLICATION gap)) (took : WhereReported pages (λ reported. TookOf TookFirst (page_in reported) before between)) → after ≡ then_took between (file_line (gap_word gap) PUBLICATION) → Ends (gap_status gap)
+  gap-ends : (gap : Gap) (line : WhereReported pages (λ reported. LacksPage asked reported PUBLICATION gap)) (took : WhereReported pages (λ reported. TookOf TookFirst (page_in reported) before between))
+      → after ≡ then_took between (file_line (gap_word gap) PUBLICATION) → Ends (gap_status gap)
   gap-ends NotHeld line took p = (inr (inl (folder, feed)), record { file = PUBLICATION; wanted = wanted; first = line; line = record { between = between; ahead = lines-ahead folder feed refl took; took = p } })
   gap-ends OverLimit line took p = (inr (inl (folder, feed)), record { file = PUBLICATION; wanted = wanted; first = line; line = record { between = between; ahead = lines-ahead folder feed refl took; took = p } })
 
-  of-gap : (gap : Gap) (result : Status) → WhereReported pages (λ reported. LacksPage asked reported PUBLICATION gap) → WhereReported pages (λ reported. TookOf TookFirst (page_in reported) before between) → Reports (file_line (gap_word gap) PUBLICATION) (gap_status gap) between after result → Ends result
+  of-gap : (gap : Gap) (result : Status) → WhereReported pages (λ reported. LacksPage asked reported PUBLICATION gap)
+      → WhereReported pages (λ reported. TookOf TookFirst (page_in reported) before between)
+      → Reports (file_line (gap_word gap) PUBLICATION) (gap_status gap) between after result → Ends result
   of-gap gap result line took (Printed e p) = subst Ends (sym e) (gap-ends gap line took p)
   of-gap gap result line took (CutOff e p) =
       let cut : Ends status.WriteFault = (λ reported t. cut-gap gap (line reported t) (record { between = between; ahead = lines-ahead folder feed refl (λ other u. let P : Pages → Type 0 = λ x. TookOf TookFirst (page_in x) before between in subst P (same reported other u) (took reported t)); began = p }), first-part) in
@@ -150,7 +157,8 @@ module _ (asked : Option Asked) (pages : Option Pages) (failed : Type 0) (before
   of-gap gap result line took (Starved e p) = subst Ends (sym e) (starves took p)
 
   -- its text has a fault
-  fault-refused : (f : TextFault) (reported : Pages) (page : Option (List ℕ)) → page_in reported ≡ page → FeedStates {T = Unit {0}} page before between (Err (stop.Text f)) → IsRefused asked reported (text_refusal f)
+  fault-refused : (f : TextFault) (reported : Pages) (page : Option (List ℕ)) → page_in reported ≡ page
+      → FeedStates {T = Unit {0}} page before between (Err (stop.Text f)) → IsRefused asked reported (text_refusal f)
   fault-refused f reported None is t = absurd t
   fault-refused f reported (Some page) is t = refused-feed page f (record { fed = fed reported page is; reported = t.0 }) refl
 
@@ -194,6 +202,8 @@ module _ (asked : Option Asked) (pages : Option Pages) (failed : Type 0) (before
   of-end (Err stop.Sink) result cause states (e, p) = subst Ends (sym e) (cut states p)
   of-end (Err stop.Memory) result cause states (e, p) = subst Ends (sym e) (starves (λ reported t. ahead-memory (page_in reported) (states reported t)) p)
 
-pub feed-answers : (asked : Option Asked) (pages : Option Pages) (failed : Type 0) (before after : Option (List ℕ)) (late : Type 0) → (late → failed) → (folder : List ℕ) → asked ≡ Some (Feed folder) → (result : Status) → ReportsParts pages late folder before after result
+pub feed-answers : (asked : Option Asked) (pages : Option Pages) (failed : Type 0) (before after : Option (List ℕ)) (late : Type 0)
+    → (late → failed) → (folder : List ℕ) → asked ≡ Some (Feed folder) → (result : Status)
+    → ReportsParts pages late folder before after result
     → Answers asked pages failed before after result
 feed-answers asked pages failed before after late later folder feed result r = of-end asked pages failed before after folder feed r.between r.end result (λ h. later (r.cause h)) r.states r.reports

@@ -70,7 +70,9 @@ none-out (block.Published b ∷ bs) out = none-out bs (λ k heading count e. out
 none-out (block.Unpublished heading count ∷ bs) out = absurd (out 0 heading count refl)
 
 -- each run of a generated day is published
-pub generated-published : (number nodes : ℕ) (books : Books) (p : Publication) → AreAccepted (scenario_at number) → HasBooks (scenario_at number) (codes "s") books → 511 ≤ nodes → IsDay books nodes p → unpublished_in p.blocks ≡ 0
+pub generated-published : (number nodes : ℕ) (books : Books) (p : Publication) → AreAccepted (scenario_at number)
+    → HasBooks (scenario_at number) (codes "s") books → 511 ≤ nodes → IsDay books nodes p
+    → unpublished_in p.blocks ≡ 0
 generated-published number nodes books p a h most is = none-out p.blocks out
   where
     same : books ≡ whole (scenario_at number) a

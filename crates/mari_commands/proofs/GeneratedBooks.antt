@@ -37,7 +37,8 @@ there pages name Is has = by (page_of pages name) refl has
     by (Some page) e h = (page, e, h)
 
 -- the pages of a folder in version 1
-held-seven : (pages : Pages) (folder d z b i l r m : List ℕ) → page_in pages folder Day ≡ Some d → page_in pages folder Zones ≡ Some z → page_in pages folder Borders ≡ Some b → page_in pages folder Bids ≡ Some i
+held-seven : (pages : Pages) (folder d z b i l r m : List ℕ) → page_in pages folder Day ≡ Some d
+    → page_in pages folder Zones ≡ Some z → page_in pages folder Borders ≡ Some b → page_in pages folder Bids ≡ Some i
     → page_in pages folder Links ≡ Some l → page_in pages folder Runs ≡ Some r → page_in pages folder Demands ≡ Some m → version_in b ≡ 1
     → map (page_in pages folder) (files_in pages folder) ≡ map Some (d ∷ z ∷ b ∷ i ∷ l ∷ r ∷ m ∷ [])
 held-seven pages folder d z b i l r m hd hz hb hi hl hr hm one = rw (hb, one, hd, hz, hb, hi, hl, hr, hm) refl

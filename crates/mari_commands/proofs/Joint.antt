@@ -42,7 +42,8 @@ no-market : (published : Bool) (wanted : Status) → (status.Done ≡ wanted →
 no-market true wanted done other e = done e
 no-market false wanted done other e = other e
 
-pub quarters-failed : (given : Result JointText BooksFault) (before after : Option (List ℕ)) (result : Status) → ReportsQuarters given before after result → result ≡ status.ReadFault → IsFetchFault fetch.Failed given
+pub quarters-failed : (given : Result JointText BooksFault) (before after : Option (List ℕ)) (result : Status)
+    → ReportsQuarters given before after result → result ≡ status.ReadFault → IsFetchFault fetch.Failed given
 quarters-failed (Ok printed) before after result r e =
     absurd (other-text status.ReadFault (λ f. absurd (cc f)) (λ f. absurd (cc f)) _ _ before after result (no-market printed.published status.ReadFault (λ f. absurd (cc f)) (λ f. absurd (cc f))) r e)
 quarters-failed (Err (why.Fetch n fetch.Failed)) before after result r e = refl
@@ -52,7 +53,8 @@ quarters-failed (Err (why.Fetch n fetch.Memory)) before after result r e = let f
 quarters-failed (Err (why.Refused refusal)) before after result r e = absurd (other-text status.ReadFault (λ f. absurd (cc f)) (λ f. absurd (cc f)) _ _ before after result (λ f. absurd (cc f)) r e)
 quarters-failed (Err why.Memory) before after result r e = let f = sym r.0 ∙ e in absurd (cc f)
 
-pub quarters-missing : (given : Result JointText BooksFault) (before after : Option (List ℕ)) (result : Status) → ReportsQuarters given before after result → result ≡ status.Missing → IsFetchFault fetch.Missing given
+pub quarters-missing : (given : Result JointText BooksFault) (before after : Option (List ℕ)) (result : Status)
+    → ReportsQuarters given before after result → result ≡ status.Missing → IsFetchFault fetch.Missing given
 quarters-missing (Ok printed) before after result r e =
     absurd (other-text status.Missing (λ f. absurd (cc f)) (λ f. absurd (cc f)) _ _ before after result (no-market printed.published status.Missing (λ f. absurd (cc f)) (λ f. absurd (cc f))) r e)
 quarters-missing (Err (why.Fetch n fetch.Failed)) before after result r e = absurd (other-text status.Missing (λ f. absurd (cc f)) (λ f. absurd (cc f)) _ _ before after result (λ f. absurd (cc f)) r e)
@@ -62,7 +64,8 @@ quarters-missing (Err (why.Fetch n fetch.Memory)) before after result r e = let 
 quarters-missing (Err (why.Refused refusal)) before after result r e = absurd (other-text status.Missing (λ f. absurd (cc f)) (λ f. absurd (cc f)) _ _ before after result (λ f. absurd (cc f)) r e)
 quarters-missing (Err why.Memory) before after result r e = let f = sym r.0 ∙ e in absurd (cc f)
 
-pub quarters-too-long : (given : Result JointText BooksFault) (before after : Option (List ℕ)) (result : Status) → ReportsQuarters given before after result → result ≡ status.TooLong → IsFetchFault fetch.TooLong given
+pub quarters-too-long : (given : Result JointText BooksFault) (before after : Option (List ℕ)) (result : Status)
+    → ReportsQuarters given before after result → result ≡ status.TooLong → IsFetchFault fetch.TooLong given
 quarters-too-long (Ok printed) before after result r e =
     absurd (other-text status.TooLong (λ f. absurd (cc f)) (λ f. absurd (cc f)) _ _ before after result (no-market printed.published status.TooLong (λ f. absurd (cc f)) (λ f. absurd (cc f))) r e)
 quarters-too-long (Err (why.Fetch n fetch.Failed)) before after result r e = absurd (other-text status.TooLong (λ f. absurd (cc f)) (λ f. absurd (cc f)) _ _ before after result (λ f. absurd (cc f)) r e)
@@ -81,7 +84,9 @@ module _ (q : JointJob) (pages : Option Pages) (failed : Type 0) (before after :
   abbrev Cut : Pages → Type 0
   Cut reported = AreCutOff (string_bytes q.folder) q.first q.last q.nodes reported failed before after
 
-  of-report : (text : List ℕ) (wanted result : Status) → Reports text wanted before after result → (after ≡ then_took before text → Ends wanted) → WhereReported pages (λ reported. TookPart before after text → Cut reported) → Ends result
+  of-report : (text : List ℕ) (wanted result : Status) → Reports text wanted before after result
+      → (after ≡ then_took before text → Ends wanted)
+      → WhereReported pages (λ reported. TookPart before after text → Cut reported) → Ends result
   of-report text wanted result (Printed e p) done cut = subst Ends (sym e) (done p)
   of-report text wanted result (CutOff e p) done cut = let all : Ends status.WriteFault = λ reported t. cut reported t p in subst Ends (sym e) all
   of-report text wanted result (Starved e p) done cut = let all : Ends status.Memory = p in subst Ends (sym e) all
@@ -94,7 +99,9 @@ module _ (q : JointJob) (pages : Option Pages) (failed : Type 0) (before after :
   of-text true text result has r = of-report text status.Done result r (λ p reported t. record { text = text; has = has reported t; taken = p }) (λ reported t p. CutText true text (has reported t) p)
   of-text false text result has r = of-report text status.Unpublished result r (λ p reported t. record { text = text; has = has reported t; taken = p }) (λ reported t p. CutText false text (has reported t) p)
 
-  by-given : (given : Result JointText BooksFault) (result : Status) → WhereReported pages (λ reported. QuartersReport reported (string_bytes q.folder) q.first q.last q.nodes given) → NamesQuartersFile given → IsSayable given
+  by-given : (given : Result JointText BooksFault) (result : Status)
+      → WhereReported pages (λ reported. QuartersReport reported (string_bytes q.folder) q.first q.last q.nodes given)
+      → NamesQuartersFile given → IsSayable given
       → (IsFetchFault fetch.Failed given → failed) → ReportsQuarters given before after result → Ends result
   by-given (Ok printed) result states file said cause r = of-text printed.published printed.text result states r
   by-given (Err (why.Fetch n fetch.Failed)) result states file said cause r = of-report (file_line (codes "readfault") n) status.ReadFault result r (λ p. (n, file, p)) (λ reported t p. Fails (cause refl) n file p)
@@ -137,7 +144,9 @@ no-blocks : (asked : Option Asked) → is_blocks asked ≡ false → AsksForBloc
 no-blocks asked n (folder, first, last, nodes, workers, e) = let both : false ≡ true = sym n ∙ ap is_blocks e in cc
 
 module _ (pages : Option Pages) (failed : Type 0) (before after : Option (List ℕ)) (shown : Option Pages) (same : shown ≡ pages) (late : Type 0) (later : late → failed) (o : Outcome) (result : Status) where
-  pub answers-of : (asked : Option Asked) → WhereReported pages (λ reported. Says asked reported o) → IsOfWords asked o → IsReportable o → (IsNoPage fetch.Failed o → failed) → Reported shown late o before after result → AnswersOf asked pages failed before after result
+  pub answers-of : (asked : Option Asked) → WhereReported pages (λ reported. Says asked reported o)
+      → IsOfWords asked o → IsReportable o → (IsNoPage fetch.Failed o → failed)
+      → Reported shown late o before after result → AnswersOf asked pages failed before after result
   answers-of None says words ready cause r = answers None pages failed before after (no-blocks None refl) shown same late later o result says words ready cause r
   answers-of (Some (Clear folder nodes workers)) says words ready cause r = answers (Some (Clear folder nodes workers)) pages failed before after (no-blocks (Some (Clear folder nodes workers)) refl) shown same late later o result says words ready cause r
   answers-of (Some (Check folder)) says words ready cause r = answers (Some (Check folder)) pages failed before after (no-blocks (Some (Check folder)) refl) shown same late later o result says words ready cause r

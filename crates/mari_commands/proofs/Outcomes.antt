@@ -38,15 +38,20 @@ use Rattle.mari_commands.proofs.Folder.{no_other, reads, reads_no_folder, reads_
 
 module _ (asked : Option Asked) where
   -- what there is of the publication of a folder that is checked
-  publication : (pages : Pages) (folder : List ℕ) (books : Books) (page : List ℕ) → asked ≡ Some (Check folder) → HasBooks pages folder books → page_of pages (publication_path folder) ≡ Some page → HasPublication asked pages books page
+  publication : (pages : Pages) (folder : List ℕ) (books : Books) (page : List ℕ) → asked ≡ Some (Check folder)
+      → HasBooks pages folder books → page_of pages (publication_path folder) ≡ Some page
+      → HasPublication asked pages books page
   publication pages folder books page c g h = record { folder = folder; check = c; gives = g; held = h }
 
-  abbrev readable : (pages : Pages) (folder : List ℕ) (books : Books) (page : List ℕ) (p : Publication) → asked ≡ Some (Check folder) → HasBooks pages folder books → page_of pages (publication_path folder) ≡ Some page → length page ≤ most_given → IsText page p
+  abbrev readable : (pages : Pages) (folder : List ℕ) (books : Books) (page : List ℕ) (p : Publication)
+      → asked ≡ Some (Check folder) → HasBooks pages folder books
+      → page_of pages (publication_path folder) ≡ Some page → length page ≤ most_given → IsText page p
       → IsReadable asked pages
   readable pages folder books page p c g h short read = record { books = books; page = page; publication = p; checked = publication pages folder books page c g h; short = short; read = read }
 
   -- a text that is printed where all is well
-  checked-text : (pages : Pages) (folder : List ℕ) (books : Books) (t : Vec ℕ) (page : Option (List ℕ)) → asked ≡ Some (Check folder) → HasBooks pages folder books → page_of pages (publication_path folder) ≡ page
+  checked-text : (pages : Pages) (folder : List ℕ) (books : Books) (t : Vec ℕ) (page : Option (List ℕ))
+      → asked ≡ Some (Check folder) → HasBooks pages folder books → page_of pages (publication_path folder) ≡ page
       → CheckStates books page (Text t) → Prints asked pages t.items
   checked-text pages folder books t None c g h (n, u, states, spelled) = absurd states
   checked-text pages folder books t (Some page) c g h (n, u, (short, (p, read, (valid, published, unpublished))), spelled) =
@@ -68,7 +73,8 @@ module _ (asked : Option Asked) where
   text-prints pages t (Starves f) = absurd (cc)
 
   -- a fault of the publication that is checked
-  checked-invalid : (pages : Pages) (folder : List ℕ) (books : Books) (run number : ℕ) (page : Option (List ℕ)) → asked ≡ Some (Check folder) → HasBooks pages folder books → page_of pages (publication_path folder) ≡ page
+  checked-invalid : (pages : Pages) (folder : List ℕ) (books : Books) (run number : ℕ) (page : Option (List ℕ))
+      → asked ≡ Some (Check folder) → HasBooks pages folder books → page_of pages (publication_path folder) ≡ page
       → CheckStates books page (Invalid run number) → IsInvalid asked pages run number
   checked-invalid pages folder books run number None c g h states = absurd states
   checked-invalid pages folder books run number (Some page) c g h (short, (p, read, first)) = invalid-checked (readable pages folder books page p c g h short read) first
@@ -88,7 +94,8 @@ module _ (asked : Option Asked) where
   invalid-is pages run number (Starves f) = absurd (cc)
 
   -- a refusal
-  checked-refused : (pages : Pages) (folder : List ℕ) (books : Books) (refusal : Refusal) (page : Option (List ℕ)) → asked ≡ Some (Check folder) → HasBooks pages folder books → page_of pages (publication_path folder) ≡ page
+  checked-refused : (pages : Pages) (folder : List ℕ) (books : Books) (refusal : Refusal) (page : Option (List ℕ))
+      → asked ≡ Some (Check folder) → HasBooks pages folder books → page_of pages (publication_path folder) ≡ page
       → CheckStates books page (Refused refusal) → IsRefused asked pages refusal
   checked-refused pages folder books refusal None c g h (f, reported, is) = absurd reported
   checked-refused pages folder books refusal (Some page) c g h (f, reported, is) = refused-text page f (record { books = books; checked = publication pages folder books page c g h; reported = reported }) is
@@ -111,7 +118,9 @@ module _ (asked : Option Asked) where
   refused-is pages refusal (Starves f) = absurd (cc)
 
   -- a page that can't be had
-  gap-is : (pages : Pages) (folder : List ℕ) (n k : ℕ) (g h : Gap) → ReadsFolder asked folder → HasGap pages folder n g → NoPage k (fetch_of h) ≡ NoPage n (fetch_of g) → fetch_of h ≡ fetch_of g → LacksPage asked pages k h
+  gap-is : (pages : Pages) (folder : List ℕ) (n k : ℕ) (g h : Gap) → ReadsFolder asked folder
+      → HasGap pages folder n g → NoPage k (fetch_of h) ≡ NoPage n (fetch_of g) → fetch_of h ≡ fetch_of g
+      → LacksPage asked pages k h
   gap-is pages folder n k NotHeld NotHeld r has same f =
       let number : n ≡ k = cc in
       let P : ℕ → Type 0 = λ x. LacksPage asked pages x NotHeld in
@@ -123,12 +132,14 @@ module _ (asked : Option Asked) where
   gap-is pages folder n k NotHeld OverLimit r has same f = absurd (cc)
   gap-is pages folder n k OverLimit NotHeld r has same f = absurd (cc)
 
-  checked-too-long : (pages : Pages) (folder : List ℕ) (books : Books) (k : ℕ) (page : Option (List ℕ)) → asked ≡ Some (Check folder) → HasBooks pages folder books → page_of pages (publication_path folder) ≡ page
+  checked-too-long : (pages : Pages) (folder : List ℕ) (books : Books) (k : ℕ) (page : Option (List ℕ))
+      → asked ≡ Some (Check folder) → HasBooks pages folder books → page_of pages (publication_path folder) ≡ page
       → CheckStates books page (NoPage k fetch.TooLong) → LacksPage asked pages k OverLimit
   checked-too-long pages folder books k None c g h (long, number) = absurd long
   checked-too-long pages folder books k (Some page) c g h (long, number) = lacks-long books page (publication pages folder books page c g h) long number refl
 
-  checked-missing : (pages : Pages) (folder : List ℕ) (books : Books) (k : ℕ) (page : Option (List ℕ)) → asked ≡ Some (Check folder) → HasBooks pages folder books → page_of pages (publication_path folder) ≡ page
+  checked-missing : (pages : Pages) (folder : List ℕ) (books : Books) (k : ℕ) (page : Option (List ℕ))
+      → asked ≡ Some (Check folder) → HasBooks pages folder books → page_of pages (publication_path folder) ≡ page
       → CheckStates books page (NoPage k fetch.Missing) → LacksPage asked pages k NotHeld
   checked-missing pages folder books k None c g h (none, number) = lacks-publication folder books c g h number refl
   checked-missing pages folder books k (Some page) c g h (none, number) = absurd none
@@ -255,7 +266,8 @@ module _ (asked : Option Asked) where
   check-alone file (folder, e) = λ lines. let P : Option Asked → Type 0 = λ a. AsksForLines a in absurd (check-no-lines folder (subst P e lines))
 
   -- a line with nothing before it
-  pub plain-line : (pages : Option Pages) (file : ℕ) (Took : List ℕ → Option (List ℕ) → Option (List ℕ) → Type 0) (Is : ValueEnd → Type 0) (line : List ℕ) (before after : Option (List ℕ)) → IsAlone asked file → after ≡ then_took before line → TookLine asked pages file Took Is line before after
+  pub plain-line : (pages : Option Pages) (file : ℕ) (Took : List ℕ → Option (List ℕ) → Option (List ℕ) → Type 0) (Is : ValueEnd → Type 0) (line : List ℕ) (before after : Option (List ℕ))
+      → IsAlone asked file → after ≡ then_took before line → TookLine asked pages file Took Is line before after
   plain-line pages file Took Is line before after alone p = record { between = before; ahead = nothing-ahead alone refl; took = p }
 
   -- the values of limits

@@ -21,14 +21,19 @@ use Rattle.mari_commands.specs.Commands.{text_refusal}
 use Rattle.mari_commands.specs.Outcome.{IsPageLine, Reports, ReportsNoPage, ReportsRefusal, ReportsText, refusal_of}
 use Rattle.mari_commands.specs.Outcome.Reports.{Starved}
 
-pub same_text : (text other : List ℕ) (wanted : Status) (before after : Option (List ℕ)) (result : Status) → text ≡ other → Reports text wanted before after result → Reports other wanted before after result
+pub same_text : (text other : List ℕ) (wanted : Status) (before after : Option (List ℕ)) (result : Status)
+    → text ≡ other → Reports text wanted before after result → Reports other wanted before after result
 same_text text other wanted before after result e r = let P : List ℕ → Type 0 = λ t. Reports t wanted before after result in subst P e r
 
-pub same_report : (text other : List ℕ) (wanted asked : Status) (before after : Option (List ℕ)) (result : Status) → text ≡ other → wanted ≡ asked → Reports text wanted before after result → Reports other asked before after result
+pub same_report : (text other : List ℕ) (wanted asked : Status) (before after : Option (List ℕ)) (result : Status)
+    → text ≡ other → wanted ≡ asked → Reports text wanted before after result
+    → Reports other asked before after result
 same_report text other wanted asked before after result e f r = let P : Status → Type 0 = λ s. Reports other s before after result in subst P f (same_text text other wanted before after result e r)
 
 -- the line of a file whose page can't be had, and the status that it has
-pub page_reported : (file : ℕ) (why : Fetch) (line : List ℕ) (wanted : Status) (before after : Option (List ℕ)) (result : Status) → IsPageLine file why line wanted → Reports line wanted before after result → ReportsNoPage file why before after result
+pub page_reported : (file : ℕ) (why : Fetch) (line : List ℕ) (wanted : Status) (before after : Option (List ℕ)) (result : Status)
+    → IsPageLine file why line wanted → Reports line wanted before after result
+    → ReportsNoPage file why before after result
 page_reported file fetch.Failed line wanted before after result is r = same_report line _ wanted _ before after result is.0 is.1 r
 page_reported file fetch.Missing line wanted before after result is r = same_report line _ wanted _ before after result is.0 is.1 r
 page_reported file fetch.TooLong line wanted before after result is r = same_report line _ wanted _ before after result is.0 is.1 r
@@ -42,7 +47,9 @@ page_starved file fetch.TooLong before = Starved refl refl
 page_starved file fetch.Memory before = (refl, refl)
 
 -- the refusal of a fault of a publication's text
-pub same_refusal : (fault : TextFault) (refusal : Refusal) (before after : Option (List ℕ)) (result : Status) → Some refusal ≡ refusal_of fault → ReportsRefusal refusal before after result → ReportsText fault before after result
+pub same_refusal : (fault : TextFault) (refusal : Refusal) (before after : Option (List ℕ)) (result : Status)
+    → Some refusal ≡ refusal_of fault → ReportsRefusal refusal before after result
+    → ReportsText fault before after result
 same_refusal (text_fault.BadLine n) refusal before after result e r = let same : refusal ≡ text_refusal (text_fault.BadLine n) = cc in subst (λ x. ReportsRefusal x before after result) same r
 same_refusal (text_fault.BadOrder n) refusal before after result e r = let same : refusal ≡ text_refusal (text_fault.BadOrder n) = cc in subst (λ x. ReportsRefusal x before after result) same r
 same_refusal (text_fault.Truncated n) refusal before after result e r = let same : refusal ≡ text_refusal (text_fault.Truncated n) = cc in subst (λ x. ReportsRefusal x before after result) same r

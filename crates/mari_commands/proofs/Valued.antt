@@ -61,7 +61,9 @@ module _ (asked : Option Asked) (pages : Option Pages) (failed : Type 0) (before
   no-verdict other e = absurd (let f = words.2 in cc (e, f))
 
   -- the lines, and after them the line of the status
-  took : (Took : List ℕ → Option (List ℕ) → Option (List ℕ) → Type 0) (E : ValueEnd → Type 0) (end : ValueEnd) → E end → States end → after ≡ then_took before (lines ++ value_line end) → TookLine asked pages PUBLICATION Took E (value_line end) before after
+  took : (Took : List ℕ → Option (List ℕ) → Option (List ℕ) → Type 0) (E : ValueEnd → Type 0) (end : ValueEnd) → E end
+      → States end → after ≡ then_took before (lines ++ value_line end)
+      → TookLine asked pages PUBLICATION Took E (value_line end) before after
   took Took E end is states p = record {
     between = then_took before lines;
     ahead = values-ahead words refl lines (λ reported t. (end, is, states reported t)) refl;
@@ -140,6 +142,8 @@ module _ (asked : Option Asked) (pages : Option Pages) (failed : Type 0) (before
       let starved : Ends status.Memory = ((λ reported t. starved-before p), inl p) in
       subst Ends (sym e) starved
 
-pub values-answers : (asked : Option Asked) (pages : Option Pages) (failed : Type 0) (before after : Option (List ℕ)) → AsksForValues asked → (lines : List ℕ) (end : ValueEnd) → (IsWrapped end → ⊥) → WhereReported pages (λ reported. StatesValues asked reported end lines)
+pub values-answers : (asked : Option Asked) (pages : Option Pages) (failed : Type 0) (before after : Option (List ℕ))
+    → AsksForValues asked → (lines : List ℕ) (end : ValueEnd) → (IsWrapped end → ⊥)
+    → WhereReported pages (λ reported. StatesValues asked reported end lines)
     → (IsPageEnd fetch.Failed end → failed) → (result : Status) → ReportsValues lines end before after result → Answers asked pages failed before after result
 values-answers asked pages failed before after words lines end never states cause result r = of-report asked pages failed before after words lines end never states cause result r

@@ -301,7 +301,9 @@ pub data Says (asked : Option Asked) (pages : Pages) (o : Outcome) : Type 0 wher
   OfCheck : (folder : List ℕ) (books : Books) → asked ≡ Some (Check folder) → HasBooks pages folder books → CheckStates books (page_of pages (publication_path folder)) o → Says asked pages o
   OfMigrate : (folder : List ℕ) (part : FilePart) (books : Books) → asked ≡ Some (Migrate folder part) → HasBooks pages folder books → IsMigrated books part o → Says asked pages o
   OfGenerate : (number : ℕ) → asked ≡ Some (Generate number) → IsSummarised number o → Says asked pages o
-  OfValues : (folder : List ℕ) (more : ℕ) (books : Books) → asked ≡ Some (Value folder more) → HasBooks pages folder books → IsReportedValues books more (page_of pages (publication_path folder)) o → Says asked pages o
+  OfValues : (folder : List ℕ) (more : ℕ) (books : Books) → asked ≡ Some (Value folder more)
+      → HasBooks pages folder books → IsReportedValues books more (page_of pages (publication_path folder)) o
+      → Says asked pages o
   OfFeed : (folder : String Global) → asked ≡ Some (Feed (string_bytes folder)) → o ≡ Feeds folder → Says asked pages o
   OfBlocks : (quarters : JointJob) → asked ≡ Some (blocks_of quarters) → o ≡ Joins quarters → Says asked pages o
   Fails : (folder : List ℕ) (file : ℕ) → ReadsFolder asked folder → o ≡ NoPage file fetch.Failed → Says asked pages o

@@ -66,8 +66,12 @@ SaysValues asked pages Ends lines = (end : ValueEnd) × Ends end × StatesValues
 -- they ask for the values of limits
 pub data TookAhead (asked : Option Asked) (pages : Option Pages) (file : ℕ) (Took : List ℕ → Option (List ℕ) → Option (List ℕ) → Type 0) (Ends : ValueEnd → Type 0) (before after : Option (List ℕ)) : Type 0 where
   Nothing : IsAlone asked file → after ≡ before → TookAhead asked pages file Took Ends before after
-  Lines : (folder : List ℕ) → asked ≡ Some (Feed folder) → file ≡ PUBLICATION → WhereReported pages (λ reported. TookOf Took (page_of reported (publication_path folder)) before after) → TookAhead asked pages file Took Ends before after
-  Values : AsksForValues asked → file ≡ PUBLICATION → (lines : List ℕ) → WhereReported pages (λ reported. SaysValues asked reported Ends lines) → after ≡ then_took before lines → TookAhead asked pages file Took Ends before after
+  Lines : (folder : List ℕ) → asked ≡ Some (Feed folder) → file ≡ PUBLICATION
+      → WhereReported pages (λ reported. TookOf Took (page_of reported (publication_path folder)) before after)
+      → TookAhead asked pages file Took Ends before after
+  Values : AsksForValues asked → file ≡ PUBLICATION → (lines : List ℕ)
+      → WhereReported pages (λ reported. SaysValues asked reported Ends lines) → after ≡ then_took before lines
+      → TookAhead asked pages file Took Ends before after
 
 -- and then this line was taken, or a first part of it
 pub record TookLine (asked : Option Asked) (pages : Option Pages) (file : ℕ) (Took : List ℕ → Option (List ℕ) → Option (List ℕ) → Type 0) (Ends : ValueEnd → Type 0) (line : List ℕ) (before after : Option (List ℕ)) : Type 0 where

@@ -68,7 +68,9 @@ get_second [] y z k e = let one : k ≡ 1 = omega arith in ap (λ (i : ℕ). sli
 get_second (x ∷ xs) y z zero e = absurd (omega arith)
 get_second (x ∷ xs) y z (suc k) e = get_second xs y z k (omega arith)
 
-made_children : (m : Market) (words : List (List Bool)) (w : List Bool) (first : ℕ) (may : Bool) → may_open m.gates w (length w) ≡ may → first ≡ length words → length w < length m.gates → HasChildren m (words ++ child_words w may) w (branch_of first (child_words w may))
+made_children : (m : Market) (words : List (List Bool)) (w : List Bool) (first : ℕ) (may : Bool)
+    → may_open m.gates w (length w) ≡ may → first ≡ length words → length w < length m.gates
+    → HasChildren m (words ++ child_words w may) w (branch_of first (child_words w may))
 made_children m words w first true e l u = (
   u,
   ap (λ (o : Option (List Bool)). o ∷ slice_get (words ++ child_words w true) (first + 1) ∷ []) (get_first words (w ++ false ∷ []) ((w ++ true ∷ []) ∷ []) first l)
@@ -81,7 +83,9 @@ made_children m words w first false e l u = (
       ∙ ap (λ (b : Bool). map (λ (v : List Bool). Some v) (child_words w b)) (sym e),
 )
 
-more_words : (words more : List (List Bool)) (numbers : List ℕ) (kids : List (List Bool)) → map (λ x. slice_get words x) numbers ≡ map (λ v. Some v) kids → map (λ x. slice_get (words ++ more) x) numbers ≡ map (λ v. Some v) kids
+more_words : (words more : List (List Bool)) (numbers : List ℕ) (kids : List (List Bool))
+    → map (λ x. slice_get words x) numbers ≡ map (λ v. Some v) kids
+    → map (λ x. slice_get (words ++ more) x) numbers ≡ map (λ v. Some v) kids
 more_words words more [] kids e = e
 more_words words more (x ∷ xs) [] e = absurd (cc)
 more_words words more (x ∷ xs) (v ∷ vs) e =
@@ -168,7 +172,9 @@ length-own_numbers first w false = refl
 is_there : (x n : ℕ) → x < n → suc zero ≡ (if nat_lt x n then 1 else 0)
 is_there x n l = grind (arith, nat_tests)
 
-grown_preorder : (nodes : List TreeNode) (x : ℕ) (n : TreeNode) (w : List Bool) (may : Bool) → slice_get nodes x ≡ Some n → is_branched n.state ≡ false → HasPreorder nodes → HasPreorder (grown_by nodes x w may)
+grown_preorder : (nodes : List TreeNode) (x : ℕ) (n : TreeNode) (w : List Bool) (may : Bool)
+    → slice_get nodes x ≡ Some n → is_branched n.state ≡ false → HasPreorder nodes
+    → HasPreorder (grown_by nodes x w may)
 grown_preorder nodes x n w may e leaf p =
     let once : occurs x p.numbers ≡ 1 = p.preorder.once x ∙ sym (is_there x (length nodes) (slice_get_within nodes x n e)) in
     record {
@@ -191,7 +197,9 @@ no_cutoff m word first w true = tt
 no_cutoff m word first w false = tt
 
 -- a node that could branch, but for the budget, isn't one that branches within it
-still_crowded : (g : Grown) (x : ℕ) (n : TreeNode) (may : Bool) → may_open g.market.gates n.word (length n.word) ≡ may → slice_get g.nodes x ≡ Some n → length g.nodes + length (child_words n.word may) ≤ g.budget → IsCrowded g → IsCrowded (record g { nodes = grown_by g.nodes x n.word may })
+still_crowded : (g : Grown) (x : ℕ) (n : TreeNode) (may : Bool) → may_open g.market.gates n.word (length n.word) ≡ may
+    → slice_get g.nodes x ≡ Some n → length g.nodes + length (child_words n.word may) ≤ g.budget → IsCrowded g
+    → IsCrowded (record g { nodes = grown_by g.nodes x n.word may })
 still_crowded g x n may opens e fits c = record {
   number = c.number;
   node = c.node;
@@ -208,7 +216,10 @@ still_crowded g x n may opens e fits c = record {
         omega (arith, c.crowded.more, fits, count)
 
 -- a leaf among the nodes branches where its children fit
-grown_kept : (g : Grown) (x : ℕ) (n : TreeNode) (may : Bool) → may_open g.market.gates n.word (length n.word) ≡ may → IsGrowth g → slice_get g.nodes x ≡ Some n → is_branched n.state ≡ false → length n.word < length g.market.gates → IsPromising g.market n.word → length g.nodes + length (child_words n.word may) ≤ g.budget → IsGrowth (record g { nodes = grown_by g.nodes x n.word may })
+grown_kept : (g : Grown) (x : ℕ) (n : TreeNode) (may : Bool) → may_open g.market.gates n.word (length n.word) ≡ may
+    → IsGrowth g → slice_get g.nodes x ≡ Some n → is_branched n.state ≡ false → length n.word < length g.market.gates
+    → IsPromising g.market n.word → length g.nodes + length (child_words n.word may) ≤ g.budget
+    → IsGrowth (record g { nodes = grown_by g.nodes x n.word may })
 grown_kept g x n may opens k e leaf u promising fits = record {
   valid = k.valid;
   budget_is = k.budget_is;
@@ -244,7 +255,10 @@ grown_kept g x n may opens k e leaf u promising fits = record {
 }
 
 -- a leaf that leaves a gate to decide and is promising may branch, where its children fit
-pub branch_kept : (g : Grown) (x : ℕ) (n : TreeNode) → IsGrowth g → slice_get g.nodes x ≡ Some n → is_branched n.state ≡ false → length n.word < length g.market.gates → IsPromising g.market n.word → length g.nodes + length (children g.market.gates n.word) ≤ g.budget → IsGrowth (record g { nodes = branched g x })
+pub branch_kept : (g : Grown) (x : ℕ) (n : TreeNode) → IsGrowth g → slice_get g.nodes x ≡ Some n
+    → is_branched n.state ≡ false → length n.word < length g.market.gates → IsPromising g.market n.word
+    → length g.nodes + length (children g.market.gates n.word) ≤ g.budget
+    → IsGrowth (record g { nodes = branched g x })
 branch_kept g x n k e leaf u promising fits =
     subst (λ (w : List Bool). IsGrowth (record g { nodes = with_state (branch_of (length g.nodes) (children g.market.gates w)) g.nodes x ++ map new_node (children g.market.gates w) }))
     (sym (word_of_node g.nodes x n e)) (grown_kept g x n (may_open g.market.gates n.word (length n.word)) refl k e leaf u promising fits)

@@ -47,7 +47,9 @@ leaf_has_none (Branched closed opened) e = absurd (cc)
 leaf_has_none (Closed leaf cutoff) e = refl
 
 -- a leaf that stays a leaf leaves all children as they were
-pub children_stay : (s : NodeState) (nodes : List TreeNode) (x : ℕ) (n : TreeNode) → slice_get nodes x ≡ Some n → is_branched n.state ≡ false → is_branched s ≡ false → (y : ℕ) → children_of (with_state s nodes x) y ≡ children_of nodes y
+pub children_stay : (s : NodeState) (nodes : List TreeNode) (x : ℕ) (n : TreeNode) → slice_get nodes x ≡ Some n
+    → is_branched n.state ≡ false → is_branched s ≡ false → (y : ℕ)
+    → children_of (with_state s nodes x) y ≡ children_of nodes y
 children_stay s nodes x n e was is y = by_place (cases_eq y x)
   where
     by_place : (y ≡ x) ⊎ (y ≡ x → ⊥) → children_of (with_state s nodes x) y ≡ children_of nodes y

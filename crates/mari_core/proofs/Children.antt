@@ -51,7 +51,9 @@ one_number words w i j d e f n = by_order (cases_lt i j)
         less a b l n = omega (arith, n)
 
 -- no node is a child of a leaf
-pub no_child_yet : (g : Grown) (x : ℕ) (n : TreeNode) → IsGrowth g → slice_get g.nodes x ≡ Some n → is_branched n.state ≡ false → (j : TreeNode) (b : Bool) → (j.word ≡ []) ⊎ HasParent g.nodes j.word → j.word ≡ n.word ++ b ∷ [] → ⊥
+pub no_child_yet : (g : Grown) (x : ℕ) (n : TreeNode) → IsGrowth g → slice_get g.nodes x ≡ Some n
+    → is_branched n.state ≡ false → (j : TreeNode) (b : Bool) → (j.word ≡ []) ⊎ HasParent g.nodes j.word
+    → j.word ≡ n.word ++ b ∷ [] → ⊥
 no_child_yet g x n k e leaf j b (inl root) is = snoc_not_empty n.word b (sym is ∙ root)
 no_child_yet g x n k e leaf j b (inr p) is =
     one_number (words_of g.nodes) n.word p.number x k.nodes_are.distinct
@@ -106,7 +108,9 @@ get_last (x ∷ xs) y zero e h = absurd (omega arith)
 get_last (x ∷ xs) y (suc k) e h = get_last xs y k e (omega arith)
 
 -- distinct words with the children of one of them, of which none is there yet
-distinct_with : (words : List (List Bool)) (w : List Bool) (may : Bool) → Distinct words → ((k : ℕ) (d : List Bool) (b : Bool) → k < length words → get_or words k d ≡ w ++ b ∷ [] → ⊥) → Distinct (words ++ child_words w may)
+distinct_with : (words : List (List Bool)) (w : List Bool) (may : Bool) → Distinct words
+    → ((k : ℕ) (d : List Bool) (b : Bool) → k < length words → get_or words k d ≡ w ++ b ∷ [] → ⊥)
+    → Distinct (words ++ child_words w may)
 distinct_with words w false d new = all_pairs_push (λ (x y : List Bool). x ≢ y) words (w ++ false ∷ []) d (λ k e l same. new k e false l same)
 distinct_with words w true d new =
     let one : Distinct (words ++ (w ++ false ∷ []) ∷ []) = all_pairs_push (λ (x y : List Bool). x ≢ y) words (w ++ false ∷ []) d (λ k e l same. new k e false l same) in
@@ -126,7 +130,9 @@ are_nodes m w true e n p l =
     (All-cons (IsNode m) (w ++ true ∷ []) [] (child_is_node m w true n p (open_child m.gates w n.feasible l e)) (All-nil (IsNode m)))
 
 -- the words with the children of a promising leaf are distinct nodes of the search tree
-pub nodes_with_children : (g : Grown) (x : ℕ) (n : TreeNode) → IsGrowth g → slice_get g.nodes x ≡ Some n → is_branched n.state ≡ false → length n.word < length g.market.gates → IsPromising g.market n.word → AreNodes g.market (words_of g.nodes ++ children g.market.gates n.word)
+pub nodes_with_children : (g : Grown) (x : ℕ) (n : TreeNode) → IsGrowth g → slice_get g.nodes x ≡ Some n
+    → is_branched n.state ≡ false → length n.word < length g.market.gates → IsPromising g.market n.word
+    → AreNodes g.market (words_of g.nodes ++ children g.market.gates n.word)
 nodes_with_children g x n k e leaf l p = record {
   nodes = All-append (IsNode g.market) (words_of g.nodes) (children g.market.gates n.word) k.nodes_are.nodes
       (are_nodes g.market n.word (may_open g.market.gates n.word (length n.word)) refl node p l);

@@ -52,12 +52,17 @@ pub leaf_of : (s t : NodeState) → s ≡ t → is_branched t ≡ false → is_b
 leaf_of s t e h = ap is_branched e ∙ h
 
 -- an entry by which a leaf stays a leaf, and the mark stays
-stays : (g : Grown) (x : ℕ) (old new : NodeState) → IsGrowth g → state_at g.nodes x ≡ Some old → is_branched old ≡ false → is_branched new ≡ false → ((n : TreeNode) → slice_get g.nodes x ≡ Some n → HoldsAtCutoff g.market n.word new) → IsGrowth (record g { nodes = with_state new g.nodes x })
+stays : (g : Grown) (x : ℕ) (old new : NodeState) → IsGrowth g → state_at g.nodes x ≡ Some old
+    → is_branched old ≡ false → is_branched new ≡ false
+    → ((n : TreeNode) → slice_get g.nodes x ≡ Some n → HoldsAtCutoff g.market n.word new)
+    → IsGrowth (record g { nodes = with_state new g.nodes x })
 stays g x old new k e was is holds =
     let at : IsAt g.nodes x old = node_at g.nodes x old e in
     leaf_kept new g x at.node g.full k at.there (leaf_of at.node.state old at.state_is was) is (holds at.node at.there) (λ full. crowded_stays new g x at.node g.full at.there is (k.crowded full))
 
-full_kept : (g : Grown) (k x cutoff : ℕ) → IsGrowth g → MayBranch g k x cutoff → g.budget < length g.nodes + length (children_at g x) → IsGrowth (record g { nodes = with_state Untaken g.nodes x; full = true })
+full_kept : (g : Grown) (k x cutoff : ℕ) → IsGrowth g → MayBranch g k x cutoff
+    → g.budget < length g.nodes + length (children_at g x)
+    → IsGrowth (record g { nodes = with_state Untaken g.nodes x; full = true })
 full_kept g k x cutoff grows may more =
     let at : IsAt g.nodes x (Taken k) = node_at g.nodes x (Taken k) may.taken in
     let word : word_at g.nodes x ≡ at.node.word = word_of_node g.nodes x at.node at.there in
@@ -100,14 +105,16 @@ state_in : (s : NodeState) (nodes : List TreeNode) (x : ℕ) → x < length node
 state_in s nodes x l = state_same s nodes x (get_or nodes x (new_node [])) (slice_get-get_or nodes x (new_node []) l)
 
 -- before the next node none waits, after a node got a state in which it doesn't wait
-pub none_before_still : (s : NodeState) (nodes : List TreeNode) (x next : ℕ) → (s ≡ Untaken → ⊥) → x < length nodes → IsNext nodes next → (y : ℕ) → y < next → state_at (with_state s nodes x) y ≡ Some Untaken → ⊥
+pub none_before_still : (s : NodeState) (nodes : List TreeNode) (x next : ℕ) → (s ≡ Untaken → ⊥) → x < length nodes
+    → IsNext nodes next → (y : ℕ) → y < next → state_at (with_state s nodes x) y ≡ Some Untaken → ⊥
 none_before_still s nodes x next n l h y below e = elim (cases_eq y x) [
   | inl same ↦ not_untaken s n (sym (ap (state_at (with_state s nodes x)) same ∙ state_in s nodes x l) ∙ e)
   | inr other ↦ h.none_before y below (sym (state_other s nodes x y other) ∙ e)
 ]
 
 -- where a node that doesn't wait gets a state in which it doesn't either, the next is the same
-pub next_stays : (old s : NodeState) (nodes : List TreeNode) (x next : ℕ) → (old ≡ Untaken → ⊥) → (s ≡ Untaken → ⊥) → state_at nodes x ≡ Some old → x < length nodes → IsNext nodes next → IsNext (with_state s nodes x) next
+pub next_stays : (old s : NodeState) (nodes : List TreeNode) (x next : ℕ) → (old ≡ Untaken → ⊥) → (s ≡ Untaken → ⊥)
+    → state_at nodes x ≡ Some old → x < length nodes → IsNext nodes next → IsNext (with_state s nodes x) next
 next_stays old s nodes x next was n e l h = record {
   within = omega (arith, h.within, length-with_state s nodes x);
   none_before = none_before_still s nodes x next n l h;
@@ -177,7 +184,11 @@ branch_waits : (first : ℕ) (w : List Bool) (may : Bool) → branch_of first (c
 branch_waits first w true e = absurd (cc)
 branch_waits first w false e = absurd (cc)
 
-pub branch_entry : (g : Grown) (x next : ℕ) (w : List Bool) (may : Bool) (items : List TreeNode) → IsGrowth g → IsNext g.nodes next → CanBranch g x → children_at g x ≡ child_words w may → length g.nodes + length (children_at g x) ≤ g.budget → items ≡ with_state (branch_of (length g.nodes) (child_words w may)) g.nodes x ++ map new_node (child_words w may) → BranchKept g x next items
+pub branch_entry : (g : Grown) (x next : ℕ) (w : List Bool) (may : Bool) (items : List TreeNode) → IsGrowth g
+    → IsNext g.nodes next → CanBranch g x → children_at g x ≡ child_words w may
+    → length g.nodes + length (children_at g x) ≤ g.budget
+    → items ≡ with_state (branch_of (length g.nodes) (child_words w may)) g.nodes x ++ map new_node (child_words w may)
+    → BranchKept g x next items
 branch_entry g x next w may items grows waits can kids fits is =
     let same : items ≡ branched g x = is ∙ ap (λ (ws : List (List Bool)). with_state (branch_of (length g.nodes) ws) g.nodes x ++ map new_node ws) (sym kids) in
     record {
@@ -195,12 +206,19 @@ one_pushed : (s s' : List TreeNode) (a a' : TreeNode) → s ≡ s' → a ≡ a' 
 one_pushed s s' a a' e f = ap (λ (ns : List TreeNode). ns ++ a ∷ []) e ∙ ap (λ (n : TreeNode). s' ++ n ∷ []) f
 
 -- the nodes where both children are pushed, and where the closed one is
-pub both_pushed : (nodes reserved states : List TreeNode) (x first : ℕ) (opened : Option ℕ) (w closed_word open_word : List Bool) → reserved ≡ nodes → first ≡ length nodes → opened ≡ Some (first + 1) → states ≡ with_state (Branched first opened) reserved x → closed_word ≡ w ++ false ∷ [] → open_word ≡ w ++ true ∷ [] → (states ++ new_node closed_word ∷ []) ++ new_node open_word ∷ [] ≡ with_state (branch_of (length nodes) (child_words w true)) nodes x ++ map new_node (child_words w true)
+pub both_pushed : (nodes reserved states : List TreeNode) (x first : ℕ) (opened : Option ℕ) (w closed_word open_word : List Bool)
+    → reserved ≡ nodes → first ≡ length nodes → opened ≡ Some (first + 1)
+    → states ≡ with_state (Branched first opened) reserved x → closed_word ≡ w ++ false ∷ []
+    → open_word ≡ w ++ true ∷ []
+    → (states ++ new_node closed_word ∷ []) ++ new_node open_word ∷ [] ≡ with_state (branch_of (length nodes) (child_words w true)) nodes x ++ map new_node (child_words w true)
 both_pushed nodes reserved states x first opened w closed_word open_word same count made is f h =
     two_pushed states (with_state (branch_of (length nodes) (child_words w true)) nodes x) (new_node closed_word) (new_node open_word) (new_node (w ++ false ∷ [])) (new_node (w ++ true ∷ []))
     (is ∙ ap (λ (ns : List TreeNode). with_state (Branched first opened) ns x) same ∙ ap (λ (o : Option ℕ). with_state (Branched first o) nodes x) made ∙ ap (λ (i : ℕ). with_state (Branched i (Some (i + 1))) nodes x) count) (ap new_node f) (ap new_node h)
 
-pub closed_pushed : (nodes reserved states : List TreeNode) (x first : ℕ) (opened : Option ℕ) (w closed_word : List Bool) → reserved ≡ nodes → first ≡ length nodes → opened ≡ None → states ≡ with_state (Branched first opened) reserved x → closed_word ≡ w ++ false ∷ [] → states ++ new_node closed_word ∷ [] ≡ with_state (branch_of (length nodes) (child_words w false)) nodes x ++ map new_node (child_words w false)
+pub closed_pushed : (nodes reserved states : List TreeNode) (x first : ℕ) (opened : Option ℕ) (w closed_word : List Bool)
+    → reserved ≡ nodes → first ≡ length nodes → opened ≡ None → states ≡ with_state (Branched first opened) reserved x
+    → closed_word ≡ w ++ false ∷ []
+    → states ++ new_node closed_word ∷ [] ≡ with_state (branch_of (length nodes) (child_words w false)) nodes x ++ map new_node (child_words w false)
 closed_pushed nodes reserved states x first opened w closed_word same count made is f =
     one_pushed states (with_state (branch_of (length nodes) (child_words w false)) nodes x) (new_node closed_word) (new_node (w ++ false ∷ []))
     (is ∙ ap (λ (ns : List TreeNode). with_state (Branched first opened) ns x) same ∙ ap (λ (o : Option ℕ). with_state (Branched first o) nodes x) made ∙ ap (λ (i : ℕ). with_state (Branched i None) nodes x) count) (ap new_node f)

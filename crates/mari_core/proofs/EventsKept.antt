@@ -36,7 +36,9 @@ entries_kept g [] grows h = grows
 entries_kept g (e ∷ es) grows h = entries_kept (grown g e) es (entry_kept g e grows h.0) h.1
 
 -- to settle a taken node with a finding is allowed
-pub settle_allowed : (g : Grown) (k x cutoff : ℕ) (finding : Finding) → IsGrowth g → IsCutoff g.market cutoff → IfSome (slice_get g.nodes x) (MaySettle g.market cutoff finding) → state_at g.nodes x ≡ Some (Taken k) → IsAllowed g (settling g k x cutoff finding)
+pub settle_allowed : (g : Grown) (k x cutoff : ℕ) (finding : Finding) → IsGrowth g → IsCutoff g.market cutoff
+    → IfSome (slice_get g.nodes x) (MaySettle g.market cutoff finding) → state_at g.nodes x ≡ Some (Taken k)
+    → IsAllowed g (settling g k x cutoff finding)
 settle_allowed g k x cutoff finding grows above h taken = by_leaf (closing_leaf cutoff finding) refl
   where
     by_test : (b : Bool) → nat_le (length g.nodes + length (children_at g x)) g.budget ≡ b → MayBranch g k x cutoff → IsAllowed g (if b then Branch k x cutoff else Full k x cutoff)
@@ -67,7 +69,9 @@ passes (Some a) fault e = record { actor = a; there = refl; none = e }
 entry_event : (s : Machine) (e : Entry) → KeepsFacts s → IsAllowed s.tree e → IsEntryCutAt s.incumbent e → KeepsFacts (record s { tree = grown s.tree e })
 entry_event s e h allowed cut = entry_step_kept {X = Unit {0}} s e (grown s.tree e) (Ok tt) h (entry_kept s.tree e h.tree allowed) cut refl tt
 
-settle_event : (s : Machine) (k x : ℕ) (finding : Finding) → KeepsFacts s → IsProper s (Settle k x finding) → Passes (slice_get s.actors k) (return_refused k (state_at s.tree.nodes x)) → KeepsFacts (after s (Settle k x finding))
+settle_event : (s : Machine) (k x : ℕ) (finding : Finding) → KeepsFacts s → IsProper s (Settle k x finding)
+    → Passes (slice_get s.actors k) (return_refused k (state_at s.tree.nodes x))
+    → KeepsFacts (after s (Settle k x finding))
 settle_event s k x finding h proper p =
     let seen : seen_by (slice_get s.actors k) ≡ p.actor.seen = ap seen_by p.there in
     let above : IsCutoff s.tree.market (seen_by (slice_get s.actors k)) = subst (IsCutoff s.tree.market) (sym seen) (seen_is_cutoff s k p.actor h p.there) in

@@ -18,7 +18,10 @@ pub none_visited : (nodes : List TreeNode) (items : List TreeItem) (ns : List �
 none_visited nodes items ns e = record { items_are = e; done = All-nil (λ (x : ℕ). is_done (state_at nodes x) ≡ true) }
 
 -- one number more is visited
-pub visited_more : (nodes : List TreeNode) (items items' : List TreeItem) (ns : List ℕ) (i d : ℕ) (s : NodeState) (item : TreeItem) → Visited nodes items (take i ns) → i < length ns → state_at nodes (get_or ns i d) ≡ Some s → is_done (Some s) ≡ true → item ≡ tree_item (Some s) → items' ≡ items ++ item ∷ [] → Visited nodes items' (take (i + 1) ns)
+pub visited_more : (nodes : List TreeNode) (items items' : List TreeItem) (ns : List ℕ) (i d : ℕ) (s : NodeState) (item : TreeItem)
+    → Visited nodes items (take i ns) → i < length ns → state_at nodes (get_or ns i d) ≡ Some s
+    → is_done (Some s) ≡ true → item ≡ tree_item (Some s) → items' ≡ items ++ item ∷ []
+    → Visited nodes items' (take (i + 1) ns)
 visited_more nodes items items' ns i d s item v l state done is pushed = record {
   items_are = pushed ∙ ap (λ (ts : List TreeItem). ts ++ item ∷ []) v.items_are
       ∙ ap (λ (t : TreeItem). map (λ (x : ℕ). tree_item (state_at nodes x)) (take i ns) ++ t ∷ []) (is ∙ ap tree_item (sym state))
@@ -43,7 +46,9 @@ split_at (n ∷ ns) zero d l = refl
 split_at (n ∷ ns) (suc i) d l = ap (λ (ms : List ℕ). n ∷ ms) (split_at ns i d (omega arith))
 
 -- the next is the first leaf that isn't closed
-pub first_open : (nodes : List TreeNode) (items : List TreeItem) (ns : List ℕ) (i d : ℕ) (s : NodeState) → Visited nodes items (take i ns) → IsPreorder nodes ns → i < length ns → state_at nodes (get_or ns i d) ≡ Some s → is_done (Some s) ≡ false → IsFirstOpen nodes (get_or ns i d)
+pub first_open : (nodes : List TreeNode) (items : List TreeItem) (ns : List ℕ) (i d : ℕ) (s : NodeState)
+    → Visited nodes items (take i ns) → IsPreorder nodes ns → i < length ns → state_at nodes (get_or ns i d) ≡ Some s
+    → is_done (Some s) ≡ false → IsFirstOpen nodes (get_or ns i d)
 first_open nodes items ns i d s v p l state waits = record {
   before = take i ns;
   rest = drop (suc i) ns;

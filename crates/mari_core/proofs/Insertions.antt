@@ -53,7 +53,9 @@ length-insert_after x kids (y ∷ ys) h = elim (cases_eq y x) [
 ]
 
 -- a walk past x is a walk where only x got children
-walk_without : (nodes nodes' : List TreeNode) (x : ℕ) → ((y : ℕ) → (y ≡ x → ⊥) → children_of nodes' y ≡ children_of nodes y) → (waiting xs : List ℕ) → occurs x xs ≡ 0 → IsWalk nodes waiting xs → IsWalk nodes' waiting xs
+walk_without : (nodes nodes' : List TreeNode) (x : ℕ)
+    → ((y : ℕ) → (y ≡ x → ⊥) → children_of nodes' y ≡ children_of nodes y) → (waiting xs : List ℕ) → occurs x xs ≡ 0
+    → IsWalk nodes waiting xs → IsWalk nodes' waiting xs
 walk_without nodes nodes' x h [] [] e w = tt
 walk_without nodes nodes' x h [] (y ∷ ys) e w = absurd w
 walk_without nodes nodes' x h (v ∷ waiting) [] e w = absurd w
@@ -72,7 +74,10 @@ walk_leaves nodes (k ∷ ks) waiting xs l w =
     (refl, subst (λ (zs : List ℕ). IsWalk nodes (zs ++ (ks ++ waiting)) (ks ++ xs)) (sym l.0) (walk_leaves nodes ks waiting xs l.1 w))
 
 -- a walk where x got children visits them after x
-pub walk_grows : (nodes nodes' : List TreeNode) (x : ℕ) (kids : List ℕ) → ((y : ℕ) → (y ≡ x → ⊥) → children_of nodes' y ≡ children_of nodes y) → children_of nodes x ≡ [] → children_of nodes' x ≡ kids → AreLeaves nodes' kids → (waiting xs : List ℕ) → occurs x xs ≡ 1 → IsWalk nodes waiting xs → IsWalk nodes' waiting (insert_after x kids xs)
+pub walk_grows : (nodes nodes' : List TreeNode) (x : ℕ) (kids : List ℕ)
+    → ((y : ℕ) → (y ≡ x → ⊥) → children_of nodes' y ≡ children_of nodes y) → children_of nodes x ≡ []
+    → children_of nodes' x ≡ kids → AreLeaves nodes' kids → (waiting xs : List ℕ) → occurs x xs ≡ 1
+    → IsWalk nodes waiting xs → IsWalk nodes' waiting (insert_after x kids xs)
 walk_grows nodes nodes' x kids h before after l [] [] e w = tt
 walk_grows nodes nodes' x kids h before after l [] (y ∷ ys) e w = absurd w
 walk_grows nodes nodes' x kids h before after l (v ∷ waiting) [] e w = absurd w

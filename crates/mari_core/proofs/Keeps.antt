@@ -38,7 +38,9 @@ children_of_leaf m words word (Branched closed opened) e = absurd (cc)
 children_of_leaf m words word (Closed leaf cutoff) e = tt
 
 -- a parent is branched, so it is another node than a leaf
-pub parent_stays : (s : NodeState) (nodes : List TreeNode) (x : ℕ) (n : TreeNode) → slice_get nodes x ≡ Some n → is_branched n.state ≡ false → (word : List Bool) → (word ≡ []) ⊎ HasParent nodes word → (word ≡ []) ⊎ HasParent (with_state s nodes x) word
+pub parent_stays : (s : NodeState) (nodes : List TreeNode) (x : ℕ) (n : TreeNode) → slice_get nodes x ≡ Some n
+    → is_branched n.state ≡ false → (word : List Bool) → (word ≡ []) ⊎ HasParent nodes word
+    → (word ≡ []) ⊎ HasParent (with_state s nodes x) word
 parent_stays s nodes x n e leaf word (inl root) = inl root
 parent_stays s nodes x n e leaf word (inr p) =
     let other : p.number ≢ x = λ same. apart same in
@@ -59,7 +61,11 @@ parent_stays s nodes x n e leaf word (inr p) =
         absurd (cc (p.branched_is))
 
 -- where a leaf gets another state in which it stays a leaf, all is kept
-pub leaf_kept : (s : NodeState) (g : Grown) (x : ℕ) (n : TreeNode) (full : Bool) → IsGrowth g → slice_get g.nodes x ≡ Some n → is_branched n.state ≡ false → is_branched s ≡ false → HoldsAtCutoff g.market n.word s → (full ≡ true → IsCrowded (record g { nodes = with_state s g.nodes x; full = full })) → IsGrowth (record g { nodes = with_state s g.nodes x; full = full })
+pub leaf_kept : (s : NodeState) (g : Grown) (x : ℕ) (n : TreeNode) (full : Bool) → IsGrowth g
+    → slice_get g.nodes x ≡ Some n → is_branched n.state ≡ false → is_branched s ≡ false
+    → HoldsAtCutoff g.market n.word s
+    → (full ≡ true → IsCrowded (record g { nodes = with_state s g.nodes x; full = full }))
+    → IsGrowth (record g { nodes = with_state s g.nodes x; full = full })
 leaf_kept s g x n full k e was is holds crowded = record {
   valid = k.valid;
   budget_is = k.budget_is;
@@ -83,7 +89,8 @@ leaf_kept s g x n full k e was is holds crowded = record {
     same = words-with_state s g.nodes x
 
 -- a node that could branch, but for the budget, still could
-pub crowded_stays : (s : NodeState) (g : Grown) (x : ℕ) (n : TreeNode) (full : Bool) → slice_get g.nodes x ≡ Some n → is_branched s ≡ false → IsCrowded g → IsCrowded (record g { nodes = with_state s g.nodes x; full = full })
+pub crowded_stays : (s : NodeState) (g : Grown) (x : ℕ) (n : TreeNode) (full : Bool) → slice_get g.nodes x ≡ Some n
+    → is_branched s ≡ false → IsCrowded g → IsCrowded (record g { nodes = with_state s g.nodes x; full = full })
 crowded_stays s g x n full e is c = by_place (cases_eq c.number x)
   where
     more : g.budget < length (with_state s g.nodes x) + length (children g.market.gates c.node.word)

@@ -42,7 +42,9 @@ pub all_from : {X : Type 0} (P : X → Type 0) (xs : List X) → ((k : ℕ) (x :
 all_from P xs h k d l = h k (get_or xs k d) (slice_get-get_or xs k d l)
 
 -- where each item had P, each item of the changed list has Q
-pub all_changed : {X : Type 0} (P Q : X → Type 0) (f : X → X) (xs : List X) (k : ℕ) → All P xs → ((j : ℕ) (x : X) → j ≢ k → slice_get xs j ≡ Some x → P x → Q x) → ((x : X) → slice_get xs k ≡ Some x → P x → Q (f x)) → All Q (changed f xs k)
+pub all_changed : {X : Type 0} (P Q : X → Type 0) (f : X → X) (xs : List X) (k : ℕ) → All P xs
+    → ((j : ℕ) (x : X) → j ≢ k → slice_get xs j ≡ Some x → P x → Q x)
+    → ((x : X) → slice_get xs k ≡ Some x → P x → Q (f x)) → All Q (changed f xs k)
 all_changed {X = X} P Q f xs k a other same = all_from Q (changed f xs k) each
   where
     at_k : (o : Option X) (x : X) → slice_get xs k ≡ o → slice_get (changed f xs k) k ≡ Some x → Q x

@@ -43,7 +43,9 @@ pub record IsSomeActor (actors : List Actor) (k : ℕ) : Type 0 where
   pub there : slice_get actors k ≡ Some actor
 
 -- what a change leaves of the offers, it leaves of the greatest
-greatest_same : (f : Actor → Actor) → ((a : Actor) → (f a).offered ≡ a.offered) → (w : ℕ) (actors : List Actor) (k : ℕ) → greatest_by (λ (x : Actor). x.offered) w (changed f actors k) ≡ greatest_by (λ (x : Actor). x.offered) w actors
+greatest_same : (f : Actor → Actor) → ((a : Actor) → (f a).offered ≡ a.offered)
+    → (w : ℕ) (actors : List Actor) (k : ℕ)
+    → greatest_by (λ (x : Actor). x.offered) w (changed f actors k) ≡ greatest_by (λ (x : Actor). x.offered) w actors
 greatest_same f h w [] k = refl
 greatest_same f h w (a ∷ others) zero = ap (λ (o : ℕ). max o (greatest_by (λ (x : Actor). x.offered) w others)) (h a)
 greatest_same f h w (a ∷ others) (suc k) = ap (λ (g : ℕ). max a.offered g) (greatest_same f h w others k)
@@ -62,7 +64,8 @@ offered_is incumbent attained a = by_test (nat_lt a.offered attained.welfare) re
     by_test true e = grind (arith, nat_tests)
     by_test false e = grind (arith, nat_tests)
 
-greatest_offered : (incumbent : ℕ) (attained : Attained) (w : ℕ) (actors : List Actor) (k : ℕ) → k < length actors → greatest_by (λ (x : Actor). x.offered) w (changed (offering incumbent attained) actors k) ≡ max (greatest_by (λ (x : Actor). x.offered) w actors) attained.welfare
+greatest_offered : (incumbent : ℕ) (attained : Attained) (w : ℕ) (actors : List Actor) (k : ℕ) → k < length actors
+    → greatest_by (λ (x : Actor). x.offered) w (changed (offering incumbent attained) actors k) ≡ max (greatest_by (λ (x : Actor). x.offered) w actors) attained.welfare
 greatest_offered incumbent attained w [] k l = absurd (omega arith)
 greatest_offered incumbent attained w (a ∷ others) zero l = omega (arith, offered_is incumbent attained a)
 greatest_offered incumbent attained w (a ∷ others) (suc k) l = omega (arith, greatest_offered incumbent attained w others k (omega arith))
@@ -96,7 +99,8 @@ best_above m w offered None h = omega (arith, h)
 best_above m w offered (Some b) h = omega (arith, h.2)
 
 -- what an actor has after an offer
-offered_actor : (m : Market) (w incumbent incumbent' : ℕ) (attained : Attained) (a : Actor) → w ≤ incumbent' → IsAttained m attained → IsActor m w incumbent a → IsActor m w incumbent' (offering incumbent' attained a)
+offered_actor : (m : Market) (w incumbent incumbent' : ℕ) (attained : Attained) (a : Actor) → w ≤ incumbent'
+    → IsAttained m attained → IsActor m w incumbent a → IsActor m w incumbent' (offering incumbent' attained a)
 offered_actor m w incumbent incumbent' attained a l at i = by_test (nat_lt a.offered attained.welfare) refl
   where
     by_test : (b : Bool) → nat_lt a.offered attained.welfare ≡ b → IsActor m w incumbent' (chosen b incumbent' attained a)
@@ -107,7 +111,10 @@ offered_actor m w incumbent incumbent' attained a l at i = by_test (nat_lt a.off
     by_test false e = record { above = l; below = omega arith; best = i.best }
 
 -- an actor offers
-pub offer_kept : (s : Machine) (k incumbent : ℕ) (attained : Attained) (actors : List Actor) → KeepsFacts s → IsAttained s.tree.market attained → k < length s.actors → incumbent ≡ max s.incumbent attained.welfare → actors ≡ changed (offering incumbent attained) s.actors k → KeepsFacts (record s { incumbent = incumbent; actors = actors })
+pub offer_kept : (s : Machine) (k incumbent : ℕ) (attained : Attained) (actors : List Actor) → KeepsFacts s
+    → IsAttained s.tree.market attained → k < length s.actors → incumbent ≡ max s.incumbent attained.welfare
+    → actors ≡ changed (offering incumbent attained) s.actors k
+    → KeepsFacts (record s { incumbent = incumbent; actors = actors })
 offer_kept s k incumbent attained actors h at l w e = subst (λ (others : List Actor). KeepsFacts (record s { incumbent = incumbent; actors = others })) (sym e) (record {
   tree = h.tree;
   cutoffs = cuts_rise s.incumbent incumbent (omega (arith, w)) s.tree.nodes h.cutoffs;
@@ -173,7 +180,9 @@ tree_kept s tree h grows m cut = record {
 }
 
 -- an entry of the tree, or none
-pub entry_step_kept : {X : Type 0} (s : Machine) (e : Entry) (tree : Grown) (r : Result X StepFault) → KeepsFacts s → IsGrowth tree → IsEntryCutAt s.incumbent e → IfOk r (λ _. tree ≡ grown s.tree e) → IfErr r (λ _. tree ≡ s.tree) → KeepsFacts (record s { tree = tree })
+pub entry_step_kept : {X : Type 0} (s : Machine) (e : Entry) (tree : Grown) (r : Result X StepFault) → KeepsFacts s
+    → IsGrowth tree → IsEntryCutAt s.incumbent e → IfOk r (λ _. tree ≡ grown s.tree e) → IfErr r (λ _. tree ≡ s.tree)
+    → KeepsFacts (record s { tree = tree })
 entry_step_kept s e tree (Ok u) h grows c change same =
     tree_kept s tree h grows (ap (λ (g : Grown). g.market) change ∙ grown_market s.tree e)
     (subst (λ (g : Grown). AreCutAt s.incumbent g.nodes) (sym change) (entry_cut s.tree e s.incumbent c h.cutoffs))
@@ -196,7 +205,8 @@ greatest_new : (w n : ℕ) → w ≡ greatest_by (λ (x : Actor). x.offered) w (
 greatest_new w zero = refl
 greatest_new w (suc n) = omega (arith, greatest_new w n)
 
-pub start_keeps : (m : Market) (n budget : ℕ) (first : Attained) → IsValid m → 1 ≤ n → IsAttained m first → IsClosedWelfare m (pos first.welfare) → IsBudget budget → KeepsFacts (started m n first budget)
+pub start_keeps : (m : Market) (n budget : ℕ) (first : Attained) → IsValid m → 1 ≤ n → IsAttained m first
+    → IsClosedWelfare m (pos first.welfare) → IsBudget budget → KeepsFacts (started m n first budget)
 start_keeps m n budget first v l a c b = record {
   tree = seed_grows m budget v b;
   cutoffs = All-cons (λ (x : TreeNode). IsCutAt first.welfare x.state) (new_node []) [] tt (All-nil (λ (x : TreeNode). IsCutAt first.welfare x.state));
@@ -213,7 +223,8 @@ actor_there actors k l = record { actor = get_or actors k (new_actor 0); there =
 pub by_actor_there : (actors : List Actor) (k : ℕ) (refused : Option StepFault) → k < length actors → by_actor (slice_get actors k) refused ≡ refused
 by_actor_there actors k refused l = ap (λ (o : Option Actor). by_actor o refused) (slice_get-get_or actors k (new_actor 0) l)
 
-pub answer_there : {X : Type 0} (actors : List Actor) (k : ℕ) (refused : Option StepFault) (r : Result X StepFault) → k < length actors → IsAnswer refused r → IsAnswer (by_actor (slice_get actors k) refused) r
+pub answer_there : {X : Type 0} (actors : List Actor) (k : ℕ) (refused : Option StepFault) (r : Result X StepFault)
+    → k < length actors → IsAnswer refused r → IsAnswer (by_actor (slice_get actors k) refused) r
 answer_there actors k refused r l h = subst (λ (o : Option StepFault). IsAnswer o r) (sym (by_actor_there actors k refused l)) h
 
 -- what an actor that is there saw
@@ -224,12 +235,16 @@ actor_at s k a h e = all_get (IsActor s.tree.market s.first.welfare s.incumbent)
 pub seen_is_cutoff : (s : Machine) (k : ℕ) (a : Actor) → KeepsFacts s → slice_get s.actors k ≡ Some a → IsCutoff s.tree.market a.seen
 seen_is_cutoff s k a h e = record { closed = pos s.first.welfare; is_closed = h.closed; above = omega (arith, ints, (actor_at s k a h e).above) }
 
-pub settle_change : (s now : Machine) (k x cutoff : ℕ) (finding : Finding) (tree : Grown) (r : Result (Unit {0}) StepFault) → s ≡ now → seen_by (slice_get s.actors k) ≡ cutoff → IfOk r (λ _. tree ≡ grown s.tree (settling s.tree k x cutoff finding)) → IfOk r (λ _. record s { tree = tree } ≡ after now (Settle k x finding))
+pub settle_change : (s now : Machine) (k x cutoff : ℕ) (finding : Finding) (tree : Grown) (r : Result (Unit {0}) StepFault)
+    → s ≡ now → seen_by (slice_get s.actors k) ≡ cutoff
+    → IfOk r (λ _. tree ≡ grown s.tree (settling s.tree k x cutoff finding))
+    → IfOk r (λ _. record s { tree = tree } ≡ after now (Settle k x finding))
 settle_change s now k x cutoff finding tree (Ok u) same seen change =
     ap (λ (t : Grown). record s { tree = t }) (change ∙ ap (λ (c : ℕ). grown s.tree (settling s.tree k x c finding)) (sym seen)) ∙ ap (λ (t : Machine). after t (Settle k x finding)) same
 settle_change s now k x cutoff finding tree (Err f) same seen change = tt
 
-pub may_settle_by : (s : Machine) (k x : ℕ) (a : Actor) (finding : Finding) → slice_get s.actors k ≡ Some a → IsProper s (Settle k x finding) → IfSome (slice_get s.tree.nodes x) (MaySettle s.tree.market a.seen finding)
+pub may_settle_by : (s : Machine) (k x : ℕ) (a : Actor) (finding : Finding) → slice_get s.actors k ≡ Some a
+    → IsProper s (Settle k x finding) → IfSome (slice_get s.tree.nodes x) (MaySettle s.tree.market a.seen finding)
 may_settle_by s k x a finding there h = subst (λ (o : Option Actor). IfSome o (λ (b : Actor). IfSome (slice_get s.tree.nodes x) (MaySettle s.tree.market b.seen finding))) there h
 
 pub actor_there_by : (actors : List Actor) (k : ℕ) (a : Actor) → k < length actors → a ≡ get_or actors k a → slice_get actors k ≡ Some a
@@ -242,7 +257,9 @@ pub record IsBestOf (m : Market) (incumbent : ℕ) (a : Attained) : Type 0 where
   pub attained : IsAttained m a
   pub welfare_is : a.welfare ≡ incumbent
 
-best_of_actor : (m : Market) (incumbent : ℕ) (first : Attained) (offered : ℕ) (best : Option Attained) → IsBestOf m first.welfare first → offered ≡ incumbent → IsBest m first.welfare offered best → IsBestOf m incumbent (best_or first best)
+best_of_actor : (m : Market) (incumbent : ℕ) (first : Attained) (offered : ℕ) (best : Option Attained)
+    → IsBestOf m first.welfare first → offered ≡ incumbent → IsBest m first.welfare offered best
+    → IsBestOf m incumbent (best_or first best)
 best_of_actor m incumbent first offered None f e h = record { attained = f.attained; welfare_is = omega (arith, e, h) }
 best_of_actor m incumbent first offered (Some b) f e h = record { attained = h.0; welfare_is = h.1 ∙ e }
 
@@ -252,22 +269,30 @@ other_by_test a b e h = grind (arith, nat_tests)
 rest_is_greatest : (incumbent offered g : ℕ) → incumbent ≡ max offered g → (offered ≡ incumbent → ⊥) → incumbent ≡ g
 rest_is_greatest incumbent offered g e n = omega (arith, e, n)
 
-best_among : (m : Market) (incumbent seen : ℕ) (first : Attained) (actors : List Actor) → IsBestOf m first.welfare first → All (IsActor m first.welfare seen) actors → incumbent ≡ greatest_by (λ (x : Actor). x.offered) first.welfare actors → IsBestOf m incumbent (best_of incumbent first actors)
+best_among : (m : Market) (incumbent seen : ℕ) (first : Attained) (actors : List Actor)
+    → IsBestOf m first.welfare first → All (IsActor m first.welfare seen) actors
+    → incumbent ≡ greatest_by (λ (x : Actor). x.offered) first.welfare actors
+    → IsBestOf m incumbent (best_of incumbent first actors)
 best_among m incumbent seen first [] f h e = record { attained = f.attained; welfare_is = sym e }
 best_among m incumbent seen first (a ∷ others) f h e = by_test (a.offered == incumbent) refl (best_among m incumbent seen first others f (All-tail (IsActor m first.welfare seen) a others h))
   where
-    by_test : (b : Bool) → (a.offered == incumbent) ≡ b → (incumbent ≡ greatest_by (λ (x : Actor). x.offered) first.welfare others → IsBestOf m incumbent (best_of incumbent first others)) → IsBestOf m incumbent (if b then best_or first a.best else best_of incumbent first others)
+    by_test : (b : Bool) → (a.offered == incumbent) ≡ b
+        → (incumbent ≡ greatest_by (λ (x : Actor). x.offered) first.welfare others → IsBestOf m incumbent (best_of incumbent first others))
+        → IsBestOf m incumbent (if b then best_or first a.best else best_of incumbent first others)
     by_test true is rest = best_of_actor m incumbent first a.offered a.best f (eqb-true a.offered incumbent is) (All-head (IsActor m first.welfare seen) a others h).best
     by_test false is rest = rest (rest_is_greatest incumbent a.offered (greatest_by (λ (x : Actor). x.offered) first.welfare others) e (other_by_test a.offered incumbent is))
 
 pub best_is : (s : Machine) → KeepsFacts s → IsBestOf s.tree.market s.incumbent (best_of s.incumbent s.first s.actors)
 best_is s h = best_among s.tree.market s.incumbent s.incumbent s.first s.actors (record { attained = h.attained; welfare_is = refl }) h.actors_are h.incumbent_is
 
-first_of_actor : (m : Market) (incumbent : ℕ) (first : Attained) (offered : ℕ) (best : Option Attained) → incumbent ≡ first.welfare → offered ≡ incumbent → IsBest m first.welfare offered best → best_or first best ≡ first
+first_of_actor : (m : Market) (incumbent : ℕ) (first : Attained) (offered : ℕ) (best : Option Attained)
+    → incumbent ≡ first.welfare → offered ≡ incumbent → IsBest m first.welfare offered best
+    → best_or first best ≡ first
 first_of_actor m incumbent first offered None e o h = refl
 first_of_actor m incumbent first offered (Some b) e o h = absurd (omega (arith, e, o, h.2))
 
-first_among : (m : Market) (incumbent seen : ℕ) (first : Attained) (actors : List Actor) → incumbent ≡ first.welfare → All (IsActor m first.welfare seen) actors → best_of incumbent first actors ≡ first
+first_among : (m : Market) (incumbent seen : ℕ) (first : Attained) (actors : List Actor) → incumbent ≡ first.welfare
+    → All (IsActor m first.welfare seen) actors → best_of incumbent first actors ≡ first
 first_among m incumbent seen first [] e h = refl
 first_among m incumbent seen first (a ∷ others) e h = by_test (a.offered == incumbent) refl (first_among m incumbent seen first others e (All-tail (IsActor m first.welfare seen) a others h))
   where
@@ -280,7 +305,10 @@ pub first_is_best : (s : Machine) → KeepsFacts s → s.incumbent ≡ s.first.w
 first_is_best s h e = first_among s.tree.market s.incumbent s.incumbent s.first s.actors e h.actors_are
 
 -- with a tree that holds at the incumbent, the best is optimal
-pub clearing_by : (s : Machine) (c : Clearing) → KeepsFacts s → c.activation ≡ (best_of s.incumbent s.first s.actors).activation → c.welfare ≡ s.incumbent → TreeHolds s.tree.market (pos s.incumbent) c.tree → length c.tree ≤ s.tree.budget → IsOptimalClearing s.tree.market s.tree.budget c
+pub clearing_by : (s : Machine) (c : Clearing) → KeepsFacts s
+    → c.activation ≡ (best_of s.incumbent s.first s.actors).activation → c.welfare ≡ s.incumbent
+    → TreeHolds s.tree.market (pos s.incumbent) c.tree → length c.tree ≤ s.tree.budget
+    → IsOptimalClearing s.tree.market s.tree.budget c
 clearing_by s c h a w t l =
     let best : IsBestOf s.tree.market s.incumbent (best_of s.incumbent s.first s.actors) = best_is s h in
     let welfare : welfare_of s.tree.market c.activation ≡ pos c.welfare = ap (welfare_of s.tree.market) a ∙ best.attained.welfare ∙ ap pos best.welfare_is ∙ ap pos (sym w) in

@@ -83,13 +83,17 @@ are_within nodes ns p = λ i d l. item_within nodes ns i d p l
 
 -- ---- a part of the search tree
 
-part_step : (m : Market) (nodes : List TreeNode) (s : NodeState) (word : List Bool) (words : List (List Bool)) (items : List PartItem) → IsNode m word → HasChildren m (words_of nodes) word s → ArePartsOfSearch m (words_at nodes (child_numbers s) ++ words) items → ArePartsOfSearch m (word ∷ words) (part_item (Some s) ∷ items)
+part_step : (m : Market) (nodes : List TreeNode) (s : NodeState) (word : List Bool) (words : List (List Bool)) (items : List PartItem)
+    → IsNode m word → HasChildren m (words_of nodes) word s
+    → ArePartsOfSearch m (words_at nodes (child_numbers s) ++ words) items
+    → ArePartsOfSearch m (word ∷ words) (part_item (Some s) ∷ items)
 part_step m nodes Untaken word words items n h a = (n, a)
 part_step m nodes (Taken k) word words items n h a = (n, a)
 part_step m nodes (Branched closed opened) word words items n h a = (n, h.0, subst (λ (ws : List (List Bool)). ArePartsOfSearch m (ws ++ words) items) (read_words nodes (child_numbers (Branched closed opened)) (children m.gates word) h.1) a)
 part_step m nodes (Closed leaf cutoff) word words items n h a = (n, a)
 
-walk_parts : (g : Grown) → IsGrowth g → (waiting ns : List ℕ) → AreWithin g.nodes ns → IsWalk g.nodes waiting ns → ArePartsOfSearch g.market (words_at g.nodes waiting) (map (λ x. part_item (state_at g.nodes x)) ns)
+walk_parts : (g : Grown) → IsGrowth g → (waiting ns : List ℕ) → AreWithin g.nodes ns → IsWalk g.nodes waiting ns
+    → ArePartsOfSearch g.market (words_at g.nodes waiting) (map (λ x. part_item (state_at g.nodes x)) ns)
 walk_parts g k [] [] within w = tt
 walk_parts g k [] (x ∷ xs) within w = absurd w
 walk_parts g k (v ∷ waiting) [] within w = absurd w
@@ -125,19 +129,26 @@ contains_head w ws = (0, omega arith, refl)
 pub contains_tail : (w v : List Bool) (ws : List (List Bool)) → Contains ws w → Contains (v ∷ ws) w
 contains_tail w v ws c = (suc c.0, omega (arith, c.1), c.2)
 
-leaf_here : (m : Market) (s : NodeState) (word : List Bool) (words : List (List Bool)) (items : List PartItem) → is_branched s ≡ false → Contains (leaves_of m (word ∷ words) (part_item (Some s) ∷ items)) word
+leaf_here : (m : Market) (s : NodeState) (word : List Bool) (words : List (List Bool)) (items : List PartItem)
+    → is_branched s ≡ false → Contains (leaves_of m (word ∷ words) (part_item (Some s) ∷ items)) word
 leaf_here m Untaken word words items e = contains_head word (leaves_of m words items)
 leaf_here m (Taken k) word words items e = contains_head word (leaves_of m words items)
 leaf_here m (Branched closed opened) word words items e = absurd (cc)
 leaf_here m (Closed leaf cutoff) word words items e = contains_head word (leaves_of m words items)
 
-leaf_later : (m : Market) (nodes : List TreeNode) (s : NodeState) (word : List Bool) (words : List (List Bool)) (items : List PartItem) (leaf : List Bool) → HasChildren m (words_of nodes) word s → Contains (leaves_of m (words_at nodes (child_numbers s) ++ words) items) leaf → Contains (leaves_of m (word ∷ words) (part_item (Some s) ∷ items)) leaf
+leaf_later : (m : Market) (nodes : List TreeNode) (s : NodeState) (word : List Bool) (words : List (List Bool)) (items : List PartItem) (leaf : List Bool)
+    → HasChildren m (words_of nodes) word s
+    → Contains (leaves_of m (words_at nodes (child_numbers s) ++ words) items) leaf
+    → Contains (leaves_of m (word ∷ words) (part_item (Some s) ∷ items)) leaf
 leaf_later m nodes Untaken word words items leaf h c = contains_tail leaf word (leaves_of m words items) c
 leaf_later m nodes (Taken k) word words items leaf h c = contains_tail leaf word (leaves_of m words items) c
 leaf_later m nodes (Branched closed opened) word words items leaf h c = subst (λ (ws : List (List Bool)). Contains (leaves_of m (ws ++ words) items) leaf) (read_words nodes (child_numbers (Branched closed opened)) (children m.gates word) h.1) c
 leaf_later m nodes (Closed l cutoff) word words items leaf h c = contains_tail leaf word (leaves_of m words items) c
 
-walk_leaf : (g : Grown) → IsGrowth g → (z : ℕ) (n : TreeNode) → slice_get g.nodes z ≡ Some n → is_branched n.state ≡ false → (waiting ns : List ℕ) → 1 ≤ occurs z ns → AreWithin g.nodes ns → IsWalk g.nodes waiting ns → Contains (leaves_of g.market (words_at g.nodes waiting) (map (λ x. part_item (state_at g.nodes x)) ns)) n.word
+walk_leaf : (g : Grown) → IsGrowth g → (z : ℕ) (n : TreeNode) → slice_get g.nodes z ≡ Some n
+    → is_branched n.state ≡ false → (waiting ns : List ℕ) → 1 ≤ occurs z ns → AreWithin g.nodes ns
+    → IsWalk g.nodes waiting ns
+    → Contains (leaves_of g.market (words_at g.nodes waiting) (map (λ x. part_item (state_at g.nodes x)) ns)) n.word
 walk_leaf g k z n e leaf waiting [] o within w = absurd (omega arith)
 walk_leaf g k z n e leaf [] (x ∷ xs) o within w = absurd w
 walk_leaf g k z n e leaf (v ∷ waiting) (x ∷ xs) o within w =
@@ -182,13 +193,18 @@ part_is_spent g items k p full =
 
 -- ---- a certificate tree
 
-tree_step : (m : Market) (nodes : List TreeNode) (cutoff : ℕ) (s : NodeState) (word : List Bool) (words : List (List Bool)) (items : List TreeItem) → IsCutAt cutoff s → HasChildren m (words_of nodes) word s → HoldsAtCutoff m word s → is_done (Some s) ≡ true → AreParts m (LeafHolds m (pos cutoff)) (words_at nodes (child_numbers s) ++ words) items → AreParts m (LeafHolds m (pos cutoff)) (word ∷ words) (tree_item (Some s) ∷ items)
+tree_step : (m : Market) (nodes : List TreeNode) (cutoff : ℕ) (s : NodeState) (word : List Bool) (words : List (List Bool)) (items : List TreeItem)
+    → IsCutAt cutoff s → HasChildren m (words_of nodes) word s → HoldsAtCutoff m word s → is_done (Some s) ≡ true
+    → AreParts m (LeafHolds m (pos cutoff)) (words_at nodes (child_numbers s) ++ words) items
+    → AreParts m (LeafHolds m (pos cutoff)) (word ∷ words) (tree_item (Some s) ∷ items)
 tree_step m nodes cutoff Untaken word words items c h l d a = absurd (cc)
 tree_step m nodes cutoff (Taken k) word words items c h l d a = absurd (cc)
 tree_step m nodes cutoff (Branched closed opened) word words items c h l d a = (h.0, subst (λ (ws : List (List Bool)). AreParts m (LeafHolds m (pos cutoff)) (ws ++ words) items) (read_words nodes (child_numbers (Branched closed opened)) (children m.gates word) h.1) a)
 tree_step m nodes cutoff (Closed leaf own) word words items c h l d a = ((parts_rise m (pos own) (pos cutoff) (omega (arith, ints, c)) (word ∷ []) (Leaf leaf ∷ []) (l, tt)).0, a)
 
-walk_tree : (g : Grown) (cutoff : ℕ) → IsGrowth g → AreCutAt cutoff g.nodes → (waiting ns : List ℕ) → AreWithin g.nodes ns → All (λ x. is_done (state_at g.nodes x) ≡ true) ns → IsWalk g.nodes waiting ns → AreParts g.market (LeafHolds g.market (pos cutoff)) (words_at g.nodes waiting) (map (λ x. tree_item (state_at g.nodes x)) ns)
+walk_tree : (g : Grown) (cutoff : ℕ) → IsGrowth g → AreCutAt cutoff g.nodes → (waiting ns : List ℕ)
+    → AreWithin g.nodes ns → All (λ x. is_done (state_at g.nodes x) ≡ true) ns → IsWalk g.nodes waiting ns
+    → AreParts g.market (LeafHolds g.market (pos cutoff)) (words_at g.nodes waiting) (map (λ x. tree_item (state_at g.nodes x)) ns)
 walk_tree g cutoff k cut [] [] within done w = tt
 walk_tree g cutoff k cut [] (x ∷ xs) within done w = absurd w
 walk_tree g cutoff k cut (v ∷ waiting) [] within done w = absurd w
@@ -218,7 +234,8 @@ shape_done (Some (Taken k)) e = absurd (cc)
 shape_done (Some (Branched closed opened)) e = refl
 shape_done (Some (Closed leaf cutoff)) e = refl
 
-shapes_done : (nodes : List TreeNode) (ns : List ℕ) → All (λ x. is_done (state_at nodes x) ≡ true) ns → map shape_of (map (λ x. tree_item (state_at nodes x)) ns) ≡ map (λ x. part_item (state_at nodes x)) ns
+shapes_done : (nodes : List TreeNode) (ns : List ℕ) → All (λ x. is_done (state_at nodes x) ≡ true) ns
+    → map shape_of (map (λ x. tree_item (state_at nodes x)) ns) ≡ map (λ x. part_item (state_at nodes x)) ns
 shapes_done nodes [] d = refl
 shapes_done nodes (x ∷ xs) d =
     let here : shape_of (tree_item (state_at nodes x)) ≡ part_item (state_at nodes x) = shape_done (state_at nodes x) (All-head (λ y. is_done (state_at nodes y) ≡ true) x xs d) in

@@ -14,7 +14,9 @@ pub record AtEvent (start : Machine) (all : List Event) (s : Machine) (place : �
   pub facts : KeepsFacts s
 
 -- the next is taken
-pub event_taken : (start s s' : Machine) (all left left' : List Event) (place : ℕ) (e : Event) → AtEvent start all s place left → left ≡ e ∷ left' → refusal s e ≡ None → s' ≡ after s e → KeepsFacts s' → AtEvent start all s' (place + 1) left'
+pub event_taken : (start s s' : Machine) (all left left' : List Event) (place : ℕ) (e : Event)
+    → AtEvent start all s place left → left ≡ e ∷ left' → refusal s e ≡ None → s' ≡ after s e → KeepsFacts s'
+    → AtEvent start all s' (place + 1) left'
 event_taken start s s' all left left' place e a is none next k =
     let here : AtEvent start all s place (e ∷ left') = subst (λ (es : List Event). AtEvent start all s place es) is a in
     subst (λ (m : Machine). KeepsFacts m → AtEvent start all m (place + 1) left') (sym next)

@@ -39,7 +39,9 @@ conflict_holds m word r c f l e = by_length (cases_eq (length word) (length m.ga
     by_length (inl full) = by_best r.best (f.at_the_end full)
     by_length (inr other) = let no : r.conflict ≡ None = (f.before (omega (arith, other, l))).conflict in absurd (cc)
 
-leaf_of_relaxed : (m : Market) (word : List Bool) (r : RelaxedRecord) (cutoff : ℕ) (leaf : Leaf) → IsRelaxedFinding m word r → length word ≤ length m.gates → closing_relaxed cutoff r r.conflict ≡ Some leaf → LeafHolds m (pos cutoff) word leaf
+leaf_of_relaxed : (m : Market) (word : List Bool) (r : RelaxedRecord) (cutoff : ℕ) (leaf : Leaf)
+    → IsRelaxedFinding m word r → length word ≤ length m.gates → closing_relaxed cutoff r r.conflict ≡ Some leaf
+    → LeafHolds m (pos cutoff) word leaf
 leaf_of_relaxed m word r cutoff leaf f l e = by_conflict r.conflict refl e
   where
     by_test : (b : Bool) → nat_le r.bound cutoff ≡ b → (if b then Some (Bound r.potentials) else None) ≡ Some leaf → LeafHolds m (pos cutoff) word leaf
@@ -55,7 +57,9 @@ leaf_of_relaxed m word r cutoff leaf f l e = by_conflict r.conflict refl e
     by_conflict None same h = by_test (nat_le r.bound cutoff) refl h
 
 -- the certificate by which a finding closes its node holds at the cutoff
-pub closing_leaf_holds : (m : Market) (word : List Bool) (cutoff : ℕ) (finding : Finding) (leaf : Leaf) → IsFinding m word finding → length word ≤ length m.gates → closing_leaf cutoff finding ≡ Some leaf → LeafHolds m (pos cutoff) word leaf
+pub closing_leaf_holds : (m : Market) (word : List Bool) (cutoff : ℕ) (finding : Finding) (leaf : Leaf)
+    → IsFinding m word finding → length word ≤ length m.gates → closing_leaf cutoff finding ≡ Some leaf
+    → LeafHolds m (pos cutoff) word leaf
 closing_leaf_holds m word cutoff (Empty cut) leaf f l e = let is : Cut cut ≡ leaf = cc in subst (λ (k : Leaf). LeafHolds m (pos cutoff) word k) is f
 closing_leaf_holds m word cutoff (Relaxed r) leaf f l e = leaf_of_relaxed m word r cutoff leaf f l e
 
@@ -64,7 +68,9 @@ pub record MustBranch (m : Market) (word : List Bool) (cutoff : ℕ) : Type 0 wh
   pub undecided : length word < length m.gates
   pub exceeds : RelaxedExceeds m word cutoff
 
-branch_of_relaxed : (m : Market) (word : List Bool) (r : RelaxedRecord) (cutoff : ℕ) → IsRelaxedFinding m word r → length word ≤ length m.gates → IsReached m word cutoff (Relaxed r) → closing_relaxed cutoff r r.conflict ≡ None → MustBranch m word cutoff
+branch_of_relaxed : (m : Market) (word : List Bool) (r : RelaxedRecord) (cutoff : ℕ) → IsRelaxedFinding m word r
+    → length word ≤ length m.gates → IsReached m word cutoff (Relaxed r) → closing_relaxed cutoff r r.conflict ≡ None
+    → MustBranch m word cutoff
 branch_of_relaxed m word r cutoff f l reached e = by_conflict r.conflict refl e
   where
     by_test : (b : Bool) → nat_le r.bound cutoff ≡ b → r.conflict ≡ None → (if b then Some (Bound r.potentials) else None) ≡ None → MustBranch m word cutoff
@@ -83,15 +89,20 @@ branch_of_relaxed m word r cutoff f l reached e = by_conflict r.conflict refl e
     by_conflict (Some c) same h = absurd (cc)
     by_conflict None same h = by_test (nat_le r.bound cutoff) refl same h
 
-pub must_branch : (m : Market) (word : List Bool) (cutoff : ℕ) (finding : Finding) → IsFinding m word finding → length word ≤ length m.gates → IsReached m word cutoff finding → closing_leaf cutoff finding ≡ None → MustBranch m word cutoff
+pub must_branch : (m : Market) (word : List Bool) (cutoff : ℕ) (finding : Finding) → IsFinding m word finding
+    → length word ≤ length m.gates → IsReached m word cutoff finding → closing_leaf cutoff finding ≡ None
+    → MustBranch m word cutoff
 must_branch m word cutoff (Empty cut) f l reached e = absurd (cc)
 must_branch m word cutoff (Relaxed r) f l reached e = branch_of_relaxed m word r cutoff f l reached e
 
-settle_at : (g : Grown) (x cutoff : ℕ) (finding : Finding) (n : TreeNode) → slice_get g.nodes x ≡ Some n → IfSome (slice_get g.nodes x) (MaySettle g.market cutoff finding) → MaySettle g.market cutoff finding n
+settle_at : (g : Grown) (x cutoff : ℕ) (finding : Finding) (n : TreeNode) → slice_get g.nodes x ≡ Some n
+    → IfSome (slice_get g.nodes x) (MaySettle g.market cutoff finding) → MaySettle g.market cutoff finding n
 settle_at g x cutoff finding n e h = subst (λ (o : Option TreeNode). IfSome o (MaySettle g.market cutoff finding)) e h
 
 -- a taken node is closed by the certificate of its finding
-pub may_close : (g : Grown) (k x cutoff : ℕ) (finding : Finding) (leaf : Leaf) → IsGrowth g → IsCutoff g.market cutoff → IfSome (slice_get g.nodes x) (MaySettle g.market cutoff finding) → state_at g.nodes x ≡ Some (Taken k) → closing_leaf cutoff finding ≡ Some leaf → MayClose g k x leaf cutoff
+pub may_close : (g : Grown) (k x cutoff : ℕ) (finding : Finding) (leaf : Leaf) → IsGrowth g → IsCutoff g.market cutoff
+    → IfSome (slice_get g.nodes x) (MaySettle g.market cutoff finding) → state_at g.nodes x ≡ Some (Taken k)
+    → closing_leaf cutoff finding ≡ Some leaf → MayClose g k x leaf cutoff
 may_close g k x cutoff finding leaf grows above h taken e =
     let at : IsAt g.nodes x (Taken k) = node_at g.nodes x (Taken k) taken in
     let may : MaySettle g.market cutoff finding at.node = settle_at g x cutoff finding at.node at.there h in
@@ -103,7 +114,9 @@ may_close g k x cutoff finding leaf grows above h taken e =
     }
 
 -- and branches where there is none
-pub may_branch : (g : Grown) (k x cutoff : ℕ) (finding : Finding) → IsGrowth g → IsCutoff g.market cutoff → IfSome (slice_get g.nodes x) (MaySettle g.market cutoff finding) → state_at g.nodes x ≡ Some (Taken k) → closing_leaf cutoff finding ≡ None → MayBranch g k x cutoff
+pub may_branch : (g : Grown) (k x cutoff : ℕ) (finding : Finding) → IsGrowth g → IsCutoff g.market cutoff
+    → IfSome (slice_get g.nodes x) (MaySettle g.market cutoff finding) → state_at g.nodes x ≡ Some (Taken k)
+    → closing_leaf cutoff finding ≡ None → MayBranch g k x cutoff
 may_branch g k x cutoff finding grows above h taken e =
     let at : IsAt g.nodes x (Taken k) = node_at g.nodes x (Taken k) taken in
     let may : MaySettle g.market cutoff finding at.node = settle_at g x cutoff finding at.node at.there h in

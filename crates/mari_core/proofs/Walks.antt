@@ -39,7 +39,8 @@ number_within nodes before rest x p =
     test_lt x (length nodes) (occurs x (before ++ x ∷ rest)) (omega (arith, occurs-append x before (x ∷ rest), occurs_here x rest)) (p.once x)
 
 -- then its children wait
-pub walk_goes : (nodes : List TreeNode) (front order : List ℕ) (x : ℕ) (s : NodeState) → AtNumber nodes front order x → state_at nodes x ≡ Some s → AtWalk nodes (front ++ reverse (child_numbers s)) (order ++ x ∷ [])
+pub walk_goes : (nodes : List TreeNode) (front order : List ℕ) (x : ℕ) (s : NodeState) → AtNumber nodes front order x
+    → state_at nodes x ≡ Some s → AtWalk nodes (front ++ reverse (child_numbers s)) (order ++ x ∷ [])
 walk_goes nodes front order x s a e = record {
   rest = a.rest;
   walk = subst (λ (w : List ℕ). IsWalk nodes w a.rest)

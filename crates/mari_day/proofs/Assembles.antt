@@ -69,13 +69,16 @@ module _ (books : Books) (budget run : ℕ) (made : RunMarket) (also : Option (L
         };
       }
 
-  pub published : IsClearing made.market budget clearing → IsPriced books made also clearing priced → length clearing.activation.mw ≡ length made.bids + made.demands → IsPublishedOf books budget run made also b
+  pub published : IsClearing made.market budget clearing → IsPriced books made also clearing priced
+      → length clearing.activation.mw ≡ length made.bids + made.demands → IsPublishedOf books budget run made also b
   published clears p long =
       let t = reported p long in
       record { heading = t.heading; names = t.names; clearing = subst (IsClearing made.market budget) (sym same_clearing) clears; prices = t.prices; ledger = t.ledger }
 
   -- what the block adds to its day
-  pub run-of : (settled : SettledRun) → IsPriced books made also clearing priced → HasShapes books made.bids clearing priced → settled.made ≡ made → settled.activation ≡ clearing.activation → settled.prices ≡ priced.pricing.published
+  pub run-of : (settled : SettledRun) → IsPriced books made also clearing priced
+      → HasShapes books made.bids clearing priced → settled.made ≡ made → settled.activation ≡ clearing.activation
+      → settled.prices ≡ priced.pricing.published
       → settled.ledger ≡ priced.ledger → IsRunOf books made also b settled
   run-of settled p shapes same of prices ledger = record {
     market = same;

@@ -24,7 +24,8 @@ pub one_more : (n before mid now : ℕ) → mid ≡ counted_by n before → now 
 one_more n before mid now e f = rw add-one (f ∙ ap counted e)
 
 -- the fetch of the file at this place gave no page
-pub at_fault : (n before mid now : ℕ) (fault : PagesFault) → mid ≡ counted_by n before → n < 7 → FetchedOne mid now fault → IsFaultOfFile (slice_index_or files n Day) fault → FetchedUpTo 7 before now fault
+pub at_fault : (n before mid now : ℕ) (fault : PagesFault) → mid ≡ counted_by n before → n < 7
+    → FetchedOne mid now fault → IsFaultOfFile (slice_index_or files n Day) fault → FetchedUpTo 7 before now fault
 at_fault n before mid now NoMemory e l (inl same) is = record { count = n; within = omega (arith, l); fetched = same ∙ e }
 at_fault n before mid now NoMemory e l (inr one) is = record { count = n + 1; within = omega (arith, l); fetched = one_more n before mid now e one }
 at_fault n before mid now (OfFetch file why) e l one is =
@@ -56,7 +57,8 @@ module _ (pages : Pages) (folder : List ℕ) where
       rw (first, more) refl
 
   -- all files were fetched
-  pub whole : (texts : List (List ℕ)) (i : ℕ) → i ≡ 7 → map (page_in pages folder) (take i files) ≡ map Some texts → first_gap pages folder files ≡ first_gap pages folder (drop i files) → ArePages pages folder files texts
+  pub whole : (texts : List (List ℕ)) (i : ℕ) → i ≡ 7 → map (page_in pages folder) (take i files) ≡ map Some texts
+      → first_gap pages folder files ≡ first_gap pages folder (drop i files) → ArePages pages folder files texts
   whole texts i e h g =
       let P : ℕ → Type 0 = λ n. map (page_in pages folder) (take n files) ≡ map Some texts in
       let Q : ℕ → Type 0 = λ n. first_gap pages folder files ≡ first_gap pages folder (drop n files) in

@@ -84,7 +84,8 @@ module _ (books : Books) (ok : IsAccepted books) (own : List ℕ) (read : border
   migrated = with_limits books borders limits
 
   -- the borders lie between the same zones
-  ends-same : (end : BorderEnds → ℕ) → ((ends : BorderEnds) → end (bare ends) ≡ end ends) → map (λ (ends : BorderEnds). name_at books.zones.zones (end ends)) borders.borders ≡ map (λ (ends : BorderEnds). name_at books.zones.zones (end ends)) books.borders.borders
+  ends-same : (end : BorderEnds → ℕ) → ((ends : BorderEnds) → end (bare ends) ≡ end ends)
+      → map (λ (ends : BorderEnds). name_at books.zones.zones (end ends)) borders.borders ≡ map (λ (ends : BorderEnds). name_at books.zones.zones (end ends)) books.borders.borders
   ends-same end kept =
       ap (λ (b : BorderBook). map (λ (ends : BorderEnds). name_at books.zones.zones (end ends)) b.borders) (same-borders books ok own read borders limits is)
       ∙ map-map (λ (ends : BorderEnds). name_at books.zones.zones (end ends)) bare books.borders.borders
@@ -113,7 +114,8 @@ module _ (books : Books) (ok : IsAccepted books) (own : List ℕ) (read : border
   in-same before (block.Published b) provider l = ap (λ m. amount_of books m (also_after books before) b provider) (market-same before l)
   in-same before (block.Unpublished heading count) provider l = refl
 
-  over-same : (before blocks : List Block) (provider : ℕ) → length before + length blocks ≤ length books.runs.runs → amount_over migrated before blocks provider ≡ amount_over books before blocks provider
+  over-same : (before blocks : List Block) (provider : ℕ) → length before + length blocks ≤ length books.runs.runs
+      → amount_over migrated before blocks provider ≡ amount_over books before blocks provider
   over-same before [] provider l = refl
   over-same before (b ∷ bs) provider l =
       let now = in-same before b provider (omega (arith, l)) in

@@ -204,7 +204,9 @@ module _ (folder : List ℕ) (before after : Pages) (books : Books) (is : IsMigr
       read = read-again d z b i l r m rest books first borders limits read;
     }
 
-  from-texts : (texts : List (List ℕ)) (more : List File) → map here (files ++ more) ≡ map Some texts → first_gap before folder (files ++ more) ≡ None → books_at texts ≡ Ok books → HasBooks after folder (with_limits books borders limits)
+  from-texts : (texts : List (List ℕ)) (more : List File) → map here (files ++ more) ≡ map Some texts
+      → first_gap before folder (files ++ more) ≡ None → books_at texts ≡ Ok books
+      → HasBooks after folder (with_limits books borders limits)
   from-texts texts more pages none first =
       let day = one here Day (Zones ∷ Borders ∷ Bids ∷ Links ∷ Runs ∷ Demands ∷ more) texts pages in
       let zones = one here Zones (Borders ∷ Bids ∷ Links ∷ Runs ∷ Demands ∷ more) day.more day.rest in

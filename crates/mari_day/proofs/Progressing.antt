@@ -34,7 +34,9 @@ sound-block books budget before (block.Published b) is = sound-run books budget 
 sound-block books budget before (block.Unpublished heading count) is = is.is_of
 
 -- a day part with one block more
-pub part-more : (books : Books) (budget : ℕ) (blocks : List Block) (b : Block) → IsDayPart books budget blocks → run_after blocks ≤ length books.runs.runs → IsBlock books budget blocks b → IsDayPart books budget (blocks ++ b ∷ [])
+pub part-more : (books : Books) (budget : ℕ) (blocks : List Block) (b : Block) → IsDayPart books budget blocks
+    → run_after blocks ≤ length books.runs.runs → IsBlock books budget blocks b
+    → IsDayPart books budget (blocks ++ b ∷ [])
 part-more books budget blocks b part last is = record {
   few = omega (arith, last, length-append blocks (b ∷ []));
   each = each-more (IsBlock books budget) blocks b part.each is;

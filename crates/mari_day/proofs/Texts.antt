@@ -53,7 +53,8 @@ module _ (books : Books) (budget : ℕ) where
       ∙ ap (λ (t : List ℕ). first-line p.date p.quarters p.budget ++ t) (sym (flat_map-append line_text (flat_map block_lines p.blocks) (closing_lines p)))
 
   -- a first part of a text following another text
-  following : (before mid after : Option (List ℕ)) (text more : List ℕ) (count : ℕ) → mid ≡ then_took before text → after ≡ then_took mid (take count more) → after ≡ then_took before (take (length text + count) (text ++ more))
+  following : (before mid after : Option (List ℕ)) (text more : List ℕ) (count : ℕ) → mid ≡ then_took before text
+      → after ≡ then_took mid (take count more) → after ≡ then_took before (take (length text + count) (text ++ more))
   following before mid after text more count e f =
       f ∙ ap (λ taken. then_took taken (take count more)) e ∙ took_more before text (take count more) ∙ ap (then_took before) (sym (take-append-add text more count))
 
@@ -107,7 +108,8 @@ module _ (books : Books) (budget : ℕ) where
     totals-taken after p is e =
         e ∙ ap (λ taken. then_took taken (total_text_of p)) first.taken ∙ took_more before (part_text books budget first.blocks) (total_text_of p) ∙ ap (then_took before) (day-text first.blocks p is)
 
-    pub totals-cut : (after : Option (List ℕ)) (p : Publication) → IsDayOf books budget first.blocks p → (n : ℕ) → after ≡ then_took mid (take n (total_text_of p)) → WrotePrefix books budget before after
+    pub totals-cut : (after : Option (List ℕ)) (p : Publication) → IsDayOf books budget first.blocks p → (n : ℕ)
+        → after ≡ then_took mid (take n (total_text_of p)) → WrotePrefix books budget before after
     totals-cut after p is n e = record {
       text = text_of p;
       is_text = inr (record { publication = p; day = is.day; in_range = is.in_range; spelled = refl });
@@ -119,7 +121,8 @@ module _ (books : Books) (budget : ℕ) where
     }
 
     -- how the day stops where a run's block isn't written, or the totals aren't
-    pub step-stops : (new : Progress) (after : Option (List ℕ)) (stop : Stop) → count < length books.runs.runs → Stepped books budget first.blocks new mid after (Err stop) → Stopped books budget before after stop
+    pub step-stops : (new : Progress) (after : Option (List ℕ)) (stop : Stop) → count < length books.runs.runs
+        → Stepped books budget first.blocks new mid after (Err stop) → Stopped books budget before after stop
     step-stops new after Sink last h = block-cut after last h
     step-stops new after NoMemory last h = inr (part-left after h)
 
@@ -149,12 +152,14 @@ module _ (books : Books) (budget : ℕ) where
         )
 
 -- a failed write ends the day with a first part of the head
-pub head-stops : (books : Books) (budget : ℕ) (before after : Option (List ℕ)) (stop : Stop) → stop ≡ Sink → ((n : ℕ) × (after ≡ then_took before (take n (head books budget)))) → Stopped books budget before after stop
+pub head-stops : (books : Books) (budget : ℕ) (before after : Option (List ℕ)) (stop : Stop) → stop ≡ Sink
+    → ((n : ℕ) × (after ≡ then_took before (take n (head books budget)))) → Stopped books budget before after stop
 head-stops books budget before after Sink e (n, h) = head-cut books budget before after n h
 head-stops books budget before after NoMemory e h = cc e
 
 -- the closing lines, by what they are made of
-pub closing-text : (p : Publication) (operators : List MoneyLine) (providers : List AmountLine) (published unpublished : ℕ) → operators ≡ p.operators → providers ≡ p.providers → published ≡ published_in p.blocks
+pub closing-text : (p : Publication) (operators : List MoneyLine) (providers : List AmountLine) (published unpublished : ℕ)
+    → operators ≡ p.operators → providers ≡ p.providers → published ≡ published_in p.blocks
     → unpublished ≡ unpublished_in p.blocks → text_of_lines (closing_lines_by operators providers published unpublished) ≡ total_text_of p
 closing-text p operators providers published unpublished e f g h =
     ap (λ xs. text_of_lines (closing_lines_by xs providers published unpublished)) e ∙ ap (λ xs. text_of_lines (closing_lines_by p.operators xs published unpublished)) f

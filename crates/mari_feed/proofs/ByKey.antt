@@ -24,7 +24,8 @@ never : true ≡ false → ⊥
 never e = cc
 
 -- a block that has a count of nodes
-pub unpublished_part : (b : Block) (d : Data) → BlockFits b → block_value b ≡ d → true ≡ has (codes "nodes") d → (x : Heading × ℕ) × InRange (line.Unpublished x.0 x.1) × (unpublished_value x.0 x.1 ≡ d)
+pub unpublished_part : (b : Block) (d : Data) → BlockFits b → block_value b ≡ d → true ≡ has (codes "nodes") d
+    → (x : Heading × ℕ) × InRange (line.Unpublished x.0 x.1) × (unpublished_value x.0 x.1 ≡ d)
 unpublished_part (block.Published g) d r e there = absurd (never (there ∙ sym (ap (has (codes "nodes")) e)))
 unpublished_part (block.Unpublished heading nodes) d r e there = ((heading, nodes), r, e)
 

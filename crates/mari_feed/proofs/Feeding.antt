@@ -69,7 +69,9 @@ module _ (start : Option (List ℕ)) (text : List ℕ) (parts : List Part) (come
   }
 
   -- the line wasn't written
-  pub line_unwritten : (T : Type 0) (x : Part) (after : Option (List ℕ)) (reader : ReaderState) (stop : FeedStop) → HasPart text parts x → WroteLine {T = T} x now after (Err stop) → PartsReport {T = T} start text reader after (Err stop)
+  pub line_unwritten : (T : Type 0) (x : Part) (after : Option (List ℕ)) (reader : ReaderState) (stop : FeedStop)
+      → HasPart text parts x → WroteLine {T = T} x now after (Err stop)
+      → PartsReport {T = T} start text reader after (Err stop)
   line_unwritten T x after reader (OfFetch f) has w = absurd w
   line_unwritten T x after reader (OfText f) has w = absurd w
   line_unwritten T x after reader OfSink has w = line_begun x after has w
@@ -83,7 +85,8 @@ module _ (start : Option (List ℕ)) (text : List ℕ) (parts : List Part) (come
   fault_reported T reader fault.Memory h = took_first
 
 -- there is no further part
-pub all_fed : (start : Option (List ℕ)) (text : List ℕ) (parts : List Part) (reader : ReaderState) (now : Option (List ℕ)) (o : Option Part) → o ≡ None → IsNext text parts (Ok o) → ComesFrom reader.come text (with_part parts o)
+pub all_fed : (start : Option (List ℕ)) (text : List ℕ) (parts : List Part) (reader : ReaderState) (now : Option (List ℕ)) (o : Option Part)
+    → o ≡ None → IsNext text parts (Ok o) → ComesFrom reader.come text (with_part parts o)
     → reader.waits ≡ found_none (Ok o) → now ≡ then_took start (feed_of parts) → AllFed start text reader now
 all_fed start text parts reader now (Some x) e n s w took = absurd cc
 all_fed start text parts reader now None e n s w took = record { parts = parts; fed = record { stands = s; took = took }; waits = w; none = n.0; no_fault = n.1 }

@@ -41,7 +41,8 @@ module _ {X : Type 0} (R : X → Type 0) (f : X → Data) where
   pub begun : Begun R f [] []
   begun = record { whole = refl; ranges = All-nil R }
 
-  pub begun_more : (xs : List X) (vs : List Value) (i : ℕ) (v : Value) (x : X) → i < length vs → v ≡ get_or vs i v → Begun R f xs (take i vs) → R x × (f x ≡ view v) → Begun R f (xs ++ x ∷ []) (take (i + 1) vs)
+  pub begun_more : (xs : List X) (vs : List Value) (i : ℕ) (v : Value) (x : X) → i < length vs → v ≡ get_or vs i v
+      → Begun R f xs (take i vs) → R x × (f x ≡ view v) → Begun R f (xs ++ x ∷ []) (take (i + 1) vs)
   begun_more xs vs i v x lt at b r = record {
     whole = map-append f xs (x ∷ []) ∙ ap (λ ds. ds ++ f x ∷ []) b.whole ∙ ap (λ d. map view (take i vs) ++ d ∷ []) (r.1 ∙ ap view at)
         ∙ sym (ap (map view) (take_more vs i v lt) ∙ map-append view (take i vs) (get_or vs i v ∷ []));
@@ -71,12 +72,14 @@ module _ {X : Type 0} (R : X → Type 0) (f : X → Data) where
   same_length vs d ys is e = sym (length-map ys f) ∙ ap length (same_values vs d ys is e) ∙ length-map vs view
 
   -- a value of no item, in the list of these values
-  pub item_unread : (least most : ℕ) (vs : List Value) (i : ℕ) (v : Value) (d : Data) (e : FeedFault) (result : Result (List X) FeedFault) → i < length vs → v ≡ get_or vs i v → Some (items_view vs) ≡ as_array d
+  pub item_unread : (least most : ℕ) (vs : List Value) (i : ℕ) (v : Value) (d : Data) (e : FeedFault) (result : Result (List X) FeedFault)
+      → i < length vs → v ≡ get_or vs i v → Some (items_view vs) ≡ as_array d
       → HandedOn e result → Reads R f (view v) (Err e) → Reads (Listed least most R) (list_of f) d result
   item_unread least most vs i v d e result lt at is handed none = handed_on R f (view v) (Listed least most R) (list_of f) d e result handed none (λ ys r same. at_value vs i v ys lt at r.1 (same_values vs d ys is same))
 
   -- all were read
-  pub all_read : (least most : ℕ) (xs : List X) (vs : List Value) (i : ℕ) (d : Data) → length vs ≤ i → Some (items_view vs) ≡ as_array d → least ≤ length vs → length vs ≤ most → Begun R f xs (take i vs)
+  pub all_read : (least most : ℕ) (xs : List X) (vs : List Value) (i : ℕ) (d : Data) → length vs ≤ i
+      → Some (items_view vs) ≡ as_array d → least ≤ length vs → length vs ≤ most → Begun R f xs (take i vs)
       → Listed least most R xs × (list_of f xs ≡ d)
   all_read least most xs vs i d le is low high b =
       let whole : map f xs ≡ map view vs = b.whole ∙ ap (map view) (take_all i vs le) in

@@ -52,7 +52,9 @@ module _ {X : Type 0} (f : X → Data) (xs : List X) (i : ℕ) (x : X) (lt : i <
         e ∙ ap (λ (t : List ℕ). t ++ compact_text (f x)) begun ∙ append_assoc old (91 ∷ joined (map f (take i xs))) (compact_text (f x))
         ∙ ap (λ (t : List ℕ). old ++ 91 ∷ t) (sym (joined_first (map f (take i xs)) (f x) empty)) ∙ ap (λ (ds : List Data). old ++ 91 ∷ joined ds) (sym next)
 
-    pub more_item : (later : Bool) → later ≡ nat_lt 0 i → later ≡ true → (between after : List ℕ) → between ≡ before ++ 44 ∷ [] → after ≡ between ++ compact_text (f x) → after ≡ old ++ 91 ∷ joined (map f (take (i + 1) xs))
+    pub more_item : (later : Bool) → later ≡ nat_lt 0 i → later ≡ true → (between after : List ℕ)
+        → between ≡ before ++ 44 ∷ [] → after ≡ between ++ compact_text (f x)
+        → after ≡ old ++ 91 ∷ joined (map f (take (i + 1) xs))
     more_item later is some between after c e =
         let above : 0 < i = grind (arith, nat_tests) in
         let long : length (map f (take i xs)) ≡ i = length-map (take i xs) f ∙ length-take-le i xs (omega (arith, lt)) in
@@ -61,7 +63,9 @@ module _ {X : Type 0} (f : X → Data) (xs : List X) (i : ℕ) (x : X) (lt : i <
         e ∙ ap (λ (s : List ℕ). s ++ compact_text (f x)) c ∙ append_assoc before (44 ∷ []) (compact_text (f x)) ∙ ap (λ (s : List ℕ). s ++ t) begun
         ∙ append_assoc old (91 ∷ joined (map f (take i xs))) t ∙ ap (λ (s : List ℕ). old ++ 91 ∷ s) (sym (joined_more (map f (take i xs)) (f x) not_empty)) ∙ ap (λ (ds : List Data). old ++ 91 ∷ joined ds) (sym next)
 
-pub all_items : {X R E : Type 0} (r : Result R E) (f : X → Data) (xs : List X) (i : ℕ) (old before after : List ℕ) → length xs ≤ i → before ≡ old ++ 91 ∷ joined (map f (take i xs)) → OnOk r (after ≡ before ++ 93 ∷ []) → OnOk r (after ≡ old ++ 91 ∷ items_text false (items_of (map f xs)))
+pub all_items : {X R E : Type 0} (r : Result R E) (f : X → Data) (xs : List X) (i : ℕ) (old before after : List ℕ)
+    → length xs ≤ i → before ≡ old ++ 91 ∷ joined (map f (take i xs)) → OnOk r (after ≡ before ++ 93 ∷ [])
+    → OnOk r (after ≡ old ++ 91 ∷ items_text false (items_of (map f xs)))
 all_items (Ok v) f xs i old before after le begun e =
     e ∙ ap (λ (t : List ℕ). t ++ 93 ∷ []) begun ∙ append_assoc old (91 ∷ joined (map f (take i xs))) (93 ∷ [])
     ∙ ap (λ (ys : _). old ++ 91 ∷ (joined (map f ys) ++ 93 ∷ [])) (take_all i xs le) ∙ ap (λ (t : List ℕ). old ++ 91 ∷ t) (sym (items_joined (map f xs)))

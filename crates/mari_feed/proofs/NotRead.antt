@@ -65,7 +65,8 @@ not_the_end ms S g u e result is more whole =
     subst (λ r. Reads S g u r) (sym is.1) (subst (λ x. Reads S g u (Err x)) (sym (is.2 ∙ more.0)) (λ y r w. more.1 (whole y r w)))
 
 -- the value of a member is read or not, and so is the member
-pub member_read : {X : Type 0} (key : List ℕ) (R : X → Type 0) (f : X → Data) (ms left : Members) (d : Data) (result : Result X FeedFault) → ms ≡ member key d left → Reads R f d result → ReadsMember key R f ms left result
+pub member_read : {X : Type 0} (key : List ℕ) (R : X → Type 0) (f : X → Data) (ms left : Members) (d : Data) (result : Result X FeedFault)
+    → ms ≡ member key d left → Reads R f d result → ReadsMember key R f ms left result
 member_read key R f ms left d (Ok x) is r = (r.0, is ∙ ap (λ v. member key v left) (sym r.1))
 member_read key R f ms left d (Err fault.NotJson) is r = r
 member_read key R f ms left d (Err fault.NotAPart) is r = λ x others range e. let same : f x ≡ d = cc in r x range same

@@ -42,7 +42,8 @@ Opened old now key d ms = now ≡ old ++ (first_text key d ++ nexts_text ms)
 pub opened : (old now key : List ℕ) (d : Data) → now ≡ old ++ first_text key d → Opened old now key d []
 opened old now key d e = e ∙ ap (λ (t : List ℕ). old ++ t) (sym (append-nil (first_text key d)))
 
-grown : (old key : List ℕ) (d : Data) (ms : List Member) (k : List ℕ) (x : Data) → (old ++ (first_text key d ++ nexts_text ms)) ++ next_text k x ≡ old ++ (first_text key d ++ nexts_text (ms ++ (k, x) ∷ []))
+grown : (old key : List ℕ) (d : Data) (ms : List Member) (k : List ℕ) (x : Data)
+    → (old ++ (first_text key d ++ nexts_text ms)) ++ next_text k x ≡ old ++ (first_text key d ++ nexts_text (ms ++ (k, x) ∷ []))
 grown old key d ms k x =
     append_assoc old (first_text key d ++ nexts_text ms) (next_text k x)
     ∙ ap (λ (t : List ℕ). old ++ t) (append_assoc (first_text key d) (nexts_text ms) (next_text k x) ∙ ap (λ (t : List ℕ). first_text key d ++ t) (sym (nexts_push ms k x)))
@@ -50,11 +51,15 @@ grown old key d ms k x =
 pub further : (old now next key : List ℕ) (d : Data) (ms : List Member) (k : List ℕ) (x : Data) → Opened old now key d ms → next ≡ now ++ next_text k x → Opened old next key d (ms ++ (k, x) ∷ [])
 further old now next key d ms k x o e = e ∙ ap (λ (t : List ℕ). t ++ next_text k x) o ∙ grown old key d ms k x
 
-pub further_last : {R E : Type 0} (r : Result R E) (old now next key : List ℕ) (d : Data) (ms : List Member) (k : List ℕ) (x : Data) → Opened old now key d ms → OnOk r (next ≡ now ++ next_text k x) → OnOk r (Opened old next key d (ms ++ (k, x) ∷ []))
+pub further_last : {R E : Type 0} (r : Result R E) (old now next key : List ℕ) (d : Data) (ms : List Member) (k : List ℕ) (x : Data)
+    → Opened old now key d ms → OnOk r (next ≡ now ++ next_text k x)
+    → OnOk r (Opened old next key d (ms ++ (k, x) ∷ []))
 further_last (Ok v) old now next key d ms k x o e = further old now next key d ms k x o e
 further_last (Err v) old now next key d ms k x o e = tt
 
-pub closed : {R E : Type 0} (r : Result R E) (old now next key : List ℕ) (d : Data) (ms : List Member) → Opened old now key d ms → OnOk r (next ≡ now ++ 125 ∷ []) → OnOk r (next ≡ old ++ compact_text (object_of ((key, d) ∷ ms)))
+pub closed : {R E : Type 0} (r : Result R E) (old now next key : List ℕ) (d : Data) (ms : List Member)
+    → Opened old now key d ms → OnOk r (next ≡ now ++ 125 ∷ [])
+    → OnOk r (next ≡ old ++ compact_text (object_of ((key, d) ∷ ms)))
 closed (Ok v) old now next key d ms o e =
     e ∙ ap (λ (t : List ℕ). t ++ 125 ∷ []) o ∙ append_assoc old (first_text key d ++ nexts_text ms) (125 ∷ []) ∙ ap (λ (t : List ℕ). old ++ t) (sym (object_end key d ms))
 closed (Err v) old now next key d ms o e = tt
@@ -70,7 +75,8 @@ begun old now key d e = e ∙ ap (λ (t : List ℕ). old ++ t) (sym (append-nil 
 pub more : (old now next : List ℕ) (ms : List Member) (k : List ℕ) (x : Data) → Grown old now ms → next ≡ now ++ next_text k x → Grown old next (ms ++ (k, x) ∷ [])
 more old now next ms k x o e = e ∙ ap (λ (t : List ℕ). t ++ next_text k x) o ∙ append_assoc old (nexts_text ms) (next_text k x) ∙ ap (λ (t : List ℕ). old ++ t) (sym (nexts_push ms k x))
 
-pub more_last : {R E : Type 0} (r : Result R E) (old now next : List ℕ) (ms : List Member) (k : List ℕ) (x : Data) → Grown old now ms → OnOk r (next ≡ now ++ next_text k x) → OnOk r (Grown old next (ms ++ (k, x) ∷ []))
+pub more_last : {R E : Type 0} (r : Result R E) (old now next : List ℕ) (ms : List Member) (k : List ℕ) (x : Data)
+    → Grown old now ms → OnOk r (next ≡ now ++ next_text k x) → OnOk r (Grown old next (ms ++ (k, x) ∷ []))
 more_last (Ok v) old now next ms k x o e = more old now next ms k x o e
 more_last (Err v) old now next ms k x o e = tt
 
@@ -80,7 +86,9 @@ ended (Err v) old now next ms o e = tt
 
 -- ---- an object in three pieces
 
-pub in_pieces : {R E : Type 0} (r : Result R E) (old first second last key : List ℕ) (d : Data) (ms ns ps : List Member) → first ≡ old ++ (first_text key d ++ nexts_text ms) → second ≡ first ++ nexts_text ns → OnOk r (last ≡ second ++ (nexts_text ps ++ 125 ∷ []))
+pub in_pieces : {R E : Type 0} (r : Result R E) (old first second last key : List ℕ) (d : Data) (ms ns ps : List Member)
+    → first ≡ old ++ (first_text key d ++ nexts_text ms) → second ≡ first ++ nexts_text ns
+    → OnOk r (last ≡ second ++ (nexts_text ps ++ 125 ∷ []))
     → OnOk r (last ≡ old ++ compact_text (object_of ((key, d) ∷ (ms ++ (ns ++ ps)))))
 in_pieces (Ok v) old first second last key d ms ns ps a b c =
     let t = nexts_text ps ++ 125 ∷ [] in

@@ -48,7 +48,9 @@ module _ (page rest : Option (List ℕ)) (given : ℕ) (start : Option (List ℕ
 
   module _ (piece : List ℕ) (n : ℕ) (many : length piece ≡ n) (within : given + n ≤ most_given) (is_piece : (left : List ℕ) → rest ≡ Some left → IsPiece left [] piece n) where
     -- the printing of what has come stops
-    pub parts_stop : (whole : List ℕ) → page ≡ Some whole → (T : Type 0) (reader : ReaderState) (now : Option (List ℕ)) (stop : FeedStop) → PartsReport {T = T} start (u.text ++ piece) reader now (Err stop) → StopStates whole start now stop
+    pub parts_stop : (whole : List ℕ) → page ≡ Some whole
+        → (T : Type 0) (reader : ReaderState) (now : Option (List ℕ)) (stop : FeedStop)
+        → PartsReport {T = T} start (u.text ++ piece) reader now (Err stop) → StopStates whole start now stop
     parts_stop whole is T reader now stop h = own stop h
       where
         text : List ℕ
@@ -81,7 +83,8 @@ module _ (page rest : Option (List ℕ)) (given : ℕ) (start : Option (List ℕ
 
 -- ---- what is no fault of the shelf, and doesn't say that memory ran out
 
-pub parts_never : (T : Type 0) (start : Option (List ℕ)) (text : List ℕ) (reader : ReaderState) (now : Option (List ℕ)) (stop : FeedStop) → PartsReport {T = T} start text reader now (Err stop) → IsWrapped {T = T} (Err stop) → ⊥
+pub parts_never : (T : Type 0) (start : Option (List ℕ)) (text : List ℕ) (reader : ReaderState) (now : Option (List ℕ)) (stop : FeedStop)
+    → PartsReport {T = T} start text reader now (Err stop) → IsWrapped {T = T} (Err stop) → ⊥
 parts_never T start text reader now (OfFetch f) h w = h
 parts_never T start text reader now (OfText fault.Memory) h w = h.0
 parts_never T start text reader now (OfText (fault.BadLine n)) h w = absurd cc
@@ -90,7 +93,8 @@ parts_never T start text reader now (OfText (fault.Truncated n)) h w = h.0
 parts_never T start text reader now OfSink h w = w
 parts_never T start text reader now NoMemory h w = w
 
-pub parts_no_fetch : (T : Type 0) (start : Option (List ℕ)) (text : List ℕ) (reader : ReaderState) (now : Option (List ℕ)) (stop : FeedStop) (g : Fetch) → PartsReport {T = T} start text reader now (Err stop) → IsFeedFetch {T = T} g (Err stop) → ⊥
+pub parts_no_fetch : (T : Type 0) (start : Option (List ℕ)) (text : List ℕ) (reader : ReaderState) (now : Option (List ℕ)) (stop : FeedStop) (g : Fetch)
+    → PartsReport {T = T} start text reader now (Err stop) → IsFeedFetch {T = T} g (Err stop) → ⊥
 parts_no_fetch T start text reader now (OfFetch f) g h w = h
 parts_no_fetch T start text reader now (OfText f) g h w = w
 parts_no_fetch T start text reader now OfSink g h w = w
@@ -138,13 +142,17 @@ took_none page start now e = record {
 
 -- ---- the end of the page
 
-pub end_reported : (page : List ℕ) (start now : Option (List ℕ)) (reader : ReaderState) (T : Type 0) (f : TextFault) → length page ≤ most_given → (all : AllFed start page reader now) → IsEnd {T = T} page all.parts (Err f) → StopStates page start now (stop_of_text f)
+pub end_reported : (page : List ℕ) (start now : Option (List ℕ)) (reader : ReaderState) (T : Type 0) (f : TextFault)
+    → length page ≤ most_given → (all : AllFed start page reader now) → IsEnd {T = T} page all.parts (Err f)
+    → StopStates page start now (stop_of_text f)
 end_reported page start now reader T (fault.BadLine n) short all h = absurd h
 end_reported page start now reader T (fault.BadOrder n) short all h = absurd h
 end_reported page start now reader T (fault.Truncated n) short all h = (of_page short h, took_all start page all.parts reader.come now all.fed all.none)
 end_reported page start now reader T fault.Memory short all h = absurd h
 
-pub end_whole : {T : Type 0} (done : T) (page : List ℕ) (start now : Option (List ℕ)) (reader : ReaderState) → length page ≤ most_given → (all : AllFed start page reader now) → IsEnd page all.parts (Ok done) → FeedStates (Some page) start now (Ok done)
+pub end_whole : {T : Type 0} (done : T) (page : List ℕ) (start now : Option (List ℕ)) (reader : ReaderState)
+    → length page ≤ most_given → (all : AllFed start page reader now) → IsEnd page all.parts (Ok done)
+    → FeedStates (Some page) start now (Ok done)
 end_whole done page start now reader short all e =
     let p = e.0 in (
       short,
@@ -157,7 +165,8 @@ end_whole done page start now reader short all e =
     )
 
 -- opening a page gave none
-pub open_fault : (T : Type 0) (page rest : Option (List ℕ)) (start now : Option (List ℕ)) (f : Fetch) → now ≡ start → OpenStates {T = T} page rest (Err f) → FeedStates {T = T} page start now (Err (stop_of_fetch f))
+pub open_fault : (T : Type 0) (page rest : Option (List ℕ)) (start now : Option (List ℕ)) (f : Fetch) → now ≡ start
+    → OpenStates {T = T} page rest (Err f) → FeedStates {T = T} page start now (Err (stop_of_fetch f))
 open_fault T None rest start now fetch.Failed e h = e
 open_fault T None rest start now fetch.Missing e h = e
 open_fault T None rest start now fetch.TooLong e h = absurd h
@@ -192,12 +201,16 @@ memory_same : (T : Type 0) (answer : Result Publication TextFault) → SameAsRea
 memory_same T (Ok p) = tt
 memory_same T (Err e) = tt
 
-same_read : (T : Type 0) (page : List ℕ) (start now : Option (List ℕ)) (answer : Result Publication TextFault) → IsOutcome page answer → (result : Result T FeedStop) → FeedStates (Some page) start now result → SameAsRead answer result
+same_read : (T : Type 0) (page : List ℕ) (start now : Option (List ℕ)) (answer : Result Publication TextFault)
+    → IsOutcome page answer → (result : Result T FeedStop) → FeedStates (Some page) start now result
+    → SameAsRead answer result
 same_read T page start now answer o (Ok done) (short, took) = whole_same done took.publication answer (text_answer page answer o took.publication took.is)
 same_read T page start now answer o (Err (OfText f)) (reported, took) = fault_same T f answer (same-fault page answer f o reported)
 same_read T page start now answer o (Err (OfFetch f)) h = fetch_same T f answer
 same_read T page start now answer o (Err OfSink) h = sink_same T answer
 same_read T page start now answer o (Err NoMemory) h = memory_same T answer
 
-pub same_as_read : (T : Type 0) (reported : Option (List ℕ)) (start now : Option (List ℕ)) (result : Result T FeedStop) → FeedStates reported start now result → (page : List ℕ) → reported ≡ Some page → (answer : Result Publication TextFault) → IsOutcome page answer → SameAsRead answer result
+pub same_as_read : (T : Type 0) (reported : Option (List ℕ)) (start now : Option (List ℕ)) (result : Result T FeedStop)
+    → FeedStates reported start now result → (page : List ℕ) → reported ≡ Some page
+    → (answer : Result Publication TextFault) → IsOutcome page answer → SameAsRead answer result
 same_as_read T reported start now result states page is answer o = same_read T page start now answer o result (subst (λ p. FeedStates p start now result) is states)

@@ -132,7 +132,9 @@ alike_conflict g h e0 e1 e2 = ap (λ (x : List ℕ). made_conflict x g.potential
 abbrev made_full : Heading → ℕ → List ZoneLine → List BorderLine → List BidLine → List ℕ → List TreeItem → List MoneyLine → List AmountLine → FullBlock
 made_full x0 x1 x2 x3 x4 x5 x6 x7 x8 = record { heading = x0; welfare = x1; zones = x2; borders = x3; bids = x4; demands = x5; tree = x6; operators = x7; providers = x8 }
 
-alike_full : (g h : FullBlock) → g.heading ≡ h.heading → g.welfare ≡ h.welfare → g.zones ≡ h.zones → g.borders ≡ h.borders → g.bids ≡ h.bids → g.demands ≡ h.demands → g.tree ≡ h.tree → g.operators ≡ h.operators → g.providers ≡ h.providers → g ≡ h
+alike_full : (g h : FullBlock) → g.heading ≡ h.heading → g.welfare ≡ h.welfare → g.zones ≡ h.zones
+    → g.borders ≡ h.borders → g.bids ≡ h.bids → g.demands ≡ h.demands → g.tree ≡ h.tree → g.operators ≡ h.operators
+    → g.providers ≡ h.providers → g ≡ h
 alike_full g h e0 e1 e2 e3 e4 e5 e6 e7 e8 = ap (λ (x : Heading). made_full x g.welfare g.zones g.borders g.bids g.demands g.tree g.operators g.providers) e0 ∙ ap (λ (x : ℕ). made_full h.heading x g.zones g.borders g.bids g.demands g.tree g.operators g.providers) e1 ∙ ap (λ (x : List ZoneLine). made_full h.heading h.welfare x g.borders g.bids g.demands g.tree g.operators g.providers) e2 ∙ ap (λ (x : List BorderLine). made_full h.heading h.welfare h.zones x g.bids g.demands g.tree g.operators g.providers) e3 ∙ ap (λ (x : List BidLine). made_full h.heading h.welfare h.zones h.borders x g.demands g.tree g.operators g.providers) e4 ∙ ap (λ (x : List ℕ). made_full h.heading h.welfare h.zones h.borders h.bids x g.tree g.operators g.providers) e5 ∙ ap (λ (x : List TreeItem). made_full h.heading h.welfare h.zones h.borders h.bids h.demands x g.operators g.providers) e6 ∙ ap (λ (x : List MoneyLine). made_full h.heading h.welfare h.zones h.borders h.bids h.demands h.tree x g.providers) e7 ∙ ap (λ (x : List AmountLine). made_full h.heading h.welfare h.zones h.borders h.bids h.demands h.tree h.operators x) e8
 
 -- ---- members

@@ -46,7 +46,9 @@ flows_none z (b ∷ bs) [] n = refl
 flows_none z (b ∷ bs) (f ∷ fs) n = omega (arith, ints, none_out z b f (n 0), flows_none z bs fs (λ k. n (suc k)))
 
 -- the first amounts are within their bounds, and in balance
-pub starts_running : (n : ℕ) (slots : List Slot) (bs : List Border) (fs : List ℤ) → All (λ (s : Slot). s.low ≤ℤ s.high) slots → length bs ≡ length fs → ((k : ℕ) → get_or fs k (pos 0) ≡ pos 0) → IsRunning n (slots ++ stand_ins_for slots) bs (lows slots ++ offsets slots) fs
+pub starts_running : (n : ℕ) (slots : List Slot) (bs : List Border) (fs : List ℤ)
+    → All (λ (s : Slot). s.low ≤ℤ s.high) slots → length bs ≡ length fs → ((k : ℕ) → get_or fs k (pos 0) ≡ pos 0)
+    → IsRunning n (slots ++ stand_ins_for slots) bs (lows slots ++ offsets slots) fs
 starts_running n slots bs fs a e none =
     let all : AllZip IsWithinSlot (slots ++ stand_ins_for slots) (lows slots ++ offsets slots) = zip_append IsWithinSlot slots (stand_ins_for slots) (lows slots) (offsets slots) (starts_within slots a) (stand_ins_within slots) in
     record {

@@ -78,7 +78,10 @@ unequal_some None k e s = absurd (cc)
 unequal_some (Some j) k e s = let same : j ≡ k = cc in grind (arith, nat_tests)
 
 -- a loop's step: one more gate that isn't open, or isn't of the group
-pub none_more : (k : ℕ) (gates : List GateInfo) (x : Prefix) (i : ℕ) → ((g : ℕ) → g < i → bit_of x g ≡ true → group_of gates g ≡ Some k → ⊥) → (bit_of x i ≡ true → group_of gates i ≡ Some k → ⊥) → (g : ℕ) → g < i + 1 → bit_of x g ≡ true → group_of gates g ≡ Some k → ⊥
+pub none_more : (k : ℕ) (gates : List GateInfo) (x : Prefix) (i : ℕ)
+    → ((g : ℕ) → g < i → bit_of x g ≡ true → group_of gates g ≡ Some k → ⊥)
+    → (bit_of x i ≡ true → group_of gates i ≡ Some k → ⊥) → (g : ℕ) → g < i + 1 → bit_of x g ≡ true
+    → group_of gates g ≡ Some k → ⊥
 none_more k gates x i before here g h = elim (cases_lt g i) [
   | inl l ↦ before g l
   | inr l ↦ let same : i ≡ g = omega arith in subst (λ (j : ℕ). bit_of x j ≡ true → group_of gates j ≡ Some k → ⊥) same here
@@ -117,7 +120,9 @@ pub may_open_at : (gates : List GateInfo) (x : Prefix) (i : ℕ) → may_open ga
 may_open_at gates x i = ap (may_open gates (decisions x i)) (sym (length-decisions x i))
 
 -- one more gate that is closed, or may be open
-pub feasible_more : (gates : List GateInfo) (x : Prefix) (i : ℕ) → i < length gates → IsFeasibleWord gates (decisions x i) → (bit_of x i ≡ true → may_open gates (decisions x i) i ≡ true) → IsFeasibleWord gates (decisions x (i + 1))
+pub feasible_more : (gates : List GateInfo) (x : Prefix) (i : ℕ) → i < length gates
+    → IsFeasibleWord gates (decisions x i) → (bit_of x i ≡ true → may_open gates (decisions x i) i ≡ true)
+    → IsFeasibleWord gates (decisions x (i + 1))
 feasible_more gates x i h f may = subst (λ (w : List Bool). IsFeasibleWord gates w) (sym (decisions_more x i)) (by_bit (bit_of x i) may)
   where
     room : length (decisions x i) < length gates
@@ -128,7 +133,8 @@ feasible_more gates x i h f may = subst (λ (w : List Bool). IsFeasibleWord gate
     by_bit false m = closed_child gates (decisions x i) f room
 
 -- a gate that is open and may not be
-pub not_feasible : (gates : List GateInfo) (x : Prefix) (n i : ℕ) → ParentsEarlier gates → i < n → bit_of x i ≡ true → may_open gates (decisions x i) i ≡ false → IsFeasibleWord gates (decisions x n) → ⊥
+pub not_feasible : (gates : List GateInfo) (x : Prefix) (n i : ℕ) → ParentsEarlier gates → i < n → bit_of x i ≡ true
+    → may_open gates (decisions x i) i ≡ false → IsFeasibleWord gates (decisions x n) → ⊥
 not_feasible gates x n i early h b may f =
     let start : IsFeasibleWord gates (decisions x (i + 1)) = feasible_start gates x n (i + 1) early (omega arith) f in
     let opened : IsFeasibleWord gates (decisions x i ++ true ∷ []) = subst (λ (w : List Bool). IsFeasibleWord gates w) (decisions_more x i ∙ ap (λ (c : Bool). decisions x i ++ c ∷ []) b) start in
@@ -136,14 +142,18 @@ not_feasible gates x n i early h b may f =
     absurd (cc)
 
 -- whether the next gate may be opened, by the word extended by it
-pub may_open_iff : (gates : List GateInfo) (x : Prefix) (n : ℕ) (answer : Bool) → ParentsEarlier gates → n < length gates → IsFeasibleWord gates (decisions x n) → answer ≡ may_open gates (decisions x n) n → (answer ≡ true → IsFeasibleWord gates (decisions x n ++ true ∷ [])) × (IsFeasibleWord gates (decisions x n ++ true ∷ []) → answer ≡ true)
+pub may_open_iff : (gates : List GateInfo) (x : Prefix) (n : ℕ) (answer : Bool) → ParentsEarlier gates
+    → n < length gates → IsFeasibleWord gates (decisions x n) → answer ≡ may_open gates (decisions x n) n
+    → (answer ≡ true → IsFeasibleWord gates (decisions x n ++ true ∷ [])) × (IsFeasibleWord gates (decisions x n ++ true ∷ []) → answer ≡ true)
 may_open_iff gates x n answer early h f e =
     let test : answer ≡ may_open gates (decisions x n) (length (decisions x n)) = e ∙ may_open_at gates x n in (
       λ yes. open_child gates (decisions x n) f (omega (arith, length-decisions x n)) (sym test ∙ yes),
       λ longer. test ∙ open_child_only gates (decisions x n) early longer,
     )
 
-pub children_read : (gates : List GateInfo) (x : Prefix) (n : ℕ) (answer : Bool) → answer ≡ may_open gates (decisions x n) n → children gates (decisions x n) ≡ (decisions x n ++ false ∷ []) ∷ (if answer then (decisions x n ++ true ∷ []) ∷ [] else [])
+pub children_read : (gates : List GateInfo) (x : Prefix) (n : ℕ) (answer : Bool)
+    → answer ≡ may_open gates (decisions x n) n
+    → children gates (decisions x n) ≡ (decisions x n ++ false ∷ []) ∷ (if answer then (decisions x n ++ true ∷ []) ∷ [] else [])
 children_read gates x n answer e = ap (λ (b : Bool). (decisions x n ++ false ∷ []) ∷ (if b then (decisions x n ++ true ∷ []) ∷ [] else [])) (sym (e ∙ may_open_at gates x n))
 
 -- a prefix with one decision more, and with one fewer

@@ -38,7 +38,8 @@ as_many m a os qs f e h = ap length h ∙ AllZip-long (λ o q. IsWithin (own_bou
 -- ---- the answer
 
 -- the bits of a gate word that is marked by all orders are those of the open gates
-pub marked : (m : Market) (a : Activation) (os : List Order) (qs : List ℕ) (i g : ℕ) (b : Bool) → os ≡ m.orders → qs ≡ a.mw → length os ≤ i → length qs ≤ i → b ≡ runs_gate g (take i os) (take i qs) → b ≡ is_open m a g
+pub marked : (m : Market) (a : Activation) (os : List Order) (qs : List ℕ) (i g : ℕ) (b : Bool) → os ≡ m.orders
+    → qs ≡ a.mw → length os ≤ i → length qs ≤ i → b ≡ runs_gate g (take i os) (take i qs) → b ≡ is_open m a g
 marked m a os qs i g b e h l k n =
     n ∙ runs_all g os qs i l k ∙ ap (λ (xs : List Order). runs_gate g xs qs) e ∙ ap (runs_gate g m.orders) h
 
@@ -67,7 +68,9 @@ same_bits : (x w : Prefix) (n : ℕ) → IsCleared x → w.length ≤ 512 → n 
 same_bits x w n cleared few le same g l = opens_bit x g cleared (omega arith) ∙ same g l ∙ sym (opens_word w g (omega arith))
 
 -- the first gate that differs decides
-pub differs_at : (x w : Prefix) (n : ℕ) (p o : Bool) → IsCleared x → w.length ≤ 512 → n < w.length → ((g : ℕ) → g < n → bit_of x g ≡ bit_of w g) → p ≡ bit_of x n → o ≡ bit_of w n → not (beq p o) ≡ true → IsTrue o ↔ ComesBefore (word_of x) (word_of w)
+pub differs_at : (x w : Prefix) (n : ℕ) (p o : Bool) → IsCleared x → w.length ≤ 512 → n < w.length
+    → ((g : ℕ) → g < n → bit_of x g ≡ bit_of w g) → p ≡ bit_of x n → o ≡ bit_of w n → not (beq p o) ≡ true
+    → IsTrue o ↔ ComesBefore (word_of x) (word_of w)
 differs_at x w n true true cleared few l same is was differ = absurd (cc)
 differs_at x w n false false cleared few l same is was differ = absurd (cc)
 differs_at x w n false true cleared few l same is was differ = (

@@ -32,7 +32,9 @@ same_tail : (w : List Bool) (xs ys : List (List Bool)) → (w ∷ xs) ≡ (w ∷
 same_tail w xs ys e = cc
 
 -- what may_branch_up says of the open child
-pub opened_read : (gates : List GateInfo) (w : List Bool) (answer : Bool) → children gates w ≡ (w ++ false ∷ []) ∷ (if answer then (w ++ true ∷ []) ∷ [] else []) → opened_child gates w ≡ (if answer then (w ++ true ∷ []) ∷ [] else [])
+pub opened_read : (gates : List GateInfo) (w : List Bool) (answer : Bool)
+    → children gates w ≡ (w ++ false ∷ []) ∷ (if answer then (w ++ true ∷ []) ∷ [] else [])
+    → opened_child gates w ≡ (if answer then (w ++ true ∷ []) ∷ [] else [])
 opened_read gates w answer e = same_tail (w ++ false ∷ []) (opened_child gates w) _ e
 
 -- a word is feasible where a longer one is
@@ -56,7 +58,9 @@ parent_feasible m x y b v f e cleared = record {
 }
 
 -- the words that wait after the parent too: the child was open, or its sibling may not be
-pub waiting_up : (gates : List GateInfo) (x y : Prefix) (b : Bool) → word_of x ≡ word_of y ++ b ∷ [] → (b ≡ false → opened_child gates (word_of y) ≡ []) → waiting_after gates (word_of x) ≡ waiting_after gates (word_of y)
+pub waiting_up : (gates : List GateInfo) (x y : Prefix) (b : Bool) → word_of x ≡ word_of y ++ b ∷ []
+    → (b ≡ false → opened_child gates (word_of y) ≡ [])
+    → waiting_after gates (word_of x) ≡ waiting_after gates (word_of y)
 waiting_up gates x y b e none = ap (waiting_after gates) e ∙ waiting_push gates (word_of y) b ∙ ap (λ (ws : List (List Bool)). ws ++ waiting_after gates (word_of y)) (by_bit b none)
   where
     by_bit : (c : Bool) → (c ≡ false → opened_child gates (word_of y) ≡ []) → (if c then [] else opened_child gates (word_of y)) ≡ []
@@ -64,7 +68,9 @@ waiting_up gates x y b e none = ap (waiting_after gates) e ∙ waiting_push gate
     by_bit false n = n refl
 
 -- and after a closed child first its open sibling
-pub waiting_sibling : (gates : List GateInfo) (x y z : Prefix) (b : Bool) → word_of x ≡ word_of y ++ b ∷ [] → b ≡ false → opened_child gates (word_of y) ≡ (word_of y ++ true ∷ []) ∷ [] → word_of z ≡ word_of y ++ true ∷ [] → left_at gates (Some z) ≡ waiting_after gates (word_of x)
+pub waiting_sibling : (gates : List GateInfo) (x y z : Prefix) (b : Bool) → word_of x ≡ word_of y ++ b ∷ []
+    → b ≡ false → opened_child gates (word_of y) ≡ (word_of y ++ true ∷ []) ∷ [] → word_of z ≡ word_of y ++ true ∷ []
+    → left_at gates (Some z) ≡ waiting_after gates (word_of x)
 waiting_sibling gates x y z b e closed may child =
     ap (λ (w : List Bool). w ∷ waiting_after gates w) child
     ∙ ap (λ (ws : List (List Bool)). (word_of y ++ true ∷ []) ∷ ws) (waiting_push gates (word_of y) true)

@@ -61,7 +61,9 @@ pub first_fit : (islands : List Island) (clearings : List Clearing) → AllZip I
 first_fit islands clearings a = zip_weaker IsFirstOfIsland FitsIsland fits_first islands clearings a
 
 -- islands that are placed are joined
-pub placed_joined : (m : Market) (islands : List Island) (clearings : List Clearing) (mw : List ℕ) (flow : List ℤ) → length mw ≡ length m.orders → length flow ≡ length m.borders → ArePlaced islands clearings mw flow → IsJoinedOf m islands clearings (activation_of mw flow)
+pub placed_joined : (m : Market) (islands : List Island) (clearings : List Clearing) (mw : List ℕ) (flow : List ℤ)
+    → length mw ≡ length m.orders → length flow ≡ length m.borders → ArePlaced islands clearings mw flow
+    → IsJoinedOf m islands clearings (activation_of mw flow)
 placed_joined m islands clearings mw flow l k h = record { lengths = record { orders = l; borders = k }; parts = h.parts; apart = λ j less none. h.apart j none }
 
 module _ (m : Market) (islands : List Island) (v : IsValid m) (h : AreIslands m islands) where
@@ -87,7 +89,8 @@ module _ (m : Market) (islands : List Island) (v : IsValid m) (h : AreIslands m 
       (λ i c same first. subst (IsFirst i.market) (sym same) first.first) islands clearings j.parts firsts))
 
   -- whose welfare is the sum of theirs
-  pub joined_welfare : (clearings : List Clearing) (a : Activation) → AllZip IsFirstOfIsland islands clearings → IsJoinedOf m islands clearings a → welfare_of m a ≡ pos (sum_by (λ (c : Clearing). c.welfare) clearings)
+  pub joined_welfare : (clearings : List Clearing) (a : Activation) → AllZip IsFirstOfIsland islands clearings
+      → IsJoinedOf m islands clearings a → welfare_of m a ≡ pos (sum_by (λ (c : Clearing). c.welfare) clearings)
   joined_welfare clearings a firsts j =
       sum_of_islands m islands v h a j.lengths
       ∙ sums_agree (λ (i : Island). welfare_of i.market (activation_in i a)) (λ (c : Clearing). c.welfare) islands clearings
@@ -96,17 +99,24 @@ module _ (m : Market) (islands : List Island) (v : IsValid m) (h : AreIslands m 
 
 -- ---- one island after the other
 
-pub cleared_more : (budget : ℕ) (islands : List Island) (clearings news : List Clearing) (place : ℕ) (i : Island) (c : Clearing) → place < length islands → i ≡ get_or islands place i → AllZip (IsClearedBy budget) (take place islands) clearings → IsClearing i.market budget c → news ≡ clearings ++ c ∷ [] → AllZip (IsClearedBy budget) (take (place + 1) islands) news
+pub cleared_more : (budget : ℕ) (islands : List Island) (clearings news : List Clearing) (place : ℕ) (i : Island) (c : Clearing)
+    → place < length islands → i ≡ get_or islands place i → AllZip (IsClearedBy budget) (take place islands) clearings
+    → IsClearing i.market budget c → news ≡ clearings ++ c ∷ []
+    → AllZip (IsClearedBy budget) (take (place + 1) islands) news
 cleared_more budget islands clearings news place i c l is so_far here pushed =
     let more : take (place + 1) islands ≡ take place islands ++ i ∷ [] = take_more islands place i l ∙ ap (λ (j : Island). take place islands ++ j ∷ []) (sym is) in
     subst (λ (xs : List Island). AllZip (IsClearedBy budget) xs news) (sym more) (subst (AllZip (IsClearedBy budget) (take place islands ++ i ∷ [])) (sym pushed) (all_zipped_more (IsClearedBy budget) (take place islands) clearings i c so_far here))
 
-pub all_cleared : (budget : ℕ) (islands : List Island) (clearings given : List Clearing) (place : ℕ) → length islands ≤ place → AllZip (IsClearedBy budget) (take place islands) clearings → given ≡ clearings → AllZip IsFirstOfIsland islands given
+pub all_cleared : (budget : ℕ) (islands : List Island) (clearings given : List Clearing) (place : ℕ)
+    → length islands ≤ place → AllZip (IsClearedBy budget) (take place islands) clearings → given ≡ clearings
+    → AllZip IsFirstOfIsland islands given
 all_cleared budget islands clearings given place l so_far is =
     let all : AllZip (IsClearedBy budget) islands clearings = subst (λ (xs : List Island). AllZip (IsClearedBy budget) xs clearings) (take_all place islands l) so_far in
     subst (AllZip IsFirstOfIsland islands) (sym is) (zip_weaker (IsClearedBy budget) IsFirstOfIsland (λ i c k. record { first = k.first; welfare = k.welfare }) islands clearings all)
 
-pub spent_at : (budget : ℕ) (islands : List Island) (clearings : List Clearing) (place : ℕ) (i : Island) (part : Spent) → place < length islands → i ≡ get_or islands place i → AllZip (IsClearedBy budget) (take place islands) clearings → IsSpent i.market budget part → IsIslandSpent islands budget place part
+pub spent_at : (budget : ℕ) (islands : List Island) (clearings : List Clearing) (place : ℕ) (i : Island) (part : Spent)
+    → place < length islands → i ≡ get_or islands place i → AllZip (IsClearedBy budget) (take place islands) clearings
+    → IsSpent i.market budget part → IsIslandSpent islands budget place part
 spent_at budget islands clearings place i part l is so_far here = record {
   earlier = all_some (IsClearedBy budget) (take place islands) clearings so_far;
   spent = subst (λ o. IsSomeAnd o (λ (j : Island). IsSpent j.market budget part)) (sym (slice_get_read islands (length islands) place i refl l is)) here;

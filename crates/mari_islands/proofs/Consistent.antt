@@ -34,7 +34,9 @@ use Rattle.mari_islands.proofs.Whole.{InEach, Zone, whole_feasible}
 
 -- ---- the standing of an order
 
-same_standing : (opens own : ℕ → Bool) (gates : List ℕ) (gate : Option ℕ) → ((g : ℕ) → gate ≡ Some g → (j : ℕ) × (place_in gates g ≡ Some j) × (own j ≡ opens g)) → standing_of own (option_and_then (place_in gates) gate) ≡ standing_of opens gate
+same_standing : (opens own : ℕ → Bool) (gates : List ℕ) (gate : Option ℕ)
+    → ((g : ℕ) → gate ≡ Some g → (j : ℕ) × (place_in gates g ≡ Some j) × (own j ≡ opens g))
+    → standing_of own (option_and_then (place_in gates) gate) ≡ standing_of opens gate
 same_standing opens own gates None h = refl
 same_standing opens own gates (Some g) h =
     let k = h g refl in
@@ -49,16 +51,20 @@ abbrev Trade : Order → ℕ → Standing → ℤ → Type 0
 Trade o q s p = IsConsistentTrade s o.side o.price.0 o.greatest q p
 
 module _ (m : Market) (first : ℕ → ℕ) (f : ℕ) (v : IsValid m) (s : Splits m first) (a : Activation) (long : length a.mw ≡ length m.orders) (ps qs : List Cents) (agree : Agree m first f ps qs) where
-  standing_same : (o : Order) → Contains m.orders o → first o.zone ≡ f → standing_of (is_open (island_of m first f) (own_of m first f a)) (order_among (zones_of m first f) (gates_of m first f) o).gate ≡ standing_of (is_open m a) o.gate
+  standing_same : (o : Order) → Contains m.orders o → first o.zone ≡ f
+      → standing_of (is_open (island_of m first f) (own_of m first f a)) (order_among (zones_of m first f) (gates_of m first f) o).gate ≡ standing_of (is_open m a) o.gate
   standing_same o h e = same_standing (is_open m a) (is_open (island_of m first f) (own_of m first f a)) (gates_of m first f) o.gate (own_gate m first f v s a long o h e)
 
   price_same : (o : Order) → Contains m.orders o → first o.zone ≡ f → price_at qs (place_of (zones_of m first f) o.zone) ≡ price_at ps o.zone
   price_same o h e = agree o.zone (All-contains (IsValidOrder m.zones (length m.gates)) m.orders o v.orders h).zone e
 
-  pub order_to : (o : Order) (q : ℕ) → Contains m.orders o → first o.zone ≡ f → IsConsistentOrder (is_open m a) ps o q → IsConsistentOrder (is_open (island_of m first f) (own_of m first f a)) qs (order_among (zones_of m first f) (gates_of m first f) o) q
+  pub order_to : (o : Order) (q : ℕ) → Contains m.orders o → first o.zone ≡ f → IsConsistentOrder (is_open m a) ps o q
+      → IsConsistentOrder (is_open (island_of m first f) (own_of m first f a)) qs (order_among (zones_of m first f) (gates_of m first f) o) q
   order_to o q h e k = subst (λ (t : Standing). Trade o q t (price_at qs (place_of (zones_of m first f) o.zone))) (sym (standing_same o h e)) (subst (Trade o q (standing_of (is_open m a) o.gate)) (sym (price_same o h e)) k)
 
-  pub order_from : (o : Order) (q : ℕ) → Contains m.orders o → first o.zone ≡ f → IsConsistentOrder (is_open (island_of m first f) (own_of m first f a)) qs (order_among (zones_of m first f) (gates_of m first f) o) q → IsConsistentOrder (is_open m a) ps o q
+  pub order_from : (o : Order) (q : ℕ) → Contains m.orders o → first o.zone ≡ f
+      → IsConsistentOrder (is_open (island_of m first f) (own_of m first f a)) qs (order_among (zones_of m first f) (gates_of m first f) o) q
+      → IsConsistentOrder (is_open m a) ps o q
   order_from o q h e k = subst (Trade o q (standing_of (is_open m a) o.gate)) (price_same o h e) (subst (λ (t : Standing). Trade o q t (price_at qs (place_of (zones_of m first f) o.zone))) (standing_same o h e) k)
 
   pub border_to : (b : Border) (q : ℤ) → IsValidBorder m.zones b → first b.from ≡ f → first b.to ≡ f → IsConsistentBorder ps b q → IsConsistentBorder qs (border_among (zones_of m first f) b) q

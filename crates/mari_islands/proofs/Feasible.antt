@@ -48,13 +48,17 @@ same_span opens own zones gates (Some g) o h =
 
 module _ (m : Market) (first : ℕ → ℕ) (f : ℕ) (v : IsValid m) (s : Splits m first) where
   -- a gate of an order of the island, by its number there, open where it is in the whole
-  pub own_gate : (a : Activation) → length a.mw ≡ length m.orders → (o : Order) → Contains m.orders o → first o.zone ≡ f → (g : ℕ) → o.gate ≡ Some g → (j : ℕ) × (place_in (gates_of m first f) g ≡ Some j) × (is_open (island_of m first f) (own_of m first f a) j ≡ is_open m a g)
+  pub own_gate : (a : Activation) → length a.mw ≡ length m.orders → (o : Order) → Contains m.orders o
+      → first o.zone ≡ f → (g : ℕ) → o.gate ≡ Some g
+      → (j : ℕ) × (place_in (gates_of m first f) g ≡ Some j) × (is_open (island_of m first f) (own_of m first f a) j ≡ is_open m a g)
   own_gate a l o h e g is =
       let k = gate_place m first f o g v h e is in
       let own : IsGateAt m first f k.0 g = subst (IsGateAt m first f k.0) k.1.read (gate_at m first f k.0 k.1.there) in
       (k.0, k.1.found, open_same m first f v s a l k.0 g own)
 
-  pub bounds_same : (a : Activation) → length a.mw ≡ length m.orders → (o : Order) → Contains m.orders o → first o.zone ≡ f → own_bounds (island_of m first f) (own_of m first f a) (order_among (zones_of m first f) (gates_of m first f) o) ≡ own_bounds m a o
+  pub bounds_same : (a : Activation) → length a.mw ≡ length m.orders → (o : Order) → Contains m.orders o
+      → first o.zone ≡ f
+      → own_bounds (island_of m first f) (own_of m first f a) (order_among (zones_of m first f) (gates_of m first f) o) ≡ own_bounds m a o
   bounds_same a l o h e = same_span (is_open m a) (is_open (island_of m first f) (own_of m first f a)) (zones_of m first f) (gates_of m first f) o.gate o (own_gate a l o h e)
 
   -- ---- balance
@@ -70,13 +74,16 @@ module _ (m : Market) (first : ℕ → ℕ) (f : ℕ) (v : IsValid m) (s : Split
   other_zone : (i z : ℕ) → IsZoneAt m first f i z → (y : ℕ) → (first y == f) ≡ false → (y == z) ≡ false
   other_zone i z own y t = ne_eqb y z (λ same. eqb-false (first y) f t (ap first same ∙ own.inside))
 
-  pub put_same : (a : Activation) → length a.mw ≡ length m.orders → (i z : ℕ) → IsZoneAt m first f i z → sum_along (put_into i) (island_of m first f).orders (own_of m first f a).mw ≡ sum_along (put_into z) m.orders a.mw
+  pub put_same : (a : Activation) → length a.mw ≡ length m.orders → (i z : ℕ) → IsZoneAt m first f i z
+      → sum_along (put_into i) (island_of m first f).orders (own_of m first f a).mw ≡ sum_along (put_into z) m.orders a.mw
   put_same a l i z own = sum_beside (is_order_in (inside first f)) (order_among (zones_of m first f) (gates_of m first f)) (put_into z) (put_into i) (λ o q. Contains m.orders o)
       (λ o q h t. ap (λ (b : Bool). if b then put_in o.side q else pos 0) (same_zone i z own o.zone (All-contains (IsValidOrder m.zones (length m.gates)) m.orders o v.orders h).zone (eqb-true _ _ t)))
       (λ o q h t. ap (λ (b : Bool). if b then put_in o.side q else pos 0) (other_zone i z own o.zone t))
       m.orders a.mw (side_all (Contains m.orders) m.orders a.mw l (All-contains_itself m.orders))
 
-  carried_inside : (i z : ℕ) → IsZoneAt m first f i z → (b : Border) (q : ℤ) → IsValidBorder m.zones b → is_border_in (inside first f) b ≡ true → carried_out i (border_among (zones_of m first f) b) q ≡ carried_out z b q
+  carried_inside : (i z : ℕ) → IsZoneAt m first f i z → (b : Border) (q : ℤ) → IsValidBorder m.zones b
+      → is_border_in (inside first f) b ≡ true
+      → carried_out i (border_among (zones_of m first f) b) q ≡ carried_out z b q
   carried_inside i z own b q valid t =
       let ends = and_parts (inside first f b.from) (inside first f b.to) t in
       ap (λ (c : Bool). (if c then q else pos 0) -ℤ (if place_of (zones_of m first f) b.to == i then q else pos 0)) (same_zone i z own b.from valid.from (eqb-true _ _ ends.0))
@@ -100,7 +107,8 @@ module _ (m : Market) (first : ℕ → ℕ) (f : ℕ) (v : IsValid m) (s : Split
       both_out : ((first b.from == f) ≡ false) × ((first b.to == f) ≡ false) → carried_out z b q ≡ pos 0
       both_out h = rw (other_zone i z own b.from h.0, other_zone i z own b.to h.1) refl
 
-  pub carried_same : (a : Activation) → AllZip (IsStill first) m.borders a.flow → (i z : ℕ) → IsZoneAt m first f i z → sum_along (carried_out i) (island_of m first f).borders (own_of m first f a).flow ≡ sum_along (carried_out z) m.borders a.flow
+  pub carried_same : (a : Activation) → AllZip (IsStill first) m.borders a.flow → (i z : ℕ) → IsZoneAt m first f i z
+      → sum_along (carried_out i) (island_of m first f).borders (own_of m first f a).flow ≡ sum_along (carried_out z) m.borders a.flow
   carried_same a still i z own = sum_beside (is_border_in (inside first f)) (border_among (zones_of m first f)) (carried_out z) (carried_out i) (λ b q. IsValidBorder m.zones b × IsStill first b q)
       (λ b q h t. carried_inside i z own b q h.0 t)
       (λ b q h t. carried_outside i z own b q h.1 t)
@@ -135,7 +143,9 @@ module _ (m : Market) (first : ℕ → ℕ) (f : ℕ) (v : IsValid m) (s : Split
       let opened : is_open m a p.parent ≡ true = fe.gates.parents g p.parent (sym (open_at j (parent_within m first f j k is)) ∙ e) p.is_parent in
       open_at k p.place.there ∙ ap (is_open m a) p.place.read ∙ opened
 
-  one_of_group : (i j k : ℕ) → is_open (island_of m first f) (own_of m first f a) i ≡ true → is_open (island_of m first f) (own_of m first f a) j ≡ true → group_of (island_of m first f).gates i ≡ Some k → group_of (island_of m first f).gates j ≡ Some k → i ≡ j
+  one_of_group : (i j k : ℕ) → is_open (island_of m first f) (own_of m first f a) i ≡ true
+      → is_open (island_of m first f) (own_of m first f a) j ≡ true → group_of (island_of m first f).gates i ≡ Some k
+      → group_of (island_of m first f).gates j ≡ Some k → i ≡ j
   one_of_group i j k d e is js =
       let gs = gates_of m first f in
       let l = group_within m first f i k is in

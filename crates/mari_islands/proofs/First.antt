@@ -75,7 +75,10 @@ module _ (m : Market) (first : ℕ → ℕ) (v : IsValid m) (s : Splits m first)
 
   -- ---- gate words
 
-  own_before : (a b : Activation) → length a.mw ≡ length m.orders → length b.mw ≡ length m.orders → (f j g : ℕ) → IsGateAt m first f j g → ((i : ℕ) → i < g → opens_in (gate_word_of m b) i ≡ opens_in (gate_word_of m a) i) → is_open m b g ≡ false → is_open m a g ≡ true → ComesBefore (gate_word_of (island_of m first f) (own_of m first f b)) (gate_word_of (island_of m first f) (own_of m first f a))
+  own_before : (a b : Activation) → length a.mw ≡ length m.orders → length b.mw ≡ length m.orders → (f j g : ℕ)
+      → IsGateAt m first f j g → ((i : ℕ) → i < g → opens_in (gate_word_of m b) i ≡ opens_in (gate_word_of m a) i)
+      → is_open m b g ≡ false → is_open m a g ≡ true
+      → ComesBefore (gate_word_of (island_of m first f) (own_of m first f b)) (gate_word_of (island_of m first f) (own_of m first f a))
   own_before a b la lb f j g own same closed opened =
       let gs = gates_of m first f in
       let few : length (island_of m first f).gates ≡ length gs = length-map gs (gate_among m.gates gs) in

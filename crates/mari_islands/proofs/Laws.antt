@@ -44,7 +44,8 @@ all_first P [] ys a = All-nil P
 all_first P (x ∷ xs) [] a = absurd a
 all_first P (x ∷ xs) (y ∷ ys) a = All-cons P x xs a.0 (all_first P xs ys a.1)
 
-pub zip_from : {X Y : Type 0} (R : X → Y → Type 0) (xs : List X) (ys : List Y) → length ys ≡ length xs → ((k : ℕ) (d : X) (e : Y) → k < length xs → R (slice_index_or xs k d) (slice_index_or ys k e)) → AllZip R xs ys
+pub zip_from : {X Y : Type 0} (R : X → Y → Type 0) (xs : List X) (ys : List Y) → length ys ≡ length xs
+    → ((k : ℕ) (d : X) (e : Y) → k < length xs → R (slice_index_or xs k d) (slice_index_or ys k e)) → AllZip R xs ys
 zip_from R [] [] l h = tt
 zip_from R [] (y ∷ ys) l h = absurd (omega (arith, l))
 zip_from R (x ∷ xs) [] l h = absurd (omega (arith, l))
@@ -59,7 +60,9 @@ int_sum-same f g (x ∷ xs) h = omega (arith, ints, h x, int_sum-same f g xs h)
 abbrev pub passes_at : {X : Type 0} → (X → Bool) → List X → ℕ → Bool
 passes_at p xs i = option_map_or p (slice_get xs i) false
 
-places_filter : {X : Type 0} (p : X → Bool) (q : ℕ → Bool) (k : ℕ) (xs : List X) → ((i : ℕ) (d : X) → i < length xs → q (k + i) ≡ p (slice_index_or xs i d)) → places_from p k xs ≡ filter q (range_with_len k (length xs))
+places_filter : {X : Type 0} (p : X → Bool) (q : ℕ → Bool) (k : ℕ) (xs : List X)
+    → ((i : ℕ) (d : X) → i < length xs → q (k + i) ≡ p (slice_index_or xs i d))
+    → places_from p k xs ≡ filter q (range_with_len k (length xs))
 places_filter p q k [] h = refl
 places_filter p q k (x ∷ xs) h =
     let here : q k ≡ p x = ap q (sym (add-zero k)) ∙ h 0 x (omega arith) in
@@ -138,7 +141,9 @@ module _ (m : Market) (islands : List Island) (v : IsValid m) (h : AreIslands m 
       let ends = and_parts (inside first_of f b.from) (inside first_of f b.to) t in
       apart (eqb-true _ _ ends.0 ∙ sym (eqb-true _ _ ends.1)))
 
-  pub joined_still : (a : Activation) → HasLengths m a → ((k : ℕ) → k < length m.borders → All (λ (i : Island). Contains i.borders k → ⊥) islands → int_at a.flow k ≡ pos 0) → AllZip (IsStill first_of) m.borders a.flow
+  pub joined_still : (a : Activation) → HasLengths m a
+      → ((k : ℕ) → k < length m.borders → All (λ (i : Island). Contains i.borders k → ⊥) islands → int_at a.flow k ≡ pos 0)
+      → AllZip (IsStill first_of) m.borders a.flow
   joined_still a long none = zip_from (IsStill first_of) m.borders a.flow long.borders (λ k d e l apart. get_or_default a.flow k e (pos 0) (omega (arith, l, long.borders)) ∙ none k l (between k d apart))
 
   -- first activations of the islands are together the first activation of the whole

@@ -154,7 +154,9 @@ pub few_in : (p : ℕ → Bool) (n : ℕ) (xs ys : List ℕ) → ys ≡ xs → x
 few_in p n xs ys d e = omega (arith, ap length d, ap length e, few_numbers p n)
 
 -- the same where a value is made of each number
-pub mapped_more : {X : Type 0} (f : ℕ → X) (p : ℕ → Bool) (n : ℕ) (old new : List X) (x : X) → old ≡ map f (filter p (range_with_len 0 n)) → p n ≡ true → x ≡ f n → new ≡ old ++ x ∷ [] → new ≡ map f (filter p (range_with_len 0 (n + 1)))
+pub mapped_more : {X : Type 0} (f : ℕ → X) (p : ℕ → Bool) (n : ℕ) (old new : List X) (x : X)
+    → old ≡ map f (filter p (range_with_len 0 n)) → p n ≡ true → x ≡ f n → new ≡ old ++ x ∷ []
+    → new ≡ map f (filter p (range_with_len 0 (n + 1)))
 mapped_more {X} f p n old new x e t is h =
     let more : filter p (range_with_len 0 n) ++ n ∷ [] ≡ filter p (range_with_len 0 (n + 1)) = kept_more p n (filter p (range_with_len 0 n)) (filter p (range_with_len 0 n) ++ n ∷ []) refl t refl in
     h ∙ ap (λ (xs : List X). xs ++ x ∷ []) e ∙ ap (λ (y : X). map f (filter p (range_with_len 0 n)) ++ y ∷ []) is ∙ sym (map-append f (filter p (range_with_len 0 n)) (n ∷ [])) ∙ ap (map f) more

@@ -62,7 +62,9 @@ open_order m a g e =
     record { order = any.1; of_market = (any.0, any.2, any.3); of_gate = gate_named g any.1.gate any.4 }
 
 module _ (m : Market) (first : ℕ → ℕ) (f : ℕ) (v : IsValid m) (s : Splits m first) where
-  same_gates : (j g : ℕ) → IsPlace (gates_of m first f) g j → (gate : Option ℕ) → ((h : ℕ) → gate ≡ Some h → (k : ℕ) × IsPlace (gates_of m first f) h k) → is_gate j (option_and_then (place_in (gates_of m first f)) gate) ≡ is_gate g gate
+  same_gates : (j g : ℕ) → IsPlace (gates_of m first f) g j → (gate : Option ℕ)
+      → ((h : ℕ) → gate ≡ Some h → (k : ℕ) × IsPlace (gates_of m first f) h k)
+      → is_gate j (option_and_then (place_in (gates_of m first f)) gate) ≡ is_gate g gate
   same_gates j g here None place = refl
   same_gates j g here (Some h) place =
       let k = place h refl in

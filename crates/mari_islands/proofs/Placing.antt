@@ -60,7 +60,9 @@ module _ {Y : Type 0} (d : Y) (xs : List Y) (numbers : List ℕ) (own : List Y) 
       ∙ ap (λ (y : Y). take i own ++ y ∷ []) (get_or-set_same xs n v d there ∙ is)
       ∙ sym (take_more own i d lo)
 
-  pub others_more : (olds : List Y) → ((k : ℕ) → (Contains (take i numbers) k → ⊥) → get_or xs k d ≡ get_or olds k d) → (k : ℕ) → (Contains (take (i + 1) numbers) k → ⊥) → get_or (set xs (get_or numbers i 0) v) k d ≡ get_or olds k d
+  pub others_more : (olds : List Y) → ((k : ℕ) → (Contains (take i numbers) k → ⊥) → get_or xs k d ≡ get_or olds k d)
+      → (k : ℕ) → (Contains (take (i + 1) numbers) k → ⊥)
+      → get_or (set xs (get_or numbers i 0) v) k d ≡ get_or olds k d
   others_more olds so_far k none =
       let n : ℕ = get_or numbers i 0 in
       let more = take_more numbers i 0 l in
@@ -141,14 +143,19 @@ module _ (m : Market) (islands : List Island) (v : IsValid m) (h : AreIslands m 
 
   -- ---- the loop over islands
 
-  activation_same : (e i : Island) (own : Activation) (mw : List ℕ) (flow : List ℤ) (mws : List ℕ) (flows : List ℤ) → AreDisjoint e i → IsPlaced i own mw flow mws flows → activation_in e (activation_of mws flows) ≡ activation_in e (activation_of mw flow)
+  activation_same : (e i : Island) (own : Activation) (mw : List ℕ) (flow : List ℤ) (mws : List ℕ) (flows : List ℤ)
+      → AreDisjoint e i → IsPlaced i own mw flow mws flows
+      → activation_in e (activation_of mws flows) ≡ activation_in e (activation_of mw flow)
   activation_same e i own mw flow mws flows apart p =
       let A : List ℕ → Activation = λ qs. record { mw = qs; flow = map (int_at flows) e.borders } in
       let B : List ℤ → Activation = λ fs. record { mw = map (slice_index mw) e.orders; flow = fs } in
       ap A (map_same (slice_index mws) (slice_index mw) e.orders (λ k d l. p.other_mw _ (apart.orders _ (All-contains_itself e.orders k d l))))
       ∙ ap B (map_same (int_at flows) (int_at flow) e.borders (λ k d l. p.other_flow _ (apart.borders _ (All-contains_itself e.borders k d l))))
 
-  pub placed_more : (clearings : List Clearing) (i : ℕ) (d : Island) (c : Clearing) (mw : List ℕ) (flow : List ℤ) (mws : List ℕ) (flows : List ℤ) → i < length islands → i < length clearings → ArePlaced (take i islands) (take i clearings) mw flow → IsPlaced (get_or islands i d) (get_or clearings i c).activation mw flow mws flows → ArePlaced (take (i + 1) islands) (take (i + 1) clearings) mws flows
+  pub placed_more : (clearings : List Clearing) (i : ℕ) (d : Island) (c : Clearing) (mw : List ℕ) (flow : List ℤ) (mws : List ℕ) (flows : List ℤ)
+      → i < length islands → i < length clearings → ArePlaced (take i islands) (take i clearings) mw flow
+      → IsPlaced (get_or islands i d) (get_or clearings i c).activation mw flow mws flows
+      → ArePlaced (take (i + 1) islands) (take (i + 1) clearings) mws flows
   placed_more clearings i d c mw flow mws flows l lc so_far p = record {
     parts = AllZip_more (λ (e : Island) (c : Clearing). activation_in e (activation_of mws flows) ≡ c.activation) islands clearings i d c l lc
         (AllZip-both (λ (e : Island) (c : Clearing). AreDisjoint e (get_or islands i d)) (λ (e : Island) (c : Clearing). activation_in e (activation_of mw flow) ≡ c.activation) (λ (e : Island) (c : Clearing). activation_in e (activation_of mws flows) ≡ c.activation)

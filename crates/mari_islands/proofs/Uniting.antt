@@ -107,7 +107,8 @@ abbrev pub no_order : Order
 no_order = record { zone = 0; side = Inject; price = record { 0 = pos 0 }; least = 0; greatest = 0; gate = None }
 
 -- the step of a loop in which what held of the items so far leads to what holds of them then
-pub all_step : {X : Type 0} (V P Q : X → Type 0) (xs : List X) (i : ℕ) (d : X) → i < length xs → All V xs → ((x : X) → V x → P x → Q x) → All P (take i xs) → Q (get_or xs i d) → All Q (take (i + 1) xs)
+pub all_step : {X : Type 0} (V P Q : X → Type 0) (xs : List X) (i : ℕ) (d : X) → i < length xs → All V xs
+    → ((x : X) → V x → P x → Q x) → All P (take i xs) → Q (get_or xs i d) → All Q (take (i + 1) xs)
 all_step V P Q xs i d l all step so_far here = All-more Q xs i d l (λ k e less. step _ (All-take V i xs all k e less) (so_far k e less)) here
 
 -- and its end
@@ -144,7 +145,8 @@ mate_joined m homes mates h k g l = let b = k.bound g l in inl (by_gates g b.0 (
 pub parent_there : (m : Market) → IsValid m → (g h : ℕ) → g < length m.gates → parent_of m.gates g ≡ Some h → h < length m.gates
 parent_there m v g h l e = omega (arith, (v.gates g l).parent h e, l)
 
-pub parent_joined : (m : Market) (homes : List ℕ) → IsValid m → AreHomes m homes → (g h : ℕ) → g < length m.gates → parent_of m.gates g ≡ Some h → AreJoined m (slice_index homes g) (slice_index homes h)
+pub parent_joined : (m : Market) (homes : List ℕ) → IsValid m → AreHomes m homes → (g h : ℕ) → g < length m.gates
+    → parent_of m.gates g ≡ Some h → AreJoined m (slice_index homes g) (slice_index homes h)
 parent_joined m homes v k g h l e = inl (by_gates g h (k.there g l) (k.there h (parent_there m v g h l e)) (is_parent e))
 
 -- an order's own zone is joined with the one that stands for its gate
@@ -183,7 +185,9 @@ binds_to m y z v (by_border any) = omega (arith, (All-contains (IsValidBorder m.
 binds_to m y z v (by_gates g h a b bound) = gate_there m z h v b
 
 -- the zones that stand for bound gates are united
-bound_united : (m : Market) (homes mates firsts : List ℕ) → AreMates m mates → ((g : ℕ) → g < length m.gates → UnitesGate m.gates homes mates firsts g) → (g h : ℕ) → g < length m.gates → h < length m.gates → AreBound m.gates g h
+bound_united : (m : Market) (homes mates firsts : List ℕ) → AreMates m mates
+    → ((g : ℕ) → g < length m.gates → UnitesGate m.gates homes mates firsts g) → (g h : ℕ) → g < length m.gates
+    → h < length m.gates → AreBound m.gates g h
     → AreUnited firsts (slice_index homes g) (slice_index homes h)
 bound_united m homes mates firsts k gates g h l r (same_gate e) = ap (λ n. slice_index firsts (slice_index homes n)) e
 bound_united m homes mates firsts k gates g h l r (same_group n p q) = (gates g l).group ∙ ap (slice_index firsts) (k.same g h n p q) ∙ sym (gates h r).group
@@ -238,7 +242,9 @@ module _ (m : Market) (homes mates firsts : List ℕ) (v : IsValid m) (k : AreMa
   }
 
 -- what borders united, and then orders, stays so while more is united
-pub united_by_three : (m : Market) (homes mates ones twos news : List ℕ) → IsValid m → AreHomes m homes → AreSound m ones → All (UnitesUsable ones) m.borders → AreSound m twos → StayUnited ones twos → All (UnitesOwn homes twos) m.orders
+pub united_by_three : (m : Market) (homes mates ones twos news : List ℕ) → IsValid m → AreHomes m homes
+    → AreSound m ones → All (UnitesUsable ones) m.borders → AreSound m twos → StayUnited ones twos
+    → All (UnitesOwn homes twos) m.orders
     → AreSound m news → StayUnited twos news → ((g : ℕ) → g < length m.gates → UnitesGate m.gates homes mates news g) → UnitesAll m homes mates news
 united_by_three m homes mates ones twos news v h s borders t stay orders r on gates = record {
   sound = r;

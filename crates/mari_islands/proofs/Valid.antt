@@ -35,14 +35,18 @@ module _ (m : Market) (first : ℕ → ℕ) (f : ℕ) (v : IsValid m) where
         back = valid.back;
       }
 
-  gate_fits : (o : Order) (gate : Option ℕ) → MatchOption gate (o.least ≡ 0) (λ g. (g < length m.gates) × (1 ≤ o.least)) → ((g : ℕ) → gate ≡ Some g → (j : ℕ) × IsPlace (gates_of m first f) g j) → MatchOption (option_and_then (place_in (gates_of m first f)) gate) (o.least ≡ 0) (λ g. (g < length (infos_of m first f)) × (1 ≤ o.least))
+  gate_fits : (o : Order) (gate : Option ℕ)
+      → MatchOption gate (o.least ≡ 0) (λ g. (g < length m.gates) × (1 ≤ o.least))
+      → ((g : ℕ) → gate ≡ Some g → (j : ℕ) × IsPlace (gates_of m first f) g j)
+      → MatchOption (option_and_then (place_in (gates_of m first f)) gate) (o.least ≡ 0) (λ g. (g < length (infos_of m first f)) × (1 ≤ o.least))
   gate_fits o None h place = h
   gate_fits o (Some g) h place =
       let k = place g refl in
       subst (λ (gate : Option ℕ). MatchOption gate (o.least ≡ 0) (λ g. (g < length (infos_of m first f)) × (1 ≤ o.least))) (sym k.1.found)
       (omega (arith, k.1.there, length-map (gates_of m first f) (gate_among m.gates (gates_of m first f))), h.1)
 
-  order_valid : (o : Order) → Contains m.orders o → is_order_in (inside first f) o ≡ true → IsValidOrder (length (zones_of m first f)) (length (infos_of m first f)) (order_among (zones_of m first f) (gates_of m first f) o)
+  order_valid : (o : Order) → Contains m.orders o → is_order_in (inside first f) o ≡ true
+      → IsValidOrder (length (zones_of m first f)) (length (infos_of m first f)) (order_among (zones_of m first f) (gates_of m first f) o)
   order_valid o h t =
       let valid = All-contains (IsValidOrder m.zones (length m.gates)) m.orders o v.orders h in
       let own : first o.zone ≡ f = eqb-true _ _ t in

@@ -27,7 +27,8 @@ done_part (line.Done published unpublished) ws r k e = ((published, unpublished)
 done_part _ ws r k e = absurd cc
 
 -- `run`: whether it is published, and what stands after that
-pub run_part : (l : Line) → InRange l → keyword_of l ≡ first.Run → (published : Bool) × (others : List (List ℕ)) × (heading : Heading) × (fields l ≡ heading_fields heading ++ published_text published ∷ others)
+pub run_part : (l : Line) → InRange l → keyword_of l ≡ first.Run
+    → (published : Bool) × (others : List (List ℕ)) × (heading : Heading) × (fields l ≡ heading_fields heading ++ published_text published ∷ others)
 run_part (line.Run heading) r k = (true, [], heading, refl)
 run_part (line.Unpublished heading count) r k = (false, decimal count ∷ [], heading, refl)
 run_part _ r k = absurd cc

@@ -49,7 +49,8 @@ hundredths_lack n le = lacks_space (hundredths_text n) (rw (sym (written_price n
 pub word_alone : (word text : List ℕ) → text ≡ [] → Lacks 32 word → slice_split (λ b. eqb b 32) (word ++ text) ≡ word ∷ []
 word_alone word text none lack = ap (λ bs. slice_split (λ b. eqb b 32) (word ++ bs)) none ∙ ap (λ bs. slice_split (λ b. eqb b 32) bs) (append-nil word) ∙ only_split 32 word lack
 
-pub word_first : (word text : List ℕ) → 0 < length text → get_or text 0 0 ≡ 32 → Lacks 32 word → slice_split (λ b. eqb b 32) (word ++ text) ≡ word ∷ slice_split (λ b. eqb b 32) (take (length text - 1) (drop 1 text))
+pub word_first : (word text : List ℕ) → 0 < length text → get_or text 0 0 ≡ 32 → Lacks 32 word
+    → slice_split (λ b. eqb b 32) (word ++ text) ≡ word ∷ slice_split (λ b. eqb b 32) (take (length text - 1) (drop 1 text))
 word_first word [] some is lack = absurd (omega arith)
 word_first word (b ∷ bs) some is lack =
     let all : take (length (b ∷ bs) - 1) bs ≡ bs = take_all (length (b ∷ bs) - 1) bs (omega arith) in

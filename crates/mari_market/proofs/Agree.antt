@@ -25,7 +25,8 @@ abbrev Stand : {X Y : Type 0} → X → Y → X → Y → Type 0
 Stand x y u v = (u ≡ x) × (v ≡ y)
 
 -- what holds of all pairs that stand side by side
-each_pair : {X Y : Type 0} (P : X → Type 0) (Q : X → Y → Type 0) (xs : List X) (ys : List Y) → length ys ≡ length xs → All P xs → ((x : X) (y : Y) → P x → AnyZip (Stand x y) xs ys → Q x y) → AllZip Q xs ys
+each_pair : {X Y : Type 0} (P : X → Type 0) (Q : X → Y → Type 0) (xs : List X) (ys : List Y) → length ys ≡ length xs
+    → All P xs → ((x : X) (y : Y) → P x → AnyZip (Stand x y) xs ys → Q x y) → AllZip Q xs ys
 each_pair P Q [] [] l p h = tt
 each_pair P Q [] (y ∷ ys) l p h = absurd (omega (arith, l))
 each_pair P Q (x ∷ xs) [] l p h = absurd (omega (arith, l))
@@ -38,7 +39,9 @@ pub record KeepsAll (m : Market) (a : Activation) (ps : List Cents) : Type 0 whe
   pub upper : (z : ℕ) (c : ℤ) → z < m.zones → IsUpperBound m a z c → price_at ps z ≤ℤ c
   pub rises : (y z : ℕ) → y < m.zones → z < m.zones → Leads m a y z → price_at ps y ≤ℤ price_at ps z
 
-order_agrees : (m : Market) (a : Activation) (ps : List Cents) (o : Order) (q : ℕ) → KeepsAll m a ps → IsValidOrder m.zones (length m.gates) o → AnyZip (Stand o q) m.orders a.mw → IsConsistentOrder (is_open m a) ps o q
+order_agrees : (m : Market) (a : Activation) (ps : List Cents) (o : Order) (q : ℕ) → KeepsAll m a ps
+    → IsValidOrder m.zones (length m.gates) o → AnyZip (Stand o q) m.orders a.mw
+    → IsConsistentOrder (is_open m a) ps o q
 order_agrees m a ps o q k v s = record {
   lower = λ l. k.lower o.zone o.price.0 v.zone (inr (AnyZip-map (Stand o q) (SetsLowerAt (is_open m a) o.zone o.price.0)
       (λ x y e. subst (λ (w : Order). SetsLowerAt (is_open m a) o.zone o.price.0 w y) (sym e.0) (subst (λ (w : ℕ). SetsLowerAt (is_open m a) o.zone o.price.0 o w) (sym e.1) (record { zone = refl; price = refl; sets = l }))) m.orders a.mw s));

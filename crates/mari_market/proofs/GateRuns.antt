@@ -6,7 +6,8 @@ use Rattle.mari_market.specs.declared.market.Order.{Order}
 use Rattle.mari_market.specs.Activation.{is_run_of, runs_gate}
 
 -- with one more order a gate is run where it was, or where the order runs it
-runs_more : (g : ℕ) (os : List Order) (qs : List ℕ) (i : ℕ) (d : Order) → i < length os → i < length qs → runs_gate g (take (i + 1) os) (take (i + 1) qs) ≡ (runs_gate g (take i os) (take i qs) || is_run_of g (get_or os i d) (get_or qs i 0))
+runs_more : (g : ℕ) (os : List Order) (qs : List ℕ) (i : ℕ) (d : Order) → i < length os → i < length qs
+    → runs_gate g (take (i + 1) os) (take (i + 1) qs) ≡ (runs_gate g (take i os) (take i qs) || is_run_of g (get_or os i d) (get_or qs i 0))
 runs_more g [] qs i d h l = absurd (omega arith)
 runs_more g (o ∷ os) [] i d h l = absurd (omega arith)
 runs_more g (o ∷ os) (q ∷ qs) zero d h l = or_comm (is_run_of g o q) false
@@ -21,7 +22,10 @@ runs_more g (o ∷ os) (q ∷ qs) (suc i) d h l =
     regrouped false y z = refl
 
 -- a loop's step: what is marked so far, and the order's gate where it runs
-pub marks_more : (g : ℕ) (os : List Order) (qs : List ℕ) (i : ℕ) (d : Order) (old new : Bool) → i < length os → i < length qs → old ≡ runs_gate g (take i os) (take i qs) → new ≡ (old || is_run_of g (get_or os i d) (get_or qs i 0)) → new ≡ runs_gate g (take (i + 1) os) (take (i + 1) qs)
+pub marks_more : (g : ℕ) (os : List Order) (qs : List ℕ) (i : ℕ) (d : Order) (old new : Bool) → i < length os
+    → i < length qs → old ≡ runs_gate g (take i os) (take i qs)
+    → new ≡ (old || is_run_of g (get_or os i d) (get_or qs i 0))
+    → new ≡ runs_gate g (take (i + 1) os) (take (i + 1) qs)
 marks_more g os qs i d old new h l e n = n ∙ ap (λ (b : Bool). b || is_run_of g (get_or os i d) (get_or qs i 0)) e ∙ sym (runs_more g os qs i d h l)
 
 -- and at its end all orders

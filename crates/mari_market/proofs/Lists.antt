@@ -7,7 +7,9 @@ use Rattle.std.specs.List.{AllZip}
 use Rattle.mari_market.proofs.Sums.{AllZip-at}
 
 -- one more pair, for a loop's step
-pub AllZip_more : {X Y : Type 0} (P : X → Y → Type 0) (xs : List X) (ys : List Y) (i : ℕ) (d : X) (e : Y) → i < length xs → i < length ys → AllZip P (take i xs) (take i ys) → P (get_or xs i d) (get_or ys i e) → AllZip P (take (i + 1) xs) (take (i + 1) ys)
+pub AllZip_more : {X Y : Type 0} (P : X → Y → Type 0) (xs : List X) (ys : List Y) (i : ℕ) (d : X) (e : Y)
+    → i < length xs → i < length ys → AllZip P (take i xs) (take i ys) → P (get_or xs i d) (get_or ys i e)
+    → AllZip P (take (i + 1) xs) (take (i + 1) ys)
 AllZip_more P [] ys i d e h l a p = absurd (omega arith)
 AllZip_more P (x ∷ xs) [] i d e h l a p = absurd (omega arith)
 AllZip_more P (x ∷ xs) (y ∷ ys) zero d e h l a p = (p, tt)
@@ -16,10 +18,14 @@ AllZip_more P (x ∷ xs) (y ∷ ys) (suc i) d e h l a p =
     subst (λ (n : ℕ). AllZip P (take n (x ∷ xs)) (take n (y ∷ ys))) k (a.0, AllZip_more P xs ys i d e (omega arith) (omega arith) a.1 p)
 
 -- a loop that tests each pair: where the test of one passes, and where it fails
-pub passes_more : {X Y : Type 0} (P : X → Y → Type 0) (xs : List X) (ys : List Y) (i : ℕ) (d : X) (e y : Y) (b : Bool) → i < length xs → i < length ys → y ≡ get_or ys i e → ((b ≡ true) ↔ P (get_or xs i d) y) → b ≡ true → AllZip P (take i xs) (take i ys) → AllZip P (take (i + 1) xs) (take (i + 1) ys)
+pub passes_more : {X Y : Type 0} (P : X → Y → Type 0) (xs : List X) (ys : List Y) (i : ℕ) (d : X) (e y : Y) (b : Bool)
+    → i < length xs → i < length ys → y ≡ get_or ys i e → ((b ≡ true) ↔ P (get_or xs i d) y) → b ≡ true
+    → AllZip P (take i xs) (take i ys) → AllZip P (take (i + 1) xs) (take (i + 1) ys)
 passes_more P xs ys i d e y b h l read test is all = AllZip_more P xs ys i d e h l all (subst (P (get_or xs i d)) read (test.0 is))
 
-pub fails_at : {X Y : Type 0} (P : X → Y → Type 0) (xs : List X) (ys : List Y) (i : ℕ) (d : X) (e y : Y) (b : Bool) → i < length xs → y ≡ get_or ys i e → ((b ≡ true) ↔ P (get_or xs i d) y) → b ≡ false → (false ≡ true) ↔ AllZip P xs ys
+pub fails_at : {X Y : Type 0} (P : X → Y → Type 0) (xs : List X) (ys : List Y) (i : ℕ) (d : X) (e y : Y) (b : Bool)
+    → i < length xs → y ≡ get_or ys i e → ((b ≡ true) ↔ P (get_or xs i d) y) → b ≡ false
+    → (false ≡ true) ↔ AllZip P xs ys
 fails_at P xs ys i d e y b h read test is = (λ t. absurd (false≢true t), λ all. absurd (both_ways b is (test.1 (subst (P (get_or xs i d)) (sym read) (AllZip-at P xs ys i d e h all)))))
 
 pub passes_all : {X Y : Type 0} (P : X → Y → Type 0) (xs : List X) (ys : List Y) (i : ℕ) → length xs ≤ i → length ys ≤ i → AllZip P (take i xs) (take i ys) → (true ≡ true) ↔ AllZip P xs ys

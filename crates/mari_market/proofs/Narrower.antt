@@ -86,7 +86,9 @@ parent_stays : (up low : ℕ → GateState) (parent : Option ℕ) → ((h : ℕ)
 parent_stays up low None k e = absurd (cc)
 parent_stays up low (Some h) k e = closed_if (is_closed (low h)) (ap is_closed ((k h).stays_closed (is_closed_of (up h) (if_closed (is_closed (up h)) e))))
 
-undecided_stays : (gates : List GateInfo) (word : List Bool) (b : Bool) (up low : ℕ → GateState) (g : ℕ) → ((h : ℕ) → IsKept (up h) (low h)) → undecided gates word up g ≡ Closed → undecided gates (word ++ b ∷ []) low g ≡ Closed
+undecided_stays : (gates : List GateInfo) (word : List Bool) (b : Bool) (up low : ℕ → GateState) (g : ℕ)
+    → ((h : ℕ) → IsKept (up h) (low h)) → undecided gates word up g ≡ Closed
+    → undecided gates (word ++ b ∷ []) low g ≡ Closed
 undecided_stays gates word b up low g k e = by_group (is_taken (group_of gates g) gates word) (is_taken (group_of gates g) gates (word ++ b ∷ [])) (taken_stays (group_of gates g) gates word b) e
   where
     by_group : (s t : Bool) → (s ≡ true → t ≡ true) → (if s then Closed else below_parent up (parent_of gates g)) ≡ Closed → (if t then Closed else below_parent low (parent_of gates g)) ≡ Closed
@@ -109,7 +111,8 @@ may_be_open gates word n g may e =
     by_parent None p e = absurd (cc)
     by_parent (Some h) p e = opened_state gates word n h (get_opened word h p) (is_closed_of (state_within n gates word h) (if_closed (is_closed (state_within n gates word h)) e))
 
-kept_by : (o p : Option Bool) (s t : GateState) → (s ≡ Open → ⊥) → ((c : Bool) → o ≡ Some c → p ≡ o) → (s ≡ Closed → t ≡ Closed) → (o ≡ None → p ≡ Some true → s ≡ Closed → ⊥) → IsKept (decided o s) (decided p t)
+kept_by : (o p : Option Bool) (s t : GateState) → (s ≡ Open → ⊥) → ((c : Bool) → o ≡ Some c → p ≡ o)
+    → (s ≡ Closed → t ≡ Closed) → (o ≡ None → p ≡ Some true → s ≡ Closed → ⊥) → IsKept (decided o s) (decided p t)
 kept_by (Some true) p s t n h k x = kept_same Open (decided p t) (sym (ap (λ (q : Option Bool). decided q t) (h true refl)))
 kept_by (Some false) p s t n h k x = kept_same Closed (decided p t) (sym (ap (λ (q : Option Bool). decided q t) (h false refl)))
 kept_by None None s t n h k x = record { stays_open = λ e. absurd (n e); stays_closed = k }
@@ -117,7 +120,9 @@ kept_by None (Some true) s t n h k x = record { stays_open = λ e. absurd (n e);
 kept_by None (Some false) s t n h k x = record { stays_open = λ e. absurd (n e); stays_closed = λ e. refl }
 
 -- one decision more keeps what a word says of each gate
-states_kept : (gates : List GateInfo) (word : List Bool) (b : Bool) → (b ≡ true → may_open gates word (length word) ≡ true) → (n g : ℕ) → IsKept (state_within n gates word g) (state_within n gates (word ++ b ∷ []) g)
+states_kept : (gates : List GateInfo) (word : List Bool) (b : Bool)
+    → (b ≡ true → may_open gates word (length word) ≡ true) → (n g : ℕ)
+    → IsKept (state_within n gates word g) (state_within n gates (word ++ b ∷ []) g)
 states_kept gates word b may zero g = kept_same Free Free refl
 states_kept gates word b may (suc n) g =
     kept_by (slice_get word g) (slice_get (word ++ b ∷ []) g) (undecided gates word (state_within n gates word) g) (undecided gates (word ++ b ∷ []) (state_within n gates (word ++ b ∷ [])) g)
@@ -152,7 +157,9 @@ span_narrower up low None o k l = record { low = omega arith; high = omega arith
 span_narrower up low (Some g) o k l = gated_narrower (up g) (low g) o (k g) l
 
 -- the bounds of each order at a child lie within those at the word
-bounds_narrower : (m : Market) (word : List Bool) (b : Bool) (o : Order) → (b ≡ true → may_open m.gates word (length word) ≡ true) → o.least ≤ o.greatest → IsNarrower (bounds_of_word m word o) (bounds_of_word m (word ++ b ∷ []) o)
+bounds_narrower : (m : Market) (word : List Bool) (b : Bool) (o : Order)
+    → (b ≡ true → may_open m.gates word (length word) ≡ true) → o.least ≤ o.greatest
+    → IsNarrower (bounds_of_word m word o) (bounds_of_word m (word ++ b ∷ []) o)
 bounds_narrower m word b o may l = span_narrower (state_of m.gates word) (state_of m.gates (word ++ b ∷ [])) o.gate o (λ g. states_kept m.gates word b may (length m.gates) g) l
 
 -- ---- certificates
@@ -167,7 +174,9 @@ best_narrower gap s t n =
     let high = between gap (pos s.lo) (pos t.hi) (pos s.hi) (omega (arith, ints, n.low, n.some)) (omega (arith, ints, n.high)) in
     omega (arith, ints, clamps, low, high)
 
-dual_narrower : (m : Market) (up low : Order → Span) (ps : List Cents) → IsValid m → ((o : Order) → IsValidOrder m.zones (length m.gates) o → IsNarrower (up o) (low o)) → dual_value_of low m ps ≤ℤ dual_value_of up m ps
+dual_narrower : (m : Market) (up low : Order → Span) (ps : List Cents) → IsValid m
+    → ((o : Order) → IsValidOrder m.zones (length m.gates) o → IsNarrower (up o) (low o))
+    → dual_value_of low m ps ≤ℤ dual_value_of up m ps
 dual_narrower m up low ps v n =
     let orders = int_sum-le (best_order low ps) (best_order up ps) (IsValidOrder m.zones (length m.gates)) (λ o k. best_narrower (gain_per_mw o.side o.price.0 (price_at ps o.zone)) (up o) (low o) (n o k)) m.orders v.orders in
     omega (arith, ints, orders)
@@ -184,7 +193,9 @@ if_le : (b : Bool) (x y : ℤ) → x ≤ℤ y → (if b then x else pos 0) ≤�
 if_le true x y l = l
 if_le false x y l = omega (arith, ints)
 
-cut_stays : (m : Market) (up low : Order → Span) (side : CutSide) (zones : List ℕ) → IsValid m → ((o : Order) → IsValidOrder m.zones (length m.gates) o → IsNarrower (up o) (low o)) → CannotBalance up m side zones → CannotBalance low m side zones
+cut_stays : (m : Market) (up low : Order → Span) (side : CutSide) (zones : List ℕ) → IsValid m
+    → ((o : Order) → IsValidOrder m.zones (length m.gates) o → IsNarrower (up o) (low o))
+    → CannotBalance up m side zones → CannotBalance low m side zones
 cut_stays m up low Out zones v n h =
     let least = int_sum-le (least_of up zones) (least_of low zones) (IsValidOrder m.zones (length m.gates))
     (λ o k. if_le (is_in zones o.zone) (least_put o.side (up o)) (least_put o.side (low o)) (least_rises o.side (up o) (low o) (n o k))) m.orders v.orders in
@@ -195,7 +206,9 @@ cut_stays m up low In zones v n h =
     omega (arith, ints, h, most)
 
 -- a leaf that holds at a word that leaves a gate to decide holds at each of its children
-pub child_leaf_holds : (m : Market) (w : ℤ) (word : List Bool) (b : Bool) (leaf : LeafRecord) → IsValid m → length word < length m.gates → (b ≡ true → may_open m.gates word (length word) ≡ true) → LeafHolds m w word leaf → LeafHolds m w (word ++ b ∷ []) leaf
+pub child_leaf_holds : (m : Market) (w : ℤ) (word : List Bool) (b : Bool) (leaf : LeafRecord) → IsValid m
+    → length word < length m.gates → (b ≡ true → may_open m.gates word (length word) ≡ true) → LeafHolds m w word leaf
+    → LeafHolds m w (word ++ b ∷ []) leaf
 child_leaf_holds m w word b (Bound ps) v l may h = record {
   prices = h.prices;
   value = omega (arith, ints, h.value, dual_narrower m (bounds_of_word m word) (bounds_of_word m (word ++ b ∷ [])) ps.cents v (λ o k. bounds_narrower m word b o may k.in_order));

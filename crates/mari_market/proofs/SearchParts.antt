@@ -43,12 +43,14 @@ each_map P Q h [] a = tt
 each_map P Q h (x ∷ xs) a = (h x a.0, each_map P Q h xs a.1)
 
 -- what holds of a word and of each that is one gate longer holds of a word's children
-pub each_child : (Q : List Bool → Type 0) (word : List Bool) (may : Bool) → Q (word ++ false ∷ []) → Q (word ++ true ∷ []) → Each Q ((word ++ false ∷ []) ∷ (if may then (word ++ true ∷ []) ∷ [] else []))
+pub each_child : (Q : List Bool → Type 0) (word : List Bool) (may : Bool) → Q (word ++ false ∷ [])
+    → Q (word ++ true ∷ []) → Each Q ((word ++ false ∷ []) ∷ (if may then (word ++ true ∷ []) ∷ [] else []))
 each_child Q word true f t = (f, (t, tt))
 each_child Q word false f t = (f, tt)
 
 -- what holds of words, and passes on to words one gate longer, holds of all that are visited
-each_visited : (m : Market) (Q : List Bool → Type 0) → ((word : List Bool) (b : Bool) → Q word → Q (word ++ b ∷ [])) → (words : List (List Bool)) (items : List PartItem) → Each Q words → Each Q (visited m words items)
+each_visited : (m : Market) (Q : List Bool → Type 0) → ((word : List Bool) (b : Bool) → Q word → Q (word ++ b ∷ []))
+    → (words : List (List Bool)) (items : List PartItem) → Each Q words → Each Q (visited m words items)
 each_visited m Q h [] items a = tt
 each_visited m Q h (word ∷ words) [] a = tt
 each_visited m Q h (word ∷ words) (Branch ∷ items) a =
@@ -81,7 +83,8 @@ abbrev AllApart : List (List Bool) → Type 0
 AllApart [] = Unit {0}
 AllApart (word ∷ words) = Each (IsApart word) words × AllApart words
 
-with_children_apart : (word : List Bool) (words : List (List Bool)) (may : Bool) → Each (IsApart word) words → AllApart words → AllApart (((word ++ false ∷ []) ∷ (if may then (word ++ true ∷ []) ∷ [] else [])) ++ words)
+with_children_apart : (word : List Bool) (words : List (List Bool)) (may : Bool) → Each (IsApart word) words
+    → AllApart words → AllApart (((word ++ false ∷ []) ∷ (if may then (word ++ true ∷ []) ∷ [] else [])) ++ words)
 with_children_apart word words true a h =
     let one = each_map (IsApart word) (IsApart (word ++ false ∷ [])) (λ u. longer_apart word u false) words a in
     let two = each_map (IsApart word) (IsApart (word ++ true ∷ [])) (λ u. longer_apart word u true) words a in

@@ -118,7 +118,9 @@ front_before k opens [] word b h = empty_before word h.gate h.opened
 front_before k opens (c ∷ cs) [] b h = absurd (cc (h.opened))
 front_before k opens (c ∷ cs) (d ∷ ds) b h = by_gate (λ (rest : ComeBefore (suc k) opens ds). front_before (suc k) opens cs ds b.1 rest) h.gate h.same h.closed h.opened
   where
-    by_gate : (ComeBefore (suc k) opens ds → ComesBefore cs ds) → (gate : ℕ) → ((g : ℕ) → g < gate → opens (k + g) ≡ opens_in (d ∷ ds) g) → opens (k + gate) ≡ false → opens_in (d ∷ ds) gate ≡ true → ComesBefore (c ∷ cs) (d ∷ ds)
+    by_gate : (ComeBefore (suc k) opens ds → ComesBefore cs ds) → (gate : ℕ)
+        → ((g : ℕ) → g < gate → opens (k + g) ≡ opens_in (d ∷ ds) g) → opens (k + gate) ≡ false
+        → opens_in (d ∷ ds) gate ≡ true → ComesBefore (c ∷ cs) (d ∷ ds)
     by_gate next zero same closed opened = record { gate = 0; same = λ g l. absurd (omega arith); closed = sym b.0 ∙ ap opens (sym (add-zero k)) ∙ closed; opened = opened }
     by_gate next (suc i) same closed opened =
         let first : c ≡ d = sym b.0 ∙ ap opens (sym (add-zero k)) ∙ same 0 (omega arith) in
@@ -168,7 +170,9 @@ below_less v w e l = omega (arith, ints, e, l)
 
 -- a tree that holds for a gate word at the welfare of an admissible activation leaves no activation of that welfare
 -- whose gate word comes before
-pub earlier_is_worse : (m : Market) (w : ℤ) (gates : List Bool) (items : List TreeItem) (b : Activation) → IsValid m → length gates ≡ length m.gates → TreeHoldsFor m w gates items → IsAdmissible m b → ComesBefore (gate_word_of m b) gates → welfare_of m b ≤ℤ (w -ℤ pos 1)
+pub earlier_is_worse : (m : Market) (w : ℤ) (gates : List Bool) (items : List TreeItem) (b : Activation) → IsValid m
+    → length gates ≡ length m.gates → TreeHoldsFor m w gates items → IsAdmissible m b
+    → ComesBefore (gate_word_of m b) gates → welfare_of m b ≤ℤ (w -ℤ pos 1)
 earlier_is_worse m w gates items b v full h adm before =
     (parts_reach m (LeafHoldsFor m w gates) (welfare_of m b ≤ℤ (w -ℤ pos 1)) b v adm.feasible
     (λ word leaf k begun. leaf_sound m (w -ℤ pos 1) word leaf b v (k.early (front_is_early m b word gates full begun before)) adm begun)
@@ -245,5 +249,7 @@ same_first_published m a b ps v h k p = record {
 }
 
 -- of which a zone has one
-pub one_first_price : (m : Market) (a b : Activation) (ps qs : List Cents) (z : ℕ) → IsValid m → IsFirst m a → IsFirst m b → ArePublishedPrices m a ps → ArePublishedPrices m b qs → z < m.zones → price_at ps z ≡ price_at qs z
+pub one_first_price : (m : Market) (a b : Activation) (ps qs : List Cents) (z : ℕ) → IsValid m → IsFirst m a
+    → IsFirst m b → ArePublishedPrices m a ps → ArePublishedPrices m b qs → z < m.zones
+    → price_at ps z ≡ price_at qs z
 one_first_price m a b ps qs z v h k p q l = one_price m b z (price_at ps z) (price_at qs z) ((same_first_published m a b ps v h k p).each z l) (q.each z l)

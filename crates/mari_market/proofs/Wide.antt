@@ -33,7 +33,9 @@ pub worth_small : (price mw : ℤ) → FitsSigned w64 price → unsigned_abs (pr
 worth_small price mw f = omega (arith, unsigned_abs-mul price mw, mul_small (unsigned_abs price) (unsigned_abs mw) (2 ^ 63) (unsigned_abs mw) (small_abs price f) (omega arith))
 
 -- the same as the code has the two numbers
-pub worth_bits : (a b x y : ℤ) → FitsSigned w64 a → FitsSigned w64 b → x ≡ to_z w64 (of_z w64 a) → y ≡ to_z w64 (of_z w64 b) → unsigned_abs (to_z w128 (of_z w128 (to_z w128 (of_z w128 x) *ℤ to_z w128 (of_z w128 y)))) ≤ 2 ^ 63 * unsigned_abs b
+pub worth_bits : (a b x y : ℤ) → FitsSigned w64 a → FitsSigned w64 b → x ≡ to_z w64 (of_z w64 a)
+    → y ≡ to_z w64 (of_z w64 b)
+    → unsigned_abs (to_z w128 (of_z w128 (to_z w128 (of_z w128 x) *ℤ to_z w128 (of_z w128 y)))) ≤ 2 ^ 63 * unsigned_abs b
 worth_bits a b x y f g e h =
     let k : x ≡ a = e ∙ to_z-of_z f in
     let l : y ≡ b = h ∙ to_z-of_z g in

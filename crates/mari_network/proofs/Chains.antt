@@ -25,13 +25,17 @@ if_none false f e = refl
 
 -- ---- an amount
 
-pub moved_within : (slots : List Slot) (xs : List ℤ) (i : ℕ) (d : ℤ) → i < length slots → IsWithinSlot (slot_at slots i) (int_at xs i +ℤ d) → AllZip IsWithinSlot slots xs → AllZip IsWithinSlot slots (set xs i (int_at xs i +ℤ d))
+pub moved_within : (slots : List Slot) (xs : List ℤ) (i : ℕ) (d : ℤ) → i < length slots
+    → IsWithinSlot (slot_at slots i) (int_at xs i +ℤ d) → AllZip IsWithinSlot slots xs
+    → AllZip IsWithinSlot slots (set xs i (int_at xs i +ℤ d))
 moved_within slots xs i d h w a = AllZip-set IsWithinSlot slots xs i (int_at xs i +ℤ d) no_slot h w a
 
-pub moved_into : (z : ℕ) (slots : List Slot) (xs : List ℤ) (i : ℕ) (d : ℤ) → i < length slots → i < length xs → sum_along (slot_into z) slots (set xs i (int_at xs i +ℤ d)) ≡ sum_along (slot_into z) slots xs +ℤ at_zone z (slot_at slots i).zone d
+pub moved_into : (z : ℕ) (slots : List Slot) (xs : List ℤ) (i : ℕ) (d : ℤ) → i < length slots → i < length xs
+    → sum_along (slot_into z) slots (set xs i (int_at xs i +ℤ d)) ≡ sum_along (slot_into z) slots xs +ℤ at_zone z (slot_at slots i).zone d
 moved_into z slots xs i d h l = omega (arith, ints, sum_along-set (slot_into z) slots xs i (int_at xs i +ℤ d) no_slot (pos 0) h l, if_sum ((slot_at slots i).zone == z) (int_at xs i) d)
 
-pub moved_worth : (slots : List Slot) (xs : List ℤ) (i : ℕ) (d : ℤ) → i < length slots → i < length xs → sum_along slot_gain slots (set xs i (int_at xs i +ℤ d)) ≡ sum_along slot_gain slots xs -ℤ ((slot_at slots i).price *ℤ d)
+pub moved_worth : (slots : List Slot) (xs : List ℤ) (i : ℕ) (d : ℤ) → i < length slots → i < length xs
+    → sum_along slot_gain slots (set xs i (int_at xs i +ℤ d)) ≡ sum_along slot_gain slots xs -ℤ ((slot_at slots i).price *ℤ d)
 moved_worth slots xs i d h l = omega (arith, ints, sum_along-set slot_gain slots xs i (int_at xs i +ℤ d) no_slot (pos 0) h l, mul-add_z (slot_at slots i).price (int_at xs i) d)
 
 -- ---- a flow
@@ -44,13 +48,19 @@ pub hop_carries : (z : ℕ) (forth : Bool) (b : Border) (d : ℤ) → carried_ou
 hop_carries z true b d = refl
 hop_carries z false b d = omega (arith, ints, if_neg (b.from == z) d, if_neg (b.to == z) d)
 
-pub hop_carried : (z : ℕ) (bs : List Border) (fs : List ℤ) (h : Hop) (d : ℤ) → h.border < length bs → h.border < length fs → sum_along (carried_out z) bs (set fs h.border (get_or fs h.border (pos 0) +ℤ more_flow h.forth d)) ≡ (sum_along (carried_out z) bs fs +ℤ at_zone z (tail_of h.forth (border_at bs h.border)) d) -ℤ at_zone z (head_of h.forth (border_at bs h.border)) d
+pub hop_carried : (z : ℕ) (bs : List Border) (fs : List ℤ) (h : Hop) (d : ℤ) → h.border < length bs
+    → h.border < length fs
+    → sum_along (carried_out z) bs (set fs h.border (get_or fs h.border (pos 0) +ℤ more_flow h.forth d)) ≡ (sum_along (carried_out z) bs fs +ℤ at_zone z (tail_of h.forth (border_at bs h.border)) d) -ℤ at_zone z (head_of h.forth (border_at bs h.border)) d
 hop_carried z bs fs h d there l = omega (arith, ints, pushed z bs fs h.border (more_flow h.forth d) no_border there l, hop_carries z h.forth (border_at bs h.border) d)
 
-pub hop_within : (bs : List Border) (fs : List ℤ) (h : Hop) (d : ℤ) → h.border < length bs → AllZip IsWithinLimits bs fs → pos 0 ≤ℤ d → d ≤ℤ hop_room bs fs h → IsWithinLimits (border_at bs h.border) (get_or fs h.border (pos 0) +ℤ more_flow h.forth d)
+pub hop_within : (bs : List Border) (fs : List ℤ) (h : Hop) (d : ℤ) → h.border < length bs
+    → AllZip IsWithinLimits bs fs → pos 0 ≤ℤ d → d ≤ℤ hop_room bs fs h
+    → IsWithinLimits (border_at bs h.border) (get_or fs h.border (pos 0) +ℤ more_flow h.forth d)
 hop_within bs fs h d there a n r = flow_within h.forth (border_at bs h.border) (get_or fs h.border (pos 0)) d (AllZip-at IsWithinLimits bs fs h.border no_border (pos 0) there a) n r
 
-pub hop_all_within : (bs : List Border) (fs : List ℤ) (h : Hop) (d : ℤ) → h.border < length bs → AllZip IsWithinLimits bs fs → pos 0 ≤ℤ d → d ≤ℤ hop_room bs fs h → AllZip IsWithinLimits bs (set fs h.border (get_or fs h.border (pos 0) +ℤ more_flow h.forth d))
+pub hop_all_within : (bs : List Border) (fs : List ℤ) (h : Hop) (d : ℤ) → h.border < length bs
+    → AllZip IsWithinLimits bs fs → pos 0 ≤ℤ d → d ≤ℤ hop_room bs fs h
+    → AllZip IsWithinLimits bs (set fs h.border (get_or fs h.border (pos 0) +ℤ more_flow h.forth d))
 hop_all_within bs fs h d there a n r = AllZip-set IsWithinLimits bs fs h.border (get_or fs h.border (pos 0) +ℤ more_flow h.forth d) no_border there (hop_within bs fs h d there a n r) a
 
 -- ---- room
@@ -65,7 +75,10 @@ hop_has bs fs hops d _ h (begins) = absurd (omega arith)
 hop_has bs fs hops d _ h (goes_on k p r rest) = record { here = r; rest = rest }
 
 -- a flow over a border that no hop up to a place uses changes no room there
-pub room_stays : (bs : List Border) (fs : List ℤ) (hops : List Hop) (d : ℤ) (e : ℕ) (v : ℤ) (m k : ℕ) → k < m → m ≤ length hops → ((j : ℕ) → 0 < j → j < length hops → IsHop bs hops j) → ((j : ℕ) → 0 < j → j < m → (hop_at hops j).border ≢ e) → HasRoom bs fs hops d k → HasRoom bs (set fs e v) hops d k
+pub room_stays : (bs : List Border) (fs : List ℤ) (hops : List Hop) (d : ℤ) (e : ℕ) (v : ℤ) (m k : ℕ) → k < m
+    → m ≤ length hops → ((j : ℕ) → 0 < j → j < length hops → IsHop bs hops j)
+    → ((j : ℕ) → 0 < j → j < m → (hop_at hops j).border ≢ e) → HasRoom bs fs hops d k
+    → HasRoom bs (set fs e v) hops d k
 room_stays bs fs hops d e v m _ h l each other (begins) = begins
 room_stays bs fs hops d e v m _ h l each other (goes_on k p r rest) =
     let ne : (hop_at hops k).border ≢ e = other k p h in

@@ -24,7 +24,9 @@ pub record IsFineSpan (s : Span) : Type 0 where
   pub in_order : s.lo ≤ s.hi
   pub small : s.hi ≤ 99999
 
-pub fine_spans : (spans : Order → Span) (os : List Order) → AllZip (λ lo hi. (lo ≤ hi) × (hi ≤ 99999)) (map (λ (o : Order). (spans o).lo) os) (map (λ (o : Order). (spans o).hi) os) → All (λ (o : Order). IsFineSpan (spans o)) os
+pub fine_spans : (spans : Order → Span) (os : List Order)
+    → AllZip (λ lo hi. (lo ≤ hi) × (hi ≤ 99999)) (map (λ (o : Order). (spans o).lo) os) (map (λ (o : Order). (spans o).hi) os)
+    → All (λ (o : Order). IsFineSpan (spans o)) os
 fine_spans spans os a = λ k d l.
     let there : k < length (map (λ (o : Order). (spans o).lo) os) = omega (arith, length-map os (λ (o : Order). (spans o).lo), l) in
     let pair = AllZip-at (λ lo hi. (lo ≤ hi) × (hi ≤ 99999)) (map (λ (o : Order). (spans o).lo) os) (map (λ (o : Order). (spans o).hi) os) k 0 0 there a in

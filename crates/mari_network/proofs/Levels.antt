@@ -19,7 +19,10 @@ pub record IsLevel (old : List Bool) (p q : ℕ → ℤ) (v : ℤ) : Type 0 wher
   pub keep : (z : ℕ) → is_marked old z ≡ true → q z ≡ p z
   pub level : (z : ℕ) → is_marked old z ≡ false → z < length old → q z ≡ v
 
-ordered_more : (bs : List Border) (fs : List ℤ) (old marked : List Bool) (p q : ℕ → ℤ) (v : ℤ) → IsLevel old p q v → length marked ≡ length old → ((z : ℕ) → is_marked old z ≡ true → v ≤ℤ p z) → AreClosed bs fs old → AreClosed bs fs marked → AllZip (OrderedOver (is_marked old) p) bs fs → AllZip (OrderedOver (is_marked marked) q) bs fs
+ordered_more : (bs : List Border) (fs : List ℤ) (old marked : List Bool) (p q : ℕ → ℤ) (v : ℤ) → IsLevel old p q v
+    → length marked ≡ length old → ((z : ℕ) → is_marked old z ≡ true → v ≤ℤ p z) → AreClosed bs fs old
+    → AreClosed bs fs marked → AllZip (OrderedOver (is_marked old) p) bs fs
+    → AllZip (OrderedOver (is_marked marked) q) bs fs
 ordered_more [] [] old marked p q v l e top a b o = tt
 ordered_more (b ∷ bs) (f ∷ fs) old marked p q v l e top was now o = (
   λ forth r m. elim (marked_or (is_marked old (head_of forth b))) [
@@ -38,7 +41,10 @@ ordered_more [] (f ∷ fs) old marked p q v l e top a b o = absurd a
 ordered_more (b ∷ bs) [] old marked p q v l e top a c o = absurd a
 
 -- a stage that finds no cheaper slot
-pub levels_more : (slots : List Slot) (bs : List Border) (xs fs : List ℤ) (old marked : List Bool) (p q : ℕ → ℤ) (i : ℕ) → AreLevels slots bs xs fs old p → IsDearest slots xs old i → neg_ℤ BEYOND ≤ℤ price_of slots i → IsLevel old p q (price_of slots i) → Keeps old marked → length marked ≡ length old → AreClosed bs fs marked → NoneCheaper slots xs marked (price_of slots i) → AreLevels slots bs xs fs marked q
+pub levels_more : (slots : List Slot) (bs : List Border) (xs fs : List ℤ) (old marked : List Bool) (p q : ℕ → ℤ) (i : ℕ)
+    → AreLevels slots bs xs fs old p → IsDearest slots xs old i → neg_ℤ BEYOND ≤ℤ price_of slots i
+    → IsLevel old p q (price_of slots i) → Keeps old marked → length marked ≡ length old → AreClosed bs fs marked
+    → NoneCheaper slots xs marked (price_of slots i) → AreLevels slots bs xs fs marked q
 levels_more slots bs xs fs old marked p q i a d low l keeps e closed none = record {
   closed = closed;
   ordered = ordered_more bs fs old marked p q (price_of slots i) l e (λ z m. a.later z i m d.less d.unmarked) a.closed closed a.ordered;
@@ -63,13 +69,18 @@ levels_more slots bs xs fs old marked p q i a d low l keeps e closed none = reco
 }
 
 -- a cheaper slot is of a zone that this stage marked
-pub cheaper_is_new : (slots : List Slot) (bs : List Border) (xs fs : List ℤ) (old marked : List Bool) (p : ℕ → ℤ) (hops : List Hop) (start i j : ℕ) → AreLevels slots bs xs fs old p → IsDearest slots xs old i → IsSpread bs fs old start marked hops → IsCheaper slots xs marked (price_of slots i) j → (k : ℕ) × (k < length hops) × ((hop_at hops k).zone ≡ zone_of slots j)
+pub cheaper_is_new : (slots : List Slot) (bs : List Border) (xs fs : List ℤ) (old marked : List Bool) (p : ℕ → ℤ) (hops : List Hop) (start i j : ℕ)
+    → AreLevels slots bs xs fs old p → IsDearest slots xs old i → IsSpread bs fs old start marked hops
+    → IsCheaper slots xs marked (price_of slots i) j
+    → (k : ℕ) × (k < length hops) × ((hop_at hops k).zone ≡ zone_of slots j)
 cheaper_is_new slots bs xs fs old marked p hops start i j a d s cheap = elim (s.news (zone_of slots j) cheap.reached) [
   | inl h ↦ absurd (omega (arith, ints, a.sources j cheap.more h, a.later (zone_of slots j) i h d.less d.unmarked, cheap.below))
   | inr k ↦ k
 ]
 
-tight_over : (bs : List Border) (fs : List ℤ) (old : List Bool) (p q : ℕ → ℤ) (floor : ℤ) → IsLevel old p q floor → ((z : ℕ) → z < length old → floor ≤ℤ q z) → AllZip (λ b f. (b.from < length old) × (b.to < length old)) bs fs → AreClosed bs fs old → AllZip (OrderedOver (is_marked old) p) bs fs → AllZip (IsConsistentFlow q) bs fs
+tight_over : (bs : List Border) (fs : List ℤ) (old : List Bool) (p q : ℕ → ℤ) (floor : ℤ) → IsLevel old p q floor
+    → ((z : ℕ) → z < length old → floor ≤ℤ q z) → AllZip (λ b f. (b.from < length old) × (b.to < length old)) bs fs
+    → AreClosed bs fs old → AllZip (OrderedOver (is_marked old) p) bs fs → AllZip (IsConsistentFlow q) bs fs
 tight_over [] [] old p q floor l low ends was o = tt
 tight_over (b ∷ bs) (f ∷ fs) old p q floor l low ends was o =
     let one : (forth : Bool) → head_of forth b < length old → tail_of forth b < length old → pos 0 <ℤ room_of forth b f → q (head_of forth b) ≤ℤ q (tail_of forth b) =
@@ -88,7 +99,11 @@ low_at old p q floor l low z h = elim (marked_or (is_marked old z)) [
 ]
 
 -- where no slot is left, all is tight
-pub levels_tight : (slots : List Slot) (bs : List Border) (xs fs : List ℤ) (old : List Bool) (p q : ℕ → ℤ) → AreLevels slots bs xs fs old p → IsLevel old p q (neg_ℤ BEYOND) → NoneLess slots xs old → ((k : ℕ) → k < length slots → zone_of slots k < length old) → ((k : ℕ) → k < length slots → neg_ℤ BEYOND ≤ℤ price_of slots k) → AllZip (λ b f. (b.from < length old) × (b.to < length old)) bs fs → AreTight slots bs xs fs q
+pub levels_tight : (slots : List Slot) (bs : List Border) (xs fs : List ℤ) (old : List Bool) (p q : ℕ → ℤ)
+    → AreLevels slots bs xs fs old p → IsLevel old p q (neg_ℤ BEYOND) → NoneLess slots xs old
+    → ((k : ℕ) → k < length slots → zone_of slots k < length old)
+    → ((k : ℕ) → k < length slots → neg_ℤ BEYOND ≤ℤ price_of slots k)
+    → AllZip (λ b f. (b.from < length old) × (b.to < length old)) bs fs → AreTight slots bs xs fs q
 levels_tight slots bs xs fs old p q a l none zones prices ends = record {
   slots_tight = λ k h. record {
     less = λ r. elim (marked_or (is_marked old (zone_of slots k))) [
@@ -116,7 +131,8 @@ ordered_none [] (f ∷ fs) marked p e n = absurd (omega arith)
 ordered_none (b ∷ bs) [] marked p e n = absurd (omega arith)
 
 -- nothing is marked at first
-pub levels_none : (slots : List Slot) (bs : List Border) (xs fs : List ℤ) (marked : List Bool) (p : ℕ → ℤ) → length bs ≡ length fs → ((z : ℕ) → is_marked marked z ≡ false) → AreLevels slots bs xs fs marked p
+pub levels_none : (slots : List Slot) (bs : List Border) (xs fs : List ℤ) (marked : List Bool) (p : ℕ → ℤ)
+    → length bs ≡ length fs → ((z : ℕ) → is_marked marked z ≡ false) → AreLevels slots bs xs fs marked p
 levels_none slots bs xs fs marked p e n = record {
   closed = closed_none bs fs marked e n;
   ordered = ordered_none bs fs marked p e n;

@@ -35,7 +35,9 @@ zip_append P (s ∷ ss) rs (x ∷ xs) ys a b = (a.0, zip_append P ss rs xs ys a.
 zip_append P [] rs (x ∷ xs) ys a b = absurd a
 zip_append P (s ∷ ss) rs [] ys a b = absurd a
 
-pub zip_step : {X Y : Type 0} (P : X → Y → Type 0) (xs : List X) (ys new : List Y) (i : ℕ) (d : X) (y : Y) → i < length xs → new ≡ ys ++ y ∷ [] → AllZip P (take i xs) ys → P (get_or xs i d) y → AllZip P (take (i + 1) xs) new
+pub zip_step : {X Y : Type 0} (P : X → Y → Type 0) (xs : List X) (ys new : List Y) (i : ℕ) (d : X) (y : Y)
+    → i < length xs → new ≡ ys ++ y ∷ [] → AllZip P (take i xs) ys → P (get_or xs i d) y
+    → AllZip P (take (i + 1) xs) new
 zip_step {X = X} {Y = Y} P xs ys new i d y l e a p = subst (λ (zs : List X). AllZip P zs new) (sym (take_more xs i d l)) (subst (λ (zs : List Y). AllZip P (take i xs ++ get_or xs i d ∷ []) zs) (sym e) (zip_append P (take i xs) (get_or xs i d ∷ []) ys (y ∷ []) a (p, tt)))
 
 pub zip_first : {X Y : Type 0} (P : X → Y → Type 0) (ss rs : List X) (ys : List Y) → AllZip P (ss ++ rs) ys → AllZip P ss (take (length ss) ys)
@@ -48,8 +50,11 @@ zip_rest P [] rs ys a = a
 zip_rest P (s ∷ ss) rs (y ∷ ys) a = zip_rest P ss rs ys a.1
 zip_rest P (s ∷ ss) rs [] a = absurd a
 
-pub pushed_map : {X Y : Type 0} (f : X → Y) (xs : List X) (i : ℕ) (d : X) (items new : List Y) (v : Y) → i < length xs → new ≡ items ++ v ∷ [] → items ≡ map f (take i xs) → v ≡ f (get_or xs i d) → new ≡ map f (take (i + 1) xs)
+pub pushed_map : {X Y : Type 0} (f : X → Y) (xs : List X) (i : ℕ) (d : X) (items new : List Y) (v : Y) → i < length xs
+    → new ≡ items ++ v ∷ [] → items ≡ map f (take i xs) → v ≡ f (get_or xs i d) → new ≡ map f (take (i + 1) xs)
 pushed_map {Y = Y} f xs i d items new v h n e w = n ∙ ap (λ (ys : List Y). ys ++ v ∷ []) e ∙ ap (λ (y : Y). map f (take i xs) ++ y ∷ []) w ∙ sym (map_more f xs i d h)
 
-pub pushed_after : {X Y : Type 0} (f : X → Y) (first : List Y) (xs : List X) (i : ℕ) (d : X) (items new : List Y) (v : Y) → i < length xs → new ≡ items ++ v ∷ [] → items ≡ first ++ map f (take i xs) → v ≡ f (get_or xs i d) → new ≡ first ++ map f (take (i + 1) xs)
+pub pushed_after : {X Y : Type 0} (f : X → Y) (first : List Y) (xs : List X) (i : ℕ) (d : X) (items new : List Y) (v : Y)
+    → i < length xs → new ≡ items ++ v ∷ [] → items ≡ first ++ map f (take i xs) → v ≡ f (get_or xs i d)
+    → new ≡ first ++ map f (take (i + 1) xs)
 pushed_after {Y = Y} f first xs i d items new v h n e w = n ∙ ap (λ (ys : List Y). ys ++ v ∷ []) e ∙ append_assoc first (map f (take i xs)) (v ∷ []) ∙ ap (λ (y : Y). first ++ (map f (take i xs) ++ y ∷ [])) w ∙ ap (λ (ys : List Y). first ++ ys) (sym (map_more f xs i d h))

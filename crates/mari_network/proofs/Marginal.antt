@@ -20,7 +20,9 @@ some_same : (i k : ℕ) → Some i ≡ Some k → i ≡ k
 some_same i k e = ap (λ (o : Option ℕ). some_or o) e
 
 -- one slot more that may not put in less
-pub dearest_skip : (slots : List Slot) (xs : List ℤ) (places : List ℕ) (n i : ℕ) (best : Option ℕ) → place_at places n ≡ i → (CanLess slots xs i → ⊥) → IsDearestAmong slots xs places n best → IsDearestAmong slots xs places (n + 1) best
+pub dearest_skip : (slots : List Slot) (xs : List ℤ) (places : List ℕ) (n i : ℕ) (best : Option ℕ)
+    → place_at places n ≡ i → (CanLess slots xs i → ⊥) → IsDearestAmong slots xs places n best
+    → IsDearestAmong slots xs places (n + 1) best
 dearest_skip slots xs places n i best e cannot d = record {
   one = λ k h. let o = d.one k h in (o.0, o.1, omega (arith, o.2), o.3);
   all = λ j l can. elim (cases_lt j n) [
@@ -29,7 +31,10 @@ dearest_skip slots xs places n i best e cannot d = record {
   ];
 }
 
-pub dearest_take : (slots : List Slot) (xs : List ℤ) (places : List ℕ) (n i : ℕ) (best next : Option ℕ) → place_at places n ≡ i → CanLess slots xs i → ((next ≡ best) ⊎ (next ≡ Some i)) → IsAbove slots (price_of slots i) next → ((v : ℤ) → IsAbove slots v best → IsAbove slots v next) → IsDearestAmong slots xs places n best → IsDearestAmong slots xs places (n + 1) next
+pub dearest_take : (slots : List Slot) (xs : List ℤ) (places : List ℕ) (n i : ℕ) (best next : Option ℕ)
+    → place_at places n ≡ i → CanLess slots xs i → ((next ≡ best) ⊎ (next ≡ Some i))
+    → IsAbove slots (price_of slots i) next → ((v : ℤ) → IsAbove slots v best → IsAbove slots v next)
+    → IsDearestAmong slots xs places n best → IsDearestAmong slots xs places (n + 1) next
 dearest_take slots xs places n i best next e can one above keeps d = record {
   one = λ k h. elim one [
     | inl same ↦ let o = d.one k (sym same ∙ h) in (o.0, o.1, omega (arith, o.2), o.3)
@@ -41,7 +46,9 @@ dearest_take slots xs places n i best next e can one above keeps d = record {
   ];
 }
 
-pub cheapest_skip : (slots : List Slot) (xs : List ℤ) (places : List ℕ) (n i : ℕ) (best : Option ℕ) → place_at places n ≡ i → (CanMore slots xs i → ⊥) → IsCheapestAmong slots xs places n best → IsCheapestAmong slots xs places (n + 1) best
+pub cheapest_skip : (slots : List Slot) (xs : List ℤ) (places : List ℕ) (n i : ℕ) (best : Option ℕ)
+    → place_at places n ≡ i → (CanMore slots xs i → ⊥) → IsCheapestAmong slots xs places n best
+    → IsCheapestAmong slots xs places (n + 1) best
 cheapest_skip slots xs places n i best e cannot d = record {
   one = λ k h. let o = d.one k h in (o.0, o.1, omega (arith, o.2), o.3);
   all = λ j l can. elim (cases_lt j n) [
@@ -50,7 +57,10 @@ cheapest_skip slots xs places n i best e cannot d = record {
   ];
 }
 
-pub cheapest_take : (slots : List Slot) (xs : List ℤ) (places : List ℕ) (n i : ℕ) (best next : Option ℕ) → place_at places n ≡ i → CanMore slots xs i → ((next ≡ best) ⊎ (next ≡ Some i)) → IsBelow slots (price_of slots i) next → ((v : ℤ) → IsBelow slots v best → IsBelow slots v next) → IsCheapestAmong slots xs places n best → IsCheapestAmong slots xs places (n + 1) next
+pub cheapest_take : (slots : List Slot) (xs : List ℤ) (places : List ℕ) (n i : ℕ) (best next : Option ℕ)
+    → place_at places n ≡ i → CanMore slots xs i → ((next ≡ best) ⊎ (next ≡ Some i))
+    → IsBelow slots (price_of slots i) next → ((v : ℤ) → IsBelow slots v best → IsBelow slots v next)
+    → IsCheapestAmong slots xs places n best → IsCheapestAmong slots xs places (n + 1) next
 cheapest_take slots xs places n i best next e can one below keeps d = record {
   one = λ k h. elim one [
     | inl same ↦ let o = d.one k (sym same ∙ h) in (o.0, o.1, omega (arith, o.2), o.3)
@@ -63,19 +73,25 @@ cheapest_take slots xs places n i best next e can one below keeps d = record {
 }
 
 -- the marginal slots among a zone's are those of the zone
-pub dearest_is_in : (slots : List Slot) (xs : List ℤ) (z : ℕ) (places : List ℕ) (best : Option ℕ) → AreMembers slots (length slots) z places → IsDearestAmong slots xs places (length places) best → IsDearestIn slots xs z (length slots) best
+pub dearest_is_in : (slots : List Slot) (xs : List ℤ) (z : ℕ) (places : List ℕ) (best : Option ℕ)
+    → AreMembers slots (length slots) z places → IsDearestAmong slots xs places (length places) best
+    → IsDearestIn slots xs z (length slots) best
 dearest_is_in slots xs z places best a d = record {
   one = λ i e. let o = d.one i e in (o.0, sym (ap (zone_of slots) o.3) ∙ a.zone o.1 o.2);
   all = λ k l can e. let j = a.all k l e in subst (λ (i : ℕ). IsAbove slots (price_of slots i) best) j.2 (d.all j.0 j.1 (subst (λ (i : ℕ). CanLess slots xs i) (sym j.2) can));
 }
 
-pub cheapest_is_in : (slots : List Slot) (xs : List ℤ) (z : ℕ) (places : List ℕ) (best : Option ℕ) → AreMembers slots (length slots) z places → IsCheapestAmong slots xs places (length places) best → IsCheapestIn slots xs z (length slots) best
+pub cheapest_is_in : (slots : List Slot) (xs : List ℤ) (z : ℕ) (places : List ℕ) (best : Option ℕ)
+    → AreMembers slots (length slots) z places → IsCheapestAmong slots xs places (length places) best
+    → IsCheapestIn slots xs z (length slots) best
 cheapest_is_in slots xs z places best a c = record {
   one = λ i e. let o = c.one i e in (o.0, sym (ap (zone_of slots) o.3) ∙ a.zone o.1 o.2);
   all = λ k l can e. let j = a.all k l e in subst (λ (i : ℕ). IsBelow slots (price_of slots i) best) j.2 (c.all j.0 j.1 (subst (λ (i : ℕ). CanMore slots xs i) (sym j.2) can));
 }
 
-pub margin_is : (slots : List Slot) (xs : List ℤ) (z : ℕ) (places : List ℕ) (m : Margin) → AreMembers slots (length slots) z places → IsDearestAmong slots xs places (length places) m.dearest → IsCheapestAmong slots xs places (length places) m.cheapest → IsMarginOf slots xs z m
+pub margin_is : (slots : List Slot) (xs : List ℤ) (z : ℕ) (places : List ℕ) (m : Margin)
+    → AreMembers slots (length slots) z places → IsDearestAmong slots xs places (length places) m.dearest
+    → IsCheapestAmong slots xs places (length places) m.cheapest → IsMarginOf slots xs z m
 margin_is slots xs z places m a d c = record { dearest = dearest_is_in slots xs z places m.dearest a d; cheapest = cheapest_is_in slots xs z places m.cheapest a c }
 
 module _ (slots : List Slot) (old new : List ℤ) (sink source : ℕ) (moved : IsMoved slots old new sink source) (z n : ℕ) (best : Option ℕ) where
@@ -100,7 +116,10 @@ module _ (slots : List Slot) (old new : List ℤ) (sink source : ℕ) (moved : I
     | inr other ↦ d.all k l (can.0, subst (λ (x : ℤ). (slot_at slots k).low <ℤ x) (moved.others k other far) can.1) e
   ]
 
-  pub dearest_with_source : (next : Option ℕ) → source < length slots → zone_of slots source ≡ z → ((next ≡ best) ⊎ (next ≡ Some source)) → IsAbove slots (price_of slots source) next → ((v : ℤ) → IsAbove slots v best → IsAbove slots v next) → (zone_of slots sink ≡ z → (slot_at slots sink).low <ℤ int_at new sink) → IsDearestIn slots old z n best
+  pub dearest_with_source : (next : Option ℕ) → source < length slots → zone_of slots source ≡ z
+      → ((next ≡ best) ⊎ (next ≡ Some source)) → IsAbove slots (price_of slots source) next
+      → ((v : ℤ) → IsAbove slots v best → IsAbove slots v next)
+      → (zone_of slots sink ≡ z → (slot_at slots sink).low <ℤ int_at new sink) → IsDearestIn slots old z n best
       → IsDearestIn slots new z n next
   dearest_with_source next there here one above keeps stays d = record {
     one = λ i h. elim one [
@@ -141,7 +160,11 @@ module _ (slots : List Slot) (old new : List ℤ) (sink source : ℕ) (moved : I
     | inr other ↦ c.all k l (can.0, subst (λ (x : ℤ). x <ℤ (slot_at slots k).high) (moved.others k far other) can.1) e
   ]
 
-  pub cheapest_with_sink : (next : Option ℕ) → sink < length slots → zone_of slots sink ≡ z → ((next ≡ best) ⊎ (next ≡ Some sink)) → IsBelow slots (price_of slots sink) next → ((v : ℤ) → IsBelow slots v best → IsBelow slots v next) → (zone_of slots source ≡ z → int_at new source <ℤ (slot_at slots source).high) → IsCheapestIn slots old z n best
+  pub cheapest_with_sink : (next : Option ℕ) → sink < length slots → zone_of slots sink ≡ z
+      → ((next ≡ best) ⊎ (next ≡ Some sink)) → IsBelow slots (price_of slots sink) next
+      → ((v : ℤ) → IsBelow slots v best → IsBelow slots v next)
+      → (zone_of slots source ≡ z → int_at new source <ℤ (slot_at slots source).high)
+      → IsCheapestIn slots old z n best
       → IsCheapestIn slots new z n next
   cheapest_with_sink next there here one below keeps stays c = record {
     one = λ i h. elim one [
@@ -156,7 +179,9 @@ module _ (slots : List Slot) (old new : List ℤ) (sink source : ℕ) (moved : I
     ];
   }
 
-  pub cheapest_without_sink : (zone_of slots sink ≡ z → ⊥) → (zone_of slots source ≡ z → int_at new source <ℤ (slot_at slots source).high) → IsCheapestIn slots old z n best → IsCheapestIn slots new z n best
+  pub cheapest_without_sink : (zone_of slots sink ≡ z → ⊥)
+      → (zone_of slots source ≡ z → int_at new source <ℤ (slot_at slots source).high)
+      → IsCheapestIn slots old z n best → IsCheapestIn slots new z n best
   cheapest_without_sink away stays c = record {
     one = more_still stays c;
     all = λ k l can e. more_before c k l (λ is. away (sym (ap (zone_of slots) is) ∙ e)) can e;
@@ -175,10 +200,14 @@ margin_stays slots old new z m same a = record {
   };
 }
 
-pub margins_at : (slots : List Slot) (xs : List ℤ) (zones : ℕ) (margins : List Margin) (z : ℕ) → AreMargins slots xs zones (length slots) margins → z < zones → IsMarginOf slots xs z (get_or margins z no_margin)
+pub margins_at : (slots : List Slot) (xs : List ℤ) (zones : ℕ) (margins : List Margin) (z : ℕ)
+    → AreMargins slots xs zones (length slots) margins → z < zones
+    → IsMarginOf slots xs z (get_or margins z no_margin)
 margins_at slots xs zones margins z a l = record { dearest = a.dearest z l; cheapest = a.cheapest z l }
 
-pub margins_from : (slots : List Slot) (xs : List ℤ) (zones : ℕ) (margins : List Margin) → length margins ≡ zones → ((z : ℕ) → z < zones → IsMarginOf slots xs z (get_or margins z no_margin)) → AreMargins slots xs zones (length slots) margins
+pub margins_from : (slots : List Slot) (xs : List ℤ) (zones : ℕ) (margins : List Margin) → length margins ≡ zones
+    → ((z : ℕ) → z < zones → IsMarginOf slots xs z (get_or margins z no_margin))
+    → AreMargins slots xs zones (length slots) margins
 margins_from slots xs zones margins e each = record { long = e; dearest = λ z l. (each z l).dearest; cheapest = λ z l. (each z l).cheapest }
 
 above_some : (slots : List Slot) (v : ℤ) (best : Option ℕ) → IsAbove slots v best → (j : ℕ) × (best ≡ Some j) × (v ≤ℤ price_of slots j)
@@ -190,7 +219,9 @@ below_some slots v None a = absurd a
 below_some slots v (Some j) a = (j, refl, a)
 
 -- the dearest of the zones' dearest is the dearest of all
-pub dearest_is : (slots : List Slot) (xs : List ℤ) (zones : ℕ) (margins : List Margin) (marked : List Bool) (i : ℕ) → ((k : ℕ) → k < length slots → zone_of slots k < zones) → AreMargins slots xs zones (length slots) margins → IsDearestOf slots margins marked zones (Some i) → IsDearest slots xs marked i
+pub dearest_is : (slots : List Slot) (xs : List ℤ) (zones : ℕ) (margins : List Margin) (marked : List Bool) (i : ℕ)
+    → ((k : ℕ) → k < length slots → zone_of slots k < zones) → AreMargins slots xs zones (length slots) margins
+    → IsDearestOf slots margins marked zones (Some i) → IsDearest slots xs marked i
 dearest_is slots xs zones margins marked i zoned a d =
     let at = d.one i refl in
     let one = (a.dearest at.0 at.1).one i at.3 in
@@ -202,17 +233,24 @@ dearest_is slots xs zones margins marked i zoned a d =
           omega (arith, ints, j.2, d.all (zone_of slots k) j.0 (zoned k can.0) free j.1);
     }
 
-pub dearest_none : (slots : List Slot) (xs : List ℤ) (zones : ℕ) (margins : List Margin) (marked : List Bool) → ((k : ℕ) → k < length slots → zone_of slots k < zones) → AreMargins slots xs zones (length slots) margins → IsDearestOf slots margins marked zones None → NoneLess slots xs marked
+pub dearest_none : (slots : List Slot) (xs : List ℤ) (zones : ℕ) (margins : List Margin) (marked : List Bool)
+    → ((k : ℕ) → k < length slots → zone_of slots k < zones) → AreMargins slots xs zones (length slots) margins
+    → IsDearestOf slots margins marked zones None → NoneLess slots xs marked
 dearest_none slots xs zones margins marked zoned a d = λ k can free.
     let j = above_some slots (price_of slots k) (dearest_at margins (zone_of slots k)) ((a.dearest (zone_of slots k) (zoned k can.0)).all k can.0 can refl) in
     d.all (zone_of slots k) j.0 (zoned k can.0) free j.1
 
-pub cheaper_is : (slots : List Slot) (xs : List ℤ) (zones : ℕ) (margins : List Margin) (marked : List Bool) (limit : ℤ) (i z : ℕ) → AreMargins slots xs zones (length slots) margins → price_of slots i <ℤ limit → z < zones → is_marked marked z ≡ true → cheapest_at margins z ≡ Some i → IsCheaper slots xs marked limit i
+pub cheaper_is : (slots : List Slot) (xs : List ℤ) (zones : ℕ) (margins : List Margin) (marked : List Bool) (limit : ℤ) (i z : ℕ)
+    → AreMargins slots xs zones (length slots) margins → price_of slots i <ℤ limit → z < zones
+    → is_marked marked z ≡ true → cheapest_at margins z ≡ Some i → IsCheaper slots xs marked limit i
 cheaper_is slots xs zones margins marked limit i z a below l m e =
     let one = (a.cheapest z l).one i e in
     record { more = one.0; reached = subst (λ (z : ℕ). is_marked marked z ≡ true) (sym one.1) m; below = below }
 
-pub none_cheaper : (slots : List Slot) (xs : List ℤ) (zones : ℕ) (margins : List Margin) (marked : List Bool) (limit : ℤ) → ((k : ℕ) → k < length slots → zone_of slots k < zones) → AreMargins slots xs zones (length slots) margins → ((z i : ℕ) → z < zones → is_marked marked z ≡ true → cheapest_at margins z ≡ Some i → limit ≤ℤ price_of slots i) → NoneCheaper slots xs marked limit
+pub none_cheaper : (slots : List Slot) (xs : List ℤ) (zones : ℕ) (margins : List Margin) (marked : List Bool) (limit : ℤ)
+    → ((k : ℕ) → k < length slots → zone_of slots k < zones) → AreMargins slots xs zones (length slots) margins
+    → ((z i : ℕ) → z < zones → is_marked marked z ≡ true → cheapest_at margins z ≡ Some i → limit ≤ℤ price_of slots i)
+    → NoneCheaper slots xs marked limit
 none_cheaper slots xs zones margins marked limit zoned a none = λ k can m.
     let j = below_some slots (price_of slots k) (cheapest_at margins (zone_of slots k)) ((a.cheapest (zone_of slots k) (zoned k can.0)).all k can.0 can refl) in
     omega (arith, ints, j.2, none (zone_of slots k) j.0 (zoned k can.0) m j.1)

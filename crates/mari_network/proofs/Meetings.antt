@@ -31,7 +31,9 @@ added_keeps n zone z k old new h a = elim (cases_eq z zone) [
 added_has : (n zone z : ℕ) (old new : List ℕ) → IsAdded n zone z old new → zone ≡ z → Contains new n
 added_has n zone z old new h e = subst (λ (ps : List ℕ). Contains ps n) (sym (h.here (sym e))) (Contains-push old n)
 
-pub meeting_more : (bs : List Border) (n z : ℕ) (old mid new : List ℕ) → n < length bs → IsAdded n (border_at bs n).from z old mid → IsAdded n (border_at bs n).to z mid new → AreMeetingTo bs n z old → AreMeetingTo bs (n + 1) z new
+pub meeting_more : (bs : List Border) (n z : ℕ) (old mid new : List ℕ) → n < length bs
+    → IsAdded n (border_at bs n).from z old mid → IsAdded n (border_at bs n).to z mid new → AreMeetingTo bs n z old
+    → AreMeetingTo bs (n + 1) z new
 meeting_more bs n z old mid new l one two a = record {
   there = added_there bs n (border_at bs n).to z mid new l two (added_there bs n (border_at bs n).from z old mid l one a.there);
   all = λ k h m. elim (cases_lt k n) [

@@ -28,7 +28,9 @@ use Rattle.mari_network.proofs.Chains.{if_none}
 use Rattle.mari_network.proofs.Transfers.{IsOptimum, optimum_from}
 use Rattle.mari_market.proofs.Sums.{AllZip-at, int_sum-map}
 
-sum_split : {X Y : Type 0} (f : X → Y → ℤ) (P : X → Y → Type 0) (ss rs : List X) (ys : List Y) → AllZip P (ss ++ rs) ys → sum_along f (ss ++ rs) ys ≡ sum_along f ss (take (length ss) ys) +ℤ sum_along f rs (drop (length ss) ys)
+sum_split : {X Y : Type 0} (f : X → Y → ℤ) (P : X → Y → Type 0) (ss rs : List X) (ys : List Y)
+    → AllZip P (ss ++ rs) ys
+    → sum_along f (ss ++ rs) ys ≡ sum_along f ss (take (length ss) ys) +ℤ sum_along f rs (drop (length ss) ys)
 sum_split f P [] rs ys a = omega (arith, ints)
 sum_split f P (s ∷ ss) rs (y ∷ ys) a = omega (arith, ints, sum_split f P ss rs ys a.1)
 sum_split f P (s ∷ ss) rs [] a = absurd a
@@ -64,7 +66,11 @@ runs bounds m more xs fs p e =
     })
 
 -- where nothing stands in, the orders' amounts are the relaxed optimum
-pub ends_solved : (bounds : Order → Span) (m : Market) (more : List Slot) (a : Activation) (ps : List Cents) (p : ℕ → ℤ) (xs : List ℤ) → Ends bounds m more xs a.flow p → ArePuts m.orders (take (length (slots_of bounds m.orders)) xs) a.mw → ((z : ℕ) → z < m.zones → price_at ps z ≡ capped (p z)) → ((j : ℕ) → j < length (drop (length (slots_of bounds m.orders)) xs) → int_at xs (length (slots_of bounds m.orders) + j) ≡ pos 0) → IsOptimum bounds m a ps
+pub ends_solved : (bounds : Order → Span) (m : Market) (more : List Slot) (a : Activation) (ps : List Cents) (p : ℕ → ℤ) (xs : List ℤ)
+    → Ends bounds m more xs a.flow p → ArePuts m.orders (take (length (slots_of bounds m.orders)) xs) a.mw
+    → ((z : ℕ) → z < m.zones → price_at ps z ≡ capped (p z))
+    → ((j : ℕ) → j < length (drop (length (slots_of bounds m.orders)) xs) → int_at xs (length (slots_of bounds m.orders) + j) ≡ pos 0)
+    → IsOptimum bounds m a ps
 ends_solved bounds m more a ps p xs e puts prices none =
     let reals = slots_of bounds m.orders in
     let all = runs bounds m more xs a.flow p e in
@@ -84,20 +90,28 @@ flow_runs bounds m more xs fs p e =
       tight = AllZip-at (IsConsistentFlow p) m.borders fs k no_border (pos 0) l e.tight.flows_tight;
     })
 
-ends_paid : (bounds : Order → Span) (m : Market) (more : List Slot) (xs fs : List ℤ) (p q : ℕ → ℤ) → Ends bounds m more xs fs p → (sum_along (paid_slot q) (slots_of bounds m.orders) (take (length (slots_of bounds m.orders)) xs) +ℤ sum_along (paid_slot q) more (drop (length (slots_of bounds m.orders)) xs)) ≡ sum_along (cost_at q) m.borders fs
+ends_paid : (bounds : Order → Span) (m : Market) (more : List Slot) (xs fs : List ℤ) (p q : ℕ → ℤ)
+    → Ends bounds m more xs fs p
+    → (sum_along (paid_slot q) (slots_of bounds m.orders) (take (length (slots_of bounds m.orders)) xs) +ℤ sum_along (paid_slot q) more (drop (length (slots_of bounds m.orders)) xs)) ≡ sum_along (cost_at q) m.borders fs
 ends_paid bounds m more xs fs p q e =
     sym (sum_split (paid_slot q) IsWithinSlot (slots_of bounds m.orders) more xs e.running.amounts)
     ∙ paid_is_cost q m.zones (slots_of bounds m.orders ++ more) xs m.borders fs e.zones (λ k d l. let b_valid = e.valid.borders k d l in (b_valid.from, b_valid.to)) e.running.balance
 
 -- a shortfall of the orders' slots is a cut
-shortfall_is_cut_out : (bounds : Order → Span) (m : Market) (zones : List ℕ) → int_sum (out_of (is_in zones)) m.borders <ℤ int_sum (least_in (is_in zones)) (slots_of bounds m.orders) → CannotBalance bounds m Out zones
+shortfall_is_cut_out : (bounds : Order → Span) (m : Market) (zones : List ℕ)
+    → int_sum (out_of (is_in zones)) m.borders <ℤ int_sum (least_in (is_in zones)) (slots_of bounds m.orders)
+    → CannotBalance bounds m Out zones
 shortfall_is_cut_out bounds m zones h = omega (arith, ints, h, int_sum-map (least_in (is_in zones)) (λ o. slot_of (bounds o) o) m.orders)
 
-shortfall_is_cut_in : (bounds : Order → Span) (m : Market) (zones : List ℕ) → int_sum (most_in_slot (is_in zones)) (slots_of bounds m.orders) <ℤ neg_ℤ (int_sum (into_of (is_in zones)) m.borders) → CannotBalance bounds m In zones
+shortfall_is_cut_in : (bounds : Order → Span) (m : Market) (zones : List ℕ)
+    → int_sum (most_in_slot (is_in zones)) (slots_of bounds m.orders) <ℤ neg_ℤ (int_sum (into_of (is_in zones)) m.borders)
+    → CannotBalance bounds m In zones
 shortfall_is_cut_in bounds m zones h = omega (arith, ints, h, int_sum-map (most_in_slot (is_in zones)) (λ o. slot_of (bounds o) o) m.orders)
 
 -- where something is taken away, the zones of the least price are a cut
-pub ends_cut_out : (bounds : Order → Span) (m : Market) (more : List Slot) (xs fs : List ℤ) (p : ℕ → ℤ) (zones : List ℕ) (j : ℕ) → Ends bounds m more xs fs p → AreLowest m.zones BEYOND p (is_in zones) → j < length more → int_at xs (length (slots_of bounds m.orders) + j) <ℤ pos 0 → CannotBalance bounds m Out zones
+pub ends_cut_out : (bounds : Order → Span) (m : Market) (more : List Slot) (xs fs : List ℤ) (p : ℕ → ℤ) (zones : List ℕ) (j : ℕ)
+    → Ends bounds m more xs fs p → AreLowest m.zones BEYOND p (is_in zones) → j < length more
+    → int_at xs (length (slots_of bounds m.orders) + j) <ℤ pos 0 → CannotBalance bounds m Out zones
 ends_cut_out bounds m more xs fs p zones j e low there short =
     let reals = slots_of bounds m.orders in
     let all = runs bounds m more xs fs p e in
@@ -111,7 +125,9 @@ ends_cut_out bounds m more xs fs p zones j e low there short =
     (subst (λ (x : ℤ). x <ℤ pos 0) (sym (get_or-drop (length (slots_of bounds m.orders)) xs j (pos 0))) short))
 
 -- where something is given, the zones of the greatest price are
-pub ends_cut_in : (bounds : Order → Span) (m : Market) (more : List Slot) (xs fs : List ℤ) (p : ℕ → ℤ) (zones : List ℕ) (j : ℕ) → Ends bounds m more xs fs p → AreHighest m.zones BEYOND p (is_in zones) → j < length more → pos 0 <ℤ int_at xs (length (slots_of bounds m.orders) + j) → CannotBalance bounds m In zones
+pub ends_cut_in : (bounds : Order → Span) (m : Market) (more : List Slot) (xs fs : List ℤ) (p : ℕ → ℤ) (zones : List ℕ) (j : ℕ)
+    → Ends bounds m more xs fs p → AreHighest m.zones BEYOND p (is_in zones) → j < length more
+    → pos 0 <ℤ int_at xs (length (slots_of bounds m.orders) + j) → CannotBalance bounds m In zones
 ends_cut_in bounds m more xs fs p zones j e high there short =
     let all = runs bounds m more xs fs p e in
     let first = zip_first (RunsSlot m.zones p) (slots_of bounds m.orders) more xs all in

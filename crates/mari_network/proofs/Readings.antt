@@ -14,7 +14,9 @@ pub solution_says : (spans : Order → Span) (m : Market) (Q : Solved → Type 0
 solution_says spans m Q f (Ok s) a = f s a
 solution_says spans m Q f (Err e) a = tt
 
-pub cut_says : (spans : Order → Span) (m : Market) (Q : CutRecord → Type 0) → ((cut : CutRecord) → IsCut spans m cut → Q cut) → (r : Result Solved SolveFault) → IsAnswer spans m r → IfErr r (λ fault. OfCut fault Q)
+pub cut_says : (spans : Order → Span) (m : Market) (Q : CutRecord → Type 0)
+    → ((cut : CutRecord) → IsCut spans m cut → Q cut) → (r : Result Solved SolveFault) → IsAnswer spans m r
+    → IfErr r (λ fault. OfCut fault Q)
 cut_says spans m Q f (Ok s) a = tt
 cut_says spans m Q f (Err (Cut cut)) a = f cut a
 cut_says spans m Q f (Err Memory) a = tt

@@ -16,7 +16,10 @@ use Rattle.mari_market.proofs.Duality.{cost_at, cost_spread}
 abbrev pub paid_slot : (ℕ → ℤ) → Slot → ℤ → ℤ
 paid_slot p s x = p s.zone *ℤ x
 
-pub paid_is_cost : (p : ℕ → ℤ) (n : ℕ) (slots : List Slot) (xs : List ℤ) (bs : List Border) (fs : List ℤ) → All (λ (s : Slot). s.zone < n) slots → All (λ (b : Border). (b.from < n) × (b.to < n)) bs → ((z : ℕ) → z < n → sum_along (slot_into z) slots xs ≡ sum_along (carried_out z) bs fs) → sum_along (paid_slot p) slots xs ≡ sum_along (cost_at p) bs fs
+pub paid_is_cost : (p : ℕ → ℤ) (n : ℕ) (slots : List Slot) (xs : List ℤ) (bs : List Border) (fs : List ℤ)
+    → All (λ (s : Slot). s.zone < n) slots → All (λ (b : Border). (b.from < n) × (b.to < n)) bs
+    → ((z : ℕ) → z < n → sum_along (slot_into z) slots xs ≡ sum_along (carried_out z) bs fs)
+    → sum_along (paid_slot p) slots xs ≡ sum_along (cost_at p) bs fs
 paid_is_cost p n slots xs bs fs zones ends balance =
     spread p n (paid_slot p) slot_into (λ s. s.zone < n) (λ s x l. sym (sum_below-place p s.zone x n l)) slots xs zones
     ∙ sum_below-same n _ _ (λ z l. ap (λ (x : ℤ). p z *ℤ x) (balance z l))
@@ -39,7 +42,9 @@ sum_at_most f (x ∷ xs) (y ∷ ys) a = omega (arith, ints, a.0, sum_at_most f x
 sum_at_most f [] (y ∷ ys) a = absurd a
 sum_at_most f (x ∷ xs) [] a = absurd a
 
-sum_below_none : {X Y : Type 0} (f : X → Y → ℤ) (xs : List X) (ys : List Y) (k : ℕ) (d : X) (e : Y) → AllZip (λ x y. f x y ≤ℤ pos 0) xs ys → k < length xs → f (get_or xs k d) (get_or ys k e) <ℤ pos 0 → sum_along f xs ys <ℤ pos 0
+sum_below_none : {X Y : Type 0} (f : X → Y → ℤ) (xs : List X) (ys : List Y) (k : ℕ) (d : X) (e : Y)
+    → AllZip (λ x y. f x y ≤ℤ pos 0) xs ys → k < length xs → f (get_or xs k d) (get_or ys k e) <ℤ pos 0
+    → sum_along f xs ys <ℤ pos 0
 sum_below_none f [] ys k d e a h l = absurd (omega arith)
 sum_below_none f (x ∷ xs) [] k d e a h l = absurd a
 sum_below_none f (x ∷ xs) (y ∷ ys) zero d e a h l = omega (arith, ints, l, sum_at_most f xs ys a.1)
@@ -51,7 +56,9 @@ sum_at_least f (x ∷ xs) (y ∷ ys) a = omega (arith, ints, a.0, sum_at_least f
 sum_at_least f [] (y ∷ ys) a = absurd a
 sum_at_least f (x ∷ xs) [] a = absurd a
 
-sum_above_none : {X Y : Type 0} (f : X → Y → ℤ) (xs : List X) (ys : List Y) (k : ℕ) (d : X) (e : Y) → AllZip (λ x y. pos 0 ≤ℤ f x y) xs ys → k < length xs → pos 0 <ℤ f (get_or xs k d) (get_or ys k e) → pos 0 <ℤ sum_along f xs ys
+sum_above_none : {X Y : Type 0} (f : X → Y → ℤ) (xs : List X) (ys : List Y) (k : ℕ) (d : X) (e : Y)
+    → AllZip (λ x y. pos 0 ≤ℤ f x y) xs ys → k < length xs → pos 0 <ℤ f (get_or xs k d) (get_or ys k e)
+    → pos 0 <ℤ sum_along f xs ys
 sum_above_none f [] ys k d e a h l = absurd (omega arith)
 sum_above_none f (x ∷ xs) [] k d e a h l = absurd a
 sum_above_none f (x ∷ xs) (y ∷ ys) zero d e a h l = omega (arith, ints, l, sum_at_least f xs ys a.1)
@@ -111,7 +118,10 @@ low_short false m p x s e o w t l = elim e [
   | inr d ↦ absurd (omega (arith, ints, d.1, w.least))
 ]
 
-low_flow : (a b : Bool) (m pa pb f : ℤ) (limit back : ℕ) → (a ≡ true → pa ≤ℤ neg_ℤ m) → (a ≡ false → neg_ℤ m <ℤ pa) → (b ≡ true → pb ≤ℤ neg_ℤ m) → (b ≡ false → neg_ℤ m <ℤ pb) → neg_ℤ (pos back) ≤ℤ f → f ≤ℤ pos limit → (f <ℤ pos limit → pb ≤ℤ pa) → (neg_ℤ (pos back) <ℤ f → pa ≤ℤ pb) → ((counts a *ℤ f) -ℤ (counts b *ℤ f)) ≡ ((if a && not b then pos limit else pos 0) +ℤ (if not a && b then pos back else pos 0))
+low_flow : (a b : Bool) (m pa pb f : ℤ) (limit back : ℕ) → (a ≡ true → pa ≤ℤ neg_ℤ m) → (a ≡ false → neg_ℤ m <ℤ pa)
+    → (b ≡ true → pb ≤ℤ neg_ℤ m) → (b ≡ false → neg_ℤ m <ℤ pb) → neg_ℤ (pos back) ≤ℤ f → f ≤ℤ pos limit
+    → (f <ℤ pos limit → pb ≤ℤ pa) → (neg_ℤ (pos back) <ℤ f → pa ≤ℤ pb)
+    → ((counts a *ℤ f) -ℤ (counts b *ℤ f)) ≡ ((if a && not b then pos limit else pos 0) +ℤ (if not a && b then pos back else pos 0))
 low_flow true true m pa pb f limit back ai ao bi bo l h more less = omega (arith, ints)
 low_flow false false m pa pb f limit back ai ao bi bo l h more less = omega (arith, ints)
 low_flow true false m pa pb f limit back ai ao bi bo l h more less = by_lt_z f (pos limit) (λ r. absurd (omega (arith, ints, more r, ai refl, bo refl))) (λ r. omega (arith, ints))
@@ -165,7 +175,10 @@ high_short false m p x s e o w t l = elim e [
   | inr d ↦ absurd (omega (arith, ints, d.0, t (omega (arith, ints, d.1)), o refl))
 ]
 
-high_flow : (a b : Bool) (m pa pb f : ℤ) (limit back : ℕ) → (a ≡ true → m ≤ℤ pa) → (a ≡ false → pa <ℤ m) → (b ≡ true → m ≤ℤ pb) → (b ≡ false → pb <ℤ m) → neg_ℤ (pos back) ≤ℤ f → f ≤ℤ pos limit → (f <ℤ pos limit → pb ≤ℤ pa) → (neg_ℤ (pos back) <ℤ f → pa ≤ℤ pb) → ((counts a *ℤ f) -ℤ (counts b *ℤ f)) ≡ neg_ℤ ((if a && not b then pos back else pos 0) +ℤ (if not a && b then pos limit else pos 0))
+high_flow : (a b : Bool) (m pa pb f : ℤ) (limit back : ℕ) → (a ≡ true → m ≤ℤ pa) → (a ≡ false → pa <ℤ m)
+    → (b ≡ true → m ≤ℤ pb) → (b ≡ false → pb <ℤ m) → neg_ℤ (pos back) ≤ℤ f → f ≤ℤ pos limit
+    → (f <ℤ pos limit → pb ≤ℤ pa) → (neg_ℤ (pos back) <ℤ f → pa ≤ℤ pb)
+    → ((counts a *ℤ f) -ℤ (counts b *ℤ f)) ≡ neg_ℤ ((if a && not b then pos back else pos 0) +ℤ (if not a && b then pos limit else pos 0))
 high_flow true true m pa pb f limit back ai ao bi bo l h more less = omega (arith, ints)
 high_flow false false m pa pb f limit back ai ao bi bo l h more less = omega (arith, ints)
 high_flow true false m pa pb f limit back ai ao bi bo l h more less = by_lt_z (neg_ℤ (pos back)) f (λ r. absurd (omega (arith, ints, less r, ai refl, bo refl))) (λ r. omega (arith, ints))

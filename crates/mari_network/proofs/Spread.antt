@@ -36,7 +36,9 @@ each_push P hops h old new k l = elim (place (length hops) k l) [
   | last e ↦ subst (λ (x : Hop). P k x) (sym (last_push hops h k e)) (subst (λ (n : ℕ). P n h) e new)
 ]
 
-pub room_push : (bs : List Border) (fs : List ℤ) (hops : List Hop) (h : Hop) (d : ℤ) (k : ℕ) → k < length hops → ((j : ℕ) → 0 < j → j < length hops → IsHop bs hops j) → HasRoom bs fs hops d k → HasRoom bs fs (hops ++ h ∷ []) d k
+pub room_push : (bs : List Border) (fs : List ℤ) (hops : List Hop) (h : Hop) (d : ℤ) (k : ℕ) → k < length hops
+    → ((j : ℕ) → 0 < j → j < length hops → IsHop bs hops j) → HasRoom bs fs hops d k
+    → HasRoom bs fs (hops ++ h ∷ []) d k
 room_push bs fs hops h d _ l each (begins) = begins
 room_push bs fs hops h d _ l each (goes_on k p r rest) =
     let e = before_push hops h k l in
@@ -62,7 +64,9 @@ pub record IsNext (bs : List Border) (fs : List ℤ) (marked : List Bool) (hops 
   pub fresh : is_marked marked h.zone ≡ false
   pub long : h.zone < length marked
 
-next_hop : (bs : List Border) (fs : List ℤ) (marked : List Bool) (hops : List Hop) (h : Hop) → IsNext bs fs marked hops h → ((j : ℕ) → 0 < j → j < length hops → IsHop bs hops j) → (k : ℕ) → 0 < k → k < length hops + 1 → IsHop bs (hops ++ h ∷ []) k
+next_hop : (bs : List Border) (fs : List ℤ) (marked : List Bool) (hops : List Hop) (h : Hop)
+    → IsNext bs fs marked hops h → ((j : ℕ) → 0 < j → j < length hops → IsHop bs hops j) → (k : ℕ) → 0 < k
+    → k < length hops + 1 → IsHop bs (hops ++ h ∷ []) k
 next_hop bs fs marked hops h n each k p l = elim (place (length hops) k l) [
   | early e ↦
       let was = each k p e in
@@ -86,21 +90,27 @@ next_hop bs fs marked hops h n each k p l = elim (place (length hops) k l) [
 ]
 
 -- no border of before leads from an unmarked zone
-other_border : (bs : List Border) (fs : List ℤ) (old : List Bool) (start : ℕ) (marked : List Bool) (hops : List Hop) (h : Hop) → IsSpread bs fs old start marked hops → IsNext bs fs marked hops h → (j : ℕ) → 0 < j → j < length hops → (hop_at hops j).border ≢ h.border
+other_border : (bs : List Border) (fs : List ℤ) (old : List Bool) (start : ℕ) (marked : List Bool) (hops : List Hop) (h : Hop)
+    → IsSpread bs fs old start marked hops → IsNext bs fs marked hops h → (j : ℕ) → 0 < j → j < length hops
+    → (hop_at hops j).border ≢ h.border
 other_border bs fs old start marked hops h s n j p l e =
     let ends = s.ends j p l in
     let tail = tail_end (λ z. is_marked marked z ≡ true) h.forth (border_at bs (hop_at hops j).border) ends.0 ends.1 in
     let here = subst (λ (i : ℕ). is_marked marked (tail_of h.forth (border_at bs i)) ≡ true) e tail in
     not_both (is_marked marked h.zone) (subst (λ (z : ℕ). is_marked marked z ≡ true) (sym n.tail) here) n.fresh
 
-next_apart : (bs : List Border) (fs : List ℤ) (old : List Bool) (start : ℕ) (marked : List Bool) (hops : List Hop) (h : Hop) → IsSpread bs fs old start marked hops → IsNext bs fs marked hops h → (j k : ℕ) → 0 < j → j < k → k < length hops + 1 → (hop_at (hops ++ h ∷ []) j).border ≢ (hop_at (hops ++ h ∷ []) k).border
+next_apart : (bs : List Border) (fs : List ℤ) (old : List Bool) (start : ℕ) (marked : List Bool) (hops : List Hop) (h : Hop)
+    → IsSpread bs fs old start marked hops → IsNext bs fs marked hops h → (j k : ℕ) → 0 < j → j < k
+    → k < length hops + 1 → (hop_at (hops ++ h ∷ []) j).border ≢ (hop_at (hops ++ h ∷ []) k).border
 next_apart bs fs old start marked hops h s n j k p q l = elim (place (length hops) k l) [
   | early e ↦ λ same. s.trace.apart j k p q e (ap (λ (x : Hop). x.border) (sym (before_push hops h j (omega arith))) ∙ same ∙ ap (λ (x : Hop). x.border) (before_push hops h k e))
   | last e ↦ λ same. other_border bs fs old start marked hops h s n j p (omega arith) (ap (λ (x : Hop). x.border) (sym (before_push hops h j (omega arith))) ∙ same ∙ ap (λ (x : Hop). x.border) (last_push hops h k e))
 ]
 
 -- one zone more
-pub spread_more : (bs : List Border) (fs : List ℤ) (old : List Bool) (start : ℕ) (marked : List Bool) (hops : List Hop) (h : Hop) → IsSpread bs fs old start marked hops → IsNext bs fs marked hops h → IsSpread bs fs old start (set marked h.zone true) (hops ++ h ∷ [])
+pub spread_more : (bs : List Border) (fs : List ℤ) (old : List Bool) (start : ℕ) (marked : List Bool) (hops : List Hop) (h : Hop)
+    → IsSpread bs fs old start marked hops → IsNext bs fs marked hops h
+    → IsSpread bs fs old start (set marked h.zone true) (hops ++ h ∷ [])
 spread_more bs fs old start marked hops h s n =
     let new = set marked h.zone true in
     let more = hops ++ h ∷ [] in
@@ -165,7 +175,10 @@ into_keeps marked new y [] (f ∷ fs) k a = absurd a
 into_keeps marked new y (b ∷ bs) [] k a = absurd a
 
 -- what each new zone is led to from is marked, and so is all that old ones are
-pub closed_more : (old marked : List Bool) (hops : List Hop) (bs : List Border) (fs : List ℤ) → ((z : ℕ) → is_marked marked z ≡ true → (is_marked old z ≡ true) ⊎ ((k : ℕ) × (k < length hops) × ((hop_at hops k).zone ≡ z))) → Keeps old marked → ((k : ℕ) → k < length hops → AllZip (MarkedInto marked (hop_at hops k).zone) bs fs) → AreClosed bs fs old → AreClosed bs fs marked
+pub closed_more : (old marked : List Bool) (hops : List Hop) (bs : List Border) (fs : List ℤ)
+    → ((z : ℕ) → is_marked marked z ≡ true → (is_marked old z ≡ true) ⊎ ((k : ℕ) × (k < length hops) × ((hop_at hops k).zone ≡ z)))
+    → Keeps old marked → ((k : ℕ) → k < length hops → AllZip (MarkedInto marked (hop_at hops k).zone) bs fs)
+    → AreClosed bs fs old → AreClosed bs fs marked
 closed_more old marked hops [] [] news k into a = tt
 closed_more old marked hops (b ∷ bs) (f ∷ fs) news k into a = (
   λ forth r m. elim (news (head_of forth b) m) [
@@ -187,6 +200,8 @@ head_meets true b y e = inr e
 head_meets false b y e = inl e
 
 -- it is enough to look at the borders that meet a zone
-pub all_into : (bs : List Border) (fs : List ℤ) (marked : List Bool) (y : ℕ) (places : List ℕ) → length bs ≡ length fs → AreMeeting bs y places → All (λ i. MarkedInto marked y (border_at bs i) (int_at fs i)) places → AllZip (MarkedInto marked y) bs fs
+pub all_into : (bs : List Border) (fs : List ℤ) (marked : List Bool) (y : ℕ) (places : List ℕ) → length bs ≡ length fs
+    → AreMeeting bs y places → All (λ i. MarkedInto marked y (border_at bs i) (int_at fs i)) places
+    → AllZip (MarkedInto marked y) bs fs
 all_into bs fs marked y places e m a = zip_of (MarkedInto marked y) bs fs no_border (pos 0) e
     (λ k l forth r h. All-contains (λ i. MarkedInto marked y (border_at bs i) (int_at fs i)) places k a (m.all k l (head_meets forth (border_at bs k) y h)) forth r h)

@@ -41,7 +41,9 @@ orders_within bounds [] (x ∷ xs) qs r w = absurd r
 orders_within bounds (o ∷ os) [] qs r w = absurd r
 orders_within bounds (o ∷ os) (x ∷ xs) [] r w = absurd r
 
-pub orders_tight : (bounds : Order → Span) (n gates : ℕ) (p : ℕ → ℤ) (ps : List Cents) (os : List Order) (xs : List ℤ) (qs : List ℕ) → ((z : ℕ) → z < n → price_at ps z ≡ capped (p z)) → All (IsValidOrder n gates) os → ArePuts os xs qs → AllZip (IsTightSlot p) (slots_of bounds os) xs → AllZip (IsTightOrder bounds ps) os qs
+pub orders_tight : (bounds : Order → Span) (n gates : ℕ) (p : ℕ → ℤ) (ps : List Cents) (os : List Order) (xs : List ℤ) (qs : List ℕ)
+    → ((z : ℕ) → z < n → price_at ps z ≡ capped (p z)) → All (IsValidOrder n gates) os → ArePuts os xs qs
+    → AllZip (IsTightSlot p) (slots_of bounds os) xs → AllZip (IsTightOrder bounds ps) os qs
 orders_tight bounds n gates p ps [] [] [] e v r t = tt
 orders_tight bounds n gates p ps (o ∷ os) (x ∷ xs) (q ∷ qs) e v r t =
     let o_valid = All-head (IsValidOrder n gates) o os v in (
@@ -62,10 +64,13 @@ orders_into z bounds [] (x ∷ xs) qs r = absurd r
 orders_into z bounds (o ∷ os) [] qs r = absurd r
 orders_into z bounds (o ∷ os) (x ∷ xs) [] r = absurd r
 
-flow_tight : (pa pb ca cb f : ℤ) (limit back : ℕ) → ca ≡ capped pa → cb ≡ capped pb → (f <ℤ pos limit → pb ≤ℤ pa) → (neg_ℤ (pos back) <ℤ f → pa ≤ℤ pb) → (f <ℤ pos limit → cb ≤ℤ ca) × (neg_ℤ (pos back) <ℤ f → ca ≤ℤ cb)
+flow_tight : (pa pb ca cb f : ℤ) (limit back : ℕ) → ca ≡ capped pa → cb ≡ capped pb → (f <ℤ pos limit → pb ≤ℤ pa)
+    → (neg_ℤ (pos back) <ℤ f → pa ≤ℤ pb) → (f <ℤ pos limit → cb ≤ℤ ca) × (neg_ℤ (pos back) <ℤ f → ca ≤ℤ cb)
 flow_tight pa pb ca cb f limit back a b more less = (λ r. omega (arith, ints, clamps, a, b, more r), λ r. omega (arith, ints, clamps, a, b, less r))
 
-pub flows_tight : (n : ℕ) (p : ℕ → ℤ) (ps : List Cents) (bs : List Border) (fs : List ℤ) → ((z : ℕ) → z < n → price_at ps z ≡ capped (p z)) → All (IsValidBorder n) bs → AllZip (IsConsistentFlow p) bs fs → AllZip (IsConsistentBorder ps) bs fs
+pub flows_tight : (n : ℕ) (p : ℕ → ℤ) (ps : List Cents) (bs : List Border) (fs : List ℤ)
+    → ((z : ℕ) → z < n → price_at ps z ≡ capped (p z)) → All (IsValidBorder n) bs → AllZip (IsConsistentFlow p) bs fs
+    → AllZip (IsConsistentBorder ps) bs fs
 flows_tight n p ps [] [] e v t = tt
 flows_tight n p ps (b ∷ bs) (f ∷ fs) e v t =
     let b_valid = All-head (IsValidBorder n) b bs v in
@@ -99,7 +104,9 @@ optimum_from bounds m a ps p xs v puts prices within limits balance slots flows 
       tight = all_tight;
     }
 
-pub puts_more : (os : List Order) (xs : List ℤ) (qs : List ℕ) (i : ℕ) (d : Order) (q : ℕ) → i < length os → i < length xs → ArePuts (take i os) (take i xs) qs → get_or xs i (pos 0) ≡ put_in (get_or os i d).side q → ArePuts (take (i + 1) os) (take (i + 1) xs) (qs ++ q ∷ [])
+pub puts_more : (os : List Order) (xs : List ℤ) (qs : List ℕ) (i : ℕ) (d : Order) (q : ℕ) → i < length os
+    → i < length xs → ArePuts (take i os) (take i xs) qs → get_or xs i (pos 0) ≡ put_in (get_or os i d).side q
+    → ArePuts (take (i + 1) os) (take (i + 1) xs) (qs ++ q ∷ [])
 puts_more [] xs qs i d q h l a e = absurd (omega arith)
 puts_more (o ∷ os) [] qs i d q h l a e = absurd (omega arith)
 puts_more (o ∷ os) (x ∷ xs) [] zero d q h l a e = (e, tt)
@@ -110,7 +117,8 @@ puts_more (o ∷ os) (x ∷ xs) (p ∷ qs) (suc i) d q h l a e =
     subst (λ (n : ℕ). ArePuts (take n (o ∷ os)) (take n (x ∷ xs)) (p ∷ (qs ++ q ∷ []))) k (a.0, puts_more os xs qs i d q (omega arith) (omega arith) a.1 e)
 
 -- with one order and quantity more their sum is that much more
-pub gains_more : (f : Order → ℕ → ℤ) (os : List Order) (qs : List ℕ) (i : ℕ) (d : Order) (q : ℕ) → i < length os → length qs ≡ i → sum_along f (take (i + 1) os) (qs ++ q ∷ []) ≡ sum_along f (take i os) qs +ℤ f (get_or os i d) q
+pub gains_more : (f : Order → ℕ → ℤ) (os : List Order) (qs : List ℕ) (i : ℕ) (d : Order) (q : ℕ) → i < length os
+    → length qs ≡ i → sum_along f (take (i + 1) os) (qs ++ q ∷ []) ≡ sum_along f (take i os) qs +ℤ f (get_or os i d) q
 gains_more f [] qs i d q h l = absurd (omega arith)
 gains_more f (o ∷ os) [] zero d q h l = omega (arith, ints)
 gains_more f (o ∷ os) [] (suc i) d q h l = absurd (omega arith)

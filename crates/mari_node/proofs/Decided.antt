@@ -70,7 +70,9 @@ closed_runs state g (o ∷ os) [] w e = refl
 closed_runs state g (o ∷ os) (q ∷ qs) w e = or_from (is_gate g o.gate && nat_lt 0 q) (runs_gate g os qs) (closed_idle state o.gate g o q w.0 e) (closed_runs state g os qs w.1 e)
 
 -- an order of an open gate runs
-open_busy : (n : ℕ) (state : ℕ → GateState) (gate : Option ℕ) (g : ℕ) (o : Order) (q : ℕ) → gate ≡ Some g → MatchOption gate (o.least ≡ 0) (λ h. (h < n) × (1 ≤ o.least)) → IsWithin (span_of state gate o) q → state g ≡ Open → (is_gate g gate && nat_lt 0 q) ≡ true
+open_busy : (n : ℕ) (state : ℕ → GateState) (gate : Option ℕ) (g : ℕ) (o : Order) (q : ℕ) → gate ≡ Some g
+    → MatchOption gate (o.least ≡ 0) (λ h. (h < n) × (1 ≤ o.least)) → IsWithin (span_of state gate o) q
+    → state g ≡ Open → (is_gate g gate && nat_lt 0 q) ≡ true
 open_busy n state None g o q s v w e = absurd (cc)
 open_busy n state (Some h) g o q s v w e =
     let same : h ≡ g = cc in
@@ -80,7 +82,9 @@ open_busy n state (Some h) g o q s v w e =
     let test : (h == g) ≡ true = ap (λ (k : ℕ). k == g) same ∙ its_gate g in
     ap (λ (b : Bool). b && nat_lt 0 q) test ∙ busy q one
 
-open_runs : (z n : ℕ) (state : ℕ → GateState) (g : ℕ) (os : List Order) (qs : List ℕ) (k : ℕ) (x : Order) → All (IsValidOrder z n) os → AllZip (λ o q. IsWithin (span_in state o) q) os qs → k < length os → slice_index_or os k x ≡ x → x.gate ≡ Some g → state g ≡ Open → runs_gate g os qs ≡ true
+open_runs : (z n : ℕ) (state : ℕ → GateState) (g : ℕ) (os : List Order) (qs : List ℕ) (k : ℕ) (x : Order)
+    → All (IsValidOrder z n) os → AllZip (λ o q. IsWithin (span_in state o) q) os qs → k < length os
+    → slice_index_or os k x ≡ x → x.gate ≡ Some g → state g ≡ Open → runs_gate g os qs ≡ true
 open_runs z n state g [] qs k x v w l at its e = absurd (omega arith)
 open_runs z n state g (o ∷ os) [] k x v w l at its e = absurd w
 open_runs z n state g (o ∷ os) (q ∷ qs) zero x v w l at its e =
@@ -89,7 +93,9 @@ open_runs z n state g (o ∷ os) (q ∷ qs) zero x v w l at its e =
 open_runs z n state g (o ∷ os) (q ∷ qs) (suc k) x v w l at its e =
     or_right (is_gate g o.gate && nat_lt 0 q) (runs_gate g os qs) (open_runs z n state g os qs k x (All-tail (IsValidOrder z n) o os v) w.1 (omega arith) at its e)
 
-runs_as : (m : Market) (a : Activation) (word : List Bool) (g : ℕ) (b : Bool) → IsValid m → IsWithinBounds (bounds_of_word m word) m a → g < length m.gates → state_of m.gates word g ≡ (if b then Open else Closed) → is_open m a g ≡ b
+runs_as : (m : Market) (a : Activation) (word : List Bool) (g : ℕ) (b : Bool) → IsValid m
+    → IsWithinBounds (bounds_of_word m word) m a → g < length m.gates
+    → state_of m.gates word g ≡ (if b then Open else Closed) → is_open m a g ≡ b
 runs_as m a word g true v w l e =
     let used = (v.gates g l).used in
     open_runs m.zones (length m.gates) (state_of m.gates word) g m.orders a.mw used.0 used.1 v.orders w.orders used.2 used.3 used.4 e
@@ -126,17 +132,22 @@ keeps_as m opens other same k = record {
   groups = λ g h j e f p q. k.groups g h j (sym (same g) ∙ e) (sym (same h) ∙ f) p q;
 }
 
-same_span : (n : ℕ) (s t : ℕ → GateState) (gate : Option ℕ) (o : Order) → MatchOption gate (o.least ≡ 0) (λ h. (h < n) × (1 ≤ o.least)) → ((g : ℕ) → g < n → s g ≡ t g) → span_of s gate o ≡ span_of t gate o
+same_span : (n : ℕ) (s t : ℕ → GateState) (gate : Option ℕ) (o : Order)
+    → MatchOption gate (o.least ≡ 0) (λ h. (h < n) × (1 ≤ o.least)) → ((g : ℕ) → g < n → s g ≡ t g)
+    → span_of s gate o ≡ span_of t gate o
 same_span n s t None o v h = refl
 same_span n s t (Some g) o v h = ap (λ (x : GateState). gated_span x o) (h g v.0)
 
 -- the word's bounds of an order of the market are the activation's own
-own_span : (m : Market) (a : Activation) (word : List Bool) (o : Order) → IsValid m → length word ≡ length m.gates → IsWithinBounds (bounds_of_word m word) m a → IsValidOrder m.zones (length m.gates) o → bounds_of_word m word o ≡ own_bounds m a o
+own_span : (m : Market) (a : Activation) (word : List Bool) (o : Order) → IsValid m → length word ≡ length m.gates
+    → IsWithinBounds (bounds_of_word m word) m a → IsValidOrder m.zones (length m.gates) o
+    → bounds_of_word m word o ≡ own_bounds m a o
 own_span m a word o v full w valid = same_span (length m.gates) (state_of m.gates word) (λ g. if is_open m a g then Open else Closed) o.gate o valid.gate
     (λ g l. state_as m word g full l ∙ ap (λ (b : Bool). if b then Open else Closed) (sym (opens_as_word m a word v full w g)))
 
 -- it is feasible
-pub decided_feasible : (m : Market) (a : Activation) (word : List Bool) → IsValid m → IsFeasibleWord m.gates word → length word ≡ length m.gates → IsWithinBounds (bounds_of_word m word) m a → IsFeasible m a
+pub decided_feasible : (m : Market) (a : Activation) (word : List Bool) → IsValid m → IsFeasibleWord m.gates word
+    → length word ≡ length m.gates → IsWithinBounds (bounds_of_word m word) m a → IsFeasible m a
 decided_feasible m a word v feasible full w = record {
   orders = AllZip-both (λ o q. IsValidOrder m.zones (length m.gates) o × IsWithin (bounds_of_word m word o) q) (λ o q. IsValidOrder m.zones (length m.gates) o × IsWithin (bounds_of_word m word o) q) (λ o q. IsWithin (own_bounds m a o) q)
       (λ o q h _. subst (λ (s : Span). IsWithin s q) (own_span m a word o v full w h.0) h.1) m.orders a.mw (AllZip-with _ _ m.orders a.mw v.orders w.orders) (AllZip-with _ _ m.orders a.mw v.orders w.orders);
@@ -146,7 +157,9 @@ decided_feasible m a word v feasible full w = record {
 }
 
 -- and potentials that are tight within the word's bounds are so within its own
-pub decided_tight : (m : Market) (a : Activation) (word : List Bool) (ps : List Cents) → IsValid m → length word ≡ length m.gates → IsWithinBounds (bounds_of_word m word) m a → IsTight (bounds_of_word m word) m a ps → IsTight (own_bounds m a) m a ps
+pub decided_tight : (m : Market) (a : Activation) (word : List Bool) (ps : List Cents) → IsValid m
+    → length word ≡ length m.gates → IsWithinBounds (bounds_of_word m word) m a
+    → IsTight (bounds_of_word m word) m a ps → IsTight (own_bounds m a) m a ps
 decided_tight m a word ps v full w tight = record {
   orders = AllZip-both (λ o q. IsValidOrder m.zones (length m.gates) o × IsTightOrder (bounds_of_word m word) ps o q) (λ o q. IsValidOrder m.zones (length m.gates) o × IsTightOrder (bounds_of_word m word) ps o q) (IsTightOrder (own_bounds m a) ps)
       (λ o q h _. subst (λ (s : Span). IsTightTrade o.side o.price.0 (price_at ps o.zone) s q) (own_span m a word o v full w h.0) h.1) m.orders a.mw (AllZip-with _ _ m.orders a.mw v.orders tight.orders) (AllZip-with _ _ m.orders a.mw v.orders tight.orders);

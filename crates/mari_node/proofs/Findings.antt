@@ -61,7 +61,9 @@ last_best m word s v n adm = let h = n.optimum in record {
 }
 
 -- and where no prices are consistent with it, a chain is a conflict
-holds : (m : Market) (word : List Bool) (s : Solved) (chain : List ℕ) → IsValid m → IsLastNode m word s → IsContradictoryChain m s.activation chain → IsConflict m word (record { chain = chain; potentials = s.potentials; activation = s.activation })
+holds : (m : Market) (word : List Bool) (s : Solved) (chain : List ℕ) → IsValid m → IsLastNode m word s
+    → IsContradictoryChain m s.activation chain
+    → IsConflict m word (record { chain = chain; potentials = s.potentials; activation = s.activation })
 holds m word s chain v n bad = let h = n.optimum in record {
   gates = has_word m s.activation word v n.full h.within;
   feasible = last_feasible m word s v n;
@@ -70,7 +72,8 @@ holds m word s chain v n bad = let h = n.optimum in record {
   chain = bad;
 }
 
-pub last_conflict : (m : Market) (word : List Bool) (s : Solved) (chain : List ℕ) → IsValid m → IsLastNode m word s → IsContradictoryChain m s.activation chain → IsRelaxedFinding m word (conflict_found s chain)
+pub last_conflict : (m : Market) (word : List Bool) (s : Solved) (chain : List ℕ) → IsValid m → IsLastNode m word s
+    → IsContradictoryChain m s.activation chain → IsRelaxedFinding m word (conflict_found s chain)
 last_conflict m word s chain v n bad = let h = n.optimum in record {
   prices = h.potentials;
   value = value_reported m word s h;
@@ -115,7 +118,8 @@ contradicts m a zs bad adm =
     chain_refutes m a adm.consistent.0 zs (price_in_cap m adm.consistent.0 h.prices) h.orders h.borders bad.chain
 
 -- there is a chain, or the activation is admissible
-pub admissible_by : (m : Market) (a : Activation) (chain : Option (List ℕ)) (b : Bool) → is_some chain ≡ not b → MatchOption chain (IsAdmissible m a) (IsContradictoryChain m a) → IsTrue b ↔ IsAdmissible m a
+pub admissible_by : (m : Market) (a : Activation) (chain : Option (List ℕ)) (b : Bool) → is_some chain ≡ not b
+    → MatchOption chain (IsAdmissible m a) (IsContradictoryChain m a) → IsTrue b ↔ IsAdmissible m a
 admissible_by m a None true e h = (λ _. h, λ _. refl)
 admissible_by m a None false e h = absurd (cc)
 admissible_by m a (Some zs) true e h = absurd (cc)
@@ -123,14 +127,17 @@ admissible_by m a (Some zs) false e h = (λ t. absurd (cc), λ adm. absurd (cont
 
 -- ---- the word of a prefix
 
-pub last_at : (m : Market) (x : Prefix) (s : Solved) (gates : List GateInfo) → gates ≡ m.gates → x.length ≡ length gates → IsFeasiblePrefix m x → IsRelaxedOptimum m (word_of x) s → IsLastNode m (word_of x) s
+pub last_at : (m : Market) (x : Prefix) (s : Solved) (gates : List GateInfo) → gates ≡ m.gates
+    → x.length ≡ length gates → IsFeasiblePrefix m x → IsRelaxedOptimum m (word_of x) s → IsLastNode m (word_of x) s
 last_at m x s gates e l p h = record {
   optimum = h;
   feasible = p.word;
   full = length-map-range_with_len (bit_of x) 0 x.length ∙ l ∙ ap length e;
 }
 
-pub inner_at : (m : Market) (x : Prefix) (s : Solved) (gates : List GateInfo) → gates ≡ m.gates → (x.length ≡ length gates → ⊥) → IsFeasiblePrefix m x → IsRelaxedOptimum m (word_of x) s → IsInnerNode m (word_of x) s
+pub inner_at : (m : Market) (x : Prefix) (s : Solved) (gates : List GateInfo) → gates ≡ m.gates
+    → (x.length ≡ length gates → ⊥) → IsFeasiblePrefix m x → IsRelaxedOptimum m (word_of x) s
+    → IsInnerNode m (word_of x) s
 inner_at m x s gates e n p h =
     let long = length-map-range_with_len (bit_of x) 0 x.length in
     let same : length gates ≡ length m.gates = ap length e in

@@ -50,7 +50,9 @@ bounded m word a w = record { orders = all_at_most _ m.orders a.mw w.orders; bor
 abbrev own : (ℕ → Bool) → ℕ → GateState
 own opens g = if opens g then Open else Closed
 
-never_partial : (n : ℕ) (opens : ℕ → Bool) (gate : Option ℕ) (o : Order) (q : ℕ) → MatchOption gate (o.least ≡ 0) (λ g. (g < n) × (1 ≤ o.least)) → IsWithin (span_of (own opens) gate o) q → IsPartial o q → ⊥
+never_partial : (n : ℕ) (opens : ℕ → Bool) (gate : Option ℕ) (o : Order) (q : ℕ)
+    → MatchOption gate (o.least ≡ 0) (λ g. (g < n) × (1 ≤ o.least)) → IsWithin (span_of (own opens) gate o) q
+    → IsPartial o q → ⊥
 never_partial n opens None o q v w p = let s = p.short in omega (arith, v)
 never_partial n opens (Some g) o q v w p = by_state (opens g) w
   where
@@ -61,7 +63,9 @@ never_partial n opens (Some g) o q v w p = by_state (opens g) w
 pub none_partial : (m : Market) (a : Activation) → IsValid m → AnyZip IsPartial m.orders a.mw → IsFeasible m a → ⊥
 none_partial m a v bad f = AnyZip-meets (λ o q. IsValidOrder m.zones (length m.gates) o × IsWithin (own_bounds m a o) q) IsPartial ⊥ (λ o q h p. never_partial (length m.gates) (is_open m a) o.gate o q h.0.gate h.1 p) m.orders a.mw (AllZip-with _ _ m.orders a.mw v.orders f.orders) bad
 
-runs_open : (n : ℕ) (opens : ℕ → Bool) (gate : Option ℕ) (o : Order) (q g : ℕ) → MatchOption gate (o.least ≡ 0) (λ g. (g < n) × (1 ≤ o.least)) → IsWithin (span_of (own opens) gate o) q → gate ≡ Some g → opens g ≡ true → 0 < q
+runs_open : (n : ℕ) (opens : ℕ → Bool) (gate : Option ℕ) (o : Order) (q g : ℕ)
+    → MatchOption gate (o.least ≡ 0) (λ g. (g < n) × (1 ≤ o.least)) → IsWithin (span_of (own opens) gate o) q
+    → gate ≡ Some g → opens g ≡ true → 0 < q
 runs_open n opens None o q g v w e t = absurd (cc)
 runs_open n opens (Some h) o q g v w e t = by_state (opens h) (ap opens same ∙ t) w
   where
@@ -122,7 +126,8 @@ within_own opens o q h = by_gate o.gate refl
 both : {P Q : Order → ℕ → Type 0} (R : Order → ℕ → Type 0) → ((o : Order) (q : ℕ) → P o q → Q o q → R o q) → (os : List Order) (qs : List ℕ) → AllZip P os qs → AllZip Q os qs → AllZip R os qs
 both {P} {Q} R f os qs a b = AllZip-both P Q R f os qs a b
 
-pub feasible_by : (m : Market) (a : Activation) → IsBounded m a → AllZip IsNotPartial m.orders a.mw → AllZip (RunsWhereOpen (is_open m a)) m.orders a.mw → KeepsGateRules m.gates (is_open m a) → IsFeasible m a
+pub feasible_by : (m : Market) (a : Activation) → IsBounded m a → AllZip IsNotPartial m.orders a.mw
+    → AllZip (RunsWhereOpen (is_open m a)) m.orders a.mw → KeepsGateRules m.gates (is_open m a) → IsFeasible m a
 feasible_by m a b whole runs rules =
     let rests : AllZip (Rests (is_open m a)) m.orders a.mw = all_rest (is_open m a) IsNotPartial m.orders a.mw whole (λ g t. t) in
     let first : AllZip (λ o q. (q ≤ o.greatest) × IsNotPartial o q) m.orders a.mw = both (λ o q. (q ≤ o.greatest) × IsNotPartial o q) (λ o q x y. (x, y)) m.orders a.mw b.orders whole in
@@ -160,7 +165,9 @@ pub decided_length : (x : Prefix) → length (word_of x) ≡ x.length
 decided_length x = length-map-range_with_len (bit_of x) 0 x.length
 
 -- where a gate that runs may not be open after those before it, the rules are broken
-pub no_more : (m : Market) (x : Prefix) (opens : ℕ → Bool) (may : Bool) → IsValid m → Begins (word_of x) opens → x.length < length m.gates → opens x.length ≡ true → (IsTrue may ↔ IsFeasibleWord m.gates (word_of x ++ true ∷ [])) → may ≡ false → KeepsGateRules m.gates opens → ⊥
+pub no_more : (m : Market) (x : Prefix) (opens : ℕ → Bool) (may : Bool) → IsValid m → Begins (word_of x) opens
+    → x.length < length m.gates → opens x.length ≡ true
+    → (IsTrue may ↔ IsFeasibleWord m.gates (word_of x ++ true ∷ [])) → may ≡ false → KeepsGateRules m.gates opens → ⊥
 no_more m x opens may v begun l t is shut keeps =
     let long = decided_length x in
     let at : opens (0 + length (word_of x)) ≡ true = ap opens (omega arith) ∙ t in

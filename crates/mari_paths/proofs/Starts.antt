@@ -58,7 +58,9 @@ stand_ins_push z (x ∷ xs) d =
     ap (λ (ss : List Slot). stand_in_of z x ∷ ss) (stand_ins_push (z + 1) xs d ∙ ap (λ (k : ℕ). stand_ins (z + 1) xs ++ stand_in_of k d ∷ []) e)
 
 -- with what stands in, all is in balance
-pub starts_running : (n : ℕ) (slots : List Slot) (bs : List Border) (xs fs short : List ℤ) → AllZip IsWithinSlot slots xs → AllZip IsWithinLimits bs fs → AreShort n slots bs xs fs short → IsRunning n (slots ++ stand_ins 0 short) bs (xs ++ short) fs
+pub starts_running : (n : ℕ) (slots : List Slot) (bs : List Border) (xs fs short : List ℤ)
+    → AllZip IsWithinSlot slots xs → AllZip IsWithinLimits bs fs → AreShort n slots bs xs fs short
+    → IsRunning n (slots ++ stand_ins 0 short) bs (xs ++ short) fs
 starts_running n slots bs xs fs short a b s =
     let all : AllZip IsWithinSlot (slots ++ stand_ins 0 short) (xs ++ short) = zip_append IsWithinSlot slots (stand_ins 0 short) xs short a (stand_ins_within 0 short) in
     record {

@@ -31,7 +31,9 @@ use Rattle.mari_pool.proofs.Turns.{turns_branch, turns_close, turns_full, turns_
 use Rattle.mari_pool.proofs.Rooms.{IsPaid, entry_paid, settling_paid, unreturned_all, owed_more}
 
 -- the journal has room for an entry that is paid
-pub has_room : (m : Market) (budget workers : ℕ) (incumbent : IncumbentId) (p : Pooled) (e : Entry) (after : ℕ) → IsPool m budget workers incumbent p → IsAllowed p.tree e → IsPaid p.tree e (unreturned p.returned) after → length p.journal < p.room
+pub has_room : (m : Market) (budget workers : ℕ) (incumbent : IncumbentId) (p : Pooled) (e : Entry) (after : ℕ)
+    → IsPool m budget workers incumbent p → IsAllowed p.tree e → IsPaid p.tree e (unreturned p.returned) after
+    → length p.journal < p.room
 has_room m budget workers incumbent p e after h may paid = omega (arith, entry_paid p.tree e (unreturned p.returned) after h.grows.within_budget may paid, h.room_is)
 
 -- a pool of these parts
@@ -39,7 +41,12 @@ abbrev pub pool_of : Grown → List ℕ → List JournalEntry → ℕ → List �
 pool_of tree keys journal room turns returned seat = record { tree = tree; keys = keys; journal = journal; room = room; turns = turns; returned = returned; seat = seat }
 
 -- an entry for which there is room keeps what holds
-pub entry_keeps_by : (m : Market) (budget workers : ℕ) (incumbent : IncumbentId) (p : Pooled) (e : Entry) (keys turns : List ℕ) (returned : List Bool) → IsPool m budget workers incumbent p → IsAllowed p.tree e → length p.journal + 1 + owed (grown p.tree e) returned ≤ p.room → IsEntryCutAt p.seat.seen e → length keys ≡ length (grown p.tree e).nodes → length turns ≡ length p.turns → length returned ≡ length p.returned → AreTurns (grown p.tree e).nodes turns (p.journal ++ in_journal e ∷ []) → IsPool m budget workers incumbent (pool_of (grown p.tree e) keys (p.journal ++ in_journal e ∷ []) p.room turns returned p.seat)
+pub entry_keeps_by : (m : Market) (budget workers : ℕ) (incumbent : IncumbentId) (p : Pooled) (e : Entry) (keys turns : List ℕ) (returned : List Bool)
+    → IsPool m budget workers incumbent p → IsAllowed p.tree e
+    → length p.journal + 1 + owed (grown p.tree e) returned ≤ p.room → IsEntryCutAt p.seat.seen e
+    → length keys ≡ length (grown p.tree e).nodes → length turns ≡ length p.turns
+    → length returned ≡ length p.returned → AreTurns (grown p.tree e).nodes turns (p.journal ++ in_journal e ∷ [])
+    → IsPool m budget workers incumbent (pool_of (grown p.tree e) keys (p.journal ++ in_journal e ∷ []) p.room turns returned p.seat)
 entry_keeps_by m budget workers incumbent p e keys turns returned h may room cut ks t r report = record {
   market_is = grown_market p.tree e ∙ h.market_is;
   budget_is = grown_budget p.tree e ∙ h.budget_is;
@@ -55,7 +62,12 @@ entry_keeps_by m budget workers incumbent p e keys turns returned h may room cut
 }
 
 -- a paid entry keeps what holds
-pub entry_keeps : (m : Market) (budget workers : ℕ) (incumbent : IncumbentId) (p : Pooled) (e : Entry) (keys turns : List ℕ) (returned : List Bool) → IsPool m budget workers incumbent p → IsAllowed p.tree e → IsPaid p.tree e (unreturned p.returned) (unreturned returned) → IsEntryCutAt p.seat.seen e → length keys ≡ length (grown p.tree e).nodes → length turns ≡ length p.turns → length returned ≡ length p.returned → AreTurns (grown p.tree e).nodes turns (p.journal ++ in_journal e ∷ []) → IsPool m budget workers incumbent (pool_of (grown p.tree e) keys (p.journal ++ in_journal e ∷ []) p.room turns returned p.seat)
+pub entry_keeps : (m : Market) (budget workers : ℕ) (incumbent : IncumbentId) (p : Pooled) (e : Entry) (keys turns : List ℕ) (returned : List Bool)
+    → IsPool m budget workers incumbent p → IsAllowed p.tree e
+    → IsPaid p.tree e (unreturned p.returned) (unreturned returned) → IsEntryCutAt p.seat.seen e
+    → length keys ≡ length (grown p.tree e).nodes → length turns ≡ length p.turns
+    → length returned ≡ length p.returned → AreTurns (grown p.tree e).nodes turns (p.journal ++ in_journal e ∷ [])
+    → IsPool m budget workers incumbent (pool_of (grown p.tree e) keys (p.journal ++ in_journal e ∷ []) p.room turns returned p.seat)
 entry_keeps m budget workers incumbent p e keys turns returned h may paid cut ks t r report =
     entry_keeps_by m budget workers incumbent p e keys turns returned h may (omega (arith, entry_paid p.tree e (unreturned p.returned) (unreturned returned) h.grows.within_budget may paid, h.room_is)) cut ks t r report
 
@@ -79,7 +91,9 @@ meeting_keeps m budget workers incumbent p seen h = record {
   returned_are = h.returned_are;
 }
 
-pub may_settle_node : (m : Market) (seen : ℕ) (f : Finding) (word : List Bool) (nodes : List TreeNode) (x : ℕ) → slice_get (words_of nodes) x ≡ Some word → MaySettle m seen f (new_node word) → IfSome (slice_get nodes x) (MaySettle m seen f)
+pub may_settle_node : (m : Market) (seen : ℕ) (f : Finding) (word : List Bool) (nodes : List TreeNode) (x : ℕ)
+    → slice_get (words_of nodes) x ≡ Some word → MaySettle m seen f (new_node word)
+    → IfSome (slice_get nodes x) (MaySettle m seen f)
 may_settle_node m seen f word [] x e may = absurd (cc)
 may_settle_node m seen f word (n ∷ ns) zero e may =
     let same : n.word ≡ word = cc in
@@ -91,16 +105,24 @@ pub seat_cutoff : (m : Market) (budget workers : ℕ) (incumbent : IncumbentId) 
 seat_cutoff m budget workers incumbent p seen h l = subst (λ (n : Market). IsCutoff n seen) (sym h.market_is) record { closed = pos incumbent.first; is_closed = h.closed; above = omega (arith, ints, l) }
 
 -- to settle a taken node is allowed
-pub may_settle : (m : Market) (budget workers : ℕ) (incumbent : IncumbentId) (p : Pooled) (k x seen : ℕ) (f : Finding) (gates : List Bool) → IsPool m budget workers incumbent p → incumbent.first ≤ seen → state_at p.tree.nodes x ≡ Some (Taken k) → slice_get (words_of p.tree.nodes) x ≡ Some gates → MaySettle m seen f (new_node gates) → IsAllowed p.tree (settling p.tree k x seen f)
+pub may_settle : (m : Market) (budget workers : ℕ) (incumbent : IncumbentId) (p : Pooled) (k x seen : ℕ) (f : Finding) (gates : List Bool)
+    → IsPool m budget workers incumbent p → incumbent.first ≤ seen → state_at p.tree.nodes x ≡ Some (Taken k)
+    → slice_get (words_of p.tree.nodes) x ≡ Some gates → MaySettle m seen f (new_node gates)
+    → IsAllowed p.tree (settling p.tree k x seen f)
 may_settle m budget workers incumbent p k x seen f gates h l taken at may =
     settle_allowed p.tree k x seen f h.grows (seat_cutoff m budget workers incumbent p seen h l)
     (may_settle_node p.tree.market seen f gates p.tree.nodes x at (subst (λ (n : Market). MaySettle n seen f (new_node gates)) (sym h.market_is) may)) taken
 
 -- a pool of the same parts
-pub pool_same : (m : Market) (budget workers : ℕ) (incumbent : IncumbentId) (t t' : Grown) (ks ks' : List ℕ) (j j' : List JournalEntry) (r r' : ℕ) (turns : List ℕ) (returned : List Bool) (s s' : SeatView) → t' ≡ t → ks' ≡ ks → j' ≡ j → r' ≡ r → s' ≡ s → IsPool m budget workers incumbent (pool_of t ks j r turns returned s) → IsPool m budget workers incumbent (pool_of t' ks' j' r' turns returned s')
+pub pool_same : (m : Market) (budget workers : ℕ) (incumbent : IncumbentId) (t t' : Grown) (ks ks' : List ℕ) (j j' : List JournalEntry) (r r' : ℕ) (turns : List ℕ) (returned : List Bool) (s s' : SeatView)
+    → t' ≡ t → ks' ≡ ks → j' ≡ j → r' ≡ r → s' ≡ s
+    → IsPool m budget workers incumbent (pool_of t ks j r turns returned s)
+    → IsPool m budget workers incumbent (pool_of t' ks' j' r' turns returned s')
 pool_same m budget workers incumbent t t' ks ks' j j' r r' turns returned s s' et ek ej er es h = rw (et, ek, ej, er, es) h
 
-pub pool_parts : (t t' : Grown) (ks ks' : List ℕ) (j j' : List JournalEntry) (r r' : ℕ) (turns : List ℕ) (returned : List Bool) (s s' : SeatView) → t' ≡ t → ks' ≡ ks → j' ≡ j → r' ≡ r → s' ≡ s → pool_of t' ks' j' r' turns returned s' ≡ pool_of t ks j r turns returned s
+pub pool_parts : (t t' : Grown) (ks ks' : List ℕ) (j j' : List JournalEntry) (r r' : ℕ) (turns : List ℕ) (returned : List Bool) (s s' : SeatView)
+    → t' ≡ t → ks' ≡ ks → j' ≡ j → r' ≡ r → s' ≡ s
+    → pool_of t' ks' j' r' turns returned s' ≡ pool_of t ks j r turns returned s
 pool_parts t t' ks ks' j j' r r' turns returned s s' et ek ej er es = rw (et, ek, ej, er, es) refl
 
 -- no entry makes nodes fewer
@@ -118,7 +140,9 @@ keys_enough g e keys key h =
     omega (arith, length-append keys (replicate more key), length-replicate more key, grown_longer g e, h)
 
 -- a node that is settled leaves the turns of all others
-settling_turns : (g : Grown) (k x cutoff : ℕ) (turns : List ℕ) (entries : List JournalEntry) (o : Option Leaf) → AreTurns g.nodes turns entries → AreTurns (grown g (settling_by g k x cutoff o)).nodes turns (entries ++ in_journal (settling_by g k x cutoff o) ∷ [])
+settling_turns : (g : Grown) (k x cutoff : ℕ) (turns : List ℕ) (entries : List JournalEntry) (o : Option Leaf)
+    → AreTurns g.nodes turns entries
+    → AreTurns (grown g (settling_by g k x cutoff o)).nodes turns (entries ++ in_journal (settling_by g k x cutoff o) ∷ [])
 settling_turns g k x cutoff turns entries (Some leaf) h = turns_close g k x cutoff leaf turns entries h
 settling_turns g k x cutoff turns entries None h = by_fit (nat_le (length g.nodes + length (children_at g x)) g.budget)
   where
@@ -127,7 +151,9 @@ settling_turns g k x cutoff turns entries None h = by_fit (nat_le (length g.node
     by_fit false = turns_full g k x cutoff turns entries h
 
 -- the seats meet, and a taken node is settled
-pub settle_keeps : (m : Market) (budget workers : ℕ) (incumbent : IncumbentId) (p : Pooled) (k x seen : ℕ) (f : Finding) → IsPool m budget workers incumbent p → IsAllowed p.tree (settling p.tree k x seen f) → IsPool m budget workers incumbent (settled_with p k x seen f)
+pub settle_keeps : (m : Market) (budget workers : ℕ) (incumbent : IncumbentId) (p : Pooled) (k x seen : ℕ) (f : Finding)
+    → IsPool m budget workers incumbent p → IsAllowed p.tree (settling p.tree k x seen f)
+    → IsPool m budget workers incumbent (settled_with p k x seen f)
 settle_keeps m budget workers incumbent p k x seen f h may =
     let e = settling p.tree k x seen f in
     entry_keeps m budget workers incumbent (meeting p seen) e (keys_after p.tree e p.keys (child_key f)) p.turns p.returned (meeting_keeps m budget workers incumbent p seen h) may (settling_paid p.tree k x seen (unreturned p.returned) (closing_leaf seen f)) (settling_cut p.tree k x seen (max p.seat.seen seen) f (omega arith)) (keys_enough p.tree e p.keys (child_key f) h.keys_are) refl refl (settling_turns p.tree k x seen p.turns p.journal (closing_leaf seen f) h.turns_report)
@@ -157,7 +183,11 @@ answer_full g (GiveBack k x) a b c e = absurd (cc)
 
 -- ---- the start
 
-pub start_keeps : (m n : Market) (b budget w workers : ℕ) (incumbent : IncumbentId) (t : Grown) (ks : List ℕ) (j : List JournalEntry) (room : ℕ) (turns : List ℕ) (returned : List Bool) (seat : SeatView) → m ≡ n → b ≡ budget → w ≡ workers → IsValid m → IsBudget b → IsFresh incumbent seat → IsClosedWelfare m (pos incumbent.first) → t ≡ seed m b → ks ≡ first_key ∷ [] → j ≡ [] → 2 * b + 2 * w + 2 ≤ room → turns ≡ replicate b 0 → returned ≡ replicate (w + 1) false → IsPool n budget workers incumbent (pool_of t ks j room turns returned seat)
+pub start_keeps : (m n : Market) (b budget w workers : ℕ) (incumbent : IncumbentId) (t : Grown) (ks : List ℕ) (j : List JournalEntry) (room : ℕ) (turns : List ℕ) (returned : List Bool) (seat : SeatView)
+    → m ≡ n → b ≡ budget → w ≡ workers → IsValid m → IsBudget b → IsFresh incumbent seat
+    → IsClosedWelfare m (pos incumbent.first) → t ≡ seed m b → ks ≡ first_key ∷ [] → j ≡ [] → 2 * b + 2 * w + 2 ≤ room
+    → turns ≡ replicate b 0 → returned ≡ replicate (w + 1) false
+    → IsPool n budget workers incumbent (pool_of t ks j room turns returned seat)
 start_keeps m n b budget w workers incumbent t ks j room turns returned seat em eb ew valid few fresh closed et ek ej er eturns ereturned =
     subst (λ (k : Market). IsPool k budget workers incumbent (pool_of t ks j room turns returned seat)) em (rw (et, ek, ej, eturns, ereturned) (record {
       market_is = refl;

@@ -35,7 +35,8 @@ ahead_of keys v w hv hw h =
     }
 
 -- the one that leaves was ahead of each
-pub first_ahead : (keys : List ℕ) (xs ys : List Waiting) (w : Waiting) → All (IsKeyed keys) xs → IsPermutation xs (w ∷ ys) → IsUpperBound by_key w xs → All (IsAhead keys (number_in w)) (map number_in xs)
+pub first_ahead : (keys : List ℕ) (xs ys : List Waiting) (w : Waiting) → All (IsKeyed keys) xs
+    → IsPermutation xs (w ∷ ys) → IsUpperBound by_key w xs → All (IsAhead keys (number_in w)) (map number_in xs)
 first_ahead keys xs ys w keyed leaves most =
     let own : IsKeyed keys w = All-head (IsKeyed keys) w ys (All-permutation (IsKeyed keys) xs (w ∷ ys) leaves keyed) in
     let below : All (λ (v : Waiting). is_lt (by_key w v) ≡ false) xs = All-from_recursion (λ (v : Waiting). is_lt (by_key w v) ≡ false) xs most in

@@ -279,7 +279,9 @@ queue_more nodes words q r key h f = record {
 -- ---- entries
 
 -- a taken node has its key, and there is room for it
-pub back_room : (nodes : List TreeNode) (q : Queued) (x k room : ℕ) → IsQueueOf nodes q → state_at nodes x ≡ Some (Taken k) → length nodes ≤ room → q.room ≡ room → (x < length q.keys) × (length q.waiting < q.room)
+pub back_room : (nodes : List TreeNode) (q : Queued) (x k room : ℕ) → IsQueueOf nodes q
+    → state_at nodes x ≡ Some (Taken k) → length nodes ≤ room → q.room ≡ room
+    → (x < length q.keys) × (length q.waiting < q.room)
 back_room nodes q x k room h taken l e = (
   omega (arith, within_nodes nodes x (Taken k) taken, h.keys),
   omega (arith, untaken_few nodes, h.many, taken_state Untaken (Taken k) nodes x taken, l, e),
@@ -319,7 +321,8 @@ branch_done first [] = refl
 branch_done first (c ∷ []) = refl
 branch_done first (c ∷ o ∷ rest) = refl
 
-pub follows_kept : (g : Grown) (e : Entry) (key : ℕ) (q r : Queued) → comes e ≡ 0 → IsQueueOf g.nodes q → IsAllowed g e → Follows key (length (grown g e).nodes) q r (in_journal e) → IsFollowed g e key q r
+pub follows_kept : (g : Grown) (e : Entry) (key : ℕ) (q r : Queued) → comes e ≡ 0 → IsQueueOf g.nodes q
+    → IsAllowed g e → Follows key (length (grown g e).nodes) q r (in_journal e) → IsFollowed g e key q r
 follows_kept g (Take k x) key q r c h may f = absurd (omega (arith, c))
 follows_kept g (Close k x leaf cutoff) key q r c h may f = record {
   queue = subst (IsQueueOf (with_state (Closed leaf cutoff) g.nodes x)) (sym f) (queue_done g.nodes q (Closed leaf cutoff) x k h may.taken refl);

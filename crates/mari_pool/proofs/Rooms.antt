@@ -13,7 +13,8 @@ use Rattle.mari_pool.specs.Pooled.{owed_in, owed_among, unreturned, taken_in, ta
 
 -- ---- one node in another state
 
-pub owed_state : (full : Bool) (s t : NodeState) (nodes : List TreeNode) (x : ℕ) → state_at nodes x ≡ Some t → owed_among full (with_state s nodes x) + owed_in full t ≡ owed_among full nodes + owed_in full s
+pub owed_state : (full : Bool) (s t : NodeState) (nodes : List TreeNode) (x : ℕ) → state_at nodes x ≡ Some t
+    → owed_among full (with_state s nodes x) + owed_in full t ≡ owed_among full nodes + owed_in full s
 owed_state full s t [] x e = absurd (cc)
 owed_state full s t (n ∷ ns) zero e = let same : n.state ≡ t = cc in omega (arith, ap (owed_in full) same)
 owed_state full s t (n ∷ ns) (suc x) e = omega (arith, owed_state full s t ns x e)

@@ -45,7 +45,9 @@ set_other (x ∷ xs) (suc i) zero n un = refl
 set_other (x ∷ xs) (suc i) (suc j) n un = set_other xs i j n (λ e. un (ap suc e))
 
 -- an entry that doesn't take the node leaves its turn
-last_kept : (entries : List JournalEntry) (e : JournalEntry) (node worker turn : ℕ) → ((k : ℕ) → e ≡ journal.Take k node → ⊥) → IsLastTake entries node worker turn → IsLastTake (entries ++ e ∷ []) node worker turn
+last_kept : (entries : List JournalEntry) (e : JournalEntry) (node worker turn : ℕ)
+    → ((k : ℕ) → e ≡ journal.Take k node → ⊥) → IsLastTake entries node worker turn
+    → IsLastTake (entries ++ e ∷ []) node worker turn
 last_kept entries e node worker turn other h = record {
   taken = get_snoc entries e (journal.Take worker node) turn h.taken;
   last = λ t k later at. elim (snoc_get entries e (journal.Take k node) t at) [
@@ -101,28 +103,40 @@ taken_or_other k (n ∷ ns) (suc x) (suc y) j h = elim (taken_or_other k ns x y 
 -- ---- the turns
 
 -- an entry that takes nothing keeps them
-turns_after : (nodes news : List TreeNode) (turns : List ℕ) (entries : List JournalEntry) (e : JournalEntry) → ((node k : ℕ) → e ≡ journal.Take k node → ⊥) → ((y k : ℕ) → state_at news y ≡ Some (Taken k) → state_at nodes y ≡ Some (Taken k)) → AreTurns nodes turns entries → AreTurns news turns (entries ++ e ∷ [])
+turns_after : (nodes news : List TreeNode) (turns : List ℕ) (entries : List JournalEntry) (e : JournalEntry)
+    → ((node k : ℕ) → e ≡ journal.Take k node → ⊥)
+    → ((y k : ℕ) → state_at news y ≡ Some (Taken k) → state_at nodes y ≡ Some (Taken k))
+    → AreTurns nodes turns entries → AreTurns news turns (entries ++ e ∷ [])
 turns_after nodes news turns entries e other before h y k taken =
     let was : HasTurn turns entries y k = h y k (before y k taken) in
     record { turn = was.turn; turn_is = was.turn_is; last_take = last_kept entries e y k was.turn (λ j. other y j) was.last_take }
 
-pub turns_close : (g : Grown) (k x cutoff : ℕ) (leaf : Rattle.mari_market.specs.declared.certificate.Leaf.Leaf) (turns : List ℕ) (entries : List JournalEntry) → AreTurns g.nodes turns entries → AreTurns (grown g (Close k x leaf cutoff)).nodes turns (entries ++ in_journal (Close k x leaf cutoff) ∷ [])
+pub turns_close : (g : Grown) (k x cutoff : ℕ) (leaf : Rattle.mari_market.specs.declared.certificate.Leaf.Leaf) (turns : List ℕ) (entries : List JournalEntry)
+    → AreTurns g.nodes turns entries
+    → AreTurns (grown g (Close k x leaf cutoff)).nodes turns (entries ++ in_journal (Close k x leaf cutoff) ∷ [])
 turns_close g k x cutoff leaf turns entries h = turns_after g.nodes (with_state (Closed leaf cutoff) g.nodes x) turns entries (in_journal (Close k x leaf cutoff)) (λ node j e. absurd (cc)) (λ y j t. taken_before (Closed leaf cutoff) g.nodes x y j (λ i e. absurd (cc)) t) h
 
-pub turns_branch : (g : Grown) (k x cutoff : ℕ) (turns : List ℕ) (entries : List JournalEntry) → AreTurns g.nodes turns entries → AreTurns (grown g (Branch k x cutoff)).nodes turns (entries ++ in_journal (Branch k x cutoff) ∷ [])
+pub turns_branch : (g : Grown) (k x cutoff : ℕ) (turns : List ℕ) (entries : List JournalEntry)
+    → AreTurns g.nodes turns entries
+    → AreTurns (grown g (Branch k x cutoff)).nodes turns (entries ++ in_journal (Branch k x cutoff) ∷ [])
 turns_branch g k x cutoff turns entries h =
     let s : NodeState = branch_of (length g.nodes) (children_at g x) in
     turns_after g.nodes (with_state s g.nodes x ++ map new_node (children_at g x)) turns entries (in_journal (Branch k x cutoff)) (λ node j e. absurd (cc))
     (λ y j t. taken_before s g.nodes x y j (branch_not_taken (length g.nodes) (children_at g x)) (taken_front (with_state s g.nodes x) (children_at g x) y j t)) h
 
-pub turns_full : (g : Grown) (k x cutoff : ℕ) (turns : List ℕ) (entries : List JournalEntry) → AreTurns g.nodes turns entries → AreTurns (grown g (Full k x cutoff)).nodes turns (entries ++ in_journal (Full k x cutoff) ∷ [])
+pub turns_full : (g : Grown) (k x cutoff : ℕ) (turns : List ℕ) (entries : List JournalEntry)
+    → AreTurns g.nodes turns entries
+    → AreTurns (grown g (Full k x cutoff)).nodes turns (entries ++ in_journal (Full k x cutoff) ∷ [])
 turns_full g k x cutoff turns entries h = turns_after g.nodes (with_state Untaken g.nodes x) turns entries (in_journal (Full k x cutoff)) (λ node j e. absurd (cc)) (λ y j t. taken_before Untaken g.nodes x y j (λ i e. absurd (cc)) t) h
 
-pub turns_back : (g : Grown) (k x : ℕ) (turns : List ℕ) (entries : List JournalEntry) → AreTurns g.nodes turns entries → AreTurns (grown g (GiveBack k x)).nodes turns (entries ++ in_journal (GiveBack k x) ∷ [])
+pub turns_back : (g : Grown) (k x : ℕ) (turns : List ℕ) (entries : List JournalEntry) → AreTurns g.nodes turns entries
+    → AreTurns (grown g (GiveBack k x)).nodes turns (entries ++ in_journal (GiveBack k x) ∷ [])
 turns_back g k x turns entries h = turns_after g.nodes (with_state Untaken g.nodes x) turns entries (in_journal (GiveBack k x)) (λ node j e. absurd (cc)) (λ y j t. taken_before Untaken g.nodes x y j (λ i e. absurd (cc)) t) h
 
 -- the entry that takes a node gives it its turn
-pub turns_take : (g : Grown) (k x turn : ℕ) (turns : List ℕ) (entries : List JournalEntry) → x < length turns → turn ≡ length entries → AreTurns g.nodes turns entries → AreTurns (grown g (Take k x)).nodes (set turns x turn) (entries ++ in_journal (Take k x) ∷ [])
+pub turns_take : (g : Grown) (k x turn : ℕ) (turns : List ℕ) (entries : List JournalEntry) → x < length turns
+    → turn ≡ length entries → AreTurns g.nodes turns entries
+    → AreTurns (grown g (Take k x)).nodes (set turns x turn) (entries ++ in_journal (Take k x) ∷ [])
 turns_take g k x turn turns entries within place h y j taken = elim (taken_or_other k g.nodes x y j taken) [
   | inl this ↦ record {
     turn = turn;

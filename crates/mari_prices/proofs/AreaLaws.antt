@@ -32,7 +32,8 @@ record HasFirst (m : Market) (a : Activation) (z : ℕ) (s : SettledZone) : Type
   value : s.value ≡ neg_ℤ (pos first)
   joined : InOneArea m a first z
 
-has_first : (m : Market) (a : Activation) (values : List ℤ) (xs : List (Option SettledZone)) → AreSpread m a values xs → (n z : ℕ) (s : SettledZone) → s.depth ≤ n → entry_at xs z ≡ Some s → HasFirst m a z s
+has_first : (m : Market) (a : Activation) (values : List ℤ) (xs : List (Option SettledZone)) → AreSpread m a values xs
+    → (n z : ℕ) (s : SettledZone) → s.depth ≤ n → entry_at xs z ≡ Some s → HasFirst m a z s
 has_first m a values xs h zero z s d e = by_source (h.spread.spreading.source z s e)
   where
     by_source : IsByItself (int_at values) z s ⊎ IsAfter (LeadsTo Joined m.borders a.flow) xs z s → HasFirst m a z s
@@ -40,7 +41,8 @@ has_first m a values xs h zero z s d e = by_source (h.spread.spreading.source z 
     by_source (inr k) = absurd (omega (arith, k.depth))
 has_first m a values xs h (suc n) z s d e = by_source (h.spread.spreading.source z s e) (λ y t l k. has_first m a values xs h n y t l k)
   where
-    by_source : IsByItself (int_at values) z s ⊎ IsAfter (LeadsTo Joined m.borders a.flow) xs z s → ((y : ℕ) (t : SettledZone) → t.depth ≤ n → entry_at xs y ≡ Some t → HasFirst m a y t) → HasFirst m a z s
+    by_source : IsByItself (int_at values) z s ⊎ IsAfter (LeadsTo Joined m.borders a.flow) xs z s
+        → ((y : ℕ) (t : SettledZone) → t.depth ≤ n → entry_at xs y ≡ Some t → HasFirst m a y t) → HasFirst m a z s
     by_source (inl f) before = record {
       first = z;
       there = omega (arith, entry_within xs z s e, h.one_each);
@@ -73,14 +75,16 @@ abs_neg : (n : ℕ) → unsigned_abs (neg_ℤ (pos n)) ≡ n
 abs_neg zero = refl
 abs_neg (suc n) = refl
 
-first_is : (m : Market) (a : Activation) (values : List ℤ) (xs : List (Option SettledZone)) (z : ℕ) → AreSpread m a values xs → z < m.zones → (first_at xs z < m.zones) × InOneArea m a (first_at xs z) z
+first_is : (m : Market) (a : Activation) (values : List ℤ) (xs : List (Option SettledZone)) (z : ℕ)
+    → AreSpread m a values xs → z < m.zones → (first_at xs z < m.zones) × InOneArea m a (first_at xs z) z
 first_is m a values xs z h l =
     let s = h.spread.settled z (omega (arith, l, h.one_each)) in
     let f = has_first m a values xs h s.0.depth z s.0 (omega arith) s.1 in
     let at : first_at xs z ≡ f.first = ap first_in s.1 ∙ ap unsigned_abs f.value ∙ abs_neg f.first in
     (subst (λ (x : ℕ). x < m.zones) (sym at) f.there, subst (λ (x : ℕ). InOneArea m a x z) (sym at) f.joined)
 
-same_first : (m : Market) (a : Activation) (values : List ℤ) (xs : List (Option SettledZone)) (y z : ℕ) → IsValid m → AreSpread m a values xs → y < m.zones → z < m.zones → InOneArea m a y z → first_at xs y ≡ first_at xs z
+same_first : (m : Market) (a : Activation) (values : List ℤ) (xs : List (Option SettledZone)) (y z : ℕ) → IsValid m
+    → AreSpread m a values xs → y < m.zones → z < m.zones → InOneArea m a y z → first_at xs y ≡ first_at xs z
 same_first m a values xs y z v h l k j =
     let s = h.spread.settled y (omega (arith, l, h.one_each)) in
     let t = h.spread.settled z (omega (arith, k, h.one_each)) in
@@ -105,7 +109,8 @@ firsts m a values xs v h = record {
 
 -- ---- areas
 
-pub numbered_areas : (m : Market) (a : Activation) (values : List ℤ) (xs : List (Option SettledZone)) (areas : List ℕ) → IsValid m → AreSpread m a values xs → AreNumberedByFirsts xs areas → AreAreas m a areas
+pub numbered_areas : (m : Market) (a : Activation) (values : List ℤ) (xs : List (Option SettledZone)) (areas : List ℕ)
+    → IsValid m → AreSpread m a values xs → AreNumberedByFirsts xs areas → AreAreas m a areas
 numbered_areas m a values xs areas v h k =
     let f = firsts m a values xs v h in
     let n = k.numbering in

@@ -52,12 +52,16 @@ bounds_priced end m a bounds xs v e = All-from_get_or IsPrice bounds (pos 0) (λ
 
 -- ---- values are extreme
 
-pub least_value : (m : Market) (a : Activation) (bounds : List ℤ) (xs : List (Option SettledZone)) (ps : List Cents) → IsValid m → IsFeasible m a → IsEnd Least m a bounds xs → KeepsAll m a ps → (z : ℕ) (s : SettledZone) → entry_at xs z ≡ Some s → s.value ≤ℤ price_at ps z
+pub least_value : (m : Market) (a : Activation) (bounds : List ℤ) (xs : List (Option SettledZone)) (ps : List Cents)
+    → IsValid m → IsFeasible m a → IsEnd Least m a bounds xs → KeepsAll m a ps → (z : ℕ) (s : SettledZone)
+    → entry_at xs z ≡ Some s → s.value ≤ℤ price_at ps z
 least_value m a bounds xs ps v f e k z s h = spread_least (LeadsTo Rising m.borders a.flow) (int_at bounds) (price_at ps) xs e.spread.spreading
     (λ y l. let there : y < m.zones = omega (arith, l, e.one_each) in k.lower y (int_at bounds y) there (lower_from m a y (int_at bounds y) v f (e.tightest y there).bound))
     (λ x y l. let w = leads_within Rising m a x y v l in k.rises x y w.0 w.1 l) z s h
 
-pub greatest_value : (m : Market) (a : Activation) (bounds : List ℤ) (xs : List (Option SettledZone)) (ps : List Cents) → IsValid m → IsFeasible m a → IsEnd Greatest m a bounds xs → KeepsAll m a ps → (z : ℕ) (s : SettledZone) → entry_at xs z ≡ Some s → s.value ≤ℤ neg_ℤ (price_at ps z)
+pub greatest_value : (m : Market) (a : Activation) (bounds : List ℤ) (xs : List (Option SettledZone)) (ps : List Cents)
+    → IsValid m → IsFeasible m a → IsEnd Greatest m a bounds xs → KeepsAll m a ps → (z : ℕ) (s : SettledZone)
+    → entry_at xs z ≡ Some s → s.value ≤ℤ neg_ℤ (price_at ps z)
 greatest_value m a bounds xs ps v f e k z s h = spread_least (LeadsTo Falling m.borders a.flow) (int_at bounds) (λ y. neg_ℤ (price_at ps y)) xs e.spread.spreading
     (λ y l.
     let there : y < m.zones = omega (arith, l, e.one_each) in
@@ -71,7 +75,9 @@ greatest_value m a bounds xs ps v f e k z s h = spread_least (LeadsTo Falling m.
 
 -- ---- where nothing contradicts, both ends are consistent
 
-pub least_keeps : (m : Market) (a : Activation) (bounds uppers : List ℤ) (xs ys : List (Option SettledZone)) (ps : List Cents) → IsValid m → IsFeasible m a → IsEnd Least m a bounds xs → IsEnd Greatest m a uppers ys → AreUncontradicted (length xs) xs uppers → ArePricesOf Least xs ps → KeepsAll m a ps
+pub least_keeps : (m : Market) (a : Activation) (bounds uppers : List ℤ) (xs ys : List (Option SettledZone)) (ps : List Cents)
+    → IsValid m → IsFeasible m a → IsEnd Least m a bounds xs → IsEnd Greatest m a uppers ys
+    → AreUncontradicted (length xs) xs uppers → ArePricesOf Least xs ps → KeepsAll m a ps
 least_keeps m a bounds uppers xs ys ps v f e g fit p =
     let entry : (z : ℕ) → z < m.zones → (s : SettledZone) × (entry_at xs z ≡ Some s) = λ z l. e.spread.settled z (omega (arith, l, e.one_each)) in
     record {
@@ -92,7 +98,9 @@ least_keeps m a bounds uppers xs ys ps v f e g fit p =
           omega (arith, ints, e.spread.spreading.rises y z s.0 t.0 s.1 t.1 h);
     }
 
-pub greatest_keeps : (m : Market) (a : Activation) (uppers : List ℤ) (ys : List (Option SettledZone)) (ps qs : List Cents) → IsValid m → IsFeasible m a → IsEnd Greatest m a uppers ys → KeepsAll m a ps → ArePricesOf Greatest ys qs → KeepsAll m a qs
+pub greatest_keeps : (m : Market) (a : Activation) (uppers : List ℤ) (ys : List (Option SettledZone)) (ps qs : List Cents)
+    → IsValid m → IsFeasible m a → IsEnd Greatest m a uppers ys → KeepsAll m a ps → ArePricesOf Greatest ys qs
+    → KeepsAll m a qs
 greatest_keeps m a uppers ys ps qs v f g low p =
     let entry : (z : ℕ) → z < m.zones → (s : SettledZone) × (entry_at ys z ≡ Some s) = λ z l. g.spread.settled z (omega (arith, l, g.one_each)) in
     record {
@@ -113,7 +121,9 @@ greatest_keeps m a uppers ys ps qs v f g low p =
           omega (arith, ints, g.spread.spreading.rises z y t.0 s.0 t.1 s.1 (falling_spreads m a y z h));
     }
 
-pub are_least : (m : Market) (a : Activation) (bounds : List ℤ) (xs : List (Option SettledZone)) (ps : List Cents) → IsValid m → IsFeasible m a → IsEnd Least m a bounds xs → KeepsAll m a ps → ArePricesOf Least xs ps → AreLeastPrices m a ps
+pub are_least : (m : Market) (a : Activation) (bounds : List ℤ) (xs : List (Option SettledZone)) (ps : List Cents)
+    → IsValid m → IsFeasible m a → IsEnd Least m a bounds xs → KeepsAll m a ps → ArePricesOf Least xs ps
+    → AreLeastPrices m a ps
 are_least m a bounds xs ps v f e k p = record {
   one_each = k.one_each;
   each = λ z l.
@@ -125,7 +135,9 @@ are_least m a bounds xs ps v f e k p = record {
       };
 }
 
-pub are_greatest : (m : Market) (a : Activation) (uppers : List ℤ) (ys : List (Option SettledZone)) (ps : List Cents) → IsValid m → IsFeasible m a → IsEnd Greatest m a uppers ys → KeepsAll m a ps → ArePricesOf Greatest ys ps → AreGreatestPrices m a ps
+pub are_greatest : (m : Market) (a : Activation) (uppers : List ℤ) (ys : List (Option SettledZone)) (ps : List Cents)
+    → IsValid m → IsFeasible m a → IsEnd Greatest m a uppers ys → KeepsAll m a ps → ArePricesOf Greatest ys ps
+    → AreGreatestPrices m a ps
 are_greatest m a uppers ys ps v f g k p = record {
   one_each = k.one_each;
   each = λ z l.
@@ -139,7 +151,9 @@ are_greatest m a uppers ys ps v f g k p = record {
 
 -- ---- where one contradicts, no prices are consistent, and the chain shows it
 
-pub contradicted_none : (m : Market) (a : Activation) (bounds uppers : List ℤ) (xs ys : List (Option SettledZone)) (z : ℕ) (ps : List Cents) → IsValid m → IsFeasible m a → IsEnd Least m a bounds xs → IsEnd Greatest m a uppers ys → IsContradicted xs uppers z → IsConsistent m a ps → ⊥
+pub contradicted_none : (m : Market) (a : Activation) (bounds uppers : List ℤ) (xs ys : List (Option SettledZone)) (z : ℕ) (ps : List Cents)
+    → IsValid m → IsFeasible m a → IsEnd Least m a bounds xs → IsEnd Greatest m a uppers ys
+    → IsContradicted xs uppers z → IsConsistent m a ps → ⊥
 contradicted_none m a bounds uppers xs ys z ps v f e g h c =
     let k = consistent_keeps m a ps c in
     let there : z < m.zones = omega (arith, entry_within xs z h.entry h.settled, e.one_each) in
@@ -162,7 +176,9 @@ trails lead own xs h all = record {
     some z s (inl f) = omega (arith, f.depth)
     some z s (inr a) = omega (arith, a.depth)
 
-after_of : (lead : ℕ → ℕ → Type 0) (own : ℕ → ℤ) (xs : List (Option SettledZone)) (z y : ℕ) (s : SettledZone) → s.previous ≡ Some y → IsByItself own z s ⊎ IsAfter lead xs z s → lead y z × ((t : SettledZone) → entry_at xs y ≡ Some t → s.value ≡ t.value)
+after_of : (lead : ℕ → ℕ → Type 0) (own : ℕ → ℤ) (xs : List (Option SettledZone)) (z y : ℕ) (s : SettledZone)
+    → s.previous ≡ Some y → IsByItself own z s ⊎ IsAfter lead xs z s
+    → lead y z × ((t : SettledZone) → entry_at xs y ≡ Some t → s.value ≡ t.value)
 after_of lead own xs z y s e (inl f) = let none = f.previous in absurd (cc)
 after_of lead own xs z y s e (inr a) =
     let same : a.before ≡ y = (let k = a.previous in cc) in
@@ -174,7 +190,8 @@ record Carries (m : Market) (a : Activation) (xs : List (Option SettledZone)) (z
   there : All (λ (y : ℕ). y < length xs) (z ∷ rest)
   value : (t : SettledZone) → entry_at xs (last_of z rest) ≡ Some t → t.value ≡ s.value
 
-carries : (m : Market) (a : Activation) (bounds : List ℤ) (xs : List (Option SettledZone)) (z : ℕ) (rest : List ℕ) (s : SettledZone) → IsEnd Least m a bounds xs → Follows xs z rest → entry_at xs z ≡ Some s → Carries m a xs z rest s
+carries : (m : Market) (a : Activation) (bounds : List ℤ) (xs : List (Option SettledZone)) (z : ℕ) (rest : List ℕ) (s : SettledZone)
+    → IsEnd Least m a bounds xs → Follows xs z rest → entry_at xs z ≡ Some s → Carries m a xs z rest s
 carries m a bounds xs z [] s e f k = record {
   chain = tt;
   there = All-cons (λ (y : ℕ). y < length xs) z [] (entry_within xs z s k) (All-nil (λ (y : ℕ). y < length xs));
@@ -199,7 +216,9 @@ first_value : (lead : ℕ → ℕ → Type 0) (own : ℕ → ℤ) (xs : List (Op
 first_value lead own xs z s e (inl f) = f.value
 first_value lead own xs z s e (inr a) = let k = a.previous in absurd (cc)
 
-pub trail_contradicts : (m : Market) (a : Activation) (bounds uppers : List ℤ) (xs ys : List (Option SettledZone)) (last : ℕ) (chain : List ℕ) → IsValid m → IsFeasible m a → IsEnd Least m a bounds xs → IsEnd Greatest m a uppers ys → IsContradicted xs uppers last → IsTrailTo xs last chain → ShowsContradiction m a chain
+pub trail_contradicts : (m : Market) (a : Activation) (bounds uppers : List ℤ) (xs ys : List (Option SettledZone)) (last : ℕ) (chain : List ℕ)
+    → IsValid m → IsFeasible m a → IsEnd Least m a bounds xs → IsEnd Greatest m a uppers ys
+    → IsContradicted xs uppers last → IsTrailTo xs last chain → ShowsContradiction m a chain
 trail_contradicts m a bounds uppers xs ys last chain v f e g h t =
     let all = carries m a bounds xs t.first t.trail.rest t.entry e t.trail.follows t.settled in
     let first_there : t.first < m.zones = omega (arith, entry_within xs t.first t.entry t.settled, e.one_each) in

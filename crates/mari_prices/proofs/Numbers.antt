@@ -84,14 +84,18 @@ pushed_new (x ∷ xs) v (suc n) e = pushed_new xs v n (omega (arith, e))
 pushed : (xs : List ℕ) (v n : ℕ) → length xs ≡ n → Adds (area_at xs) (area_at (xs ++ v ∷ [])) n v
 pushed xs v n e = record { old = λ z h. pushed_old xs v z (omega (arith, e)); new = pushed_new xs v n e }
 
-pub push_new_area : (f : ℕ → ℕ) (xs ys : List ℕ) (n count count' : ℕ) → length xs ≡ n → ys ≡ xs ++ (count + 1) ∷ [] → count' ≡ count + 1 → IsNumbering f (area_at xs) n count → ((z : ℕ) → z < n → f z ≤ z) → f n ≡ n → (length ys ≡ n + 1) × IsNumbering f (area_at ys) (n + 1) count'
+pub push_new_area : (f : ℕ → ℕ) (xs ys : List ℕ) (n count count' : ℕ) → length xs ≡ n → ys ≡ xs ++ (count + 1) ∷ []
+    → count' ≡ count + 1 → IsNumbering f (area_at xs) n count → ((z : ℕ) → z < n → f z ≤ z) → f n ≡ n
+    → (length ys ≡ n + 1) × IsNumbering f (area_at ys) (n + 1) count'
 push_new_area f xs ys n count count' e made more h back first = (
   ap length made ∙ omega (arith, length_push xs (count + 1), e),
   subst (λ (zs : List ℕ). IsNumbering f (area_at zs) (n + 1) count') (sym made)
       (subst (IsNumbering f (area_at (xs ++ (count + 1) ∷ [])) (n + 1)) (sym more) (new_area f (area_at xs) (area_at (xs ++ (count + 1) ∷ [])) n count h back first (pushed xs (count + 1) n e))),
 )
 
-pub push_old_area : (f : ℕ → ℕ) (xs ys : List ℕ) (n count count' v first : ℕ) → length xs ≡ n → ys ≡ xs ++ v ∷ [] → count' ≡ count → IsNumbering f (area_at xs) n count → ((z : ℕ) → z < n → f z ≤ z) → first ≡ f n → v ≡ get_or xs first v → f n < n → (length ys ≡ n + 1) × IsNumbering f (area_at ys) (n + 1) count'
+pub push_old_area : (f : ℕ → ℕ) (xs ys : List ℕ) (n count count' v first : ℕ) → length xs ≡ n → ys ≡ xs ++ v ∷ []
+    → count' ≡ count → IsNumbering f (area_at xs) n count → ((z : ℕ) → z < n → f z ≤ z) → first ≡ f n
+    → v ≡ get_or xs first v → f n < n → (length ys ≡ n + 1) × IsNumbering f (area_at ys) (n + 1) count'
 push_old_area f xs ys n count count' v first e made same h back at read before =
     let own : v ≡ area_at xs (f n) = read ∙ get_or_default xs first v 0 (omega (arith, e, at, before)) ∙ ap (area_at xs) at in
     let adds : Adds (area_at xs) (area_at (xs ++ v ∷ [])) n (area_at xs (f n)) = subst (Adds (area_at xs) (area_at (xs ++ v ∷ [])) n) own (pushed xs v n e) in (

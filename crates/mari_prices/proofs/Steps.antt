@@ -58,7 +58,9 @@ record Fits (lead : ℕ → ℕ → Type 0) (own : ℕ → ℤ) (xs : List (Opti
 after_kept : (lead : ℕ → ℕ → Type 0) (xs : List (Option SettledZone)) (z w : ℕ) (e s : SettledZone) → entry_at xs z ≡ None → IsAfter lead xs w s → IsAfter lead (set xs z (Some e)) w s
 after_kept lead xs z w e s free a = record { before = a.before; entry = a.entry; settled = entry_kept xs z a.before e a.entry free a.settled; leads = a.leads; previous = a.previous; value = a.value; depth = a.depth }
 
-source_kept : (lead : ℕ → ℕ → Type 0) (own : ℕ → ℤ) (xs : List (Option SettledZone)) (z w : ℕ) (e s : SettledZone) → entry_at xs z ≡ None → IsByItself own w s ⊎ IsAfter lead xs w s → IsByItself own w s ⊎ IsAfter lead (set xs z (Some e)) w s
+source_kept : (lead : ℕ → ℕ → Type 0) (own : ℕ → ℤ) (xs : List (Option SettledZone)) (z w : ℕ) (e s : SettledZone)
+    → entry_at xs z ≡ None → IsByItself own w s ⊎ IsAfter lead xs w s
+    → IsByItself own w s ⊎ IsAfter lead (set xs z (Some e)) w s
 source_kept lead own xs z w e s free (inl f) = inl f
 source_kept lead own xs z w e s free (inr a) = inr (after_kept lead xs z w e s free a)
 
@@ -131,7 +133,8 @@ start_fits lead own xs z e h n = record {
 }
 
 -- the next zone, settled
-pub settle_next : (lead : ℕ → ℕ → Type 0) (own : ℕ → ℤ) (xs : List (Option SettledZone)) (z : ℕ) (e : SettledZone) → IsSpreading lead own xs → IsNext lead own xs z e → IsSpreading lead own (set xs z (Some e))
+pub settle_next : (lead : ℕ → ℕ → Type 0) (own : ℕ → ℤ) (xs : List (Option SettledZone)) (z : ℕ) (e : SettledZone)
+    → IsSpreading lead own xs → IsNext lead own xs z e → IsSpreading lead own (set xs z (Some e))
 settle_next lead own xs z e h (inl n) = settle lead own xs z e h (led_fits lead own xs z e h n)
 settle_next lead own xs z e h (inr n) = settle lead own xs z e h (start_fits lead own xs z e h n)
 

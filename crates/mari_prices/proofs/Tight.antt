@@ -11,7 +11,10 @@ use Rattle.mari_market.specs.Consistent.{own_standing}
 use Rattle.mari_market.proofs.Sums.{AnyZip_cases, AnyZip_kept, AnyZip_new}
 
 -- one more order
-pub tightest_more : (end : End) (os : List Order) (qs : List ℕ) (i z : ℕ) (d : Order) (old new : ℤ) → i < length os → i < length qs → IsTightest end (take i os) (take i qs) z old → IsRaised end (get_or os i d) (get_or qs i 0) z old new → IsTightest end (take (i + 1) os) (take (i + 1) qs) z new
+pub tightest_more : (end : End) (os : List Order) (qs : List ℕ) (i z : ℕ) (d : Order) (old new : ℤ) → i < length os
+    → i < length qs → IsTightest end (take i os) (take i qs) z old
+    → IsRaised end (get_or os i d) (get_or qs i 0) z old new
+    → IsTightest end (take (i + 1) os) (take (i + 1) qs) z new
 tightest_more end os qs i z d old new h l t r = record { bound = bound r.from; tightest = λ c b. tightest c b }
   where
     lifted : (c : ℤ) → IsBoundBy end (take i os) (take i qs) z c → IsBoundBy end (take (i + 1) os) (take (i + 1) qs) z c
@@ -35,7 +38,9 @@ elsewhere : (end : End) (o : Order) (q z : ℕ) (old : ℤ) → (z ≡ o.zone �
 elsewhere end o q z old apart = record { kept = omega (arith, ints); met = λ c s. absurd (apart (sym s.zone)); from = inl refl }
 
 -- and raises its own zone's bound
-pub raised_at : (end : End) (o : Order) (q : ℕ) (values : List ℤ) (new : ℤ) → o.zone < length values → IsRaised end o q o.zone (int_at values o.zone) new → (z : ℕ) → IsRaised end o q z (int_at values z) (int_at (set values o.zone new) z)
+pub raised_at : (end : End) (o : Order) (q : ℕ) (values : List ℤ) (new : ℤ) → o.zone < length values
+    → IsRaised end o q o.zone (int_at values o.zone) new → (z : ℕ)
+    → IsRaised end o q z (int_at values z) (int_at (set values o.zone new) z)
 raised_at end o q values new h r z = elim (cases_eq z o.zone) [
   | inl same ↦
       let at : get_or (set values o.zone new) o.zone (pos 0) ≡ new = get_or-set_same values o.zone new (pos 0) h in
@@ -44,7 +49,9 @@ raised_at end o q values new h r z = elim (cases_eq z o.zone) [
 ]
 
 -- the greater of the old bound and the order's
-pub raise_to : (end : End) (o : Order) (q : ℕ) (old own new : ℤ) → own ≡ signed end o.price.0 → SetsAtEnd end (own_standing o.gate q) o.side o.greatest q → new ≡ int_max old own → IsRaised end o q o.zone old new
+pub raise_to : (end : End) (o : Order) (q : ℕ) (old own new : ℤ) → own ≡ signed end o.price.0
+    → SetsAtEnd end (own_standing o.gate q) o.side o.greatest q → new ≡ int_max old own
+    → IsRaised end o q o.zone old new
 raise_to end o q old own new e sets k = record {
   kept = omega (arith, ints, clamps);
   met = λ c s. omega (arith, ints, clamps, s.price);

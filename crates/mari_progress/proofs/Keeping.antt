@@ -70,7 +70,8 @@ BalancesIn books (block.Unpublished heading count) = ⊤
 
 module _ (books : Books) (ok : IsAccepted books) where
   -- so it is of the ledger of a run
-  pub balances : (made : RunMarket) (also : Option (List Cents)) (b : FullBlock) → IsMarketOf books made → IsConsistent made.market (activation_of b) (prices_of b) → HasLedger books made also b → Balances books b
+  pub balances : (made : RunMarket) (also : Option (List Cents)) (b : FullBlock) → IsMarketOf books made
+      → IsConsistent made.market (activation_of b) (prices_of b) → HasLedger books made also b → Balances books b
   balances made also b own consistent ledger =
       let names = books.zones.operators in
       let lines = operator_lines books.zones made.market (activation_of b) (prices_of b) in

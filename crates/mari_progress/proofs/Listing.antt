@@ -37,7 +37,8 @@ pub few-providers : (bids : List Bid) (numbers : List ℕ) → length (providers
 few-providers bids numbers = omega (arith, longer [] (map (λ i. (bid_numbered bids i).provider) numbers), length-map numbers (λ i. (bid_numbered bids i).provider))
 
 -- each is the provider of a bid
-pub providers-there : (bids : List Bid) (numbers : List ℕ) (n : ℕ) → All (λ (bid : Bid). bid.provider < n) bids → All (λ i. i < length bids) numbers → All (λ place. place < n) (providers_among bids numbers)
+pub providers-there : (bids : List Bid) (numbers : List ℕ) (n : ℕ) → All (λ (bid : Bid). bid.provider < n) bids
+    → All (λ i. i < length bids) numbers → All (λ place. place < n) (providers_among bids numbers)
 providers-there bids numbers n all there =
     all-once (λ place. place < n) (map (λ i. (bid_numbered bids i).provider) numbers)
     (All-map (λ place. place < n) (λ i. (bid_numbered bids i).provider) numbers (λ k d below. all _ _ (there k d below)))

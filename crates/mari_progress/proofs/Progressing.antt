@@ -40,7 +40,9 @@ module _ (books : Books) (blocks : List Block) (made : RunMarket) (e : made ≡ 
   pub priced-after : {A : Type 0} (f : A → List Cents) (r : Option A) → IfSome r (λ a. ArePrices (market_after books blocks).market (f a)) → IfSome r (λ a. ArePrices made.market (f a))
   priced-after f r h = let P : RunMarket → Type 0 = λ m. IfSome r (λ a. ArePrices m.market (f a)) in subst P (sym e) h
 
-  pub settled-after : (also : Option (List Cents)) → also ≡ also_after books blocks → (b : FullBlock) (settled : SettledRun) → IsRunOf books made also b settled → IsRunOf books (market_after books blocks) (also_after books blocks) b settled
+  pub settled-after : (also : Option (List Cents)) → also ≡ also_after books blocks
+      → (b : FullBlock) (settled : SettledRun) → IsRunOf books made also b settled
+      → IsRunOf books (market_after books blocks) (also_after books blocks) b settled
   settled-after also f b settled h =
       let M : RunMarket → Type 0 = λ m. IsRunOf books m also b settled in
       let A : Option (List Cents) → Type 0 = λ a. IsRunOf books (market_after books blocks) a b settled in
@@ -107,7 +109,8 @@ module _ (books : Books) (ok : IsAccepted books) (blocks : List Block) (kept : P
           subst (KeepsPrices books (blocks ++ block.Published b ∷ [])) (sym f) (keeps-scheduled books ok blocks kept.scheduled progress.scheduled b last is.sound.heading e own refl is.adds.prices consistent.prices.one_each consistent.prices.capped)
 
       -- the block of a run, which is added to all that is kept
-      pub published-added : (run : ℕ) → run ≡ run_after blocks → (after : Progress) → StandsFor books (before_of books blocks ++ block_of books run settled.made.bids settled.activation ∷ []) after.remaining
+      pub published-added : (run : ℕ) → run ≡ run_after blocks → (after : Progress)
+          → StandsFor books (before_of books blocks ++ block_of books run settled.made.bids settled.activation ∷ []) after.remaining
           → after.totals.operators ≡ map_along lines_together kept.totals.operators settled.ledger.operators → after.totals.providers ≡ map_along together kept.totals.providers settled.ledger.providers
           → after.totals.rents ≡ map_along together kept.totals.rents settled.ledger.rents → after.scheduled ≡ kept-after (run_numbered books run) → after.published ≡ kept.published + 1
           → IsProgress books (blocks ++ block.Published b ∷ []) after

@@ -57,7 +57,9 @@ module _ (books : Books) (ok : IsAccepted books) (blocks : List Block) (kept : O
   still b (Some s) h = record { one_each = h.one_each; capped = h.capped; earlier = λ r l there. h.earlier r (later b r l) there }
 
   -- a block that isn't published, and that of a direct run, change nothing
-  pub keeps-same : (b : Block) → ((quarter : ℕ) → scheduled_in quarter (scheduled_prices quarter blocks) b ≡ scheduled_prices quarter blocks) → last_in (last_scheduled blocks) b ≡ last_scheduled blocks
+  pub keeps-same : (b : Block)
+      → ((quarter : ℕ) → scheduled_in quarter (scheduled_prices quarter blocks) b ≡ scheduled_prices quarter blocks)
+      → last_in (last_scheduled blocks) b ≡ last_scheduled blocks
       → KeepsPrices books (blocks ++ b ∷ []) kept
   keeps-same b nothing none = record {
     last = keeps.last ∙ sym (last-more blocks b ∙ none);
@@ -76,7 +78,9 @@ module _ (books : Books) (ok : IsAccepted books) (blocks : List Block) (kept : O
       differ : (a b : ℕ) → a < b → (a == b) ≡ false
       differ a b l = grind (arith, nat_tests, l)
 
-  earlier-of : (r : ℕ) → length blocks < r → r ≤ length books.runs.runs → (s : Option Scheduled) → IfSome s (IsScheduled books blocks) → (t : Scheduled) → s ≡ Some t → t.quarter ≤ (run_numbered books r).quarter
+  earlier-of : (r : ℕ) → length blocks < r → r ≤ length books.runs.runs → (s : Option Scheduled)
+      → IfSome s (IsScheduled books blocks) → (t : Scheduled) → s ≡ Some t
+      → t.quarter ≤ (run_numbered books r).quarter
   earlier-of r l there None h t e = cc e
   earlier-of r l there (Some s) h t e = let same : s ≡ t = cc e in rw (sym same) (h.earlier r l there)
 

@@ -19,7 +19,9 @@ money q small = omega (arith, small)
 
 -- first orders of at most 9,999 MW run at most as much
 module _ (m : Market) (a : Activation) where
-  up-to : (count : ℕ) (os : List Order) (qs : List ℕ) → AllZip (λ (o : Order) (q : ℕ). IsWithin (own_bounds m a o) q) os qs → All (λ (o : Order). o.greatest ≤ 9999) (take count os) → All (λ q. q ≤ 9999) (take count qs)
+  up-to : (count : ℕ) (os : List Order) (qs : List ℕ)
+      → AllZip (λ (o : Order) (q : ℕ). IsWithin (own_bounds m a o) q) os qs
+      → All (λ (o : Order). o.greatest ≤ 9999) (take count os) → All (λ q. q ≤ 9999) (take count qs)
   up-to zero os qs zip small = All-nil (λ q. q ≤ 9999)
   up-to (suc count) [] [] zip small = All-nil (λ q. q ≤ 9999)
   up-to (suc count) [] (q ∷ qs) zip small = absurd zip

@@ -67,7 +67,8 @@ amounts-same f g same (x ∷ xs) =
     ap (λ (v : ℤ). money-of v ∷ map (λ x. money-of (f x)) xs) (same x) ∙ ap (λ (qs : List Quarters). money-of (g x) ∷ qs) (amounts-same f g same xs)
 
 -- what a provider gets over one block more
-over-more : (books : Books) (before bs : List Block) (b : Block) (provider : ℕ) → amount_over books before (bs ++ b ∷ []) provider ≡ amount_over books before bs provider +ℤ amount_in books (before ++ bs) b provider
+over-more : (books : Books) (before bs : List Block) (b : Block) (provider : ℕ)
+    → amount_over books before (bs ++ b ∷ []) provider ≡ amount_over books before bs provider +ℤ amount_in books (before ++ bs) b provider
 over-more books before [] b provider = let e = ap (λ xs. amount_in books xs b provider) (append-nil before) in omega (arith, ints, e)
 over-more books before (x ∷ bs) b provider =
     let more = over-more books (before ++ x ∷ []) bs b provider in
@@ -123,7 +124,9 @@ module _ (books : Books) (blocks : List Block) (sums : Ledger) (so_far : AreTota
         }) is.balanced.small
 
     -- and its sums are those of one block more
-    pub totals-more : (after : Ledger) → after.operators ≡ map_along lines_together sums.operators settled.ledger.operators → after.providers ≡ map_along together sums.providers settled.ledger.providers
+    pub totals-more : (after : Ledger)
+        → after.operators ≡ map_along lines_together sums.operators settled.ledger.operators
+        → after.providers ≡ map_along together sums.providers settled.ledger.providers
         → after.rents ≡ map_along together sums.rents settled.ledger.rents → AreTotals books (blocks ++ block.Published b ∷ []) after
     totals-more after operators providers rents =
         let p : Block = block.Published b in

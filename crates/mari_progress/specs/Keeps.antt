@@ -18,7 +18,8 @@ use Rattle.mari_progress.specs.Reported.{rents_reported}
 -- block: where it ran before a block, it doesn't run in it
 pub record KeepsOffers (books : Books) (blocks : List Block) : Type 0 where
   pub offers : (bid : ℕ) → mw_of (before_of books blocks) bid ≤ (bid_numbered books.bids.bids bid).greatest
-  pub once : (k : ℕ) (b : Block) → slice_get blocks k ≡ Some b → (bid : ℕ) → has_gate books.links bid ≡ true → (mw_of (before_of books (take k blocks)) bid ≡ 0) ⊎ (mw_in_block bid (past_of books b) ≡ 0)
+  pub once : (k : ℕ) (b : Block) → slice_get blocks k ≡ Some b → (bid : ℕ) → has_gate books.links bid ≡ true
+      → (mw_of (before_of books (take k blocks)) bid ≡ 0) ⊎ (mw_in_block bid (past_of books b) ≡ 0)
 
 -- the sum of the operators' nets
 abbrev pub net_sum : List MoneyLine → ℤ

@@ -25,18 +25,24 @@ use Rattle.mari_proofs.specs.Conflicts.{opens_gate, IsOfWord, IsGreatestLower, I
 use Rattle.mari_proofs.proofs.GateWords.{opens_as_decided, open_at, length_of_word}
 
 -- the test of a chain
-pub chain_test : (m : Market) (a : Activation) (bs : List Border) (fs : List ℤ) (z : ℕ) (zs : List ℕ) (answer : Bool) → bs ≡ m.borders → fs ≡ a.flow → (IsTrue answer ↔ IsChainOf bs fs z zs) → IsTrue answer ↔ IsChain m a z zs
+pub chain_test : (m : Market) (a : Activation) (bs : List Border) (fs : List ℤ) (z : ℕ) (zs : List ℕ) (answer : Bool)
+    → bs ≡ m.borders → fs ≡ a.flow → (IsTrue answer ↔ IsChainOf bs fs z zs) → IsTrue answer ↔ IsChain m a z zs
 chain_test m a bs fs z zs answer same_bs same_fs t =
     subst (λ (xs : List ℤ). IsTrue answer ↔ IsChainOf m.borders xs z zs) same_fs (subst (λ (xs : List Border). IsTrue answer ↔ IsChainOf xs fs z zs) same_bs t)
 
-bounds_test : (m : Market) (a : Activation) (first last : ℕ) (upper lower : ℤ) (answer : Bool) → IsLeastUpper (is_open m a) last m.orders a.mw upper → IsGreatestLower (is_open m a) first m.orders a.mw lower → (IsTrue answer ↔ (upper <ℤ lower)) → IsTrue answer ↔ Contradicts m a first last
+bounds_test : (m : Market) (a : Activation) (first last : ℕ) (upper lower : ℤ) (answer : Bool)
+    → IsLeastUpper (is_open m a) last m.orders a.mw upper → IsGreatestLower (is_open m a) first m.orders a.mw lower
+    → (IsTrue answer ↔ (upper <ℤ lower)) → IsTrue answer ↔ Contradicts m a first last
 bounds_test m a first last upper lower answer u l t = (
   λ yes. record { low = lower; high = upper; lower = l.reached; upper = u.reached; above = t.0 yes },
   λ bad. t.1 (omega (arith, ints, l.greatest bad.low bad.lower, u.least bad.high bad.upper, bad.above)),
 )
 
 -- the test of the two bounds
-pub contradiction_test : (m : Market) (x : Prefix) (a : Activation) (os : List Order) (qs : List ℕ) (first last : ℕ) (upper lower : ℤ) (answer : Bool) → IsValid m → IsOfWord m x a → os ≡ m.orders → qs ≡ a.mw → IsLeastUpper (opens_gate x) last os qs upper → IsGreatestLower (opens_gate x) first os qs lower → (IsTrue answer ↔ (upper <ℤ lower)) → IsTrue answer ↔ Contradicts m a first last
+pub contradiction_test : (m : Market) (x : Prefix) (a : Activation) (os : List Order) (qs : List ℕ) (first last : ℕ) (upper lower : ℤ) (answer : Bool)
+    → IsValid m → IsOfWord m x a → os ≡ m.orders → qs ≡ a.mw → IsLeastUpper (opens_gate x) last os qs upper
+    → IsGreatestLower (opens_gate x) first os qs lower → (IsTrue answer ↔ (upper <ℤ lower))
+    → IsTrue answer ↔ Contradicts m a first last
 contradiction_test m x a os qs first last upper lower answer v w same_os same_qs u l t =
     let opens : opens_gate x ≡ is_open m a = sym (opens_as_decided m x a v w.gates) in
     bounds_test m a first last upper lower answer
@@ -72,14 +78,18 @@ same_tight f g m a ps v e t =
     }
 
 -- the test of the potentials
-pub tight_test : (f : Order → Span) (m : Market) (x : Prefix) (a : Activation) (ps : List Cents) (answer : Bool) → IsValid m → IsOfWord m x a → ((o : Order) → GateFits (length m.gates) o → f o ≡ bounds_at m x o) → ArePrices m ps → (IsTrue answer ↔ IsTight f m a ps) → IsTrue answer ↔ AreTightPotentials m a ps
+pub tight_test : (f : Order → Span) (m : Market) (x : Prefix) (a : Activation) (ps : List Cents) (answer : Bool)
+    → IsValid m → IsOfWord m x a → ((o : Order) → GateFits (length m.gates) o → f o ≡ bounds_at m x o)
+    → ArePrices m ps → (IsTrue answer ↔ IsTight f m a ps) → IsTrue answer ↔ AreTightPotentials m a ps
 tight_test f m x a ps answer v w e prices t = (
   λ yes. record { prices = prices; tight = same_tight f (own_bounds m a) m a ps v (λ o h. e o h ∙ same_span m x a o v w.gates h) (t.0 yes) },
   λ p. t.1 (same_tight (own_bounds m a) f m a ps v (λ o h. sym (e o h ∙ same_span m x a o v w.gates h)) p.tight),
 )
 
 -- the parts of a conflict
-pub conflict_test : (m : Market) (x : Prefix) (k : ConflictRecord) (ps : List Cents) (zs : List ℕ) (answer : Bool) → ps ≡ k.potentials.cents → zs ≡ k.chain → IsOfWord m x k.activation → AreTightPotentials m k.activation ps → (IsTrue answer ↔ IsContradictoryChain m k.activation zs) → IsTrue answer ↔ IsConflict m (word_of x) k
+pub conflict_test : (m : Market) (x : Prefix) (k : ConflictRecord) (ps : List Cents) (zs : List ℕ) (answer : Bool)
+    → ps ≡ k.potentials.cents → zs ≡ k.chain → IsOfWord m x k.activation → AreTightPotentials m k.activation ps
+    → (IsTrue answer ↔ IsContradictoryChain m k.activation zs) → IsTrue answer ↔ IsConflict m (word_of x) k
 conflict_test m x k ps zs answer same_ps same_zs w p t =
     let own : IsTrue answer ↔ IsContradictoryChain m k.activation k.chain = subst (λ (ys : List ℕ). IsTrue answer ↔ IsContradictoryChain m k.activation ys) same_zs t in
     let tight : AreTightPotentials m k.activation k.potentials.cents = subst (λ (qs : List Cents). AreTightPotentials m k.activation qs) same_ps p in (

@@ -16,7 +16,9 @@ use Rattle.mari_market.specs.Sums.{int_sum}
 use Rattle.mari_proofs.specs.NetInjections.{net_put, put_of, carried_of, Exceeds}
 
 -- bounds that agree on each order of a gate that is there put in the same
-same_put : (side : CutSide) (f g : Order → Span) (set : List ℕ) (zones gates : ℕ) (os : List Order) → ((o : Order) → GateFits gates o → f o ≡ g o) → All (IsValidOrder zones gates) os → int_sum (put_of side f set) os ≡ int_sum (put_of side g set) os
+same_put : (side : CutSide) (f g : Order → Span) (set : List ℕ) (zones gates : ℕ) (os : List Order)
+    → ((o : Order) → GateFits gates o → f o ≡ g o) → All (IsValidOrder zones gates) os
+    → int_sum (put_of side f set) os ≡ int_sum (put_of side g set) os
 same_put side f g set zones gates [] e v = refl
 same_put side f g set zones gates (o ∷ os) e v =
     let first = All-head (IsValidOrder zones gates) o os v in
@@ -24,12 +26,16 @@ same_put side f g set zones gates (o ∷ os) e v =
     ∙ ap (λ (x : ℤ). put_of side g set o +ℤ x) (same_put side f g set zones gates os e (All-tail (IsValidOrder zones gates) o os v))
 
 -- a set cannot be balanced where what it puts in exceeds what is carried
-balance_test : (bounds : Order → Span) (m : Market) (side : CutSide) (set : List ℕ) → CannotBalance bounds m side set ≡ Exceeds side (int_sum (put_of side bounds set) m.orders) (int_sum (carried_of side set) m.borders)
+balance_test : (bounds : Order → Span) (m : Market) (side : CutSide) (set : List ℕ)
+    → CannotBalance bounds m side set ≡ Exceeds side (int_sum (put_of side bounds set) m.orders) (int_sum (carried_of side set) m.borders)
 balance_test bounds m Out set = refl
 balance_test bounds m In set = refl
 
 -- the test that the code makes
-pub tests_balance : (bounds : Order → Span) (m : Market) (side : CutSide) (set : List ℕ) (orders : List Order) (borders : List Border) (put carried : ℤ) (answer : Bool) → put ≡ int_sum (put_of side bounds set) orders → orders ≡ m.orders → carried ≡ int_sum (carried_of side set) borders → borders ≡ m.borders → IsTrue answer ↔ Exceeds side put carried → IsTrue answer ↔ CannotBalance bounds m side set
+pub tests_balance : (bounds : Order → Span) (m : Market) (side : CutSide) (set : List ℕ) (orders : List Order) (borders : List Border) (put carried : ℤ) (answer : Bool)
+    → put ≡ int_sum (put_of side bounds set) orders → orders ≡ m.orders
+    → carried ≡ int_sum (carried_of side set) borders → borders ≡ m.borders → IsTrue answer ↔ Exceeds side put carried
+    → IsTrue answer ↔ CannotBalance bounds m side set
 tests_balance bounds m side set orders borders put carried answer p os c bs t =
     let put_is : put ≡ int_sum (put_of side bounds set) m.orders = p ∙ ap (int_sum (put_of side bounds set)) os in
     let carried_is : carried ≡ int_sum (carried_of side set) m.borders = c ∙ ap (int_sum (carried_of side set)) bs in
@@ -37,14 +43,18 @@ tests_balance bounds m side set orders borders put carried answer p os c bs t =
     subst (λ (P : Type 0). IsTrue answer ↔ P) same t
 
 -- with the bounds as a table of states has them
-pub same_balance : (f g : Order → Span) (m : Market) (side : CutSide) (set : List ℕ) → IsValid m → ((o : Order) → GateFits (length m.gates) o → f o ≡ g o) → CannotBalance f m side set ≡ CannotBalance g m side set
+pub same_balance : (f g : Order → Span) (m : Market) (side : CutSide) (set : List ℕ) → IsValid m
+    → ((o : Order) → GateFits (length m.gates) o → f o ≡ g o)
+    → CannotBalance f m side set ≡ CannotBalance g m side set
 same_balance f g m side set v e =
     balance_test f m side set
     ∙ ap (λ (x : ℤ). Exceeds side x (int_sum (carried_of side set) m.borders)) (same_put side f g set m.zones (length m.gates) m.orders e v.orders)
     ∙ sym (balance_test g m side set)
 
 -- a cut holds where its zones rise and cannot be balanced
-pub cut_test : (f g : Order → Span) (m : Market) (cut : CutRecord) (set : List ℕ) (answer : Bool) → IsValid m → set ≡ cut.zones → ((o : Order) → GateFits (length m.gates) o → f o ≡ g o) → IsRising 0 m.zones set → IsTrue answer ↔ CannotBalance f m cut.side set → IsTrue answer ↔ IsCut g m cut
+pub cut_test : (f g : Order → Span) (m : Market) (cut : CutRecord) (set : List ℕ) (answer : Bool) → IsValid m
+    → set ≡ cut.zones → ((o : Order) → GateFits (length m.gates) o → f o ≡ g o) → IsRising 0 m.zones set
+    → IsTrue answer ↔ CannotBalance f m cut.side set → IsTrue answer ↔ IsCut g m cut
 cut_test f g m cut set answer v same e rising t =
     let side : IsTrue answer ↔ CannotBalance g m cut.side cut.zones = subst (λ (zs : List ℕ). IsTrue answer ↔ CannotBalance g m cut.side zs) same (subst (λ (P : Type 0). IsTrue answer ↔ P) (same_balance f g m cut.side set v e) t) in (
       λ yes. record { zones = subst (λ (zs : List ℕ). IsRising 0 m.zones zs) same rising; side = side.0 yes },

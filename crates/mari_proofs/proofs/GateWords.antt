@@ -37,7 +37,8 @@ gate_is g (Some h) e = let same : h ≡ g = cc in grind (arith, nat_tests)
 runs_test : (opens : ℕ → Bool) (g : ℕ) (gate : Option ℕ) (q : ℕ) → gate ≡ Some g → RunsAsDecided opens gate q → opens g ≡ nat_lt 0 q
 runs_test opens g gate q e r = let at : RunsAsDecided opens (Some g) q = subst (λ (o : Option ℕ). RunsAsDecided opens o q) e r in at
 
-runs_at : (opens : ℕ → Bool) (g : ℕ) (gate : Option ℕ) (q : ℕ) (rest : Bool) → RunsAsDecided opens gate q → (rest ≡ true → opens g ≡ true) → ((is_gate g gate && nat_lt 0 q) || rest) ≡ true → opens g ≡ true
+runs_at : (opens : ℕ → Bool) (g : ℕ) (gate : Option ℕ) (q : ℕ) (rest : Bool) → RunsAsDecided opens gate q
+    → (rest ≡ true → opens g ≡ true) → ((is_gate g gate && nat_lt 0 q) || rest) ≡ true → opens g ≡ true
 runs_at opens g gate q rest r later e = by_test (is_gate g gate && nat_lt 0 q) refl e
   where
     by_test : (b : Bool) → (is_gate g gate && nat_lt 0 q) ≡ b → (b || rest) ≡ true → opens g ≡ true
@@ -51,7 +52,9 @@ runs_open opens g (o ∷ os) [] a e = absurd a
 runs_open opens g (o ∷ os) (q ∷ qs) a e = runs_at opens g o.gate q (runs_gate g os qs) a.0 (runs_open opens g os qs a.1) e
 
 -- and a gate of some order that is decided open runs
-open_runs : (opens : ℕ → Bool) (g : ℕ) (os : List Order) (qs : List ℕ) → length qs ≡ length os → Any (λ (o : Order). o.gate ≡ Some g) os → AllZip (λ (o : Order) q. RunsAsDecided opens o.gate q) os qs → opens g ≡ true → runs_gate g os qs ≡ true
+open_runs : (opens : ℕ → Bool) (g : ℕ) (os : List Order) (qs : List ℕ) → length qs ≡ length os
+    → Any (λ (o : Order). o.gate ≡ Some g) os → AllZip (λ (o : Order) q. RunsAsDecided opens o.gate q) os qs
+    → opens g ≡ true → runs_gate g os qs ≡ true
 open_runs opens g os qs l some a e =
     let i = some.0 in
     let o = some.1 in
@@ -66,7 +69,8 @@ same_tests false true f g = g refl
 same_tests false false f g = refl
 
 -- where each order runs exactly where its gate is decided open, the gate word is the prefix's
-pub word_where_run : (m : Market) (x : Prefix) (a : Activation) → IsValid m → x.length ≡ length m.gates → AllZip (λ (o : Order) q. RunsAsDecided (opens_gate x) o.gate q) m.orders a.mw → gate_word_of m a ≡ word_of x
+pub word_where_run : (m : Market) (x : Prefix) (a : Activation) → IsValid m → x.length ≡ length m.gates
+    → AllZip (λ (o : Order) q. RunsAsDecided (opens_gate x) o.gate q) m.orders a.mw → gate_word_of m a ≡ word_of x
 word_where_run m x a v full run =
     same_map (is_open m a) (bit_of x) (length m.gates) each ∙ ap (λ n. map (bit_of x) (range_with_len 0 n)) (sym full)
   where
@@ -98,7 +102,8 @@ runs_within opens n None o q f w = tt
 runs_within opens n (Some g) o q f w = within_test (opens g) o q f.1 w
 
 -- a feasible activation of the prefix's word runs as the prefix decides
-pub run_where_word : (m : Market) (x : Prefix) (a : Activation) → IsValid m → IsFeasible m a → gate_word_of m a ≡ word_of x → AllZip (λ (o : Order) q. RunsAsDecided (opens_gate x) o.gate q) m.orders a.mw
+pub run_where_word : (m : Market) (x : Prefix) (a : Activation) → IsValid m → IsFeasible m a
+    → gate_word_of m a ≡ word_of x → AllZip (λ (o : Order) q. RunsAsDecided (opens_gate x) o.gate q) m.orders a.mw
 run_where_word m x a v f e =
     let both = AllZip-with (IsValidOrder m.zones (length m.gates)) (λ o q. IsWithin (own_bounds m a o) q) m.orders a.mw v.orders f.orders in
     subst (λ (opens : ℕ → Bool). AllZip (λ (o : Order) q. RunsAsDecided opens o.gate q) m.orders a.mw) (opens_as_decided m x a v e)
@@ -115,7 +120,10 @@ pub lengths_read : {X Y : Type 0} (P : X → Y → Type 0) (xs os : List X) (ys 
 lengths_read P xs os ys qs a e f = ap length f ∙ AllZip-long P xs ys a ∙ sym (ap length e)
 
 -- the test of the gate word
-pub word_test : (m : Market) (x : Prefix) (a : Activation) (os : List Order) (qs : List ℕ) (answer : Bool) → IsValid m → IsFeasible m a → x.length ≡ length m.gates → os ≡ m.orders → qs ≡ a.mw → (IsTrue answer ↔ AllZip (λ (o : Order) q. RunsAsDecided (opens_gate x) o.gate q) os qs) → IsTrue answer ↔ (gate_word_of m a ≡ word_of x)
+pub word_test : (m : Market) (x : Prefix) (a : Activation) (os : List Order) (qs : List ℕ) (answer : Bool) → IsValid m
+    → IsFeasible m a → x.length ≡ length m.gates → os ≡ m.orders → qs ≡ a.mw
+    → (IsTrue answer ↔ AllZip (λ (o : Order) q. RunsAsDecided (opens_gate x) o.gate q) os qs)
+    → IsTrue answer ↔ (gate_word_of m a ≡ word_of x)
 word_test m x a os qs answer v f full same_os same_qs t = (
   λ yes. word_where_run m x a v full (there (t.0 yes)),
   λ e. t.1 (here (run_where_word m x a v f e)),

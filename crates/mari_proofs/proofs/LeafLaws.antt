@@ -21,7 +21,8 @@ begins_take k (suc n) [] opens b = tt
 begins_take k (suc n) (c ∷ cs) opens b = (b.0, begins_take (suc k) n cs opens b.1)
 
 -- no admissible activation whose gates begin as the prefix says is better than the cutoff
-pub leaf_bounds_below : (m : Market) (w : ℤ) (x : Prefix) (n : ℕ) (leaf : LeafRecord) (a : Activation) → IsValid m → LeafHolds m w (word_of x) leaf → IsAdmissible m a → take n (gate_word_of m a) ≡ word_of x → welfare_of m a ≤ℤ w
+pub leaf_bounds_below : (m : Market) (w : ℤ) (x : Prefix) (n : ℕ) (leaf : LeafRecord) (a : Activation) → IsValid m
+    → LeafHolds m w (word_of x) leaf → IsAdmissible m a → take n (gate_word_of m a) ≡ word_of x → welfare_of m a ≤ℤ w
 leaf_bounds_below m w x n leaf a v h adm e =
     leaf_sound m w (word_of x) leaf a v h adm (subst (λ (word : List Bool). Begins word (is_open m a)) e (begins_take 0 n (gate_word_of m a) (is_open m a) (begins_own m a)))
 

@@ -7,7 +7,11 @@ use Rattle.mari_proofs.specs.Conflicts.{IsGreatestLower, IsLeastUpper}
 use Rattle.mari_market.proofs.Sums.{AnyZip_cases, AnyZip_kept, AnyZip_new}
 
 -- a loop's step
-pub lower_more : (opens : ℕ → Bool) (z : ℕ) (os : List Order) (qs : List ℕ) (i : ℕ) (d : Order) (bound new : ℤ) → i < length os → i < length qs → IsGreatestLower opens z (take i os) (take i qs) bound → bound ≤ℤ new → ((c : ℤ) → SetsLowerAt opens z c (get_or os i d) (get_or qs i 0) → c ≤ℤ new) → (new ≡ bound) ⊎ SetsLowerAt opens z new (get_or os i d) (get_or qs i 0) → IsGreatestLower opens z (take (i + 1) os) (take (i + 1) qs) new
+pub lower_more : (opens : ℕ → Bool) (z : ℕ) (os : List Order) (qs : List ℕ) (i : ℕ) (d : Order) (bound new : ℤ)
+    → i < length os → i < length qs → IsGreatestLower opens z (take i os) (take i qs) bound → bound ≤ℤ new
+    → ((c : ℤ) → SetsLowerAt opens z c (get_or os i d) (get_or qs i 0) → c ≤ℤ new)
+    → (new ≡ bound) ⊎ SetsLowerAt opens z new (get_or os i d) (get_or qs i 0)
+    → IsGreatestLower opens z (take (i + 1) os) (take (i + 1) qs) new
 lower_more opens z os qs i d bound new h l before least above from = record { reached = reached from; greatest = greatest }
   where
     kept : (c : ℤ) → IsLowerOf opens z (take i os) (take i qs) c → IsLowerOf opens z (take (i + 1) os) (take (i + 1) qs) c
@@ -25,7 +29,11 @@ lower_more opens z os qs i d bound new h l before least above from = record { re
       | inr s ↦ above c s
     ]
 
-pub upper_more : (opens : ℕ → Bool) (z : ℕ) (os : List Order) (qs : List ℕ) (i : ℕ) (d : Order) (bound new : ℤ) → i < length os → i < length qs → IsLeastUpper opens z (take i os) (take i qs) bound → new ≤ℤ bound → ((c : ℤ) → SetsUpperAt opens z c (get_or os i d) (get_or qs i 0) → new ≤ℤ c) → (new ≡ bound) ⊎ SetsUpperAt opens z new (get_or os i d) (get_or qs i 0) → IsLeastUpper opens z (take (i + 1) os) (take (i + 1) qs) new
+pub upper_more : (opens : ℕ → Bool) (z : ℕ) (os : List Order) (qs : List ℕ) (i : ℕ) (d : Order) (bound new : ℤ)
+    → i < length os → i < length qs → IsLeastUpper opens z (take i os) (take i qs) bound → new ≤ℤ bound
+    → ((c : ℤ) → SetsUpperAt opens z c (get_or os i d) (get_or qs i 0) → new ≤ℤ c)
+    → (new ≡ bound) ⊎ SetsUpperAt opens z new (get_or os i d) (get_or qs i 0)
+    → IsLeastUpper opens z (take (i + 1) os) (take (i + 1) qs) new
 upper_more opens z os qs i d bound new h l before most below from = record { reached = reached from; least = least }
   where
     kept : (c : ℤ) → IsUpperOf opens z (take i os) (take i qs) c → IsUpperOf opens z (take (i + 1) os) (take (i + 1) qs) c

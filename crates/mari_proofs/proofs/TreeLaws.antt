@@ -20,8 +20,11 @@ bounds_for m w gates items a v t adm = tree_sound m w items a v (tree_holds_plai
 pub optimal_for : (m : Market) (w : ℤ) (gates : List Bool) (items : List TreeItem) (a : Activation) → IsValid m → TreeHoldsFor m w gates items → IsAdmissible m a → welfare_of m a ≡ w → IsOptimal m a
 optimal_for m w gates items a v t adm e = optimal_by_tree m a items v adm (subst (λ (u : ℤ). TreeHolds m u items) (sym e) (tree_holds_plain m w gates items t))
 
-pub earlier_for : (m : Market) (w : ℤ) (x : Prefix) (items : List TreeItem) (a : Activation) → IsValid m → x.length ≡ length m.gates → TreeHoldsFor m w (word_of x) items → IsAdmissible m a → ComesBefore (gate_word_of m a) (word_of x) → welfare_of m a ≤ℤ (w -ℤ pos 1)
+pub earlier_for : (m : Market) (w : ℤ) (x : Prefix) (items : List TreeItem) (a : Activation) → IsValid m
+    → x.length ≡ length m.gates → TreeHoldsFor m w (word_of x) items → IsAdmissible m a
+    → ComesBefore (gate_word_of m a) (word_of x) → welfare_of m a ≤ℤ (w -ℤ pos 1)
 earlier_for m w x items a v full t adm before = earlier_is_worse m w (word_of x) items a v (length-decisions x x.length ∙ full) t adm before
 
-pub first_for : (m : Market) (w : ℤ) (gates : List Bool) (items : List TreeItem) (a : Activation) → IsValid m → TreeHoldsFor m w gates items → IsAdmissible m a → welfare_of m a ≡ w → gate_word_of m a ≡ gates → IsFirst m a
+pub first_for : (m : Market) (w : ℤ) (gates : List Bool) (items : List TreeItem) (a : Activation) → IsValid m
+    → TreeHoldsFor m w gates items → IsAdmissible m a → welfare_of m a ≡ w → gate_word_of m a ≡ gates → IsFirst m a
 first_for m w gates items a v t adm e g = first_by_tree m a items v adm (subst (λ (u : ℤ). TreeHoldsFor m u (gate_word_of m a) items) (sym e) (subst (λ (gs : List Bool). TreeHoldsFor m w gs items) (sym g) t))

@@ -27,27 +27,35 @@ full_branch m x item gates is same l = subst (λ (i : TreeItem). IsFullBranch m 
     at_branch : length gates ≡ length m.gates → length m.gates ≤ length (word_of x)
     at_branch e = omega (arith, e, length-decisions x x.length)
 
-pub branch_fits : (m : Market) (holds : List Bool → LeafRecord → Type 0) (x y : Prefix) (item : TreeItem) (gates : List GateInfo) → item ≡ Branch → gates ≡ m.gates → x.length < length gates → IsFeasiblePrefix m x → word_of y ≡ word_of x ++ false ∷ [] → IsCleared y → FitsItem m holds x item (Some y) × IsFeasiblePrefix m y
+pub branch_fits : (m : Market) (holds : List Bool → LeafRecord → Type 0) (x y : Prefix) (item : TreeItem) (gates : List GateInfo)
+    → item ≡ Branch → gates ≡ m.gates → x.length < length gates → IsFeasiblePrefix m x
+    → word_of y ≡ word_of x ++ false ∷ [] → IsCleared y → FitsItem m holds x item (Some y) × IsFeasiblePrefix m y
 branch_fits m holds x y item gates is same l f child cleared =
     let room : length (word_of x) < length m.gates = omega (arith, ap length same, length-decisions x x.length) in (
       subst (λ (i : TreeItem). FitsItem m holds x i (Some y)) (sym is) (room, first_child m.gates x y child),
       record { word = subst (λ (w : List Bool). IsFeasibleWord m.gates w) (sym child) (closed_child m.gates (word_of x) f.word room); rest = cleared },
     )
 
-fits_leaves : (m : Market) (holds : List Bool → LeafRecord → Type 0) (x : Prefix) (item : TreeItem) (next : Option Prefix) → FitsItem m holds x item next → LeavesWords m holds (left_at m.gates (Some x)) (item ∷ []) (left_at m.gates next)
+fits_leaves : (m : Market) (holds : List Bool → LeafRecord → Type 0) (x : Prefix) (item : TreeItem) (next : Option Prefix)
+    → FitsItem m holds x item next → LeavesWords m holds (left_at m.gates (Some x)) (item ∷ []) (left_at m.gates next)
 fits_leaves m holds x (Leaf leaf) next h = (h.0, sym h.1)
 fits_leaves m holds x Branch next h = (h.0, sym h.1)
 
 -- ---- the items so far
 
-pub leaves_append : (m : Market) (holds : List Bool → LeafRecord → Type 0) (words : List (List Bool)) (items more : List TreeItem) (left last : List (List Bool)) → LeavesWords m holds words items left → LeavesWords m holds left more last → LeavesWords m holds words (items ++ more) last
+pub leaves_append : (m : Market) (holds : List Bool → LeafRecord → Type 0) (words : List (List Bool)) (items more : List TreeItem) (left last : List (List Bool))
+    → LeavesWords m holds words items left → LeavesWords m holds left more last
+    → LeavesWords m holds words (items ++ more) last
 leaves_append m holds words [] more left last h k = subst (λ (ws : List (List Bool)). LeavesWords m holds ws more last) (sym h) k
 leaves_append m holds [] (item ∷ items) more left last h k = absurd h
 leaves_append m holds (word ∷ words) (Leaf leaf ∷ items) more left last h k = (h.0, leaves_append m holds words items more left last h.1 k)
 leaves_append m holds (word ∷ words) (Branch ∷ items) more left last h k = (h.0, leaves_append m holds (children m.gates word ++ words) items more left last h.1 k)
 
 -- a walk's step: one item more that fits
-pub walk_more : (m : Market) (holds : List Bool → LeafRecord → Type 0) (items : List TreeItem) (i : ℕ) (d : TreeItem) (x : Prefix) (at next : Option Prefix) → i < length items → at ≡ Some x → LeavesWords m holds ([] ∷ []) (take i items) (left_at m.gates at) → FitsItem m holds x (get_or items i d) next → LeavesWords m holds ([] ∷ []) (take (i + 1) items) (left_at m.gates next)
+pub walk_more : (m : Market) (holds : List Bool → LeafRecord → Type 0) (items : List TreeItem) (i : ℕ) (d : TreeItem) (x : Prefix) (at next : Option Prefix)
+    → i < length items → at ≡ Some x → LeavesWords m holds ([] ∷ []) (take i items) (left_at m.gates at)
+    → FitsItem m holds x (get_or items i d) next
+    → LeavesWords m holds ([] ∷ []) (take (i + 1) items) (left_at m.gates next)
 walk_more m holds items i d x at next h is before fits =
     subst (λ (xs : List TreeItem). LeavesWords m holds ([] ∷ []) xs (left_at m.gates next)) (sym (take_more items i d h))
     (leaves_append m holds ([] ∷ []) (take i items) (get_or items i d ∷ []) (left_at m.gates at) (left_at m.gates next) before
@@ -55,7 +63,9 @@ walk_more m holds items i d x at next h is before fits =
 
 -- ---- the answers
 
-pub ends_too_early : (m : Market) (holds : List Bool → LeafRecord → Type 0) (items : List TreeItem) (i : ℕ) (x : Prefix) (at : Option Prefix) → length items ≤ i → at ≡ Some x → LeavesWords m holds ([] ∷ []) (take i items) (left_at m.gates at) → IsBadShape m holds items (length items)
+pub ends_too_early : (m : Market) (holds : List Bool → LeafRecord → Type 0) (items : List TreeItem) (i : ℕ) (x : Prefix) (at : Option Prefix)
+    → length items ≤ i → at ≡ Some x → LeavesWords m holds ([] ∷ []) (take i items) (left_at m.gates at)
+    → IsBadShape m holds items (length items)
 ends_too_early m holds items i x at h is before = record {
   within = omega arith;
   left = left_at m.gates at;
@@ -70,13 +80,17 @@ none_left m holds [] (item ∷ items) h = absurd h
 none_left m holds (word ∷ words) (Leaf leaf ∷ items) h = (h.0, none_left m holds words items h.1)
 none_left m holds (word ∷ words) (Branch ∷ items) h = (h.0, none_left m holds (children m.gates word ++ words) items h.1)
 
-pub walk_ends : (m : Market) (holds : List Bool → LeafRecord → Type 0) (items : List TreeItem) (i : ℕ) (at : Option Prefix) → length items ≤ i → at ≡ None → LeavesWords m holds ([] ∷ []) (take i items) (left_at m.gates at) → AreParts m holds ([] ∷ []) items
+pub walk_ends : (m : Market) (holds : List Bool → LeafRecord → Type 0) (items : List TreeItem) (i : ℕ) (at : Option Prefix)
+    → length items ≤ i → at ≡ None → LeavesWords m holds ([] ∷ []) (take i items) (left_at m.gates at)
+    → AreParts m holds ([] ∷ []) items
 walk_ends m holds items i at h is before =
     none_left m holds ([] ∷ []) items (subst (λ (o : Option Prefix). LeavesWords m holds ([] ∷ []) items (left_at m.gates o)) is (subst (λ (xs : List TreeItem). LeavesWords m holds ([] ∷ []) xs (left_at m.gates at)) (take_all i items h) before))
 
 -- ---- a tree that fails at a place doesn't hold
 
-parts_split : (m : Market) (holds : List Bool → LeafRecord → Type 0) (words : List (List Bool)) (items : List TreeItem) (p : ℕ) (left : List (List Bool)) → AreParts m holds words items → LeavesWords m holds words (take p items) left → AreParts m holds left (drop p items)
+parts_split : (m : Market) (holds : List Bool → LeafRecord → Type 0) (words : List (List Bool)) (items : List TreeItem) (p : ℕ) (left : List (List Bool))
+    → AreParts m holds words items → LeavesWords m holds words (take p items) left
+    → AreParts m holds left (drop p items)
 parts_split m holds words items zero left a h = subst (λ (ws : List (List Bool)). AreParts m holds ws items) h a
 parts_split m holds words [] (suc p) left a h = subst (λ (ws : List (List Bool)). AreParts m holds ws []) h a
 parts_split m holds [] (item ∷ items) (suc p) left a h = absurd h

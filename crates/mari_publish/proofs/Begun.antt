@@ -120,7 +120,8 @@ from_nothing ls p k g s fit none = let le = s.fits.1.items in from_free (g.count
 no_list : {X : Type 0} (P : X → Type 0) (most : ℕ) → Listed 0 most P []
 no_list P most = ((omega arith, omega arith), All-nil P)
 
-from_flows : (zones : List ℕ) (prices : List Cents) (flows : List ℤ) (ls : List Line) (p : Publication) (k : Kept) (g : Growing) → g.pending ≡ Flows zones prices flows → Stands ls p k (held.Growing g) → Fit ls → Begins ls
+from_flows : (zones : List ℕ) (prices : List Cents) (flows : List ℤ) (ls : List Line) (p : Publication) (k : Kept) (g : Growing)
+    → g.pending ≡ Flows zones prices flows → Stands ls p k (held.Growing g) → Fit ls → Begins ls
 from_flows zones prices flows ls p k g is s fit =
     let i = conflict_item zones prices flows [] in
     let new : Growing = record { listing = g.listing; count = g.count; tree = g.tree ++ i ∷ []; pending = Nothing } in

@@ -99,7 +99,8 @@ borders_follow p m n h w zs before (b ∷ bs) rest some le =
     ∙ borders_follow p m n h w zs (before ++ b ∷ []) bs rest some (omega (arith, len, le))
     ∙ ap (λ (xs : List BorderLine). after_all p (at m n (held.Listing (listing h w zs xs [] []))) rest) (append_assoc before (b ∷ []) bs)
 
-bids_follow : (p : Publication) (m n : ℕ) (h : Heading) (w : ℕ) (zs : List ZoneLine) (bs : List BorderLine) (before ds : List BidLine) (rest : List Line) → 0 < length zs → length before + length ds ≤ 4096
+bids_follow : (p : Publication) (m n : ℕ) (h : Heading) (w : ℕ) (zs : List ZoneLine) (bs : List BorderLine) (before ds : List BidLine) (rest : List Line)
+    → 0 < length zs → length before + length ds ≤ 4096
     → after_all p (at m n (held.Listing (listing h w zs bs before []))) (map line.Bid ds ++ rest) ≡ after_all p (at m n (held.Listing (listing h w zs bs (before ++ ds) []))) rest
 bids_follow p m n h w zs bs before [] rest some le = ap (λ (ds : List BidLine). after_all p (at m n (held.Listing (listing h w zs bs ds []))) rest) (sym (append-nil before))
 bids_follow p m n h w zs bs before (d ∷ ds) rest some le =
@@ -111,7 +112,8 @@ bids_follow p m n h w zs bs before (d ∷ ds) rest some le =
     ∙ bids_follow p m n h w zs bs (before ++ d ∷ []) ds rest some (omega (arith, len, le))
     ∙ ap (λ (xs : List BidLine). after_all p (at m n (held.Listing (listing h w zs bs xs []))) rest) (append_assoc before (d ∷ []) ds)
 
-demands_follow : (p : Publication) (m n : ℕ) (h : Heading) (w : ℕ) (zs : List ZoneLine) (bs : List BorderLine) (ds : List BidLine) (k : ℕ) (before ms : List ℕ) (rest : List Line) → 0 < length zs → k ≡ length before + 1
+demands_follow : (p : Publication) (m n : ℕ) (h : Heading) (w : ℕ) (zs : List ZoneLine) (bs : List BorderLine) (ds : List BidLine) (k : ℕ) (before ms : List ℕ) (rest : List Line)
+    → 0 < length zs → k ≡ length before + 1
     → after_all p (at m n (held.Listing (listing h w zs bs ds before))) (demand_lines k ms ++ rest) ≡ after_all p (at m n (held.Listing (listing h w zs bs ds (before ++ ms)))) rest
 demands_follow p m n h w zs bs ds k before [] rest some e = ap (λ (ms : List ℕ). after_all p (at m n (held.Listing (listing h w zs bs ds ms))) rest) (sym (append-nil before))
 demands_follow p m n h w zs bs ds k before (x ∷ ms) rest some e =
@@ -166,7 +168,8 @@ providers_follow p m n b is os before (a ∷ ps) rest le =
     ∙ ap (λ (xs : List AmountLine). after_all p (at m n (held.Ending (ending b is os xs))) rest) (append_assoc before (a ∷ []) ps)
 
 -- the operators and providers of a block whose tree is whole, and its end
-ending_follows : (p : Publication) (m n : ℕ) (b : FullBlock) (lb : Listing) (os : List MoneyLine) (rest : List Line) → lb ≡ listing b.heading b.welfare b.zones b.borders b.bids b.demands → os ≡ b.operators
+ending_follows : (p : Publication) (m n : ℕ) (b : FullBlock) (lb : Listing) (os : List MoneyLine) (rest : List Line)
+    → lb ≡ listing b.heading b.welfare b.zones b.borders b.bids b.demands → os ≡ b.operators
     → Between 1 64 (length os) → length b.providers ≤ 4096
     → after_all p (at m n (held.Growing (growing lb (length b.tree) b.tree))) (map line.Operator os ++ (map line.Provider b.providers ++ line.End b.heading.run ∷ rest))
     ≡ after_all (grown p (Some (part.Block (block.Published b)))) (at (m + 1) n held.Between) rest

@@ -184,7 +184,9 @@ module _ (Known : List ℕ → Type 0) (page rest : Option (List ℕ)) (given : 
       line-fault f h = let P : List ℕ → Type 0 = λ xs. IsReportedFault xs f in subst P all-of-it (fault-reported (u.text ++ piece) (drop n left-of.0) f with-piece h)
 
     -- there is more of it
-    pub one-piece : (Now : List ℕ → Type 0) → Now (u.text ++ piece) → NoFault (u.text ++ piece) → (now : Option (List ℕ)) (more : ℕ) → now ≡ option_map (λ l. drop n l) rest → more ≡ given + n → Under Now page now more
+    pub one-piece : (Now : List ℕ → Type 0) → Now (u.text ++ piece) → NoFault (u.text ++ piece)
+        → (now : Option (List ℕ)) (more : ℕ) → now ≡ option_map (λ l. drop n l) rest → more ≡ given + n
+        → Under Now page now more
     one-piece Now known none now more left_is given_is =
         let longer = length-append u.text piece in
         record {

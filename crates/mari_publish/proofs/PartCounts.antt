@@ -45,7 +45,8 @@ counts lines parts k g =
     ap length g.given ∙ so-many g.so_far k.held ∙ ap (count_in k.held) both
 
 -- each part leaves room for one less
-pub fewer-left : (old new : ComeState) (text : List ℕ) (parts : List Part) (x : Part) → ComesFrom old text parts → ComesFrom new text (parts ++ x ∷ []) → 1002 - count_of new.kept < 1002 - count_of old.kept
+pub fewer-left : (old new : ComeState) (text : List ℕ) (parts : List Part) (x : Part) → ComesFrom old text parts
+    → ComesFrom new text (parts ++ x ∷ []) → 1002 - count_of new.kept < 1002 - count_of old.kept
 fewer-left old new text parts x s t =
     let before = counts s.lines parts old.kept s.gives in
     let after = counts t.lines (parts ++ x ∷ []) new.kept t.gives in

@@ -94,7 +94,8 @@ forward bytes rest here after n p k r x a parts t =
       stands = next a.before p k k.held l (r, x) a.stands t.3;
     }
 
-bad_line : (bytes rest here after : List ℕ) (n : ℕ) (p : Publication) (k r : Kept) → Progress bytes rest n p k → Lacks 10 here → rest ≡ here ++ 10 ∷ after → Took k here r (Err take_fault.Formless) → BadLineAt bytes n
+bad_line : (bytes rest here after : List ℕ) (n : ℕ) (p : Publication) (k r : Kept) → Progress bytes rest n p k
+    → Lacks 10 here → rest ≡ here ++ 10 ∷ after → Took k here r (Err take_fault.Formless) → BadLineAt bytes n
 bad_line bytes rest here after n p k r a whole parts took = record {
   before = a.before;
   here = here;
@@ -106,7 +107,8 @@ bad_line bytes rest here after n p k r a whole parts took = record {
   formless = took.0;
 }
 
-bad_order : (bytes rest here after : List ℕ) (n : ℕ) (p : Publication) (k r : Kept) → Progress bytes rest n p k → rest ≡ here ++ 10 ∷ after → Took k here r (Err take_fault.OutOfOrder) → BadOrderAt bytes n
+bad_order : (bytes rest here after : List ℕ) (n : ℕ) (p : Publication) (k r : Kept) → Progress bytes rest n p k
+    → rest ≡ here ++ 10 ∷ after → Took k here r (Err take_fault.OutOfOrder) → BadOrderAt bytes n
 bad_order bytes rest here after n p k r a parts took = record {
   before = a.before;
   here = took.0;
@@ -119,7 +121,9 @@ bad_order bytes rest here after n p k r a parts took = record {
 }
 
 -- a line that wasn't taken
-pub refused : (bytes rest here after : List ℕ) (n : ℕ) (p : Publication) (k r : Kept) → Progress bytes rest n p k → Lacks 10 here → rest ≡ here ++ 10 ∷ after → (f : TakeFault) → Took k here r (Err f) → IsOutcome bytes (Err (text_fault n f))
+pub refused : (bytes rest here after : List ℕ) (n : ℕ) (p : Publication) (k r : Kept) → Progress bytes rest n p k
+    → Lacks 10 here → rest ≡ here ++ 10 ∷ after → (f : TakeFault) → Took k here r (Err f)
+    → IsOutcome bytes (Err (text_fault n f))
 refused bytes rest here after n p k r a whole parts take_fault.Formless took = bad_line bytes rest here after n p k r a whole parts took
 refused bytes rest here after n p k r a whole parts take_fault.OutOfOrder took = bad_order bytes rest here after n p k r a parts took
 refused bytes rest here after n p k r a whole parts take_fault.Memory took = tt

@@ -273,7 +273,8 @@ ending_step p n (line.Provider a) h fits e =
 ending_step p n _ h fits e = absurd cc
 
 -- a line of the totals
-pub totals_step : (p : Publication) (os : List MoneyLine) (ps : List AmountLine) (l : Line) (h : Held) → HeldFits p (held.Totals os ps) → after_totals os ps l ≡ Some h → Moves p (held.Totals os ps) l h
+pub totals_step : (p : Publication) (os : List MoneyLine) (ps : List AmountLine) (l : Line) (h : Held)
+    → HeldFits p (held.Totals os ps) → after_totals os ps l ≡ Some h → Moves p (held.Totals os ps) l h
 totals_step p os ps (line.TotalOperator o) h fits e =
     let t = cond_some (empty ps && ltb (length os) 64) (held.Totals (os ++ o ∷ []) ps) h e in
     let s = and_parts (empty ps) (ltb (length os) 64) t.0 in

@@ -130,7 +130,8 @@ between_step ls p k (line.TotalOperator t) x s e =
     (moved ls p k held.Between (held.Totals (t ∷ []) []) (line.TotalOperator t) s (first (front_lines p) (line.TotalOperator t), ((omega arith, omega arith), omega arith)))
 between_step ls p k _ x s e = absurd cc
 
-end_step : (ls : List Line) (p : Publication) (k : Kept) (g : Ending) (run : ℕ) (x : Kept × Option Part) → Stands ls p k (held.Ending g) → after k (held.Ending g) (line.End run) ≡ Some x → Next ls p (line.End run) x
+end_step : (ls : List Line) (p : Publication) (k : Kept) (g : Ending) (run : ℕ) (x : Kept × Option Part)
+    → Stands ls p k (held.Ending g) → after k (held.Ending g) (line.End run) ≡ Some x → Next ls p (line.End run) x
 end_step ls p k g run x s e =
     let new : Kept = record { held = held.Between; counts = one_published k.counts } in
     let t = cond_some (eqb run g.listing.heading.run) (new, Some (part.Block (full_block g))) x e in

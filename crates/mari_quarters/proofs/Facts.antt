@@ -29,13 +29,15 @@ module _ (pages : Pages) (folder : List ℕ) where
   held_page books page gap h e = let none : None ≡ Some gap = sym h.short ∙ sym (ap gap_of h.held) ∙ e in cc
 
   module _ (first last : ℕ) where
-    one_read : (a b : Books) (p q : List ℕ) (x y : Result BlockBook BookFault) → HasPage pages folder a p → HasPage pages folder b q → blocks_in a first last p ≡ x → blocks_in b first last q ≡ y → x ≡ y
+    one_read : (a b : Books) (p q : List ℕ) (x y : Result BlockBook BookFault) → HasPage pages folder a p
+        → HasPage pages folder b q → blocks_in a first last p ≡ x → blocks_in b first last q ≡ y → x ≡ y
     one_read a b p q x y h k e f =
         let books : a ≡ b = one_books a b h.gives k.gives in
         let page : p ≡ q = let same : Some p ≡ Some q = sym h.held ∙ k.held in cc in
         sym e ∙ ap (λ (o : Books). blocks_in o first last p) books ∙ ap (blocks_in b first last) page ∙ f
 
-    one_made : (a b : Books) (s t : BlockBook) (x y : Result Joint Refusal) → HasBlocks pages folder first last a s → HasBlocks pages folder first last b t → joint_in a s first last ≡ x → joint_in b t first last ≡ y → x ≡ y
+    one_made : (a b : Books) (s t : BlockBook) (x y : Result Joint Refusal) → HasBlocks pages folder first last a s
+        → HasBlocks pages folder first last b t → joint_in a s first last ≡ x → joint_in b t first last ≡ y → x ≡ y
     one_made a b s t x y h k e f =
         let books : a ≡ b = one_books a b h.has.gives k.has.gives in
         let read : Ok s ≡ Ok t = one_read a b h.page k.page (Ok s) (Ok t) h.has k.has h.read k.read in
@@ -43,7 +45,9 @@ module _ (pages : Pages) (folder : List ℕ) where
         sym e ∙ ap (λ (o : Books). joint_in o s first last) books ∙ ap (λ (o : BlockBook). joint_in b o first last) blocks ∙ f
 
     -- two joint markets are one
-    pub one_joint : (a b : Books) (s t : BlockBook) (j k : Joint) → HasBlocks pages folder first last a s → HasBlocks pages folder first last b t → joint_in a s first last ≡ Ok j → joint_in b t first last ≡ Ok k → j ≡ k
+    pub one_joint : (a b : Books) (s t : BlockBook) (j k : Joint) → HasBlocks pages folder first last a s
+        → HasBlocks pages folder first last b t → joint_in a s first last ≡ Ok j → joint_in b t first last ≡ Ok k
+        → j ≡ k
     one_joint a b s t j k h l e f = let same : Ok j ≡ Ok k = one_made a b s t (Ok j) (Ok k) h l e f in cc
 
     -- two refusals are one
@@ -81,7 +85,8 @@ module _ (pages : Pages) (folder : List ℕ) where
     refused_held r n g (OfMarket b t h e) (LacksBlocks c has f are) = held_page b h.page g h.has f
 
     -- where there is a joint market, nothing is refused, and all pages are had
-    pub made_accepted : (b : Books) (t : BlockBook) (j : Joint) (r : Refusal) → HasBlocks pages folder first last b t → joint_in b t first last ≡ Ok j → HasQuartersRefusal pages folder first last r → ⊥
+    pub made_accepted : (b : Books) (t : BlockBook) (j : Joint) (r : Refusal) → HasBlocks pages folder first last b t
+        → joint_in b t first last ≡ Ok j → HasQuartersRefusal pages folder first last r → ⊥
     made_accepted b t j r h e (OfFiles k) = agree pages folder (Gives b) (Refuses r) h.has.gives k
     made_accepted b t j r h e (OfBlocks c page line number k f is) =
         let same : Ok t ≡ Err (At line number) = one_read b c h.page page (Ok t) (Err (At line number)) h.has k h.read f in cc

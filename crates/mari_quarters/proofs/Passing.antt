@@ -31,7 +31,8 @@ files-check (why.Fetch number f) by = tt
 files-check (why.Refused refusal) by = checks.OfFiles by
 files-check why.Memory by = tt
 
-pub files-report : (reported : Pages) (folder : List ℕ) (first last budget : ℕ) (fault : BooksFault) → BooksReport reported folder (Err fault) → QuartersReport reported folder first last budget (Err fault)
+pub files-report : (reported : Pages) (folder : List ℕ) (first last budget : ℕ) (fault : BooksFault)
+    → BooksReport reported folder (Err fault) → QuartersReport reported folder first last budget (Err fault)
 files-report reported folder first last budget (why.Fetch number fetch.Failed) states = tt
 files-report reported folder first last budget (why.Fetch number fetch.Missing) states = gaps.OfFiles states
 files-report reported folder first last budget (why.Fetch number fetch.TooLong) states = gaps.OfFiles states
@@ -51,7 +52,8 @@ page-states reported folder first last budget books has (why.Refused refusal) st
 page-states reported folder first last budget books has why.Memory states file = tt
 
 -- the page of blocks.csv, which was had
-pub has-page : (reported : Pages) (folder : List ℕ) (books : Books) (page : List ℕ) → HasBooks reported folder books → PageStates (blocks_page reported folder) (Ok page) → HasPage reported folder books page
+pub has-page : (reported : Pages) (folder : List ℕ) (books : Books) (page : List ℕ) → HasBooks reported folder books
+    → PageStates (blocks_page reported folder) (Ok page) → HasPage reported folder books page
 has-page reported folder books page has held = record { gives = has; held = held.0; short = subst (λ (p : Option (List ℕ)). gap_of p ≡ None) held.0 held.1 }
 
 -- ---- without a book of blocks, and with one

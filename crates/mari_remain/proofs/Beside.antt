@@ -6,7 +6,8 @@ use Rattle.std.proofs.lemmas.Bool.{eqb-true, eqb-false}
 use Rattle.std.proofs.lemmas.Bool.Decides.{nat_tests}
 use Rattle.mari_remain.specs.Blocks.{mw_beside}
 
-beside-drop : (i k : ℕ) (ns qs : List ℕ) → k < length ns → k < length qs → mw_beside i (drop k ns) (drop k qs) ≡ (if get_or ns k 0 == i then get_or qs k 0 else 0) + mw_beside i (drop (k + 1) ns) (drop (k + 1) qs)
+beside-drop : (i k : ℕ) (ns qs : List ℕ) → k < length ns → k < length qs
+    → mw_beside i (drop k ns) (drop k qs) ≡ (if get_or ns k 0 == i then get_or qs k 0 else 0) + mw_beside i (drop (k + 1) ns) (drop (k + 1) qs)
 beside-drop i k ns qs l m =
     ap (λ xs. mw_beside i xs (drop k qs)) (drop-cons ns k 0 l) ∙ ap (λ xs. mw_beside i (get_or ns k 0 ∷ drop (suc k) ns) xs) (drop-cons qs k 0 m)
     ∙ ap (λ n. (if get_or ns k 0 == i then get_or qs k 0 else 0) + mw_beside i (drop n ns) (drop n qs)) (sym (add-one k))
@@ -15,7 +16,8 @@ pub mark-no : (marks : List Bool) (ns qs : List ℕ) (k i : ℕ) → k < length 
     → (get_or marks i false || nat_lt 0 (mw_beside i (drop (k + 1) ns) (drop (k + 1) qs))) ≡ (get_or marks i false || nat_lt 0 (mw_beside i (drop k ns) (drop k qs)))
 mark-no marks ns qs k i l m none = rw (beside-drop i k ns qs l m, none) (by (get_or ns k 0 == i))
   where
-    by : (t : Bool) → (get_or marks i false || nat_lt 0 (mw_beside i (drop (k + 1) ns) (drop (k + 1) qs))) ≡ (get_or marks i false || nat_lt 0 ((if t then 0 else 0) + mw_beside i (drop (k + 1) ns) (drop (k + 1) qs)))
+    by : (t : Bool)
+        → (get_or marks i false || nat_lt 0 (mw_beside i (drop (k + 1) ns) (drop (k + 1) qs))) ≡ (get_or marks i false || nat_lt 0 ((if t then 0 else 0) + mw_beside i (drop (k + 1) ns) (drop (k + 1) qs)))
     by true = ap (λ n. get_or marks i false || nat_lt 0 n) (omega arith)
     by false = ap (λ n. get_or marks i false || nat_lt 0 n) (omega arith)
 

@@ -51,7 +51,8 @@ rival : (q a : Bool) (mw : ℕ) (gi gj : Option ℕ)
     ≡ (a && (option_map_or (λ g. option_map_or (λ h. h == g) gj false) gi false && nat_lt 0 (if q then mw else 0)))
 rival q a mw gi None = none q a gi (nat_lt 0 mw)
   where
-    none : (q a : Bool) (gi : Option ℕ) (b : Bool) → (q && ((b && false) && (a && option_map_or (λ g. false) gi false))) ≡ (a && (option_map_or (λ g. false) gi false && nat_lt 0 (if q then mw else 0)))
+    none : (q a : Bool) (gi : Option ℕ) (b : Bool)
+        → (q && ((b && false) && (a && option_map_or (λ g. false) gi false))) ≡ (a && (option_map_or (λ g. false) gi false && nat_lt 0 (if q then mw else 0)))
     none q a gi b = grind (arith)
 rival true a mw None (Some h) = grind arith
 rival false a mw None (Some h) = grind arith
@@ -144,7 +145,8 @@ module _ (books : Books) (kept : Tally) (run : Run) (ok : IsAccepted books) wher
       first-true true b e f = refl
       first-true false b e f = sym e ∙ f
 
-      apart : (numbers : List ℕ) (k i p m d : ℕ) → k < length numbers → get_or numbers k i ≡ i → p < i → AllPairs (λ i j. i < j) numbers → k + m < length numbers → (get_or (drop k numbers) m d == p) ≡ false
+      apart : (numbers : List ℕ) (k i p m d : ℕ) → k < length numbers → get_or numbers k i ≡ i → p < i
+          → AllPairs (λ i j. i < j) numbers → k + m < length numbers → (get_or (drop k numbers) m d == p) ≡ false
       apart numbers k i p zero d l here less rise more =
           let same : get_or (drop k numbers) zero d ≡ i = get_or-drop k numbers zero d ∙ ap (λ n. get_or numbers n d) (omega arith) ∙ get_or_default numbers k d i l ∙ here in
           grind (arith, nat_tests, same, less)
@@ -155,14 +157,17 @@ module _ (books : Books) (kept : Tally) (run : Run) (ok : IsAccepted books) wher
           grind (arith, nat_tests, same, first, above, less)
 
   -- the next bid of the quarter, after the gated ones that were chosen before it
-  pub next : (k i : ℕ) → k < length (bids_of_quarter books.bids.bids run.quarter) → get_or (bids_of_quarter books.bids.bids run.quarter) k i ≡ i → i < length books.bids.bids → (bid_numbered books.bids.bids i).quarter ≡ run.quarter
+  pub next : (k i : ℕ) → k < length (bids_of_quarter books.bids.bids run.quarter)
+      → get_or (bids_of_quarter books.bids.bids run.quarter) k i ≡ i → i < length books.bids.bids
+      → (bid_numbered books.bids.bids i).quarter ≡ run.quarter
       → (chosen gated : List ℕ) → chosen ≡ filter (is_available books (taken_in books kept run.quarter) run) (take k (bids_of_quarter books.bids.bids run.quarter)) → gated ≡ filter (has_gate books.links) chosen
       → (may_run books (taken_in books kept run.quarter) run i && option_map_or (λ p. nat_lt 0 (get_or kept.mw p 0) || list_any (λ j. j == p) gated) (parent_at books.links.links i) true)
       ≡ is_available books (taken_in books kept run.quarter) run i
   next k i l here there own chosen gated is_chosen is_gated =
       ap (λ b. may_run books taken run i && b) (by (parent_at books.links.links i) refl) ∙ sym (available books taken run ok i)
     where
-      by : (parent : Option ℕ) → parent_at books.links.links i ≡ parent → option_map_or (λ p. nat_lt 0 (get_or kept.mw p 0) || list_any (λ j. j == p) gated) parent true ≡ parent_allows (is_available books taken run) taken parent
+      by : (parent : Option ℕ) → parent_at books.links.links i ≡ parent
+          → option_map_or (λ p. nat_lt 0 (get_or kept.mw p 0) || list_any (λ j. j == p) gated) parent true ≡ parent_allows (is_available books taken run) taken parent
       by None e = refl
       by (Some p) e =
           let up = parents books ok i p e in
@@ -199,7 +204,9 @@ pub record HasQuarter (books : Books) (kept : Tally) (quarter : ℕ) : Type 0 wh
   pub there : quarter < length kept.of_quarter
   pub bids : get_or kept.of_quarter quarter [] ≡ bids_of_quarter books.bids.bids quarter
 
-pub has-quarter : (books : Books) (kept : Tally) (quarter : ℕ) → kept.of_quarter ≡ map (bids_of_quarter books.bids.bids) (range_with_len 0 (books.quarters + 1)) → quarter ≤ books.quarters → HasQuarter books kept quarter
+pub has-quarter : (books : Books) (kept : Tally) (quarter : ℕ)
+    → kept.of_quarter ≡ map (bids_of_quarter books.bids.bids) (range_with_len 0 (books.quarters + 1))
+    → quarter ≤ books.quarters → HasQuarter books kept quarter
 has-quarter books kept quarter index l =
     let long : length kept.of_quarter ≡ books.quarters + 1 = ap length index ∙ length-map-range_with_len (bids_of_quarter books.bids.bids) 0 (books.quarters + 1) in
     record {
@@ -212,7 +219,9 @@ pub record HasRun (books : Books) (kept : Tally) (run : ℕ) : Type 0 where
   pub there : run < length kept.of_run
   pub demands : get_or kept.of_run run [] ≡ numbers_of_run books.demands.demands run
 
-pub has-run : (books : Books) (kept : Tally) (run : ℕ) → kept.of_run ≡ map (numbers_of_run books.demands.demands) (range_with_len 0 (length books.runs.runs + 1)) → run ≤ length books.runs.runs → HasRun books kept run
+pub has-run : (books : Books) (kept : Tally) (run : ℕ)
+    → kept.of_run ≡ map (numbers_of_run books.demands.demands) (range_with_len 0 (length books.runs.runs + 1))
+    → run ≤ length books.runs.runs → HasRun books kept run
 has-run books kept run index l =
     let runs : ℕ = length books.runs.runs in
     let long : length kept.of_run ≡ runs + 1 = ap length index ∙ length-map-range_with_len (numbers_of_run books.demands.demands) 0 (runs + 1) in
@@ -247,11 +256,15 @@ module _ (avail gate : ℕ → Bool) (all : List ℕ) (k i : ℕ) (numbers gated
   }
 
 -- what passes a test of a quarter's bids is of the quarter
-pub own-chosen : (books : Books) (p : ℕ → Bool) (quarter : ℕ) (numbers : List ℕ) → numbers ≡ filter p (bids_of_quarter books.bids.bids quarter) → All (λ i. (bid_numbered books.bids.bids i).quarter ≡ quarter) numbers
+pub own-chosen : (books : Books) (p : ℕ → Bool) (quarter : ℕ) (numbers : List ℕ)
+    → numbers ≡ filter p (bids_of_quarter books.bids.bids quarter)
+    → All (λ i. (bid_numbered books.bids.bids i).quarter ≡ quarter) numbers
 own-chosen books p quarter numbers e =
     rw e (All-filter p (λ i. (bid_numbered books.bids.bids i).quarter ≡ quarter) (bids_of_quarter books.bids.bids quarter)
     (All-weaker (IsOwn books quarter) (λ i. (bid_numbered books.bids.bids i).quarter ≡ quarter) (λ i own. own.own) (bids_of_quarter books.bids.bids quarter) (own-numbers books quarter)))
 
 -- no more gated bids are chosen than a market has gates
-pub few-chosen : (books : Books) (p : ℕ → Bool) (quarter : ℕ) (numbers gated : List ℕ) → IsAccepted books → numbers ≡ filter p (bids_of_quarter books.bids.bids quarter) → gated ≡ filter (has_gate books.links) numbers → length gated ≤ 512
+pub few-chosen : (books : Books) (p : ℕ → Bool) (quarter : ℕ) (numbers gated : List ℕ) → IsAccepted books
+    → numbers ≡ filter p (bids_of_quarter books.bids.bids quarter) → gated ≡ filter (has_gate books.links) numbers
+    → length gated ≤ 512
 few-chosen books p quarter numbers gated ok e f = rw (f, e) (few_of_quarter books ok p quarter)

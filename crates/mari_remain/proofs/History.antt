@@ -81,7 +81,9 @@ module _ (books : Books) (ok : IsAccepted books) where
               let both : true ≡ false = sym same ∙ other in
               absurd (cc both)
 
-      bids : (p : Option PastRun) → b.published ≡ p → (i : ℕ) → ((bid_numbered books.bids.bids i).quarter == b.quarter) ≡ false → option_map_or (λ (r : PastRun). mw_beside i r.bids r.activation.mw) p 0 ≡ 0
+      bids : (p : Option PastRun) → b.published ≡ p → (i : ℕ)
+          → ((bid_numbered books.bids.bids i).quarter == b.quarter) ≡ false
+          → option_map_or (λ (r : PastRun). mw_beside i r.bids r.activation.mw) p 0 ≡ 0
       bids None e i other = refl
       bids (Some past) e i other =
           let is : IsPastRun books before b.run past = subst (λ (o : Option PastRun). IfSome o (IsPastRun books before b.run)) e next.published in
@@ -109,7 +111,8 @@ flow-within flow more (negsuc n) (pos m) limit after e f l b small low high = om
 flow-within flow more (negsuc n) (negsuc m) limit after e f l b small low high = omega (arith, ints, e, f, l, b, small, low, high)
 
 -- the flows of one block more
-pub flow-more : (k quarter : ℕ) (before : List PastBlock) (b : PastBlock) → flow_of (of_quarter quarter (before ++ b ∷ [])) k ≡ flow_of (of_quarter quarter before) k +ℤ (if b.quarter == quarter then flow_in k b else pos 0)
+pub flow-more : (k quarter : ℕ) (before : List PastBlock) (b : PastBlock)
+    → flow_of (of_quarter quarter (before ++ b ∷ [])) k ≡ flow_of (of_quarter quarter before) k +ℤ (if b.quarter == quarter then flow_in k b else pos 0)
 flow-more k quarter before b = ap (λ bs. flow_of bs k) (filter-append (λ (b : PastBlock). b.quarter == quarter) before (b ∷ [])) ∙ int_sum-append (flow_in k) (of_quarter quarter before) (cond (b.quarter == quarter) (b ∷ []) []) ∙ ap (λ v. flow_of (of_quarter quarter before) k +ℤ v) (one (b.quarter == quarter))
   where
     one : (t : Bool) → int_sum (flow_in k) (cond t (b ∷ []) []) ≡ (if t then flow_in k b else pos 0)

@@ -285,7 +285,8 @@ module _ (zones : ZoneBook) (is : IsZoneBook zones) (borders : List BorderEnds) 
       (among-runs runs (length borders) (run + 1) border 1 runs (omega arith) (omega (arith, high)) (omega (arith, above, length-map borders bare))))))
 
   -- the records of the runs, one run after the other, are those of the pairs
-  records-of : (first count : ℕ) → flat_map (λ run. map (λ border. limit_record zones run (ends_at borders border) (limits run border)) (range_with_len 0 (length borders))) (range_with_len first count)
+  records-of : (first count : ℕ)
+      → flat_map (λ run. map (λ border. limit_record zones run (ends_at borders border) (limits run border)) (range_with_len 0 (length borders))) (range_with_len first count)
       ≡ map fields (all_pairs runs (length borders) first count)
   records-of first zero = refl
   records-of first (suc count) =

@@ -61,7 +61,9 @@ module _ (books : Books) (ok : IsAccepted books) where
   no_more before i mw so_far none = record { left = omega (arith, so_far, none); once = λ g. inr none }
 
   -- an order of a bid that is left
-  some_more : (before : List PastBlock) (i mw : ℕ) (taken : Taken) (gated : List ℕ) → mw_of before i ≤ (bid_numbered books.bids.bids i).greatest → taken.mw i ≡ mw_of before i → is_left books taken i ≡ true
+  some_more : (before : List PastBlock) (i mw : ℕ) (taken : Taken) (gated : List ℕ)
+      → mw_of before i ≤ (bid_numbered books.bids.bids i).greatest → taken.mw i ≡ mw_of before i
+      → is_left books taken i ≡ true
       → All (λ k. has_gate books.links k ≡ true) gated → mw ≤ greatest_left (gate_of gated i) (bid_numbered books.bids.bids i).greatest (taken.mw i) → IsWithinOffer before i mw
   some_more before i mw taken gated so_far same left gates most = by (has_gate books.links i) refl left (gate_of gated i) refl most
     where
@@ -79,13 +81,17 @@ module _ (books : Books) (ok : IsAccepted books) where
       → IsWithinOffer before i (mw_in_block i b)
   within-offer before b are_own next i so_far = published b.published next.published
     where
-      own : (past : PastRun) → IsPastRun books before b.run past → (t : Bool) → ((bid_numbered books.bids.bids i).quarter == (run_numbered books b.run).quarter) ≡ t → (u : Bool) → is_available books (taken_before books before b.run) (run_numbered books b.run) i ≡ u
+      own : (past : PastRun) → IsPastRun books before b.run past → (t : Bool)
+          → ((bid_numbered books.bids.bids i).quarter == (run_numbered books b.run).quarter) ≡ t → (u : Bool)
+          → is_available books (taken_before books before b.run) (run_numbered books b.run) i ≡ u
           → IsWithinOffer before i (mw_beside i past.bids past.activation.mw)
       own past is false e u f =
           let numbers = own-chosen books (is_available books (taken_before books before b.run) (run_numbered books b.run)) (run_numbered books b.run).quarter past.bids is.bids in
           no_more before i _ so_far (beside-none i past.bids past.activation.mw (λ k d l. differ (get_or past.bids k d) (numbers k d l) e))
         where
-          differ : (n : ℕ) → (bid_numbered books.bids.bids n).quarter ≡ (run_numbered books b.run).quarter → ((bid_numbered books.bids.bids i).quarter == (run_numbered books b.run).quarter) ≡ false → (n == i) ≡ false
+          differ : (n : ℕ) → (bid_numbered books.bids.bids n).quarter ≡ (run_numbered books b.run).quarter
+              → ((bid_numbered books.bids.bids i).quarter == (run_numbered books b.run).quarter) ≡ false
+              → (n == i) ≡ false
           differ n own e = by (n == i) refl
             where
               by : (t : Bool) → (n == i) ≡ t → (n == i) ≡ false
@@ -99,7 +105,9 @@ module _ (books : Books) (ok : IsAccepted books) where
           let numbers : All (λ n. avail n ≡ true) past.bids = rw is.bids (filter_passes avail (bids_of_quarter books.bids.bids (run_numbered books b.run).quarter)) in
           no_more before i _ so_far (beside-none i past.bids past.activation.mw (λ k d l. differ (get_or past.bids k d) (numbers k d l) f))
         where
-          differ : (n : ℕ) → is_available books (taken_before books before b.run) (run_numbered books b.run) n ≡ true → is_available books (taken_before books before b.run) (run_numbered books b.run) i ≡ false → (n == i) ≡ false
+          differ : (n : ℕ) → is_available books (taken_before books before b.run) (run_numbered books b.run) n ≡ true
+              → is_available books (taken_before books before b.run) (run_numbered books b.run) i ≡ false
+              → (n == i) ≡ false
           differ n own f = by (n == i) refl
             where
               by : (t : Bool) → (n == i) ≡ t → (n == i) ≡ false
@@ -147,5 +155,6 @@ module _ (books : Books) (ok : IsAccepted books) where
   offers blocks first = (keeps blocks first).offers
 
   -- and the next block takes nothing of a gated bid that was activated
-  pub once : (blocks : List PastBlock) (b : PastBlock) → AreFirstBlocks books blocks → IsNextBlock books blocks b → (i : ℕ) → has_gate books.links i ≡ true → (mw_of blocks i ≡ 0) ⊎ (mw_in_block i b ≡ 0)
+  pub once : (blocks : List PastBlock) (b : PastBlock) → AreFirstBlocks books blocks → IsNextBlock books blocks b
+      → (i : ℕ) → has_gate books.links i ≡ true → (mw_of blocks i ≡ 0) ⊎ (mw_in_block i b ≡ 0)
   once blocks b first next i gated = (within-offer blocks b (keeps blocks first).own next i (offers blocks first i)).once gated

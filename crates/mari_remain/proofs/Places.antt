@@ -50,7 +50,9 @@ module _ {X : Type 0} (p : X → Bool) where
   length-places k xs = length-kept k xs ∙ length-filter p xs
 
 -- the places of the items that pass are those numbers at which the list has an item that passes
-pub places-filter : {X : Type 0} (p : X → Bool) (q : ℕ → Bool) (k : ℕ) (xs : List X) → ((i : ℕ) (d : X) → i < length xs → q (k + i) ≡ p (slice_index_or xs i d)) → places_from p k xs ≡ filter q (range_with_len k (length xs))
+pub places-filter : {X : Type 0} (p : X → Bool) (q : ℕ → Bool) (k : ℕ) (xs : List X)
+    → ((i : ℕ) (d : X) → i < length xs → q (k + i) ≡ p (slice_index_or xs i d))
+    → places_from p k xs ≡ filter q (range_with_len k (length xs))
 places-filter p q k [] h = refl
 places-filter p q k (x ∷ xs) h =
     let here : q k ≡ p x = ap q (sym (add-zero k)) ∙ h 0 x (omega arith) in

@@ -61,7 +61,8 @@ module _ (books : Books) (ok : IsAccepted books) where
   has-last blocks first = by_blocks books HasLast (record { greatest = All-nil _; later = λ r l there. omega arith }) next-last blocks first
 
   -- what the blocks of the bid's quarter took of a bid is what all took of it
-  pub mw-own : (quarter i : ℕ) (blocks : List PastBlock) → All (IsOwnBlock books ok) blocks → mw_of (of_quarter quarter blocks) i ≡ (if (bid_numbered books.bids.bids i).quarter == quarter then mw_of blocks i else 0)
+  pub mw-own : (quarter i : ℕ) (blocks : List PastBlock) → All (IsOwnBlock books ok) blocks
+      → mw_of (of_quarter quarter blocks) i ≡ (if (bid_numbered books.bids.bids i).quarter == quarter then mw_of blocks i else 0)
   mw-own quarter i [] h = by ((bid_numbered books.bids.bids i).quarter == quarter)
     where
       by : (t : Bool) → let none : ℕ = 0 in none ≡ (if t then none else none)
@@ -70,7 +71,9 @@ module _ (books : Books) (ok : IsAccepted books) where
   mw-own quarter i (b ∷ bs) h =
       by (b.quarter == quarter) refl ((bid_numbered books.bids.bids i).quarter == quarter) refl (mw-own quarter i bs (All-tail (IsOwnBlock books ok) b bs h)) (All-head (IsOwnBlock books ok) b bs h)
     where
-      by : (s : Bool) → (b.quarter == quarter) ≡ s → (t : Bool) → ((bid_numbered books.bids.bids i).quarter == quarter) ≡ t → mw_of (of_quarter quarter bs) i ≡ (if t then mw_of bs i else 0) → IsOwnBlock books ok b
+      by : (s : Bool) → (b.quarter == quarter) ≡ s → (t : Bool)
+          → ((bid_numbered books.bids.bids i).quarter == quarter) ≡ t
+          → mw_of (of_quarter quarter bs) i ≡ (if t then mw_of bs i else 0) → IsOwnBlock books ok b
           → mw_of (cond s (b ∷ of_quarter quarter bs) (of_quarter quarter bs)) i ≡ (if t then mw_of (b ∷ bs) i else 0)
       by true e true f more own = sum_by-cons (mw_in_block i) b (of_quarter quarter bs) ∙ ap (λ n. mw_in_block i b + n) more ∙ sym (sum_by-cons (mw_in_block i) b bs)
       by true e false f more own =
@@ -99,7 +102,9 @@ module _ (books : Books) (ok : IsAccepted books) where
   quarter-none quarter k [] h = refl
   quarter-none quarter k (b ∷ bs) h = by (b.quarter == quarter) refl (quarter-none quarter k bs (All-tail (λ b. (b.quarter == quarter) ≡ true → flow_in k b ≡ pos 0) b bs h)) (All-head (λ b. (b.quarter == quarter) ≡ true → flow_in k b ≡ pos 0) b bs h)
     where
-      by : (t : Bool) → (b.quarter == quarter) ≡ t → flow_of (of_quarter quarter bs) k ≡ pos 0 → ((b.quarter == quarter) ≡ true → flow_in k b ≡ pos 0) → flow_of (cond t (b ∷ of_quarter quarter bs) (of_quarter quarter bs)) k ≡ pos 0
+      by : (t : Bool) → (b.quarter == quarter) ≡ t → flow_of (of_quarter quarter bs) k ≡ pos 0
+          → ((b.quarter == quarter) ≡ true → flow_in k b ≡ pos 0)
+          → flow_of (cond t (b ∷ of_quarter quarter bs) (of_quarter quarter bs)) k ≡ pos 0
       by true e more here = rw (here e, more) refl
       by false e more here = more
 
@@ -126,7 +131,8 @@ module _ (books : Books) (ok : IsAccepted books) where
               ∙ sym (quarter-none quarter k blocks (All-weaker (IsOwnBlock books ok) (λ b. (b.quarter == quarter) ≡ true → flow_in k b ≡ pos 0) (λ b h e. h.flows k past) blocks (own-blocks books ok blocks stands.first))))
         ]
 
-    other-flow : (quarter k : ℕ) → option_map_or (λ last. last == quarter) kept.quarter false ≡ false → ((r : ℕ) × (length blocks < r) × (r ≤ length books.runs.runs) × ((run_numbered books r).quarter ≡ quarter))
+    other-flow : (quarter k : ℕ) → option_map_or (λ last. last == quarter) kept.quarter false ≡ false
+        → ((r : ℕ) × (length blocks < r) × (r ≤ length books.runs.runs) × ((run_numbered books r).quarter ≡ quarter))
         → pos 0 ≡ flow_of (of_quarter quarter blocks) k
     other-flow quarter k test (r, l, there, is) =
         let last = has-last blocks stands.first in
@@ -137,7 +143,9 @@ module _ (books : Books) (ok : IsAccepted books) where
         unpublished b None e = refl
         unpublished b (Some past) e = cc e
 
-        none : (b : PastBlock) (last : Option ℕ) → (is_some b.published ≡ true → b.quarter ≤ unwrap_or last 0) → 1 ≤ b.quarter → unwrap_or last 0 ≤ (run_numbered books r).quarter → option_map_or (λ last. last == quarter) last false ≡ false
+        none : (b : PastBlock) (last : Option ℕ) → (is_some b.published ≡ true → b.quarter ≤ unwrap_or last 0)
+            → 1 ≤ b.quarter → unwrap_or last 0 ≤ (run_numbered books r).quarter
+            → option_map_or (λ last. last == quarter) last false ≡ false
             → b.quarter ≡ quarter → (t : Bool) → is_some b.published ≡ t → t ≡ false
         none b last most one later test e false f = refl
         none b None most one later test e true f = let m = most f in absurd (omega (arith, m, one))
@@ -146,7 +154,10 @@ module _ (books : Books) (ok : IsAccepted books) where
             clash : (q : ℕ) → q ≡ quarter → (q == quarter) ≡ false → ⊥
             clash q e f = let both : true ≡ false = sym (eq-eqb q quarter e) ∙ f in cc both
 
-        All-both : (bs : List PastBlock) → All (λ b. is_some b.published ≡ true → b.quarter ≤ unwrap_or (last_published_quarter blocks) 0) bs → All (IsOwnBlock books ok) bs → unwrap_or (last_published_quarter blocks) 0 ≤ (run_numbered books r).quarter
+        All-both : (bs : List PastBlock)
+            → All (λ b. is_some b.published ≡ true → b.quarter ≤ unwrap_or (last_published_quarter blocks) 0) bs
+            → All (IsOwnBlock books ok) bs
+            → unwrap_or (last_published_quarter blocks) 0 ≤ (run_numbered books r).quarter
             → option_map_or (λ last. last == quarter) (last_published_quarter blocks) false ≡ false → All (λ b. (b.quarter == quarter) ≡ true → flow_in k b ≡ pos 0) bs
         All-both bs most own later test = λ m d l same.
             let b : PastBlock = get_or bs m d in
@@ -161,7 +172,9 @@ module _ (books : Books) (ok : IsAccepted books) where
     the_quarter quarter None e = cc e
     the_quarter quarter (Some q) e = ap Some (eqb-true q quarter e)
 
-    flow_is : (quarter k : ℕ) → ((r : ℕ) × (length blocks < r) × (r ≤ length books.runs.runs) × ((run_numbered books r).quarter ≡ quarter)) → (t : Bool) → option_map_or (λ last. last == quarter) kept.quarter false ≡ t
+    flow_is : (quarter k : ℕ)
+        → ((r : ℕ) × (length blocks < r) × (r ≤ length books.runs.runs) × ((run_numbered books r).quarter ≡ quarter))
+        → (t : Bool) → option_map_or (λ last. last == quarter) kept.quarter false ≡ t
         → (if t then get_or kept.flow k (pos 0) else pos 0) ≡ flow_of (of_quarter quarter blocks) k
     flow_is quarter k later true e = kept-flow quarter k (the_quarter quarter kept.quarter e)
     flow_is quarter k later false e = other-flow quarter k e later

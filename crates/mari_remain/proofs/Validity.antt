@@ -121,7 +121,9 @@ range-below : (n : ℕ) → All (λ k. k < n) (range_with_len 0 n)
 range-below n = λ k d l. let place = get_or-range_with_len 0 n k d (omega (arith, l, length-range_with_len 0 n)) in rw place (omega (arith, l, length-range_with_len 0 n))
 
 -- the limits that the files state for a border are in range
-pub in_range : (books : Books) (limits : Option (List (List Limits))) (run k : ℕ) → IfSome limits (IsLimitTable (length books.runs.runs) (length books.borders.borders)) → IsBorder books.zones (ends_at books.borders.borders k)
+pub in_range : (books : Books) (limits : Option (List (List Limits))) (run k : ℕ)
+    → IfSome limits (IsLimitTable (length books.runs.runs) (length books.borders.borders))
+    → IsBorder books.zones (ends_at books.borders.borders k)
     → ((stated_limits limits (ends_at books.borders.borders k) run k).limit ≤ 99999) × ((stated_limits limits (ends_at books.borders.borders k) run k).back ≤ 99999)
 in_range books None run k h b = (b.limit, b.back)
 in_range books (Some table) run k h b = (h.limit run k, h.back run k)

@@ -47,7 +47,8 @@ two-digits : (a b : ℕ) → a < 10 → b < 10 → hundredths_of ((48 + a) ∷ (
 two-digits a b x y = rw (digit_byte a x, digit_byte b y) (ap Some (omega arith))
 
 -- whole euros, a point and two digits
-cents-after : (n : ℕ) → n < 2 ^ 64 → cents_at (position (λ b. b == 46) (decimal (n / 100) ++ 46 ∷ (48 + n % 100 / 10) ∷ (48 + n % 10) ∷ [])) (decimal (n / 100) ++ 46 ∷ (48 + n % 100 / 10) ∷ (48 + n % 10) ∷ []) ≡ Some n
+cents-after : (n : ℕ) → n < 2 ^ 64
+    → cents_at (position (λ b. b == 46) (decimal (n / 100) ++ 46 ∷ (48 + n % 100 / 10) ∷ (48 + n % 10) ∷ [])) (decimal (n / 100) ++ 46 ∷ (48 + n % 100 / 10) ∷ (48 + n % 10) ∷ []) ≡ Some n
 cents-after n small =
     let euros = decimal (n / 100) in
     let rest = (48 + n % 100 / 10) ∷ (48 + n % 10) ∷ [] in

@@ -31,7 +31,9 @@ small_if true v m h = h
 small_if false v m h = omega arith
 
 -- what one provider gets of what a bid earns
-pub amount_here : (ps scheduled : List Cents) (bids : List Bid) (number q k : ℕ) (v : ℤ) → number < length bids → v ≡ earned (get_or bids number no_bid).up (paid_at (get_or bids number no_bid).up (price_at ps (get_or bids number no_bid).zone) (price_at scheduled (get_or bids number no_bid).zone)) q → (if (get_or bids number no_bid).provider == k then v else pos 0) ≡ bid_amount ps scheduled k (slice_get bids number) q
+pub amount_here : (ps scheduled : List Cents) (bids : List Bid) (number q k : ℕ) (v : ℤ) → number < length bids
+    → v ≡ earned (get_or bids number no_bid).up (paid_at (get_or bids number no_bid).up (price_at ps (get_or bids number no_bid).zone) (price_at scheduled (get_or bids number no_bid).zone)) q
+    → (if (get_or bids number no_bid).provider == k then v else pos 0) ≡ bid_amount ps scheduled k (slice_get bids number) q
 amount_here ps scheduled bids number q k v h e =
     ap (λ (w : ℤ). if (get_or bids number no_bid).provider == k then w else pos 0) e
     ∙ ap (λ (bid : Option Bid). bid_amount ps scheduled k bid q) (sym (slice_get-get_or bids number no_bid h))
@@ -45,7 +47,10 @@ sum_along-cut f (x ∷ xs) [] (suc i) h = refl
 sum_along-cut f (x ∷ xs) (y ∷ ys) (suc i) h = ap (λ v. f x y +ℤ v) (sum_along-cut f xs ys i (omega arith))
 
 -- a list of what each provider gets is the list of the providers' amounts
-pub amounts_are : (bids : BidBook) (numbers : List ℕ) (a : Activation) (ps scheduled : List Cents) (amounts : List Quarters) → length amounts ≡ length bids.providers → ((k : ℕ) → amount_at amounts k ≡ provider_amount bids numbers a ps scheduled k) → amounts ≡ provider_amounts bids numbers a ps scheduled
+pub amounts_are : (bids : BidBook) (numbers : List ℕ) (a : Activation) (ps scheduled : List Cents) (amounts : List Quarters)
+    → length amounts ≡ length bids.providers
+    → ((k : ℕ) → amount_at amounts k ≡ provider_amount bids numbers a ps scheduled k)
+    → amounts ≡ provider_amounts bids numbers a ps scheduled
 amounts_are bids numbers a ps scheduled amounts l each =
     let n = length bids.providers in
     let amount : ℕ → Quarters = λ k. record { 0 = provider_amount bids numbers a ps scheduled k } in

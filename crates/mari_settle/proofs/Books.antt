@@ -43,11 +43,16 @@ provider_there bids number bid h e = elim (cases_lt number (length bids.bids)) [
   | inr past ↦ let none : slice_get bids.bids number ≡ None = slice_get_past bids.bids number past in cc
 ]
 
-payable_at : (bids : BidBook) (zones : ℕ) (o : Order) (bid : Option Bid) → ((x : Bid) → bid ≡ Some x → x.provider < length bids.providers) → o.zone < zones → IsSomeAnd bid (IsOrderOf o) → IsSomeAnd bid (IsPayable bids zones)
+payable_at : (bids : BidBook) (zones : ℕ) (o : Order) (bid : Option Bid)
+    → ((x : Bid) → bid ≡ Some x → x.provider < length bids.providers) → o.zone < zones → IsSomeAnd bid (IsOrderOf o)
+    → IsSomeAnd bid (IsPayable bids zones)
 payable_at bids zones o None there z h = absurd h
 payable_at bids zones o (Some bid) there z h = record { zone = omega (arith, h.zone); provider = there bid refl }
 
-payable_all : (bids : BidBook) (zones gates : ℕ) → HasProviders bids → (numbers : List ℕ) (os : List Order) → All (IsValidOrder zones gates) os → AllZip (λ number o. IsSomeAnd (slice_get bids.bids number) (IsOrderOf o)) numbers os → All (NamesPayable bids zones) numbers
+payable_all : (bids : BidBook) (zones gates : ℕ) → HasProviders bids → (numbers : List ℕ) (os : List Order)
+    → All (IsValidOrder zones gates) os
+    → AllZip (λ number o. IsSomeAnd (slice_get bids.bids number) (IsOrderOf o)) numbers os
+    → All (NamesPayable bids zones) numbers
 payable_all bids zones gates h [] [] v f = λ k d l. absurd (omega arith)
 payable_all bids zones gates h (n ∷ ns) (o ∷ os) v f =
     All-cons (NamesPayable bids zones) n ns

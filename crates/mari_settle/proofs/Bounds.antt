@@ -52,7 +52,9 @@ module _ (zones : ZoneBook) (m : Market) (a : Activation) (ps : List Cents) (v :
   price_small : (z : ℕ) → z < m.zones → unsigned_abs (price_at ps z) ≤ 9999900
   price_small z l = let h = prices.capped z (record { 0 = pos 0 }) (omega (arith, l, prices.one_each)) in omega (arith, ints, h.low, h.high)
 
-  each : (f : Border → ℤ → ℤ) (most : ℕ) → ((b : Border) (q : ℤ) → IsValidBorder m.zones b → IsWithinLimits b q → unsigned_abs (f b q) ≤ most) → unsigned_abs (sum_along f m.borders a.flow) ≤ most * length m.borders
+  each : (f : Border → ℤ → ℤ) (most : ℕ)
+      → ((b : Border) (q : ℤ) → IsValidBorder m.zones b → IsWithinLimits b q → unsigned_abs (f b q) ≤ most)
+      → unsigned_abs (sum_along f m.borders a.flow) ≤ most * length m.borders
   each f most small = sum_small f most m.borders a.flow (along m.borders a.flow v.borders flows)
     where
       along : (bs : List Border) (fs : List ℤ) → All (IsValidBorder m.zones) bs → AllZip IsWithinLimits bs fs → AllZip (λ b q. unsigned_abs (f b q) ≤ most) bs fs
@@ -129,7 +131,8 @@ module _ (bids : BidBook) (ps scheduled : List Cents) (own : All IsCapped ps) (a
       by true v h = h
       by false v h = omega arith
 
-  amounts_along : (ns qs : List ℕ) → All (λ q. q ≤ 9999) (take (length ns) qs) → unsigned_abs (sum_along (λ n q. bid_amount ps scheduled provider (slice_get bids.bids n) q) ns qs) ≤ 9999900 * 9999 * length ns
+  amounts_along : (ns qs : List ℕ) → All (λ q. q ≤ 9999) (take (length ns) qs)
+      → unsigned_abs (sum_along (λ n q. bid_amount ps scheduled provider (slice_get bids.bids n) q) ns qs) ≤ 9999900 * 9999 * length ns
   amounts_along [] qs h = omega arith
   amounts_along (n ∷ ns) [] h = omega arith
   amounts_along (n ∷ ns) (q ∷ qs) h =
@@ -138,7 +141,8 @@ module _ (bids : BidBook) (ps scheduled : List Cents) (own : All IsCapped ps) (a
       omega (arith, ints, here, more)
 
 -- each provider's amount, where no bid runs more than 9,999 MW
-pub amounts_small : (bids : BidBook) (numbers : List ℕ) (a : Activation) (ps scheduled : List Cents) → All IsCapped ps → All IsCapped scheduled → length numbers ≤ 4608 → All (λ q. q ≤ 9999) (take (length numbers) a.mw)
+pub amounts_small : (bids : BidBook) (numbers : List ℕ) (a : Activation) (ps scheduled : List Cents) → All IsCapped ps
+    → All IsCapped scheduled → length numbers ≤ 4608 → All (λ q. q ≤ 9999) (take (length numbers) a.mw)
     → All (MoneyIsWithin most_of_provider) (provider_amounts bids numbers a ps scheduled)
 amounts_small bids numbers a ps scheduled mine also few h =
     All-map (MoneyIsWithin most_of_provider) (λ k. record { 0 = provider_amount bids numbers a ps scheduled k }) (range_with_len 0 (length bids.providers))

@@ -21,7 +21,8 @@ use Rattle.mari_settle.specs.Ledger.{rent_of, rents_of, half_of, operator_at, sh
 use Rattle.mari_settle.specs.Lines.{map_along}
 use Rattle.mari_settle.proofs.Lists.{range_sum_more}
 
-pub All-map_along : {X Y Z : Type 0} (f : X → Y → Z) (P : X → Y → Type 0) (Q : Z → Type 0) → ((x : X) (y : Y) → P x y → Q (f x y)) → (xs : List X) (ys : List Y) → AllZip P xs ys → All Q (map_along f xs ys)
+pub All-map_along : {X Y Z : Type 0} (f : X → Y → Z) (P : X → Y → Type 0) (Q : Z → Type 0)
+    → ((x : X) (y : Y) → P x y → Q (f x y)) → (xs : List X) (ys : List Y) → AllZip P xs ys → All Q (map_along f xs ys)
 All-map_along f P Q h [] [] a = λ k d l. absurd (omega arith)
 All-map_along f P Q h (x ∷ xs) (y ∷ ys) a = All-cons Q (f x y) (map_along f xs ys) (h x y a.0) (All-map_along f P Q h xs ys a.1)
 All-map_along f P Q h [] (y ∷ ys) a = absurd a
@@ -86,7 +87,9 @@ operator_there : (zones : ZoneBook) → HasOperators zones → (z : ℕ) → z <
 operator_there zones h z l = h.there z 0 (omega (arith, h.one_each))
 
 -- what all operators are paid is the worth of all net imports
-payments_by_zones : (zones : ZoneBook) (m : Market) (a : Activation) (ps : List Cents) → HasOperators zones → m.zones ≡ length zones.zones → sum_below (length zones.operators) (operator_payment zones m a ps) ≡ sum_below m.zones (λ z. price_at ps z *ℤ net_import m a z)
+payments_by_zones : (zones : ZoneBook) (m : Market) (a : Activation) (ps : List Cents) → HasOperators zones
+    → m.zones ≡ length zones.zones
+    → sum_below (length zones.operators) (operator_payment zones m a ps) ≡ sum_below m.zones (λ z. price_at ps z *ℤ net_import m a z)
 payments_by_zones zones m a ps h e =
     let n = length zones.operators in
     sum_below-same n (operator_payment zones m a ps) (λ k. sum_below m.zones (payment_at zones m a ps k)) (λ k l. range_is_below (payment_at zones m a ps k) m.zones)
@@ -106,7 +109,9 @@ shares_sum first second n rent h l =
     )
 
 -- so all operators' rents are all rents
-rents_by_operators : (zones : ZoneBook) (m : Market) (a : Activation) (ps : List Cents) → HasOperators zones → m.zones ≡ length zones.zones → IsValid m → sum_along (rent_of ps) m.borders a.flow ≡ sum_below (length zones.operators) (operator_rent zones m a ps)
+rents_by_operators : (zones : ZoneBook) (m : Market) (a : Activation) (ps : List Cents) → HasOperators zones
+    → m.zones ≡ length zones.zones → IsValid m
+    → sum_along (rent_of ps) m.borders a.flow ≡ sum_below (length zones.operators) (operator_rent zones m a ps)
 rents_by_operators zones m a ps h e v =
     let n = length zones.operators in
     let share = λ (k : ℕ) (b : Border) (f : ℤ). share_of (operator_at zones b.from) (operator_at zones b.to) k (rent_of ps b f) in
@@ -115,7 +120,8 @@ rents_by_operators zones m a ps h e v =
     ∙ sum_below-same n (λ k. pos 1 *ℤ operator_rent zones m a ps k) (operator_rent zones m a ps) (λ k l. one_times (operator_rent zones m a ps k))
 
 -- what all operators pay and get sums to 0
-pub nets_sum_to_0 : (zones : ZoneBook) (m : Market) (a : Activation) (ps : List Cents) → HasOperators zones → m.zones ≡ length zones.zones → IsValid m → int_sum net_of (operator_lines zones m a ps) ≡ pos 0
+pub nets_sum_to_0 : (zones : ZoneBook) (m : Market) (a : Activation) (ps : List Cents) → HasOperators zones
+    → m.zones ≡ length zones.zones → IsValid m → int_sum net_of (operator_lines zones m a ps) ≡ pos 0
 nets_sum_to_0 zones m a ps h e v =
     let n = length zones.operators in
     let line = operator_line zones m a ps in

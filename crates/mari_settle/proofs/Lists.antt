@@ -17,7 +17,8 @@ pub written_over : {X : Type 0} (xs ws vs : List X) → length ws ≡ length xs 
 written_over xs ws vs l e = rw (← l) (take-append_seam ws (drop (length ws) xs)) ∙ e
 
 -- the list so far is what f gives of the numbers so far: one more
-pub written_more : {X : Type 0} (f : ℕ → X) (xs : List X) (k : ℕ) (x : X) → k < length xs → take k xs ≡ map f (range_with_len 0 k) → x ≡ f k → take (k + 1) (set xs k x) ≡ map f (range_with_len 0 (k + 1))
+pub written_more : {X : Type 0} (f : ℕ → X) (xs : List X) (k : ℕ) (x : X) → k < length xs
+    → take k xs ≡ map f (range_with_len 0 k) → x ≡ f k → take (k + 1) (set xs k x) ≡ map f (range_with_len 0 (k + 1))
 written_more f xs k x h e y = take-set_at xs k (k + 1) x refl h ∙ ap (λ ys. ys ++ x ∷ []) e ∙ ap (λ z. map f (range_with_len 0 k) ++ z ∷ []) y ∙ sym (map-range_with_len_more f 0 k k (omega arith))
 
 -- what holds of each item so far holds of each with one more
@@ -25,7 +26,9 @@ pub small_more : {X : Type 0} (P : X → Type 0) (xs : List X) (k : ℕ) (x : X)
 small_more P xs k x h all here = subst (All P) (sym (take-set_at xs k (k + 1) x refl h)) (All-append P (take k xs) (x ∷ []) all (All-cons P x [] here (λ i d l. absurd (omega arith))))
 
 -- what f gives of two lists side by side: one more
-pub map_along_more : {X Y Z : Type 0} (f : X → Y → Z) (xs : List X) (ys : List Y) (i : ℕ) (d : X) (e : Y) → i < length xs → i < length ys → map_along f (take (i + 1) xs) (take (i + 1) ys) ≡ map_along f (take i xs) (take i ys) ++ f (get_or xs i d) (get_or ys i e) ∷ []
+pub map_along_more : {X Y Z : Type 0} (f : X → Y → Z) (xs : List X) (ys : List Y) (i : ℕ) (d : X) (e : Y)
+    → i < length xs → i < length ys
+    → map_along f (take (i + 1) xs) (take (i + 1) ys) ≡ map_along f (take i xs) (take i ys) ++ f (get_or xs i d) (get_or ys i e) ∷ []
 map_along_more f [] ys i d e h l = absurd (omega arith)
 map_along_more f (x ∷ xs) [] i d e h l = absurd (omega arith)
 map_along_more f (x ∷ xs) (y ∷ ys) zero d e h l = refl
@@ -34,7 +37,10 @@ map_along_more f (x ∷ xs) (y ∷ ys) (suc i) d e h l =
     ap (λ n. map_along f (take n (x ∷ xs)) (take n (y ∷ ys))) k ∙ ap (λ zs. f x y ∷ zs) (map_along_more f xs ys i d e (omega arith) (omega arith))
 
 -- the list so far is what f gives of two lists side by side so far: one more
-pub written_along_more : {X Y Z : Type 0} (f : X → Y → Z) (xs : List X) (ys : List Y) (zs : List Z) (i : ℕ) (d : X) (e : Y) (z : Z) → i < length xs → i < length ys → i < length zs → take i zs ≡ map_along f (take i xs) (take i ys) → z ≡ f (get_or xs i d) (get_or ys i e) → take (i + 1) (set zs i z) ≡ map_along f (take (i + 1) xs) (take (i + 1) ys)
+pub written_along_more : {X Y Z : Type 0} (f : X → Y → Z) (xs : List X) (ys : List Y) (zs : List Z) (i : ℕ) (d : X) (e : Y) (z : Z)
+    → i < length xs → i < length ys → i < length zs → take i zs ≡ map_along f (take i xs) (take i ys)
+    → z ≡ f (get_or xs i d) (get_or ys i e)
+    → take (i + 1) (set zs i z) ≡ map_along f (take (i + 1) xs) (take (i + 1) ys)
 written_along_more f xs ys zs i d e z h l m so_far here = take-set_at zs i (i + 1) z refl m ∙ ap (λ ws. ws ++ z ∷ []) so_far ∙ ap (λ w. map_along f (take i xs) (take i ys) ++ w ∷ []) here ∙ sym (map_along_more f xs ys i d e h l)
 
 -- where two lists are the same from a place on, they are so at that place and after it
@@ -47,15 +53,21 @@ pub same_after : {X : Type 0} (xs ys : List X) (i : ℕ) (z : X) → drop i xs �
 same_after xs ys i z e = drop-set-lt (i + 1) xs i z (omega arith) ∙ sym (drop-drop 1 i xs) ∙ ap (λ zs. drop 1 zs) e ∙ drop-drop 1 i ys
 
 -- a list that is changed item by item, by f of what it was and another list: one more
-pub changed_more : {X : Type 0} (f : X → X → X) (P : X → X → Type 0) (xs old ys : List X) (i : ℕ) (d z : X) → i < length xs → length xs ≡ length old → AllZip P old ys → drop i xs ≡ drop i old → take i xs ≡ map_along f (take i old) (take i ys) → z ≡ f (get_or xs i d) (get_or ys i d) → take (i + 1) (set xs i z) ≡ map_along f (take (i + 1) old) (take (i + 1) ys)
+pub changed_more : {X : Type 0} (f : X → X → X) (P : X → X → Type 0) (xs old ys : List X) (i : ℕ) (d z : X)
+    → i < length xs → length xs ≡ length old → AllZip P old ys → drop i xs ≡ drop i old
+    → take i xs ≡ map_along f (take i old) (take i ys) → z ≡ f (get_or xs i d) (get_or ys i d)
+    → take (i + 1) (set xs i z) ≡ map_along f (take (i + 1) old) (take (i + 1) ys)
 changed_more f P xs old ys i d z h l a rest so_far e = written_along_more f old ys xs i d d z (omega arith) (omega (arith, AllZip-long P old ys a)) h so_far (e ∙ ap (λ x. f x (get_or ys i d)) (same_here xs old i d rest))
 
 -- what holds of what it was holds where it isn't changed yet
-pub unchanged_at : {X : Type 0} (P : X → X → Type 0) (xs old ys : List X) (i : ℕ) (d : X) → i < length xs → length xs ≡ length old → AllZip P old ys → drop i xs ≡ drop i old → P (get_or xs i d) (get_or ys i d)
+pub unchanged_at : {X : Type 0} (P : X → X → Type 0) (xs old ys : List X) (i : ℕ) (d : X) → i < length xs
+    → length xs ≡ length old → AllZip P old ys → drop i xs ≡ drop i old → P (get_or xs i d) (get_or ys i d)
 unchanged_at P xs old ys i d h l a rest = rw (same_here xs old i d rest) (AllZip-get_or P old ys i d d a (omega arith))
 
 -- the whole list
-pub changed_all : {X : Type 0} (f : X → X → X) (P : X → X → Type 0) (xs old ys : List X) (i : ℕ) → length xs ≤ i → length xs ≡ length old → AllZip P old ys → take i xs ≡ map_along f (take i old) (take i ys) → xs ≡ map_along f old ys
+pub changed_all : {X : Type 0} (f : X → X → X) (P : X → X → Type 0) (xs old ys : List X) (i : ℕ) → length xs ≤ i
+    → length xs ≡ length old → AllZip P old ys → take i xs ≡ map_along f (take i old) (take i ys)
+    → xs ≡ map_along f old ys
 changed_all f P xs old ys i h l a e =
     sym (take_all i xs h) ∙ e
     ∙ ap (λ zs. map_along f zs (take i ys)) (take_all i old (omega arith))

@@ -76,7 +76,8 @@ unsplit books budget run made islands k part are is =
 
 -- ---- what is
 
-trees_fit : (budget : ℕ) → budget ≤ 50000 → (islands : List Island) (clearings : List Clearing) → AllZip (IsClearedBy budget) islands clearings → All (λ (c : Clearing). length c.tree ≤ 50000) clearings
+trees_fit : (budget : ℕ) → budget ≤ 50000 → (islands : List Island) (clearings : List Clearing)
+    → AllZip (IsClearedBy budget) islands clearings → All (λ (c : Clearing). length c.tree ≤ 50000) clearings
 trees_fit budget small [] [] a = All-nil (λ (c : Clearing). length c.tree ≤ 50000)
 trees_fit budget small [] (c ∷ clearings) a = absurd a
 trees_fit budget small (i ∷ islands) [] a = absurd a

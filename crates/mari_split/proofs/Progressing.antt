@@ -34,7 +34,9 @@ pub blocks_more : (blocks : List SplitBlock) (b : SplitBlock) → blocks_of (blo
 blocks_more blocks b = map-append block_of blocks (b ∷ [])
 
 -- a day part with one block more
-pub part_more : (books : Books) (budget : ℕ) (blocks : List SplitBlock) (b : SplitBlock) → IsSplitPart books budget blocks → length blocks + 1 ≤ length books.runs.runs → IsSplitBlock books budget blocks b → IsSplitPart books budget (blocks ++ b ∷ [])
+pub part_more : (books : Books) (budget : ℕ) (blocks : List SplitBlock) (b : SplitBlock)
+    → IsSplitPart books budget blocks → length blocks + 1 ≤ length books.runs.runs
+    → IsSplitBlock books budget blocks b → IsSplitPart books budget (blocks ++ b ∷ [])
 part_more books budget blocks b part last is = record {
   few = omega (arith, last, length-append blocks (b ∷ []));
   each = each-more (IsSplitBlock books budget) blocks b part.each is;
@@ -55,7 +57,8 @@ module _ (books : Books) (budget : ℕ) (blocks : List SplitBlock) (kept : Progr
       }
 
   -- a block that adds something is published
-  pub some_run : (d : SplitBlock) → IsSplitBlock books budget blocks d → (settled : SettledRun) → AddsToDay books blocks d (Some settled) → (b : FullBlock) × IsNextRun books (blocks_of blocks) b settled
+  pub some_run : (d : SplitBlock) → IsSplitBlock books budget blocks d → (settled : SettledRun)
+      → AddsToDay books blocks d (Some settled) → (b : FullBlock) × IsNextRun books (blocks_of blocks) b settled
   some_run (split.Unpublished heading island count) is settled of = absurd of
   some_run (split.Published r) is settled of = (r.block, record { sound = sound books budget blocks r is; adds = of })
 

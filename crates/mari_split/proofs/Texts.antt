@@ -24,7 +24,8 @@ use Rattle.mari_split.specs.Steps.{BrokeOffSplit, SplitStepped, WroteFirstBlocks
 use Rattle.mari_split.proofs.Progressing.{part_more}
 
 -- a first part of a text after another text
-after_text : (before mid after : Option (List ℕ)) (text more : List ℕ) (count : ℕ) → mid ≡ then_took before text → after ≡ then_took mid (take count more) → after ≡ then_took before (take (length text + count) (text ++ more))
+after_text : (before mid after : Option (List ℕ)) (text more : List ℕ) (count : ℕ) → mid ≡ then_took before text
+    → after ≡ then_took mid (take count more) → after ≡ then_took before (take (length text + count) (text ++ more))
 after_text before mid after text more count e f =
     f ∙ ap (λ taken. then_took taken (take count more)) e ∙ took_more before text (take count more) ∙ ap (then_took before) (sym (take-append-add text more count))
 
@@ -36,7 +37,9 @@ writes_by before after text wanted (Err Sink) ok err e t = (err.0, err.1 ∙ ap 
 writes_by before after text wanted (Err NoMemory) ok err e t = cc e
 
 -- the last line, by its numbers
-pub end_by : (blocks : List SplitBlock) (published unpublished : ℕ) → published ≡ published_in (blocks_of blocks) → unpublished ≡ unpublished_in (blocks_of blocks) → text_of_lines (line.Done published unpublished ∷ []) ≡ split_end blocks
+pub end_by : (blocks : List SplitBlock) (published unpublished : ℕ) → published ≡ published_in (blocks_of blocks)
+    → unpublished ≡ unpublished_in (blocks_of blocks)
+    → text_of_lines (line.Done published unpublished ∷ []) ≡ split_end blocks
 end_by blocks published unpublished e f = ap (λ n. text_of_lines (line.Done n unpublished ∷ [])) e ∙ ap (λ n. text_of_lines (line.Done (published_in (blocks_of blocks)) n ∷ [])) f
 
 module _ (books : Books) (budget : ℕ) where
@@ -103,7 +106,9 @@ module _ (books : Books) (budget : ℕ) where
     }
 
     -- how the day stops where a run's block isn't written
-    pub step_stops : (new : Progress) (after : Option (List ℕ)) (stop : Stop) → count < length books.runs.runs → SplitStepped books budget first.blocks new mid after (Err stop) → SplitStopped books budget before after stop
+    pub step_stops : (new : Progress) (after : Option (List ℕ)) (stop : Stop) → count < length books.runs.runs
+        → SplitStepped books budget first.blocks new mid after (Err stop)
+        → SplitStopped books budget before after stop
     step_stops new after Sink last h = block_cut after last h
     step_stops new after NoMemory last h = inr (part_left after h)
 

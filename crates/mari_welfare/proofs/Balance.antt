@@ -17,7 +17,9 @@ small_step true old v new m i e h l = omega (arith, ints, e)
 small_step false old v new m i e h l = omega (arith, ints, e)
 
 -- a flow out of one zone and into another
-pub carry_step : (b t : Bool) (old mid new f g h : ℤ) → mid ≡ old +ℤ (if b then g else pos 0) → new ≡ mid +ℤ (if t then h else pos 0) → g ≡ neg_ℤ f → h ≡ f → new ≡ old -ℤ ((if b then f else pos 0) -ℤ (if t then f else pos 0))
+pub carry_step : (b t : Bool) (old mid new f g h : ℤ) → mid ≡ old +ℤ (if b then g else pos 0)
+    → new ≡ mid +ℤ (if t then h else pos 0) → g ≡ neg_ℤ f → h ≡ f
+    → new ≡ old -ℤ ((if b then f else pos 0) -ℤ (if t then f else pos 0))
 carry_step true true old mid new f g h k l n e = omega (arith, ints, n, e, k, l)
 carry_step true false old mid new f g h k l n e = omega (arith, ints, n, e, k, l)
 carry_step false true old mid new f g h k l n e = omega (arith, ints, n, e, k, l)
@@ -30,5 +32,8 @@ carry_small false true old new f m h e = omega (arith, ints, e)
 carry_small false false old new f m h e = omega (arith, ints, e)
 
 -- a loop's step that takes away: what is left so far, what is taken and what is left then
-pub take_away_step : {X Y : Type 0} (f : X → Y → ℤ) (xs : List X) (ys : List Y) (i : ℕ) (d : X) (e : Y) (start old term new : ℤ) → i < length xs → i < length ys → old ≡ start -ℤ sum_along f (take i xs) (take i ys) → term ≡ f (get_or xs i d) (get_or ys i e) → new ≡ old -ℤ term → new ≡ start -ℤ sum_along f (take (i + 1) xs) (take (i + 1) ys)
+pub take_away_step : {X Y : Type 0} (f : X → Y → ℤ) (xs : List X) (ys : List Y) (i : ℕ) (d : X) (e : Y) (start old term new : ℤ)
+    → i < length xs → i < length ys → old ≡ start -ℤ sum_along f (take i xs) (take i ys)
+    → term ≡ f (get_or xs i d) (get_or ys i e) → new ≡ old -ℤ term
+    → new ≡ start -ℤ sum_along f (take (i + 1) xs) (take (i + 1) ys)
 take_away_step f xs ys i d e start old term new h l s t n = omega (arith, ints, sum_along_more f xs ys i d e h l)

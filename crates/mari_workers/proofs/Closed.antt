@@ -60,11 +60,13 @@ closed_state m g v l =
 abbrev idle : Market → Activation
 idle m = record { mw = map (λ (o : Order). 0) m.orders; flow = map (λ (b : Border). pos 0) m.borders }
 
-idle_order : (n : ℕ) (state : ℕ → GateState) (gate : Option ℕ) (o : Order) → ((g : ℕ) → g < n → state g ≡ Closed) → MatchOption gate (o.least ≡ 0) (λ g. (g < n) × (1 ≤ o.least)) → IsWithin (span_of state gate o) 0
+idle_order : (n : ℕ) (state : ℕ → GateState) (gate : Option ℕ) (o : Order) → ((g : ℕ) → g < n → state g ≡ Closed)
+    → MatchOption gate (o.least ≡ 0) (λ g. (g < n) × (1 ≤ o.least)) → IsWithin (span_of state gate o) 0
 idle_order n state None o closed fits = record { least = omega arith; most = omega arith }
 idle_order n state (Some g) o closed fits = subst (λ (s : GateState). IsWithin (gated_span s o) 0) (sym (closed g fits.0)) (record { least = omega arith; most = omega arith })
 
-idle_orders : (z n : ℕ) (state : ℕ → GateState) → ((g : ℕ) → g < n → state g ≡ Closed) → (os : List Order) → All (IsValidOrder z n) os → AllZip (λ o q. IsWithin (span_in state o) q) os (map (λ (o : Order). 0) os)
+idle_orders : (z n : ℕ) (state : ℕ → GateState) → ((g : ℕ) → g < n → state g ≡ Closed) → (os : List Order)
+    → All (IsValidOrder z n) os → AllZip (λ o q. IsWithin (span_in state o) q) os (map (λ (o : Order). 0) os)
 idle_orders z n state closed [] v = tt
 idle_orders z n state closed (o ∷ os) v = (idle_order n state o.gate o closed (All-head (IsValidOrder z n) o os v).gate, idle_orders z n state closed os (All-tail (IsValidOrder z n) o os v))
 

@@ -28,7 +28,8 @@ use Rattle.mari_workers.specs.Refine.{IsOldLeaf}
 use Rattle.mari_workers.proofs.TreeWalks.{search_parts}
 
 -- what a finding closes its word by holds
-pub closed_at : (m : Market) (w : ℕ) (word : List Bool) (f : Finding) (o : Option LeafRecord) → IsFinding m word f → length word ≤ length m.gates → o ≡ closing_leaf w f → IfSome o (LeafHolds m (pos w) word)
+pub closed_at : (m : Market) (w : ℕ) (word : List Bool) (f : Finding) (o : Option LeafRecord) → IsFinding m word f
+    → length word ≤ length m.gates → o ≡ closing_leaf w f → IfSome o (LeafHolds m (pos w) word)
 closed_at m w word f None is l e = tt
 closed_at m w word f (Some leaf) is l e = closing_leaf_holds m word w f leaf is l (sym e)
 
@@ -46,7 +47,11 @@ item_taken m w x item done left more h e = record {
 }
 
 -- a leaf takes the place of the item and of what stands below it
-pub leaf_done : (m : Market) (w : ℕ) (x : Prefix) (item : TreeItem) (leaf : LeafRecord) (done left new_done new_left : List TreeItem) (next : Option Prefix) → IsAtItem m w x item done left → IsOldLeaf m w (word_of x) leaf → new_done ≡ done ++ Leaf leaf ∷ [] → left_at m.gates next ≡ waiting_after m.gates (word_of x) → AreParts m (IsOldLeaf m w) (left_at m.gates next) (reverse new_left) → IfSome next (IsFeasiblePrefix m) → IsCutting m w new_done new_left next
+pub leaf_done : (m : Market) (w : ℕ) (x : Prefix) (item : TreeItem) (leaf : LeafRecord) (done left new_done new_left : List TreeItem) (next : Option Prefix)
+    → IsAtItem m w x item done left → IsOldLeaf m w (word_of x) leaf → new_done ≡ done ++ Leaf leaf ∷ []
+    → left_at m.gates next ≡ waiting_after m.gates (word_of x)
+    → AreParts m (IsOldLeaf m w) (left_at m.gates next) (reverse new_left) → IfSome next (IsFeasiblePrefix m)
+    → IsCutting m w new_done new_left next
 leaf_done m w x item leaf done left new_done new_left next h k d there after f = record {
   before = subst (λ (ds : List TreeItem). LeavesWords m (IsOldLeaf m w) ([] ∷ []) ds (left_at m.gates next)) (sym d)
       (leaves_append m (IsOldLeaf m w) ([] ∷ []) done (Leaf leaf ∷ []) (left_at m.gates (Some x)) (left_at m.gates next) h.before (k, sym there));
@@ -55,7 +60,10 @@ leaf_done m w x item leaf done left new_done new_left next h k d there after f =
 }
 
 -- a leaf that was there stays
-pub leaf_kept : (m : Market) (w : ℕ) (x : Prefix) (leaf : LeafRecord) (done left new_done : List TreeItem) (next : Option Prefix) → IsAtItem m w x (Leaf leaf) done left → new_done ≡ done ++ Leaf leaf ∷ [] → left_at m.gates next ≡ waiting_after m.gates (word_of x) → IfSome next (IsFeasiblePrefix m) → IsCutting m w new_done left next
+pub leaf_kept : (m : Market) (w : ℕ) (x : Prefix) (leaf : LeafRecord) (done left new_done : List TreeItem) (next : Option Prefix)
+    → IsAtItem m w x (Leaf leaf) done left → new_done ≡ done ++ Leaf leaf ∷ []
+    → left_at m.gates next ≡ waiting_after m.gates (word_of x) → IfSome next (IsFeasiblePrefix m)
+    → IsCutting m w new_done left next
 leaf_kept m w x leaf done left new_done next h d there f =
     leaf_done m w x (Leaf leaf) leaf done left new_done left next h h.after.0 d there (subst (λ (ws : List (List Bool)). AreParts m (IsOldLeaf m w) ws (reverse left)) (sym there) h.after.1) f
 
@@ -69,7 +77,9 @@ node_here m w x done left v h =
     all.1.0
 
 -- a branch stays
-pub branch_kept : (m : Market) (w : ℕ) (x y : Prefix) (done left new_done : List TreeItem) → IsAtItem m w x Branch done left → new_done ≡ done ++ Branch ∷ [] → word_of y ≡ word_of x ++ false ∷ [] → IsCleared y → IsCutting m w new_done left (Some y)
+pub branch_kept : (m : Market) (w : ℕ) (x y : Prefix) (done left new_done : List TreeItem)
+    → IsAtItem m w x Branch done left → new_done ≡ done ++ Branch ∷ [] → word_of y ≡ word_of x ++ false ∷ []
+    → IsCleared y → IsCutting m w new_done left (Some y)
 branch_kept m w x y done left new_done h d e cleared =
     let there : left_at m.gates (Some y) ≡ children m.gates (word_of x) ++ waiting_after m.gates (word_of x) = first_child m.gates x y e in
     record {
@@ -109,12 +119,14 @@ record AfterLonger (gates : List GateInfo) (word : List Bool) (waits : List (Lis
   waits_are : waits ≡ rest ++ waiting_after gates word
   longer : AreLonger word rest
 
-next_longer : (gates : List GateInfo) (word w : List Bool) (waits below : List (List Bool)) → length word < length w → (w ∷ waits) ≡ below ++ waiting_after gates word → AreLonger word below → AfterLonger gates word waits
+next_longer : (gates : List GateInfo) (word w : List Bool) (waits below : List (List Bool)) → length word < length w
+    → (w ∷ waits) ≡ below ++ waiting_after gates word → AreLonger word below → AfterLonger gates word waits
 next_longer gates word w waits [] l e a = let within : AreWithin (length word) (w ∷ waits) = subst (AreWithin (length word)) (sym e) (waiting_within gates word (length word) (length word) (omega arith)) in absurd (omega (arith, l, within.0))
 next_longer gates word w waits (v ∷ vs) l e a = record { rest = vs; waits_are = cc; longer = a.1 }
 
 -- and where the next word is no longer none is left below
-none_below : (gates : List GateInfo) (word w : List Bool) (waits below : List (List Bool)) → length w ≤ length word → (w ∷ waits) ≡ below ++ waiting_after gates word → AreLonger word below → (w ∷ waits) ≡ waiting_after gates word
+none_below : (gates : List GateInfo) (word w : List Bool) (waits below : List (List Bool)) → length w ≤ length word
+    → (w ∷ waits) ≡ below ++ waiting_after gates word → AreLonger word below → (w ∷ waits) ≡ waiting_after gates word
 none_below gates word w waits [] l e a = e
 none_below gates word w waits (v ∷ vs) l e a = let same : w ≡ v = cc in absurd (omega (arith, l, a.0, ap length same))
 
@@ -122,12 +134,15 @@ none_left_below : (gates : List GateInfo) (word : List Bool) (below : List (List
 none_left_below gates word [] e = e
 none_left_below gates word (v ∷ vs) e = absurd (cc)
 
-children_longer : (word w : List Bool) (may : Bool) (words : List (List Bool)) → length word ≤ length w → AreLonger word words → AreLonger word (((w ++ false ∷ []) ∷ (if may then (w ++ true ∷ []) ∷ [] else [])) ++ words)
+children_longer : (word w : List Bool) (may : Bool) (words : List (List Bool)) → length word ≤ length w
+    → AreLonger word words
+    → AreLonger word (((w ++ false ∷ []) ∷ (if may then (w ++ true ∷ []) ∷ [] else [])) ++ words)
 children_longer word w true words l a = (omega (arith, l, length-append w (false ∷ [])), (omega (arith, l, length-append w (true ∷ [])), a))
 children_longer word w false words l a = (omega (arith, l, length-append w (false ∷ [])), a)
 
 -- below a branch stand its children first
-pub below_branch : (m : Market) (w : ℕ) (x y : Prefix) (done left : List TreeItem) → IsAtItem m w x Branch done left → word_of y ≡ word_of x ++ false ∷ [] → IsCleared y → IsBelow m w (word_of x) left (Some y)
+pub below_branch : (m : Market) (w : ℕ) (x y : Prefix) (done left : List TreeItem) → IsAtItem m w x Branch done left
+    → word_of y ≡ word_of x ++ false ∷ [] → IsCleared y → IsBelow m w (word_of x) left (Some y)
 below_branch m w x y done left h e cleared =
     let there : left_at m.gates (Some y) ≡ children m.gates (word_of x) ++ waiting_after m.gates (word_of x) = first_child m.gates x y e in
     record {
@@ -139,11 +154,16 @@ below_branch m w x y done left h e cleared =
     }
 
 -- the parts of the next prefix, where its item is taken out
-below_taken : (m : Market) (w : ℕ) (word : List Bool) (at : Prefix) (item : TreeItem) (left more : List TreeItem) → IsBelow m w word more (Some at) → more ≡ left ++ item ∷ [] → AreParts m (IsOldLeaf m w) (left_at m.gates (Some at)) (item ∷ reverse left)
+below_taken : (m : Market) (w : ℕ) (word : List Bool) (at : Prefix) (item : TreeItem) (left more : List TreeItem)
+    → IsBelow m w word more (Some at) → more ≡ left ++ item ∷ []
+    → AreParts m (IsOldLeaf m w) (left_at m.gates (Some at)) (item ∷ reverse left)
 below_taken m w word at item left more h e = subst (AreParts m (IsOldLeaf m w) (left_at m.gates (Some at))) (ap reverse e ∙ popped left item) h.after
 
 -- a leaf below is dropped
-pub leaf_dropped : (m : Market) (w : ℕ) (word : List Bool) (at : Prefix) (leaf : LeafRecord) (left more : List TreeItem) (next : Option Prefix) → IsBelow m w word more (Some at) → more ≡ left ++ Leaf leaf ∷ [] → length word < length (word_of at) → left_at m.gates next ≡ waiting_after m.gates (word_of at) → IfSome next (IsFeasiblePrefix m) → IsBelow m w word left next
+pub leaf_dropped : (m : Market) (w : ℕ) (word : List Bool) (at : Prefix) (leaf : LeafRecord) (left more : List TreeItem) (next : Option Prefix)
+    → IsBelow m w word more (Some at) → more ≡ left ++ Leaf leaf ∷ [] → length word < length (word_of at)
+    → left_at m.gates next ≡ waiting_after m.gates (word_of at) → IfSome next (IsFeasiblePrefix m)
+    → IsBelow m w word left next
 leaf_dropped m w word at leaf left more next h e l there f =
     let after = next_longer m.gates word (word_of at) (waiting_after m.gates (word_of at)) h.below l h.left_is h.longer in
     record {
@@ -155,7 +175,9 @@ leaf_dropped m w word at leaf left more next h e l there f =
     }
 
 -- a branch below is dropped
-pub branch_dropped : (m : Market) (w : ℕ) (word : List Bool) (at y : Prefix) (left more : List TreeItem) → IsBelow m w word more (Some at) → more ≡ left ++ Branch ∷ [] → length word < length (word_of at) → word_of y ≡ word_of at ++ false ∷ [] → IsCleared y → IsBelow m w word left (Some y)
+pub branch_dropped : (m : Market) (w : ℕ) (word : List Bool) (at y : Prefix) (left more : List TreeItem)
+    → IsBelow m w word more (Some at) → more ≡ left ++ Branch ∷ [] → length word < length (word_of at)
+    → word_of y ≡ word_of at ++ false ∷ [] → IsCleared y → IsBelow m w word left (Some y)
 branch_dropped m w word at y left more h e l child cleared =
     let after = next_longer m.gates word (word_of at) (waiting_after m.gates (word_of at)) h.below l h.left_is h.longer in
     let there : left_at m.gates (Some y) ≡ children m.gates (word_of at) ++ waiting_after m.gates (word_of at) = first_child m.gates at y child in
@@ -180,7 +202,9 @@ pub word_longer : (above at : Prefix) → above.length < at.length → length (w
 word_longer above at l = omega (arith, l, length-decisions above above.length, length-decisions at at.length)
 
 -- where no prefix is left, or the next is no longer, nothing stands below
-pub ends_below : (m : Market) (w : ℕ) (above at : Prefix) (left : List TreeItem) → IsBelow m w (word_of above) left (Some at) → at.length ≤ above.length → left_at m.gates (Some at) ≡ waiting_after m.gates (word_of above)
+pub ends_below : (m : Market) (w : ℕ) (above at : Prefix) (left : List TreeItem)
+    → IsBelow m w (word_of above) left (Some at) → at.length ≤ above.length
+    → left_at m.gates (Some at) ≡ waiting_after m.gates (word_of above)
 ends_below m w above at left h l = none_below m.gates (word_of above) (word_of at) (waiting_after m.gates (word_of at)) h.below (omega (arith, l, length-decisions above above.length, length-decisions at at.length)) h.left_is h.longer
 
 pub ends_at_last : (m : Market) (w : ℕ) (word : List Bool) (left : List TreeItem) → IsBelow m w word left None → left_at m.gates None ≡ waiting_after m.gates word
@@ -191,7 +215,9 @@ ends_at_last m w word left h = none_left_below m.gates word h.below h.left_is
 nothing_opened : (gates : List GateInfo) → IsFeasibleWord gates []
 nothing_opened gates = record { decided = omega arith; rules = record { parents = λ g h e p. absurd (cc); groups = λ g h k e f p q. absurd (cc) } }
 
-pub cutting_started : (m : Market) (w : ℕ) (tree done left : List TreeItem) (next : Option Prefix) → AreParts m (IsOldLeaf m w) ([] ∷ []) tree → done ≡ [] → reverse left ≡ tree → IsSomeAnd next (λ x. (word_of x ≡ []) × IsCleared x) → IsCutting m w done left next
+pub cutting_started : (m : Market) (w : ℕ) (tree done left : List TreeItem) (next : Option Prefix)
+    → AreParts m (IsOldLeaf m w) ([] ∷ []) tree → done ≡ [] → reverse left ≡ tree
+    → IsSomeAnd next (λ x. (word_of x ≡ []) × IsCleared x) → IsCutting m w done left next
 cutting_started m w tree done left None h d l n = absurd n
 cutting_started m w tree done left (Some x) h d l n =
     let first : left_at m.gates (Some x) ≡ [] ∷ [] = ap (λ (u : List Bool). u ∷ waiting_after m.gates u) n.0 in

@@ -29,7 +29,9 @@ low_stays m w most gates word leaf e h = record {
 }
 
 -- where a gate is left to decide and no certificate is found, the word is to branch
-to_branch : (m : Market) (w most : ℕ) (gates word : List Bool) (leaf : LeafRecord) (f : Finding) → most + 1 ≡ w → LeafHolds m (pos w) word leaf → IsEarly gates word → IsFinding m word f → length word < length m.gates → closing_leaf most f ≡ None → IsToBranch m w gates word leaf
+to_branch : (m : Market) (w most : ℕ) (gates word : List Bool) (leaf : LeafRecord) (f : Finding) → most + 1 ≡ w
+    → LeafHolds m (pos w) word leaf → IsEarly gates word → IsFinding m word f → length word < length m.gates
+    → closing_leaf most f ≡ None → IsToBranch m w gates word leaf
 to_branch m w most gates word leaf f e h early is l none =
     let must : MustBranch m word most = must_branch m word most f is (omega (arith, l)) (not_full f) none in
     record {
@@ -46,7 +48,10 @@ to_branch m w most gates word leaf f e h early is l none =
     not_full (Relaxed r) = λ full c. absurd (omega (arith, full, l))
 
 -- where every gate is decided and no certificate is found, there is an activation of the welfare
-earlier_of : (m : Market) (aim : Aim) (most : ℕ) (word : List Bool) (leaf : LeafRecord) (r : RelaxedRecord) (best : Attained) → IsAim m aim → most + 1 ≡ aim.welfare → LeafHolds m (pos aim.welfare) word leaf → IsEarly (word_of aim.word) word → IsRelaxedFinding m word r → r.best ≡ Some best → length word ≡ length m.gates → most < r.bound → IsEarlier m aim.welfare (word_of aim.word) word leaf best.activation
+earlier_of : (m : Market) (aim : Aim) (most : ℕ) (word : List Bool) (leaf : LeafRecord) (r : RelaxedRecord) (best : Attained)
+    → IsAim m aim → most + 1 ≡ aim.welfare → LeafHolds m (pos aim.welfare) word leaf → IsEarly (word_of aim.word) word
+    → IsRelaxedFinding m word r → r.best ≡ Some best → length word ≡ length m.gates → most < r.bound
+    → IsEarlier m aim.welfare (word_of aim.word) word leaf best.activation
 earlier_of m aim most word leaf r best k e h early f is full above =
     let settled : IsSettled m word r best = subst (λ (o : Option Attained). MatchOption o (IsRefuted m word r) (IsSettled m word r)) is (f.at_the_end full) in
     let attained : IsAttained m best = subst (λ (o : Option Attained). IfSome o (IsAttained m)) is f.attained in
@@ -74,7 +79,11 @@ has_best m word r f full none is =
     no
 
 -- what is found at the word of an early leaf makes of it what is to become of it
-pub found_fate : (m : Market) (aim : Aim) (most : ℕ) (word : List Bool) (leaf : LeafRecord) (f : Finding) (full : Bool) → IsAim m aim → most + 1 ≡ aim.welfare → LeafHolds m (pos aim.welfare) word leaf → IsEarly (word_of aim.word) word → IsFinding m word f → length word ≤ length m.gates → (full ≡ true → length word ≡ length m.gates) → (full ≡ false → length word < length m.gates) → IsFate m aim.welfare (word_of aim.word) word (fate_by f leaf most full)
+pub found_fate : (m : Market) (aim : Aim) (most : ℕ) (word : List Bool) (leaf : LeafRecord) (f : Finding) (full : Bool)
+    → IsAim m aim → most + 1 ≡ aim.welfare → LeafHolds m (pos aim.welfare) word leaf → IsEarly (word_of aim.word) word
+    → IsFinding m word f → length word ≤ length m.gates → (full ≡ true → length word ≡ length m.gates)
+    → (full ≡ false → length word < length m.gates)
+    → IsFate m aim.welfare (word_of aim.word) word (fate_by f leaf most full)
 found_fate m aim most word leaf f full k e h early is within decided free = by_closing (closing_leaf most f) refl
   where
     by_best : (g : Finding) → IsFinding m word g → closing_leaf most g ≡ None → length word ≡ length m.gates → IsFate m aim.welfare (word_of aim.word) word (unbounded (best_in g) leaf true)
@@ -110,7 +119,9 @@ closing_without_best cutoff (Relaxed r) = by_conflict r.conflict
     by_conflict None = refl
 
 -- so the activation may be taken out before the certificate is sought
-pub fate_apart : (f rest : Finding) (o : Option LeafRecord) (best : Option Attained) (leaf : LeafRecord) (most : ℕ) (full : Bool) → rest ≡ without_best f → best ≡ best_in f → o ≡ closing_leaf most rest → replaced o best leaf full ≡ fate_by f leaf most full
+pub fate_apart : (f rest : Finding) (o : Option LeafRecord) (best : Option Attained) (leaf : LeafRecord) (most : ℕ) (full : Bool)
+    → rest ≡ without_best f → best ≡ best_in f → o ≡ closing_leaf most rest
+    → replaced o best leaf full ≡ fate_by f leaf most full
 fate_apart f rest o best leaf most full apart is closing =
     ap (λ (p : Option LeafRecord). replaced p best leaf full) (closing ∙ ap (closing_leaf most) apart ∙ closing_without_best most f)
     ∙ ap (λ (b : Option Attained). replaced (closing_leaf most f) b leaf full) is

@@ -20,7 +20,8 @@ begun : (m : Market) (word : List Bool) (a : Activation) → word ≡ gate_word_
 begun m word a e = subst (λ (w : List Bool). Begins w (is_open m a)) (sym e) (begins_own m a)
 
 -- something lies within its bounds
-pub not_empty : (m : Market) (word : List Bool) (a : Activation) (f : Finding) → IsValid m → IsOptimal m a → word ≡ gate_word_of m a → IsFinding m word f → ((r : RelaxedRecord) → f ≡ Relaxed r → ⊥) → ⊥
+pub not_empty : (m : Market) (word : List Bool) (a : Activation) (f : Finding) → IsValid m → IsOptimal m a
+    → word ≡ gate_word_of m a → IsFinding m word f → ((r : RelaxedRecord) → f ≡ Relaxed r → ⊥) → ⊥
 not_empty m word a (Empty cut) v o e h none = let low : welfare_of m a ≤ℤ (welfare_of m a -ℤ pos 1) = leaf_sound m (welfare_of m a -ℤ pos 1) word (Cut cut) a v h o.admissible (begun m word a e) in absurd (omega (arith, ints, low))
 not_empty m word a (Relaxed r) v o e h none = none r refl
 
@@ -28,14 +29,17 @@ full_word : (m : Market) (word : List Bool) (a : Activation) → word ≡ gate_w
 full_word m word a e = ap length e ∙ length-gate_word_of m a
 
 -- it has an activation
-pub has_activation : (m : Market) (word : List Bool) (a : Activation) (f : Finding) (r : RelaxedRecord) → IsOptimal m a → word ≡ gate_word_of m a → f ≡ Relaxed r → IsFinding m word f → r.best ≡ None → ⊥
+pub has_activation : (m : Market) (word : List Bool) (a : Activation) (f : Finding) (r : RelaxedRecord)
+    → IsOptimal m a → word ≡ gate_word_of m a → f ≡ Relaxed r → IsFinding m word f → r.best ≡ None → ⊥
 has_activation m word a f r o e is h none =
     let found : IsRelaxedFinding m word r = subst (IsFinding m word) is h in
     let refuted : IsRefuted m word r = subst (λ (b : Option Attained). MatchOption b (IsRefuted m word r) (IsSettled m word r)) none (found.at_the_end (full_word m word a e)) in
     refuted.none a o.admissible (sym e)
 
 -- and that is as good
-pub as_good : (m : Market) (word : List Bool) (a : Activation) (f : Finding) (r : RelaxedRecord) (best : Attained) → IsValid m → IsOptimal m a → word ≡ gate_word_of m a → f ≡ Relaxed r → IsFinding m word f → r.best ≡ Some best → IsAdmissible m best.activation × (gate_word_of m best.activation ≡ gate_word_of m a) × (welfare_of m best.activation ≡ welfare_of m a)
+pub as_good : (m : Market) (word : List Bool) (a : Activation) (f : Finding) (r : RelaxedRecord) (best : Attained)
+    → IsValid m → IsOptimal m a → word ≡ gate_word_of m a → f ≡ Relaxed r → IsFinding m word f → r.best ≡ Some best
+    → IsAdmissible m best.activation × (gate_word_of m best.activation ≡ gate_word_of m a) × (welfare_of m best.activation ≡ welfare_of m a)
 as_good m word a f r best v o e is h some =
     let found : IsRelaxedFinding m word r = subst (IsFinding m word) is h in
     let settled : IsSettled m word r best = subst (λ (b : Option Attained). MatchOption b (IsRefuted m word r) (IsSettled m word r)) some (found.at_the_end (full_word m word a e)) in

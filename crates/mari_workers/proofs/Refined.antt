@@ -42,7 +42,9 @@ use Rattle.mari_workers.proofs.TreeWalks.{after_is_late, leaves_map, old_leaves,
 -- ---- an activation is the first
 
 -- the clearing of an activation whose tree holds for its gate word
-pub clears_by : (m : Market) (budget w : ℕ) (gates : List Bool) (a : Activation) (items : List TreeItem) → IsValid m → IsAdmissible m a → welfare_of m a ≡ pos w → gate_word_of m a ≡ gates → TreeHoldsFor m (pos w) gates items → length items ≤ budget → IsClearing m budget (record { activation = a; welfare = w; tree = items })
+pub clears_by : (m : Market) (budget w : ℕ) (gates : List Bool) (a : Activation) (items : List TreeItem) → IsValid m
+    → IsAdmissible m a → welfare_of m a ≡ pos w → gate_word_of m a ≡ gates → TreeHoldsFor m (pos w) gates items
+    → length items ≤ budget → IsClearing m budget (record { activation = a; welfare = w; tree = items })
 clears_by m budget w gates a items v adm e g t l =
     let own : TreeHoldsFor m (pos w) (gate_word_of m a) items = subst (λ (gs : List Bool). TreeHoldsFor m (pos w) gs items) (sym g) t in
     record {
@@ -53,7 +55,10 @@ clears_by m budget w gates a items v adm e g t l =
     }
 
 -- at its end the walk holds for the gate word that it began with
-pub ended_clears : (m : Market) (aim : Aim) (a : Activation) (done left : List TreeItem) → IsValid m → IsAdmissible m a → welfare_of m a ≡ pos aim.welfare → gate_word_of m a ≡ word_of aim.word → IsTreeWalk m aim done left None → IsClearing m aim.budget (record { activation = a; welfare = aim.welfare; tree = done })
+pub ended_clears : (m : Market) (aim : Aim) (a : Activation) (done left : List TreeItem) → IsValid m
+    → IsAdmissible m a → welfare_of m a ≡ pos aim.welfare → gate_word_of m a ≡ word_of aim.word
+    → IsTreeWalk m aim done left None
+    → IsClearing m aim.budget (record { activation = a; welfare = aim.welfare; tree = done })
 ended_clears m aim a done left v adm e g h =
     clears_by m aim.budget aim.welfare (word_of aim.word) a done v adm e g
     (AreParts-map m (IsNewLeaf m aim.welfare (word_of aim.word)) (LeafHoldsFor m (pos aim.welfare) (word_of aim.word)) (λ word leaf k. k.holds) ([] ∷ []) done
@@ -61,7 +66,9 @@ ended_clears m aim a done left v adm e g h =
     (omega (arith, h.within))
 
 -- where an earlier activation is found, the items that are left aren't early for its gate word
-rest_for : (m : Market) (aim : Aim) (x : Prefix) (rest : List TreeItem) → length (word_of x) ≡ length m.gates → AreParts m (IsOldLeaf m aim.welfare) (word_of x ∷ waiting_after m.gates (word_of x)) rest → AreParts m (LeafHoldsFor m (pos aim.welfare) (word_of x)) (word_of x ∷ waiting_after m.gates (word_of x)) rest
+rest_for : (m : Market) (aim : Aim) (x : Prefix) (rest : List TreeItem) → length (word_of x) ≡ length m.gates
+    → AreParts m (IsOldLeaf m aim.welfare) (word_of x ∷ waiting_after m.gates (word_of x)) rest
+    → AreParts m (LeafHoldsFor m (pos aim.welfare) (word_of x)) (word_of x ∷ waiting_after m.gates (word_of x)) rest
 rest_for m aim x [] full a = absurd a
 rest_for m aim x (Leaf leaf ∷ rest) full a = (
   record { holds = a.0.holds; early = λ e. absurd (not_before_itself (word_of x) e) },
@@ -70,7 +77,9 @@ rest_for m aim x (Leaf leaf ∷ rest) full a = (
 rest_for m aim x (Branch ∷ rest) full a = absurd (omega (arith, full, a.0))
 
 -- so the whole tree holds for that gate word
-pub found_clears : (m : Market) (aim : Aim) (x : Prefix) (a : Activation) (done left items : List TreeItem) → IsValid m → IsFoundAt m aim x done left a → items ≡ done ++ reverse left → IsClearing m aim.budget (record { activation = a; welfare = aim.welfare; tree = items })
+pub found_clears : (m : Market) (aim : Aim) (x : Prefix) (a : Activation) (done left items : List TreeItem)
+    → IsValid m → IsFoundAt m aim x done left a → items ≡ done ++ reverse left
+    → IsClearing m aim.budget (record { activation = a; welfare = aim.welfare; tree = items })
 found_clears m aim x a done left items v h e =
     let P : List Bool → LeafRecord → Type 0 = LeafHoldsFor m (pos aim.welfare) (word_of x) in
     let full : length (word_of x) ≡ length m.gates = sym (ap length h.gates_are) ∙ length-gate_word_of m a in
@@ -82,14 +91,18 @@ found_clears m aim x a done left items v h e =
 -- ---- the budget is spent
 
 -- the next word is that of a leaf
-leaf_there : (m : Market) (P : List Bool → LeafRecord → Type 0) (words : List (List Bool)) (done rest : List TreeItem) (leaf : LeafRecord) (word : List Bool) (left : List (List Bool)) → LeavesWords m P words done (word ∷ left) → Contains (leaves_of m words (map shape_of (done ++ Leaf leaf ∷ rest))) word
+leaf_there : (m : Market) (P : List Bool → LeafRecord → Type 0) (words : List (List Bool)) (done rest : List TreeItem) (leaf : LeafRecord) (word : List Bool) (left : List (List Bool))
+    → LeavesWords m P words done (word ∷ left)
+    → Contains (leaves_of m words (map shape_of (done ++ Leaf leaf ∷ rest))) word
 leaf_there m P words [] rest leaf word left h = subst (λ (ws : List (List Bool)). Contains (leaves_of m ws (map shape_of (Leaf leaf ∷ rest))) word) (sym h) (contains_head word (leaves_of m left (map shape_of rest)))
 leaf_there m P [] (item ∷ items) rest leaf word left h = absurd h
 leaf_there m P (w ∷ ws) (Leaf l ∷ items) rest leaf word left h = contains_tail word w (leaves_of m ws (map shape_of (items ++ Leaf leaf ∷ rest))) (leaf_there m P ws items rest leaf word left h.1)
 leaf_there m P (w ∷ ws) (Branch ∷ items) rest leaf word left h = leaf_there m P (children m.gates w ++ ws) items rest leaf word left h.1
 
 -- leaves of some words, and parts of others
-leaves_then : (m : Market) (P : List Bool → LeafRecord → Type 0) (leaf : LeafRecord) (kids words : List (List Bool)) (rest : List TreeItem) → AreParts m P kids (map (λ (w : List Bool). Leaf leaf) kids) → AreParts m P words rest → AreParts m P (kids ++ words) (map (λ (w : List Bool). Leaf leaf) kids ++ rest)
+leaves_then : (m : Market) (P : List Bool → LeafRecord → Type 0) (leaf : LeafRecord) (kids words : List (List Bool)) (rest : List TreeItem)
+    → AreParts m P kids (map (λ (w : List Bool). Leaf leaf) kids) → AreParts m P words rest
+    → AreParts m P (kids ++ words) (map (λ (w : List Bool). Leaf leaf) kids ++ rest)
 leaves_then m P leaf [] words rest a b = b
 leaves_then m P leaf (kid ∷ kids) words rest a b = (a.0, leaves_then m P leaf kids words rest a.1 b)
 
@@ -100,7 +113,9 @@ larger_tree m w budget items v a l =
     let nodes = part_is_nodes m (map shape_of items) part in
     larger_by m budget (visited m ([] ∷ []) (map shape_of items)) nodes.0 (omega (arith, l, nodes.1, length-map items shape_of))
 
-pub crowded_spends : (m : Market) (aim : Aim) (x : Prefix) (done left whole : List TreeItem) (items : List PartItem) → IsValid m → IsCrowdedAt m aim x done left → whole ≡ done ++ reverse left → items ≡ map shape_of whole → IsSpent m aim.budget (record { items = items })
+pub crowded_spends : (m : Market) (aim : Aim) (x : Prefix) (done left whole : List TreeItem) (items : List PartItem)
+    → IsValid m → IsCrowdedAt m aim x done left → whole ≡ done ++ reverse left → items ≡ map shape_of whole
+    → IsSpent m aim.budget (record { items = items })
 crowded_spends m aim x done left whole items v h e f =
     let O : List Bool → LeafRecord → Type 0 = IsOldLeaf m aim.welfare in
     let kids : List (List Bool) = children m.gates (word_of x) in
@@ -128,7 +143,9 @@ crowded_spends m aim x done left whole items v h e f =
 -- ---- the end of a walk
 
 -- whatever the last turn is, what the walk comes to clears the market
-pub last_clears : (m : Market) (aim : Aim) (walk : Walk) (last : Turn) (a : Activation) → IsValid m → IsAdmissible m a → welfare_of m a ≡ pos aim.welfare → gate_word_of m a ≡ word_of aim.word → IsLastTurn m aim walk last → Clears m aim.budget (ended walk last a aim.welfare)
+pub last_clears : (m : Market) (aim : Aim) (walk : Walk) (last : Turn) (a : Activation) → IsValid m → IsAdmissible m a
+    → welfare_of m a ≡ pos aim.welfare → gate_word_of m a ≡ word_of aim.word → IsLastTurn m aim walk last
+    → Clears m aim.budget (ended walk last a aim.welfare)
 last_clears m aim walk On a v adm e g h = ended_clears m aim a walk.done.items walk.left.items v adm e g h
 last_clears m aim walk Full a v adm e g h = crowded_spends m aim h.0 walk.done.items walk.left.items (walk.done.items ++ reverse walk.left.items) (map shape_of (walk.done.items ++ reverse walk.left.items)) v h.1 refl refl
 last_clears m aim walk (Yield b) a v adm e g h = found_clears m aim h.0 b walk.done.items walk.left.items (walk.done.items ++ reverse walk.left.items) v h.1 refl
@@ -163,7 +180,10 @@ nodes_as m (Err fault) reported is h = tt
 -- ---- a clearing may be refined
 
 -- with a tree that is cut back
-pub cut_may_refine : (m : Market) (budget : ℕ) (found : Clearing) (tree : List TreeItem) → IsValid m → MayRefine m budget found → AreParts m (IsOldLeaf m found.welfare) ([] ∷ []) tree → length tree ≤ length found.tree → MayRefine m budget (record { activation = found.activation; welfare = found.welfare; tree = tree })
+pub cut_may_refine : (m : Market) (budget : ℕ) (found : Clearing) (tree : List TreeItem) → IsValid m
+    → MayRefine m budget found → AreParts m (IsOldLeaf m found.welfare) ([] ∷ []) tree
+    → length tree ≤ length found.tree
+    → MayRefine m budget (record { activation = found.activation; welfare = found.welfare; tree = tree })
 cut_may_refine m budget found tree v h parts l = record {
   clearing = record {
     optimal = h.clearing.optimal;

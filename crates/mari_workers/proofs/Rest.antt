@@ -42,12 +42,16 @@ all_done nodes x first none_waits none_taken = by_state (state_at nodes x) refl
 -- ---- what is published
 
 -- the best of all that was offered, or the first activation where nothing was
-pub best_of_all : (m : Market) (first offered : ℕ) (best : Option Attained) (a : Attained) → IsBest m first offered best → IsAttained m a → a.welfare ≡ first → IsAttained m (unwrap_or best a) × ((unwrap_or best a).welfare ≡ offered) × (first ≤ offered)
+pub best_of_all : (m : Market) (first offered : ℕ) (best : Option Attained) (a : Attained)
+    → IsBest m first offered best → IsAttained m a → a.welfare ≡ first
+    → IsAttained m (unwrap_or best a) × ((unwrap_or best a).welfare ≡ offered) × (first ≤ offered)
 best_of_all m first offered None a h at w = (at, w ∙ sym h, omega arith)
 best_of_all m first offered (Some b) a h at w = (h.0, h.1, omega (arith, h.2))
 
 -- an admissible activation with a tree that holds at its welfare
-pub clearing_by_tree : (m : Market) (budget : ℕ) (c : Clearing) (a : Attained) → IsValid m → IsAttained m a → c.activation ≡ a.activation → c.welfare ≡ a.welfare → TreeHolds m (pos c.welfare) c.tree → length c.tree ≤ budget → IsOptimalClearing m budget c
+pub clearing_by_tree : (m : Market) (budget : ℕ) (c : Clearing) (a : Attained) → IsValid m → IsAttained m a
+    → c.activation ≡ a.activation → c.welfare ≡ a.welfare → TreeHolds m (pos c.welfare) c.tree
+    → length c.tree ≤ budget → IsOptimalClearing m budget c
 clearing_by_tree m budget c a valid at same w holds within =
     let welfare : welfare_of m c.activation ≡ pos c.welfare = ap (welfare_of m) same ∙ at.welfare ∙ ap pos (sym w) in
     record {
@@ -59,7 +63,10 @@ clearing_by_tree m budget c a valid at same w holds within =
 
 -- the optimal clearing may be refined: it is that of the first activation, which opens no gate, or has more than its
 -- welfare
-pub refinable : (m : Market) (budget first offered : ℕ) (best : Option Attained) (a : Attained) (c : Clearing) → IsOptimalClearing m budget c → ArePartsOfSearch m ([] ∷ []) (map shape_of c.tree) → IsClosedWelfare m (pos first) → gate_word_of m a.activation ≡ all_closed m → IsBest m first offered best → c.activation ≡ (unwrap_or best a).activation → c.welfare ≡ (unwrap_or best a).welfare → MayRefine m budget c
+pub refinable : (m : Market) (budget first offered : ℕ) (best : Option Attained) (a : Attained) (c : Clearing)
+    → IsOptimalClearing m budget c → ArePartsOfSearch m ([] ∷ []) (map shape_of c.tree)
+    → IsClosedWelfare m (pos first) → gate_word_of m a.activation ≡ all_closed m → IsBest m first offered best
+    → c.activation ≡ (unwrap_or best a).activation → c.welfare ≡ (unwrap_or best a).welfare → MayRefine m budget c
 refinable m budget first offered None a c clearing parts closed gates h same w = record {
   clearing = clearing;
   nodes = parts;

@@ -33,13 +33,17 @@ use Rattle.mari_workers.specs.Refine.{IsAim, IsAtLeaf, IsCrowdedAt, IsNewLeaf, I
 -- ---- parts of a tree
 
 -- the items so far and those that are left are parts together
-pub parts_join : (m : Market) (P : List Bool → LeafRecord → Type 0) (words : List (List Bool)) (done rest : List TreeItem) (left : List (List Bool)) → LeavesWords m P words done left → AreParts m P left rest → AreParts m P words (done ++ rest)
+pub parts_join : (m : Market) (P : List Bool → LeafRecord → Type 0) (words : List (List Bool)) (done rest : List TreeItem) (left : List (List Bool))
+    → LeavesWords m P words done left → AreParts m P left rest → AreParts m P words (done ++ rest)
 parts_join m P words [] rest left h a = subst (λ (ws : List (List Bool)). AreParts m P ws rest) (sym h) a
 parts_join m P [] (item ∷ items) rest left h a = absurd h
 parts_join m P (word ∷ words) (Leaf leaf ∷ items) rest left h a = (h.0, parts_join m P words items rest left h.1 a)
 parts_join m P (word ∷ words) (Branch ∷ items) rest left h a = (h.0, parts_join m P (children m.gates word ++ words) items rest left h.1 a)
 
-pub leaves_map : (m : Market) (P Q : List Bool → LeafRecord → Type 0) → ((word : List Bool) (leaf : LeafRecord) → P word leaf → Q word leaf) → (words : List (List Bool)) (done : List TreeItem) (left : List (List Bool)) → LeavesWords m P words done left → LeavesWords m Q words done left
+pub leaves_map : (m : Market) (P Q : List Bool → LeafRecord → Type 0)
+    → ((word : List Bool) (leaf : LeafRecord) → P word leaf → Q word leaf)
+    → (words : List (List Bool)) (done : List TreeItem) (left : List (List Bool)) → LeavesWords m P words done left
+    → LeavesWords m Q words done left
 leaves_map m P Q k words [] left h = h
 leaves_map m P Q k [] (item ∷ items) left h = absurd h
 leaves_map m P Q k (word ∷ words) (Leaf leaf ∷ items) left h = (k word leaf h.0, leaves_map m P Q k words items left h.1)
@@ -48,7 +52,9 @@ leaves_map m P Q k (word ∷ words) (Branch ∷ items) left h = (h.0, leaves_map
 -- ---- nodes
 
 -- the leaves of a tree that holds and has only nodes
-pub old_leaves : (m : Market) (w : ℕ) (words : List (List Bool)) (items : List TreeItem) → AreParts m (LeafHolds m (pos w)) words items → ArePartsOfSearch m words (map shape_of items) → AreParts m (IsOldLeaf m w) words items
+pub old_leaves : (m : Market) (w : ℕ) (words : List (List Bool)) (items : List TreeItem)
+    → AreParts m (LeafHolds m (pos w)) words items → ArePartsOfSearch m words (map shape_of items)
+    → AreParts m (IsOldLeaf m w) words items
 old_leaves m w [] [] a p = tt
 old_leaves m w [] (item ∷ items) a p = absurd a
 old_leaves m w (word ∷ words) [] a p = absurd a
@@ -62,12 +68,16 @@ node_front m word b v n = record {
   prefixes = λ k l. subst (IsPromising m) (take-append-le k word (b ∷ []) (omega arith)) (n.prefixes k (omega (arith, l, length-append word (b ∷ []))));
 }
 
-each_after : (P : List Bool → Type 0) (word : List Bool) (words : List (List Bool)) (may : Bool) → Each P (((word ++ false ∷ []) ∷ (if may then (word ++ true ∷ []) ∷ [] else [])) ++ words) → P (word ++ false ∷ []) × Each P words
+each_after : (P : List Bool → Type 0) (word : List Bool) (words : List (List Bool)) (may : Bool)
+    → Each P (((word ++ false ∷ []) ∷ (if may then (word ++ true ∷ []) ∷ [] else [])) ++ words)
+    → P (word ++ false ∷ []) × Each P words
 each_after P word words true a = (a.0, a.1.1)
 each_after P word words false a = (a.0, a.1)
 
 -- where every leaf is a node, the items are parts of the search tree
-pub search_parts : (m : Market) (words : List (List Bool)) (items : List TreeItem) → IsValid m → AreParts m (λ word leaf. IsNode m word) words items → ArePartsOfSearch m words (map shape_of items) × Each (IsNode m) words
+pub search_parts : (m : Market) (words : List (List Bool)) (items : List TreeItem) → IsValid m
+    → AreParts m (λ word leaf. IsNode m word) words items
+    → ArePartsOfSearch m words (map shape_of items) × Each (IsNode m) words
 search_parts m [] [] v a = (tt, tt)
 search_parts m [] (item ∷ items) v a = absurd a
 search_parts m (word ∷ words) [] v a = absurd a
@@ -92,7 +102,9 @@ late_longer word other b h =
     }
 
 -- no part of words that come after a gate word is early for it
-pub after_is_late : (m : Market) (w : ℕ) (gates : List Bool) (words : List (List Bool)) (items : List TreeItem) → Each (ComesBefore gates) words → AreParts m (IsOldLeaf m w) words items → AreParts m (LeafHoldsFor m (pos w) gates) words items
+pub after_is_late : (m : Market) (w : ℕ) (gates : List Bool) (words : List (List Bool)) (items : List TreeItem)
+    → Each (ComesBefore gates) words → AreParts m (IsOldLeaf m w) words items
+    → AreParts m (LeafHoldsFor m (pos w) gates) words items
 after_is_late m w gates [] [] late a = tt
 after_is_late m w gates [] (item ∷ items) late a = absurd a
 after_is_late m w gates (word ∷ words) [] late a = absurd a
@@ -128,14 +140,18 @@ waiting_late gates word (suc n) l =
 -- ---- one turn
 
 -- an item of the walk, and the words that are then left
-item_done : (m : Market) (P : List Bool → LeafRecord → Type 0) (done : List TreeItem) (item : TreeItem) (now left : List (List Bool)) → LeavesWords m P ([] ∷ []) done now → LeavesWords m P now (item ∷ []) left → LeavesWords m P ([] ∷ []) (done ++ item ∷ []) left
+item_done : (m : Market) (P : List Bool → LeafRecord → Type 0) (done : List TreeItem) (item : TreeItem) (now left : List (List Bool))
+    → LeavesWords m P ([] ∷ []) done now → LeavesWords m P now (item ∷ []) left
+    → LeavesWords m P ([] ∷ []) (done ++ item ∷ []) left
 item_done m P done item now left h k = leaves_append m P ([] ∷ []) done (item ∷ []) now left h k
 
 popped : (left : List TreeItem) (item : TreeItem) → reverse (left ++ item ∷ []) ≡ item ∷ reverse left
 popped left item = reverse-append left (item ∷ [])
 
 -- a branch is taken as it is
-pub branch_done : (m : Market) (aim : Aim) (x y : Prefix) (done left more : List TreeItem) → IsFeasiblePrefix m y → word_of y ≡ word_of x ++ false ∷ [] → IsTreeWalk m aim done more (Some x) → more ≡ left ++ Branch ∷ [] → IsTreeWalk m aim (done ++ Branch ∷ []) left (Some y)
+pub branch_done : (m : Market) (aim : Aim) (x y : Prefix) (done left more : List TreeItem) → IsFeasiblePrefix m y
+    → word_of y ≡ word_of x ++ false ∷ [] → IsTreeWalk m aim done more (Some x) → more ≡ left ++ Branch ∷ []
+    → IsTreeWalk m aim (done ++ Branch ∷ []) left (Some y)
 branch_done m aim x y done left more f child h e =
     let rest : AreParts m (IsOldLeaf m aim.welfare) (left_at m.gates (Some x)) (Branch ∷ reverse left) = subst (AreParts m (IsOldLeaf m aim.welfare) (left_at m.gates (Some x))) (ap reverse e ∙ popped left Branch) h.after in
     let there : left_at m.gates (Some y) ≡ children m.gates (word_of x) ++ waiting_after m.gates (word_of x) = first_child m.gates x y child in
@@ -151,7 +167,10 @@ pub branch_room : (m : Market) (aim : Aim) (x : Prefix) (done left more : List T
 branch_room m aim x done left more h e = let rest : AreParts m (IsOldLeaf m aim.welfare) (left_at m.gates (Some x)) (Branch ∷ reverse left) = subst (AreParts m (IsOldLeaf m aim.welfare) (left_at m.gates (Some x))) (ap reverse e ∙ popped left Branch) h.after in rest.0
 
 -- a leaf that holds for the gate word takes its place
-pub leaf_done : (m : Market) (aim : Aim) (x : Prefix) (old leaf : LeafRecord) (done left : List TreeItem) (next : Option Prefix) → IsAtLeaf m aim x old done left → LeafHoldsFor m (pos aim.welfare) (word_of aim.word) (word_of x) leaf → left_at m.gates next ≡ waiting_after m.gates (word_of x) → IfSome next (IsFeasiblePrefix m) → IsTreeWalk m aim (done ++ Leaf leaf ∷ []) left next
+pub leaf_done : (m : Market) (aim : Aim) (x : Prefix) (old leaf : LeafRecord) (done left : List TreeItem) (next : Option Prefix)
+    → IsAtLeaf m aim x old done left → LeafHoldsFor m (pos aim.welfare) (word_of aim.word) (word_of x) leaf
+    → left_at m.gates next ≡ waiting_after m.gates (word_of x) → IfSome next (IsFeasiblePrefix m)
+    → IsTreeWalk m aim (done ++ Leaf leaf ∷ []) left next
 leaf_done m aim x old leaf done left next h k there f = record {
   before = item_done m (IsNewLeaf m aim.welfare (word_of aim.word)) done (Leaf leaf) (left_at m.gates (Some x)) (left_at m.gates next) h.before (record { holds = k; node = h.after.0.node }, sym there);
   after = subst (λ (ws : List (List Bool)). AreParts m (IsOldLeaf m aim.welfare) ws (reverse left)) (sym there) h.after.1;
@@ -160,7 +179,9 @@ leaf_done m aim x old leaf done left next h k there f = record {
 }
 
 -- a leaf that holds at the welfare is put back
-pub put_back : (m : Market) (aim : Aim) (x : Prefix) (old leaf : LeafRecord) (done left more : List TreeItem) → IsAtLeaf m aim x old done left → LeafHolds m (pos aim.welfare) (word_of x) leaf → more ≡ left ++ Leaf leaf ∷ [] → IsTreeWalk m aim done more (Some x)
+pub put_back : (m : Market) (aim : Aim) (x : Prefix) (old leaf : LeafRecord) (done left more : List TreeItem)
+    → IsAtLeaf m aim x old done left → LeafHolds m (pos aim.welfare) (word_of x) leaf → more ≡ left ++ Leaf leaf ∷ []
+    → IsTreeWalk m aim done more (Some x)
 put_back m aim x old leaf done left more h k e = record {
   before = h.before;
   after = subst (AreParts m (IsOldLeaf m aim.welfare) (left_at m.gates (Some x))) (sym (ap reverse e ∙ popped left (Leaf leaf))) (record { holds = k; node = h.after.0.node }, h.after.1);
@@ -188,7 +209,9 @@ to_branch_promising m aim word leaf k t = record {
 }
 
 -- its leaf holds at each of its children, which are nodes
-child_old : (m : Market) (aim : Aim) (word : List Bool) (b : Bool) (leaf : LeafRecord) → IsValid m → IsAim m aim → IsToBranch m aim.welfare (word_of aim.word) word leaf → IsNode m word → IsFeasibleWord m.gates (word ++ b ∷ []) → (b ≡ true → may_open m.gates word (length word) ≡ true) → IsOldLeaf m aim.welfare (word ++ b ∷ []) leaf
+child_old : (m : Market) (aim : Aim) (word : List Bool) (b : Bool) (leaf : LeafRecord) → IsValid m → IsAim m aim
+    → IsToBranch m aim.welfare (word_of aim.word) word leaf → IsNode m word → IsFeasibleWord m.gates (word ++ b ∷ [])
+    → (b ≡ true → may_open m.gates word (length word) ≡ true) → IsOldLeaf m aim.welfare (word ++ b ∷ []) leaf
 child_old m aim word b leaf v k t n f may = record {
   holds = child_leaf_holds m (pos aim.welfare) word b leaf v t.undecided may t.holds;
   node = child_is_node m word b n (to_branch_promising m aim word leaf k t) f;
@@ -198,7 +221,11 @@ child_old m aim word b leaf v k t n f may = record {
 abbrev pub child_leaves : LeafRecord → Bool → List TreeItem
 child_leaves leaf may = if may then Leaf leaf ∷ Leaf leaf ∷ [] else Leaf leaf ∷ []
 
-child_parts : (m : Market) (aim : Aim) (word : List Bool) (leaf : LeafRecord) (may : Bool) (words : List (List Bool)) (rest : List TreeItem) → IsValid m → IsAim m aim → IsToBranch m aim.welfare (word_of aim.word) word leaf → IsNode m word → IsFeasibleWord m.gates (word ++ false ∷ []) → (may ≡ true → IsFeasibleWord m.gates (word ++ true ∷ [])) → AreParts m (IsOldLeaf m aim.welfare) words rest → AreParts m (IsOldLeaf m aim.welfare) (((word ++ false ∷ []) ∷ (if may then (word ++ true ∷ []) ∷ [] else [])) ++ words) (child_leaves leaf may ++ rest)
+child_parts : (m : Market) (aim : Aim) (word : List Bool) (leaf : LeafRecord) (may : Bool) (words : List (List Bool)) (rest : List TreeItem)
+    → IsValid m → IsAim m aim → IsToBranch m aim.welfare (word_of aim.word) word leaf → IsNode m word
+    → IsFeasibleWord m.gates (word ++ false ∷ []) → (may ≡ true → IsFeasibleWord m.gates (word ++ true ∷ []))
+    → AreParts m (IsOldLeaf m aim.welfare) words rest
+    → AreParts m (IsOldLeaf m aim.welfare) (((word ++ false ∷ []) ∷ (if may then (word ++ true ∷ []) ∷ [] else [])) ++ words) (child_leaves leaf may ++ rest)
 child_parts m aim word leaf true words rest v k t n f g a = (
   child_old m aim word false leaf v k t n f (λ e. absurd (cc)),
   (child_old m aim word true leaf v k t n (g refl) (λ e. open_child_only m.gates word (parents_earlier m v) (g refl)), a),
@@ -218,7 +245,9 @@ children_count word true = refl
 children_count word false = refl
 
 -- a leaf that branches
-pub leaf_branched : (m : Market) (aim : Aim) (x y : Prefix) (old leaf : LeafRecord) (may : Bool) (done left more : List TreeItem) → IsValid m → IsAim m aim → IsAtLeaf m aim x old done left → IsToBranch m aim.welfare (word_of aim.word) (word_of x) leaf
+pub leaf_branched : (m : Market) (aim : Aim) (x y : Prefix) (old leaf : LeafRecord) (may : Bool) (done left more : List TreeItem)
+    → IsValid m → IsAim m aim → IsAtLeaf m aim x old done left
+    → IsToBranch m aim.welfare (word_of aim.word) (word_of x) leaf
     → IsFeasibleWord m.gates (word_of x ++ false ∷ []) → (may ≡ true → IsFeasibleWord m.gates (word_of x ++ true ∷ [])) → children m.gates (word_of x) ≡ (word_of x ++ false ∷ []) ∷ (if may then (word_of x ++ true ∷ []) ∷ [] else [])
     → IsFeasiblePrefix m y → word_of y ≡ word_of x ++ false ∷ [] → more ≡ left ++ child_leaves leaf may → length done + length left + 1 + (if may then 2 else 1) ≤ aim.budget → IsTreeWalk m aim (done ++ Branch ∷ []) more (Some y)
 leaf_branched m aim x y old leaf may done left more v k h t f g kids fy child e fits =
@@ -233,7 +262,8 @@ leaf_branched m aim x y old leaf may done left more v k h t f g kids fy child e 
       within = omega (arith, fits, ap length e, length-append left (child_leaves leaf may), length-append done (Branch ∷ []), leaves_count leaf may);
     }
 
-map_leaves : (leaf : LeafRecord) (word : List Bool) (may : Bool) → child_leaves leaf may ++ [] ≡ map (λ (w : List Bool). Leaf leaf) ((word ++ false ∷ []) ∷ (if may then (word ++ true ∷ []) ∷ [] else []))
+map_leaves : (leaf : LeafRecord) (word : List Bool) (may : Bool)
+    → child_leaves leaf may ++ [] ≡ map (λ (w : List Bool). Leaf leaf) ((word ++ false ∷ []) ∷ (if may then (word ++ true ∷ []) ∷ [] else []))
 map_leaves leaf word true = refl
 map_leaves leaf word false = refl
 
@@ -242,7 +272,9 @@ no_more_words word true = refl
 no_more_words word false = refl
 
 -- a leaf that can't branch within the budget
-pub leaf_crowded : (m : Market) (aim : Aim) (x : Prefix) (old leaf : LeafRecord) (may : Bool) (done left more : List TreeItem) → IsValid m → IsAim m aim → IsAtLeaf m aim x old done left → IsToBranch m aim.welfare (word_of aim.word) (word_of x) leaf
+pub leaf_crowded : (m : Market) (aim : Aim) (x : Prefix) (old leaf : LeafRecord) (may : Bool) (done left more : List TreeItem)
+    → IsValid m → IsAim m aim → IsAtLeaf m aim x old done left
+    → IsToBranch m aim.welfare (word_of aim.word) (word_of x) leaf
     → IsFeasibleWord m.gates (word_of x ++ false ∷ []) → (may ≡ true → IsFeasibleWord m.gates (word_of x ++ true ∷ [])) → children m.gates (word_of x) ≡ (word_of x ++ false ∷ []) ∷ (if may then (word_of x ++ true ∷ []) ∷ [] else [])
     → more ≡ left ++ Leaf leaf ∷ [] → aim.budget < length done + length left + 1 + (if may then 2 else 1) → IsCrowdedAt m aim x done more
 leaf_crowded m aim x old leaf may done left more v k h t f g kids e over =

@@ -32,7 +32,10 @@ room_of m x v l = omega (arith, l, length-decisions x x.length, v.few_gates)
 
 -- ---- a branch of the tree
 
-pub turned_branch : (m : Market) (aim : Aim) (x : Prefix) (done left new_done new_left more : List TreeItem) (next : Option Prefix) → IsTreeWalk m aim done more (Some x) → more ≡ left ++ Branch ∷ [] → new_done ≡ done ++ Branch ∷ [] → new_left ≡ left → IsDescended x next → IsTreeWalk m aim new_done new_left next × (length new_done ≡ length done + 1)
+pub turned_branch : (m : Market) (aim : Aim) (x : Prefix) (done left new_done new_left more : List TreeItem) (next : Option Prefix)
+    → IsTreeWalk m aim done more (Some x) → more ≡ left ++ Branch ∷ [] → new_done ≡ done ++ Branch ∷ []
+    → new_left ≡ left → IsDescended x next
+    → IsTreeWalk m aim new_done new_left next × (length new_done ≡ length done + 1)
 turned_branch m aim x done left new_done new_left more None h e d l n = absurd n
 turned_branch m aim x done left new_done new_left more (Some y) h e d l n =
     let f : IsFeasibleWord m.gates (word_of x ++ false ∷ []) = closed_child m.gates (word_of x) h.feasible.word (branch_room m aim x done left more h e) in
@@ -43,7 +46,10 @@ turned_branch m aim x done left new_done new_left more (Some y) h e d l n =
 
 -- ---- a leaf that stays
 
-pub turned_leaf : (m : Market) (aim : Aim) (x : Prefix) (old leaf : LeafRecord) (done left new_done : List TreeItem) (next : Option Prefix) → IsAtLeaf m aim x old done left → LeafHoldsFor m (pos aim.welfare) (word_of aim.word) (word_of x) leaf → left_at m.gates next ≡ waiting_after m.gates (word_of x) → IfSome next (IsFeasiblePrefix m) → new_done ≡ done ++ Leaf leaf ∷ [] → IsTreeWalk m aim new_done left next × (length new_done ≡ length done + 1)
+pub turned_leaf : (m : Market) (aim : Aim) (x : Prefix) (old leaf : LeafRecord) (done left new_done : List TreeItem) (next : Option Prefix)
+    → IsAtLeaf m aim x old done left → LeafHoldsFor m (pos aim.welfare) (word_of aim.word) (word_of x) leaf
+    → left_at m.gates next ≡ waiting_after m.gates (word_of x) → IfSome next (IsFeasiblePrefix m)
+    → new_done ≡ done ++ Leaf leaf ∷ [] → IsTreeWalk m aim new_done left next × (length new_done ≡ length done + 1)
 turned_leaf m aim x old leaf done left new_done next h k there f e = (
   subst (λ (ds : List TreeItem). IsTreeWalk m aim ds left next) (sym e) (leaf_done m aim x old leaf done left next h k there f),
   ap length e ∙ omega (arith, length-append done (Leaf leaf ∷ [])),
@@ -51,7 +57,9 @@ turned_leaf m aim x old leaf done left new_done next h k there f e = (
 
 -- ---- a leaf that branches
 
-pub turned_branched : (m : Market) (aim : Aim) (x : Prefix) (old leaf : LeafRecord) (may : Bool) (done left new_done new_left : List TreeItem) (next : Option Prefix) → IsValid m → IsAim m aim → IsAtLeaf m aim x old done left → IsToBranch m aim.welfare (word_of aim.word) (word_of x) leaf
+pub turned_branched : (m : Market) (aim : Aim) (x : Prefix) (old leaf : LeafRecord) (may : Bool) (done left new_done new_left : List TreeItem) (next : Option Prefix)
+    → IsValid m → IsAim m aim → IsAtLeaf m aim x old done left
+    → IsToBranch m aim.welfare (word_of aim.word) (word_of x) leaf
     → IsFeasibleWord m.gates (word_of x ++ false ∷ []) → (may ≡ true → IsFeasibleWord m.gates (word_of x ++ true ∷ [])) → children m.gates (word_of x) ≡ (word_of x ++ false ∷ []) ∷ (if may then (word_of x ++ true ∷ []) ∷ [] else [])
     → length done + length left + 1 + (if may then 2 else 1) ≤ aim.budget → new_done ≡ done ++ Branch ∷ [] → new_left ≡ left ++ child_leaves leaf may → IsDescended x next → IsTreeWalk m aim new_done new_left next × (length new_done ≡ length done + 1)
 turned_branched m aim x old leaf may done left new_done new_left None v k h t f g kids fits d l n = absurd n
@@ -66,7 +74,10 @@ nothing_opened : (gates : List Rattle.mari_market.specs.declared.market.GateInfo
 nothing_opened gates = record { decided = omega arith; rules = record { parents = λ g h e p. absurd (cc); groups = λ g h k e f p q. absurd (cc) } }
 
 -- the walk at its start
-pub walk_started : (m : Market) (aim : Aim) (budget : ℕ) (found : Clearing) (done left : List TreeItem) (next : Option Prefix) → MayRefine m budget found → aim.welfare ≡ found.welfare → aim.budget ≡ budget → done ≡ [] → reverse left ≡ found.tree → IsSomeAnd next (λ x. (word_of x ≡ []) × IsCleared x) → IsTreeWalk m aim done left next
+pub walk_started : (m : Market) (aim : Aim) (budget : ℕ) (found : Clearing) (done left : List TreeItem) (next : Option Prefix)
+    → MayRefine m budget found → aim.welfare ≡ found.welfare → aim.budget ≡ budget → done ≡ []
+    → reverse left ≡ found.tree → IsSomeAnd next (λ x. (word_of x ≡ []) × IsCleared x)
+    → IsTreeWalk m aim done left next
 walk_started m aim budget found done left None h w b d l n = absurd n
 walk_started m aim budget found done left (Some x) h w b d l n =
     let all : AreParts m (IsOldLeaf m aim.welfare) ([] ∷ []) found.tree = old_leaves m aim.welfare ([] ∷ []) found.tree (subst (λ (u : ℕ). AreParts m (LeafHolds m (pos u)) ([] ∷ []) found.tree) (sym w) h.clearing.tree) h.nodes in

@@ -54,7 +54,10 @@ record IsSettledBy (old new : Grown) (r s : Queued) : Type 0 where
   taken : taken_among new.nodes + 1 ≡ taken_among old.nodes
   longer : length old.nodes ≤ length new.nodes
 
-settled_by_close : (g : Grown) (x cutoff key : ℕ) (leaf : Leaf) (r s : Queued) → IsQueueOf g.nodes r → state_at g.nodes x ≡ Some (Taken 0) → IsMore key (length (grown g (Close 0 x leaf cutoff)).nodes - length r.keys) r s → IsSettledBy g (grown g (Close 0 x leaf cutoff)) r s
+settled_by_close : (g : Grown) (x cutoff key : ℕ) (leaf : Leaf) (r s : Queued) → IsQueueOf g.nodes r
+    → state_at g.nodes x ≡ Some (Taken 0)
+    → IsMore key (length (grown g (Close 0 x leaf cutoff)).nodes - length r.keys) r s
+    → IsSettledBy g (grown g (Close 0 x leaf cutoff)) r s
 settled_by_close g x cutoff key leaf r s h taken more =
     let nodes = with_state (Closed leaf cutoff) g.nodes x in
     let none : length nodes - length r.keys ≡ 0 = omega (arith, length-with_state (Closed leaf cutoff) g.nodes x, h.keys) in
@@ -64,7 +67,10 @@ settled_by_close g x cutoff key leaf r s h taken more =
       longer = omega (arith, length-with_state (Closed leaf cutoff) g.nodes x);
     }
 
-settled_by_branch : (g : Grown) (x cutoff key : ℕ) (r s : Queued) → IsQueueOf g.nodes r → state_at g.nodes x ≡ Some (Taken 0) → IsMore key (length (grown g (Branch 0 x cutoff)).nodes - length r.keys) r s → IsSettledBy g (grown g (Branch 0 x cutoff)) r s
+settled_by_branch : (g : Grown) (x cutoff key : ℕ) (r s : Queued) → IsQueueOf g.nodes r
+    → state_at g.nodes x ≡ Some (Taken 0)
+    → IsMore key (length (grown g (Branch 0 x cutoff)).nodes - length r.keys) r s
+    → IsSettledBy g (grown g (Branch 0 x cutoff)) r s
 settled_by_branch g x cutoff key r s h taken more =
     let kids = children_at g x in
     let state = branch_of (length g.nodes) kids in
@@ -76,11 +82,16 @@ settled_by_branch g x cutoff key r s h taken more =
       longer = omega (arith, made g 0 x cutoff);
     }
 
-settled_by : (g : Grown) (x cutoff key : ℕ) (o : Option Leaf) (r s : Queued) → IsQueueOf g.nodes r → state_at g.nodes x ≡ Some (Taken 0) → ((grown g (settling_by g 0 x cutoff o)).full ≡ true → ⊥) → IsMore key (length (grown g (settling_by g 0 x cutoff o)).nodes - length r.keys) r s → IsSettledBy g (grown g (settling_by g 0 x cutoff o)) r s
+settled_by : (g : Grown) (x cutoff key : ℕ) (o : Option Leaf) (r s : Queued) → IsQueueOf g.nodes r
+    → state_at g.nodes x ≡ Some (Taken 0) → ((grown g (settling_by g 0 x cutoff o)).full ≡ true → ⊥)
+    → IsMore key (length (grown g (settling_by g 0 x cutoff o)).nodes - length r.keys) r s
+    → IsSettledBy g (grown g (settling_by g 0 x cutoff o)) r s
 settled_by g x cutoff key (Some leaf) r s h taken not_full more = settled_by_close g x cutoff key leaf r s h taken more
 settled_by g x cutoff key None r s h taken not_full more = by_test (nat_le (length g.nodes + length (children_at g x)) g.budget) not_full more
   where
-    by_test : (b : Bool) → ((grown g (if b then Branch 0 x cutoff else Full 0 x cutoff)).full ≡ true → ⊥) → IsMore key (length (grown g (if b then Branch 0 x cutoff else Full 0 x cutoff)).nodes - length r.keys) r s → IsSettledBy g (grown g (if b then Branch 0 x cutoff else Full 0 x cutoff)) r s
+    by_test : (b : Bool) → ((grown g (if b then Branch 0 x cutoff else Full 0 x cutoff)).full ≡ true → ⊥)
+        → IsMore key (length (grown g (if b then Branch 0 x cutoff else Full 0 x cutoff)).nodes - length r.keys) r s
+        → IsSettledBy g (grown g (if b then Branch 0 x cutoff else Full 0 x cutoff)) r s
     by_test true not_full more = settled_by_branch g x cutoff key r s h taken more
     by_test false not_full more = absurd (not_full refl)
 
@@ -127,7 +138,9 @@ visit_same m old new x word key v =
     (ap (λ (g : Grown). g.market) t.is ∙ same.market, ap (λ (g : Grown). g.budget) t.is ∙ same.budget)
 
 -- what a visit makes of the queue, once the nodes that were made wait
-visit_settles : (m : Market) (old new : Machine) (x : ℕ) (word : List Bool) (key : ℕ) (q r s : Queued) → IsUnderWay m old q → LeavesFirst q r x → IsVisited m old new x word key → (new.tree.full ≡ true → ⊥) → IsMore key (length new.tree.nodes - length r.keys) r s → IsSettledBy (grown old.tree (Take 0 x)) new.tree r s
+visit_settles : (m : Market) (old new : Machine) (x : ℕ) (word : List Bool) (key : ℕ) (q r s : Queued)
+    → IsUnderWay m old q → LeavesFirst q r x → IsVisited m old new x word key → (new.tree.full ≡ true → ⊥)
+    → IsMore key (length new.tree.nodes - length r.keys) r s → IsSettledBy (grown old.tree (Take 0 x)) new.tree r s
 visit_settles m old new x word key q r s u f v not_full more =
     let t = visited_tree m old new x word key v in
     let waits : state_at old.tree.nodes x ≡ Some Untaken = first_waits old.tree.nodes q r x u.queue f in
@@ -136,7 +149,9 @@ visit_settles m old new x word key q r s u f v not_full more =
     (λ full. not_full (ap (λ (g : Grown). g.full) t.is ∙ full)) (subst (λ (g : Grown). IsMore key (length g.nodes - length r.keys) r s) t.is more))
 
 -- after a visit the search is under way again, unless the mark is on
-visit_keeps : (m : Market) (old new : Machine) (x : ℕ) (word : List Bool) (key : ℕ) (q r s : Queued) → IsUnderWay m old q → LeavesFirst q r x → IsVisited m old new x word key → KeepsFacts new → (new.tree.full ≡ true → ⊥) → IsMore key (length new.tree.nodes - length r.keys) r s → IsUnderWay m new s
+visit_keeps : (m : Market) (old new : Machine) (x : ℕ) (word : List Bool) (key : ℕ) (q r s : Queued)
+    → IsUnderWay m old q → LeavesFirst q r x → IsVisited m old new x word key → KeepsFacts new
+    → (new.tree.full ≡ true → ⊥) → IsMore key (length new.tree.nodes - length r.keys) r s → IsUnderWay m new s
 visit_keeps m old new x word key q r s u f v facts not_full more =
     let settled = visit_settles m old new x word key q r s u f v not_full more in
     let same = visit_same m old new x word key v in
@@ -192,7 +207,8 @@ offer_seen s best l =
 settled_bound : (m : Market) (word : List Bool) (r : RelaxedRecord) (best : Attained) → IsRelaxedFinding m word r → IsSettled m word r best → r.bound ≡ best.welfare
 settled_bound m word r best f s = omega (arith, ints, clamps, f.bound, s.value)
 
-pub reached_by : (m : Market) (word : List Bool) (r : RelaxedRecord) (cutoff : ℕ) → IsRelaxedFinding m word r → ((best : Attained) → r.best ≡ Some best → best.welfare ≤ cutoff) → IsReached m word cutoff (Relaxed r)
+pub reached_by : (m : Market) (word : List Bool) (r : RelaxedRecord) (cutoff : ℕ) → IsRelaxedFinding m word r
+    → ((best : Attained) → r.best ≡ Some best → best.welfare ≤ cutoff) → IsReached m word cutoff (Relaxed r)
 reached_by m word r cutoff f seen full none = by_best r.best refl (f.at_the_end full)
   where
     by_best : (o : Option Attained) → r.best ≡ o → MatchOption o (IsRefuted m word r) (IsSettled m word r) → r.bound ≤ cutoff
@@ -205,7 +221,9 @@ open_reached m word cutoff (Empty cut) l = tt
 open_reached m word cutoff (Relaxed r) l = λ full none. absurd (omega (arith, l, full))
 
 -- what was offered of a finding is reached
-reached : (m : Market) (s : Machine) (word : List Bool) (finding : Finding) → 1 ≤ length s.actors → IsFinding m word finding → IsReached m word (seen_by (slice_get (after_offer s (best_in finding)).actors 0)) finding
+reached : (m : Market) (s : Machine) (word : List Bool) (finding : Finding) → 1 ≤ length s.actors
+    → IsFinding m word finding
+    → IsReached m word (seen_by (slice_get (after_offer s (best_in finding)).actors 0)) finding
 reached m s word (Empty cut) l f = tt
 reached m s word (Relaxed r) l f = reached_by m word r (seen_by (slice_get (after_offer s r.best).actors 0)) f
     (λ best e. subst (λ (o : Option Attained). best.welfare ≤ seen_by (slice_get (after_offer s o).actors 0)) (sym e) (offer_seen s best l))
@@ -226,7 +244,11 @@ node_of_word nodes x word e = by_node (slice_get nodes x) refl (sym (slice_get-m
     by_node None same h = absurd (cc)
     by_node (Some n) same h = (n, same, cc)
 
-settle_by_offer : (m : Market) (s : Machine) (x : ℕ) (word : List Bool) (finding : Finding) (o : Option Attained) → IsAtNode m s x → slice_get (words_of s.tree.nodes) x ≡ Some word → IsFinding m word finding → IsReached m word (seen_by (slice_get (after_offer (after s (TakeEvent 0 x)) o).actors 0)) finding → 1 ≤ length (after_offer (after s (TakeEvent 0 x)) o).actors → MayVisit (after_offer (after s (TakeEvent 0 x)) o) x finding
+settle_by_offer : (m : Market) (s : Machine) (x : ℕ) (word : List Bool) (finding : Finding) (o : Option Attained)
+    → IsAtNode m s x → slice_get (words_of s.tree.nodes) x ≡ Some word → IsFinding m word finding
+    → IsReached m word (seen_by (slice_get (after_offer (after s (TakeEvent 0 x)) o).actors 0)) finding
+    → 1 ≤ length (after_offer (after s (TakeEvent 0 x)) o).actors
+    → MayVisit (after_offer (after s (TakeEvent 0 x)) o) x finding
 settle_by_offer m s x word finding o u e f within some =
     let t = after_offer (after s (TakeEvent 0 x)) o in
     let n = node_of_word s.tree.nodes x word e in
@@ -249,7 +271,9 @@ settle_by_offer m s x word finding o u e f within some =
           (ap (λ (g : Grown). return_refused 0 (state_at g.nodes x)) tree ∙ ap (return_refused 0) (state_same (Taken 0) s.tree.nodes x n.0 n.1));
     }
 
-pub settle_allowed : (m : Market) (old t : Machine) (x : ℕ) (word : List Bool) (finding : Finding) → IsAtNode m old x → slice_get (words_of old.tree.nodes) x ≡ Some word → IsFinding m word finding → t ≡ after_offer (after old (TakeEvent 0 x)) (best_in finding) → KeepsFacts t → MayVisit t x finding
+pub settle_allowed : (m : Market) (old t : Machine) (x : ℕ) (word : List Bool) (finding : Finding) → IsAtNode m old x
+    → slice_get (words_of old.tree.nodes) x ≡ Some word → IsFinding m word finding
+    → t ≡ after_offer (after old (TakeEvent 0 x)) (best_in finding) → KeepsFacts t → MayVisit t x finding
 settle_allowed m old t x word finding u e f is facts =
     subst (λ (s : Machine). MayVisit s x finding) (sym is)
     (settle_by_offer m old x word finding (best_in finding) u e f (reached m (after old (TakeEvent 0 x)) word finding u.facts.some_actor f)
@@ -280,7 +304,9 @@ pub record IsStill (m : Market) (budget : ℕ) (s : Machine) (q : Queued) : Type
   pub under_way : IsUnderWay m s q
   pub budget_is : s.tree.budget ≡ budget
 
-pub still_next : (m : Market) (budget : ℕ) (old new : Machine) (x : ℕ) (word : List Bool) (key : ℕ) (q r s : Queued) → IsStill m budget old q → LeavesFirst q r x → IsVisited m old new x word key → KeepsFacts new → (new.tree.full ≡ true → ⊥) → IsMore key (length new.tree.nodes - length r.keys) r s → IsStill m budget new s
+pub still_next : (m : Market) (budget : ℕ) (old new : Machine) (x : ℕ) (word : List Bool) (key : ℕ) (q r s : Queued)
+    → IsStill m budget old q → LeavesFirst q r x → IsVisited m old new x word key → KeepsFacts new
+    → (new.tree.full ≡ true → ⊥) → IsMore key (length new.tree.nodes - length r.keys) r s → IsStill m budget new s
 still_next m budget old new x word key q r s h f v facts not_full more = record {
   under_way = visit_keeps m old new x word key q r s h.under_way f v facts not_full more;
   budget_is = (visit_same m old new x word key v).1 ∙ h.budget_is;
@@ -294,7 +320,10 @@ not_marked is off on = absurd (true≢false (sym on ∙ sym is ∙ off))
 abbrev pub still_left : ℕ → Machine → Queued → ℕ
 still_left budget s q = 2 * (budget - length s.tree.nodes) + length q.waiting
 
-pub fewer_left : (m : Market) (budget : ℕ) (old new : Machine) (x : ℕ) (word : List Bool) (key : ℕ) (q r s : Queued) → IsStill m budget old q → LeavesFirst q r x → IsVisited m old new x word key → KeepsFacts new → (new.tree.full ≡ true → ⊥) → IsMore key (length new.tree.nodes - length r.keys) r s → still_left budget new s < still_left budget old q
+pub fewer_left : (m : Market) (budget : ℕ) (old new : Machine) (x : ℕ) (word : List Bool) (key : ℕ) (q r s : Queued)
+    → IsStill m budget old q → LeavesFirst q r x → IsVisited m old new x word key → KeepsFacts new
+    → (new.tree.full ≡ true → ⊥) → IsMore key (length new.tree.nodes - length r.keys) r s
+    → still_left budget new s < still_left budget old q
 fewer_left m budget old new x word key q r s h f v facts not_full more =
     let settled = visit_settles m old new x word key q r s h.under_way f v not_full more in
     let same = visit_same m old new x word key v in
@@ -347,7 +376,8 @@ node_past nodes n None e none = elim (cases_lt n (length nodes)) [
 
 -- ---- the start
 
-pub start_under_way : (m : Market) (s : Machine) (q : Queued) (budget : ℕ) → s.tree ≡ seed m budget → KeepsFacts s → gate_word_of m s.first.activation ≡ all_closed m → IsMore first_key 1 (no_nodes budget) q → IsUnderWay m s q
+pub start_under_way : (m : Market) (s : Machine) (q : Queued) (budget : ℕ) → s.tree ≡ seed m budget → KeepsFacts s
+    → gate_word_of m s.first.activation ≡ all_closed m → IsMore first_key 1 (no_nodes budget) q → IsUnderWay m s q
 start_under_way m s q budget e facts closed more =
     let start = queue_start q budget more in
     record {
@@ -362,7 +392,9 @@ start_under_way m s q budget e facts closed more =
 -- ---- the end of a search
 
 -- what a search comes to may be refined
-pub may_refine : (s : Machine) (c : Clearing) → IsFinished s → IsOptimalClearing s.tree.market s.tree.budget c → c.welfare ≡ s.incumbent → (s.incumbent ≡ s.first.welfare → c.activation ≡ s.first.activation) → ArePartsOfSearch s.tree.market ([] ∷ []) (map shape_of c.tree) → MayRefine s.tree.market s.tree.budget c
+pub may_refine : (s : Machine) (c : Clearing) → IsFinished s → IsOptimalClearing s.tree.market s.tree.budget c
+    → c.welfare ≡ s.incumbent → (s.incumbent ≡ s.first.welfare → c.activation ≡ s.first.activation)
+    → ArePartsOfSearch s.tree.market ([] ∷ []) (map shape_of c.tree) → MayRefine s.tree.market s.tree.budget c
 may_refine s c done clearing w first parts = record {
   clearing = clearing;
   nodes = parts;

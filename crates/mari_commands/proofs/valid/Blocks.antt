@@ -68,6 +68,8 @@ unpublished-free books budget before heading count there is fault.Leaf = tt
 unpublished-free books budget before heading count there is fault.Ledger = tt
 unpublished-free books budget before heading count there is fault.Totals = tt
 
-pub block-is-free : (books : Books) (budget : ℕ) (before : List Block) (b : Block) → run_after before ≤ length books.runs.runs → IsBlock books budget before b → (any : Fault) → IsFreeIn books budget before b any
+pub block-is-free : (books : Books) (budget : ℕ) (before : List Block) (b : Block)
+    → run_after before ≤ length books.runs.runs → IsBlock books budget before b → (any : Fault)
+    → IsFreeIn books budget before b any
 block-is-free books budget before (block.Published b) there is any = (there, free-of books budget _ _ _ b is any)
 block-is-free books budget before (block.Unpublished heading count) there is any = unpublished-free books budget before heading count there is any

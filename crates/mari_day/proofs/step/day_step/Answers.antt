@@ -7,7 +7,8 @@ use Rattle.mari_day.specs.declared.step.RunDone.{RunDone}
 use Rattle.mari_day.proofs.Progressing.{none-more, some-more, some-run}
 use Rattle.mari_day.proofs.step.day_step.Goals as goal
 
-own : (books : Books) (budget : ℕ) (blocks : List Block) (done : RunDone) → IsRunDone books budget blocks done → (settled : Option SettledRun) → done.settled ≡ settled → IsSettledIn books blocks done.block settled
+own : (books : Books) (budget : ℕ) (blocks : List Block) (done : RunDone) → IsRunDone books budget blocks done
+    → (settled : Option SettledRun) → done.settled ≡ settled → IsSettledIn books blocks done.block settled
 own books budget blocks done is settled e = let P : Option SettledRun → Type 0 = λ s. IsSettledIn books blocks done.block s in subst P e is.settled
 
 pub add-requires-clause-next : goal.add-requires-clause-next

@@ -17,7 +17,8 @@ use Rattle.mari_day.proofs.step.run_done.Goals as goal
 
 -- what is known of the run's own market and prices, of those after the blocks
 module _ (books : Books) (budget : ℕ) (blocks : List Block) (made : RunMarket) (e : made ≡ market_after books blocks) where
-  published-after : (run : ℕ) → run ≡ run_after blocks → (also : Option (List Cents)) → also ≡ also_after books blocks → (b : FullBlock) → IsPublishedOf books budget run made also b → IsPublishedRun books budget blocks b
+  published-after : (run : ℕ) → run ≡ run_after blocks → (also : Option (List Cents)) → also ≡ also_after books blocks
+      → (b : FullBlock) → IsPublishedOf books budget run made also b → IsPublishedRun books budget blocks b
   published-after run is also f b h =
       let R : ℕ → Type 0 = λ r. IsPublishedOf books budget r made also b in
       let M : RunMarket → Type 0 = λ m. IsPublishedOf books budget (run_after blocks) m also b in

@@ -7,7 +7,9 @@ use Rattle.mari_feed.proofs.stream.print_parts.Given as goal
 -- some more parts of the text were printed
 abbrev pub invariant-parts : goal.invariant-parts
 invariant-parts g l = record {
-  fed : (start : Option (List ℕ)) (text : List ℕ) (parts : List Part) → HasFed start text parts l.fn.reader.come (g.K.Sink.taken l.fn.sink) → (after : List Part) × HasFed start text after l.reader.come (g.K.Sink.taken l.sink);
+  fed : (start : Option (List ℕ)) (text : List ℕ) (parts : List Part)
+      → HasFed start text parts l.fn.reader.come (g.K.Sink.taken l.fn.sink)
+      → (after : List Part) × HasFed start text after l.reader.come (g.K.Sink.taken l.sink);
   faults : g.K.Sink.faults l.fn.sink ≤ g.K.Sink.faults l.sink;
 }
 

@@ -11,7 +11,8 @@ invariant-loop-place l = record {
   there : l.place < length l.hops;
   within : AllZip IsWithinLimits l.borders l.flows;
   room : HasRoom l.borders l.flows l.hops l.most l.place;
-  carried : (z : ℕ) → (sum_along (carried_out z) l.borders l.flows +ℤ at_zone z (hop_at l.hops l.place).zone l.most) ≡ sum_along (carried_out z) l.borders l.fn.flows +ℤ at_zone z (hop_at l.hops l.at).zone l.most;
+  carried : (z : ℕ)
+      → (sum_along (carried_out z) l.borders l.flows +ℤ at_zone z (hop_at l.hops l.place).zone l.most) ≡ sum_along (carried_out z) l.borders l.fn.flows +ℤ at_zone z (hop_at l.hops l.at).zone l.most;
 }
 
 abbrev pub decreases-loop-place : goal.decreases-loop-place

@@ -10,7 +10,9 @@ use Rattle.mari_prices.specs.Spread.{SpreadsAlong}
 use Rattle.mari_prices.proofs.AreaLaws.{AreSpread, firsts, numbered_areas}
 use Rattle.mari_prices.proofs.numbering.areas.Goals as goal
 
-spread_read : (m : Market) (a : Activation) (bs : List Border) (fs vs values : List ℤ) (xs : List (Option SettledZone)) → bs ≡ m.borders → fs ≡ a.flow → vs ≡ values → length values ≡ m.zones → ArePlaces values → length xs ≡ length vs → SpreadsAlong Joined bs fs vs xs → AreSpread m a values xs
+spread_read : (m : Market) (a : Activation) (bs : List Border) (fs vs values : List ℤ) (xs : List (Option SettledZone))
+    → bs ≡ m.borders → fs ≡ a.flow → vs ≡ values → length values ≡ m.zones → ArePlaces values → length xs ≡ length vs
+    → SpreadsAlong Joined bs fs vs xs → AreSpread m a values xs
 spread_read m a bs fs vs values xs b f e l p k s = record {
   values_each = l;
   one_each = k ∙ ap length e ∙ l;

@@ -8,7 +8,9 @@ use Rattle.mari_split.specs.Steps.{AddsToDay, IsSplitDone}
 use Rattle.mari_split.proofs.Progressing.{none_more, some_more, some_run}
 use Rattle.mari_split.proofs.step.split_step.Goals as goal
 
-own : (books : Books) (budget : ℕ) (blocks : List SplitBlock) (done : SplitDone) → IsSplitDone books budget blocks done → (settled : Option SettledRun) → done.settled ≡ settled → AddsToDay books blocks done.block settled
+own : (books : Books) (budget : ℕ) (blocks : List SplitBlock) (done : SplitDone)
+    → IsSplitDone books budget blocks done → (settled : Option SettledRun) → done.settled ≡ settled
+    → AddsToDay books blocks done.block settled
 own books budget blocks done is settled e = let P : Option SettledRun → Type 0 = λ s. AddsToDay books blocks done.block s in subst P e is.settled
 
 pub add-requires-clause-next : goal.add-requires-clause-next

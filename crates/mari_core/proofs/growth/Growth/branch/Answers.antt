@@ -33,7 +33,8 @@ push_reserved-requires-then-may_open c =
     omega (arith, fits, ap length kids, two, c.self.invariant.2, c.self.inside.nodes.ok.0, c.set_state.ensures.count, c.set_state.ensures.room, c.push_reserved.ensures.len, c.push_reserved.ensures.capacity)
 
 -- both children are pushed
-both_kept : (c : goal.After-push_reserved-then-may_open) → BranchKept (record { market = c.self.inside.market.now; budget = c.self.inside.budget; nodes = c.self.inside.nodes.items; full = c.self.inside.full }) c.args.node c.self.inside.next c.push_reserved-then-may_open.new.self.items
+both_kept : (c : goal.After-push_reserved-then-may_open)
+    → BranchKept (record { market = c.self.inside.market.now; budget = c.self.inside.budget; nodes = c.self.inside.nodes.items; full = c.self.inside.full }) c.args.node c.self.inside.next c.push_reserved-then-may_open.new.self.items
 both_kept c =
     let can = subst (λ (g : Grown). CanBranch g c.args.node) (sym c.self.view_is) c.requires.may in
     let kids = subst (λ (g : Grown). children_at g c.args.node ≡ child_words (word_of c.args.prefix.now) c.args.may_open) (sym c.self.view_is) c.requires.may_open in
@@ -49,7 +50,8 @@ both_kept c =
     refl first (c.then_some-opened.ensures ∙ ap (λ (b : Bool). then_some b (c.len-first.result + 1)) c.if-may_open.true) c.set_state.ensures.nodes c.child_of.ensures.word c.child_of-then-may_open.ensures.word)
 
 -- the closed child is pushed
-closed_kept : (c : goal.Else-may_open) → BranchKept (record { market = c.self.inside.market.now; budget = c.self.inside.budget; nodes = c.self.inside.nodes.items; full = c.self.inside.full }) c.args.node c.self.inside.next c.push_reserved.new.self.items
+closed_kept : (c : goal.Else-may_open)
+    → BranchKept (record { market = c.self.inside.market.now; budget = c.self.inside.budget; nodes = c.self.inside.nodes.items; full = c.self.inside.full }) c.args.node c.self.inside.next c.push_reserved.new.self.items
 closed_kept c =
     let can = subst (λ (g : Grown). CanBranch g c.args.node) (sym c.self.view_is) c.requires.may in
     let kids = subst (λ (g : Grown). children_at g c.args.node ≡ child_words (word_of c.args.prefix.now) c.args.may_open) (sym c.self.view_is) c.requires.may_open in
